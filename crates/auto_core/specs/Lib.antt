@@ -1,0 +1,3 @@
+pub mod Automaton
+pub mod Run
+pub mod Accept
