@@ -1,3 +1,4 @@
 pub mod Automaton
 pub mod Run
 pub mod Accept
+pub mod Game

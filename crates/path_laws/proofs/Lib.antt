@@ -1,0 +1,5 @@
+pub mod PathLemmas
+pub mod MatchLemmas
+pub mod TurnLemmas
+pub mod PumpingLemmas
+pub mod TransferLemmas

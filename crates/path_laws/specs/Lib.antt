@@ -1,0 +1,4 @@
+pub mod Runs
+pub mod Pumping
+pub mod Transfer
+pub mod Games
