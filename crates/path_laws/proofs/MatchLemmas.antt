@@ -1,5 +1,5 @@
 -- Lists that match place by place.
-use Rattle.std.proofs.Common.{◌≡◌, ℕ, Bool, true, ◌||◌, ◌⊎◌, List, [], ◌∷◌, ◌++◌, length, inl, inr, arith, refl}
+use Rattle.std.proofs.Common.{◌≡◌, ℕ, true, List, [], ◌∷◌, ◌++◌, length, inl, inr, arith, refl}
 use Rattle.std.proofs.lemmas.Bool.{or_cases, or_left, or_right, false≢true}
 use Rattle.auto_core.specs.Automaton.{Automaton, is_accepting}
 use Rattle.auto_core.specs.Run.{end_of, some_accepting}
@@ -70,6 +70,6 @@ matched_accepting A B [] [] h t = absurd (false≢true t)
 matched_accepting A B [] (q ∷ qs) h t = absurd h
 matched_accepting A B (p ∷ ps) [] h t = absurd h
 matched_accepting A B (p ∷ ps) (q ∷ qs) h t = elim (or_cases (is_accepting A p) (some_accepting A ps) t) [
-    | inl here ↦ or_left (is_accepting B q) (some_accepting B qs) (test_from_accepting B q (h.0 (accepting_from_test A p here)))
-    | inr later ↦ or_right (is_accepting B q) (some_accepting B qs) (matched_accepting A B ps qs h.1 later)
-  ]
+  | inl here ↦ or_left (is_accepting B q) (some_accepting B qs) (test_from_accepting B q (h.0 (accepting_from_test A p here)))
+  | inr later ↦ or_right (is_accepting B q) (some_accepting B qs) (matched_accepting A B ps qs h.1 later)
+]

@@ -1,10 +1,10 @@
 -- Paths by any moves, and runs of an automaton as paths: length, end, join, split.
-use Rattle.std.proofs.Common.{◌≡◌, ℕ, zero, suc, ◌<◌, ◌≤◌, ◌⊎◌, Bool, true, false, ◌||◌, List, [], ◌∷◌, ◌++◌, length, Contains, eqb, ◌==◌, refl, sym, ap, ◌∙◌, subst, inl, inr, arith, slice_index_or}
+use Rattle.std.proofs.Common.{◌≡◌, ℕ, zero, suc, ◌⊎◌, Bool, true, false, ◌||◌, List, [], ◌∷◌, ◌++◌, length, Contains, ◌==◌, refl, sym, ap, ◌∙◌, subst, inl, inr, arith}
 use Rattle.std.specs.List.{list_any}
 use Rattle.std.proofs.lemmas.Bool.{eq-eqb, eqb-true, or_cases, or_left, or_right, false≢true}
-use Rattle.auto_core.specs.Automaton.{Automaton, Moves, IsAccepting, is_accepting}
+use Rattle.auto_core.specs.Automaton.{Automaton, IsAccepting, is_accepting}
 use Rattle.auto_core.specs.Run.{Run, PathBy, Path, end_of, some_accepting}
-use Rattle.path_laws.specs.Runs.{CutPath, CutRun, PathOfRun}
+use Rattle.auto_core.specs.RunLaws.{CutPath, CutRun, PathOfRun}
 
 -- Membership, one element at a time.
 pub Contains-here : {X : Type 0} (x y : X) (xs : List X) → x ≡ y → Contains (x ∷ xs) y
@@ -24,16 +24,16 @@ none_in_nil y h = let lt = h.1 in omega arith
 pub Contains-from_test : (xs : List ℕ) (q : ℕ) → list_any (λ x. x == q) xs ≡ true → Contains xs q
 Contains-from_test [] q h = absurd (false≢true h)
 Contains-from_test (x ∷ xs) q h = elim (or_cases (x == q) (list_any (λ y. y == q) xs) h) [
-    | inl here ↦ Contains-here x q xs (eqb-true x q here)
-    | inr later ↦ Contains-later x q xs (Contains-from_test xs q later)
-  ]
+  | inl here ↦ Contains-here x q xs (eqb-true x q here)
+  | inr later ↦ Contains-later x q xs (Contains-from_test xs q later)
+]
 
 pub test_from_Contains : (xs : List ℕ) (q : ℕ) → Contains xs q → list_any (λ x. x == q) xs ≡ true
 test_from_Contains [] q h = absurd (none_in_nil q h)
 test_from_Contains (x ∷ xs) q h = elim (Contains-cons_cases x q xs h) [
-    | inl here ↦ or_left (x == q) (list_any (λ y. y == q) xs) (eq-eqb x q here)
-    | inr later ↦ or_right (x == q) (list_any (λ y. y == q) xs) (test_from_Contains xs q later)
-  ]
+  | inl here ↦ or_left (x == q) (list_any (λ y. y == q) xs) (eq-eqb x q here)
+  | inr later ↦ or_right (x == q) (list_any (λ y. y == q) xs) (test_from_Contains xs q later)
+]
 
 pub accepting_from_test : (A : Automaton) (q : ℕ) → is_accepting A q ≡ true → IsAccepting A q
 accepting_from_test A q h = Contains-from_test A.accepting q h
@@ -107,5 +107,5 @@ run_split A p (a ∷ w) x r flag (next, later, move, rest, e) =
       second_flag = c.second_flag;
       first = (next, c.first_flag, move, c.first, refl);
       second = c.second;
-      is = e ∙ ap (λ b. is_accepting A next || b) c.is ∙ or-assoc (is_accepting A next) c.first_flag c.second_flag
+      is = e ∙ ap (λ b. is_accepting A next || b) c.is ∙ or-assoc (is_accepting A next) c.first_flag c.second_flag;
     }

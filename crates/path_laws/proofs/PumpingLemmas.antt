@@ -1,13 +1,13 @@
 -- Chains and the numbers that they pass, the pigeonhole, and lassos from many flagged blocks.
-use Rattle.std.proofs.Common.{◌≡◌, ℕ, zero, suc, ◌+◌, ◌*◌, ◌<◌, ◌≤◌, ◌⊎◌, Bool, true, false, ◌||◌, List, [], ◌∷◌, ◌++◌, length, All, Contains, eqb, refl, sym, ap, ◌∙◌, subst, inl, inr, arith, slice_index_or, append_assoc, mul-pos, mul-zero, zero-add, length-append, ◌-◌}
+use Rattle.std.proofs.Common.{◌≡◌, ℕ, zero, suc, ◌+◌, ◌*◌, ◌<◌, ◌≤◌, ◌⊎◌, Bool, true, false, ◌||◌, List, [], ◌∷◌, ◌++◌, length, All, eqb, refl, sym, ap, ◌∙◌, subst, inl, inr, arith, slice_index_or, append_assoc, mul-pos, mul-zero, zero-add, length-append, le_refl, ◌-◌}
 use Rattle.std.specs.List.{IsDistinct, AllByRecursion, list_any}
-use Rattle.std.proofs.lemmas.Bool.{eq-eqb, eqb-true, or_cases, or_parts, or_left, or_right, cases_Bool, cases_eq, false≢true}
-use Rattle.std.proofs.lemmas.List.Elements.{All-cons, All-nil, All-tail, All-contains}
+use Rattle.std.proofs.lemmas.Bool.{eqb-true, or_cases, or_parts, cases_Bool, cases_lt, false≢true}
+use Rattle.std.proofs.lemmas.List.Elements.{All-cons, All-nil, All-contains}
 use Rattle.std.proofs.lemmas.Map.Steps.{length-le_from_distinct_below}
 use Rattle.auto_core.specs.Automaton.{Automaton, IsAutomaton, Moves, HasRepeat, IsInRange, trans}
-use Rattle.auto_core.specs.Run.{Run, PathBy, Path, end_of, repeated}
+use Rattle.auto_core.specs.Run.{Run, repeated}
 use Rattle.auto_core.specs.Accept.{AcceptsLasso}
-use Rattle.auto_core.specs.Game.{Chain}
+use Rattle.auto_core.specs.Game.{Chain, Strict}
 use Rattle.path_laws.specs.Pumping.{RunsPast}
 use Rattle.path_laws.proofs.PathLemmas.{run_join}
 
@@ -15,9 +15,9 @@ use Rattle.path_laws.proofs.PathLemmas.{run_join}
 place_of : (x : ℕ) (xs : List ℕ) → list_any (eqb x) xs ≡ true → (j : ℕ) × (j < length xs) × ((d : ℕ) → x ≡ slice_index_or xs j d)
 place_of x [] h = absurd (false≢true h)
 place_of x (y ∷ xs) h = elim (or_cases (eqb x y) (list_any (eqb x) xs) h) [
-    | inl here ↦ (zero, omega arith, λ d. eqb-true x y here)
-    | inr later ↦ let r = place_of x xs later in let lt = r.1 in (suc r.0, omega arith, r.2)
-  ]
+  | inl here ↦ (zero, omega arith, λ d. eqb-true x y here)
+  | inr later ↦ let r = place_of x xs later in let lt = r.1 in (suc r.0, omega arith, r.2)
+]
 
 all_apart : (x : ℕ) (xs : List ℕ) → list_any (eqb x) xs ≡ false → AllByRecursion (λ y. eqb x y ≡ false) xs
 all_apart x [] h = tt
@@ -27,21 +27,21 @@ distinct_or_repeat : (xs : List ℕ) → IsDistinct eqb xs ⊎ HasRepeat xs
 unfolding IsDistinct
 distinct_or_repeat [] = inl tt
 distinct_or_repeat (x ∷ xs) = elim (cases_Bool (list_any (eqb x) xs)) [
-    | inl met ↦ let r = place_of x xs met in let lt = r.1 in inr (zero, suc r.0, omega arith, omega arith, r.2)
-    | inr apart ↦ elim (distinct_or_repeat xs) [
-        | inl distinct ↦ inl (all_apart x xs apart, distinct)
-        | inr again ↦ let lt = again.2 in let below = again.3 in inr (suc again.0, suc again.1, omega arith, omega arith, again.4)
-      ]
+  | inl met ↦ let r = place_of x xs met in let lt = r.1 in inr (zero, suc r.0, omega arith, omega arith, r.2)
+  | inr apart ↦ elim (distinct_or_repeat xs) [
+    | inl distinct ↦ inl (all_apart x xs apart, distinct)
+    | inr again ↦ let lt = again.2 in let below = again.3 in inr (suc again.0, suc again.1, omega arith, omega arith, again.4)
   ]
+]
 
 any_below : (n : ℕ) (xs : List ℕ) → All (λ x. x < n) xs → (q : ℕ) → list_any (eqb q) xs ≡ true → q < n
 any_below n xs h q t = let r = place_of q xs t in subst (λ x. x < n) (sym (r.2 q)) (h r.0 q r.1)
 
 pub pigeonhole : (n : ℕ) (xs : List ℕ) → n < length xs → All (λ x. x < n) xs → HasRepeat xs
 pigeonhole n xs more below = elim (distinct_or_repeat xs) [
-    | inl distinct ↦ let few = length-le_from_distinct_below xs n distinct (any_below n xs below) in absurd (omega arith)
-    | inr again ↦ again
-  ]
+  | inl distinct ↦ let few = length-le_from_distinct_below xs n distinct (any_below n xs below) in absurd (omega arith)
+  | inr again ↦ again
+]
 
 -- Chains: joined, the numbers after each step, and the part between two places.
 pub chain_join : (R : ℕ → ℕ → Type 0) (m n p q r : ℕ) → Chain R m p q → Chain R n q r → Chain R (m + n) p r
@@ -92,6 +92,52 @@ chain_repeats R bound f n p q enough below c =
     let r : ℕ = stop_at R n p q c i in
     let turn : Chain R (j - i) r (stop_at R n p q c j) = chain_between R n p q c i (j - i) j (omega arith) (omega arith) in
     (r, i, j - i, chain_front R n p q c i (omega arith), omega arith, subst (λ x. Chain R (j - i) r x) (sym (again.4 0)) turn)
+
+chain_back : (R : ℕ → ℕ → Type 0) (n p q : ℕ) (c : Chain R n p q) (i m : ℕ) → n ≡ i + m → Chain R m (stop_at R n p q c i) q
+chain_back R n p q c zero m e = let f : n ≡ m = omega arith in subst (λ k. Chain R k p q) f c
+chain_back R zero p q c (suc i) m e = absurd (omega arith)
+chain_back R (suc n) p q c (suc i) m e = chain_back R n c.0 q c.2 i m (omega arith)
+
+-- What a chain passes twice is cut out of it.
+chain_cut : (R : ℕ → ℕ → Type 0) (bound : ℕ) → ((s t : ℕ) → s < bound → R s t → t < bound) → (n p q : ℕ) → bound ≤ n → p < bound → Chain R n p q → (m : ℕ) × (m < n) × Chain R m p q
+chain_cut R bound f n p q enough below c =
+    let long = length-stops R n p q c in
+    let again = pigeonhole bound (p ∷ stops R n p q c) (omega arith) (stops_below R (λ x. x < bound) f n p q c below) in
+    let i : ℕ = again.0 in
+    let j : ℕ = again.1 in
+    let lt : i < j = again.2 in
+    let inside : j < length (p ∷ stops R n p q c) = again.3 in
+    let front : Chain R i p (stop_at R n p q c j) = subst (λ x. Chain R i p x) (again.4 0) (chain_front R n p q c i (omega arith)) in
+    (i + (n - j), omega arith, chain_join R i (n - j) p (stop_at R n p q c j) q front (chain_back R n p q c j (n - j) (omega arith)))
+
+chain_within : (R : ℕ → ℕ → Type 0) (bound : ℕ) → ((s t : ℕ) → s < bound → R s t → t < bound) → (fuel n p q : ℕ) → n ≤ fuel → p < bound → Chain R n p q → (m : ℕ) × (m < bound) × Chain R m p q
+chain_within R bound f zero n p q h below c = (n, omega arith, c)
+chain_within R bound f (suc fuel) n p q h below c = elim (cases_lt n bound) [
+  | inl few ↦ (n, few, c)
+  | inr many ↦ let r = chain_cut R bound f n p q many below c in let lt = r.1 in chain_within R bound f fuel r.0 p q (omega arith) below r.2
+]
+
+-- Among numbers below a bound, what a chain joins is joined by fewer steps than the bound.
+pub chain_short : (R : ℕ → ℕ → Type 0) (bound : ℕ) → ((s t : ℕ) → s < bound → R s t → t < bound) → (n p q : ℕ) → p < bound → Chain R n p q → (m : ℕ) × (m < bound) × Chain R m p q
+chain_short R bound f n p q below c = chain_within R bound f n n p q (le_refl n) below c
+
+-- Steps of a transitive relation that never lead back are fewer than the bound.
+pub strict_chain_short : (T : ℕ → ℕ → Type 0) → ((p q r : ℕ) → T p q → T q r → T p r) → (bound : ℕ) → ((s t : ℕ) → s < bound → T s t → t < bound) → (n p q : ℕ) → p < bound → Chain (Strict T) n p q → n < bound
+strict_chain_short T joins bound f n p q below c = elim (cases_lt n bound) [
+  | inl few ↦ few
+  | inr many ↦
+      let again = chain_repeats (Strict T) bound (λ s t b h. f s t b h.0) n p q many below c in
+      absurd (never again.2 again.0 again.4 again.5)
+]
+  where
+    back : (m s r t : ℕ) → T r s → Chain (Strict T) m s t → T r t
+    back zero s r t h d = subst (T r) d h
+    back (suc m) s r t h (u, g, d) = back m u r t (joins r s u h g.0) d
+
+    never : (m r : ℕ) → 1 ≤ m → Chain (Strict T) m r r → ⊥
+    never zero r some d = omega arith
+    never (suc zero) r some (s, h, d) = h.1 (subst (T s) d (subst (λ x. T x s) (sym d) h.0))
+    never (suc (suc m)) r some (s, h, (u, g, d)) = h.1 (back m u s r g.0 d)
 
 -- A valid automaton moves from states to states.
 pub move_in_range : (A : Automaton) → IsAutomaton A → (p a q : ℕ) → Moves A p a q → (p < A.states) × (q < A.states) × (a < A.labels)
@@ -144,16 +190,16 @@ pumping A valid u x p flag n q enters enough c =
       flag = flag || front.0;
       enters = run_join A A.initial u p flag (repeated x again.1) again.0 front.0 enters front.1;
       some_turn = again.4;
-      cycles = run_past A x again.2 again.0 again.0 again.4 again.5
+      cycles = run_past A x again.2 again.0 again.0 again.4 again.5;
     }
 
 -- A lasso cut into other blocks.
 pub reblock : (A : Automaton) (u v : List ℕ) (k m : ℕ) → 1 ≤ m → AcceptsLasso A (u ++ repeated v k) (repeated v m) → AcceptsLasso A u v
 reblock A u v k m some h =
     let entry : (u ++ repeated v k) ++ repeated (repeated v m) h.before ≡ u ++ repeated v (k + m * h.before) =
-      append_assoc u (repeated v k) (repeated (repeated v m) h.before)
-      ∙ ap (λ l. u ++ (repeated v k ++ l)) (repeated-times v m h.before)
-      ∙ ap (λ l. u ++ l) (sym (repeated-add v k (m * h.before))) in
+    append_assoc u (repeated v k) (repeated (repeated v m) h.before)
+    ∙ ap (λ l. u ++ (repeated v k ++ l)) (repeated-times v m h.before)
+    ∙ ap (λ l. u ++ l) (sym (repeated-add v k (m * h.before))) in
     record {
       before = k + m * h.before;
       turns = m * h.turns;
@@ -161,5 +207,5 @@ reblock A u v k m some h =
       flag = h.flag;
       enters = subst (λ l. Run A A.initial l h.state h.flag) entry h.enters;
       some_turn = mul-pos some h.some_turn;
-      cycles = subst (λ l. Run A h.state l h.state true) (repeated-times v m h.turns) h.cycles
+      cycles = subst (λ l. Run A h.state l h.state true) (repeated-times v m h.turns) h.cycles;
     }

@@ -1,9 +1,9 @@
 -- From paths of B that follow the paths of A to lassos and words that B accepts where A does.
-use Rattle.std.proofs.Common.{◌≡◌, ℕ, zero, suc, ◌+◌, ◌*◌, ◌<◌, ◌≤◌, ◌⊎◌, Bool, true, false, ◌||◌, List, [], ◌∷◌, ◌++◌, length, refl, sym, ap, ◌∙◌, subst, inl, inr, arith, length-append, le_refl, le-mul_of_pos_right, mul_comm, append_assoc, mul-pos}
+use Rattle.std.proofs.Common.{◌≡◌, ℕ, zero, suc, ◌+◌, ◌*◌, ◌<◌, ◌≤◌, true, List, [], ◌∷◌, ◌++◌, length, refl, sym, ap, ◌∙◌, subst, inl, inr, arith, le_refl, le-mul_of_pos_right, append_assoc, mul-pos}
 use Rattle.std.proofs.lemmas.Bool.{or_cases, or_left, or_right, false≢true}
 use Rattle.auto_core.specs.Automaton.{Automaton, IsAutomaton, IsAccepting, is_accepting}
-use Rattle.auto_core.specs.Run.{Run, PathBy, Path, end_of, some_accepting, repeated}
-use Rattle.auto_core.specs.Accept.{AcceptsLasso, AcceptsWord, Includes}
+use Rattle.auto_core.specs.Run.{Run, Path, end_of, some_accepting, repeated}
+use Rattle.auto_core.specs.Accept.{AcceptsLasso, Includes}
 use Rattle.auto_core.specs.Game.{Chain, AllMatched, MatchesForward}
 use Rattle.auto_core.specs.Automaton.{Moves}
 use Rattle.auto_core.specs.declared.parts.Mode.TheVariants.{Buchi, Finite}
@@ -17,27 +17,28 @@ use Rattle.path_laws.proofs.PumpingLemmas.{pumping, reblock, repeated-times, len
 pub path_repeated : (A : Automaton) (p : ℕ) (y cs : List ℕ) → Path A p y cs → end_of p cs ≡ p → (n : ℕ) → Path A p (repeated y n) (repeated cs n) × (end_of p (repeated cs n) ≡ p)
 path_repeated A p y cs h e zero = (tt, refl)
 path_repeated A p y cs h e (suc n) =
-    let r = path_repeated A p y cs h e n in
-    (path_join (Moves A) p y (repeated y n) cs (repeated cs n) h (subst (λ s. Path A s (repeated y n) (repeated cs n)) (sym e) r.0),
-      end_of-append p cs (repeated cs n) ∙ ap (λ s. end_of s (repeated cs n)) e ∙ r.1)
+    let r = path_repeated A p y cs h e n in (
+      path_join (Moves A) p y (repeated y n) cs (repeated cs n) h (subst (λ s. Path A s (repeated y n) (repeated cs n)) (sym e) r.0),
+      end_of-append p cs (repeated cs n) ∙ ap (λ s. end_of s (repeated cs n)) e ∙ r.1,
+    )
 
 -- Accepting within d places, in a front that is longer than d.
 soon_found : (B : Automaton) (d : ℕ) (xs later : List ℕ) → d < length xs → AcceptsWithin B d (xs ++ later) → some_accepting B xs ≡ true
 soon_found B d [] later lt h = absurd (omega arith)
 soon_found B zero (x ∷ xs) later lt h = or_left (is_accepting B x) (some_accepting B xs) (test_from_accepting B x h)
 soon_found B (suc d) (x ∷ xs) later lt h = elim h [
-    | inl here ↦ or_left (is_accepting B x) (some_accepting B xs) (test_from_accepting B x here)
-    | inr soon ↦ or_right (is_accepting B x) (some_accepting B xs) (soon_found B d xs later (omega arith) soon)
-  ]
+  | inl here ↦ or_left (is_accepting B x) (some_accepting B xs) (test_from_accepting B x here)
+  | inr soon ↦ or_right (is_accepting B x) (some_accepting B xs) (soon_found B d xs later (omega arith) soon)
+]
 
 -- If A's list passes an accepting state, B's does in a front that is at least d longer.
 within_accepting : (A B : Automaton) (d : ℕ) (cs es xs later : List ℕ) → AllMatchedWithin A B d (cs ++ es) (xs ++ later) → length cs + d ≤ length xs → some_accepting A cs ≡ true → some_accepting B xs ≡ true
 within_accepting A B d [] es xs later h long t = absurd (false≢true t)
 within_accepting A B d (c ∷ cs) es [] later h long t = absurd (omega arith)
 within_accepting A B d (c ∷ cs) es (x ∷ xs) later h long t = elim (or_cases (is_accepting A c) (some_accepting A cs) t) [
-    | inl here ↦ soon_found B d (x ∷ xs) later (omega arith) (h.0 (accepting_from_test A c here))
-    | inr rest ↦ or_right (is_accepting B x) (some_accepting B xs) (within_accepting A B d cs es xs later h.1 (omega arith) rest)
-  ]
+  | inl here ↦ soon_found B d (x ∷ xs) later (omega arith) (h.0 (accepting_from_test A c here))
+  | inr rest ↦ or_right (is_accepting B x) (some_accepting B xs) (within_accepting A B d cs es xs later h.1 (omega arith) rest)
+]
 
 within_rest : (A B : Automaton) (d : ℕ) (cs es xs later : List ℕ) → length cs ≡ length xs → AllMatchedWithin A B d (cs ++ es) (xs ++ later) → AllMatchedWithin A B d es later
 within_rest A B d [] es [] later e h = h
@@ -61,7 +62,7 @@ blocks A B d z cs es marked long same (suc n) q qs path match =
     let size : length cut.front ≡ length z = length-path (Moves B) q z cut.front cut.first in
     let whole : AllMatchedWithin A B d ((cs ++ es) ++ repeated (cs ++ es) n) (cut.front ++ cut.back) = subst (λ l. AllMatchedWithin A B d ((cs ++ es) ++ repeated (cs ++ es) n) l) cut.is match in
     let split : AllMatchedWithin A B d (cs ++ (es ++ repeated (cs ++ es) n)) (cut.front ++ cut.back) =
-      subst (λ l. AllMatchedWithin A B d l (cut.front ++ cut.back)) (append_assoc cs es (repeated (cs ++ es) n)) whole in
+    subst (λ l. AllMatchedWithin A B d l (cut.front ++ cut.back)) (append_assoc cs es (repeated (cs ++ es) n)) whole in
     let past : some_accepting B cut.front ≡ true = within_accepting A B d cs (es ++ repeated (cs ++ es) n) cut.front cut.back split (omega arith) marked in
     let rest : AllMatchedWithin A B d (repeated (cs ++ es) n) cut.back = within_rest A B d (cs ++ es) (repeated (cs ++ es) n) cut.front cut.back (omega arith) whole in
     let goes_on = blocks A B d z cs es marked long same n (end_of q cut.front) cut.back cut.second rest in
@@ -95,11 +96,11 @@ followed_lasso A B d valid follows w ps y cs enters turn back marked =
   where
     longer : (xs ys : List ℕ) (k : ℕ) → length xs ≡ length ys → 1 ≤ length xs → length xs + k ≤ length (repeated ys (suc k))
     longer xs ys k e h =
-      let size = length-repeated ys (suc k) in
-      let some : 0 < length ys = omega arith in
-      let more : k ≤ k * length ys = le-mul_of_pos_right k some in
-      let turn : length ys * suc k ≡ length ys + k * length ys = omega arith in
-      omega arith
+        let size = length-repeated ys (suc k) in
+        let some : 0 < length ys = omega arith in
+        let more : k ≤ k * length ys = le-mul_of_pos_right k some in
+        let turn : length ys * suc k ≡ length ys + k * length ys = omega arith in
+        omega arith
 
 pub delayed_transfer : (A B : Automaton) (d : ℕ) → IsAutomaton B → FollowsWithin A B d → Includes A B Buchi
 delayed_transfer A B d valid follows u v h =
@@ -109,7 +110,7 @@ delayed_transfer A B d valid follows u v h =
     let turn = path_of_run A h.state y h.state true h.cycles in
     let at : h.state ≡ end_of A.initial entry.0 = sym entry.2 in
     let lasso = followed_lasso A B d valid follows w entry.0 y turn.0 entry.1
-      (subst (λ s. Path A s y turn.0) at turn.1) (subst (λ s. end_of s turn.0 ≡ s) at turn.2) turn.3 in
+    (subst (λ s. Path A s y turn.0) at turn.1) (subst (λ s. end_of s turn.0 ≡ s) at turn.2) turn.3 in
     let many : 1 ≤ h.turns * suc d = mul-pos h.some_turn (omega arith) in
     reblock B u v h.before (h.turns * suc d) many (subst (λ l. AcceptsLasso B w l) (repeated-times v h.turns (suc d)) lasso)
 
@@ -127,5 +128,5 @@ transfer_words A B start follows w h =
       state = end_of B.initial r.0;
       flag = some_accepting B r.0;
       run = run_of_path B B.initial w r.0 r.1;
-      ends = matched_end (MatchesForward A B) A.initial B.initial path.0 r.0 start r.2 (subst (IsAccepting A) (sym path.2) h.ends)
+      ends = matched_end (MatchesForward A B) A.initial B.initial path.0 r.0 start r.2 (subst (IsAccepting A) (sym path.2) h.ends);
     }

@@ -4,7 +4,7 @@ use mathlib.Core.List.{reverse}
 use Rattle.std.proofs.lemmas.Grind.{reverse_onto}
 use Rattle.auto_core.specs.Run.{PathBy, end_of}
 use Rattle.auto_core.specs.Game.{AllMatched}
-use Rattle.path_laws.specs.Runs.{turned}
+use Rattle.path_laws.specs.Paths.{turned}
 use Rattle.path_laws.proofs.PathLemmas.{end_of-append, path_join}
 use Rattle.path_laws.proofs.MatchLemmas.{matched_join, matched_end}
 
@@ -33,7 +33,7 @@ path_turned M p [] (q ∷ ps) h = absurd h
 path_turned M p (a ∷ w) [] h = absurd h
 path_turned M p (a ∷ w) (q ∷ ps) h =
     let last : PathBy (Flipped M) (end_of (end_of q ps) (turned q ps)) (a ∷ []) (p ∷ []) =
-      subst (λ s. PathBy (Flipped M) s (a ∷ []) (p ∷ [])) (sym (end_of-turned q ps)) (h.0, tt) in
+    subst (λ s. PathBy (Flipped M) s (a ∷ []) (p ∷ [])) (sym (end_of-turned q ps)) (h.0, tt) in
     subst (λ l. PathBy (Flipped M) (end_of q ps) l (turned q ps ++ p ∷ [])) (sym (reverse_onto w a []))
     (path_join (Flipped M) (end_of q ps) (reverse w) (a ∷ []) (turned q ps) (p ∷ []) (path_turned M q w ps h.1) last)
 

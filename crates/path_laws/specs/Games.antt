@@ -1,9 +1,9 @@
 -- The laws of stable relations: the closure of one relates p to q only if each path from p is followed from q.
-use Rattle.std.specs.Prelude.{◌≡◌, ℕ, ◌⊎◌, ◌≤◌, List, ◌∷◌}
+use Rattle.std.specs.Prelude.{◌≡◌, ℕ, ◌⊎◌, ◌<◌, ◌≤◌, List, ◌∷◌}
 use Rattle.auto_core.specs.Automaton.{Automaton, Moves, IsAutomaton}
 use Rattle.auto_core.specs.Run.{PathBy, Path, end_of}
 use Rattle.auto_core.specs.Accept.{Includes}
-use Rattle.auto_core.specs.Game.{BackwardMoves, MatchesForward, MatchesBackward, AllMatched, Stable, Close, Holds, IsWithin, StableForward, StableBackward, StableAcross}
+use Rattle.auto_core.specs.Game.{BackwardMoves, MatchesForward, MatchesBackward, AllMatched, Stable, ArePairsBelow, Chain, Close, Strict, Holds, IsWithin, StableForward, StableBackward, StableAcross}
 use Rattle.auto_core.specs.declared.parts.Mode.{Mode}
 
 -- A path from q on the word, matched at each place with the one through ps.
@@ -27,6 +27,16 @@ FollowedToTheEnd = (A : Automaton) (k : ℕ) (S : List (ℕ × ℕ)) → 1 ≤ k
     (s : ℕ) (w ps : List ℕ) → Path A s w ps → end_of s ps ≡ p →
     (t : ℕ) × (qs : List ℕ) × Path A t w qs × (end_of t qs ≡ q) × AllMatched (MatchesBackward A A) (s ∷ ps) (t ∷ qs)
 
+-- Forward at lookahead 1: each path from p is followed from q move by move, the closure relating the states at each place.
+abbrev pub FollowedMoveByMove : Type 0
+FollowedMoveByMove = (A : Automaton) (S : List (ℕ × ℕ)) → StableForward A 1 S → (p q : ℕ) → Close (Holds S) p q →
+    (w ps : List ℕ) → Path A p w ps → IsFollowed (Moves A) (Close (Holds S)) q w ps
+
+-- Backward at lookahead 1 too.
+abbrev pub FollowedMoveByMoveBackward : Type 0
+FollowedMoveByMoveBackward = (A : Automaton) (S : List (ℕ × ℕ)) → StableBackward A 1 S → (p q : ℕ) → Close (Holds S) p q →
+    (w ps : List ℕ) → PathBy (BackwardMoves A) p w ps → IsFollowed (BackwardMoves A) (Close (Holds S)) q w ps
+
 -- Across two automata: a stable list relates p to q only if q matches p and each path from p in A is followed from q in B.
 abbrev pub FollowedAcross : Type 0
 FollowedAcross = (A B : Automaton) (k : ℕ) (S : List (ℕ × ℕ)) → 1 ≤ k → StableAcross A B k S → (p q : ℕ) → Holds S p q →
@@ -46,6 +56,14 @@ pub record IsClosureOf (S : List (ℕ × ℕ)) : Type 0 where
 -- That holds of each list.
 abbrev pub ClosureIsLeast : Type 0
 ClosureIsLeast = (S : List (ℕ × ℕ)) → IsClosureOf S
+
+-- For pairs of numbers below n the closure needs fewer than n steps.
+abbrev pub ClosureIsShort : Type 0
+ClosureIsShort = (n : ℕ) (S : List (ℕ × ℕ)) → ArePairsBelow n n S → (p q : ℕ) → p < n → Close (Holds S) p q → (m : ℕ) × (m < n) × Chain (Holds S) m p q
+
+-- And fewer than n steps of its strict part come one after another.
+abbrev pub StrictStepsAreFew : Type 0
+StrictStepsAreFew = (n : ℕ) (S : List (ℕ × ℕ)) → ArePairsBelow n n S → (m p q : ℕ) → p < n → Chain (Strict (Close (Holds S))) m p q → m < n
 
 -- The closure of a list that is stable forward at lookahead 1 is stable so too.
 abbrev pub ClosureStaysStable : Type 0

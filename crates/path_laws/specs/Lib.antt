@@ -1,4 +1,4 @@
-pub mod Runs
+pub mod Paths
 pub mod Pumping
 pub mod Transfer
 pub mod Games

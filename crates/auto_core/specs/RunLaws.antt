@@ -1,8 +1,7 @@
--- The laws of runs and paths: a run is a path, both join and split at any place, a short path extends, and a path can be read backward.
-use Rattle.std.specs.Prelude.{◌≡◌, ℕ, ◌<◌, ◌≤◌, ◌⊎◌, ◌↔◌, Bool, ◌||◌, List, [], ◌∷◌, ◌++◌, length, reverse}
+-- Runs as paths, and how both join and split: the words and the laws.
+use Rattle.std.specs.Prelude.{◌≡◌, ℕ, ◌↔◌, Bool, ◌||◌, List, ◌++◌}
 use Rattle.auto_core.specs.Automaton.{Automaton, Moves}
 use Rattle.auto_core.specs.Run.{Run, PathBy, Path, end_of, some_accepting}
-use Rattle.auto_core.specs.Game.{BackwardMoves, IsDead}
 
 -- A path on the word that has the end and the flag of a run.
 abbrev pub PathOfRun : Automaton → ℕ → List ℕ → ℕ → Bool → Type 0
@@ -25,18 +24,6 @@ pub record CutRun (A : Automaton) (p : ℕ) (w x : List ℕ) (r : ℕ) (flag : B
   pub second : Run A middle x r second_flag
   pub is : flag ≡ (first_flag || second_flag)
 
--- The path from p on w through ps goes on until it has k moves or can go no further.
-pub record Extension (M : ℕ → ℕ → ℕ → Type 0) (k p : ℕ) (w ps : List ℕ) : Type 0 where
-  pub letters : List ℕ
-  pub states : List ℕ
-  pub path : PathBy M p (w ++ letters) (ps ++ states)
-  pub shown : (length (w ++ letters) ≡ k) ⊎ ((length (w ++ letters) < k) × IsDead M (end_of p (ps ++ states)))
-
--- The states after each letter of the path from p through ps, read from its end.
-abbrev pub turned : ℕ → List ℕ → List ℕ
-turned p [] = []
-turned p (q ∷ qs) = turned q qs ++ p ∷ []
-
 -- A run is a path with that end and that flag.
 abbrev pub RunsArePaths : Type 0
 RunsArePaths = (A : Automaton) (p : ℕ) (w : List ℕ) (q : ℕ) (flag : Bool) → Run A p w q flag ↔ PathOfRun A p w q flag
@@ -56,21 +43,3 @@ PathsJoin = (A : Automaton) (p : ℕ) (w x ps qs : List ℕ) → Path A p w ps �
 -- A path on w and then x splits between them.
 abbrev pub PathsSplit : Type 0
 PathsSplit = (A : Automaton) (p : ℕ) (w x rs : List ℕ) → Path A p (w ++ x) rs → CutPath (Moves A) p w x rs
-
--- A path of at most k moves goes on until it has k or can go no further.
-abbrev pub PathsExtend : Type 0
-PathsExtend = (A : Automaton) (k p : ℕ) (w ps : List ℕ) → Path A p w ps → length w ≤ k → Extension (Moves A) k p w ps
-
--- So does a path that is read backward.
-abbrev pub BackwardPathsExtend : Type 0
-BackwardPathsExtend = (A : Automaton) (k p : ℕ) (w ps : List ℕ) → PathBy (BackwardMoves A) p w ps → length w ≤ k → Extension (BackwardMoves A) k p w ps
-
--- A path read from its end is a path of the moves backward on the reversed word, and the other way round.
-abbrev pub PathsTurn : Type 0
-PathsTurn = (A : Automaton) (p : ℕ) (w ps : List ℕ) →
-    (Path A p w ps → PathBy (BackwardMoves A) (end_of p ps) (reverse w) (turned p ps))
-    × (PathBy (BackwardMoves A) p w ps → Path A (end_of p ps) (reverse w) (turned p ps))
-
--- Reading from the end twice gives the path again.
-abbrev pub TurningTwice : Type 0
-TurningTwice = (p : ℕ) (ps : List ℕ) → (end_of (end_of p ps) (turned p ps) ≡ p) × (turned (end_of p ps) (turned p ps) ≡ ps)
