@@ -1,4 +1,4 @@
-//! Counting.
+//! Counting: numbers that repeat, and the lassos that follow from it.
 
 ghost use Rattle.path_laws.specs.Pumping.{Pigeonhole, Pumping, Reblocking};
 

@@ -7,7 +7,7 @@ pub fn followed_forward()
     ensures { FollowedForward }
 {}
 
-/// The same of moves backward.
+/// What the closure of a relation that is stable backward relates matches, and backward paths from the first are followed from the second.
 pub fn followed_backward()
     ensures { FollowedBackward }
 {}
@@ -17,12 +17,12 @@ pub fn followed_to_the_end()
     ensures { FollowedToTheEnd }
 {}
 
-/// At lookahead 1 the closure holds at each place of the two paths.
+/// At lookahead 1, forward, the closure holds at each place of the path and the one that follows it.
 pub fn followed_move_by_move()
     ensures { FollowedMoveByMove }
 {}
 
-/// The same of moves backward.
+/// At lookahead 1 the closure holds at each place of two paths of the moves backward.
 pub fn followed_move_by_move_backward()
     ensures { FollowedMoveByMoveBackward }
 {}
@@ -32,7 +32,7 @@ pub fn followed_across()
     ensures { FollowedAcross }
 {}
 
-/// If it relates the initial states, the second automaton accepts what the first does.
+/// If a relation that is stable across two automata relates the initial states, the second accepts what the first does.
 pub fn across_includes()
     ensures { AcrossIncludes }
 {}
@@ -57,7 +57,7 @@ pub fn closure_stays_stable()
     ensures { ClosureStaysStable }
 {}
 
-/// The same of backward.
+/// The closure of a relation that is stable backward at lookahead 1 is stable so too.
 pub fn closure_stays_stable_backward()
     ensures { ClosureStaysStableBackward }
 {}

@@ -33,7 +33,7 @@ pub fn paths_extend()
     ensures { PathsExtend }
 {}
 
-/// So does a path of the moves backward.
+/// A path of the moves backward goes on to any greater number of moves, or to a state that has none.
 pub fn backward_paths_extend()
     ensures { BackwardPathsExtend }
 {}

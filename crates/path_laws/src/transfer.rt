@@ -7,7 +7,7 @@ pub fn lassos_transfer()
     ensures { LassosTransfer }
 {}
 
-/// It accepts its words too, if its initial state is accepting where the other's is.
+/// An automaton that follows another accepts its words, if its initial state is accepting where the other's is.
 pub fn words_transfer()
     ensures { WordsTransfer }
 {}
