@@ -4,3 +4,5 @@ pub mod Accept
 pub mod Build
 pub mod Arrivals
 pub mod Stored
+pub mod Game
+pub mod RunLaws
