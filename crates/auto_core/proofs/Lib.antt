@@ -3,3 +3,7 @@ pub mod Accepting
 pub mod TableLemmas
 pub mod SuccessorLemmas
 pub mod BuildLemmas
+pub mod PathLemmas
+pub mod BitLemmas
+pub mod ReachLemmas
+pub mod Marking

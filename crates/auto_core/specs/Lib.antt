@@ -6,3 +6,5 @@ pub mod Arrivals
 pub mod Stored
 pub mod Game
 pub mod RunLaws
+pub mod Rows
+pub mod Reach

@@ -8,7 +8,7 @@ use Rattle.auto_core.specs.Game.{BackwardMoves, IsDead, MayShow, Answers, Round,
 use Rattle.auto_core.specs.RunLaws.{CutPath}
 use Rattle.path_laws.specs.Paths.{Extension}
 use Rattle.path_laws.specs.Games.{IsFollowed}
-use Rattle.path_laws.proofs.PathLemmas.{Contains-here, Contains-later, Contains-cons_cases, none_in_nil, path_join, path_split, end_of-append}
+use Rattle.auto_core.proofs.PathLemmas.{Contains-here, Contains-later, Contains-cons_cases, none_in_nil, path_join, path_split, end_of-append}
 use Rattle.path_laws.proofs.MatchLemmas.{matched_trans, matched_refl}
 use Rattle.path_laws.proofs.PumpingLemmas.{chain_join}
 

@@ -1,4 +1,3 @@
-pub mod PathLemmas
 pub mod MatchLemmas
 pub mod TurnLemmas
 pub mod PumpingLemmas

@@ -4,7 +4,7 @@ use Rattle.std.proofs.lemmas.Bool.{or_cases, or_left, or_right, false≢true}
 use Rattle.auto_core.specs.Automaton.{Automaton, is_accepting}
 use Rattle.auto_core.specs.Run.{end_of, some_accepting}
 use Rattle.auto_core.specs.Game.{AllMatched, MatchesForward, MatchesBackward}
-use Rattle.path_laws.proofs.PathLemmas.{accepting_from_test, test_from_accepting}
+use Rattle.auto_core.proofs.PathLemmas.{accepting_from_test, test_from_accepting}
 
 module _ (ok : ℕ → ℕ → Type 0) where
   pub matched_length : (ps qs : List ℕ) → AllMatched ok ps qs → length ps ≡ length qs

@@ -9,7 +9,7 @@ use Rattle.auto_core.specs.Run.{Run, repeated}
 use Rattle.auto_core.specs.Accept.{AcceptsLasso}
 use Rattle.auto_core.specs.Game.{Chain, Strict}
 use Rattle.path_laws.specs.Pumping.{RunsPast}
-use Rattle.path_laws.proofs.PathLemmas.{run_join}
+use Rattle.auto_core.proofs.PathLemmas.{run_join}
 
 -- Distinct numbers, or two places that hold the same.
 place_of : (x : ℕ) (xs : List ℕ) → list_any (eqb x) xs ≡ true → (j : ℕ) × (j < length xs) × ((d : ℕ) → x ≡ slice_index_or xs j d)

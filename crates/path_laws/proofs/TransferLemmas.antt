@@ -9,7 +9,7 @@ use Rattle.auto_core.specs.Automaton.{Moves}
 use Rattle.auto_core.specs.declared.parts.Mode.TheVariants.{Buchi, Finite}
 use Rattle.path_laws.specs.Pumping.{RunsPast}
 use Rattle.path_laws.specs.Transfer.{AcceptsWithin, AllMatchedWithin, Follows, FollowsWithin}
-use Rattle.path_laws.proofs.PathLemmas.{length-path, path_join, path_split, path_of_run, run_of_path, end_of-append, accepting_from_test, test_from_accepting}
+use Rattle.auto_core.proofs.PathLemmas.{length-path, path_join, path_split, path_of_run, run_of_path, end_of-append, accepting_from_test, test_from_accepting}
 use Rattle.path_laws.proofs.MatchLemmas.{matched_end}
 use Rattle.path_laws.proofs.PumpingLemmas.{pumping, reblock, repeated-times, length-repeated}
 

@@ -5,7 +5,7 @@ use Rattle.std.proofs.lemmas.Grind.{reverse_onto}
 use Rattle.auto_core.specs.Run.{PathBy, end_of}
 use Rattle.auto_core.specs.Game.{AllMatched}
 use Rattle.path_laws.specs.Paths.{turned}
-use Rattle.path_laws.proofs.PathLemmas.{end_of-append, path_join}
+use Rattle.auto_core.proofs.PathLemmas.{end_of-append, path_join}
 use Rattle.path_laws.proofs.MatchLemmas.{matched_join, matched_end}
 
 -- The same moves the other way.

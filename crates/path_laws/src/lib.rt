@@ -13,8 +13,5 @@ pub use games::{
     followed_move_by_move, followed_move_by_move_backward, followed_to_the_end,
     strict_steps_are_few,
 };
-pub use runs::{
-    backward_paths_extend, paths_extend, paths_join, paths_split, paths_turn, runs_are_paths,
-    runs_join, runs_split, turning_twice,
-};
+pub use runs::{backward_paths_extend, paths_extend, paths_turn, turning_twice};
 pub use transfer::{delayed_transfer, lassos_transfer, words_transfer};
