@@ -7,3 +7,5 @@ pub mod PathLemmas
 pub mod BitLemmas
 pub mod ReachLemmas
 pub mod Marking
+pub mod CellLemmas
+pub mod MoveLemmas

@@ -1,5 +1,5 @@
 -- What is reached along the arcs of a table of bits.
-use Rattle.std.specs.Prelude.{◌≡◌, ℕ, ◌+◌, ◌*◌, ◌<◌, ◌≤◌, List, length}
+use Rattle.std.specs.Prelude.{◌≡◌, ℕ, ◌*◌, ◌<◌, ◌≤◌, List, length}
 use Rattle.auto_core.specs.Rows.{HasBit, HasCell}
 use Rattle.auto_core.specs.Game.{Close}
 

@@ -1,5 +1,5 @@
 -- Rows of bits in words of 64, and tables of such rows.
-use Rattle.std.specs.Prelude.{◌≡◌, ℕ, ◌+◌, ◌*◌, ◌/◌, ◌%◌, ◌<◌, Bool, true, List, slice_index, ◌==◌}
+use Rattle.std.specs.Prelude.{◌≡◌, ℕ, ◌+◌, ◌*◌, ◌/◌, ◌%◌, Bool, true, List, slice_index, ◌==◌}
 use Rattle.std.specs.Int.{bit_at}
 
 -- Bit i of the row, the lowest of the first word being bit 0; past the end there are no ones.

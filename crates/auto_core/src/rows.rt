@@ -80,3 +80,44 @@ pub fn first_missing(row: &[u64], other: &[u64]) -> Option<usize>
     }
     None
 }
+
+/// Tells whether the table relates row `p` to column `q`; a row has `width` words.
+pub fn has_cell(table: &[u64], width: usize, p: usize, q: usize) -> bool
+    requires row { p * width + width ≤ length table.now }
+    requires column { q < width * 64 }
+    ensures { result ≡ cell_of table.now width p q }
+{
+    (table[p * width + q / 64] >> (q % 64)) & 1 == 1
+}
+
+/// Lets the table relate row `p` to column `q`, and changes nothing else.
+pub fn set_cell(table: &mut [u64], width: usize, p: usize, q: usize)
+    requires row { p * width + width ≤ length table.old }
+    requires column { q < width * 64 }
+    ensures here { cell_of table.new width p q ≡ true }
+    ensures others { (r s : ℕ) → s < width * 64 → ¬ ((r ≡ p) × (s ≡ q)) → cell_of table.new width r s ≡ cell_of table.old width r s }
+{
+    table[p * width + q / 64] |= 1 << (q % 64);
+}
+
+/// Lets the table no longer relate row `p` to column `q`, and changes nothing else.
+pub fn clear_cell(table: &mut [u64], width: usize, p: usize, q: usize)
+    requires row { p * width + width ≤ length table.old }
+    requires column { q < width * 64 }
+    ensures here { cell_of table.new width p q ≡ false }
+    ensures others { (r s : ℕ) → s < width * 64 → ¬ ((r ≡ p) × (s ≡ q)) → cell_of table.new width r s ≡ cell_of table.old width r s }
+{
+    table[p * width + q / 64] &= !(1 << (q % 64));
+}
+
+/// Adds the bits of `from`, which has `width` words, to row `p` of the table, and leaves the other rows.
+pub fn or_row(table: &mut [u64], width: usize, p: usize, from: &[u64])
+    requires row { p * width + width ≤ length table.old }
+    requires equal { length from.now ≡ width }
+    ensures here { (q : ℕ) → q < width * 64 → cell_of table.new width p q ≡ (cell_of table.old width p q || bit_of from.now q) }
+    ensures others { (r q : ℕ) → q < width * 64 → ¬ (r ≡ p) → cell_of table.new width r q ≡ cell_of table.old width r q }
+{
+    for j in 0..width {
+        table[p * width + j] |= from[j];
+    }
+}

@@ -1,4 +1,3 @@
-use Rattle.std.proofs.Common.{◌≡◌, ℕ, ◌<◌, rules, arith}
 use Rattle.auto_core.proofs.BitLemmas.{clear_here, clear_others}
 use Rattle.auto_core.proofs.rows.clear_bit.Goals as goal
 

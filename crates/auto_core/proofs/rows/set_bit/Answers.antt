@@ -1,4 +1,3 @@
-use Rattle.std.proofs.Common.{◌≡◌, ℕ, ◌<◌, rules, arith}
 use Rattle.auto_core.proofs.BitLemmas.{set_here, set_others}
 use Rattle.auto_core.proofs.rows.set_bit.Goals as goal
 
