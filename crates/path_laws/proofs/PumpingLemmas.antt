@@ -4,11 +4,11 @@ use Rattle.std.specs.List.{IsDistinct, AllByRecursion, list_any}
 use Rattle.std.proofs.lemmas.Bool.{eqb-true, or_cases, or_parts, cases_Bool, cases_lt, false≢true}
 use Rattle.std.proofs.lemmas.List.Elements.{All-cons, All-nil, All-contains}
 use Rattle.std.proofs.lemmas.Map.Steps.{length-le_from_distinct_below}
-use Rattle.auto_core.specs.Automaton.{Automaton, IsAutomaton, Moves, HasRepeat, IsInRange, trans}
+use Rattle.auto_core.specs.Automaton.{Automaton, IsAutomaton, Moves, IsInRange, trans}
 use Rattle.auto_core.specs.Run.{Run, repeated}
 use Rattle.auto_core.specs.Accept.{AcceptsLasso}
 use Rattle.auto_core.specs.Game.{Chain, Strict}
-use Rattle.path_laws.specs.Pumping.{RunsPast}
+use Rattle.path_laws.specs.Pumping.{RunsPast, HasPlaces}
 use Rattle.auto_core.proofs.PathLemmas.{run_join}
 
 -- Distinct numbers, or two places that hold the same.
@@ -23,7 +23,7 @@ all_apart : (x : ℕ) (xs : List ℕ) → list_any (eqb x) xs ≡ false → AllB
 all_apart x [] h = tt
 all_apart x (y ∷ xs) h = let r = or_parts (eqb x y) (list_any (eqb x) xs) h in (r.0, all_apart x xs r.1)
 
-distinct_or_repeat : (xs : List ℕ) → IsDistinct eqb xs ⊎ HasRepeat xs
+distinct_or_repeat : (xs : List ℕ) → IsDistinct eqb xs ⊎ HasPlaces xs
 unfolding IsDistinct
 distinct_or_repeat [] = inl tt
 distinct_or_repeat (x ∷ xs) = elim (cases_Bool (list_any (eqb x) xs)) [
@@ -37,7 +37,7 @@ distinct_or_repeat (x ∷ xs) = elim (cases_Bool (list_any (eqb x) xs)) [
 any_below : (n : ℕ) (xs : List ℕ) → All (λ x. x < n) xs → (q : ℕ) → list_any (eqb q) xs ≡ true → q < n
 any_below n xs h q t = let r = place_of q xs t in subst (λ x. x < n) (sym (r.2 q)) (h r.0 q r.1)
 
-pub pigeonhole : (n : ℕ) (xs : List ℕ) → n < length xs → All (λ x. x < n) xs → HasRepeat xs
+pub pigeonhole : (n : ℕ) (xs : List ℕ) → n < length xs → All (λ x. x < n) xs → HasPlaces xs
 pigeonhole n xs more below = elim (distinct_or_repeat xs) [
   | inl distinct ↦ let few = length-le_from_distinct_below xs n distinct (any_below n xs below) in absurd (omega arith)
   | inr again ↦ again

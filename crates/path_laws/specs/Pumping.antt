@@ -1,6 +1,6 @@
 -- The laws of counting: too many numbers repeat, too many flagged blocks make a lasso, and a lasso may be cut into other blocks.
-use Rattle.std.specs.Prelude.{ℕ, ◌<◌, ◌≤◌, Bool, true, List, ◌++◌, length, All}
-use Rattle.auto_core.specs.Automaton.{Automaton, IsAutomaton, HasRepeat}
+use Rattle.std.specs.Prelude.{◌≡◌, ℕ, ◌<◌, ◌≤◌, Bool, true, List, ◌++◌, length, All, slice_index_or}
+use Rattle.auto_core.specs.Automaton.{Automaton, IsAutomaton}
 use Rattle.auto_core.specs.Run.{Run, repeated}
 use Rattle.auto_core.specs.Accept.{AcceptsLasso}
 use Rattle.auto_core.specs.Game.{Chain}
@@ -9,9 +9,13 @@ use Rattle.auto_core.specs.Game.{Chain}
 abbrev pub RunsPast : Automaton → List ℕ → ℕ → ℕ → Type 0
 RunsPast A x p q = Run A p x q true
 
+-- Two places of the list hold the same, the first before the second.
+abbrev pub HasPlaces : List ℕ → Type 0
+HasPlaces xs = (i j : ℕ) × (i < j) × (j < length xs) × ((d : ℕ) → slice_index_or xs i d ≡ slice_index_or xs j d)
+
 -- Among more than n numbers below n two places hold the same.
 abbrev pub Pigeonhole : Type 0
-Pigeonhole = (n : ℕ) (xs : List ℕ) → n < length xs → All (λ x. x < n) xs → HasRepeat xs
+Pigeonhole = (n : ℕ) (xs : List ℕ) → n < length xs → All (λ x. x < n) xs → HasPlaces xs
 
 -- A run on u, then as many runs on x as there are states, each past an accepting state: then the lasso (u, x) is accepted.
 abbrev pub Pumping : Type 0
