@@ -54,8 +54,8 @@ pub appended : (old middle new name content : List ℕ) (places places' : List P
     → All (IsWithin (length old)) places → map (file_in old) places ≡ files → places' ≡ places → map (file_in new) places' ≡ files
 appended old middle new name content places places' files middle_is new_is within files_are places_are =
     rw (places_are, new_is, middle_is)
-      (files_stay (old ++ name) content places (within_more (length old) (length (old ++ name)) places (longer old name) within)
-       ∙ files_stay old name places within ∙ files_are)
+    (files_stay (old ++ name) content places (within_more (length old) (length (old ++ name)) places (longer old name) within)
+    ∙ files_stay old name places within ∙ files_are)
 
 -- and with their place
 pub added : (old middle new name content : List ℕ) (places places' : List Place) (files : List File) (start begin end : ℕ)
@@ -65,9 +65,9 @@ pub added : (old middle new name content : List ℕ) (places places' : List Plac
     → map (file_in new) places' ≡ files ++ file name content ∷ []
 added old middle new name content places places' files start begin end middle_is new_is within files_are start_is begin_is end_is places_are =
     rw places_are
-      (map-append (file_in new) places _
-       ∙ rw (appended old middle new name content places places files middle_is new_is within files_are refl, start_is, begin_is, end_is, new_is, middle_is)
-           (λ i. files ++ file (range-middle old name content i) (range-last (old ++ name) content i) ∷ []))
+    (map-append (file_in new) places _
+    ∙ rw (appended old middle new name content places places files middle_is new_is within files_are refl, start_is, begin_is, end_is, new_is, middle_is)
+    (λ i. files ++ file (range-middle old name content i) (range-last (old ++ name) content i) ∷ []))
 
 pub on_err : {T E P : Type 0} (r : Result T E) → P → OnErr r P
 on_err (Ok x) p = tt

@@ -33,7 +33,7 @@ among_all kept name count (Some index) all is =
 -- one more file
 get_more : (kept : List File) (i : ℕ) (name : List ℕ) → i < length kept
     → map.get (files_of (take (i + 1) kept)) name
-      ≡ cond (bytes_eq name (file_at kept i).name) (Some (file_at kept i).bytes) (map.get (files_of (take i kept)) name)
+    ≡ cond (bytes_eq name (file_at kept i).name) (Some (file_at kept i).bytes) (map.get (files_of (take i kept)) name)
 get_more kept i name within =
     ap (λ fs. map.get (files_of fs) name) (take_more kept i (file [] []) within)
     ∙ ap (λ m. map.get m name) (fold_push (λ held file. map.insert held file.name file.bytes) map.empty (take i kept) (file_at kept i))
@@ -41,16 +41,19 @@ get_more kept i name within =
     ∙ ap (λ b. cond b (Some (file_at kept i).bytes) (map.get (files_of (take i kept)) name)) (is_eq-slice_cmp name (file_at kept i).name)
 
 pub found_here : (kept : List File) (i : ℕ) (name : List ℕ) → i < length kept → (file_at kept i).name ≡ name → IsFoundAmong kept (i + 1) name (Some i)
-found_here kept i name within is =
-    (within, is, get_more kept i name within
-      ∙ ap (λ b. cond b (Some (file_at kept i).bytes) (map.get (files_of (take i kept)) name)) ((bytes_eq-Decides name (file_at kept i).name).1 (sym is)))
+found_here kept i name within is = (
+  within,
+  is,
+  get_more kept i name within
+      ∙ ap (λ b. cond b (Some (file_at kept i).bytes) (map.get (files_of (take i kept)) name)) ((bytes_eq-Decides name (file_at kept i).name).1 (sym is)),
+)
 
 passed : (kept : List File) (i : ℕ) (name : List ℕ) → i < length kept → ((file_at kept i).name ≡ name → ⊥)
     → map.get (files_of (take (i + 1) kept)) name ≡ map.get (files_of (take i kept)) name
 passed kept i name within other =
     get_more kept i name within
     ∙ ap (λ b. cond b (Some (file_at kept i).bytes) (map.get (files_of (take i kept)) name))
-        (false_from_ne_true (bytes_eq name (file_at kept i).name) (λ t. other (sym ((bytes_eq-Decides name (file_at kept i).name).0 t))))
+    (false_from_ne_true (bytes_eq name (file_at kept i).name) (λ t. other (sym ((bytes_eq-Decides name (file_at kept i).name).0 t))))
 
 pub found_before : (kept : List File) (i : ℕ) (name : List ℕ) (found : Option ℕ) → i < length kept → ((file_at kept i).name ≡ name → ⊥)
     → IsFoundAmong kept i name found → IsFoundAmong kept (i + 1) name found

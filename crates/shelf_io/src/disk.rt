@@ -32,6 +32,7 @@ pub struct DiskShelf<'a, R: Files> {
 impl<'a, R: Files> DiskShelf<'a, R> {
     /// The files of the machine, with no fault counted and nothing begun.
     pub fn new(rt: &'a R) -> DiskShelf<'a, R>
+        ensures none_taken { ⟦<DiskShelf<'a, R> as Shelf>⟧.taken result ≡ 0 }
         ensures no_faults { ⟦<DiskShelf<'a, R> as Shelf>⟧.faults result ≡ 0 }
         ensures no_put_faults { ⟦<DiskShelf<'a, R> as Shelf>⟧.put_faults result ≡ 0 }
         ensures nothing_begun { ⟦<DiskShelf<'a, R> as Shelf>⟧.begun result ≡ Nothing }

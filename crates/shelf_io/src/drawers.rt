@@ -32,9 +32,9 @@ impl Model for Drawer {
     ghost Value = { Contents };
 
     ghost view = { λ d. record {
-        files = map (file_in d.bytes.items) d.places.items;
-        spare_bytes = vec_capacity d.bytes - vec_len d.bytes;
-        spare_places = vec_capacity d.places - vec_len d.places
+      files = map (file_in d.bytes.items) d.places.items;
+      spare_bytes = vec_capacity d.bytes - vec_len d.bytes;
+      spare_places = vec_capacity d.places - vec_len d.places;
     } };
 
     ghost invariant = { λ d. All (IsWithin (length d.bytes.items)) d.places.items };
@@ -116,5 +116,9 @@ impl Drawer {
 fn skip(bytes: &[u8], count: usize) -> &[u8]
     ensures { result.now ≡ drop count bytes.now }
 {
-    if count < bytes.len() { &bytes[count..] } else { &[] }
+    if count < bytes.len() {
+        &bytes[count..]
+    } else {
+        &[]
+    }
 }

@@ -20,3 +20,6 @@ pub use memory_sink::MemSink;
 pub use output::OutSink;
 pub use outside::{Shelf, Sink};
 pub use parts::{Failed, File, LoadFault};
+
+#[cfg(test)]
+mod tests;

@@ -88,7 +88,7 @@ fn take_all<H: Shelf>(
 }
 
 /// Appends the piece. Refused, the list holds a front of it more.
-fn append(bytes: &mut List<u8>, piece: &[u8]) -> Result<(), Memory>
+pub fn append(bytes: &mut List<u8>, piece: &[u8]) -> Result<(), Memory>
     ensures { OnOk result (bytes.new ≡ bytes.old ++ piece.now) }
 {
     for byte in piece {

@@ -61,6 +61,7 @@ impl MemShelf {
         requires { 0 < piece }
         ensures held { IfOk result (λ shelf. ⟦<MemShelf as Shelf>⟧.held shelf ≡ Some (files_of files)) }
         ensures nothing_begun { IfOk result (λ shelf. ⟦<MemShelf as Shelf>⟧.begun shelf ≡ Nothing) }
+        ensures none_taken { IfOk result (λ shelf. ⟦<MemShelf as Shelf>⟧.taken shelf ≡ 0) }
         ensures no_faults { IfOk result (λ shelf. ⟦<MemShelf as Shelf>⟧.faults shelf ≡ 0) }
         ensures no_put_faults { IfOk result (λ shelf. ⟦<MemShelf as Shelf>⟧.put_faults shelf ≡ 0) }
         ensures none_missed { IfOk result (λ shelf. ⟦<MemShelf as Shelf>⟧.missed shelf ≡ 0) }

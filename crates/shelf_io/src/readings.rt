@@ -17,12 +17,7 @@ pub struct Reading {
 }
 
 /// Moves the next bytes of the file to the front of the buffer, at most `most`, and answers how many.
-pub fn read(
-    drawer: &Drawer,
-    reading: &mut Option<Reading>,
-    buf: &mut [u8],
-    most: usize,
-) -> usize
+pub fn read(drawer: &Drawer, reading: &mut Option<Reading>, buf: &mut [u8], most: usize) -> usize
     requires in_range { ForSome reading.old (λ r. r.index < length drawer.now.files) }
     ensures still_in_range { ForSome reading.new (λ r. r.index < length drawer.now.files) }
     ensures count { result ≡ min (min (length buf.old) most) (length (rest_in drawer.now.files reading.old)) }
