@@ -1,9 +1,9 @@
 -- Files in one block of bytes stay what they are when bytes come after them.
-use Rattle.std.proofs.Common.{◌≡◌, ℕ, ◌+◌, ◌-◌, ◌<◌, ◌≤◌, List, [], ◌∷◌, ◌++◌, length, map, take, drop, get_or, Bool, true, IsTrue, Result, Ok, Err, OnErr, All, eqb, arith, sym, ap, subst, ◌∙◌, refl, length-append, suc}
+use Rattle.std.proofs.Common.{◌≡◌, ℕ, ◌-◌, ◌<◌, ◌≤◌, List, [], ◌∷◌, ◌++◌, length, map, take, drop, get_or, Bool, IsTrue, Result, Ok, Err, OnErr, All, eqb, arith, sym, ap, subst, ◌∙◌, refl, length-append, suc}
 use Rattle.std.proofs.lemmas.Bool.Decides.{Decides-eqb}
 use Rattle.std.specs.Cmp.Lexicographic.{pointwise}
 use Rattle.std.proofs.lemmas.Grind.{common_steps}
-use Rattle.std.proofs.lemmas.List.{take-append-le, drop-append-le, map-append, get_or-map, length-map}
+use Rattle.std.proofs.lemmas.List.{take-append-le, drop-append-le, map-append, get_or-map}
 use Rattle.std.proofs.lemmas.Slice.Eq.{slice_eq-Decides}
 use Rattle.shelf_io.specs.Stored.{file, file_at}
 use Rattle.shelf_io.specs.Drawer.{file_in, IsWithin}

@@ -1,5 +1,5 @@
 -- What a file's pieces say together, and what a file that gave more bytes than were allowed has.
-use Rattle.std.proofs.Common.{◌≡◌, ℕ, ◌+◌, ◌<◌, ◌≤◌, ◌++◌, List, length, take, Option, None, Some, IsSome, Result, Ok, Err, arith, length-append, length-take, append_assoc, subst, sym, refl}
+use Rattle.std.proofs.Common.{◌≡◌, ℕ, ◌+◌, ◌<◌, ◌≤◌, ◌++◌, List, length, take, Option, None, Some, IsSome, Result, Ok, Err, arith, length-append, length-take, append_assoc, subst, refl}
 use Rattle.std.specs.FinMap as map
 use Rattle.std.specs.Io.KnownBytes.{Consumes}
 use Rattle.shelf_io.specs.Shelf.{FileMap, LeavesToTake}

@@ -1,5 +1,5 @@
 -- What a drawer keeps: the files in the order in which they came, and the memory that is left for more.
-use Rattle.std.specs.Prelude.{◌≡◌, ℕ, ◌+◌, ◌-◌, ◌<◌, ◌≤◌, List, length, map, All, slice_range, vec_len, vec_capacity}
+use Rattle.std.specs.Prelude.{ℕ, ◌≤◌, List, slice_range}
 use Rattle.shelf_io.specs.Stored.{file}
 use Rattle.shelf_io.specs.declared.parts.File.{File}
 use Rattle.shelf_io.specs.declared.drawers.Place.{Place}
@@ -12,7 +12,8 @@ pub record Contents : Type 0 where
 
 -- The file whose name and bytes stand there.
 abbrev pub file_in : List ℕ → Place → File
-file_in bytes place = file (slice_range bytes place.start place.middle) (slice_range bytes place.middle place.end)
+file_in bytes place =
+    file (slice_range bytes place.start place.middle) (slice_range bytes place.middle place.end)
 
 -- The place is within so many bytes.
 abbrev pub IsWithin : ℕ → Place → Type 0

@@ -66,8 +66,10 @@ impl Drawer {
     pub fn add(&mut self, name: &[u8], bytes: &[u8]) -> Result<(), Memory>
         ensures ok { OnOk result (self.new.files ≡ self.old.files ++ file name.now bytes.now ∷ []) }
         ensures err { OnErr result (self.new.files ≡ self.old.files) }
-        ensures succeeds { length name.now + length bytes.now ≤ self.old.spare_bytes → 0 < self.old.spare_places → IsOk result }
-        ensures bytes_used { self.old.spare_bytes ≤ self.new.spare_bytes + (length name.now + length bytes.now) }
+        ensures succeeds { length name.now + length bytes.now ≤ self.old.spare_bytes →
+            0 < self.old.spare_places → IsOk result }
+        ensures bytes_used { self.old.spare_bytes ≤
+            self.new.spare_bytes + (length name.now + length bytes.now) }
         ensures place_used { self.old.spare_places ≤ self.new.spare_places + 1 }
     {
         let start = self.bytes.len();

@@ -1,4 +1,4 @@
-//! The outside of `rabit`: files by name and an output, each kept in memory or by the machine, and the loading of a file.
+//! The outside of `rabit`: files by name and an output, each in memory or the machine's, and how a file is loaded.
 #![tactic(auto)]
 
 mod disk;

@@ -8,7 +8,7 @@ ghost use Rattle.shelf_io.specs.Counts.{counted, HasCause};
 ghost use Rattle.shelf_io.specs.Shelf.{Nothing, IsBegunBy, LeavesToTake, CountsMissing, CountsTaken, Puts, LeavesBegun, LeavesLeft};
 ghost use Rattle.shelf_io.specs.Load.{Lacks};
 ghost use Rattle.shelf_io.specs.Stored.{file, files_of};
-ghost use Rattle.shelf_io.specs.Reading.{begun_in, begun_in-told, rest_in};
+ghost use Rattle.shelf_io.specs.Reading.{held_in, begun_in, begun_in-told, left_in, rest_in};
 ghost use Rattle.shelf_io.specs.Plan.{IsDue, plan};
 
 use crate::drawers::Drawer;
@@ -19,8 +19,8 @@ use crate::readings::{Reading, let_go, read};
 use auto_core::{List, Memory};
 use std::alloc::Global;
 
-/// Files in memory of a fixed size. It tells what it holds and what remains of the begun file. Its calls are numbered
-/// from 0, and those whose numbers it is given fail.
+/// Files in memory of a fixed size. It tells what it holds and what remains of the begun file.
+/// Its calls are numbered from 0, and those whose numbers it is given fail.
 #[derive(Drop)]
 pub struct MemShelf {
     /// The files, those put later behind those put before.
@@ -48,9 +48,9 @@ pub struct MemShelf {
 }
 
 impl MemShelf {
-    /// A shelf that holds these files; of two with one name the later counts. All memory for later puts is taken
-    /// here: each uses as many bytes of `room` as its name and its contents have, and one more. A `take` gives at
-    /// most `piece` bytes.
+    /// A shelf that holds these files; of two with one name the later counts. All memory for later
+    /// puts is taken here: each uses as many bytes of `room` as its name and its contents have, and
+    /// one more. A `take` gives at most `piece` bytes. The calls with the numbers in `fails` fail.
     pub fn new(
         alloc: Global,
         files: List<File>,
@@ -88,7 +88,7 @@ impl MemShelf {
     }
 }
 
-/// Whether a put of so many bytes under a name of so many fits the room: it uses one byte more than both have.
+/// Whether a put of so many bytes under a name of so many fits the room: it uses one byte more.
 fn has_room(room: u64, name: usize, bytes: usize) -> bool
     ensures { IsTrue result ↔ (name + bytes < room) }
 {
@@ -96,11 +96,11 @@ fn has_room(room: u64, name: usize, bytes: usize) -> bool
 }
 
 impl Shelf for MemShelf {
-    ghost held = { λ s. Some (files_of s.drawer.files) };
+    ghost held = { λ s. held_in s.drawer.files };
 
     ghost begun = { λ s. begun_in s.drawer.files s.reading };
 
-    ghost left = { λ s. Some (rest_in s.drawer.files s.reading) };
+    ghost left = { λ s. left_in s.drawer.files s.reading };
 
     ghost taken = { λ s. s.taken };
 
@@ -111,18 +111,22 @@ impl Shelf for MemShelf {
     ghost missed = { λ s. s.missed };
 
     fn begin(&mut self, name: &str) -> Result<(), Failed>
-        ensures files_stay { Some (files_of self.new.drawer.files) ≡ Some (files_of self.old.drawer.files) }
+        ensures files_stay { held_in self.new.drawer.files ≡ held_in self.old.drawer.files }
         ensures begins { IsBegunBy result name.now (begun_in self.new.drawer.files self.new.reading) }
-        ensures leaves { LeavesToTake (Some (files_of self.old.drawer.files)) name.now result (Some (rest_in self.new.drawer.files self.new.reading)) }
+        ensures leaves { LeavesToTake (held_in self.old.drawer.files) name.now result
+            (left_in self.new.drawer.files self.new.reading) }
         ensures from_start { self.new.taken ≡ 0 }
         ensures cause { HasCause self.old.faults self.new.faults result }
         ensures puts_stay { self.new.put_faults ≡ self.old.put_faults }
-        ensures counts_missing { CountsMissing (Some (files_of self.old.drawer.files)) name.now self.old.missed self.new.missed }
+        ensures counts_missing { CountsMissing (held_in self.old.drawer.files) name.now
+            self.old.missed self.new.missed }
 
         // It fails just where it is to fail or the name is missing.
-        ensures fails { IsErr result ↔ (IsDue self.old.plan ⊎ Lacks (Some (files_of self.old.drawer.files)) name.now) }
-        ensures counts { self.new.faults ≡ (if is_ok result then self.old.faults else counted self.old.faults) }
+        ensures fails { IsErr result ↔ (IsDue self.old.plan ⊎ Lacks (held_in self.old.drawer.files) name.now) }
+        ensures counts { self.new.faults ≡
+            (if is_ok result then self.old.faults else counted self.old.faults) }
         ensures room_stays { self.new.room ≡ self.old.room }
+        ensures piece_stays { self.new.piece ≡ self.old.piece }
         ensures numbered { self.new.plan ≡ plan self.old.plan.fails (counted self.old.plan.calls) }
     {
         let due = self.plan.next();
@@ -143,20 +147,26 @@ impl Shelf for MemShelf {
 
     fn take(&mut self, buf: &mut [u8]) -> Result<usize, Failed>
         ensures fits { ReadsAtMost result buf.new }
-        ensures moves { ReadConsumes (Some (rest_in self.old.drawer.files self.old.reading)) (Some (rest_in self.new.drawer.files self.new.reading)) result buf.new }
-        ensures nothing { begun_in self.old.drawer.files self.old.reading ≡ Nothing → IfOk result (λ count. count ≡ 0) }
+        ensures moves { ReadConsumes (left_in self.old.drawer.files self.old.reading)
+            (left_in self.new.drawer.files self.new.reading) result buf.new }
+        ensures nothing { begun_in self.old.drawer.files self.old.reading ≡ Nothing →
+            IfOk result (λ count. count ≡ 0) }
         ensures counts_taken { CountsTaken self.old.taken self.new.taken result }
         ensures cause { HasCause self.old.faults self.new.faults result }
-        ensures files_stay { Some (files_of self.new.drawer.files) ≡ Some (files_of self.old.drawer.files) }
-        ensures stays_begun { begun_in self.new.drawer.files self.new.reading ≡ begun_in self.old.drawer.files self.old.reading }
+        ensures files_stay { held_in self.new.drawer.files ≡ held_in self.old.drawer.files }
+        ensures stays_begun { begun_in self.new.drawer.files self.new.reading ≡
+            begun_in self.old.drawer.files self.old.reading }
         ensures puts_stay { self.new.put_faults ≡ self.old.put_faults }
         ensures missed_stay { self.new.missed ≡ self.old.missed }
 
         // It fails just where it is to fail, and gives as many bytes as fit the buffer and a piece.
         ensures fails { IsErr result ↔ IsDue self.old.plan }
-        ensures gives { IfOk result (λ count. count ≡ min (min (length buf.old) self.old.piece) (length (rest_in self.old.drawer.files self.old.reading))) }
-        ensures counts { self.new.faults ≡ (if is_ok result then self.old.faults else counted self.old.faults) }
+        ensures gives { IfOk result (λ count. count ≡ min (min (length buf.old) self.old.piece)
+            (length (rest_in self.old.drawer.files self.old.reading))) }
+        ensures counts { self.new.faults ≡
+            (if is_ok result then self.old.faults else counted self.old.faults) }
         ensures room_stays { self.new.room ≡ self.old.room }
+        ensures piece_stays { self.new.piece ≡ self.old.piece }
         ensures numbered { self.new.plan ≡ plan self.old.plan.fails (counted self.old.plan.calls) }
     {
         if self.plan.next() {
@@ -169,20 +179,27 @@ impl Shelf for MemShelf {
     }
 
     fn put(&mut self, name: &str, bytes: &[u8]) -> Result<(), Failed>
-        ensures puts { Puts (Some (files_of self.old.drawer.files)) name.now bytes.now result (Some (files_of self.new.drawer.files)) }
-        ensures leaves_begun { LeavesBegun (begun_in self.old.drawer.files self.old.reading) name.now (begun_in self.new.drawer.files self.new.reading) }
-        ensures leaves_left { LeavesLeft (begun_in self.old.drawer.files self.old.reading) (Some (rest_in self.old.drawer.files self.old.reading))
-            (begun_in self.new.drawer.files self.new.reading) (Some (rest_in self.new.drawer.files self.new.reading)) }
+        ensures puts { Puts (held_in self.old.drawer.files) name.now bytes.now result
+            (held_in self.new.drawer.files) }
+        ensures leaves_begun { LeavesBegun (begun_in self.old.drawer.files self.old.reading) name.now
+            (begun_in self.new.drawer.files self.new.reading) }
+        ensures leaves_left { LeavesLeft
+            (begun_in self.old.drawer.files self.old.reading) (left_in self.old.drawer.files self.old.reading)
+            (begun_in self.new.drawer.files self.new.reading) (left_in self.new.drawer.files self.new.reading) }
         ensures taken_stay { self.new.taken ≡ self.old.taken }
         ensures put_cause { HasCause self.old.put_faults self.new.put_faults result }
         ensures faults_stay { self.new.faults ≡ self.old.faults }
         ensures missed_stay { self.new.missed ≡ self.old.missed }
 
         // It fails just where it is to fail or the room is too little, and then no file changes.
-        ensures fails { IsErr result ↔ (IsDue self.old.plan ⊎ (self.old.room < length name.now + length bytes.now + 1)) }
+        ensures fails { IsErr result ↔
+            (IsDue self.old.plan ⊎ (self.old.room < length name.now + length bytes.now + 1)) }
         ensures refused { OnErr result (self.new.drawer.files ≡ self.old.drawer.files) }
-        ensures counts { self.new.put_faults ≡ (if is_ok result then self.old.put_faults else counted self.old.put_faults) }
-        ensures room { self.new.room ≡ (if is_ok result then self.old.room - (length name.now + length bytes.now + 1) else self.old.room) }
+        ensures counts { self.new.put_faults ≡
+            (if is_ok result then self.old.put_faults else counted self.old.put_faults) }
+        ensures room { self.new.room ≡
+            (if is_ok result then self.old.room - (length name.now + length bytes.now + 1) else self.old.room) }
+        ensures piece_stays { self.new.piece ≡ self.old.piece }
         ensures numbered { self.new.plan ≡ plan self.old.plan.fails (counted self.old.plan.calls) }
     {
         let due = self.plan.next();

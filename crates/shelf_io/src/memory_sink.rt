@@ -28,6 +28,7 @@ pub struct MemSink {
 
 impl MemSink {
     /// An empty output with room for so many bytes, all of whose memory is taken here.
+    /// The calls with the numbers in `fails` fail.
     pub fn new(alloc: Global, room: u64, fails: List<u64>) -> Result<MemSink, Memory>
         ensures sent { IfOk result (λ sink. ⟦<MemSink as Sink>⟧.sent sink ≡ Some []) }
         ensures no_faults { IfOk result (λ sink. ⟦<MemSink as Sink>⟧.faults sink ≡ 0) }
@@ -63,8 +64,10 @@ impl Sink for MemSink {
         // It fails just where it is to fail or the bytes pass the room, and then nothing is sent.
         ensures fails { IsErr result ↔ (IsDue self.old.plan ⊎ (self.old.room < length bytes.now)) }
         ensures refused { OnErr result (self.new.bytes.items ≡ self.old.bytes.items) }
-        ensures counts { self.new.faults ≡ (if is_ok result then self.old.faults else counted self.old.faults) }
-        ensures room { self.new.room ≡ (if is_ok result then self.old.room - length bytes.now else self.old.room) }
+        ensures counts { self.new.faults ≡
+            (if is_ok result then self.old.faults else counted self.old.faults) }
+        ensures room { self.new.room ≡
+            (if is_ok result then self.old.room - length bytes.now else self.old.room) }
         ensures numbered { self.new.plan ≡ plan self.old.plan.fails (counted self.old.plan.calls) }
     {
         let due = self.plan.next();

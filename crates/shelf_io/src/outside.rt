@@ -9,7 +9,8 @@ ghost use Rattle.shelf_io.specs.Sink.{Gives};
 
 use crate::parts::Failed;
 
-/// Files by name, read one at a time and written whole. A count is a number below 2^64 that stands still at its end.
+/// Files by name, read one at a time and written whole.
+/// Its counts are numbers below 2^64 that never fall, and stand still at their end.
 pub trait Shelf {
     /// The files by name, where the shelf tells them.
     ghost held: { Self → Option FileMap };
@@ -42,8 +43,9 @@ pub trait Shelf {
         ensures puts_stay { put_faults self.new ≡ put_faults self.old }
         ensures counts_missing { CountsMissing (held self.old) name.now (missed self.old) (missed self.new) };
 
-    /// Moves the next bytes of the begun file to the front of the buffer, and answers how many. For a buffer with room
-    /// 0 says that the file is at its end or that nothing is begun. Refused, what remains of the file stays.
+    /// Moves the next bytes of the begun file to the front of the buffer, and answers how many.
+    /// For a buffer that isn't empty, 0 says that the file is at its end or that nothing is begun.
+    /// Refused, what remains of the file stays.
     fn take(&mut self, buf: &mut [u8]) -> Result<usize, Failed>
         ensures fits { ReadsAtMost result buf.new }
         ensures moves { ReadConsumes (left self.old) (left self.new) result buf.new }
@@ -55,8 +57,9 @@ pub trait Shelf {
         ensures puts_stay { put_faults self.new ≡ put_faults self.old }
         ensures missed_stay { missed self.new ≡ missed self.old };
 
-    /// Makes the named file hold just these bytes. Refused, it holds a front of them or what it held before. All other
-    /// files stay, and so does the file that is read, unless it is the named one: then nothing is begun afterwards.
+    /// Makes the named file hold just these bytes. Refused, it holds a front of them or what it held
+    /// before. All other files stay, and so does the file that is read, unless it is the named one:
+    /// then nothing is begun afterwards, whatever the answer.
     fn put(&mut self, name: &str, bytes: &[u8]) -> Result<(), Failed>
         ensures puts { Puts (held self.old) name.now bytes.now result (held self.new) }
         ensures leaves_begun { LeavesBegun (begun self.old) name.now (begun self.new) }

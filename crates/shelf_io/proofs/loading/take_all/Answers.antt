@@ -1,4 +1,3 @@
-use Rattle.std.proofs.Common.{rules}
 use Rattle.shelf_io.proofs.LoadLemmas.{passes}
 use Rattle.shelf_io.proofs.loading.take_all.Goals as goal
 
