@@ -1,1 +1,4 @@
 pub mod Sight
+pub mod Grammar
+pub mod Faults
+pub mod Seen
