@@ -1,6 +1,7 @@
 -- The first fault of a `.ba` text, and the states, labels and transitions that its lines bring.
 use Rattle.std.specs.Prelude.{◌≡◌, ℕ, ◌+◌, Bool, true, false, not, ◌&&◌, List, [], ◌∷◌, ◌++◌, length, map, if◌then◌else◌, ◌==◌, nat_lt, nat_le, Option, None, Some}
-use Rattle.std.specs.List.{flat_map, list_all}
+use Rattle.std.specs.Option.{option_or}
+use Rattle.std.specs.List.{flat_map, list_all, range_with_len}
 use Rattle.auto_core.specs.declared.parts.Trans.{Trans}
 use Rattle.auto_core.specs.Automaton.{trans}
 use Rattle.ba_format.specs.declared.parts.BaFault.{BaFault}
@@ -62,17 +63,57 @@ later_fault limits earlier entry =
 
 -- What is wrong with a line: the least kind.
 abbrev pub kind_of_line : Limits → List Entry → List ℕ → Option BaKind
-kind_of_line limits earlier line = or_else (own_fault line) (later_fault limits earlier (entry_of line))
-  where
-    or_else : Option BaKind → Option BaKind → Option BaKind
-    or_else None later = later
-    or_else (Some kind) later = Some kind
+kind_of_line limits earlier line = option_or (own_fault line) (later_fault limits earlier (entry_of line))
+
+-- The fault of a line with this number, or else a later one.
+abbrev pub or_later : ℕ → Option BaKind → Option BaFault → Option BaFault
+or_later number None later = later
+or_later number (Some kind) later = Some (record { line = number; kind = kind })
 
 -- The first fault of these lines, after lines without a fault that say these entries.
 abbrev pub first_fault : Limits → List Entry → List Line → Option BaFault
 first_fault limits earlier [] = None
-first_fault limits earlier (line ∷ lines) = or_later (kind_of_line limits earlier line.text) (first_fault limits (earlier ++ entry_of line.text ∷ []) lines)
-  where
-    or_later : Option BaKind → Option BaFault → Option BaFault
-    or_later None later = later
-    or_later (Some kind) later = Some (record { line = line.number; kind = kind })
+first_fault limits earlier (line ∷ lines) =
+    or_later line.number (kind_of_line limits earlier line.text) (first_fault limits (earlier ++ entry_of line.text ∷ []) lines)
+
+-- The fault of a text's lines: a text without any is empty.
+abbrev pub fault_of_lines : Limits → List Line → Option BaFault
+fault_of_lines limits [] = Some (record { line = 0; kind = Empty })
+fault_of_lines limits (line ∷ lines) = first_fault limits [] (line ∷ lines)
+
+-- The fault of a text within limits: the first faulty line, and there the least kind.
+abbrev pub fault_of : List ℕ → Limits → Option BaFault
+fault_of text limits = fault_of_lines limits (lines_of text)
+
+-- What the lines of a text say.
+abbrev pub entries_of : List ℕ → List Entry
+entries_of text = map (λ line. entry_of line.text) (lines_of text)
+
+-- The name of the initial state: the state of the first line if that is a state line, and else the source of the first line.
+-- (Exactly one state line before the first transition line is the first line, since two of them there are a fault.)
+abbrev pub initial_name : List Entry → List ℕ
+initial_name [] = []
+initial_name (StateLine name ∷ entries) = name
+initial_name (TransitionLine label source target ∷ entries) = source
+
+-- The number of the initial state.
+abbrev pub initial_of : List Entry → ℕ
+initial_of entries = number_in same_text (names_of entries) (initial_name entries)
+
+-- The state of a state line.
+abbrev pub state_lines : Entry → List (List ℕ)
+state_lines (StateLine name) = name ∷ []
+state_lines (TransitionLine label source target) = []
+
+-- The states of the accepting lines: of each state line after the first line.
+abbrev pub accepting_names : List Entry → List (List ℕ)
+accepting_names [] = []
+accepting_names (first ∷ entries) = flat_map state_lines entries
+
+-- The numbers of those states, each once.
+abbrev pub accepting_numbers : List Entry → List ℕ
+accepting_numbers entries = first_seen (λ a b. a == b) (map (number_in same_text (names_of entries)) (accepting_names entries))
+
+-- The accepting states: all states if there is no accepting line.
+abbrev pub accepting_of : List Entry → List ℕ
+accepting_of entries = if length (accepting_names entries) == 0 then range_with_len 0 (length (names_of entries)) else accepting_numbers entries

@@ -2,3 +2,4 @@ pub mod Sight
 pub mod Grammar
 pub mod Faults
 pub mod Seen
+pub mod Draft
