@@ -39,6 +39,14 @@ IsBefore t u =
     ⊎ ((t.source ≡ u.source) × (t.label < u.label))
     ⊎ ((t.source ≡ u.source) × (t.label ≡ u.label) × (t.target < u.target))
 
+-- Each transition stands before all later ones.
+abbrev pub IsAscending : List Trans → Type 0
+IsAscending transitions =
+    (i j : ℕ)
+    → i < j
+    → j < length transitions
+    → IsBefore (slice_index_or transitions i (trans 0 0 0)) (slice_index_or transitions j (trans 0 0 0))
+
 -- Both ends of the transition are states, and its label is a label.
 abbrev pub IsInRange : ℕ → ℕ → Trans → Type 0
 IsInRange states labels t = (t.source < states) × (t.target < states) × (t.label < labels)
@@ -49,7 +57,7 @@ pub record IsAutomaton (A : Automaton) : Type 0 where
   pub labels_fit : A.labels < 2 ^ 32
   pub initial_is_state : A.initial < A.states
   pub in_range : All (IsInRange A.states A.labels) A.transitions
-  pub in_order : (i j : ℕ) → i < j → j < length A.transitions → IsBefore (trans_at A i) (trans_at A j)
+  pub in_order : IsAscending A.transitions
   pub few : length A.transitions < 2 ^ 32
   pub accepting_in_range : All (λ q. q < A.states) A.accepting
   pub accepting_in_order : IsStrictlyIncreasing A.accepting
@@ -86,6 +94,7 @@ pub record IsIncoming (A : Automaton) (q : ℕ) (numbers : List ℕ) : Type 0 wh
   pub each : All (λ t. (t < length A.transitions) × ((trans_at A t).target ≡ q)) numbers
   pub all : (t : ℕ) → t < length A.transitions → (trans_at A t).target ≡ q → Contains numbers t
 
--- Two places of the list are equal.
+-- Two places of the list hold the same.
 abbrev pub HasRepeat : {X : Type 0} → List X → Type 0
-HasRepeat {X} xs = (i j : ℕ) × (i < j) × (j < length xs) × ((d : X) → slice_index_or xs i d ≡ slice_index_or xs j d)
+HasRepeat {X} xs =
+    (i j : ℕ) × (¬ (i ≡ j)) × (i < length xs) × (j < length xs) × ((d : X) → slice_index_or xs i d ≡ slice_index_or xs j d)

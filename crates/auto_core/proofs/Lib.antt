@@ -1,0 +1,5 @@
+pub mod Order
+pub mod Accepting
+pub mod TableLemmas
+pub mod SuccessorLemmas
+pub mod BuildLemmas

@@ -1,0 +1,7 @@
+use Rattle.std.proofs.Common.{◌≡◌, ℕ, ◌<◌, vec_len, slice_index}
+use Rattle.auto_core.specs.Build.{IsStart}
+use Rattle.auto_core.proofs.tables.starts_of.Given as goal
+
+abbrev pub invariant-loop-p : goal.invariant-loop-p
+invariant-loop-p l =
+    (vec_len l.starts ≡ l.p-counter) × ((q : ℕ) → q < l.p-counter → IsStart l.keys q (slice_index l.starts.items q))
