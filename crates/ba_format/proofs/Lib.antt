@@ -1,2 +1,3 @@
 pub mod SightLemmas
 pub mod LineLemmas
+pub mod JoinLemmas

@@ -3,3 +3,5 @@ pub mod Grammar
 pub mod Faults
 pub mod Seen
 pub mod Draft
+pub mod Joining
+pub mod Parts

@@ -1,5 +1,9 @@
 //! The types of reading and joining.
 
+use crate::texts::Texts;
+use auto_core::{Auto, Memory};
+use thiserror::Error;
+
 
 /// The most states, labels and different transitions that a text may bring.
 #[derive(Clone, Copy, Debug, PartialEq, Eq)]
@@ -42,4 +46,48 @@ pub struct BaFault {
     pub line: u32,
     /// The kind.
     pub kind: BaKind,
+}
+
+/// Why a text was not read.
+#[derive(Debug, Drop, Error)]
+pub enum ReadFault {
+    /// The text has a fault.
+    #[error("line {}: {:?}", .0.line, .0.kind)]
+    Ba(BaFault),
+    /// The machine refused memory.
+    #[error("out of memory")]
+    Memory,
+}
+
+impl From<Memory> for ReadFault {
+    ghost use Rattle.std.specs.Prelude.{◌≡◌};
+    ghost use Rattle.ba_format.specs.declared.parts.ReadFault.{ReadFault};
+
+    ghost from_gives = { λ _ e. e ≡ ReadFault.Memory };
+
+    fn from(_refused: Memory) -> ReadFault {
+        ReadFault::Memory
+    }
+}
+
+/// A read automaton: state i has name i, label a has text a.
+#[derive(Debug, Drop)]
+pub struct Named {
+    /// The automaton.
+    pub auto: Auto,
+    /// The names of its states.
+    pub names: Texts,
+    /// The texts of its labels.
+    pub labels: Texts,
+}
+
+/// Two automata over the same labels.
+#[derive(Debug, Drop)]
+pub struct Joined {
+    /// The first automaton.
+    pub first: Auto,
+    /// The second automaton.
+    pub second: Auto,
+    /// The texts of the labels of both.
+    pub labels: Texts,
 }

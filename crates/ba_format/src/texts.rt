@@ -64,6 +64,13 @@ impl Texts {
         self.texts.as_slice()[at as usize].as_slice()
     }
 
+    /// Whether a text is there.
+    pub(crate) fn has(&self, text: &[u8]) -> bool
+        ensures { result ≡ list_any (same_text text.now) self.now }
+    {
+        self.texts.contains(text)
+    }
+
     /// The number of a text, if it is there.
     pub(crate) fn find(&self, text: &[u8]) -> Option<u32>
         ensures { MatchOption result (list_any (same_text text.now) self.now ≡ false) (λ at. (list_any (same_text text.now) self.now ≡ true) × (at ≡ number_in same_text self.now text.now)) }
