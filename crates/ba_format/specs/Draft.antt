@@ -1,5 +1,5 @@
 -- What the reader holds after the lines so far.
-use Rattle.std.specs.Prelude.{◌≡◌, ℕ, ◌+◌, ◌≤◌, ◌<◌, ◌⊎◌, Bool, true, false, List, [], ◌∷◌, ◌++◌, length, map, Option, None, Some, Result, MatchResult}
+use Rattle.std.specs.Prelude.{◌≡◌, ℕ, ◌+◌, ◌≤◌, ◌<◌, ◌⊎◌, ◌==◌, Bool, true, false, List, [], ◌∷◌, ◌++◌, length, map, Option, None, Some, Result, MatchResult}
 use Rattle.std.specs.List.{list_all}
 use Rattle.auto_core.specs.declared.parts.Trans.{Trans}
 use Rattle.auto_core.specs.Automaton.{trans}
@@ -11,7 +11,8 @@ use Rattle.ba_format.specs.declared.draft.Refusal.{Refusal}
 use Rattle.ba_format.specs.declared.draft.Refusal.TheVariants.{Line, Memory}
 use Rattle.ba_format.specs.declared.draft.Draft.{Draft}
 use Rattle.ba_format.specs.Grammar.{Entry, entry_of}
-use Rattle.ba_format.specs.Faults.{names_of, labels_of, transitions_of, accepting_numbers, is_state_line, later_fault, kind_of_line}
+use Rattle.ba_format.specs.Sight.{noted}
+use Rattle.ba_format.specs.Faults.{names_of, labels_of, transitions_of, accepting_numbers, is_state_line, same_trans, later_fault, kind_of_line}
 
 -- The transition with these numbers of source, label and target.
 abbrev pub trans_with : ℕ × ℕ × ℕ → Trans
@@ -37,6 +38,36 @@ pub record Fits (limits : Limits) (entries : List Entry) : Type 0 where
   pub states : length (names_of entries) ≤ limits.states
   pub labels : length (labels_of entries) ≤ limits.labels
   pub transitions : length (transitions_of entries) ≤ limits.transitions
+
+-- How the lines begin, with one more state line.
+abbrev pub after_state : Opening → Opening
+after_state Nothing = OneState
+after_state OneState = States
+after_state States = States
+after_state Transitions = Transitions
+
+-- The accepting states, with one more state line: the first line is none.
+abbrev pub accepting_after : Opening → List ℕ → ℕ → List ℕ
+accepting_after Nothing accepting at = accepting
+accepting_after OneState accepting at = noted (λ a b. a == b) accepting at
+accepting_after States accepting at = noted (λ a b. a == b) accepting at
+accepting_after Transitions accepting at = noted (λ a b. a == b) accepting at
+
+-- One more state line was noted.
+pub record NotesState (old : Draft) (at : ℕ) (new : Draft) : Type 0 where
+  pub names : new.names ≡ old.names
+  pub labels : new.labels ≡ old.labels
+  pub transitions : new.transitions ≡ old.transitions
+  pub opening : new.opening ≡ after_state old.opening
+  pub accepting : new.accepting.keys ≡ accepting_after old.opening old.accepting.keys at
+
+-- One more transition line was noted.
+pub record NotesTransition (old : Draft) (t : ℕ × ℕ × ℕ) (new : Draft) : Type 0 where
+  pub names : new.names ≡ old.names
+  pub labels : new.labels ≡ old.labels
+  pub transitions : map trans_with new.transitions.keys ≡ noted same_trans (map trans_with old.transitions.keys) (trans_with t)
+  pub opening : new.opening ≡ Transitions
+  pub accepting : new.accepting ≡ old.accepting
 
 -- The refusal says that there are more than the limit, or it is want of memory.
 abbrev pub PastLimit : BaKind → ℕ → ℕ → Refusal → Type 0

@@ -3,7 +3,7 @@
 ghost use Rattle.std.specs.Prelude.{◌≡◌, ◌+◌, ◌^◌, ◌<◌, ◌≤◌, List, [], length, OnOk, OnErr, IfOk, IfErr, MatchResult};
 ghost use Rattle.ba_format.specs.Sight.{same_text, noted, number_in};
 ghost use Rattle.ba_format.specs.Grammar.{Entry, StateLine, TransitionLine};
-ghost use Rattle.ba_format.specs.Draft.{PastLimit, Stands, Fits, Takes, TakesLine};
+ghost use Rattle.ba_format.specs.Draft.{PastLimit, NotesState, NotesTransition, Stands, Fits, Takes, TakesLine};
 
 use crate::lines::{Said, said_by};
 use crate::parts::{BaKind, Limits};
@@ -100,11 +100,10 @@ impl Draft {
         }
     }
 
-    /// Takes a state line.
-    fn take_state(&mut self, name: &[u8], limits: &Limits) -> Result<(), Refusal>
-        ensures { (entries : List Entry) → Stands self.old entries → Fits limits.now entries → Takes limits.now entries (StateLine name.now) self.new result }
+    /// Notes that a state line with this state came. The first line's state is not accepting, that of every other is.
+    fn note_state_line(&mut self, at: u32) -> Result<(), Memory>
+        ensures { OnOk result (NotesState self.old at self.new) }
     {
-        let at = number(&mut self.names, name, limits.states, BaKind::TooManyStates)?;
         match self.opening {
             Opening::Nothing => {
                 self.opening = Opening::OneState;
@@ -120,6 +119,25 @@ impl Draft {
         Ok(())
     }
 
+    /// Takes a state line.
+    fn take_state(&mut self, name: &[u8], limits: &Limits) -> Result<(), Refusal>
+        ensures { (entries : List Entry) → Stands self.old entries → Fits limits.now entries → Takes limits.now entries (StateLine name.now) self.new result }
+    {
+        let at = number(&mut self.names, name, limits.states, BaKind::TooManyStates)?;
+        self.note_state_line(at)?;
+        Ok(())
+    }
+
+    /// Notes the transition of a transition line. The result is the number of different transitions.
+    fn note_transition(&mut self, source: u32, label: u32, target: u32) -> Result<usize, Memory>
+        ensures noted { OnOk result (NotesTransition self.old (source, label, target) self.new) }
+        ensures count { IfOk result (λ count. count ≡ length self.new.transitions.keys) }
+    {
+        self.transitions.insert((source, label, target))?;
+        self.opening = Opening::Transitions;
+        Ok(self.transitions.len())
+    }
+
     /// Takes a transition line.
     fn take_transition(&mut self, label: &[u8], source: &[u8], target: &[u8], limits: &Limits) -> Result<(), Refusal>
         ensures { (entries : List Entry) → Stands self.old entries → Fits limits.now entries → Takes limits.now entries (TransitionLine label.now source.now target.now) self.new result }
@@ -130,11 +148,9 @@ impl Draft {
         let source = number(&mut self.names, source, limits.states, BaKind::TooManyStates)?;
         let target = number(&mut self.names, target, limits.states, BaKind::TooManyStates)?;
         let label = number(&mut self.labels, label, limits.labels, BaKind::TooManyLabels)?;
-        self.transitions.insert((source, label, target))?;
-        if self.transitions.len() > limits.transitions as usize {
+        if self.note_transition(source, label, target)? > limits.transitions as usize {
             return Err(Refusal::Line(BaKind::TooManyTransitions));
         }
-        self.opening = Opening::Transitions;
         Ok(())
     }
 
