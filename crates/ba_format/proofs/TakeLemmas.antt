@@ -16,9 +16,10 @@ use Rattle.ba_format.specs.declared.draft.Refusal.{Refusal}
 use Rattle.ba_format.specs.declared.draft.Refusal.TheVariants.{Line, Memory}
 use Rattle.ba_format.specs.declared.draft.Draft.{Draft}
 use Rattle.ba_format.specs.Sight.{same_text, noted, first_seen, number_in}
-use Rattle.ba_format.specs.Grammar.{Entry, StateLine, TransitionLine}
+use Rattle.ba_format.specs.Grammar.{Entry, StateLine, TransitionLine, entry_of, own_fault}
 use Rattle.ba_format.specs.Faults.{states_in, labels_in, names_of, labels_of, transitions_in, transitions_of, same_trans, state_lines, accepting_names, accepting_numbers, is_state_line, opens_twice, later_fault}
-use Rattle.ba_format.specs.Draft.{trans_with, Opens, Stands, Fits, Tells, PastLimit, NotesState, NotesTransition, after_state, accepting_after}
+use Rattle.std.specs.Option.{option_or}
+use Rattle.ba_format.specs.Draft.{Takes, TakesLine, trans_with, Opens, Stands, Fits, Tells, PastLimit, NotesState, NotesTransition, after_state, accepting_after}
 use Rattle.ba_format.proofs.DraftLemmas.{AllFound, AllFound-noted, AllFound-right, flat-push, numbers-all, names-push, labels-push, transitions-push, number-all, found-noted}
 
 -- ---- which fault a line has after others
@@ -281,3 +282,15 @@ module _ (limits : Limits) (entries : List Entry) (label source target : List �
               },
               fits,
             )
+
+-- ---- any line
+
+taken_by : (limits : Limits) (entries : List Entry) (line : List ℕ) (draft : Draft) (r : Result (Unit {0}) Refusal) → own_fault line ≡ None → Takes limits entries (entry_of line) draft r → TakesLine limits entries line draft r
+taken_by limits entries line draft (Ok u) own h = (ap (λ o. option_or o (later_fault limits entries (entry_of line))) own ∙ h.0, h.1, h.2)
+taken_by limits entries line draft (Err (Line kind)) own h = ap (λ o. option_or o (later_fault limits entries (entry_of line))) own ∙ h
+taken_by limits entries line draft (Err Memory) own h = tt
+
+-- a line without a fault of its own
+pub line_taken : (limits : Limits) (entries : List Entry) (line : List ℕ) (entry : Entry) (draft : Draft) (r : Result (Unit {0}) Refusal) → own_fault line ≡ None → entry ≡ entry_of line
+    → Takes limits entries entry draft r → TakesLine limits entries line draft r
+line_taken limits entries line entry draft r own e h = taken_by limits entries line draft r own (subst (λ x. Takes limits entries x draft r) e h)
