@@ -1,0 +1,5 @@
+pub mod SightLemmas
+pub mod LineLemmas
+pub mod JoinLemmas
+pub mod DraftLemmas
+pub mod TakeLemmas

@@ -1,0 +1,94 @@
+-- What the reader holds after the lines so far.
+use Rattle.std.specs.Prelude.{◌≡◌, ℕ, ◌+◌, ◌≤◌, ◌<◌, ◌⊎◌, ◌==◌, Bool, true, false, List, [], ◌∷◌, ◌++◌, length, map, Option, None, Some, Result, MatchResult}
+use Rattle.std.specs.List.{list_all}
+use Rattle.auto_core.specs.declared.parts.Trans.{Trans}
+use Rattle.auto_core.specs.Automaton.{trans}
+use Rattle.ba_format.specs.declared.parts.BaKind.{BaKind}
+use Rattle.ba_format.specs.declared.parts.Limits.{Limits}
+use Rattle.ba_format.specs.declared.draft.Opening.{Opening}
+use Rattle.ba_format.specs.declared.draft.Opening.TheVariants.{Nothing, OneState, States, Transitions}
+use Rattle.ba_format.specs.declared.draft.Refusal.{Refusal}
+use Rattle.ba_format.specs.declared.draft.Refusal.TheVariants.{Line, Memory}
+use Rattle.ba_format.specs.declared.draft.Draft.{Draft}
+use Rattle.ba_format.specs.Grammar.{Entry, entry_of}
+use Rattle.ba_format.specs.Sight.{noted}
+use Rattle.ba_format.specs.Faults.{names_of, labels_of, transitions_of, accepting_numbers, is_state_line, same_trans, later_fault, kind_of_line}
+
+-- The transition with these numbers of source, label and target.
+abbrev pub trans_with : ℕ × ℕ × ℕ → Trans
+trans_with t = trans t.0 t.1 t.2
+
+-- How the lines begin.
+abbrev pub Opens : Opening → List Entry → Type 0
+Opens Nothing entries = entries ≡ []
+Opens OneState entries = (length entries ≡ 1) × (list_all is_state_line entries ≡ true)
+Opens States entries = (2 ≤ length entries) × (list_all is_state_line entries ≡ true)
+Opens Transitions entries = (0 < length entries) × (list_all is_state_line entries ≡ false)
+
+-- The draft stands for what these lines say.
+pub record Stands (draft : Draft) (entries : List Entry) : Type 0 where
+  pub names : draft.names ≡ names_of entries
+  pub labels : draft.labels ≡ labels_of entries
+  pub transitions : map trans_with draft.transitions.keys ≡ transitions_of entries
+  pub accepting : draft.accepting.keys ≡ accepting_numbers entries
+  pub opening : Opens draft.opening entries
+
+-- No more states, labels and transitions than the limits say.
+pub record Fits (limits : Limits) (entries : List Entry) : Type 0 where
+  pub states : length (names_of entries) ≤ limits.states
+  pub labels : length (labels_of entries) ≤ limits.labels
+  pub transitions : length (transitions_of entries) ≤ limits.transitions
+
+-- How the lines begin, with one more state line.
+abbrev pub after_state : Opening → Opening
+after_state Nothing = OneState
+after_state OneState = States
+after_state States = States
+after_state Transitions = Transitions
+
+-- The accepting states, with one more state line: the first line is none.
+abbrev pub accepting_after : Opening → List ℕ → ℕ → List ℕ
+accepting_after Nothing accepting at = accepting
+accepting_after OneState accepting at = noted (λ a b. a == b) accepting at
+accepting_after States accepting at = noted (λ a b. a == b) accepting at
+accepting_after Transitions accepting at = noted (λ a b. a == b) accepting at
+
+-- One more state line was noted.
+pub record NotesState (old : Draft) (at : ℕ) (new : Draft) : Type 0 where
+  pub names : new.names ≡ old.names
+  pub labels : new.labels ≡ old.labels
+  pub transitions : new.transitions ≡ old.transitions
+  pub opening : new.opening ≡ after_state old.opening
+  pub accepting : new.accepting.keys ≡ accepting_after old.opening old.accepting.keys at
+
+-- One more transition line was noted.
+pub record NotesTransition (old : Draft) (t : ℕ × ℕ × ℕ) (new : Draft) : Type 0 where
+  pub names : new.names ≡ old.names
+  pub labels : new.labels ≡ old.labels
+  pub transitions : map trans_with new.transitions.keys ≡ noted same_trans (map trans_with old.transitions.keys) (trans_with t)
+  pub opening : new.opening ≡ Transitions
+  pub accepting : new.accepting ≡ old.accepting
+
+-- The refusal says that there are more than the limit, or it is want of memory.
+abbrev pub PastLimit : BaKind → ℕ → ℕ → Refusal → Type 0
+PastLimit past limit count (Line kind) = (kind ≡ past) × (limit < count)
+PastLimit past limit count Memory = Unit {0}
+
+-- The refusal tells this fault, or want of memory.
+abbrev pub Tells : Option BaKind → Refusal → Type 0
+Tells fault (Line kind) = fault ≡ Some kind
+Tells fault Memory = Unit {0}
+
+-- A line that says this entry was taken exactly if it has no fault after the lines before it.
+abbrev pub Takes : Limits → List Entry → Entry → Draft → Result (Unit {0}) Refusal → Type 0
+Takes limits entries entry draft r =
+    MatchResult r
+      (λ _. (later_fault limits entries entry ≡ None) × Stands draft (entries ++ entry ∷ []) × Fits limits (entries ++ entry ∷ []))
+      (Tells (later_fault limits entries entry))
+
+-- The same of a trimmed line, which may have a fault of its own.
+abbrev pub TakesLine : Limits → List Entry → List ℕ → Draft → Result (Unit {0}) Refusal → Type 0
+TakesLine limits entries line draft r =
+    MatchResult r
+      (λ _. (kind_of_line limits entries line ≡ None) × Stands draft (entries ++ entry_of line ∷ []) × Fits limits (entries ++ entry_of line ∷ []))
+      (Tells (kind_of_line limits entries line))

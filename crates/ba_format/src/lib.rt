@@ -1,0 +1,13 @@
+//! The text format `.ba` of automata: reading, writing, and joining two read automata over common labels.
+#![tactic(auto)]
+
+mod building;
+mod draft;
+mod joining;
+mod lines;
+mod parts;
+mod texts;
+
+pub use joining::join;
+pub use parts::{BaFault, BaKind, Joined, Limits, Named, ReadFault};
+pub use texts::Texts;
