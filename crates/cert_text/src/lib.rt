@@ -1,6 +1,7 @@
 //! Certificates, version 1: the value, its text, the reader with exact faults and the writer.
 #![tactic(auto)]
 
+mod faults;
 mod keywords;
 
 mod printed_parts;
@@ -10,6 +11,7 @@ mod types;
 mod well_formed;
 mod write;
 
+pub use faults::{CertReadFault, TextFault, TextKind};
 pub use types::{
     Body, Cert, Element, FirstStep, GoneBy, Grounds, ListBody, Mark, RankBlock, RankRow, Ranked, RelBlock, Row, SecondStep,
     StepLine, YesBody,

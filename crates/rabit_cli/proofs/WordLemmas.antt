@@ -1,0 +1,18 @@
+-- Four words as a list.
+use Rattle.std.proofs.Common.{◌≡◌, ℕ, ◌<◌, ◌≤◌, List, [], ◌∷◌, length, get_or, map, refl, arith, Some}
+use Rattle.rabit_cli.specs.Question.{Check}
+
+pub four_items :
+    {X : Type 0} (f : X → List ℕ) (ws : List X) (d : X)
+    → 4 ≤ length ws
+    → length ws < 5
+    → map f ws ≡ f (get_or ws 0 d) ∷ f (get_or ws 1 d) ∷ f (get_or ws 2 d) ∷ f (get_or ws 3 d) ∷ []
+four_items f [] d low high = absurd (omega arith)
+four_items f (a ∷ []) d low high = absurd (omega arith)
+four_items f (a ∷ b ∷ []) d low high = absurd (omega arith)
+four_items f (a ∷ b ∷ c ∷ []) d low high = absurd (omega arith)
+four_items f (a ∷ b ∷ c ∷ e ∷ []) d low high = refl
+four_items f (a ∷ b ∷ c ∷ e ∷ g ∷ ws) d low high = absurd (omega arith)
+
+pub three_files : (a b c x y z : List ℕ) → a ≡ x → b ≡ y → c ≡ z → Some (Check a b c) ≡ Some (Check x y z)
+three_files a b c x y z p q r = cc
