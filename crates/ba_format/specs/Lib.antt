@@ -5,3 +5,4 @@ pub mod Seen
 pub mod Draft
 pub mod Joining
 pub mod Parts
+pub mod Reading
