@@ -182,3 +182,24 @@ opens_some Nothing a b ha hb some = absurd (omega (arith, ap length ha))
 opens_some OneState a b ha hb some = omega (arith, hb.0)
 opens_some States a b ha hb some = omega (arith, hb.0)
 opens_some Transitions a b ha hb some = hb.0
+
+-- each line brings at most one transition
+noted-most : {X : Type 0} (same : X → X → Bool) (seen : List X) (x : X) → length (noted same seen x) ≤ length seen + 1
+noted-most same seen x = by (list_any (same x) seen)
+  where
+    by : (b : Bool) → length (if b then seen else seen ++ x ∷ []) ≤ length seen + 1
+    by true = omega arith
+    by false = omega (arith, length-append seen (x ∷ []))
+
+seen-most : {X : Type 0} (same : X → X → Bool) (seen xs : List X) → length (fold (noted same) seen xs) ≤ length seen + length xs
+seen-most same seen [] = omega arith
+seen-most same seen (x ∷ xs) = omega (arith, noted-most same seen x, seen-most same (noted same seen x) xs)
+
+lines-most : (names labels : List (List ℕ)) (entries : List Entry) → length (flat_map (transitions_in names labels) entries) ≤ length entries
+lines-most names labels [] = omega arith
+lines-most names labels (StateLine name ∷ entries) = omega (arith, lines-most names labels entries)
+lines-most names labels (TransitionLine label source target ∷ entries) = omega (arith, lines-most names labels entries)
+
+pub transitions-most : (entries : List Entry) → length (transitions_of entries) ≤ length entries
+transitions-most entries =
+    omega (arith, seen-most same_trans [] (flat_map (transitions_in (names_of entries) (labels_of entries)) entries), lines-most (names_of entries) (labels_of entries) entries)

@@ -2,7 +2,7 @@
 use Rattle.std.proofs.Common.{◌≡◌, ℕ, zero, suc, ◌+◌, ◌-◌, ◌^◌, ◌<◌, ◌≤◌, Bool, true, false, not, cond, eqb, ltb, ◌||◌, List, [], ◌∷◌, ◌++◌, length, map, fold, reverse, Option, None, Some, Result, Ok, Err, MatchResult, ◌⊎◌, inl, inr, refl, sym, ap, subst, ◌∙◌, true≢false, arith, if◌then◌else◌}
 use Rattle.std.specs.List.{list_any, slice_split, before_first, after_first, position_or_len}
 use Rattle.std.specs.Option.{option_or}
-use Rattle.std.proofs.lemmas.List.{append-nil, append_assoc, take_all, drop_all, length-drop}
+use Rattle.std.proofs.lemmas.List.{append-nil, append_assoc, take_all, drop_all, length-drop, length-append}
 use Rattle.std.proofs.lemmas.List.Splits.{slice_split_first, slice_split_none}
 use Rattle.std.proofs.lemmas.List.Sums.{fails_before_first}
 use Rattle.std.proofs.lemmas.Bool.Decides.{nat_tests}
@@ -45,6 +45,7 @@ pub record Underway (limits : Limits) (text rest : List ℕ) (number : ℕ) (dra
   pub faults : first_fault limits entries (lines_from (number + 1) (slice_split is_newline rest)) ≡ first_fault limits [] (lines_of text)
   pub says : entries ++ map (λ l. entry_of l.text) (lines_from (number + 1) (slice_split is_newline rest)) ≡ entries_of text
   pub short : number + length rest ≤ length text
+  pub few : length entries ≤ number
 
 pub Underway-start : (limits : Limits) (text : List ℕ) (draft : Draft) → Stands draft [] → Underway limits text text 0 draft
 Underway-start limits text draft s =
@@ -55,6 +56,7 @@ Underway-start limits text draft s =
       faults = refl;
       says = refl;
       short = omega arith;
+      few = omega arith;
     }
 
 -- ---- one line
@@ -83,6 +85,7 @@ module _ (limits : Limits) (text rest : List ℕ) (number : ℕ) (draft : Draft)
         faults = ap (first_fault limits u.entries) (sym same) ∙ u.faults;
         says = ap (λ l. u.entries ++ map (λ l. entry_of l.text) l) (sym same) ∙ u.says;
         short = shorter_rest;
+        few = omega (arith, u.few);
       }
 
   -- the line is the first of those left
@@ -105,6 +108,7 @@ module _ (limits : Limits) (text rest : List ℕ) (number : ℕ) (draft : Draft)
         faults = sym (ap (λ k. or_later (number + 1) k (first_fault limits (u.entries ++ entry_of line ∷ []) later)) none) ∙ sym (ap (first_fault limits u.entries) first) ∙ u.faults;
         says = append_assoc u.entries (entry_of line ∷ []) (map (λ l. entry_of l.text) later) ∙ sym (ap (λ l. u.entries ++ map (λ l. entry_of l.text) l) first) ∙ u.says;
         short = shorter_rest;
+        few = omega (arith, u.few, length-append u.entries (entry_of line ∷ []));
       }
 
   pub refused_line : (line : List ℕ) (kind : BaKind) → line ≡ trimmed (before_first is_newline rest) → 0 < length line → kind_of_line limits u.entries line ≡ Some kind
@@ -117,10 +121,10 @@ module _ (limits : Limits) (text rest : List ℕ) (number : ℕ) (draft : Draft)
 
 -- all lines are done
 pub Underway-end : (limits : Limits) (text rest : List ℕ) (number : ℕ) (draft : Draft) → length rest ≡ 0 → Underway limits text rest number draft
-    → (first_fault limits [] (lines_of text) ≡ None) × Stands draft (entries_of text) × Fits limits (entries_of text)
+    → (first_fault limits [] (lines_of text) ≡ None) × Stands draft (entries_of text) × Fits limits (entries_of text) × (length (entries_of text) ≤ length text)
 Underway-end limits text [] number draft h u =
     let all : u.entries ≡ entries_of text = sym (append-nil u.entries) ∙ u.says in
-    (sym u.faults, subst (Stands draft) all u.stands, subst (Fits limits) all u.fits)
+    (sym u.faults, subst (Stands draft) all u.stands, subst (Fits limits) all u.fits, omega (arith, ap length all, u.few, u.short))
 Underway-end limits text (b ∷ bs) number draft h u = absurd (omega arith)
 
 pub nonempty_from : (n : ℕ) → false ≡ eqb n 0 → 0 < n
@@ -128,3 +132,27 @@ nonempty_from n e = grind (arith, nat_tests)
 
 pub empty_from : (n : ℕ) → true ≡ eqb n 0 → n ≡ 0
 empty_from n e = grind (arith, nat_tests)
+
+-- ---- the result
+
+no_lines : (limits : Limits) (lines : List TextLine) → map (λ l. entry_of l.text) lines ≡ [] → fault_of_lines limits lines ≡ Some (record { line = 0; kind = Empty })
+no_lines limits [] e = refl
+no_lines limits (l ∷ ls) e = cc
+
+-- a text without lines is empty
+pub empty_text : (limits : Limits) (text : List ℕ) (o : Opening) → o ≡ Nothing → Opens o (entries_of text) → fault_of text limits ≡ Some (record { line = 0; kind = Empty })
+empty_text limits text o e h = no_lines limits (lines_of text) (subst (λ o. Opens o (entries_of text)) e h)
+
+some_lines : (limits : Limits) (lines : List TextLine) → 0 < length (map (λ l. entry_of l.text) lines) → fault_of_lines limits lines ≡ first_fault limits [] lines
+some_lines limits [] h = absurd (omega arith)
+some_lines limits (l ∷ ls) h = refl
+
+-- some line opens the text
+pub opens_not : (o : Opening) (entries : List Entry) → Opens o entries → (o ≡ Nothing → ⊥) → 0 < length entries
+opens_not Nothing entries h n = absurd (n refl)
+opens_not OneState entries h n = omega (arith, h.0)
+opens_not States entries h n = omega (arith, h.0)
+opens_not Transitions entries h n = h.0
+
+pub no_fault_text : (limits : Limits) (text : List ℕ) → 0 < length (entries_of text) → first_fault limits [] (lines_of text) ≡ None → fault_of text limits ≡ None
+no_fault_text limits text h e = some_lines limits (lines_of text) h ∙ e

@@ -33,7 +33,7 @@ fn first_line(text: &[u8]) -> (&[u8], &[u8])
 /// What the lines of a text bring.
 fn draft_of(alloc: Global, text: &[u8], limits: &Limits) -> Result<Draft, ReadFault>
     requires { length text.now ≤ 2 ^ 24 }
-    ensures { MatchResult result (λ draft. (first_fault limits.now [] (lines_of text.now) ≡ None) × Stands draft (entries_of text.now) × Fits limits.now (entries_of text.now)) (TellsFault (first_fault limits.now [] (lines_of text.now))) }
+    ensures { MatchResult result (λ draft. (first_fault limits.now [] (lines_of text.now) ≡ None) × Stands draft (entries_of text.now) × Fits limits.now (entries_of text.now) × (length (entries_of text.now) ≤ length text.now)) (TellsFault (first_fault limits.now [] (lines_of text.now))) }
 {
     let mut draft = Draft::new(alloc);
     let mut rest = text;
