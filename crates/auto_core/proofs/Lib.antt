@@ -3,3 +3,9 @@ pub mod Accepting
 pub mod TableLemmas
 pub mod SuccessorLemmas
 pub mod BuildLemmas
+pub mod PathLemmas
+pub mod BitLemmas
+pub mod ReachLemmas
+pub mod Marking
+pub mod CellLemmas
+pub mod MoveLemmas

@@ -4,3 +4,7 @@ pub mod Accept
 pub mod Build
 pub mod Arrivals
 pub mod Stored
+pub mod Game
+pub mod RunLaws
+pub mod Rows
+pub mod Reach

@@ -2,8 +2,11 @@
 #![tactic(auto)]
 
 mod automaton;
+pub mod laws;
 mod listing;
 mod parts;
+pub mod reach;
+pub mod rows;
 mod tables;
 
 pub use automaton::{Auto, BuildFault};

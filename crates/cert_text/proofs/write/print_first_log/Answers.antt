@@ -1,0 +1,13 @@
+use Rattle.std.proofs.Common.{◌∷◌, [], ◌++◌, decimal, length, ap, sym, ◌∙◌, append-nil}
+use Rattle.cert_text.specs.Text.{spelled, line_text, text_of, first_step_lines}
+use Rattle.cert_text.specs.declared.keywords.Keyword.TheVariants as keyword
+use Rattle.cert_text.specs.Printed.{joined}
+use Rattle.cert_text.proofs.TextLemmas.{text_each, two_writes}
+use Rattle.cert_text.proofs.write.print_first_log.Goals as goal
+
+pub returns : goal.returns
+returns c =
+    let steps = c.args.steps.now in
+    rw (text_each first_step_lines steps)
+    (two_writes c.args.out.now (line_text (spelled keyword.Log1 ∷ decimal (length steps) ∷ [])) (joined (λ s. text_of (first_step_lines s)) steps)
+    c.in_ok-print_count.ensures c.in_ok-print_all.ensures)

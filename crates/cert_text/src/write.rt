@@ -1,0 +1,132 @@
+//! The writer of certificates.
+
+ghost use Rattle.std.specs.Prelude.{◌≡◌, ◌++◌, ◌∷◌, [], OnOk, IfOk, codes, decimal};
+ghost use Rattle.cert_text.specs.declared.keywords.Keyword.TheVariants as keyword;
+ghost use Rattle.cert_text.specs.Text.{spelled, text_of, line_text, text, first_lines, second_lines, yes_lines, list_lines, body_lines, first_line, closed_lines, limit_lines, answer_of};
+
+use crate::keywords::Keyword;
+use crate::printing::{Print, print_all, print_bytes, print_count, print_line};
+use crate::types::{Answer, Body, Cert, Element, FirstStep, ListBody, SecondStep, StepLine, YesBody};
+use auto_core::{List, Memory, Mode, Origin};
+use std::alloc::Global;
+
+/// Writes the first log.
+fn print_first_log(out: &mut List<u8>, steps: &[FirstStep]) -> Result<(), Memory>
+    ensures { OnOk result (out.new ≡ out.old ++ text_of (first_lines steps.now)) }
+{
+    print_count(out, Keyword::Log1, steps.len())?;
+    print_all(out, steps)?;
+    Ok(())
+}
+
+/// Writes the second log.
+fn print_second_log(out: &mut List<u8>, steps: &[SecondStep]) -> Result<(), Memory>
+    ensures { OnOk result (out.new ≡ out.old ++ text_of (second_lines steps.now)) }
+{
+    print_count(out, Keyword::Log2, steps.len())?;
+    print_all(out, steps)?;
+    Ok(())
+}
+
+/// Writes the elements of a yes, their cover and their extensions.
+fn print_elements(out: &mut List<u8>, elements: &[Element], cover: &[u32], steps: &[StepLine]) -> Result<(), Memory>
+    ensures { OnOk result (out.new ≡ out.old ++ text_of (closed_lines elements.now cover.now steps.now)) }
+{
+    print_count(out, Keyword::Elements, elements.len())?;
+    print_all(out, elements)?;
+    print_line(out, Keyword::Cover, &[], cover)?;
+    print_all(out, steps)?;
+    Ok(())
+}
+
+/// Writes the evidence of inclusion.
+fn print_yes(out: &mut List<u8>, yes: &YesBody) -> Result<(), Memory>
+    ensures { OnOk result (out.new ≡ out.old ++ text_of (yes_lines yes.now)) }
+{
+    print_first_log(out, yes.first.as_slice())?;
+    print_second_log(out, yes.second.as_slice())?;
+    yes.order.print(out)?;
+    print_elements(out, yes.elements.as_slice(), yes.cover.as_slice(), yes.steps.as_slice())?;
+    Ok(())
+}
+
+/// Writes the elements of a list, with its limit.
+fn print_origins(out: &mut List<u8>, limit: u32, elements: &[Origin]) -> Result<(), Memory>
+    ensures { OnOk result (out.new ≡ out.old ++ text_of (limit_lines limit elements.now)) }
+{
+    print_line(out, Keyword::Limit, &[limit], &[])?;
+    print_count(out, Keyword::Elements, elements.len())?;
+    print_all(out, elements)?;
+    Ok(())
+}
+
+/// Writes the evidence that a limit was met.
+fn print_listing(out: &mut List<u8>, list: &ListBody) -> Result<(), Memory>
+    ensures { OnOk result (out.new ≡ out.old ++ text_of (list_lines list.now)) }
+{
+    print_first_log(out, list.first.as_slice())?;
+    print_second_log(out, list.second.as_slice())?;
+    print_origins(out, list.limit, list.elements.as_slice())?;
+    Ok(())
+}
+
+/// Writes what stands between the line of sizes and the last line.
+fn print_body(out: &mut List<u8>, body: &Body) -> Result<(), Memory>
+    ensures { OnOk result (out.new ≡ out.old ++ text_of (body_lines body.now)) }
+{
+    match body {
+        Body::Yes(yes) => print_yes(out, yes)?,
+        Body::NoLasso(lasso) => {
+            print_line(out, Keyword::Prefix, &[], lasso.prefix.as_slice())?;
+            print_line(out, Keyword::Loop, &[], lasso.turn.as_slice())?;
+        }
+        Body::NoWord(word) => print_line(out, Keyword::Word, &[], word.as_slice())?,
+        Body::Listing(list) => print_listing(out, list)?,
+    }
+    Ok(())
+}
+
+/// The first line of a file of this mode and answer.
+pub(crate) fn header_text(mode: Mode, answer: Answer) -> &'static [u8]
+    ensures { result.now ≡ line_text (first_line mode answer) }
+{
+    match (mode, answer) {
+        (Mode::Buchi, Answer::Yes) => b"rabit-cert 1 buchi yes\n",
+        (Mode::Buchi, Answer::No) => b"rabit-cert 1 buchi no\n",
+        (Mode::Buchi, Answer::List) => b"rabit-cert 1 buchi list\n",
+        (Mode::Finite, Answer::Yes) => b"rabit-cert 1 finite yes\n",
+        (Mode::Finite, Answer::No) => b"rabit-cert 1 finite no\n",
+        (Mode::Finite, Answer::List) => b"rabit-cert 1 finite list\n",
+    }
+}
+
+/// Which answer the body gives.
+fn answer_of(body: &Body) -> Answer
+    ensures { result ≡ answer_of body.now }
+{
+    match body {
+        Body::Yes(_) => Answer::Yes,
+        Body::NoLasso(_) | Body::NoWord(_) => Answer::No,
+        Body::Listing(_) => Answer::List,
+    }
+}
+
+/// Writes the certificate.
+fn print_cert(out: &mut List<u8>, cert: &Cert) -> Result<(), Memory>
+    ensures { OnOk result (out.new ≡ out.old ++ text cert.now) }
+{
+    print_bytes(out, header_text(cert.mode, answer_of(&cert.body)))?;
+    print_line(out, Keyword::Sizes, &[cert.first_states, cert.second_states, cert.labels], &[])?;
+    print_body(out, &cert.body)?;
+    print_line(out, Keyword::End, &[], &[])?;
+    Ok(())
+}
+
+/// The certificate's text. It is a text of the format where `well_formed` holds.
+pub fn write_cert(alloc: Global, cert: &Cert) -> Result<List<u8>, Memory>
+    ensures text { IfOk result (λ bytes. bytes ≡ text cert.now) }
+{
+    let mut out = List::new(alloc);
+    print_cert(&mut out, cert)?;
+    Ok(out)
+}

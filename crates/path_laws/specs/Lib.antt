@@ -1,0 +1,4 @@
+pub mod Paths
+pub mod Pumping
+pub mod Transfer
+pub mod Games

@@ -1,0 +1,23 @@
+-- What loading a file says of the shelf's files.
+use Rattle.std.specs.Prelude.{◌≡◌, ℕ, ◌<◌, List, length, Option, Some, None, IfSome}
+use Rattle.std.specs.FinMap as map
+use Rattle.std.specs.Io.KnownBytes.{Consumes}
+use Rattle.shelf_io.specs.Shelf.{FileMap}
+
+-- A shelf that tells its files holds just these bytes under the name.
+abbrev pub HoldsUnder : Option FileMap → List ℕ → List ℕ → Type 0
+HoldsUnder held name bytes = IfSome held (λ files. map.get files name ≡ Some bytes)
+
+-- A shelf that tells its files holds more than `most` bytes under the name.
+abbrev pub HoldsMoreThan : Option FileMap → List ℕ → ℕ → Type 0
+HoldsMoreThan held name most =
+    IfSome held (λ files. (bytes : List ℕ) × (map.get files name ≡ Some bytes) × (most < length bytes))
+
+-- A shelf that tells its files does not have the name.
+abbrev pub Lacks : Option FileMap → List ℕ → Type 0
+Lacks None name = ⊥
+Lacks (Some files) name = map.get files name ≡ None
+
+-- More than `most` bytes were taken, as far as the shelf tells what remains.
+abbrev pub TakesMoreThan : Option (List ℕ) → Option (List ℕ) → ℕ → Type 0
+TakesMoreThan left left' most = (bytes : List ℕ) × Consumes left left' bytes × (most < length bytes)
