@@ -6,3 +6,4 @@ pub mod Draft
 pub mod Joining
 pub mod Parts
 pub mod Reading
+pub mod Writing
