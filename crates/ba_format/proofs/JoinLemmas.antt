@@ -28,7 +28,7 @@ pub Gathered-none : (accepting : List ℕ) → Gathered accepting [] 0
 Gathered-none accepting = record { is_front = refl; within = omega arith; below = λ j lt. absurd (omega arith); above = λ j _ _. omega arith }
 
 -- the same place
-place_is : (n k : ℕ) → (k < n → ⊥) → (n < k → ⊥) → n ≡ k
+pub place_is : (n k : ℕ) → (k < n → ⊥) → (n < k → ⊥) → n ≡ k
 place_is n k a b =
     elim (cases_lt k n) [
       | inl h ↦ absurd (a h)
@@ -188,7 +188,7 @@ joined_made first second new one both n o b =
 -- ---- renumbered automata
 
 -- a text that is found stands at its number
-number_within : (texts : List (List ℕ)) (text : List ℕ) → list_any (same_text text) texts ≡ true → number_in same_text texts text < length texts
+pub number_within : (texts : List (List ℕ)) (text : List ℕ) → list_any (same_text text) texts ≡ true → number_in same_text texts text < length texts
 number_within texts text h = within _ _ (place_within (same_text text) texts ∙ h)
   where
     within : (m n : ℕ) → ltb m n ≡ true → m < n

@@ -3,3 +3,5 @@ pub mod LineLemmas
 pub mod JoinLemmas
 pub mod DraftLemmas
 pub mod TakeLemmas
+pub mod ReadLemmas
+pub mod NamedLemmas

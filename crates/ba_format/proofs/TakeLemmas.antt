@@ -100,7 +100,7 @@ names_in_states [] seen h = tt
 names_in_states (StateLine name ∷ entries) seen h = (h.0, names_in_states entries seen h.1)
 names_in_states (TransitionLine label source target ∷ entries) seen h = names_in_states entries seen h.1.1
 
-accepting-found : (entries : List Entry) → AllFound (names_of entries) (accepting_names entries)
+pub accepting-found : (entries : List Entry) → AllFound (names_of entries) (accepting_names entries)
 accepting-found [] = tt
 accepting-found (first ∷ entries) = names_in_states entries _ (AllFound-right (states_in first) (flat_map states_in entries) _ (AllFound-noted (flat_map states_in (first ∷ entries)) []))
 

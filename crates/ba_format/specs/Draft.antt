@@ -1,9 +1,12 @@
 -- What the reader holds after the lines so far.
-use Rattle.std.specs.Prelude.{◌≡◌, ℕ, ◌+◌, ◌≤◌, ◌<◌, ◌⊎◌, ◌==◌, Bool, true, false, List, [], ◌∷◌, ◌++◌, length, map, Option, None, Some, Result, MatchResult}
+use Rattle.std.specs.Prelude.{◌≡◌, ℕ, ◌+◌, ◌^◌, ◌≤◌, ◌<◌, ◌⊎◌, ◌==◌, Bool, true, false, List, [], ◌∷◌, ◌++◌, length, map, Option, None, Some, Result, MatchResult}
 use Rattle.std.specs.List.{list_all}
 use Rattle.auto_core.specs.declared.parts.Trans.{Trans}
 use Rattle.auto_core.specs.Automaton.{trans}
 use Rattle.ba_format.specs.declared.parts.BaKind.{BaKind}
+use Rattle.ba_format.specs.declared.parts.BaFault.{BaFault}
+use Rattle.ba_format.specs.declared.parts.ReadFault.{ReadFault}
+use Rattle.ba_format.specs.declared.parts.ReadFault.TheVariants.{Ba, Memory as OutOfMemory}
 use Rattle.ba_format.specs.declared.parts.Limits.{Limits}
 use Rattle.ba_format.specs.declared.draft.Opening.{Opening}
 use Rattle.ba_format.specs.declared.draft.Opening.TheVariants.{Nothing, OneState, States, Transitions}
@@ -92,3 +95,15 @@ TakesLine limits entries line draft r =
     MatchResult r
       (λ _. (kind_of_line limits entries line ≡ None) × Stands draft (entries ++ entry_of line ∷ []) × Fits limits (entries ++ entry_of line ∷ []))
       (Tells (kind_of_line limits entries line))
+
+-- The draft stands for some lines, and has no more transitions than a u32 counts.
+pub record IsReady (draft : Draft) : Type 0 where
+  pub entries : List Entry
+  pub stands : Stands draft entries
+  pub some : 0 < length entries
+  pub few : length (transitions_of entries) < 2 ^ 32
+
+-- The fault of the text is told, or want of memory.
+abbrev pub TellsFault : Option BaFault → ReadFault → Type 0
+TellsFault fault (Ba told) = fault ≡ Some told
+TellsFault fault OutOfMemory = Unit {0}

@@ -5,3 +5,5 @@ pub mod Seen
 pub mod Draft
 pub mod Joining
 pub mod Parts
+pub mod Reading
+pub mod Writing

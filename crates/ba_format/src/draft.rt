@@ -1,14 +1,17 @@
 //! What the lines of a text bring, line by line.
 
-ghost use Rattle.std.specs.Prelude.{◌≡◌, ◌+◌, ◌^◌, ◌<◌, ◌≤◌, List, [], length, OnOk, OnErr, IfOk, IfErr, MatchResult};
+ghost use Rattle.std.specs.Prelude.{◌≡◌, ◌+◌, ◌^◌, ◌<◌, ◌≤◌, ◌==◌, if◌then◌else◌, List, [], length, map, OnOk, OnErr, IfOk, IfErr, MatchResult};
 ghost use Rattle.ba_format.specs.Sight.{same_text, noted, number_in};
 ghost use Rattle.ba_format.specs.Grammar.{Entry, StateLine, TransitionLine};
-ghost use Rattle.ba_format.specs.Draft.{PastLimit, NotesState, NotesTransition, Stands, Fits, Takes, TakesLine};
+ghost use Rattle.ba_format.specs.Draft.{PastLimit, NotesState, NotesTransition, Stands, Fits, Takes, TakesLine, IsReady, trans_with};
+ghost use Rattle.ba_format.specs.Reading.{IsReading};
+ghost use Rattle.std.specs.List.{range_with_len};
 
+use crate::building::built;
 use crate::lines::{Said, said_by};
-use crate::parts::{BaKind, Limits};
+use crate::parts::{BaKind, Limits, Named};
 use crate::texts::Texts;
-use auto_core::Memory;
+use auto_core::{Memory, Trans};
 use indexmap::IndexSet;
 use std::alloc::{AllocFailed, Global};
 
@@ -166,4 +169,55 @@ impl Draft {
             }
         }
     }
+
+    /// The automaton that the lines say, with its names and labels.
+    pub(crate) fn into_named(self, alloc: Global) -> Result<Named, Memory>
+        requires { IsReady self }
+        ensures { IfOk result (λ named. (entries : List Entry) → Stands self entries → IsReading entries named) }
+    {
+        let transitions = transitions_of(alloc, self.transitions.as_slice())?;
+        let accepting = chosen_or_all(alloc, self.accepting.as_slice(), self.names.count())?;
+        let auto = built(
+            alloc,
+            self.names.count(),
+            self.labels.count(),
+            0,
+            &transitions,
+            &accepting,
+        )?;
+        Ok(Named {
+            auto,
+            names: self.names,
+            labels: self.labels,
+        })
+    }
+}
+
+/// The transitions with these sources, labels and targets.
+fn transitions_of(alloc: Global, parts: &[(u32, u32, u32)]) -> Result<Vec<Trans>, Memory>
+    ensures { IfOk result (λ transitions. transitions.items ≡ map trans_with parts.now) }
+{
+    let mut transitions = Vec::new(alloc);
+    for part in parts {
+        transitions.push(Trans {
+            source: part.0,
+            label: part.1,
+            target: part.2,
+        })?;
+    }
+    Ok(transitions)
+}
+
+/// The chosen states; all states if none is chosen.
+fn chosen_or_all(alloc: Global, chosen: &[u32], states: u32) -> Result<Vec<u32>, Memory>
+    ensures { IfOk result (λ accepting. accepting.items ≡ (if length chosen.now == 0 then range_with_len 0 states else chosen.now)) }
+{
+    if !chosen.is_empty() {
+        return Ok(chosen.to_vec(alloc)?);
+    }
+    let mut all = Vec::new(alloc);
+    for state in 0..states {
+        all.push(state)?;
+    }
+    Ok(all)
 }

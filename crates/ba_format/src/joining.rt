@@ -59,7 +59,7 @@ fn with_numbers(alloc: Global, transitions: &[Trans], numbers: &[u32]) -> Result
 }
 
 /// The accepting states, ascending.
-fn accepting_states(alloc: Global, auto: &Auto) -> Result<Vec<u32>, Memory>
+pub(crate) fn accepting_states(alloc: Global, auto: &Auto) -> Result<Vec<u32>, Memory>
     ensures { IfOk result (λ states. states.items ≡ auto.now.accepting) }
 {
     let mut states = Vec::new(alloc);

@@ -6,8 +6,12 @@ mod draft;
 mod joining;
 mod lines;
 mod parts;
+mod reading;
 mod texts;
+mod writing;
 
 pub use joining::join;
 pub use parts::{BaFault, BaKind, Joined, Limits, Named, ReadFault};
+pub use reading::read;
 pub use texts::Texts;
+pub use writing::write;

@@ -1,0 +1,33 @@
+use Rattle.std.proofs.Common.{◌≡◌, ◌∙◌, ap, sym, subst, length}
+use Rattle.auto_core.specs.Build.{IsBuilt}
+use Rattle.ba_format.specs.Faults.{names_of, labels_of, transitions_of, accepting_of}
+use Rattle.ba_format.specs.Reading.{IsReading}
+use Rattle.ba_format.proofs.NamedLemmas.{parts_of, initial_zero, opens_some, transitions_given, accepting_given}
+use Rattle.ba_format.proofs.draft.Draft.into_named.Goals as goal
+
+pub built-requires : goal.built-requires
+built-requires c =
+    let draft = c.args.self in
+    let entries = c.requires.entries in
+    let s = c.requires.stands in
+    let transitions = transitions_given draft entries s c.as_slice.result.now c.in_ok-transitions.transitions.items c.deref.result.now c.as_slice.ensures.keys c.in_ok-transitions.ensures c.deref.ensures.value in
+    let accepting = accepting_given draft entries s c.as_slice-2.result.now c.in_ok-accepting.accepting.items c.deref-2.result.now c.count.result c.as_slice-2.ensures.keys c.count.ensures.count c.in_ok-accepting.ensures c.deref-2.ensures.value in
+    let states = c.count-2.ensures.count ∙ ap length s.names in
+    let labels = c.count-3.ensures.count ∙ ap length s.labels in
+    rw (states, labels, transitions, accepting) (parts_of entries c.requires.some c.requires.few)
+
+pub returns : goal.returns
+returns c = λ entries s.
+    let draft = c.args.self in
+    let transitions = transitions_given draft entries s c.as_slice.result.now c.in_ok-transitions.transitions.items c.deref.result.now c.as_slice.ensures.keys c.in_ok-transitions.ensures c.deref.ensures.value in
+    let accepting = accepting_given draft entries s c.as_slice-2.result.now c.in_ok-accepting.accepting.items c.deref-2.result.now c.count.result c.as_slice-2.ensures.keys c.count.ensures.count c.in_ok-accepting.ensures c.deref-2.ensures.value in
+    let states = c.count-2.ensures.count ∙ ap length s.names in
+    let labels = c.count-3.ensures.count ∙ ap length s.labels in
+    record {
+      names = s.names;
+      labels = s.labels;
+      auto =
+        subst (λ n. IsBuilt (length (names_of entries)) (length (labels_of entries)) n (transitions_of entries) (accepting_of entries) c.in_ok-auto.auto)
+          (sym (initial_zero entries (opens_some draft.opening c.requires.entries entries c.requires.stands.opening s.opening c.requires.some)))
+          (rw (states, labels, transitions, accepting) at c.in_ok-auto.ensures);
+    }
