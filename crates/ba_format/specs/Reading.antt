@@ -1,5 +1,5 @@
 -- What it means that a text reads as an automaton with names and labels.
-use Rattle.std.specs.Prelude.{◌≡◌, ℕ, List, length, None}
+use Rattle.std.specs.Prelude.{◌≡◌, ◌≤◌, ℕ, List, length, None}
 use Rattle.auto_core.specs.Build.{IsBuilt}
 use Rattle.ba_format.specs.declared.parts.Limits.{Limits}
 use Rattle.ba_format.specs.declared.parts.Named.{Named}
@@ -18,3 +18,9 @@ pub record IsReading (entries : List Entry) (named : Named) : Type 0 where
 pub record Reads (text : List ℕ) (limits : Limits) (named : Named) : Type 0 where
   pub no_fault : fault_of text limits ≡ None
   pub reading : IsReading (entries_of text) named
+
+-- No more states, labels and transitions than the limits say.
+pub record IsWithin (limits : Limits) (named : Named) : Type 0 where
+  pub states : named.auto.states ≤ limits.states
+  pub labels : length named.labels ≤ limits.labels
+  pub transitions : length named.auto.transitions ≤ limits.transitions
