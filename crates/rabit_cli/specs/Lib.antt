@@ -1,2 +1,5 @@
 pub mod Question
 pub mod Printed
+pub mod Pending
+pub mod Command
+pub mod Said

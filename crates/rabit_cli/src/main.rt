@@ -5,7 +5,7 @@ mod answer;
 mod letters;
 mod lines;
 mod question;
-mod top;
+mod reading;
 
 use auto_core::Memory;
 

@@ -1,0 +1,97 @@
+-- Which answer a command has, by the files that it names.
+use Rattle.std.specs.Prelude.{◌≡◌, ℕ, ◌<◌, ◌≤◌, ◌^◌, ◌⊎◌, List, length, Option, Some, None, true, false}
+use Rattle.std.specs.FinMap as map
+use Rattle.shelf_io.specs.Shelf.{FileMap}
+use Rattle.ba_format.specs.declared.parts.BaFault.{BaFault}
+use Rattle.ba_format.specs.declared.parts.Limits.{Limits}
+use Rattle.ba_format.specs.declared.parts.Named.{Named}
+use Rattle.ba_format.specs.declared.parts.Joined.{Joined}
+use Rattle.ba_format.specs.Faults.{fault_of}
+use Rattle.ba_format.specs.Reading.{Reads}
+use Rattle.ba_format.specs.Joining.{IsJoined}
+use Rattle.auto_core.specs.declared.parts.Lasso.{Lasso}
+use Rattle.cert_text.specs.declared.types.Cert.{Cert}
+use Rattle.cert_text.specs.declared.types.Body.TheVariants.{Yes, NoLasso, NoWord, Listing}
+use Rattle.cert_text.specs.declared.types.Body.{Body}
+use Rattle.rabit_cli.specs.Pending.{IsFirstFault}
+use Rattle.cert_text.specs.declared.faults.TextFault.{TextFault}
+use Rattle.cert_text.specs.WellFormed.{WellFormed}
+use Rattle.cert_text.specs.Text.{text}
+use Rattle.cert_check.specs.declared.faults.Refusal.{Refusal}
+use Rattle.cert_check.specs.Checks.{AllHold, FirstBroken}
+use Rattle.cert_check.specs.Rules.{checks_of, has_checked_form}
+use Rattle.rabit_cli.specs.Question.{Question, Check, question_of}
+use Rattle.rabit_cli.specs.declared.answer.Answer.{Answer}
+use Rattle.rabit_cli.specs.declared.answer.Answer.TheVariants.{NotBuilt, BadFile, LongFile, BadText, LongCertificate, Refused, NotIncluded, ReadFault, OutOfMemory}
+
+-- The most states, labels and transitions of each file of a check.
+abbrev pub check_limits : Limits
+check_limits = record { states = 512; labels = 256; transitions = 65536 }
+
+-- The shelf holds these bytes under the name.
+abbrev pub Holds : FileMap → List ℕ → List ℕ → Type 0
+Holds files name bytes = map.get files name ≡ Some bytes
+
+-- What is known where the file with this number was not read as an automaton: it has more than 16 MiB, or it has a fault.
+abbrev pub IsFileFault : ℕ → FileMap → List ℕ → Answer → Type 0
+IsFileFault number files name answer =
+    (bytes : List ℕ)
+      × Holds files name bytes
+      × (((2 ^ 24 < length bytes) × (answer ≡ LongFile number))
+          ⊎ ((length bytes ≤ 2 ^ 24) × ((fault : BaFault) × (fault_of bytes check_limits ≡ Some fault) × (answer ≡ BadFile number fault))))
+
+-- The file reads as this automaton.
+abbrev pub ReadsAs : FileMap → List ℕ → Named → Type 0
+ReadsAs files name named =
+    (bytes : List ℕ) × Holds files name bytes × (length bytes ≤ 2 ^ 24) × Reads bytes check_limits named
+
+-- What is known where the certificate's file was not read: it has more than 1 GiB, or its text has a fault.
+abbrev pub IsCertificateFault : FileMap → List ℕ → Answer → Type 0
+IsCertificateFault files name answer =
+    (bytes : List ℕ)
+      × Holds files name bytes
+      × (((2 ^ 30 < length bytes) × (answer ≡ LongCertificate))
+          ⊎ ((length bytes ≤ 2 ^ 30) × ((fault : TextFault) × IsFirstFault bytes fault × (answer ≡ BadText fault))))
+
+-- The file holds the text of this certificate, which is well-formed.
+abbrev pub HoldsCertificate : FileMap → List ℕ → Cert → Type 0
+HoldsCertificate files name cert =
+    (bytes : List ℕ) × Holds files name bytes × (length bytes ≤ 2 ^ 30) × WellFormed cert × (bytes ≡ text cert)
+
+-- The answer of a valid certificate with this body.
+abbrev pub IsVerdictAnswer : Joined → Body → Answer → Type 0
+IsVerdictAnswer pair (Yes body) answer = ⊥
+IsVerdictAnswer pair (NoLasso lasso) answer = answer ≡ NotIncluded pair.labels lasso
+IsVerdictAnswer pair (NoWord word) answer = ⊥
+IsVerdictAnswer pair (Listing body) answer = ⊥
+
+-- The answer for two joined automata and a certificate: its form is not built, or a rule is broken, the first being this one,
+-- or the certificate is valid.
+abbrev pub Concludes : Joined → Cert → Answer → Type 0
+Concludes pair cert answer =
+    ((has_checked_form cert ≡ false) × (answer ≡ NotBuilt))
+      ⊎ ((has_checked_form cert ≡ true) × ((refusal : Refusal) × FirstBroken (checks_of pair cert) refusal × (answer ≡ Refused refusal)))
+      ⊎ ((has_checked_form cert ≡ true) × AllHold (checks_of pair cert) × IsVerdictAnswer pair cert.body answer)
+
+-- The answer of `check A B CERT`: the files are looked at in this order, and the first fault decides.
+abbrev pub IsCheckAnswer : FileMap → List ℕ → List ℕ → List ℕ → Answer → Type 0
+IsCheckAnswer files a b c answer =
+    IsFileFault 1 files a answer
+      ⊎ ((one : Named)
+          × ReadsAs files a one
+          × (IsFileFault 2 files b answer
+              ⊎ ((two : Named)
+                  × ReadsAs files b two
+                  × (IsCertificateFault files c answer
+                      ⊎ ((pair : Joined) × IsJoined one two pair × ((cert : Cert) × HoldsCertificate files c cert × Concludes pair cert answer))))))
+
+-- The answer to what the words ask.
+abbrev pub IsAnswerTo : FileMap → Option Question → Answer → Type 0
+IsAnswerTo files None answer = answer ≡ NotBuilt
+IsAnswerTo files (Some (Check a b c)) answer = IsCheckAnswer files a b c answer
+
+-- A fact about the answer, unless it is a read fault or want of memory, which have other causes.
+abbrev pub UnlessRefused : Answer → Type 0 → Type 0
+UnlessRefused ReadFault P = Unit {0}
+UnlessRefused OutOfMemory P = Unit {0}
+UnlessRefused answer P = P

@@ -1,0 +1,53 @@
+//! The files that a check reads.
+
+ghost use Rattle.std.specs.Prelude.{◌≡◌, ◌≤◌, ◌^◌, ◌<◌, List, ℕ, length, IfOk, IfErr, IfSome, Err};
+ghost use Rattle.shelf_io.specs.Counts.{Rose};
+ghost use Rattle.ba_format.specs.Reading.{IsWithin};
+ghost use Rattle.ba_format.specs.Joining.{IsJoined};
+ghost use Rattle.cert_text.specs.WellFormed.{WellFormed};
+ghost use Rattle.cert_text.specs.Text.{text};
+ghost use Rattle.rabit_cli.specs.Pending.{IsFirstFault};
+ghost use Rattle.rabit_cli.specs.Command.{check_limits, IsFileFault, ReadsAs, IsCertificateFault, HoldsCertificate, UnlessRefused};
+
+use auto_core::List;
+use ba_format::{Joined, Limits, Named, ReadFault};
+use cert_text::{Cert, CertReadFault, TextFault};
+use shelf_io::{LoadFault, Shelf};
+use std::alloc::Global;
+
+use crate::answer::Answer;
+
+/// The most bytes of an automaton's file.
+const AUTOMATON_BYTES: u64 = 16_777_216;
+/// The most bytes of a certificate's file.
+const CERTIFICATE_BYTES: u64 = 1_073_741_824;
+
+/// The most states, labels and transitions of each file of a check.
+const LIMITS: Limits = Limits {
+    states: 512,
+    labels: 256,
+    transitions: 65_536,
+};
+
+/// Loads the file and reads its automaton, or tells the answer that it ends with.
+pub fn read_automaton<H: Shelf>(alloc: Global, shelf: &mut H, name: &str, number: u32) -> Result<Named, Answer>
+    ensures read { IfOk result (λ named. IfSome (H.held shelf.old) (λ files. ReadsAs files name.now named)) }
+    ensures within { IfOk result (IsWithin check_limits) }
+    ensures fault { IfErr result (λ answer. IfSome (H.held shelf.old) (λ files. UnlessRefused answer (IsFileFault number files name.now answer))) }
+    ensures read_fault { result ≡ Err Answer.ReadFault → Rose (H.faults shelf.old) (H.faults shelf.new) }
+    ensures no_read_fault { ¬ (result ≡ Err Answer.ReadFault) → H.faults shelf.new ≡ H.faults shelf.old }
+    ensures files_stay { H.held shelf.new ≡ H.held shelf.old }
+    ensures puts_stay { H.put_faults shelf.new ≡ H.put_faults shelf.old }
+{
+    let bytes = match shelf_io::load(alloc, shelf, name, AUTOMATON_BYTES) {
+        Ok(bytes) => bytes,
+        Err(LoadFault::Failed) => return Err(Answer::ReadFault),
+        Err(LoadFault::Long) => return Err(Answer::LongFile { number }),
+        Err(LoadFault::Memory) => return Err(Answer::OutOfMemory),
+    };
+    match ba_format::read(alloc, bytes.as_slice(), &LIMITS) {
+        Ok(named) => Ok(named),
+        Err(ReadFault::Ba(fault)) => Err(Answer::BadFile { number, fault }),
+        Err(ReadFault::Memory) => Err(Answer::OutOfMemory),
+    }
+}
