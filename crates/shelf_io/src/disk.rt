@@ -1,8 +1,7 @@
 //! Real files.
 
-ghost use Rattle.std.specs.Prelude.{◌≡◌, ◌≢◌, ◌+◌, ◌-◌, ◌^◌, ◌≤◌, min, None, OnOk, OnErr, is_some, false, Ok, if◌then◌else◌};
+ghost use Rattle.std.specs.Prelude.{◌≡◌, None, Ok, false, is_some, if◌then◌else◌};
 ghost use Rattle.std.specs.Io.{ReadsAtMost};
-ghost use Rattle.shelf_io.specs.Counts.{counted};
 ghost use Rattle.shelf_io.specs.Shelf.{Nothing, Unnamed};
 
 use crate::outside::Shelf;

@@ -1,6 +1,6 @@
 //! Files kept one after another in one block of memory.
 
-ghost use Rattle.std.specs.Prelude.{◌≡◌, ◌<◌, ◌≤◌, ◌+◌, ◌-◌, ◌^◌, ◌++◌, ◌∷◌, [], ◌↔◌, IsTrue, IfOk, IsOk, OnOk, OnErr, length, drop};
+ghost use Rattle.std.specs.Prelude.{◌≡◌, ◌<◌, ◌≤◌, ◌+◌, ◌-◌, ◌^◌, ◌++◌, ◌∷◌, [], ◌↔◌, IsTrue, IsOk, OnOk, OnErr, length, drop};
 ghost use Rattle.shelf_io.specs.Stored.{file, file_at, IsFound};
 
 use auto_core::Memory;

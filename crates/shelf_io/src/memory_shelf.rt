@@ -1,13 +1,13 @@
 //! Files kept in memory.
 
-ghost use Rattle.std.specs.Prelude.{◌≡◌, ◌+◌, ◌-◌, ◌<◌, ◌≤◌, ◌↔◌, ◌⊎◌, ◌++◌, ◌∷◌, [], min, length, Some, IsErr, IfOk, OnErr, IsTrue, if◌then◌else◌, is_ok};
+ghost use Rattle.std.specs.Prelude.{◌≡◌, ◌+◌, ◌-◌, ◌<◌, ◌≤◌, ◌↔◌, ◌⊎◌, min, length, Some, IsErr, IfOk, OnErr, IsTrue, if◌then◌else◌, is_ok};
 ghost use Rattle.std.specs.Option.{ForSome};
 ghost use Rattle.std.specs.Io.{ReadsAtMost};
 ghost use Rattle.std.specs.Io.KnownBytes.{ReadConsumes};
 ghost use Rattle.shelf_io.specs.Counts.{counted, HasCause};
 ghost use Rattle.shelf_io.specs.Shelf.{Nothing, IsBegunBy, LeavesToTake, CountsMissing, CountsTaken, Puts, LeavesBegun, LeavesLeft};
 ghost use Rattle.shelf_io.specs.Load.{Lacks};
-ghost use Rattle.shelf_io.specs.Stored.{file, files_of};
+ghost use Rattle.shelf_io.specs.Stored.{files_of};
 ghost use Rattle.shelf_io.specs.Reading.{held_in, begun_in, begun_in-told, left_in, rest_in};
 ghost use Rattle.shelf_io.specs.Plan.{IsDue, plan};
 

@@ -1,6 +1,6 @@
 //! An output kept in memory.
 
-ghost use Rattle.std.specs.Prelude.{◌≡◌, ◌+◌, ◌-◌, ◌<◌, ◌≤◌, ◌↔◌, ◌⊎◌, ◌++◌, [], length, vec_len, vec_capacity, Some, IsErr, IfOk, OnErr, if◌then◌else◌, is_ok};
+ghost use Rattle.std.specs.Prelude.{◌≡◌, ◌+◌, ◌-◌, ◌<◌, ◌≤◌, ◌↔◌, ◌⊎◌, [], length, vec_len, vec_capacity, Some, IsErr, IfOk, OnErr, if◌then◌else◌, is_ok};
 ghost use Rattle.shelf_io.specs.Counts.{counted, HasCause};
 ghost use Rattle.shelf_io.specs.Sink.{Gives};
 ghost use Rattle.shelf_io.specs.Plan.{IsDue, plan};
