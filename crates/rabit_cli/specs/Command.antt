@@ -40,6 +40,11 @@ IsFileFault number files name answer =
       × (((2 ^ 24 < length bytes) × (answer ≡ LongFile number))
           ⊎ ((length bytes ≤ 2 ^ 24) × ((fault : BaFault) × (fault_of bytes check_limits ≡ Some fault) × (answer ≡ BadFile number fault))))
 
+-- Both automata have as many labels as there are texts of labels.
+pub record HasLabelTexts (pair : Joined) : Type 0 where
+  pub first : pair.first.labels ≡ length pair.labels
+  pub second : pair.second.labels ≡ length pair.labels
+
 -- The file reads as this automaton.
 abbrev pub ReadsAs : FileMap → List ℕ → Named → Type 0
 ReadsAs files name named =

@@ -1,8 +1,19 @@
 -- What was said of an answer.
-use Rattle.std.specs.Prelude.{◌≡◌, ◌⊎◌, ℕ, List, take, Option}
+use Rattle.std.specs.Prelude.{◌≡◌, ◌⊎◌, ℕ, List, take, Option, None, Some, IfSome}
 use Rattle.std.specs.Io.KnownBytes.{append_known}
 use Rattle.shelf_io.specs.Counts.{Rose}
+use Rattle.shelf_io.specs.Shelf.{FileMap}
+use Rattle.auto_core.specs.declared.parts.Lasso.{Lasso}
+use Rattle.auto_core.specs.Accept.{SeparatesLasso}
+use Rattle.ba_format.specs.declared.parts.Named.{Named}
+use Rattle.ba_format.specs.declared.parts.Joined.{Joined}
+use Rattle.ba_format.specs.Joining.{IsJoined}
+use Rattle.cert_text.specs.declared.types.Cert.{Cert}
+use Rattle.cert_text.specs.declared.types.Body.TheVariants.{NoLasso}
+use Rattle.rabit_cli.specs.Question.{Question, Check}
+use Rattle.rabit_cli.specs.Command.{IsAnswerTo, UnlessRefused, ReadsAs, HoldsCertificate}
 use Rattle.rabit_cli.specs.declared.answer.Answer.{Answer}
+use Rattle.rabit_cli.specs.declared.answer.Answer.TheVariants.{NotIncluded, ReadFault}
 use Rattle.rabit_cli.specs.Printed.{text_for, status_of, status_unsent}
 
 -- The answer's whole text was sent, or the sink's count rose and a front of it was.
@@ -10,3 +21,33 @@ abbrev pub WasSaid : Answer → ℕ → Option (List ℕ) → Option (List ℕ) 
 WasSaid answer status sent sent' faults faults' =
     ((status ≡ status_of answer) × (sent' ≡ append_known sent (text_for answer)) × (faults' ≡ faults))
       ⊎ ((status ≡ status_unsent answer) × Rose faults faults' × ((n : ℕ) × (sent' ≡ append_known sent (take n (text_for answer)))))
+
+-- An answer was said: where the shelf tells its files, the right one for the question. It is a read fault exactly where the
+-- shelf's count rose.
+pub record IsAnswered (held : Option FileMap) (question : Option Question) (status : ℕ) (sent sent' : Option (List ℕ)) (sink sink' faults faults' : ℕ) : Type 0 where
+  pub answer : Answer
+  pub right : IfSome held (λ files. UnlessRefused answer (IsAnswerTo files question answer))
+  pub said : WasSaid answer status sent sent' sink sink'
+  pub read_fault : answer ≡ ReadFault → Rose faults faults'
+  pub no_read_fault : ¬ (answer ≡ ReadFault) → faults' ≡ faults
+
+-- The named files read as two automata, the certificate says no by a lasso, the first automaton accepts the lasso and the
+-- second does not, and that was printed.
+pub record IsApart (files : FileMap) (a b c : List ℕ) (sent sent' : Option (List ℕ)) : Type 0 where
+  pub one : Named
+  pub two : Named
+  pub pair : Joined
+  pub cert : Cert
+  pub lasso : Lasso
+  pub first : ReadsAs files a one
+  pub second : ReadsAs files b two
+  pub joined : IsJoined one two pair
+  pub certificate : HoldsCertificate files c cert
+  pub says_no : cert.body ≡ NoLasso lasso
+  pub separates : SeparatesLasso pair.first pair.second lasso.prefix lasso.turn
+  pub printed : sent' ≡ append_known sent (text_for (NotIncluded pair.labels lasso))
+
+-- The words ask for a check, and it shows that.
+abbrev pub ShowsApart : FileMap → Option Question → Option (List ℕ) → Option (List ℕ) → Type 0
+ShowsApart files None sent sent' = ⊥
+ShowsApart files (Some (Check a b c)) sent sent' = IsApart files a b c sent sent'

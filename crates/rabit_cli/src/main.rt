@@ -2,11 +2,27 @@
 #![tactic(auto)]
 
 mod answer;
+mod deciding;
 mod letters;
 mod lines;
 mod question;
 mod reading;
+mod top;
 
-use auto_core::Memory;
+use shelf_io::{DiskShelf, OutSink};
+use std::env;
+use std::process::ExitCode;
 
-fn main() {}
+fn main(rt: HostRuntime) -> ExitCode {
+    let args = match env::args(&rt) {
+        Ok(args) => args,
+        Err(_refused) => return ExitCode::from(14),
+    };
+    let words = match args.skip(1).collect::<Vec<String>>(rt.alloc()) {
+        Ok(words) => words,
+        Err(_refused) => return ExitCode::from(14),
+    };
+    let mut shelf = DiskShelf::new(&rt);
+    let mut out = OutSink::new(&rt);
+    ExitCode::from(top::run(rt.alloc(), &words, &mut shelf, &mut out))
+}

@@ -7,9 +7,10 @@ ghost use Rattle.ba_format.specs.Joining.{IsJoined};
 ghost use Rattle.cert_text.specs.WellFormed.{WellFormed};
 ghost use Rattle.cert_text.specs.Text.{text};
 ghost use Rattle.rabit_cli.specs.Pending.{IsFirstFault};
-ghost use Rattle.rabit_cli.specs.Command.{check_limits, IsFileFault, ReadsAs, IsCertificateFault, HoldsCertificate, UnlessRefused};
+ghost use Rattle.rabit_cli.specs.Printed.{IsPrintable};
+ghost use Rattle.rabit_cli.specs.Command.{check_limits, HasLabelTexts, IsFileFault, ReadsAs, IsCertificateFault, HoldsCertificate, UnlessRefused};
 
-use auto_core::List;
+use auto_core::Memory;
 use ba_format::{Joined, Limits, Named, ReadFault};
 use cert_text::{Cert, CertReadFault, TextFault};
 use shelf_io::{LoadFault, Shelf};
@@ -33,6 +34,8 @@ const LIMITS: Limits = Limits {
 pub fn read_automaton<H: Shelf>(alloc: Global, shelf: &mut H, name: &str, number: u32) -> Result<Named, Answer>
     ensures read { IfOk result (λ named. IfSome (H.held shelf.old) (λ files. ReadsAs files name.now named)) }
     ensures within { IfOk result (IsWithin check_limits) }
+    ensures labels { IfOk result (λ named. named.auto.labels ≡ length named.labels) }
+    ensures printable { IfErr result IsPrintable }
     ensures fault { IfErr result (λ answer. IfSome (H.held shelf.old) (λ files. UnlessRefused answer (IsFileFault number files name.now answer))) }
     ensures read_fault { result ≡ Err Answer.ReadFault → Rose (H.faults shelf.old) (H.faults shelf.new) }
     ensures no_read_fault { ¬ (result ≡ Err Answer.ReadFault) → H.faults shelf.new ≡ H.faults shelf.old }
@@ -49,5 +52,49 @@ pub fn read_automaton<H: Shelf>(alloc: Global, shelf: &mut H, name: &str, number
         Ok(named) => Ok(named),
         Err(ReadFault::Ba(fault)) => Err(Answer::BadFile { number, fault }),
         Err(ReadFault::Memory) => Err(Answer::OutOfMemory),
+    }
+}
+
+/// Joins the labels of the two automata.
+pub fn joined(alloc: Global, one: &Named, two: &Named) -> Result<Joined, Memory>
+    requires one { IsWithin check_limits one.now }
+    requires one_labels { one.now.auto.labels ≡ length one.now.labels }
+    requires two { IsWithin check_limits two.now }
+    requires two_labels { two.now.auto.labels ≡ length two.now.labels }
+    ensures joined { IfOk result (IsJoined one.now two.now) }
+    ensures labels { IfOk result HasLabelTexts }
+{
+    ba_format::join(alloc, one, two)
+}
+
+fn certificate_of(_alloc: Global, _bytes: &[u8]) -> Result<Cert, CertReadFault>
+    requires { length _bytes.now ≤ 2 ^ 30 }
+    ensures read { IfOk result (λ cert. WellFormed cert × (_bytes.now ≡ text cert)) }
+    ensures fault { (fault : TextFault) → result ≡ Err (CertReadFault.Text fault) → IsFirstFault _bytes.now fault }
+{
+    Err(CertReadFault::Memory)
+}
+
+/// Loads and reads the certificate, or tells the answer that its file ends with.
+pub fn read_certificate<H: Shelf>(alloc: Global, shelf: &mut H, name: &str) -> Result<Cert, Answer>
+    ensures read { IfOk result (λ cert. IfSome (H.held shelf.old) (λ files. HoldsCertificate files name.now cert)) }
+    ensures well_formed { IfOk result WellFormed }
+    ensures printable { IfErr result IsPrintable }
+    ensures fault { IfErr result (λ answer. IfSome (H.held shelf.old) (λ files. UnlessRefused answer (IsCertificateFault files name.now answer))) }
+    ensures read_fault { result ≡ Err Answer.ReadFault → Rose (H.faults shelf.old) (H.faults shelf.new) }
+    ensures no_read_fault { ¬ (result ≡ Err Answer.ReadFault) → H.faults shelf.new ≡ H.faults shelf.old }
+    ensures files_stay { H.held shelf.new ≡ H.held shelf.old }
+    ensures puts_stay { H.put_faults shelf.new ≡ H.put_faults shelf.old }
+{
+    let bytes = match shelf_io::load(alloc, shelf, name, CERTIFICATE_BYTES) {
+        Ok(bytes) => bytes,
+        Err(LoadFault::Failed) => return Err(Answer::ReadFault),
+        Err(LoadFault::Long) => return Err(Answer::LongCertificate),
+        Err(LoadFault::Memory) => return Err(Answer::OutOfMemory),
+    };
+    match certificate_of(alloc, bytes.as_slice()) {
+        Ok(cert) => Ok(cert),
+        Err(CertReadFault::Text(fault)) => Err(Answer::BadText(fault)),
+        Err(CertReadFault::Memory) => Err(Answer::OutOfMemory),
     }
 }

@@ -1,0 +1,66 @@
+//! The top call: what the words ask is answered, and the answer is said.
+
+ghost use Rattle.std.specs.Prelude.{◌≡◌, ◌≢◌, ◌⊎◌, ℕ, map, IfSome};
+ghost use Rattle.std.specs.String.{string_bytes};
+ghost use Rattle.shelf_io.specs.Counts.{Rose};
+ghost use Rattle.rabit_cli.specs.Question.{question_of};
+ghost use Rattle.rabit_cli.specs.Printed.{IsPrintable, text_for};
+ghost use Rattle.rabit_cli.specs.Command.{IsAnswerTo, UnlessRefused};
+ghost use Rattle.rabit_cli.specs.Said.{WasSaid, IsAnswered, ShowsApart};
+
+use shelf_io::{Shelf, Sink};
+use std::alloc::Global;
+
+use crate::answer::Answer;
+use crate::deciding;
+use crate::lines;
+
+/// Gives the whole text at once. The status tells whether the sink took it.
+fn give_text<K: Sink>(answer: &Answer, text: &[u8], out: &mut K) -> u8
+    requires { text.now ≡ text_for answer.now }
+    ensures { WasSaid answer.now result (K.sent out.old) (K.sent out.new) (K.faults out.old) (K.faults out.new) }
+{
+    match out.give(text) {
+        Ok(()) => answer.status(),
+        Err(_failed) => answer.status_unsent(),
+    }
+}
+
+/// Says the answer; where memory is refused for its text, that is said in its place. The text of a read fault needs none.
+fn say<K: Sink>(alloc: Global, answer: &Answer, out: &mut K) -> u8
+    requires { IsPrintable answer.now }
+    ensures {
+        WasSaid answer.now result (K.sent out.old) (K.sent out.new) (K.faults out.old) (K.faults out.new)
+        ⊎ (¬ (answer.now ≡ Answer.ReadFault) × WasSaid Answer.OutOfMemory result (K.sent out.old) (K.sent out.new) (K.faults out.old) (K.faults out.new))
+    }
+{
+    if let Answer::ReadFault = answer {
+        return give_text(answer, b"read fault\n", out);
+    }
+    match lines::printed(alloc, answer) {
+        Ok(text) => give_text(answer, &text, out),
+        Err(_refused) => give_text(&Answer::OutOfMemory, b"out of memory\n", out),
+    }
+}
+
+/// Does what the words after the program's name ask, and answers the program's status.
+pub fn run<H: Shelf, K: Sink>(alloc: Global, words: &[String], shelf: &mut H, out: &mut K) -> u8
+    // One answer was said, and where the shelf tells its files it is the right one.
+    ensures answered {
+        IsAnswered (H.held shelf.old) (question_of (map string_bytes words.now)) result
+          (K.sent out.old) (K.sent out.new) (K.faults out.old) (K.faults out.new) (H.faults shelf.old) (H.faults shelf.new)
+    }
+
+    // Not included: the certificate's lasso separates the two read automata, and it was printed.
+    ensures not_included { result ≡ 1 → IfSome (H.held shelf.old) (λ files. ShowsApart files (question_of (map string_bytes words.now)) (K.sent out.old) (K.sent out.new)) }
+
+    // Faults of the outside, each with its count, and what stays.
+    ensures read_fault { result ≡ 6 → Rose (H.faults shelf.old) (H.faults shelf.new) }
+    ensures no_read_fault { result ≢ 6 → H.faults shelf.new ≡ H.faults shelf.old }
+    ensures write_fault { result ≡ 7 → Rose (K.faults out.old) (K.faults out.new) }
+    ensures files_stay { H.held shelf.new ≡ H.held shelf.old }
+    ensures puts_stay { H.put_faults shelf.new ≡ H.put_faults shelf.old }
+{
+    let answer = deciding::answer_to(alloc, words, shelf);
+    say(alloc, &answer, out)
+}
