@@ -41,6 +41,10 @@ extended B g a = record {
 abbrev pub graph_of_tables : List ℕ → List ℕ → ℕ → ℕ → Graph
 graph_of_tables joined past n width = record { joined = Arc joined n width; past = Arc past n width }
 
+-- The graph that gives each pair of states the value that the function does.
+abbrev pub graph_of_values : (ℕ → ℕ → ℕ) → Graph
+graph_of_values value = record { joined = λ s t. 1 ≤ value s t; past = λ s t. 2 ≤ value s t }
+
 -- g covers h: each arc of g from s to t has in h an arc from s, of at least its value, to some state that S relates t to.
 pub record Covers (S : ℕ → ℕ → Type 0) (g h : Graph) : Type 0 where
   pub joined : (s t : ℕ) → g.joined s t → (u : ℕ) × h.joined s u × S t u

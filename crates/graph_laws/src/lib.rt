@@ -1,0 +1,2 @@
+//! The laws of graphs: each is the contract of a function that does nothing.
+#![tactic(auto)]
