@@ -1,10 +1,12 @@
 -- Graphs of words, the order between them, arcs of one automaton with graphs of another, and the lasso test.
-use Rattle.std.specs.Prelude.{◌≡◌, ℕ, suc, ◌<◌, ◌≤◌, ◌⊎◌, ◌↔◌, Bool, true, ◌||◌, List, [], ◌∷◌, ◌++◌}
-use Rattle.auto_core.specs.Automaton.{Automaton, Moves, IsAccepting, is_accepting}
+use Rattle.std.specs.Prelude.{◌≡◌, ℕ, suc, ◌<◌, ◌≤◌, ◌⊎◌, ◌↔◌, Bool, true, false, ◌||◌, List, [], ◌∷◌, ◌++◌, length, slice_index_or}
+use Rattle.auto_core.specs.Automaton.{Automaton, Moves, IsAccepting, is_accepting, trans_at}
 use Rattle.auto_core.specs.Run.{Run}
 use Rattle.auto_core.specs.Game.{Close}
 use Rattle.auto_core.specs.Reach.{Arc}
 use Rattle.auto_core.specs.declared.parts.Trans.{Trans}
+use Rattle.auto_core.specs.declared.parts.Origin.{Origin}
+use Rattle.auto_core.specs.declared.parts.Origin.TheVariants.{Start, Base, Next}
 
 -- A graph on states: the pairs that it joins, whose value is at least 1, and those that it joins past an accepting state,
 -- whose value is 2. All others have the value 0.
@@ -113,3 +115,60 @@ Passes A B x y = IsTested A x y → LassoIn x.graph y.graph B.initial
 -- The pair fails: it is tested, and its graphs have no such lasso.
 abbrev pub Fails : Automaton → Automaton → Supergraph → Supergraph → Type 0
 Fails A B x y = IsTested A x y × (LassoIn x.graph y.graph B.initial → ⊥)
+
+-- An arc of an automaton with a word that a run from the one end to the other reads; the flag is that of the run.
+pub record WordArc : Type 0 where
+  pub from : ℕ
+  pub to : ℕ
+  pub flag : Bool
+  pub word : List ℕ
+
+-- A run on the word, which is not empty, leads from the one end to the other with this flag.
+pub record IsReal (A : Automaton) (x : WordArc) : Type 0 where
+  pub reads : 1 ≤ length x.word
+  pub run : Run A x.from x.word x.to x.flag
+
+-- The supergraph of the arc: its word's graph in B stands for the word.
+abbrev pub super_of : Automaton → WordArc → Supergraph
+super_of B x = record { from = x.from; to = x.to; flag = x.flag; graph = graph_of B x.word }
+
+-- The initial state with the empty word.
+abbrev pub start_arc : Automaton → WordArc
+start_arc A = record { from = A.initial; to = A.initial; flag = false; word = [] }
+
+-- The transition with its letter.
+abbrev pub base_arc : Automaton → Trans → WordArc
+base_arc A t = record { from = t.source; to = t.target; flag = is_accepting A t.target; word = t.label ∷ [] }
+
+-- The arc and then the transition, with its letter after the word.
+abbrev pub extended_arc : Automaton → WordArc → Trans → WordArc
+extended_arc A x t = record { from = x.from; to = t.target; flag = x.flag || is_accepting A t.target; word = x.word ++ t.label ∷ [] }
+
+-- The arc with this number; past the end there is none, and then it is that of the initial state.
+abbrev pub arc_at : Automaton → List WordArc → ℕ → WordArc
+arc_at A arcs e = slice_index_or arcs e (start_arc A)
+
+-- The arc of an origin, after these arcs.
+abbrev pub arc_of : Automaton → List WordArc → Origin → WordArc
+arc_of A arcs Start = start_arc A
+arc_of A arcs (Base t) = base_arc A (trans_at A t)
+arc_of A arcs (Next p t) = extended_arc A (arc_at A arcs p) (trans_at A t)
+
+-- These arcs, and then those of the origins, each by the arcs before it.
+abbrev pub arcs_after : Automaton → List WordArc → List Origin → List WordArc
+arcs_after A arcs [] = arcs
+arcs_after A arcs (origin ∷ origins) = arcs_after A (arcs ++ arc_of A arcs origin ∷ []) origins
+
+-- The arcs of the origins.
+abbrev pub arcs_of : Automaton → List Origin → List WordArc
+arcs_of A origins = arcs_after A [] origins
+
+-- The origin may stand at the place e: it names a transition, and an arc before it that the transition goes on from.
+abbrev pub IsPlacedAt : Automaton → List WordArc → ℕ → Origin → Type 0
+IsPlacedAt A arcs e Start = ⊥
+IsPlacedAt A arcs e (Base t) = t < length A.transitions
+IsPlacedAt A arcs e (Next p t) = (p < e) × (t < length A.transitions) × ((trans_at A t).source ≡ (arc_at A arcs p).to)
+
+-- Each of the origins may stand where it does.
+abbrev pub ArePlaced : Automaton → List Origin → Type 0
+ArePlaced A origins = (e : ℕ) → e < length origins → IsPlacedAt A (arcs_of A origins) e (slice_index_or origins e Start)

@@ -58,7 +58,7 @@ move_of_run : (B : Automaton) (s a t : ℕ) (flag : Bool) → Run B s (a ∷ [])
 move_of_run B s a t flag (next, later, move, stop, e) = (
   subst (λ x. Moves B s a x) stop.0 move,
   λ on. subst (λ x. IsAccepting B x) stop.0 (accepting_from_test B next
-  (flag_alone (is_accepting B next) (ap (λ b. is_accepting B next || b) (sym stop.1) ∙ sym e ∙ on))),
+      (flag_alone (is_accepting B next) (ap (λ b. is_accepting B next || b) (sym stop.1) ∙ sym e ∙ on))),
 )
 
 run_of_accepting : (B : Automaton) (s a t : ℕ) → Moves B s a t → IsAccepting B t → Run B s (a ∷ []) t true
@@ -82,22 +82,22 @@ pub graph_of_more : (B : Automaton) (w : List ℕ) (a : ℕ) → SameGraph (grap
 graph_of_more B w a = record {
   joined = λ s t. (
     λ (flag, run).
-      let cut = run_split B s w (a ∷ []) t flag run in
-      (cut.middle, (cut.first_flag, cut.first), (move_of_run B cut.middle a t cut.second_flag cut.second).0),
+        let cut = run_split B s w (a ∷ []) t flag run in
+        (cut.middle, (cut.first_flag, cut.first), (move_of_run B cut.middle a t cut.second_flag cut.second).0),
     λ (m, (flag, run), move).
-      (flag || (is_accepting B t || false), run_join B s w m flag (a ∷ []) t (is_accepting B t || false) run (run_of_move B m a t move)),
+        (flag || (is_accepting B t || false), run_join B s w m flag (a ∷ []) t (is_accepting B t || false) run (run_of_move B m a t move)),
   );
   past = λ s t. (
     λ run.
-      let cut = run_split B s w (a ∷ []) t true run in
-      let last = move_of_run B cut.middle a t cut.second_flag cut.second in (
-        cut.middle,
-        last.0,
-        elim (or_cases cut.first_flag cut.second_flag (sym cut.is)) [
-          | inl first ↦ inl (subst (λ b. Run B s w cut.middle b) first cut.first)
-          | inr second ↦ inr ((cut.first_flag, cut.first), last.1 second)
-        ],
-      ),
+        let cut = run_split B s w (a ∷ []) t true run in
+        let last = move_of_run B cut.middle a t cut.second_flag cut.second in (
+          cut.middle,
+          last.0,
+          elim (or_cases cut.first_flag cut.second_flag (sym cut.is)) [
+            | inl first ↦ inl (subst (λ b. Run B s w cut.middle b) first cut.first)
+            | inr second ↦ inr ((cut.first_flag, cut.first), last.1 second)
+          ],
+        ),
     λ (m, move, arc). elim arc [
       | inl run ↦
           subst (λ b. Run B s (w ++ a ∷ []) t b) (or_left true (is_accepting B t || false) refl)
@@ -119,13 +119,13 @@ covers_same S same g h e = record {
 pub covers_trans : (S : ℕ → ℕ → Type 0) → ((p q r : ℕ) → S p q → S q r → S p r) → (g h k : Graph) → Covers S g h → Covers S h k → Covers S g k
 covers_trans S joins g h k c d = record {
   joined = λ s t arc.
-    let x = c.joined s t arc in
-    let y = d.joined s x.0 x.1 in
-    (y.0, y.1, joins t x.0 y.0 x.2 y.2);
+      let x = c.joined s t arc in
+      let y = d.joined s x.0 x.1 in
+      (y.0, y.1, joins t x.0 y.0 x.2 y.2);
   past = λ s t arc.
-    let x = c.past s t arc in
-    let y = d.past s x.0 x.1 in
-    (y.0, y.1, joins t x.0 y.0 x.2 y.2);
+      let x = c.past s t arc in
+      let y = d.past s x.0 x.1 in
+      (y.0, y.1, joins t x.0 y.0 x.2 y.2);
 }
 
 pub covers_more : (S T : ℕ → ℕ → Type 0) → ((p q : ℕ) → S p q → T p q) → (g h : Graph) → Covers S g h → Covers T g h
@@ -189,9 +189,9 @@ past_answered B W stable w p q r held run =
 pub covers_extended : (B : Automaton) (W : ℕ → ℕ → Type 0) → Stable (Moves B) (Moves B) (MatchesForward B B) 1 W → (g h : Graph) (a : ℕ) → Covers W g h → Covers W (extended B g a) (extended B h a)
 covers_extended B W stable g h a c = record {
   joined = λ s t (m, arc, move).
-    let x = c.joined s m arc in
-    let y = move_answered B W stable m x.0 a t x.2 move in
-    (y.0, (x.0, x.1, y.1), y.3);
+      let x = c.joined s m arc in
+      let y = move_answered B W stable m x.0 a t x.2 move in
+      (y.0, (x.0, x.1, y.1), y.3);
   past = λ s t (m, move, arc). elim arc [
     | inl past ↦
         let x = c.past s m past in

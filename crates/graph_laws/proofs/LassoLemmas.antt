@@ -174,55 +174,55 @@ lasso_is_accepted B u v = (
 module _ (h k : Graph) (T : ℕ → ℕ → Type 0)
     (steps : (q p r : ℕ) → T q p → h.joined q r → (s : ℕ) × k.joined p s × T r s)
     (passes : (q p r : ℕ) → T q p → h.past q r → (s : ℕ) × k.past p s × T r s)
-    where
-  chain_followed : (n q p r : ℕ) → T q p → Chain h.joined n q r → (s : ℕ) × Chain k.joined n p s × T r s
-  chain_followed zero q p r rel c = (p, refl, subst (λ x. T x p) c rel)
-  chain_followed (suc n) q p r rel (x, arc, c) =
-      let one = steps q p x rel arc in
-      let more = chain_followed n x one.0 r one.2 c in
-      (more.0, (one.0, one.1, more.1), more.2)
+  where
+    chain_followed : (n q p r : ℕ) → T q p → Chain h.joined n q r → (s : ℕ) × Chain k.joined n p s × T r s
+    chain_followed zero q p r rel c = (p, refl, subst (λ x. T x p) c rel)
+    chain_followed (suc n) q p r rel (x, arc, c) =
+        let one = steps q p x rel arc in
+        let more = chain_followed n x one.0 r one.2 c in
+        (more.0, (one.0, one.1, more.1), more.2)
 
-  -- A turn: an arc of value 2, and then any arcs.
-  abbrev Turn : ℕ → ℕ → ℕ → Type 0
-  Turn bound s t = (t < bound) × (b : ℕ) × k.past s b × Close k.joined b t
+    -- A turn: an arc of value 2, and then any arcs.
+    abbrev Turn : ℕ → ℕ → ℕ → Type 0
+    Turn bound s t = (t < bound) × (b : ℕ) × k.past s b × Close k.joined b t
 
-  turns_followed : (bound at next : ℕ) → ((p : ℕ) → T at p → p < bound) → h.past at next → Close h.joined next at → (n p : ℕ) → T at p → (s : ℕ) × Chain (Turn bound) n p s
-  turns_followed bound at next below leaves returns zero p rel = (p, refl)
-  turns_followed bound at next below leaves returns (suc n) p rel =
-      let one = passes at p next rel leaves in
-      let back = chain_followed returns.0 next one.0 at one.2 returns.1 in
-      let more = turns_followed bound at next below leaves returns n back.0 back.2 in
-      (more.0, (back.0, (below back.0 back.2, one.0, one.1, (returns.0, back.1)), more.1))
+    turns_followed : (bound at next : ℕ) → ((p : ℕ) → T at p → p < bound) → h.past at next → Close h.joined next at → (n p : ℕ) → T at p → (s : ℕ) × Chain (Turn bound) n p s
+    turns_followed bound at next below leaves returns zero p rel = (p, refl)
+    turns_followed bound at next below leaves returns (suc n) p rel =
+        let one = passes at p next rel leaves in
+        let back = chain_followed returns.0 next one.0 at one.2 returns.1 in
+        let more = turns_followed bound at next below leaves returns n back.0 back.2 in
+        (more.0, (back.0, (below back.0 back.2, one.0, one.1, (returns.0, back.1)), more.1))
 
-  turn_joined : (bound : ℕ) → IsGraph k → (n p q : ℕ) → Chain (Turn bound) n p q → Close k.joined p q
-  turn_joined bound is zero p q c = (zero, c)
-  turn_joined bound is (suc n) p q (s, turn, c) =
-      let on = turn_joined bound is n s q c in
-      let one = close_trans k.joined p turn.1 s (close_one k.joined p turn.1 (is p turn.1 turn.2)) turn.3 in
-      close_trans k.joined p s q one on
+    turn_joined : (bound : ℕ) → IsGraph k → (n p q : ℕ) → Chain (Turn bound) n p q → Close k.joined p q
+    turn_joined bound is zero p q c = (zero, c)
+    turn_joined bound is (suc n) p q (s, turn, c) =
+        let on = turn_joined bound is n s q c in
+        let one = close_trans k.joined p turn.1 s (close_one k.joined p turn.1 (is p turn.1 turn.2)) turn.3 in
+        close_trans k.joined p s q one on
 
-  loop_of_turns : (bound : ℕ) → IsGraph k → (g : Graph) (i start at m r : ℕ) → g.joined i start → Close k.joined start r → 1 ≤ m → Chain (Turn bound) m r r → ReachesLoop g k i
-  loop_of_turns bound is g i start at zero r enters reaches some c = absurd (omega arith)
-  loop_of_turns bound is g i start at (suc m) r enters reaches some (s, turn, c) = record {
-    start = start;
-    at = r;
-    next = turn.1;
-    enters = enters;
-    reaches = reaches;
-    leaves = turn.2;
-    returns = close_trans k.joined turn.1 s r turn.3 (turn_joined bound is m s r c);
-  }
+    loop_of_turns : (bound : ℕ) → IsGraph k → (g : Graph) (i start at m r : ℕ) → g.joined i start → Close k.joined start r → 1 ≤ m → Chain (Turn bound) m r r → ReachesLoop g k i
+    loop_of_turns bound is g i start at zero r enters reaches some c = absurd (omega arith)
+    loop_of_turns bound is g i start at (suc m) r enters reaches some (s, turn, c) = record {
+      start = start;
+      at = r;
+      next = turn.1;
+      enters = enters;
+      reaches = reaches;
+      leaves = turn.2;
+      returns = close_trans k.joined turn.1 s r turn.3 (turn_joined bound is m s r c);
+    }
 
-  pub loop_followed : (bound : ℕ) → ((q p r : ℕ) → T q p → h.past q r → p < bound) → IsGraph k → (f g : Graph) (i : ℕ) →
-      ((q : ℕ) → f.joined i q → (p : ℕ) × g.joined i p × T q p) → ReachesLoop f h i → ReachesLoop g k i
-  loop_followed bound below is f g i first r =
-      let one = first r.start r.enters in
-      let to = chain_followed r.reaches.0 r.start one.0 r.at one.2 r.reaches.1 in
-      let small : (p : ℕ) → T r.at p → p < bound = λ p rel. below r.at p r.next rel r.leaves in
-      let many = turns_followed bound r.at r.next small r.leaves r.returns bound to.0 to.2 in
-      let again = chain_repeats (Turn bound) bound (λ s t lt turn. turn.0) bound to.0 many.0 (le_refl bound) (small to.0 to.2) many.1 in
-      let reaches : Close k.joined one.0 again.0 = close_trans k.joined one.0 to.0 again.0 (r.reaches.0, to.1) (turn_joined bound is again.1 to.0 again.0 again.3) in
-      loop_of_turns bound is g i one.0 r.at again.2 again.0 one.1 reaches again.4 again.5
+    pub loop_followed : (bound : ℕ) → ((q p r : ℕ) → T q p → h.past q r → p < bound) → IsGraph k → (f g : Graph) (i : ℕ) →
+        ((q : ℕ) → f.joined i q → (p : ℕ) × g.joined i p × T q p) → ReachesLoop f h i → ReachesLoop g k i
+    loop_followed bound below is f g i first r =
+        let one = first r.start r.enters in
+        let to = chain_followed r.reaches.0 r.start one.0 r.at one.2 r.reaches.1 in
+        let small : (p : ℕ) → T r.at p → p < bound = λ p rel. below r.at p r.next rel r.leaves in
+        let many = turns_followed bound r.at r.next small r.leaves r.returns bound to.0 to.2 in
+        let again = chain_repeats (Turn bound) bound (λ s t lt turn. turn.0) bound to.0 many.0 (le_refl bound) (small to.0 to.2) many.1 in
+        let reaches : Close k.joined one.0 again.0 = close_trans k.joined one.0 to.0 again.0 (r.reaches.0, to.1) (turn_joined bound is again.1 to.0 again.0 again.3) in
+        loop_of_turns bound is g i one.0 r.at again.2 again.0 one.1 reaches again.4 again.5
 
 -- A run past an accepting state leaves a state of the automaton.
 past_run_start : (B : Automaton) → IsAutomaton B → (w : List ℕ) (p q : ℕ) → Run B p w q true → p < B.states
@@ -239,18 +239,18 @@ module _ (B : Automaton) (valid : IsAutomaton B) (W : ℕ → ℕ → Type 0) (s
       lasso_of_loop (graph_of B x) k i (word_graph_is B y)
       (loop_followed h k W
       (λ q p r rel arc.
-        let t = d.joined q r arc in
-        let on = run_answered B W stable y q p t.0 t.1.0 rel t.1.1 in
-        (on.0, (on.1, on.2), joins r t.0 on.0 t.2 on.3))
+      let t = d.joined q r arc in
+      let on = run_answered B W stable y q p t.0 t.1.0 rel t.1.1 in
+      (on.0, (on.1, on.2), joins r t.0 on.0 t.2 on.3))
       (λ q p r rel arc.
-        let t = d.past q r arc in
-        let on = past_answered B W stable y q p t.0 rel t.1 in
-        (on.0, on.1, joins r t.0 on.0 t.2 on.2))
+      let t = d.past q r arc in
+      let on = past_answered B W stable y q p t.0 rel t.1 in
+      (on.0, on.1, joins r t.0 on.0 t.2 on.2))
       B.states
       (λ q p r rel arc.
-        let t = d.past q r arc in
-        let on = past_answered B W stable y q p t.0 rel t.1 in
-        past_run_start B valid y p on.0 on.1)
+      let t = d.past q r arc in
+      let on = past_answered B W stable y q p t.0 rel t.1 in
+      past_run_start B valid y p on.0 on.1)
       (word_graph_is B y)
       g (graph_of B x) i
       (λ q arc. c.joined i q arc)
@@ -261,17 +261,17 @@ module _ (B : Automaton) (valid : IsAutomaton B) (W : ℕ → ℕ → Type 0) (s
       lasso_of_loop g h i is
       (loop_followed (graph_of B y) h W
       (λ q p r rel arc.
-        let on = run_answered B W stable y q p r arc.0 rel arc.1 in
-        let t = d.joined p on.0 (on.1, on.2) in
-        (t.0, t.1, joins r on.0 t.0 on.3 t.2))
+      let on = run_answered B W stable y q p r arc.0 rel arc.1 in
+      let t = d.joined p on.0 (on.1, on.2) in
+      (t.0, t.1, joins r on.0 t.0 on.3 t.2))
       (λ q p r rel arc.
-        let on = past_answered B W stable y q p r rel arc in
-        let t = d.past p on.0 on.1 in
-        (t.0, t.1, joins r on.0 t.0 on.2 t.2))
+      let on = past_answered B W stable y q p r rel arc in
+      let t = d.past p on.0 on.1 in
+      (t.0, t.1, joins r on.0 t.0 on.2 t.2))
       B.states
       (λ q p r rel arc.
-        let on = past_answered B W stable y q p r rel arc in
-        past_run_start B valid y p on.0 on.1)
+      let on = past_answered B W stable y q p r rel arc in
+      past_run_start B valid y p on.0 on.1)
       is
       (graph_of B x) g i
       (λ q arc. c.joined i q arc)
