@@ -1,3 +1,4 @@
 pub mod GraphLemmas
 pub mod LassoLemmas
 pub mod AppliedLemmas
+pub mod ClosedLemmas
