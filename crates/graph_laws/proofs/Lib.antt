@@ -2,3 +2,4 @@ pub mod GraphLemmas
 pub mod LassoLemmas
 pub mod AppliedLemmas
 pub mod ClosedLemmas
+pub mod OriginLemmas

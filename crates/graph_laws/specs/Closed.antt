@@ -1,12 +1,13 @@
 -- A closed set of supergraphs, given by arcs with words, and what it tells.
-use Rattle.std.specs.Prelude.{◌≡◌, ℕ, ◌<◌, Bool, true, List, length, slice_index_or}
+use Rattle.std.specs.Prelude.{◌≡◌, ℕ, ◌<◌, Bool, true, List, [], ◌∷◌, ◌++◌, length, slice_index_or}
 use Rattle.auto_core.specs.Automaton.{Automaton, IsAutomaton, trans_at}
 use Rattle.auto_core.specs.Accept.{Includes}
 use Rattle.auto_core.specs.Game.{Holds, StableForward}
-use Rattle.auto_core.specs.Graph.{Subsumes, Passes, WordArc, IsReal, super_of, base_arc, extended_arc, arc_at, arcs_after, arcs_of, arc_of, ArePlaced}
+use Rattle.auto_core.specs.Graph.{Subsumes, Passes, WordArc, IsReal, super_of, base_arc, extended_arc, arc_at, arcs_of, arc_of, ArePlaced}
 use Rattle.auto_core.specs.declared.parts.Mode.{Mode}
 use Rattle.auto_core.specs.declared.parts.Mode.TheVariants.{Buchi}
 use Rattle.auto_core.specs.declared.parts.Origin.{Origin}
+use Rattle.auto_core.specs.declared.parts.Origin.TheVariants.{Start}
 
 -- The number is that of an arc of the list, and one that is live.
 abbrev pub IsLive : List WordArc → (ℕ → Bool) → ℕ → Type 0
@@ -35,11 +36,15 @@ pub record ClosedSet (A B : Automaton) (S : List (ℕ × ℕ)) (arcs : List Word
 abbrev pub ClosedSetIncludes : Type 0
 ClosedSetIncludes = (A B : Automaton) (S : List (ℕ × ℕ)) (arcs : List WordArc) (live : ℕ → Bool) → IsAutomaton B → ClosedSet A B S arcs live → Includes A B Buchi
 
--- Origins have one arc each, and each arc is that of its origin after the arcs before it.
+-- Origins have one arc each. Where they are placed, each arc is that of its origin; one more origin adds its arc at the end.
+pub record HaveArcs (A : Automaton) (origins : List Origin) : Type 0 where
+  pub count : length (arcs_of A origins) ≡ length origins
+  pub each : ArePlaced A origins → (e : ℕ) → e < length origins → arc_at A (arcs_of A origins) e ≡ arc_of A (arcs_of A origins) (slice_index_or origins e Start)
+  pub more : (origin : Origin) → arcs_of A (origins ++ origin ∷ []) ≡ arcs_of A origins ++ arc_of A (arcs_of A origins) origin ∷ []
+
+-- That is so for all origins.
 abbrev pub OriginsHaveArcs : Type 0
-OriginsHaveArcs = (A : Automaton) (origins : List Origin) →
-    (length (arcs_of A origins) ≡ length origins)
-    × ((e : ℕ) (o : Origin) → e < length origins → ArePlaced A origins → arc_at A (arcs_of A origins) e ≡ arc_of A (arcs_of A origins) (slice_index_or origins e o))
+OriginsHaveArcs = (A : Automaton) (origins : List Origin) → HaveArcs A origins
 
 -- Each arc of origins that are placed is that of a run, and its word is not empty.
 abbrev pub PlacedArcsAreReal : Type 0
