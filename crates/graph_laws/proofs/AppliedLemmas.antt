@@ -1,8 +1,8 @@
 -- The laws of graphs and of the lasso test, at lists of pairs and at graphs given by values or by tables.
-use Rattle.std.proofs.Common.{◌≡◌, ℕ, ◌↔◌, List}
-use Rattle.auto_core.specs.Automaton.{Automaton, IsAutomaton, Moves}
-use Rattle.auto_core.specs.Game.{MatchesForward, Stable, Close, Holds, StableForward}
-use Rattle.auto_core.specs.Graph.{graph_of, graph_of_values, graph_of_tables, extension_of}
+use Rattle.std.proofs.Common.{ℕ}
+use Rattle.auto_core.specs.Automaton.{Automaton, Moves}
+use Rattle.auto_core.specs.Game.{MatchesForward, Stable, Close, Holds}
+use Rattle.auto_core.specs.Graph.{graph_of_values, graph_of_tables}
 use Rattle.path_laws.proofs.GameLemmas.{close_refl, close_trans, close_one}
 use Rattle.path_laws.proofs.AppliedLemmas.{closure_stays_stable}
 use Rattle.graph_laws.specs.Graphs.{GraphsOfLetters, GraphsExtend, valued, IsKeptByExtension, SubsumptionIsKept, SubsumptionIsAnOrder}

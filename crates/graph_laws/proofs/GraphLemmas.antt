@@ -1,11 +1,10 @@
 -- Graphs of words, what extends them, and what covers them.
-use Rattle.std.proofs.Common.{◌≡◌, ℕ, zero, suc, ◌<◌, ◌≤◌, ◌⊎◌, ◌↔◌, Bool, true, false, ◌||◌, List, [], ◌∷◌, ◌++◌, refl, sym, ap, ◌∙◌, subst, inl, inr, arith}
+use Rattle.std.proofs.Common.{◌≡◌, ℕ, Bool, true, false, ◌||◌, List, [], ◌∷◌, ◌++◌, refl, sym, ap, ◌∙◌, subst, inl, inr, arith}
 use Rattle.std.proofs.lemmas.Bool.{or_cases, or_left, or_right, false≢true}
 use Rattle.auto_core.specs.Automaton.{Automaton, Moves, IsAccepting, is_accepting}
 use Rattle.auto_core.specs.Run.{Run}
 use Rattle.auto_core.specs.Game.{MatchesForward, Answers, Stable}
-use Rattle.auto_core.specs.Graph.{Graph, IsGraph, SameGraph, graph_of, letter_graph, extended, graph_of_values, Covers, Supergraph, base_of, extension_of, Subsumes}
-use Rattle.auto_core.specs.RunLaws.{CutRun}
+use Rattle.auto_core.specs.Graph.{Graph, IsGraph, SameGraph, graph_of, letter_graph, extended, graph_of_values, Covers, Supergraph, extension_of, Subsumes}
 use Rattle.auto_core.specs.declared.parts.Trans.{Trans}
 use Rattle.auto_core.proofs.PathLemmas.{run_join, run_split, accepting_from_test, test_from_accepting}
 

@@ -1,5 +1,5 @@
 -- The lasso test: its two forms, what it says of two words' graphs, and how it goes from graphs to what they cover.
-use Rattle.std.proofs.Common.{◌≡◌, ℕ, zero, suc, ◌+◌, ◌-◌, ◌<◌, ◌≤◌, ◌↔◌, Bool, true, false, ◌||◌, List, [], ◌∷◌, ◌++◌, refl, sym, ap, ◌∙◌, subst, inl, inr, arith, le_refl}
+use Rattle.std.proofs.Common.{◌≡◌, ℕ, zero, suc, ◌+◌, ◌-◌, ◌<◌, ◌≤◌, ◌↔◌, Bool, true, false, ◌||◌, List, [], ◌∷◌, refl, sym, ap, ◌∙◌, subst, inl, inr, arith, le_refl}
 use Rattle.std.proofs.lemmas.Bool.{or_cases, false≢true}
 use Rattle.auto_core.specs.Automaton.{Automaton, IsAutomaton, Moves}
 use Rattle.auto_core.specs.Run.{Run, repeated}
@@ -9,7 +9,7 @@ use Rattle.auto_core.specs.Rows.{HasBit}
 use Rattle.auto_core.specs.Reach.{HasFlaggedCycle}
 use Rattle.auto_core.specs.Graph.{Graph, IsGraph, SameGraph, graph_of, Covers, LassoIn, ReachesLoop}
 use Rattle.auto_core.proofs.PathLemmas.{run_join, run_split}
-use Rattle.path_laws.proofs.PumpingLemmas.{chain_join, chain_weaker, chain_repeats, move_in_range}
+use Rattle.path_laws.proofs.PumpingLemmas.{chain_repeats, move_in_range}
 use Rattle.path_laws.proofs.GameLemmas.{close_refl, close_trans, close_one}
 use Rattle.graph_laws.proofs.GraphLemmas.{word_graph_is, run_answered, past_answered}
 

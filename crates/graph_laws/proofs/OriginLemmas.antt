@@ -1,5 +1,5 @@
 -- The arcs of origins: how many, which, and that they are real.
-use Rattle.std.proofs.Common.{◌≡◌, ℕ, zero, suc, ◌+◌, ◌<◌, ◌≤◌, Bool, true, false, ◌||◌, List, [], ◌∷◌, ◌++◌, length, slice_index_or, refl, sym, ap, ◌∙◌, subst, arith, length-append, zero-add}
+use Rattle.std.proofs.Common.{◌≡◌, ℕ, zero, suc, ◌+◌, ◌<◌, Bool, true, false, ◌||◌, List, [], ◌∷◌, ◌++◌, length, slice_index_or, refl, sym, ap, ◌∙◌, subst, arith, length-append}
 use Rattle.std.proofs.lemmas.List.{get_or_append_left, get_or-append-add}
 use Rattle.auto_core.specs.Automaton.{Automaton, Moves, is_accepting, trans_at}
 use Rattle.auto_core.specs.Run.{Run}
@@ -9,7 +9,7 @@ use Rattle.auto_core.specs.declared.parts.Origin.TheVariants.{Start, Base, Next}
 use Rattle.auto_core.specs.declared.parts.Trans.{Trans}
 use Rattle.auto_core.proofs.PathLemmas.{run_join}
 use Rattle.auto_core.proofs.MoveLemmas.{move_at}
-use Rattle.graph_laws.specs.Closed.{HaveArcs, OriginsHaveArcs, PlacedArcsAreReal}
+use Rattle.graph_laws.specs.Closed.{OriginsHaveArcs, PlacedArcsAreReal}
 
 pub length-arcs_after : (A : Automaton) (arcs : List WordArc) (origins : List Origin) → length (arcs_after A arcs origins) ≡ length arcs + length origins
 length-arcs_after A arcs [] = omega arith

@@ -4,7 +4,6 @@ use Rattle.auto_core.specs.Automaton.{Automaton, IsAutomaton, trans_at}
 use Rattle.auto_core.specs.Accept.{Includes}
 use Rattle.auto_core.specs.Game.{Holds, StableForward}
 use Rattle.auto_core.specs.Graph.{Subsumes, Passes, WordArc, IsReal, super_of, base_arc, extended_arc, arc_at, arcs_of, arc_of, ArePlaced}
-use Rattle.auto_core.specs.declared.parts.Mode.{Mode}
 use Rattle.auto_core.specs.declared.parts.Mode.TheVariants.{Buchi}
 use Rattle.auto_core.specs.declared.parts.Origin.{Origin}
 use Rattle.auto_core.specs.declared.parts.Origin.TheVariants.{Start}

@@ -1,5 +1,5 @@
 -- The laws of the lasso test.
-use Rattle.std.specs.Prelude.{◌≡◌, ℕ, ◌≤◌, ◌↔◌, List}
+use Rattle.std.specs.Prelude.{ℕ, ◌↔◌, List}
 use Rattle.auto_core.specs.Automaton.{Automaton, IsAutomaton}
 use Rattle.auto_core.specs.Accept.{AcceptsLasso}
 use Rattle.auto_core.specs.Game.{Close, Holds, StableForward}
