@@ -8,3 +8,4 @@ pub mod Game
 pub mod RunLaws
 pub mod Rows
 pub mod Reach
+pub mod Graph

@@ -1,0 +1,5 @@
+pub mod GraphLemmas
+pub mod LassoLemmas
+pub mod AppliedLemmas
+pub mod ClosedLemmas
+pub mod OriginLemmas
