@@ -17,7 +17,11 @@ use Rattle.ba_format.specs.Grammar.{Entry, StateLine, TransitionLine}
 use Rattle.ba_format.specs.Faults.{states_in, labels_in, names_of, labels_of, transitions_in, transitions_of, same_trans, state_lines, initial_name, initial_of, accepting_names, accepting_numbers, accepting_of}
 use Rattle.ba_format.specs.declared.draft.Opening.{Opening}
 use Rattle.ba_format.specs.declared.draft.Opening.TheVariants.{Nothing, OneState, States, Transitions}
-use Rattle.ba_format.specs.Draft.{trans_with, Opens, Stands, IsReady}
+use Rattle.std.proofs.lemmas.List.Sorted.{length_permutation}
+use Rattle.ba_format.specs.declared.parts.Limits.{Limits}
+use Rattle.ba_format.specs.declared.parts.Named.{Named}
+use Rattle.ba_format.specs.Reading.{IsReading, IsWithin}
+use Rattle.ba_format.specs.Draft.{trans_with, Opens, Stands, Fits, IsReady}
 use Rattle.ba_format.specs.Parts.{AreParts}
 use Rattle.ba_format.proofs.SightLemmas.{same_text-refl}
 use Rattle.ba_format.proofs.JoinLemmas.{place_is, number_within}
@@ -203,3 +207,14 @@ lines-most names labels (TransitionLine label source target ∷ entries) = omega
 pub transitions-most : (entries : List Entry) → length (transitions_of entries) ≤ length entries
 transitions-most entries =
     omega (arith, seen-most same_trans [] (flat_map (transitions_in (names_of entries) (labels_of entries)) entries), lines-most (names_of entries) (labels_of entries) entries)
+
+-- what lines within the limits say is within the limits
+pub within_limits : (limits : Limits) (entries : List Entry) (named : Named) → Fits limits entries → IsReading entries named → IsWithin limits named
+within_limits limits entries named f r =
+    record {
+      states_named = r.auto.states_given ∙ ap length (sym r.names);
+      labels_named = r.auto.labels_given ∙ ap length (sym r.labels);
+      states = omega (arith, r.auto.states_given, f.states);
+      labels = omega (arith, r.auto.labels_given, f.labels);
+      transitions = omega (arith, length_permutation (transitions_of entries) named.auto.transitions r.auto.transitions_given, f.transitions);
+    }

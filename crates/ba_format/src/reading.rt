@@ -5,7 +5,7 @@ ghost use Rattle.std.specs.List.{before_first, after_first};
 ghost use Rattle.ba_format.specs.Grammar.{is_newline, lines_of};
 ghost use Rattle.ba_format.specs.Faults.{first_fault, fault_of, entries_of};
 ghost use Rattle.ba_format.specs.Draft.{Stands, Fits, TellsFault};
-ghost use Rattle.ba_format.specs.Reading.{Reads};
+ghost use Rattle.ba_format.specs.Reading.{Reads, IsWithin};
 
 use crate::draft::{Draft, Opening, Refusal};
 use crate::lines::trimmed;
@@ -61,6 +61,7 @@ fn draft_of(alloc: Global, text: &[u8], limits: &Limits) -> Result<Draft, ReadFa
 pub fn read(alloc: Global, bytes: &[u8], limits: &Limits) -> Result<Named, ReadFault>
     requires { length bytes.now ≤ 2 ^ 24 }
     ensures named { IfOk result (Reads bytes.now limits.now) }
+    ensures within { IfOk result (IsWithin limits.now) }
     ensures fault { (fault : BaFault) → result ≡ Err (ReadFault.Ba fault) → fault_of bytes.now limits.now ≡ Some fault }
     ensures found { (fault : BaFault) → fault_of bytes.now limits.now ≡ Some fault → (result ≡ Err (ReadFault.Ba fault)) ⊎ (result ≡ Err ReadFault.Memory) }
 {

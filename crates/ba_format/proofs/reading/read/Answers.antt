@@ -2,7 +2,7 @@ use Rattle.std.proofs.Common.{◌≡◌, ◌∙◌, ap, sym, length, Ok, Err, So
 use Rattle.ba_format.specs.Faults.{entries_of, fault_of, transitions_of}
 use Rattle.ba_format.specs.Reading.{Reads}
 use Rattle.ba_format.proofs.ReadLemmas.{empty_text, opens_not, no_fault_text}
-use Rattle.ba_format.proofs.NamedLemmas.{transitions-most}
+use Rattle.ba_format.proofs.NamedLemmas.{transitions-most, within_limits}
 use Rattle.ba_format.proofs.reading.read.Goals as goal
 
 pub returns-in-Nothing-clause-fault : goal.returns-in-Nothing-clause-fault
@@ -25,8 +25,10 @@ returns c =
     let entries = entries_of c.args.bytes.now in
     let some = opens_not c.in_ok-draft.draft.opening entries c.in_ok-draft.ensures.1.opening c.in_default.not-Nothing in
     let none = no_fault_text c.args.limits.now c.args.bytes.now some c.in_ok-draft.ensures.0 in
+    let reading = c.in_ok-into_named.ensures entries c.in_ok-draft.ensures.1 in
     record {
-      named = record { no_fault = none; reading = c.in_ok-into_named.ensures entries c.in_ok-draft.ensures.1 };
+      within = within_limits c.args.limits.now entries c.in_ok-into_named.field-0 c.in_ok-draft.ensures.2 reading;
+      named = record { no_fault = none; reading = reading };
       fault = λ fault e. cc;
       found = λ fault e. cc;
     }
