@@ -12,7 +12,7 @@ pub record IsReading (entries : List Entry) (named : Named) : Type 0 where
   pub labels : named.labels ≡ labels_of entries
   pub auto :
       IsBuilt (length (names_of entries)) (length (labels_of entries)) (initial_of entries) (transitions_of entries) (accepting_of entries)
-        named.auto
+      named.auto
 
 -- The text has no fault within the limits, and reads as this.
 pub record Reads (text : List ℕ) (limits : Limits) (named : Named) : Type 0 where

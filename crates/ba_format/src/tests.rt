@@ -53,10 +53,18 @@ fn faults_are_named(rt: HostRuntime) -> Result<(), Fail> {
         ("a,0->1\na,2->3\n", 2, BaKind::TooManyStates),
         ("a,0->1\nb,1->2\nc,3->0\n", 3, BaKind::TooManyStates),
         ("a,0->1\nb,1->2\nc,0->0\n", 3, BaKind::TooManyLabels),
-        ("a,0->0\nb,0->0\nb,0->1\na,1->0\nb,1->0\n", 5, BaKind::TooManyTransitions),
+        (
+            "a,0->0\nb,0->0\nb,0->1\na,1->0\nb,1->0\n",
+            5,
+            BaKind::TooManyTransitions,
+        ),
         ("a,0->0\nc,0->0\nx,0->0\n->", 3, BaKind::TooManyLabels),
     ] {
-        assert_eq!(rt; fault(rt.alloc(), text.as_bytes())?, Some((line, kind)), "{text:?}");
+        assert_eq!(rt;
+            fault(rt.alloc(), text.as_bytes())?,
+            Some((line, kind)),
+            "{text:?}"
+        );
     }
     Ok(())
 }
@@ -76,9 +84,11 @@ fn rewritten(alloc: Global, text: &[u8]) -> Result<Vec<u8>, Fail> {
         return Err(Memory)?;
     }
     match read(alloc, text, &LIMITS) {
-        Ok(named) => Ok(write(alloc, &named.auto, &named.labels)?
-            .as_slice()
-            .to_vec(alloc)?),
+        Ok(named) => Ok(
+            write(alloc, &named.auto, &named.labels)?
+                .as_slice()
+                .to_vec(alloc)?,
+        ),
         Err(fault) => Err(fault)?,
     }
 }
@@ -89,7 +99,10 @@ fn texts_read_by_the_rules(rt: HostRuntime) -> Result<(), Fail> {
         // One state line before the first transition is the initial state, and no accepting line.
         ("[1]\na,[0]->[1]\n[0]\n", "[0]\na,[1]->[0]\n[1]\n"),
         // Without one, the first source is initial; without an accepting line all states are accepting.
-        ("a,[5]->[7]\nb,[7]->[5]\n", "[0]\na,[0]->[1]\nb,[1]->[0]\n[0]\n[1]\n"),
+        (
+            "a,[5]->[7]\nb,[7]->[5]\n",
+            "[0]\na,[0]->[1]\nb,[1]->[0]\n[0]\n[1]\n",
+        ),
         // Without a transition, the first line is initial and the others are accepting.
         ("q\nr\ns\n", "[0]\n[1]\n[2]\n"),
         ("q\nq\n", "[0]\n[0]\n"),
@@ -99,14 +112,24 @@ fn texts_read_by_the_rules(rt: HostRuntime) -> Result<(), Fail> {
         // What is repeated counts once.
         ("a,0->0\na,0->0\n0\n0\na,0->0\n0", "[0]\na,[0]->[0]\n[0]\n"),
         // Lines end in LF or CRLF, and the last LF may be missing; blanks at the ends of lines and tokens don't count.
-        ("\r\n\t[0] \r\n a b\t, [0]  ->\t[0]\r\n\r\n[0]", "[0]\na b,[0]->[0]\n[0]\n"),
+        (
+            "\r\n\t[0] \r\n a b\t, [0]  ->\t[0]\r\n\r\n[0]",
+            "[0]\na b,[0]->[0]\n[0]\n",
+        ),
         // Brackets belong to the name.
         ("0\na,[0]->0\n[0]\n", "[0]\na,[1]->[0]\n[1]\n"),
         // The transitions are sorted by the numbers of their labels.
-        ("0\nb,0->0\na,0->0\na,0->1\n0\n", "[0]\nb,[0]->[0]\na,[0]->[0]\na,[0]->[1]\n[0]\n"),
+        (
+            "0\nb,0->0\na,0->0\na,0->1\n0\n",
+            "[0]\nb,[0]->[0]\na,[0]->[0]\na,[0]->[1]\n[0]\n",
+        ),
         ("a-,-->>\n", "[0]\na-,[0]->[1]\n[0]\n[1]\n"),
     ] {
-        assert_eq!(rt; rewritten(rt.alloc(), text.as_bytes())?.as_slice(), written.as_bytes(), "{text:?}");
+        assert_eq!(rt;
+            rewritten(rt.alloc(), text.as_bytes())?.as_slice(),
+            written.as_bytes(),
+            "{text:?}"
+        );
     }
     Ok(())
 }

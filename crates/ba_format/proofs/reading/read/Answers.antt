@@ -1,6 +1,5 @@
-use Rattle.std.proofs.Common.{◌≡◌, ◌∙◌, ap, sym, length, Ok, Err, Some, None, arith}
-use Rattle.ba_format.specs.Faults.{entries_of, fault_of, transitions_of}
-use Rattle.ba_format.specs.Reading.{Reads}
+use Rattle.std.proofs.Common.{arith}
+use Rattle.ba_format.specs.Faults.{entries_of}
 use Rattle.ba_format.proofs.ReadLemmas.{empty_text, opens_not, no_fault_text}
 use Rattle.ba_format.proofs.NamedLemmas.{transitions-most, within_limits}
 use Rattle.ba_format.proofs.reading.read.Goals as goal
