@@ -4,6 +4,7 @@
 mod building;
 mod draft;
 mod joining;
+pub mod laws;
 mod lines;
 mod parts;
 mod reading;
