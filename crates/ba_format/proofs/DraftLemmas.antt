@@ -1,16 +1,14 @@
 -- Lemmas on what a line adds to what the lines before it brought.
-use Rattle.std.proofs.Common.{◌≡◌, ℕ, zero, suc, ◌+◌, ◌-◌, ◌<◌, ◌≤◌, Bool, true, false, not, cond, eqb, ltb, nat_le, ◌||◌, ◌&&◌, List, [], ◌∷◌, ◌++◌, length, map, fold, Option, None, Some, Result, Ok, Err, MatchResult, refl, sym, ap, subst, ◌∙◌, true≢false, arith, if◌then◌else◌}
-use Rattle.std.specs.List.{list_any, list_all, flat_map, position_or_len}
-use Rattle.std.proofs.lemmas.List.{append-nil, append_assoc, map-append, length-append}
+use Rattle.std.proofs.Common.{◌≡◌, ℕ, suc, ◌+◌, Bool, true, false, not, cond, ◌||◌, List, [], ◌∷◌, ◌++◌, length, map, fold, refl, sym, ap, ◌∙◌, true≢false, arith, if◌then◌else◌}
+use Rattle.std.specs.List.{list_any, flat_map, position_or_len}
+use Rattle.std.proofs.lemmas.List.{append-nil}
 use Rattle.std.proofs.lemmas.List.Sums.{fold-append}
-use Rattle.std.proofs.lemmas.List.Folds.{list_any-append, list_all-append}
+use Rattle.std.proofs.lemmas.List.Folds.{list_any-append}
 use Rattle.std.proofs.lemmas.Grind.{flat_map-append}
-use Rattle.std.proofs.lemmas.Bool.Decides.{nat_tests}
-use Rattle.auto_core.specs.declared.parts.Trans.{Trans}
 use Rattle.auto_core.specs.Automaton.{trans}
-use Rattle.ba_format.specs.Sight.{same_text, noted, first_seen, number_in}
+use Rattle.ba_format.specs.Sight.{same_text, noted, number_in}
 use Rattle.ba_format.specs.Grammar.{Entry, StateLine, TransitionLine}
-use Rattle.ba_format.specs.Faults.{states_in, labels_in, names_of, labels_of, transitions_in, transitions_of, same_trans, state_lines, accepting_names, accepting_numbers, is_state_line, opens_twice, later_fault}
+use Rattle.ba_format.specs.Faults.{states_in, labels_in, names_of, labels_of, transitions_in, transitions_of, same_trans}
 use Rattle.ba_format.proofs.SightLemmas.{same_text-refl}
 
 -- ---- things seen
@@ -109,8 +107,8 @@ transitions-kept [] names labels more_names more_labels hn hl = refl
 transitions-kept (StateLine name ∷ entries) names labels more_names more_labels hn hl = transitions-kept entries names labels more_names more_labels hn.1 hl
 transitions-kept (TransitionLine label source target ∷ entries) names labels more_names more_labels hn hl =
     λ i.
-      trans (number-all source more_names names hn.0 i) (number-all label more_labels labels hl.0 i) (number-all target more_names names hn.1.0 i)
-        ∷ transitions-kept entries names labels more_names more_labels hn.1.1 hl.1 i
+    trans (number-all source more_names names hn.0 i) (number-all label more_labels labels hl.0 i) (number-all target more_names names hn.1.0 i)
+    ∷ transitions-kept entries names labels more_names more_labels hn.1.1 hl.1 i
 
 pub transitions-push : (entries : List Entry) (entry : Entry)
     → transitions_of (entries ++ entry ∷ []) ≡ fold (noted same_trans) (transitions_of entries) (transitions_in (names_of (entries ++ entry ∷ [])) (labels_of (entries ++ entry ∷ [])) entry)
@@ -118,8 +116,8 @@ transitions-push entries entry =
     let N = names_of (entries ++ entry ∷ []) in
     let L = labels_of (entries ++ entry ∷ []) in
     let kept : flat_map (transitions_in N L) entries ≡ flat_map (transitions_in (names_of entries) (labels_of entries)) entries =
-          (λ i. flat_map (transitions_in (names-push entries entry i) (labels-push entries entry i)) entries)
-            ∙ transitions-kept entries (names_of entries) (labels_of entries) (states_in entry) (labels_in entry) (AllFound-noted (flat_map states_in entries) []) (AllFound-noted (flat_map labels_in entries) []) in
+    (λ i. flat_map (transitions_in (names-push entries entry i) (labels-push entries entry i)) entries)
+    ∙ transitions-kept entries (names_of entries) (labels_of entries) (states_in entry) (labels_in entry) (AllFound-noted (flat_map states_in entries) []) (AllFound-noted (flat_map labels_in entries) []) in
     ap (fold (noted same_trans) []) (flat-push (transitions_in N L) entries entry)
-      ∙ fold-append (noted same_trans) [] (flat_map (transitions_in N L) entries) (transitions_in N L entry)
-      ∙ ap (λ l. fold (noted same_trans) (fold (noted same_trans) [] l) (transitions_in N L entry)) kept
+    ∙ fold-append (noted same_trans) [] (flat_map (transitions_in N L) entries) (transitions_in N L entry)
+    ∙ ap (λ l. fold (noted same_trans) (fold (noted same_trans) [] l) (transitions_in N L entry)) kept

@@ -1,6 +1,6 @@
 -- Lemmas on joined labels and renumbered automata.
-use Rattle.std.proofs.Common.{◌≡◌, ℕ, zero, suc, ◌+◌, ◌-◌, ◌<◌, ◌≤◌, Bool, true, false, not, cond, eqb, ltb, ◌||◌, List, [], ◌∷◌, ◌++◌, length, take, drop, get_or, map, filter, All, Contains, refl, sym, ap, subst, ◌∙◌, true≢false, inl, inr, arith}
-use Rattle.std.specs.List.{list_any, position_or_len, AllPairs}
+use Rattle.std.proofs.Common.{◌≡◌, ℕ, ◌+◌, ◌<◌, ◌≤◌, Bool, true, false, not, cond, ltb, ◌||◌, List, [], ◌∷◌, ◌++◌, length, take, get_or, map, filter, All, Contains, refl, sym, ap, subst, ◌∙◌, true≢false, inl, inr, arith}
+use Rattle.std.specs.List.{list_any}
 use Rattle.std.specs.List.Sorted.{IsStrictlyIncreasing}
 use Rattle.std.proofs.lemmas.List.{get_or_default, take_more, take_all, length-append, append-nil, append_assoc, get_or-take, length-take, get_or-map, length-map}
 use Rattle.std.proofs.lemmas.List.Elements.{filter_more, All-filter, All-head, All-tail}
@@ -8,7 +8,7 @@ use Rattle.auto_core.specs.declared.parts.Trans.{Trans}
 use Rattle.std.proofs.lemmas.List.Kept.{AllPairs-from_increasing}
 use Rattle.std.proofs.lemmas.Bool.{cases_lt, cases_eq}
 use Rattle.std.proofs.lemmas.List.Folds.{list_any_at, list_any-append, list_any_none}
-use Rattle.ba_format.proofs.SightLemmas.{same_text-refl, same_text-equal, same_text-not}
+use Rattle.ba_format.proofs.SightLemmas.{same_text-refl, same_text-equal}
 use Rattle.ba_format.specs.Sight.{same_text, number_in, AreDifferent}
 use Rattle.auto_core.specs.Automaton.{Automaton, IsAutomaton, HasRepeat, IsBefore, trans, trans_at}
 use Rattle.ba_format.specs.Parts.{AreParts}
@@ -48,16 +48,16 @@ Gathered-yes accepting items q rising c g =
     let long : length (items ++ q ∷ []) ≡ n + 1 = length-append items (q ∷ []) in
     record {
       is_front =
-        ap (λ l. l ++ q ∷ []) g.is_front
+          ap (λ l. l ++ q ∷ []) g.is_front
           ∙ ap (λ x. take n accepting ++ x ∷ []) (sym here)
           ∙ sym (take_more accepting n 0 inside)
           ∙ ap (λ m. take m accepting) (sym long);
       within = omega arith;
       below = λ j lt.
-        elim (cases_lt j n) [
-          | inl h ↦ omega (arith, g.below j h)
-          | inr h ↦ let e : j ≡ n = omega arith in omega (arith, ap (λ i. get_or accepting i 0) e)
-        ];
+          elim (cases_lt j n) [
+            | inl h ↦ omega (arith, g.below j h)
+            | inr h ↦ let e : j ≡ n = omega arith in omega (arith, ap (λ i. get_or accepting i 0) e)
+          ];
       above = λ j le lt. omega (arith, up n j 0 (omega arith) lt);
     }
 
@@ -69,20 +69,20 @@ Gathered-no accepting items q none g =
       within = g.within;
       below = λ j lt. omega (arith, g.below j lt);
       above = λ j le lt.
-        elim (cases_eq (get_or accepting j 0) q) [
-          | inl e ↦ absurd (none (j, lt, get_or_default accepting j q 0 lt ∙ e))
-          | inr n ↦ omega (arith, g.above j le lt)
-        ];
+          elim (cases_eq (get_or accepting j 0) q) [
+            | inl e ↦ absurd (none (j, lt, get_or_default accepting j q 0 lt ∙ e))
+            | inr n ↦ omega (arith, g.above j le lt)
+          ];
     }
 
 -- all states gathered
 pub Gathered-end : (accepting items : List ℕ) (q states : ℕ) → All (λ x. x < states) accepting → states ≤ q → Gathered accepting items q → items ≡ accepting
 Gathered-end accepting items q states below h g =
     g.is_front ∙ take_all (length items) accepting (
-      elim (cases_lt (length items) (length accepting)) [
-        | inl lt ↦ absurd (omega (arith, g.above (length items) (omega arith) lt, below (length items) 0 lt))
-        | inr le ↦ le
-      ]
+    elim (cases_lt (length items) (length accepting)) [
+      | inl lt ↦ absurd (omega (arith, g.above (length items) (omega arith) lt, below (length items) 0 lt))
+      | inr le ↦ le
+    ]
     )
 
 -- ---- the joined list
@@ -119,9 +119,10 @@ joined-more first second i b different lt e =
     or_false : (b : Bool) → (b || false) ≡ b
     or_false true = refl
     or_false false = refl
+
     by : (b o : Bool) → o ≡ b
         → first ++ (filter (λ t. not (list_any (same_text t) first)) (take i second) ++ cond (not o) (get_or second i [] ∷ []) [])
-          ≡ cond b (joined_labels first (take i second)) (joined_labels first (take i second) ++ get_or second i [] ∷ [])
+        ≡ cond b (joined_labels first (take i second)) (joined_labels first (take i second) ++ get_or second i [] ∷ [])
     by true true h = ap (λ l. first ++ l) (append-nil _)
     by true false h = absurd (true≢false (sym h))
     by false true h = absurd (true≢false h)
@@ -132,11 +133,10 @@ pub joined-step : (first second before after : List (List ℕ)) (i : ℕ) (b : B
     → list_any (same_text text) before ≡ b → before ≡ joined_labels first (take i second) → length before ≤ length first + i
     → after ≡ cond b before (before ++ text ∷ [])
     → (after ≡ joined_labels first (take (i + 1) second)) × (length after ≤ length first + (i + 1))
-joined-step first second before after i b text different lt t has e short done =
-    (
-      done ∙ (λ j. cond b (e j) (e j ++ t j ∷ [])) ∙ sym (joined-more first second i b different lt ((λ j. list_any (same_text (sym t j)) (sym e j)) ∙ has)),
-      longer b done,
-    )
+joined-step first second before after i b text different lt t has e short done = (
+  done ∙ (λ j. cond b (e j) (e j ++ t j ∷ [])) ∙ sym (joined-more first second i b different lt ((λ j. list_any (same_text (sym t j)) (sym e j)) ∙ has)),
+  longer b done,
+)
   where
     longer : (b : Bool) → after ≡ cond b before (before ++ text ∷ []) → length after ≤ length first + (i + 1)
     longer true d = omega (arith, ap length d)
@@ -176,8 +176,8 @@ second_found first second k d lt =
     by true e = ap (λ b. b || list_any (same_text (get_or second k d)) (filter (λ t. not (list_any (same_text t) first)) second)) e
     by false e =
         ap (λ b. b || list_any (same_text (get_or second k d)) (filter (λ t. not (list_any (same_text t) first)) second)) e
-          ∙ any_kept (same_text (get_or second k d)) (λ t. not (list_any (same_text t) first))
-              (λ y f. ap (λ t. not (list_any (same_text t) first)) (sym (same_text-equal (get_or second k d) y f)) ∙ ap not e) second (itself second k d lt)
+        ∙ any_kept (same_text (get_or second k d)) (λ t. not (list_any (same_text t) first))
+        (λ y f. ap (λ t. not (list_any (same_text t) first)) (sym (same_text-equal (get_or second k d) y f)) ∙ ap not e) second (itself second k d lt)
 
 -- the list after both were added
 pub joined_made : (first second new one both : List (List ℕ)) → new ≡ [] → one ≡ joined_labels new first → both ≡ joined_labels one second → (one ≡ first) × (both ≡ joined_labels first second)
@@ -217,9 +217,9 @@ module _ (A : Automaton) (labels joined : List (List ℕ)) (valid : IsAutomaton 
       → map (λ t. trans t.source (get_or numbers t.label 0) t.target) A.transitions ≡ map (relabelled labels joined) A.transitions
   by_numbers numbers e =
       map_same (λ t. trans t.source (get_or numbers t.label 0) t.target) (relabelled labels joined) A.transitions (λ k d lt.
-        let t = get_or A.transitions k d in
-        let known : t.label < length labels = omega (arith, (valid.in_range k d lt).2, count) in
-        ap (λ n. trans t.source n t.target) (ap (λ l. get_or l t.label 0) e ∙ get_or-map (number_in same_text joined) labels t.label [] 0 known))
+      let t = get_or A.transitions k d in
+      let known : t.label < length labels = omega (arith, (valid.in_range k d lt).2, count) in
+      ap (λ n. trans t.source n t.target) (ap (λ l. get_or l t.label 0) e ∙ get_or-map (number_in same_text joined) labels t.label [] 0 known))
 
   -- the transition at a place, with its new label
   at_place : (k : ℕ) (d : Trans) → k < length A.transitions → get_or (map (relabelled labels joined) A.transitions) k d ≡ relabelled labels joined (trans_at A k)
@@ -234,8 +234,7 @@ module _ (A : Automaton) (labels joined : List (List ℕ)) (valid : IsAutomaton 
       let b = (trans_at A j).label in
       let ha : a < length labels = label_known i hi in
       let hb : b < length labels = label_known j hj in
-      let texts : get_or labels a [] ≡ get_or labels b [] = number_tells joined _ _ (found a [] ha) (found b [] hb) (ap (λ t. t.label) e) in
-      (
+      let texts : get_or labels a [] ≡ get_or labels b [] = number_tells joined _ _ (found a [] ha) (found b [] hb) (ap (λ t. t.label) e) in (
         ap (λ t. t.source) e,
         place_is a b (λ lt. different b a [] lt ha (sym texts)) (λ lt. different a b [] lt hb texts),
         ap (λ t. t.target) e,
@@ -268,16 +267,16 @@ module _ (A : Automaton) (labels joined : List (List ℕ)) (valid : IsAutomaton 
         in_states = (
           valid.initial_is_state,
           (λ k d lt.
-            let lt' : k < length A.transitions = omega arith in
-            let range = valid.in_range k (trans 0 0 0) lt' in
-            let P : Trans → Type 0 = λ t. (t.source < A.states) × (t.target < A.states) in
-            subst P (sym (at_place k d lt')) (range.0, range.1)),
+              let lt' : k < length A.transitions = omega arith in
+              let range = valid.in_range k (trans 0 0 0) lt' in
+              let P : Trans → Type 0 = λ t. (t.source < A.states) × (t.target < A.states) in
+              subst P (sym (at_place k d lt')) (range.0, range.1)),
           valid.accepting_in_range,
         );
         in_labels = λ k d lt.
-          let lt' : k < length A.transitions = omega arith in
-          let P : Trans → Type 0 = λ t. t.label < length joined in
-          subst P (sym (at_place k d lt')) (number_within joined _ (found (trans_at A k).label [] (label_known k lt')));
+            let lt' : k < length A.transitions = omega arith in
+            let P : Trans → Type 0 = λ t. t.label < length joined in
+            subst P (sym (at_place k d lt')) (number_within joined _ (found (trans_at A k).label [] (label_known k lt')));
         no_transition_twice = no_repeat;
         no_state_twice = no_state_twice;
       }

@@ -5,3 +5,4 @@ pub mod DraftLemmas
 pub mod TakeLemmas
 pub mod ReadLemmas
 pub mod NamedLemmas
+pub mod LawLemmas

@@ -1,11 +1,11 @@
 -- Lemmas on the shape of a line.
-use Rattle.std.proofs.Common.{◌≡◌, ℕ, zero, suc, ◌+◌, ◌-◌, ◌<◌, ◌≤◌, Bool, true, false, not, cond, eqb, ltb, nat_lt, ◌||◌, ◌&&◌, List, [], ◌∷◌, ◌++◌, length, take, drop, get_or, position, Option, None, Some, MatchOption, refl, sym, ap, subst, ◌∙◌, true≢false, arith, count_by, if◌then◌else◌}
+use Rattle.std.proofs.Common.{◌≡◌, ℕ, suc, ◌+◌, ◌<◌, ◌≤◌, Bool, true, false, not, cond, eqb, ltb, ◌||◌, ◌&&◌, List, [], ◌∷◌, ◌++◌, length, take, drop, get_or, position, Option, None, Some, MatchOption, refl, sym, ap, ◌∙◌, true≢false, arith, count_by, if◌then◌else◌}
 use Rattle.std.specs.List.{list_any, position_or_len, before_first, after_first}
 use Rattle.std.proofs.Math.Seq.{drop-cons, take-suc}
 use Rattle.std.proofs.lemmas.List.{append-nil, append_assoc, length-drop}
 use Rattle.std.proofs.lemmas.List.Sums.{split_at_first, passes_at_first, sum_by-cons, sum_by-append}
 use Rattle.std.proofs.lemmas.Bool.Decides.{nat_tests}
-use Rattle.ba_format.specs.Grammar.{arrows, before_arrow, after_arrow, is_comma, is_shaped, entry_of, Entry, StateLine, TransitionLine}
+use Rattle.ba_format.specs.Grammar.{arrows, before_arrow, after_arrow, is_comma, is_shaped, entry_of, StateLine}
 use Rattle.ba_format.specs.Seen.{is_cut_shaped, transition_entry, entry_seen}
 use Rattle.ba_format.specs.declared.lines.Said.{Said}
 
@@ -69,15 +69,14 @@ Searched-more text i h none s =
     let rest = drop (suc (suc i)) text in
     let cut = two_at text i h in
     let next = drop-cons text (suc i) 0 h in
-    let test = arrow_not_here a b rest none in
-    (
+    let test = arrow_not_here a b rest none in (
       s.0 ∙ ap arrows cut ∙ ap (λ t. if t then arrows (b ∷ rest) + 1 else arrows (b ∷ rest)) test ∙ sym (ap arrows next),
       s.1
-        ∙ ap (λ l. take i text ++ before_arrow l) cut
-        ∙ ap (λ t. take i text ++ (if t then [] else a ∷ before_arrow (b ∷ rest))) test
-        ∙ sym (append_assoc (take i text) (a ∷ []) (before_arrow (b ∷ rest)))
-        ∙ ap (λ l. l ++ before_arrow (b ∷ rest)) (sym (take-suc text i 0 (omega arith)))
-        ∙ ap (λ l. take (suc i) text ++ before_arrow l) (sym next),
+          ∙ ap (λ l. take i text ++ before_arrow l) cut
+          ∙ ap (λ t. take i text ++ (if t then [] else a ∷ before_arrow (b ∷ rest))) test
+          ∙ sym (append_assoc (take i text) (a ∷ []) (before_arrow (b ∷ rest)))
+          ∙ ap (λ l. l ++ before_arrow (b ∷ rest)) (sym (take-suc text i 0 (omega arith)))
+          ∙ ap (λ l. take (suc i) text ++ before_arrow l) (sym next),
       s.2 ∙ ap after_arrow cut ∙ ap (λ t. if t then rest else after_arrow (b ∷ rest)) test ∙ sym (ap after_arrow next),
     )
 
@@ -88,15 +87,14 @@ Searched-found text i h ha hb s =
     let b = get_or text (suc i) 0 in
     let rest = drop (suc (suc i)) text in
     let cut = two_at text i h in
-    let test : (eqb a 45 && eqb b 62) ≡ true = grind (arith, nat_tests) in
-    (
+    let test : (eqb a 45 && eqb b 62) ≡ true = grind (arith, nat_tests) in (
       s.0 ∙ ap arrows cut ∙ ap (λ t. if t then arrows (b ∷ rest) + 1 else arrows (b ∷ rest)) test ∙ ap (λ n. n + 1) (arrows-skip b rest hb),
       sym (
-        s.1
+          s.1
           ∙ ap (λ l. take i text ++ before_arrow l) cut
           ∙ ap (λ t. take i text ++ (if t then [] else a ∷ before_arrow (b ∷ rest))) test
           ∙ append-nil (take i text)
-      ),
+          ),
       sym (s.2 ∙ ap after_arrow cut ∙ ap (λ t. if t then rest else after_arrow (b ∷ rest)) test),
     )
 
@@ -134,19 +132,20 @@ cut_at : (line : List ℕ) → list_any is_comma line ≡ true → line ≡ befo
 cut_at line h =
     let within : position_or_len is_comma line < length line = lt_from_ltb _ _ (place_within is_comma line ∙ h) in
     split_at_first is_comma line 0 within
-        ∙ ap (λ b. before_first is_comma line ++ b ∷ after_first is_comma line) (comma _ (passes_at_first is_comma line 0 within))
+    ∙ ap (λ b. before_first is_comma line ++ b ∷ after_first is_comma line) (comma _ (passes_at_first is_comma line 0 within))
   where
     lt_from_ltb : (m n : ℕ) → ltb m n ≡ true → m < n
     lt_from_ltb m n e = grind (arith, nat_tests)
+
     comma : (b : ℕ) → is_comma b ≡ true → b ≡ 44
     comma b e = grind (arith, nat_tests)
 
 pub count-cut : (line : List ℕ) → list_any is_comma line ≡ true → count_by is_comma line ≡ count_by is_comma (after_first is_comma line) + 1
 count-cut line h =
     ap (count_by is_comma) (cut_at line h)
-        ∙ sum_by-append (λ y. cond (is_comma y) 1 0) (before_first is_comma line) (44 ∷ after_first is_comma line)
-        ∙ (λ i. count-none is_comma (before_first is_comma line) (before-none is_comma line) i + count-cons is_comma 44 (after_first is_comma line) i)
-        ∙ omega arith
+    ∙ sum_by-append (λ y. cond (is_comma y) 1 0) (before_first is_comma line) (44 ∷ after_first is_comma line)
+    ∙ (λ i. count-none is_comma (before_first is_comma line) (before-none is_comma line) i + count-cons is_comma 44 (after_first is_comma line) i)
+    ∙ omega arith
 
 arrows-append : (xs ys : List ℕ) → arrows (xs ++ 44 ∷ ys) ≡ arrows xs + arrows ys
 arrows-append [] ys = comma_skip ys ∙ omega arith
@@ -170,8 +169,8 @@ is_shaped-cut line h =
     let before = before_first is_comma line in
     let after = after_first is_comma line in
     ap (λ t. if t then (eqb (count_by is_comma line) 1 && eqb (arrows line) 1 && eqb (arrows after) 1) else eqb (arrows line) 0) h
-        ∙ (λ i. eqb (count-cut line h i) 1 && eqb (arrows-cut line h i) 1 && eqb (arrows after) 1)
-        ∙ shape_by (list_any is_comma after) (count_by is_comma after) (arrows before) (arrows after) (count-none is_comma after) (λ e. omega (arith, count-cut after e))
+    ∙ (λ i. eqb (count-cut line h i) 1 && eqb (arrows-cut line h i) 1 && eqb (arrows after) 1)
+    ∙ shape_by (list_any is_comma after) (count_by is_comma after) (arrows before) (arrows after) (count-none is_comma after) (λ e. omega (arith, count-cut after e))
 
 pub entry-cut : (line : List ℕ) → list_any is_comma line ≡ true → transition_entry (before_first is_comma line) (after_first is_comma line) ≡ entry_of line
 entry-cut line h = ap (λ t. if t then transition_entry (before_first is_comma line) (after_first is_comma line) else StateLine line) (sym h)

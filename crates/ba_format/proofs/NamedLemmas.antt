@@ -1,27 +1,29 @@
 -- Lemmas on the automaton that lines say: its parts have no fault.
-use Rattle.std.proofs.Common.{◌≡◌, ℕ, zero, suc, ◌+◌, ◌-◌, ◌^◌, ◌<◌, ◌≤◌, Bool, true, false, not, cond, eqb, ltb, ◌||◌, ◌&&◌, List, [], ◌∷◌, ◌++◌, length, map, fold, get_or, All, Contains, Option, None, Some, refl, sym, ap, subst, ◌∙◌, true≢false, inl, inr, arith, if◌then◌else◌}
-use Rattle.std.specs.List.{list_any, flat_map, position_or_len, range_with_len, AllPairs}
-use Rattle.std.proofs.lemmas.List.{append-nil, append_assoc, length-append, length-map}
-use Rattle.std.proofs.lemmas.List.Elements.{All-push, All-nil, All-append, All-cons, All-map, All-head, All-tail}
+use Rattle.std.proofs.Common.{◌≡◌, ℕ, zero, suc, ◌+◌, ◌^◌, ◌<◌, ◌≤◌, Bool, true, false, not, cond, eqb, ◌||◌, ◌&&◌, List, [], ◌∷◌, ◌++◌, length, map, fold, All, refl, sym, ap, ◌∙◌, true≢false, arith, if◌then◌else◌}
+use Rattle.std.specs.List.{list_any, flat_map, range_with_len, AllPairs}
+use Rattle.std.proofs.lemmas.List.{length-append}
+use Rattle.std.proofs.lemmas.List.Elements.{All-push, All-nil, All-cons, All-map, All-head, All-tail}
 use Rattle.std.proofs.lemmas.List.Quantifiers.{all_pairs_push}
 use Rattle.std.proofs.lemmas.List.Folds.{list_any_at}
 use Rattle.std.proofs.lemmas.List.FromFn.{length-range_with_len, get_or-range_with_len}
-use Rattle.std.proofs.lemmas.Bool.{cases_lt}
 use Rattle.std.proofs.lemmas.Bool.Decides.{nat_tests}
 use Rattle.auto_core.specs.declared.parts.Trans.{Trans}
 use Rattle.auto_core.specs.Automaton.{trans, HasRepeat}
-use Rattle.auto_core.specs.Build.{IsBuilt, HasStates, HasLabels}
 use Rattle.ba_format.specs.declared.draft.Draft.{Draft}
 use Rattle.ba_format.specs.Sight.{same_text, noted, first_seen, number_in}
 use Rattle.ba_format.specs.Grammar.{Entry, StateLine, TransitionLine}
-use Rattle.ba_format.specs.Faults.{states_in, labels_in, names_of, labels_of, transitions_in, transitions_of, same_trans, state_lines, initial_name, initial_of, accepting_names, accepting_numbers, accepting_of}
+use Rattle.ba_format.specs.Faults.{states_in, labels_in, names_of, labels_of, transitions_in, transitions_of, same_trans, initial_of, accepting_names, accepting_numbers, accepting_of}
 use Rattle.ba_format.specs.declared.draft.Opening.{Opening}
 use Rattle.ba_format.specs.declared.draft.Opening.TheVariants.{Nothing, OneState, States, Transitions}
-use Rattle.ba_format.specs.Draft.{trans_with, Opens, Stands, IsReady}
+use Rattle.std.proofs.lemmas.List.Sorted.{length_permutation}
+use Rattle.ba_format.specs.declared.parts.Limits.{Limits}
+use Rattle.ba_format.specs.declared.parts.Named.{Named}
+use Rattle.ba_format.specs.Reading.{IsReading, IsWithin}
+use Rattle.ba_format.specs.Draft.{trans_with, Opens, Stands, Fits}
 use Rattle.ba_format.specs.Parts.{AreParts}
 use Rattle.ba_format.proofs.SightLemmas.{same_text-refl}
 use Rattle.ba_format.proofs.JoinLemmas.{place_is, number_within}
-use Rattle.ba_format.proofs.DraftLemmas.{AllFound, AllFound-noted, number-all, found-noted}
+use Rattle.ba_format.proofs.DraftLemmas.{AllFound, AllFound-noted, number-all}
 use Rattle.ba_format.proofs.TakeLemmas.{accepting-found}
 
 -- ---- things seen
@@ -83,14 +85,14 @@ transitions_in_range names labels [] hn hl = All-nil (InRange (length names) (le
 transitions_in_range names labels (StateLine name ∷ entries) hn hl = transitions_in_range names labels entries hn.1 hl
 transitions_in_range names labels (TransitionLine label source target ∷ entries) hn hl =
     All-cons (InRange (length names) (length labels)) (trans (number_in same_text names source) (number_in same_text labels label) (number_in same_text names target)) (flat_map (transitions_in names labels) entries)
-      (number_within names source hn.0, number_within names target hn.1.0, number_within labels label hl.0)
-      (transitions_in_range names labels entries hn.1.1 hl.1)
+    (number_within names source hn.0, number_within names target hn.1.0, number_within labels label hl.0)
+    (transitions_in_range names labels entries hn.1.1 hl.1)
 
 pub transitions_range : (entries : List Entry) → All (InRange (length (names_of entries)) (length (labels_of entries))) (transitions_of entries)
 transitions_range entries =
     All-seen same_trans (InRange (length (names_of entries)) (length (labels_of entries))) [] (flat_map (transitions_in (names_of entries) (labels_of entries)) entries)
-      (All-nil (InRange (length (names_of entries)) (length (labels_of entries))))
-      (transitions_in_range (names_of entries) (labels_of entries) entries (AllFound-noted (flat_map states_in entries) []) (AllFound-noted (flat_map labels_in entries) []))
+    (All-nil (InRange (length (names_of entries)) (length (labels_of entries))))
+    (transitions_in_range (names_of entries) (labels_of entries) entries (AllFound-noted (flat_map states_in entries) []) (AllFound-noted (flat_map labels_in entries) []))
 
 -- ---- the initial state is number 0
 
@@ -132,7 +134,7 @@ accepting_in_range entries true = λ k d lt.
     omega (arith, get_or-range_with_len 0 n k d lt')
 accepting_in_range entries false =
     All-seen (λ a b. eqb a b) (λ q. q < length (names_of entries)) [] (map (number_in same_text (names_of entries)) (accepting_names entries)) (All-nil (λ q. q < length (names_of entries)))
-      (All-map (λ q. q < length (names_of entries)) (number_in same_text (names_of entries)) (accepting_names entries) (text_in_range (names_of entries) (accepting_names entries) (accepting-found entries)))
+    (All-map (λ q. q < length (names_of entries)) (number_in same_text (names_of entries)) (accepting_names entries) (text_in_range (names_of entries) (accepting_names entries) (accepting-found entries)))
 
 accepting_once : (entries : List Entry) (b : Bool) → HasRepeat (if b then range_with_len 0 (length (names_of entries)) else accepting_numbers entries) → ⊥
 accepting_once entries true = λ (i, j, differ, hi, hj, e).
@@ -154,7 +156,7 @@ pub accepting_chosen : (entries : List Entry) (keys : List ℕ) (states : ℕ) �
     → (if eqb (length keys) 0 then range_with_len 0 states else keys) ≡ accepting_of entries
 accepting_chosen entries keys states k s =
     (λ i. if eqb (length (k i)) 0 then range_with_len 0 (s i) else k i)
-      ∙ ap (λ b. if b then range_with_len 0 (length (names_of entries)) else accepting_numbers entries) (counts (number_in same_text (names_of entries)) (accepting_names entries))
+    ∙ ap (λ b. if b then range_with_len 0 (length (names_of entries)) else accepting_numbers entries) (counts (number_in same_text (names_of entries)) (accepting_names entries))
 
 pub parts_of : (entries : List Entry) → 0 < length entries → length (transitions_of entries) < 2 ^ 32
     → AreParts (length (names_of entries)) (length (labels_of entries)) 0 (transitions_of entries) (accepting_of entries)
@@ -203,3 +205,14 @@ lines-most names labels (TransitionLine label source target ∷ entries) = omega
 pub transitions-most : (entries : List Entry) → length (transitions_of entries) ≤ length entries
 transitions-most entries =
     omega (arith, seen-most same_trans [] (flat_map (transitions_in (names_of entries) (labels_of entries)) entries), lines-most (names_of entries) (labels_of entries) entries)
+
+-- what lines within the limits say is within the limits
+pub within_limits : (limits : Limits) (entries : List Entry) (named : Named) → Fits limits entries → IsReading entries named → IsWithin limits named
+within_limits limits entries named f r =
+    record {
+      states_named = r.auto.states_given ∙ ap length (sym r.names);
+      labels_named = r.auto.labels_given ∙ ap length (sym r.labels);
+      states = omega (arith, r.auto.states_given, f.states);
+      labels = omega (arith, r.auto.labels_given, f.labels);
+      transitions = omega (arith, length_permutation (transitions_of entries) named.auto.transitions r.auto.transitions_given, f.transitions);
+    }

@@ -1,28 +1,20 @@
 -- Lemmas on reading a text line by line.
-use Rattle.std.proofs.Common.{◌≡◌, ℕ, zero, suc, ◌+◌, ◌-◌, ◌^◌, ◌<◌, ◌≤◌, Bool, true, false, not, cond, eqb, ltb, ◌||◌, List, [], ◌∷◌, ◌++◌, length, map, fold, reverse, Option, None, Some, Result, Ok, Err, MatchResult, ◌⊎◌, inl, inr, refl, sym, ap, subst, ◌∙◌, true≢false, arith, if◌then◌else◌}
-use Rattle.std.specs.List.{list_any, slice_split, before_first, after_first, position_or_len}
-use Rattle.std.specs.Option.{option_or}
+use Rattle.std.proofs.Common.{◌≡◌, ℕ, ◌+◌, ◌<◌, ◌≤◌, true, false, eqb, List, [], ◌∷◌, ◌++◌, length, map, None, Some, ◌⊎◌, inl, inr, refl, sym, ap, subst, ◌∙◌, arith}
+use Rattle.std.specs.List.{slice_split, before_first, after_first, position_or_len}
 use Rattle.std.proofs.lemmas.List.{append-nil, append_assoc, take_all, drop_all, length-drop, length-append}
 use Rattle.std.proofs.lemmas.List.Splits.{slice_split_first, slice_split_none}
 use Rattle.std.proofs.lemmas.List.Sums.{fails_before_first}
 use Rattle.std.proofs.lemmas.Bool.Decides.{nat_tests}
 use Rattle.std.proofs.lemmas.Bool.{cases_lt}
-use Rattle.ba_format.specs.declared.parts.BaFault.{BaFault}
 use Rattle.ba_format.specs.declared.parts.BaKind.{BaKind}
 use Rattle.ba_format.specs.declared.parts.BaKind.TheVariants.{Empty}
 use Rattle.ba_format.specs.declared.parts.Limits.{Limits}
-use Rattle.ba_format.specs.declared.parts.Named.{Named}
-use Rattle.ba_format.specs.declared.parts.ReadFault.{ReadFault}
-use Rattle.ba_format.specs.declared.parts.ReadFault.TheVariants.{Ba, Memory as OutOfMemory}
-use Rattle.ba_format.specs.declared.draft.Refusal.{Refusal}
-use Rattle.ba_format.specs.declared.draft.Refusal.TheVariants.{Line, Memory}
 use Rattle.ba_format.specs.declared.draft.Opening.{Opening}
 use Rattle.ba_format.specs.declared.draft.Opening.TheVariants.{Nothing, OneState, States, Transitions}
 use Rattle.ba_format.specs.declared.draft.Draft.{Draft}
 use Rattle.ba_format.specs.Grammar.{Line as TextLine, Entry, is_newline, trimmed, onto_lines, lines_from, lines_of, entry_of}
 use Rattle.ba_format.specs.Faults.{kind_of_line, or_later, first_fault, fault_of_lines, fault_of, entries_of}
-use Rattle.ba_format.specs.Draft.{Opens, Stands, Fits, Tells, TakesLine, TellsFault}
-use Rattle.ba_format.proofs.LineLemmas.{place_within}
+use Rattle.ba_format.specs.Draft.{Opens, Stands, Fits}
 
 -- the lines of a text that isn't empty: its first line, and the lines behind it
 pub lines-first : (number : ℕ) (text : List ℕ) → 0 < length text
@@ -34,8 +26,8 @@ lines-first number text h = by (cases_lt (position_or_len is_newline text) (leng
     by (inl lt) = ap (lines_from number) (slice_split_first is_newline text 0 lt)
     by (inr le) =
         ap (lines_from number) (slice_split_none is_newline text (λ k d lt. fails_before_first is_newline text k d (omega arith)))
-          ∙ ap (λ l. onto_lines number (trimmed l) []) (sym (take_all (position_or_len is_newline text) text le))
-          ∙ ap (λ l. onto_lines number (trimmed (before_first is_newline text)) (lines_from (number + 1) (slice_split is_newline l))) (sym (drop_all (position_or_len is_newline text + 1) text (omega arith)))
+        ∙ ap (λ l. onto_lines number (trimmed l) []) (sym (take_all (position_or_len is_newline text) text le))
+        ∙ ap (λ l. onto_lines number (trimmed (before_first is_newline text)) (lines_from (number + 1) (slice_split is_newline l))) (sym (drop_all (position_or_len is_newline text + 1) text (omega arith)))
 
 -- The lines up to here, of this number, say the entries that the draft stands for; the rest of the text holds the others.
 pub record Underway (limits : Limits) (text rest : List ℕ) (number : ℕ) (draft : Draft) : Type 0 where
@@ -91,7 +83,7 @@ module _ (limits : Limits) (text rest : List ℕ) (number : ℕ) (draft : Draft)
   -- the line is the first of those left
   line_first : (line : List ℕ) → line ≡ trimmed (before_first is_newline rest) → 0 < length line
       → lines_from (number + 1) (slice_split is_newline rest)
-        ≡ record { number = number + 1; text = line } ∷ lines_from (number + 1 + 1) (slice_split is_newline (after_first is_newline rest))
+      ≡ record { number = number + 1; text = line } ∷ lines_from (number + 1 + 1) (slice_split is_newline (after_first is_newline rest))
   line_first [] e n = absurd (omega arith)
   line_first (b ∷ bs) e n = cut ∙ ap (λ l. onto_lines (number + 1) l (lines_from (number + 1 + 1) (slice_split is_newline (after_first is_newline rest)))) (sym e)
 
@@ -116,8 +108,8 @@ module _ (limits : Limits) (text rest : List ℕ) (number : ℕ) (draft : Draft)
   refused_line line kind e n k =
       let later = lines_from (number + 1 + 1) (slice_split is_newline (after_first is_newline rest)) in
       sym u.faults
-        ∙ ap (first_fault limits u.entries) (line_first line e n)
-        ∙ ap (λ k. or_later (number + 1) k (first_fault limits (u.entries ++ entry_of line ∷ []) later)) k
+      ∙ ap (first_fault limits u.entries) (line_first line e n)
+      ∙ ap (λ k. or_later (number + 1) k (first_fault limits (u.entries ++ entry_of line ∷ []) later)) k
 
 -- all lines are done
 pub Underway-end : (limits : Limits) (text rest : List ℕ) (number : ℕ) (draft : Draft) → length rest ≡ 0 → Underway limits text rest number draft

@@ -1,14 +1,13 @@
 -- Lemmas on things numbered in the order of first sight.
-use Rattle.std.proofs.Common.{◌≡◌, ℕ, ◌+◌, ◌^◌, ◌<◌, ◌≤◌, Bool, true, false, cond, eqb, not, ◌||◌, List, [], ◌∷◌, ◌++◌, length, map, position, Option, None, Some, is_some, MatchOption, Contains, Decides, refl, sym, ap, subst, ◌∙◌, true≢false, arith, rules, get_or, ◌-◌, if◌then◌else◌, Vec, Global}
-use Rattle.std.specs.Cmp.Lexicographic.{pointwise, bytes_decides}
-use Rattle.std.specs.List.{list_any, position_or_len, AllPairs}
+use Rattle.std.proofs.Common.{◌≡◌, ℕ, ◌+◌, ◌^◌, ◌<◌, Bool, true, false, cond, not, ◌||◌, List, [], ◌∷◌, ◌++◌, length, map, position, Option, None, Some, is_some, MatchOption, Contains, refl, sym, ap, subst, ◌∙◌, true≢false, arith, ◌-◌, if◌then◌else◌, Vec, Global}
+use Rattle.std.specs.Cmp.Lexicographic.{bytes_decides}
+use Rattle.std.specs.List.{list_any, position_or_len}
 use Rattle.std.proofs.lemmas.List.{map-append, length-append}
-use Rattle.std.proofs.lemmas.List.Elements.{Contains-get_or, Contains-append_right}
+use Rattle.std.proofs.lemmas.List.Elements.{Contains-get_or}
 use Rattle.std.proofs.lemmas.List.Quantifiers.{all_pairs_push}
-use Rattle.std.proofs.lemmas.Bool.{false≢true}
 use Rattle.indexmap.proofs.CallerLemmas.{Contains-list_any}
 use Rattle.indexmap.specs.IndexSet.{insert_key}
-use Rattle.ba_format.specs.Sight.{same_text, noted, first_seen, number_in, AreDifferent, AreTexts}
+use Rattle.ba_format.specs.Sight.{same_text, noted, number_in, AreTexts}
 
 -- the test on things that are seen through f
 module _ {K X : Type 0} (f : K → X) (same : X → X → Bool) where
@@ -68,8 +67,8 @@ pub texts-insert : (keys : List (Vec ℕ Global)) (v : Vec ℕ Global) (text : L
     → map (λ t. t.items) (insert_key (λ a b. same_text a.items b.items) keys v) ≡ map (λ t. t.items) keys ++ text ∷ []
 texts-insert keys v text e new =
     map-insert_key (λ t. t.items) same_text keys v
-        ∙ ap (noted same_text (map (λ t. t.items) keys)) e
-        ∙ noted-new same_text (map (λ t. t.items) keys) text (not_found _ text new)
+    ∙ ap (noted same_text (map (λ t. t.items) keys)) e
+    ∙ noted-new same_text (map (λ t. t.items) keys) text (not_found _ text new)
 
 -- the place of a text among those of a set
 pub place_through : (keys : List (Vec ℕ Global)) (text : List ℕ) (r : Option ℕ) → r ≡ position (λ t. same_text text t.items) keys → is_some r ≡ list_any (λ t. same_text text t.items) keys

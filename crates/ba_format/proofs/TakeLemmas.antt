@@ -1,13 +1,11 @@
 -- Lemmas on a line that is taken, and on one that is refused.
-use Rattle.std.proofs.Common.{◌≡◌, ℕ, zero, suc, ◌+◌, ◌-◌, ◌<◌, ◌≤◌, Bool, true, false, not, cond, eqb, ltb, leb, ◌||◌, ◌&&◌, List, [], ◌∷◌, ◌++◌, length, map, fold, Option, None, Some, Result, Ok, Err, MatchResult, refl, sym, ap, subst, ◌∙◌, true≢false, arith, if◌then◌else◌}
-use Rattle.std.specs.List.{list_any, list_all, flat_map, position_or_len}
-use Rattle.std.proofs.lemmas.List.{append-nil, append_assoc, map-append, length-append, length-map}
+use Rattle.std.proofs.Common.{◌≡◌, ℕ, ◌<◌, ◌≤◌, Bool, true, false, eqb, ltb, leb, ◌&&◌, List, [], ◌∷◌, ◌++◌, length, map, fold, None, Some, Result, Ok, Err, refl, sym, ap, subst, ◌∙◌, arith, if◌then◌else◌}
+use Rattle.std.specs.List.{list_any, list_all, flat_map}
+use Rattle.std.proofs.lemmas.List.{map-append, length-append, length-map}
 use Rattle.std.proofs.lemmas.List.Sums.{fold-append}
 use Rattle.std.proofs.lemmas.List.Folds.{list_all-append}
 use Rattle.std.proofs.lemmas.Bool.Decides.{nat_tests}
-use Rattle.auto_core.specs.declared.parts.Trans.{Trans}
 use Rattle.auto_core.specs.Automaton.{trans}
-use Rattle.ba_format.specs.declared.parts.BaKind.{BaKind}
 use Rattle.ba_format.specs.declared.parts.BaKind.TheVariants.{TwoInitial, TooManyStates, TooManyLabels, TooManyTransitions}
 use Rattle.ba_format.specs.declared.parts.Limits.{Limits}
 use Rattle.ba_format.specs.declared.draft.Opening.{Opening}
@@ -15,9 +13,9 @@ use Rattle.ba_format.specs.declared.draft.Opening.TheVariants.{Nothing, OneState
 use Rattle.ba_format.specs.declared.draft.Refusal.{Refusal}
 use Rattle.ba_format.specs.declared.draft.Refusal.TheVariants.{Line, Memory}
 use Rattle.ba_format.specs.declared.draft.Draft.{Draft}
-use Rattle.ba_format.specs.Sight.{same_text, noted, first_seen, number_in}
+use Rattle.ba_format.specs.Sight.{same_text, noted, number_in}
 use Rattle.ba_format.specs.Grammar.{Entry, StateLine, TransitionLine, entry_of, own_fault}
-use Rattle.ba_format.specs.Faults.{states_in, labels_in, names_of, labels_of, transitions_in, transitions_of, same_trans, state_lines, accepting_names, accepting_numbers, is_state_line, opens_twice, later_fault}
+use Rattle.ba_format.specs.Faults.{states_in, names_of, labels_of, transitions_of, same_trans, state_lines, accepting_names, accepting_numbers, is_state_line, opens_twice, later_fault}
 use Rattle.std.specs.Option.{option_or}
 use Rattle.ba_format.specs.Draft.{Takes, TakesLine, trans_with, Opens, Stands, Fits, Tells, PastLimit, NotesState, NotesTransition, after_state, accepting_after}
 use Rattle.ba_format.proofs.DraftLemmas.{AllFound, AllFound-noted, AllFound-right, flat-push, numbers-all, names-push, labels-push, transitions-push, number-all, found-noted}
@@ -114,11 +112,11 @@ accepting-push first rest entry =
     let N = names_of (entries ++ entry ∷ []) in
     let eq : ℕ → ℕ → Bool = λ a b. eqb a b in
     let kept : map (number_in same_text N) (accepting_names entries) ≡ map (number_in same_text (names_of entries)) (accepting_names entries) =
-          (λ i. map (number_in same_text (names-push entries entry i)) (accepting_names entries)) ∙ numbers-all (accepting_names entries) (states_in entry) (names_of entries) (accepting-found entries) in
+    (λ i. map (number_in same_text (names-push entries entry i)) (accepting_names entries)) ∙ numbers-all (accepting_names entries) (states_in entry) (names_of entries) (accepting-found entries) in
     ap (λ l. fold (noted eq) [] (map (number_in same_text N) l)) (accepting_names-push first rest entry)
-      ∙ ap (fold (noted eq) []) (map-append (number_in same_text N) (accepting_names entries) (state_lines entry))
-      ∙ fold-append (noted eq) [] (map (number_in same_text N) (accepting_names entries)) (map (number_in same_text N) (state_lines entry))
-      ∙ ap (λ l. fold (noted eq) (fold (noted eq) [] l) (map (number_in same_text N) (state_lines entry))) kept
+    ∙ ap (fold (noted eq) []) (map-append (number_in same_text N) (accepting_names entries) (state_lines entry))
+    ∙ fold-append (noted eq) [] (map (number_in same_text N) (accepting_names entries)) (map (number_in same_text N) (state_lines entry))
+    ∙ ap (λ l. fold (noted eq) (fold (noted eq) [] l) (map (number_in same_text N) (state_lines entry))) kept
 
 some_lines : (entries : List Entry) (entry : Entry) → 0 < length entries
     → accepting_numbers (entries ++ entry ∷ []) ≡ fold (noted (λ a b. eqb a b)) (accepting_numbers entries) (map (number_in same_text (names_of (entries ++ entry ∷ []))) (state_lines entry))
@@ -154,12 +152,11 @@ state_taken limits entries name old names at new s f number note =
     let transitions_after : transitions_of after ≡ transitions_of entries = transitions-push entries entry in
     let number_after : at ≡ number_in same_text (names_of after) name = h.1 ∙ ap (λ l. number_in same_text l name) names_after in
     let fits : Fits limits after =
-          record {
-            states = omega (arith, ap length names_after, h.2);
-            labels = omega (arith, ap length labels_after, f.labels);
-            transitions = omega (arith, ap length transitions_after, f.transitions);
-          } in
-    (
+    record {
+      states = omega (arith, ap length names_after, h.2);
+      labels = omega (arith, ap length labels_after, f.labels);
+      transitions = omega (arith, ap length transitions_after, f.transitions);
+    } in (
       no_fault limits entries entry refl fits,
       record {
         names = note.names ∙ names_after;
@@ -232,7 +229,7 @@ module _ (limits : Limits) (entries : List Entry) (label source target : List �
           → Tells (later_fault limits entries (TransitionLine label source target)) e
       label_refused e p' =
           refused_labels limits entries (TransitionLine label source target) e once states_fit
-            (subst (λ n. PastLimit TooManyLabels limits.labels n e) (ap length labels_one) (p' (omega (arith, ap length s.labels, f.labels))))
+          (subst (λ n. PastLimit TooManyLabels limits.labels n e) (ap length labels_one) (p' (omega (arith, ap length s.labels, f.labels))))
 
       module _ (labels1 : List (List ℕ)) (a : ℕ) (n3 : Numbers old.labels labels1 label a limits.labels) (new : Draft)
           (note : NotesTransition (record old { names = names2; labels = labels1 }) (p, a, q) new) where
@@ -248,16 +245,16 @@ module _ (limits : Limits) (entries : List Entry) (label source target : List �
         source_number : p ≡ number_in same_text (names_of (entries ++ TransitionLine label source target ∷ [])) source
         source_number =
             first.1
-              ∙ sym (number-all source (target ∷ []) names1 (subst (λ l. list_any (same_text source) l ≡ true) (sym first.0) (found-noted source old.names)))
-              ∙ ap (λ l. number_in same_text l source) names_two
+            ∙ sym (number-all source (target ∷ []) names1 (subst (λ l. list_any (same_text source) l ≡ true) (sym first.0) (found-noted source old.names)))
+            ∙ ap (λ l. number_in same_text l source) names_two
 
         transitions_after : map trans_with new.transitions.keys ≡ transitions_of (entries ++ TransitionLine label source target ∷ [])
         transitions_after =
             note.transitions
-              ∙ (λ i.
-                noted same_trans (s.transitions i)
-                  (trans (source_number i) ((third.1 ∙ ap (λ l. number_in same_text l label) labels_after) i) ((second.1 ∙ ap (λ l. number_in same_text l target) names_after) i)))
-              ∙ sym (transitions-push entries (TransitionLine label source target))
+            ∙ (λ i.
+            noted same_trans (s.transitions i)
+            (trans (source_number i) ((third.1 ∙ ap (λ l. number_in same_text l label) labels_after) i) ((second.1 ∙ ap (λ l. number_in same_text l target) names_after) i)))
+            ∙ sym (transitions-push entries (TransitionLine label source target))
 
         count_after : length new.transitions.keys ≡ length (transitions_of (entries ++ TransitionLine label source target ∷ []))
         count_after = sym (length-map new.transitions.keys trans_with) ∙ ap length transitions_after
@@ -267,11 +264,10 @@ module _ (limits : Limits) (entries : List Entry) (label source target : List �
 
         pub transition_taken : length new.transitions.keys ≤ limits.transitions
             → (later_fault limits entries (TransitionLine label source target) ≡ None)
-              × Stands new (entries ++ TransitionLine label source target ∷ []) × Fits limits (entries ++ TransitionLine label source target ∷ [])
+            × Stands new (entries ++ TransitionLine label source target ∷ []) × Fits limits (entries ++ TransitionLine label source target ∷ [])
         transition_taken h =
             let fits : Fits limits (entries ++ TransitionLine label source target ∷ []) =
-                  record { states = states_fit; labels = labels_fit; transitions = omega (arith, count_after) } in
-            (
+            record { states = states_fit; labels = labels_fit; transitions = omega (arith, count_after) } in (
               no_fault limits entries (TransitionLine label source target) once fits,
               record {
                 names = note.names ∙ names_after;

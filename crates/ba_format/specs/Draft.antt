@@ -1,5 +1,5 @@
 -- What the reader holds after the lines so far.
-use Rattle.std.specs.Prelude.{◌≡◌, ℕ, ◌+◌, ◌^◌, ◌≤◌, ◌<◌, ◌⊎◌, ◌==◌, Bool, true, false, List, [], ◌∷◌, ◌++◌, length, map, Option, None, Some, Result, MatchResult}
+use Rattle.std.specs.Prelude.{◌≡◌, ℕ, ◌^◌, ◌≤◌, ◌<◌, ◌==◌, true, false, List, [], ◌∷◌, ◌++◌, length, map, Option, None, Some, Result, MatchResult}
 use Rattle.std.specs.List.{list_all}
 use Rattle.auto_core.specs.declared.parts.Trans.{Trans}
 use Rattle.auto_core.specs.Automaton.{trans}
@@ -86,15 +86,15 @@ Tells fault Memory = Unit {0}
 abbrev pub Takes : Limits → List Entry → Entry → Draft → Result (Unit {0}) Refusal → Type 0
 Takes limits entries entry draft r =
     MatchResult r
-      (λ _. (later_fault limits entries entry ≡ None) × Stands draft (entries ++ entry ∷ []) × Fits limits (entries ++ entry ∷ []))
-      (Tells (later_fault limits entries entry))
+    (λ _. (later_fault limits entries entry ≡ None) × Stands draft (entries ++ entry ∷ []) × Fits limits (entries ++ entry ∷ []))
+    (Tells (later_fault limits entries entry))
 
 -- The same of a trimmed line, which may have a fault of its own.
 abbrev pub TakesLine : Limits → List Entry → List ℕ → Draft → Result (Unit {0}) Refusal → Type 0
 TakesLine limits entries line draft r =
     MatchResult r
-      (λ _. (kind_of_line limits entries line ≡ None) × Stands draft (entries ++ entry_of line ∷ []) × Fits limits (entries ++ entry_of line ∷ []))
-      (Tells (kind_of_line limits entries line))
+    (λ _. (kind_of_line limits entries line ≡ None) × Stands draft (entries ++ entry_of line ∷ []) × Fits limits (entries ++ entry_of line ∷ []))
+    (Tells (kind_of_line limits entries line))
 
 -- The draft stands for some lines, and has no more transitions than a u32 counts.
 pub record IsReady (draft : Draft) : Type 0 where

@@ -1,5 +1,5 @@
 -- The first fault of a `.ba` text, and the states, labels and transitions that its lines bring.
-use Rattle.std.specs.Prelude.{◌≡◌, ℕ, ◌+◌, Bool, true, false, not, ◌&&◌, List, [], ◌∷◌, ◌++◌, length, map, if◌then◌else◌, ◌==◌, nat_lt, nat_le, Option, None, Some}
+use Rattle.std.specs.Prelude.{ℕ, Bool, true, false, ◌&&◌, List, [], ◌∷◌, ◌++◌, length, map, if◌then◌else◌, ◌==◌, nat_lt, nat_le, Option, None, Some}
 use Rattle.std.specs.Option.{option_or}
 use Rattle.std.specs.List.{flat_map, list_all, range_with_len}
 use Rattle.auto_core.specs.declared.parts.Trans.{Trans}
@@ -9,7 +9,7 @@ use Rattle.ba_format.specs.declared.parts.BaKind.{BaKind}
 use Rattle.ba_format.specs.declared.parts.BaKind.TheVariants.{Empty, TwoInitial, TooManyStates, TooManyLabels, TooManyTransitions}
 use Rattle.ba_format.specs.declared.parts.Limits.{Limits}
 use Rattle.ba_format.specs.Grammar.{Line, Entry, StateLine, TransitionLine, entry_of, own_fault, lines_of}
-use Rattle.ba_format.specs.Sight.{same_text, noted, first_seen, number_in}
+use Rattle.ba_format.specs.Sight.{same_text, first_seen, number_in}
 
 -- The states that a line names, a transition's source before its target.
 abbrev pub states_in : Entry → List (List ℕ)

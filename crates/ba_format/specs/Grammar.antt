@@ -1,5 +1,5 @@
 -- The grammar of `.ba` texts: lines, what a line says, and what is wrong with a line by itself.
-use Rattle.std.specs.Prelude.{◌≡◌, ℕ, ◌+◌, Bool, true, false, not, ◌&&◌, ◌||◌, List, [], ◌∷◌, reverse, length, count_by, if◌then◌else◌, ◌==◌, nat_lt, nat_le, Option, None, Some}
+use Rattle.std.specs.Prelude.{ℕ, ◌+◌, Bool, not, ◌&&◌, ◌||◌, List, [], ◌∷◌, reverse, length, count_by, if◌then◌else◌, ◌==◌, nat_lt, Option, None, Some}
 use Rattle.std.specs.List.{list_any, slice_split, before_first, after_first}
 use Rattle.ba_format.specs.declared.parts.BaKind.{BaKind}
 use Rattle.ba_format.specs.declared.parts.BaKind.TheVariants.{BadByte, Shape, EmptyToken, TokenLong}
@@ -72,9 +72,9 @@ pub data Entry : Type 0 where
 abbrev pub entry_of : List ℕ → Entry
 entry_of line =
     if list_any is_comma line then
-      TransitionLine (trimmed (before_first is_comma line)) (trimmed (before_arrow (after_first is_comma line))) (trimmed (after_arrow (after_first is_comma line)))
+    TransitionLine (trimmed (before_first is_comma line)) (trimmed (before_arrow (after_first is_comma line))) (trimmed (after_arrow (after_first is_comma line)))
     else
-      StateLine line
+    StateLine line
 
 -- The tokens of a line.
 abbrev pub tokens_of : Entry → List (List ℕ)
@@ -90,9 +90,9 @@ is_bad b = (b == 127) || (nat_lt b 32 && not (b == 9))
 abbrev pub is_shaped : List ℕ → Bool
 is_shaped line =
     if list_any is_comma line then
-      (count_by is_comma line == 1) && (arrows line == 1) && (arrows (after_first is_comma line) == 1)
+    (count_by is_comma line == 1) && (arrows line == 1) && (arrows (after_first is_comma line) == 1)
     else
-      arrows line == 0
+    arrows line == 0
 
 abbrev pub is_empty : List ℕ → Bool
 is_empty token = length token == 0

@@ -1,5 +1,5 @@
 -- Two automata over the same labels.
-use Rattle.std.specs.Prelude.{◌≡◌, ℕ, not, List, [], ◌++◌, length, map, filter, slice_index, slice_index_or}
+use Rattle.std.specs.Prelude.{◌≡◌, ℕ, not, List, [], ◌++◌, length, map, filter, slice_index_or}
 use Rattle.std.specs.List.{list_any}
 use Rattle.auto_core.specs.declared.parts.Trans.{Trans}
 use Rattle.auto_core.specs.Automaton.{Automaton, trans}

@@ -7,3 +7,4 @@ pub mod Joining
 pub mod Parts
 pub mod Reading
 pub mod Writing
+pub mod Laws

@@ -1,5 +1,5 @@
 -- What it means that a text reads as an automaton with names and labels.
-use Rattle.std.specs.Prelude.{◌≡◌, ◌≤◌, ℕ, List, length, None}
+use Rattle.std.specs.Prelude.{◌≡◌, ℕ, ◌≤◌, List, length, None}
 use Rattle.auto_core.specs.Build.{IsBuilt}
 use Rattle.ba_format.specs.declared.parts.Limits.{Limits}
 use Rattle.ba_format.specs.declared.parts.Named.{Named}
@@ -12,15 +12,17 @@ pub record IsReading (entries : List Entry) (named : Named) : Type 0 where
   pub labels : named.labels ≡ labels_of entries
   pub auto :
       IsBuilt (length (names_of entries)) (length (labels_of entries)) (initial_of entries) (transitions_of entries) (accepting_of entries)
-        named.auto
+      named.auto
 
 -- The text has no fault within the limits, and reads as this.
 pub record Reads (text : List ℕ) (limits : Limits) (named : Named) : Type 0 where
   pub no_fault : fault_of text limits ≡ None
   pub reading : IsReading (entries_of text) named
 
--- No more states, labels and transitions than the limits say.
+-- Each state has a name and each label a text, and there are no more of them, nor of the transitions, than the limits say.
 pub record IsWithin (limits : Limits) (named : Named) : Type 0 where
+  pub states_named : named.auto.states ≡ length named.names
+  pub labels_named : named.auto.labels ≡ length named.labels
   pub states : named.auto.states ≤ limits.states
-  pub labels : length named.labels ≤ limits.labels
+  pub labels : named.auto.labels ≤ limits.labels
   pub transitions : length named.auto.transitions ≤ limits.transitions

@@ -142,15 +142,36 @@ impl Draft {
     }
 
     /// Takes a transition line.
-    fn take_transition(&mut self, label: &[u8], source: &[u8], target: &[u8], limits: &Limits) -> Result<(), Refusal>
+    fn take_transition(
+        &mut self,
+        label: &[u8],
+        source: &[u8],
+        target: &[u8],
+        limits: &Limits,
+    ) -> Result<(), Refusal>
         ensures { (entries : List Entry) → Stands self.old entries → Fits limits.now entries → Takes limits.now entries (TransitionLine label.now source.now target.now) self.new result }
     {
         if let Opening::States = self.opening {
             return Err(Refusal::Line(BaKind::TwoInitial));
         }
-        let source = number(&mut self.names, source, limits.states, BaKind::TooManyStates)?;
-        let target = number(&mut self.names, target, limits.states, BaKind::TooManyStates)?;
-        let label = number(&mut self.labels, label, limits.labels, BaKind::TooManyLabels)?;
+        let source = number(
+            &mut self.names,
+            source,
+            limits.states,
+            BaKind::TooManyStates,
+        )?;
+        let target = number(
+            &mut self.names,
+            target,
+            limits.states,
+            BaKind::TooManyStates,
+        )?;
+        let label = number(
+            &mut self.labels,
+            label,
+            limits.labels,
+            BaKind::TooManyLabels,
+        )?;
         if self.note_transition(source, label, target)? > limits.transitions as usize {
             return Err(Refusal::Line(BaKind::TooManyTransitions));
         }

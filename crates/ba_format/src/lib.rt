@@ -4,6 +4,7 @@
 mod building;
 mod draft;
 mod joining;
+pub mod laws;
 mod lines;
 mod parts;
 mod reading;
@@ -15,3 +16,6 @@ pub use parts::{BaFault, BaKind, Joined, Limits, Named, ReadFault};
 pub use reading::read;
 pub use texts::Texts;
 pub use writing::write;
+
+#[cfg(test)]
+mod tests;

@@ -4,7 +4,6 @@ use crate::texts::Texts;
 use auto_core::{Auto, Memory};
 use thiserror::Error;
 
-
 /// The most states, labels and different transitions that a text may bring.
 #[derive(Clone, Copy, Debug, PartialEq, Eq)]
 pub struct Limits {

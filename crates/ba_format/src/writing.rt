@@ -39,7 +39,12 @@ fn append_states(alloc: Global, out: &mut List<u8>, states: &[u32]) -> Result<()
 }
 
 /// Appends the line of a transition.
-fn append_transition(alloc: Global, out: &mut List<u8>, step: Trans, labels: &Texts) -> Result<(), Memory>
+fn append_transition(
+    alloc: Global,
+    out: &mut List<u8>,
+    step: Trans,
+    labels: &Texts,
+) -> Result<(), Memory>
     requires { step.label < length labels.now }
     ensures { OnOk result (out.new ≡ out.old ++ transition_text labels.now step) }
 {
@@ -52,7 +57,12 @@ fn append_transition(alloc: Global, out: &mut List<u8>, step: Trans, labels: &Te
 }
 
 /// Appends the lines of these transitions.
-fn append_transitions(alloc: Global, out: &mut List<u8>, steps: &[Trans], labels: &Texts) -> Result<(), Memory>
+fn append_transitions(
+    alloc: Global,
+    out: &mut List<u8>,
+    steps: &[Trans],
+    labels: &Texts,
+) -> Result<(), Memory>
     requires { All (λ t. t.label < length labels.now) steps.now }
     ensures { OnOk result (out.new ≡ out.old ++ flat_map (transition_text labels.now) steps.now) }
 {

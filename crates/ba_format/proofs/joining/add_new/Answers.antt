@@ -1,6 +1,4 @@
-use Rattle.std.proofs.Common.{◌≡◌, ◌∙◌, ap, true, false, ◌+◌, ◌≤◌, ◌++◌, ◌∷◌, [], length, take, subst, sym, arith}
-use Rattle.std.specs.List.{list_any}
-use Rattle.ba_format.specs.Sight.{same_text}
+use Rattle.std.proofs.Common.{◌≡◌, ◌∙◌, true, false, ◌+◌, ◌≤◌, length, take, sym, arith}
 use Rattle.ba_format.specs.Joining.{joined_labels}
 use Rattle.ba_format.proofs.JoinLemmas.{absent, joined-step}
 use Rattle.ba_format.proofs.joining.add_new.Goals as goal

@@ -1,8 +1,7 @@
 use Rattle.std.proofs.Common.{◌≡◌, refl, ap, sym, subst, length, All, true, arith}
 use Rattle.std.specs.List.{list_any}
 use Rattle.ba_format.specs.Sight.{same_text}
-use Rattle.ba_format.specs.Joining.{joined_labels, IsJoined}
-use Rattle.ba_format.proofs.JoinLemmas.{joined_made, joined-nil, first_found, second_found}
+use Rattle.ba_format.proofs.JoinLemmas.{joined_made, first_found, second_found}
 use Rattle.ba_format.proofs.joining.join.Goals as goal
 
 pub add_new-requires-2 : goal.add_new-requires-2

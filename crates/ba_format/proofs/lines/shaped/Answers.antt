@@ -1,4 +1,3 @@
-use Rattle.std.proofs.Common.{◌≡◌}
 use Rattle.ba_format.proofs.LineLemmas.{shaped-cut}
 use Rattle.ba_format.proofs.lines.shaped.Goals as goal
 

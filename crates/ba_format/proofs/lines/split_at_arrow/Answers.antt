@@ -1,5 +1,5 @@
 use Rattle.std.proofs.Common.{◌≡◌, ◌+◌, ◌-◌, suc, subst, get_or, arith}
-use Rattle.ba_format.proofs.LineLemmas.{Searched, Searched-more, Searched-found, Searched-end}
+use Rattle.ba_format.proofs.LineLemmas.{Searched, Searched-more, Searched-end}
 use Rattle.ba_format.proofs.lines.split_at_arrow.Goals as goal
 use Rattle.ba_format.proofs.lines.split_at_arrow.Goals.{else-text-at-eq45-via-then-text-at-eq45+else-text-at-eq62, else-text-at-eq45-via-else-text-at-eq45}
 

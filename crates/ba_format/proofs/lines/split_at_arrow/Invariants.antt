@@ -5,5 +5,5 @@ use Rattle.ba_format.proofs.lines.split_at_arrow.Given as goal
 abbrev pub invariant-loop-at : goal.invariant-loop-at
 invariant-loop-at l =
     (arrows l.text ≡ arrows (drop (l.at - 1) l.text))
-        × (before_arrow l.text ≡ take (l.at - 1) l.text ++ before_arrow (drop (l.at - 1) l.text))
-        × (after_arrow l.text ≡ after_arrow (drop (l.at - 1) l.text))
+    × (before_arrow l.text ≡ take (l.at - 1) l.text ++ before_arrow (drop (l.at - 1) l.text))
+    × (after_arrow l.text ≡ after_arrow (drop (l.at - 1) l.text))

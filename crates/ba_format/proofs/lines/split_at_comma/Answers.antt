@@ -1,5 +1,4 @@
-use Rattle.std.proofs.Common.{◌≡◌, ◌∙◌, ap, sym, take, drop, length, true, false, ◌+◌, arith}
-use Rattle.std.specs.List.{list_any, before_first, after_first}
+use Rattle.std.proofs.Common.{◌∙◌, ap, sym, take, drop, ◌+◌, arith}
 use Rattle.std.proofs.lemmas.List.{take_all, length-drop}
 use Rattle.ba_format.specs.Grammar.{is_comma}
 use Rattle.ba_format.proofs.LineLemmas.{place_found, place_missing}

@@ -1,8 +1,8 @@
-use Rattle.std.proofs.Common.{◌≡◌, ◌∙◌, ◌<◌, ap, sym, subst, length, Some, [], ◌+◌, arith}
-use Rattle.std.specs.List.{before_first, after_first}
+use Rattle.std.proofs.Common.{◌≡◌, ◌∙◌, ap, sym, subst, length, Some, ◌+◌}
+use Rattle.std.specs.List.{before_first}
 use Rattle.std.proofs.lemmas.List.{nil_from_length}
-use Rattle.ba_format.specs.Grammar.{is_newline, trimmed, lines_of}
-use Rattle.ba_format.specs.Faults.{first_fault, kind_of_line}
+use Rattle.ba_format.specs.Grammar.{is_newline, trimmed}
+use Rattle.ba_format.specs.Faults.{kind_of_line}
 use Rattle.ba_format.specs.Draft.{Tells}
 use Rattle.ba_format.proofs.ReadLemmas.{Underway, Underway-blank, Underway-taken, refused_line, Underway-end, nonempty_from, empty_from}
 use Rattle.ba_format.proofs.reading.draft_of.Goals as goal
@@ -22,7 +22,7 @@ loop-rest-preserved-in-Ok c =
     let some = nonempty_from (length c.loop-rest.rest.now) c.loop-rest-test.ensures in
     let long = nonempty_from (length c.trimmed-line.result.now) c.if-not-is_empty.ensures in
     subst (λ rest. Underway c.args.limits.now c.args.text.now rest (c.loop-rest.number + 1) c.take.new.self) (sym c.first_line.ensures.rest)
-      (Underway-taken c.args.limits.now c.args.text.now c.loop-rest.rest.now c.loop-rest.number c.loop-rest.draft u some c.trimmed-line.result.now c.take.new.self line long (c.in-Ok.ensures u.entries u.stands u.fits))
+    (Underway-taken c.args.limits.now c.args.text.now c.loop-rest.rest.now c.loop-rest.number c.loop-rest.draft u some c.trimmed-line.result.now c.take.new.self line long (c.in-Ok.ensures u.entries u.stands u.fits))
 
 pub loop-rest-preserved : goal.loop-rest-preserved
 loop-rest-preserved c =
@@ -31,7 +31,7 @@ loop-rest-preserved c =
     let some = nonempty_from (length c.loop-rest.rest.now) c.loop-rest-test.ensures in
     let none = empty_from (length c.trimmed-line.result.now) c.if-not-is_empty.ensures in
     subst (λ rest. Underway c.args.limits.now c.args.text.now rest (c.loop-rest.number + 1) c.loop-rest.draft) (sym c.first_line.ensures.rest)
-      (Underway-blank c.args.limits.now c.args.text.now c.loop-rest.rest.now c.loop-rest.number c.loop-rest.draft u some (sym line ∙ nil_from_length _ none))
+    (Underway-blank c.args.limits.now c.args.text.now c.loop-rest.rest.now c.loop-rest.number c.loop-rest.draft u some (sym line ∙ nil_from_length _ none))
 
 pub returns : goal.returns
 returns c = Underway-end c.args.limits.now c.args.text.now c.loop-rest.rest.now c.loop-rest.number c.loop-rest.draft (empty_from (length c.loop-rest.rest.now) c.loop-rest-test.ensures) c.loop-rest.invariant

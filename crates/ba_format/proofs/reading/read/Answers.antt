@@ -1,9 +1,7 @@
-use Rattle.std.proofs.Common.{◌≡◌, ◌∙◌, ap, sym, length, Ok, Err, Some, None, arith}
-use Rattle.ba_format.specs.Faults.{entries_of, fault_of, transitions_of}
-use Rattle.ba_format.specs.Reading.{Reads}
+use Rattle.std.proofs.Common.{arith}
+use Rattle.ba_format.specs.Faults.{entries_of}
 use Rattle.ba_format.proofs.ReadLemmas.{empty_text, opens_not, no_fault_text}
-use Rattle.ba_format.proofs.NamedLemmas.{transitions-most}
-use Rattle.std.proofs.lemmas.List.Sorted.{length_permutation}
+use Rattle.ba_format.proofs.NamedLemmas.{transitions-most, within_limits}
 use Rattle.ba_format.proofs.reading.read.Goals as goal
 
 pub returns-in-Nothing-clause-fault : goal.returns-in-Nothing-clause-fault
@@ -25,17 +23,11 @@ pub returns : goal.returns
 returns c =
     let entries = entries_of c.args.bytes.now in
     let some = opens_not c.in_ok-draft.draft.opening entries c.in_ok-draft.ensures.1.opening c.in_default.not-Nothing in
-    let fits = c.in_ok-draft.ensures.2 in
-    let reading = c.in_ok-into_named.ensures entries c.in_ok-draft.ensures.1 in
     let none = no_fault_text c.args.limits.now c.args.bytes.now some c.in_ok-draft.ensures.0 in
+    let reading = c.in_ok-into_named.ensures entries c.in_ok-draft.ensures.1 in
     record {
+      within = within_limits c.args.limits.now entries c.in_ok-into_named.field-0 c.in_ok-draft.ensures.2 reading;
       named = record { no_fault = none; reading = reading };
-      within =
-        record {
-          states = omega (arith, reading.auto.states_given, fits.states);
-          labels = omega (arith, ap length reading.labels, fits.labels);
-          transitions = omega (arith, length_permutation (transitions_of entries) c.in_ok-into_named.field-0.auto.transitions reading.auto.transitions_given, fits.transitions);
-        };
       fault = λ fault e. cc;
       found = λ fault e. cc;
     }

@@ -1,7 +1,6 @@
-use Rattle.std.proofs.Common.{◌≡◌, ◌∙◌, ap, sym, subst, length}
+use Rattle.std.proofs.Common.{◌∙◌, ap, sym, subst, length}
 use Rattle.auto_core.specs.Build.{IsBuilt}
 use Rattle.ba_format.specs.Faults.{names_of, labels_of, transitions_of, accepting_of}
-use Rattle.ba_format.specs.Reading.{IsReading}
 use Rattle.ba_format.proofs.NamedLemmas.{parts_of, initial_zero, opens_some, transitions_given, accepting_given}
 use Rattle.ba_format.proofs.draft.Draft.into_named.Goals as goal
 
@@ -27,7 +26,7 @@ returns c = λ entries s.
       names = s.names;
       labels = s.labels;
       auto =
-        subst (λ n. IsBuilt (length (names_of entries)) (length (labels_of entries)) n (transitions_of entries) (accepting_of entries) c.in_ok-auto.auto)
+          subst (λ n. IsBuilt (length (names_of entries)) (length (labels_of entries)) n (transitions_of entries) (accepting_of entries) c.in_ok-auto.auto)
           (sym (initial_zero entries (opens_some draft.opening c.requires.entries entries c.requires.stands.opening s.opening c.requires.some)))
           (rw (states, labels, transitions, accepting) at c.in_ok-auto.ensures);
     }

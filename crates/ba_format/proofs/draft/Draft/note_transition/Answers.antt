@@ -1,4 +1,4 @@
-use Rattle.std.proofs.Common.{◌≡◌, ◌∙◌, refl, ap, map}
+use Rattle.std.proofs.Common.{◌∙◌, refl, ap, map}
 use Rattle.ba_format.specs.Draft.{trans_with}
 use Rattle.ba_format.specs.Faults.{same_trans}
 use Rattle.ba_format.proofs.SightLemmas.{map-insert_key}

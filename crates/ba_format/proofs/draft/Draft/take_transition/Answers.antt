@@ -1,9 +1,6 @@
-use Rattle.std.proofs.Common.{◌≡◌, ◌<◌, ◌≤◌, Some, Err, subst, sym, arith}
+use Rattle.std.proofs.Common.{arith}
 use Rattle.std.proofs.lemmas.Result.{err_from_is_err_and}
-use Rattle.ba_format.specs.Grammar.{TransitionLine}
-use Rattle.ba_format.specs.Faults.{later_fault}
-use Rattle.ba_format.specs.Draft.{Takes, Stands, Fits}
-use Rattle.ba_format.proofs.TakeLemmas.{source_refused, target_refused, label_refused, transition_refused, transition_taken}
+use Rattle.ba_format.proofs.TakeLemmas.{source_refused, transition_refused, transition_taken}
 use Rattle.ba_format.proofs.draft.Draft.take_transition.Goals as goal
 
 pub returns-in_err-source : goal.returns-in_err-source
@@ -15,11 +12,11 @@ returns-in_err-source c = λ entries s f.
 pub returns-then-branch-limits : goal.returns-then-branch-limits
 returns-then-branch-limits c = λ entries s f.
     transition_refused c.args.limits.now entries c.args.label.now c.args.source.now c.args.target.now c.args.self.now s f c.in_default.not-States
-      c.number.new.texts c.in_ok-source.source c.in_ok-source.ensures c.number-2.new.texts c.in_ok-target.target c.in_ok-target.ensures
-      c.number-3.new.texts c.in_ok-label.label c.in_ok-label.ensures c.note_transition.new.self c.in_ok-note_transition.ensures.noted (omega (arith, c.in_ok-note_transition.ensures.count))
+    c.number.new.texts c.in_ok-source.source c.in_ok-source.ensures c.number-2.new.texts c.in_ok-target.target c.in_ok-target.ensures
+    c.number-3.new.texts c.in_ok-label.label c.in_ok-label.ensures c.note_transition.new.self c.in_ok-note_transition.ensures.noted (omega (arith, c.in_ok-note_transition.ensures.count))
 
 pub returns : goal.returns
 returns c = λ entries s f.
     transition_taken c.args.limits.now entries c.args.label.now c.args.source.now c.args.target.now c.args.self.now s f c.in_default.not-States
-      c.number.new.texts c.in_ok-source.source c.in_ok-source.ensures c.number-2.new.texts c.in_ok-target.target c.in_ok-target.ensures
-      c.number-3.new.texts c.in_ok-label.label c.in_ok-label.ensures c.note_transition.new.self c.in_ok-note_transition.ensures.noted (omega (arith, c.in_ok-note_transition.ensures.count))
+    c.number.new.texts c.in_ok-source.source c.in_ok-source.ensures c.number-2.new.texts c.in_ok-target.target c.in_ok-target.ensures
+    c.number-3.new.texts c.in_ok-label.label c.in_ok-label.ensures c.note_transition.new.self c.in_ok-note_transition.ensures.noted (omega (arith, c.in_ok-note_transition.ensures.count))

@@ -1,4 +1,4 @@
-use Rattle.std.proofs.Common.{◌≡◌, ◌∙◌, ap, subst, sym, ◌++◌, ◌∷◌, [], Contains, length, map, arith}
+use Rattle.std.proofs.Common.{◌∙◌, ap, subst, sym, ◌++◌, ◌∷◌, [], Contains, length, map, arith}
 use Rattle.ba_format.specs.Sight.{AreTexts}
 use Rattle.ba_format.proofs.SightLemmas.{AreTexts-push, texts-insert}
 use Rattle.ba_format.proofs.texts.Texts.add.Goals as goal

@@ -1,4 +1,4 @@
-use Rattle.std.proofs.Common.{◌≡◌, subst, ap, List, ℕ, MatchOption, true, false, Some, None}
+use Rattle.std.proofs.Common.{◌≡◌, subst, true, false, Some, None}
 use Rattle.std.specs.List.{list_any}
 use Rattle.ba_format.specs.Sight.{same_text, number_in}
 use Rattle.ba_format.proofs.SightLemmas.{place_through}
@@ -11,4 +11,4 @@ returns-in_err-at c =
 pub returns : goal.returns
 returns c =
     subst (λ texts. (list_any (same_text c.args.text.now) texts ≡ true) × (c.in_ok-at.at ≡ number_in same_text texts c.args.text.now)) c.self.view_is
-      (place_through c.self.inside.texts.keys c.args.text.now (Some c.in_ok-at.at) c.in_ok-at.ensures.index c.in_ok-at.ensures.found)
+    (place_through c.self.inside.texts.keys c.args.text.now (Some c.in_ok-at.at) c.in_ok-at.ensures.index c.in_ok-at.ensures.found)

@@ -1,4 +1,4 @@
-use Rattle.std.proofs.Common.{◌≡◌, ◌∙◌, ap}
+use Rattle.std.proofs.Common.{◌∙◌, ap}
 use Rattle.std.specs.List.{list_any}
 use Rattle.ba_format.specs.Sight.{same_text}
 use Rattle.ba_format.proofs.SightLemmas.{list_any-through}
