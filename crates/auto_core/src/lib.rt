@@ -12,3 +12,6 @@ mod tables;
 pub use automaton::{Auto, BuildFault};
 pub use listing::List;
 pub use parts::{Lasso, Memory, Mode, Origin, Span, Trans, Word};
+
+#[cfg(test)]
+mod tests;
