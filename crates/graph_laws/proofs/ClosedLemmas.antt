@@ -1,5 +1,5 @@
 -- A closed family of supergraphs: what is read has a live one that subsumes it, and so lassos are accepted.
-use Rattle.std.proofs.Common.{◌≡◌, ℕ, ◌+◌, ◌<◌, ◌≤◌, Bool, true, false, ◌||◌, List, [], ◌∷◌, ◌++◌, length, refl, sym, ap, ◌∙◌, subst, arith, append_assoc}
+use Rattle.std.proofs.Common.{◌≡◌, ℕ, ◌+◌, ◌<◌, ◌≤◌, Bool, true, false, ◌||◌, List, [], ◌∷◌, ◌++◌, length, refl, sym, ap, ◌∙◌, subst, arith, append_assoc, append-nil}
 use Rattle.std.proofs.lemmas.Bool.{false≢true}
 use Rattle.auto_core.specs.Automaton.{Automaton, IsAutomaton, Moves, is_accepting, trans_at}
 use Rattle.auto_core.specs.Run.{Run, repeated}
@@ -13,7 +13,7 @@ use Rattle.auto_core.proofs.MoveLemmas.{number_of}
 use Rattle.path_laws.proofs.PumpingLemmas.{reblock, repeated-add}
 use Rattle.path_laws.proofs.GameLemmas.{close_refl, close_trans, close_one}
 use Rattle.path_laws.proofs.AppliedLemmas.{closure_stays_stable}
-use Rattle.graph_laws.specs.Closed.{IsLive, ClosedSetIncludes}
+use Rattle.graph_laws.specs.Closed.{IsLive, ClosedSetIncludes, FailingPairsSeparate}
 use Rattle.graph_laws.proofs.GraphLemmas.{graph_of_more, same_sym, covers_same, subsumes_trans, subsumes_more, subsumes_extended}
 use Rattle.graph_laws.proofs.LassoLemmas.{lasso_to_words, lasso_is_accepted}
 
@@ -66,12 +66,8 @@ module _ (A B : Automaton) (T : ℕ → ℕ → Type 0) (same : (s : ℕ) → T 
         (more.0, more.1, subst (λ (u : Trans). Subsumes T (item more.0) (word_super B p u.target (flag || is_accepting A u.target) (w ++ u.label ∷ []))) n.2 here)
 
     has_on : (p : ℕ) (x : List ℕ) (q r : ℕ) (flag more : Bool) (w : List ℕ) → Has (word_super B p q flag w) → Run A q x r more → Has (word_super B p r (flag || more) (w ++ x))
-    has_on p [] q r flag more w has run = subst (λ l. Has (word_super B p r (flag || more) l)) (sym (append_nil w)) (subst (λ b. Has (word_super B p r b w)) (or_end flag more run.1) (subst (λ s. Has (word_super B p s flag w)) run.0 has))
+    has_on p [] q r flag more w has run = subst (λ l. Has (word_super B p r (flag || more) l)) (sym (append-nil w)) (subst (λ b. Has (word_super B p r b w)) (or_end flag more run.1) (subst (λ s. Has (word_super B p s flag w)) run.0 has))
       where
-        append_nil : (l : List ℕ) → l ++ [] ≡ l
-        append_nil [] = refl
-        append_nil (y ∷ l) = ap (λ z. y ∷ z) (append_nil l)
-
         or_end : (b c : Bool) → c ≡ false → b ≡ (b || c)
         or_end true c e = refl
         or_end false c e = sym e
@@ -146,3 +142,27 @@ closed_set_includes A B S arcs live valid closed =
           (extension_below A B T same x.from x.to x.flag x.word (trans_at A t)),
     ))
     valid closed.passes
+
+-- A failing pair.
+pub failing_pairs_separate : FailingPairsSeparate
+failing_pairs_separate A B x y real_x real_y (tested, fails) = (
+  record {
+    before = 0;
+    turns = 1;
+    state = x.to;
+    flag = x.flag;
+    enters = subst (λ l. Run A A.initial l x.to x.flag) (sym (append-nil x.word)) (subst (λ s. Run A s x.word x.to x.flag) tested.starts real_x.run);
+    some_turn = omega arith;
+    cycles = subst (λ l. Run A x.to l x.to true) (sym (append-nil y.word)) turn;
+  },
+  λ accepted. fails ((lasso_is_accepted B x.word y.word).1 accepted),
+)
+  where
+    flagged : Run A y.from y.word y.to true
+    flagged = subst (λ b. Run A y.from y.word y.to b) tested.flagged real_y.run
+
+    back : Run A y.from y.word y.from true
+    back = subst (λ s. Run A y.from y.word s true) (sym tested.returns) flagged
+
+    turn : Run A x.to y.word x.to true
+    turn = subst (λ s. Run A s y.word s true) (sym tested.meets) back

@@ -8,7 +8,7 @@ use Rattle.auto_core.specs.Graph.{Graph, IsGraph, SameGraph, graph_of, letter_gr
 use Rattle.auto_core.specs.declared.parts.Trans.{Trans}
 use Rattle.auto_core.proofs.PathLemmas.{run_join, run_split, accepting_from_test, test_from_accepting}
 
--- Which graphs have only arcs among those of value 2.
+-- In graphs of words, graphs given by values and extended graphs the arcs of value 2 are among the arcs.
 pub word_graph_is : (B : Automaton) (w : List ℕ) → IsGraph (graph_of B w)
 word_graph_is B w s t run = (true, run)
 
@@ -108,6 +108,12 @@ graph_of_more B w a = record {
   );
 }
 
+-- From a graph that stands for a word to one that stands for the word with one letter more.
+pub same_more : (B : Automaton) (g : Graph) (w : List ℕ) (a : ℕ) → SameGraph g (graph_of B w) → SameGraph (extended B g a) (graph_of B (w ++ a ∷ []))
+same_more B g w a e =
+    same_trans (extended B g a) (extended B (graph_of B w) a) (graph_of B (w ++ a ∷ []))
+    (same_extended B g (graph_of B w) a e) (same_sym (graph_of B (w ++ a ∷ [])) (extended B (graph_of B w) a) (graph_of_more B w a))
+
 -- Covering.
 pub covers_same : (S : ℕ → ℕ → Type 0) → ((s : ℕ) → S s s) → (g h : Graph) → SameGraph g h → Covers S g h
 covers_same S same g h e = record {
@@ -154,6 +160,12 @@ subsumes_trans S joins x y z c d = record {
 
 pub subsumes_more : (S T : ℕ → ℕ → Type 0) → ((p q : ℕ) → S p q → T p q) → (x y : Supergraph) → Subsumes S x y → Subsumes T x y
 subsumes_more S T f x y c = record { from = c.from; to = c.to; flag = c.flag; covers = covers_more S T f x.graph y.graph c.covers }
+
+-- Arcs with graphs of the same values subsume alike.
+pub subsumes_between : (S : ℕ → ℕ → Type 0) (p q r s : ℕ) (e f : Bool) (g h x y : Graph) → SameGraph g x → SameGraph h y →
+    Subsumes S (record { from = p; to = q; flag = e; graph = g }) (record { from = r; to = s; flag = f; graph = h }) →
+    Subsumes S (record { from = p; to = q; flag = e; graph = x }) (record { from = r; to = s; flag = f; graph = y })
+subsumes_between S p q r s e f g h x y d k c = record { from = c.from; to = c.to; flag = c.flag; covers = covers_between S g h x y d k c.covers }
 
 -- By a relation that is stable at lookahead 1: one move, and a whole run.
 pub move_answered : (B : Automaton) (W : ℕ → ℕ → Type 0) → Stable (Moves B) (Moves B) (MatchesForward B B) 1 W → (p q a r : ℕ) → W p q → Moves B p a r →

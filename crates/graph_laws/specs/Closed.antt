@@ -1,9 +1,9 @@
 -- A closed set of supergraphs, given by arcs with words, and what it tells.
 use Rattle.std.specs.Prelude.{◌≡◌, ℕ, ◌<◌, Bool, true, List, [], ◌∷◌, ◌++◌, length, slice_index_or}
 use Rattle.auto_core.specs.Automaton.{Automaton, IsAutomaton, trans_at}
-use Rattle.auto_core.specs.Accept.{Includes}
+use Rattle.auto_core.specs.Accept.{Includes, SeparatesLasso}
 use Rattle.auto_core.specs.Game.{Holds, StableForward}
-use Rattle.auto_core.specs.Graph.{Subsumes, Passes, WordArc, IsReal, super_of, base_arc, extended_arc, arc_at, arcs_of, arc_of, ArePlaced}
+use Rattle.auto_core.specs.Graph.{Subsumes, Passes, Fails, WordArc, IsReal, super_of, base_arc, extended_arc, arc_at, arcs_of, arc_of, ArePlaced}
 use Rattle.auto_core.specs.declared.parts.Mode.TheVariants.{Buchi}
 use Rattle.auto_core.specs.declared.parts.Origin.{Origin}
 use Rattle.auto_core.specs.declared.parts.Origin.TheVariants.{Start}
@@ -34,6 +34,10 @@ pub record ClosedSet (A B : Automaton) (S : List (ℕ × ℕ)) (arcs : List Word
 -- If there is a closed set, B accepts each lasso that A accepts. The list S need be neither reflexive nor transitive.
 abbrev pub ClosedSetIncludes : Type 0
 ClosedSetIncludes = (A B : Automaton) (S : List (ℕ × ℕ)) (arcs : List WordArc) (live : ℕ → Bool) → IsAutomaton B → ClosedSet A B S arcs live → Includes A B Buchi
+
+-- A pair of real arcs whose supergraphs fail has words that are a lasso which A accepts and B does not.
+abbrev pub FailingPairsSeparate : Type 0
+FailingPairsSeparate = (A B : Automaton) (x y : WordArc) → IsReal A x → IsReal A y → Fails A B (super_of B x) (super_of B y) → SeparatesLasso A B x.word y.word
 
 -- Origins have one arc each. Where they are placed, each arc is that of its origin; one more origin adds its arc at the end.
 pub record HaveArcs (A : Automaton) (origins : List Origin) : Type 0 where

@@ -6,7 +6,9 @@ mod closed;
 mod graphs;
 mod lassos;
 
-pub use closed::{closed_set_includes, origins_have_arcs, placed_arcs_are_real};
+pub use closed::{
+    closed_set_includes, failing_pairs_separate, origins_have_arcs, placed_arcs_are_real,
+};
 pub use graphs::{graphs_extend, graphs_of_letters, subsumption_is_an_order, subsumption_is_kept};
 pub use lassos::{
     covered_lassos_are_accepted, lassos_are_accepted, lassos_are_cycles, lassos_are_reached,
