@@ -18,11 +18,11 @@ unless_weaker OutOfMemory P Q f h = tt
 
 -- two facts about told files give a third
 pub of_files :
-  (held : Option FileMap) (P Q R : FileMap → Type 0)
-  → ((files : FileMap) → P files → Q files → R files)
-  → IfSome held P
-  → IfSome held Q
-  → IfSome held R
+    (held : Option FileMap) (P Q R : FileMap → Type 0)
+    → ((files : FileMap) → P files → Q files → R files)
+    → IfSome held P
+    → IfSome held Q
+    → IfSome held R
 of_files (Some files) P Q R f p q = f files p q
 of_files None P Q R f p q = q
 

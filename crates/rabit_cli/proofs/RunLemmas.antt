@@ -21,16 +21,16 @@ use Rattle.rabit_cli.specs.declared.answer.Answer.TheVariants.{NotBuilt, BadFile
 
 -- a valid certificate whose answer is a lasso
 apart_from_valid :
-  (files : FileMap) (a b c : List ℕ) (sent sent' : Option (List ℕ)) (one two : Named) (pair : Joined) (cert : Cert) (labels : List (List ℕ)) (lasso : Lasso) (body : Body)
-  → cert.body ≡ body
-  → ReadsAs files a one
-  → ReadsAs files b two
-  → IsJoined one two pair
-  → HoldsCertificate files c cert
-  → AllHold (body_checks pair body)
-  → IsVerdictAnswer pair body (NotIncluded labels lasso)
-  → sent' ≡ append_known sent (text_for (NotIncluded labels lasso))
-  → IsApart files a b c sent sent'
+    (files : FileMap) (a b c : List ℕ) (sent sent' : Option (List ℕ)) (one two : Named) (pair : Joined) (cert : Cert) (labels : List (List ℕ)) (lasso : Lasso) (body : Body)
+    → cert.body ≡ body
+    → ReadsAs files a one
+    → ReadsAs files b two
+    → IsJoined one two pair
+    → HoldsCertificate files c cert
+    → AllHold (body_checks pair body)
+    → IsVerdictAnswer pair body (NotIncluded labels lasso)
+    → sent' ≡ append_known sent (text_for (NotIncluded labels lasso))
+    → IsApart files a b c sent sent'
 apart_from_valid files a b c sent sent' one two pair cert labels lasso (Yes y) is r1 r2 j h all says sends = absurd says
 apart_from_valid files a b c sent sent' one two pair cert labels lasso (NoWord w) is r1 r2 j h all says sends = absurd says
 apart_from_valid files a b c sent sent' one two pair cert labels lasso (Listing l) is r1 r2 j h all says sends = absurd says
@@ -59,43 +59,43 @@ not_certificate_fault files name labels lasso (bytes, held, cause) =
     elim cause [ inl long ↦ (let e = long.1 in cc) | inr bad ↦ (let e = bad.1.2 in cc) ]
 
 apart_from_answer :
-  (files : FileMap) (question : Option Question) (labels : List (List ℕ)) (lasso : Lasso) (sent sent' : Option (List ℕ))
-  → IsAnswerTo files question (NotIncluded labels lasso)
-  → sent' ≡ append_known sent (text_for (NotIncluded labels lasso))
-  → ShowsApart files question sent sent'
+    (files : FileMap) (question : Option Question) (labels : List (List ℕ)) (lasso : Lasso) (sent sent' : Option (List ℕ))
+    → IsAnswerTo files question (NotIncluded labels lasso)
+    → sent' ≡ append_known sent (text_for (NotIncluded labels lasso))
+    → ShowsApart files question sent sent'
 apart_from_answer files None labels lasso sent sent' answer sends = cc
 apart_from_answer files (Some (Check a b c)) labels lasso sent sent' answer sends =
     elim answer [
-      inl fault ↦ absurd (not_file_fault 1 files a labels lasso fault)
+      | inl fault ↦ absurd (not_file_fault 1 files a labels lasso fault)
       | inr (one, reads_one, more) ↦
-        elim more [
-          inl fault ↦ absurd (not_file_fault 2 files b labels lasso fault)
-          | inr (two, reads_two, rest) ↦
-            elim rest [
-              inl fault ↦ absurd (not_certificate_fault files c labels lasso fault)
-              | inr (pair, joined, last) ↦
-                let cert = last.0 in
-                elim last.2 [
-                  inl unbuilt ↦ (let e = unbuilt.1 in absurd cc)
-                  | inr decided ↦
-                    elim decided [
-                      inl broken ↦ (let e = broken.1.2 in absurd cc)
-                      | inr valid ↦ apart_from_valid files a b c sent sent' one two pair cert labels lasso cert.body refl reads_one reads_two joined last.1 valid.1.1 valid.2 sends
-                    ]
+          elim more [
+            | inl fault ↦ absurd (not_file_fault 2 files b labels lasso fault)
+            | inr (two, reads_two, rest) ↦
+                elim rest [
+                  | inl fault ↦ absurd (not_certificate_fault files c labels lasso fault)
+                  | inr (pair, joined, last) ↦
+                      let cert = last.0 in
+                      elim last.2 [
+                        | inl unbuilt ↦ (let e = unbuilt.1 in absurd cc)
+                        | inr decided ↦
+                            elim decided [
+                              | inl broken ↦ (let e = broken.1.2 in absurd cc)
+                              | inr valid ↦ apart_from_valid files a b c sent sent' one two pair cert labels lasso cert.body refl reads_one reads_two joined last.1 valid.1.1 valid.2 sends
+                            ]
+                      ]
                 ]
-            ]
-        ]
+          ]
     ]
 
 -- status 1 is that of a lasso that was printed whole
 pub status_one :
-  (answer : Answer) (status : ℕ) (sent sent' : Option (List ℕ)) (sink sink' : ℕ)
-  → WasSaid answer status sent sent' sink sink'
-  → status ≡ 1
-  → (labels : List (List ℕ)) × (lasso : Lasso) × (answer ≡ NotIncluded labels lasso) × (sent' ≡ append_known sent (text_for (NotIncluded labels lasso)))
+    (answer : Answer) (status : ℕ) (sent sent' : Option (List ℕ)) (sink sink' : ℕ)
+    → WasSaid answer status sent sent' sink sink'
+    → status ≡ 1
+    → (labels : List (List ℕ)) × (lasso : Lasso) × (answer ≡ NotIncluded labels lasso) × (sent' ≡ append_known sent (text_for (NotIncluded labels lasso)))
 status_one (NotIncluded labels lasso) status sent sent' sink sink' said one =
     elim said [
-      inl whole ↦ (labels, lasso, refl, whole.1)
+      | inl whole ↦ (labels, lasso, refl, whole.1)
       | inr front ↦ let e = front.0 in absurd (omega arith)
     ]
 status_one NotBuilt status sent sent' sink sink' said one = elim said [ inl w ↦ (let e = w.0 in absurd (omega arith)) | inr f ↦ (let e = f.0 in absurd (omega arith)) ]
@@ -108,10 +108,10 @@ status_one ReadFault status sent sent' sink sink' said one = elim said [ inl w �
 status_one OutOfMemory status sent sent' sink sink' said one = elim said [ inl w ↦ (let e = w.0 in absurd (omega arith)) | inr f ↦ (let e = f.0 in absurd (omega arith)) ]
 
 pub shows_apart :
-  (held : Option FileMap) (question : Option Question) (status : ℕ) (sent sent' : Option (List ℕ)) (sink sink' faults faults' : ℕ)
-  → IsAnswered held question status sent sent' sink sink' faults faults'
-  → status ≡ 1
-  → IfSome held (λ files. ShowsApart files question sent sent')
+    (held : Option FileMap) (question : Option Question) (status : ℕ) (sent sent' : Option (List ℕ)) (sink sink' faults faults' : ℕ)
+    → IsAnswered held question status sent sent' sink sink' faults faults'
+    → status ≡ 1
+    → IfSome held (λ files. ShowsApart files question sent sent')
 shows_apart None question status sent sent' sink sink' faults faults' a one = a.right
 shows_apart (Some files) question status sent sent' sink sink' faults faults' a one =
     let (labels, lasso, is, sends) = status_one a.answer status sent sent' sink sink' a.said one in

@@ -36,9 +36,9 @@ Holds files name bytes = map.get files name ≡ Some bytes
 abbrev pub IsFileFault : ℕ → FileMap → List ℕ → Answer → Type 0
 IsFileFault number files name answer =
     (bytes : List ℕ)
-      × Holds files name bytes
-      × (((2 ^ 24 < length bytes) × (answer ≡ LongFile number))
-          ⊎ ((length bytes ≤ 2 ^ 24) × ((fault : BaFault) × (fault_of bytes check_limits ≡ Some fault) × (answer ≡ BadFile number fault))))
+    × Holds files name bytes
+    × (((2 ^ 24 < length bytes) × (answer ≡ LongFile number))
+    ⊎ ((length bytes ≤ 2 ^ 24) × ((fault : BaFault) × (fault_of bytes check_limits ≡ Some fault) × (answer ≡ BadFile number fault))))
 
 -- Both automata have as many labels as there are texts of labels.
 pub record HasLabelTexts (pair : Joined) : Type 0 where
@@ -54,9 +54,9 @@ ReadsAs files name named =
 abbrev pub IsCertificateFault : FileMap → List ℕ → Answer → Type 0
 IsCertificateFault files name answer =
     (bytes : List ℕ)
-      × Holds files name bytes
-      × (((2 ^ 30 < length bytes) × (answer ≡ LongCertificate))
-          ⊎ ((length bytes ≤ 2 ^ 30) × ((fault : TextFault) × IsFirstFault bytes fault × (answer ≡ BadText fault))))
+    × Holds files name bytes
+    × (((2 ^ 30 < length bytes) × (answer ≡ LongCertificate))
+    ⊎ ((length bytes ≤ 2 ^ 30) × ((fault : TextFault) × IsFirstFault bytes fault × (answer ≡ BadText fault))))
 
 -- The file holds the text of this certificate, which is well-formed.
 abbrev pub HoldsCertificate : FileMap → List ℕ → Cert → Type 0
@@ -75,20 +75,20 @@ IsVerdictAnswer pair (Listing body) answer = ⊥
 abbrev pub Concludes : Joined → Cert → Answer → Type 0
 Concludes pair cert answer =
     ((has_checked_form cert ≡ false) × (answer ≡ NotBuilt))
-      ⊎ ((has_checked_form cert ≡ true) × ((refusal : Refusal) × FirstBroken (checks_of pair cert) refusal × (answer ≡ Refused refusal)))
-      ⊎ ((has_checked_form cert ≡ true) × AllHold (checks_of pair cert) × IsVerdictAnswer pair cert.body answer)
+    ⊎ ((has_checked_form cert ≡ true) × ((refusal : Refusal) × FirstBroken (checks_of pair cert) refusal × (answer ≡ Refused refusal)))
+    ⊎ ((has_checked_form cert ≡ true) × AllHold (checks_of pair cert) × IsVerdictAnswer pair cert.body answer)
 
 -- The answer of `check A B CERT`: the files are looked at in this order, and the first fault decides.
 abbrev pub IsCheckAnswer : FileMap → List ℕ → List ℕ → List ℕ → Answer → Type 0
 IsCheckAnswer files a b c answer =
     IsFileFault 1 files a answer
-      ⊎ ((one : Named)
-          × ReadsAs files a one
-          × (IsFileFault 2 files b answer
-              ⊎ ((two : Named)
-                  × ReadsAs files b two
-                  × (IsCertificateFault files c answer
-                      ⊎ ((pair : Joined) × IsJoined one two pair × ((cert : Cert) × HoldsCertificate files c cert × Concludes pair cert answer))))))
+    ⊎ ((one : Named)
+    × ReadsAs files a one
+    × (IsFileFault 2 files b answer
+    ⊎ ((two : Named)
+    × ReadsAs files b two
+    × (IsCertificateFault files c answer
+    ⊎ ((pair : Joined) × IsJoined one two pair × ((cert : Cert) × HoldsCertificate files c cert × Concludes pair cert answer))))))
 
 -- The answer to what the words ask.
 abbrev pub IsAnswerTo : FileMap → Option Question → Answer → Type 0

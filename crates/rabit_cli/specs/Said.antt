@@ -20,7 +20,7 @@ use Rattle.rabit_cli.specs.Printed.{text_for, status_of, status_unsent}
 abbrev pub WasSaid : Answer → ℕ → Option (List ℕ) → Option (List ℕ) → ℕ → ℕ → Type 0
 WasSaid answer status sent sent' faults faults' =
     ((status ≡ status_of answer) × (sent' ≡ append_known sent (text_for answer)) × (faults' ≡ faults))
-      ⊎ ((status ≡ status_unsent answer) × Rose faults faults' × ((n : ℕ) × (sent' ≡ append_known sent (take n (text_for answer)))))
+    ⊎ ((status ≡ status_unsent answer) × Rose faults faults' × ((n : ℕ) × (sent' ≡ append_known sent (take n (text_for answer)))))
 
 -- An answer was said: where the shelf tells its files, the right one for the question. It is a read fault exactly where the
 -- shelf's count rose.

@@ -8,15 +8,13 @@ ghost use Rattle.rabit_cli.specs.Question.{question_of};
 ghost use Rattle.rabit_cli.specs.Printed.{IsPrintable};
 ghost use Rattle.rabit_cli.specs.Command.{HasLabelTexts, Concludes, IsCheckAnswer, IsAnswerTo, UnlessRefused};
 
+use crate::answer::Answer;
+use crate::{question, reading};
 use ba_format::Joined;
 use cert_check::{CheckFault, Verdict};
 use cert_text::Cert;
 use shelf_io::Shelf;
 use std::alloc::Global;
-
-use crate::answer::Answer;
-use crate::question;
-use crate::reading;
 
 /// The answer for the joined automata and the certificate.
 fn conclusion(alloc: Global, pair: Joined, cert: &Cert) -> Answer
@@ -83,7 +81,13 @@ pub fn answer_to<H: Shelf>(alloc: Global, words: &[String], shelf: &mut H) -> An
     ensures puts_stay { H.put_faults shelf.new ≡ H.put_faults shelf.old }
 {
     match question::files_to_check(words) {
-        Some((first, second, certificate)) => check_answer(alloc, shelf, first, second, certificate),
+        Some((first, second, certificate)) => check_answer(
+            alloc,
+            shelf,
+            first,
+            second,
+            certificate,
+        ),
         None => Answer::NotBuilt,
     }
 }

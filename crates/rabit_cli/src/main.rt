@@ -26,3 +26,6 @@ fn main(rt: HostRuntime) -> ExitCode {
     let mut out = OutSink::new(&rt);
     ExitCode::from(top::run(rt.alloc(), &words, &mut shelf, &mut out))
 }
+
+#[cfg(test)]
+mod tests;

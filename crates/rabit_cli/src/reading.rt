@@ -10,13 +10,12 @@ ghost use Rattle.rabit_cli.specs.Pending.{IsFirstFault};
 ghost use Rattle.rabit_cli.specs.Printed.{IsPrintable};
 ghost use Rattle.rabit_cli.specs.Command.{check_limits, HasLabelTexts, IsFileFault, ReadsAs, IsCertificateFault, HoldsCertificate, UnlessRefused};
 
+use crate::answer::Answer;
 use auto_core::Memory;
 use ba_format::{Joined, Limits, Named, ReadFault};
 use cert_text::{Cert, CertReadFault, TextFault};
 use shelf_io::{LoadFault, Shelf};
 use std::alloc::Global;
-
-use crate::answer::Answer;
 
 /// The most bytes of an automaton's file.
 const AUTOMATON_BYTES: u64 = 16_777_216;
@@ -31,7 +30,12 @@ const LIMITS: Limits = Limits {
 };
 
 /// Loads the file and reads its automaton, or tells the answer that it ends with.
-pub fn read_automaton<H: Shelf>(alloc: Global, shelf: &mut H, name: &str, number: u32) -> Result<Named, Answer>
+pub fn read_automaton<H: Shelf>(
+    alloc: Global,
+    shelf: &mut H,
+    name: &str,
+    number: u32,
+) -> Result<Named, Answer>
     ensures read { IfOk result (λ named. IfSome (H.held shelf.old) (λ files. ReadsAs files name.now named)) }
     ensures within { IfOk result (IsWithin check_limits) }
     ensures labels { IfOk result (λ named. named.auto.labels ≡ length named.labels) }

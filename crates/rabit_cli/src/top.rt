@@ -8,12 +8,10 @@ ghost use Rattle.rabit_cli.specs.Printed.{IsPrintable, text_for};
 ghost use Rattle.rabit_cli.specs.Command.{IsAnswerTo, UnlessRefused};
 ghost use Rattle.rabit_cli.specs.Said.{WasSaid, IsAnswered, ShowsApart};
 
+use crate::answer::Answer;
+use crate::{deciding, lines};
 use shelf_io::{Shelf, Sink};
 use std::alloc::Global;
-
-use crate::answer::Answer;
-use crate::deciding;
-use crate::lines;
 
 /// Gives the whole text at once. The status tells whether the sink took it.
 fn give_text<K: Sink>(answer: &Answer, text: &[u8], out: &mut K) -> u8
@@ -29,10 +27,8 @@ fn give_text<K: Sink>(answer: &Answer, text: &[u8], out: &mut K) -> u8
 /// Says the answer; where memory is refused for its text, that is said in its place. The text of a read fault needs none.
 fn say<K: Sink>(alloc: Global, answer: &Answer, out: &mut K) -> u8
     requires { IsPrintable answer.now }
-    ensures {
-        WasSaid answer.now result (K.sent out.old) (K.sent out.new) (K.faults out.old) (K.faults out.new)
-        ⊎ (¬ (answer.now ≡ Answer.ReadFault) × WasSaid Answer.OutOfMemory result (K.sent out.old) (K.sent out.new) (K.faults out.old) (K.faults out.new))
-    }
+    ensures { WasSaid answer.now result (K.sent out.old) (K.sent out.new) (K.faults out.old) (K.faults out.new)
+        ⊎ (¬ (answer.now ≡ Answer.ReadFault) × WasSaid Answer.OutOfMemory result (K.sent out.old) (K.sent out.new) (K.faults out.old) (K.faults out.new)) }
 {
     if let Answer::ReadFault = answer {
         return give_text(answer, b"read fault\n", out);
@@ -46,10 +42,8 @@ fn say<K: Sink>(alloc: Global, answer: &Answer, out: &mut K) -> u8
 /// Does what the words after the program's name ask, and answers the program's status.
 pub fn run<H: Shelf, K: Sink>(alloc: Global, words: &[String], shelf: &mut H, out: &mut K) -> u8
     // One answer was said, and where the shelf tells its files it is the right one.
-    ensures answered {
-        IsAnswered (H.held shelf.old) (question_of (map string_bytes words.now)) result
-          (K.sent out.old) (K.sent out.new) (K.faults out.old) (K.faults out.new) (H.faults shelf.old) (H.faults shelf.new)
-    }
+    ensures answered { IsAnswered (H.held shelf.old) (question_of (map string_bytes words.now)) result
+        (K.sent out.old) (K.sent out.new) (K.faults out.old) (K.faults out.new) (H.faults shelf.old) (H.faults shelf.new) }
 
     // Not included: the certificate's lasso separates the two read automata, and it was printed.
     ensures not_included { result ≡ 1 → IfSome (H.held shelf.old) (λ files. ShowsApart files (question_of (map string_bytes words.now)) (K.sent out.old) (K.sent out.new)) }

@@ -27,16 +27,16 @@ returns-in-Ok-read_certificate-clause-answer g c =
     let ends : UnlessRefused answer (Concludes pair cert answer) = c.conclusion.ensures.concludes in
     let both = of_files held (λ files. ReadsAs files a one) (λ files. ReadsAs files b two) (λ files. ReadsAs files a one × ReadsAs files b two) (λ files p q. (p, q)) first second in
     of_files held (λ files. ReadsAs files a one × ReadsAs files b two) (λ files. HoldsCertificate files name cert) (λ files. UnlessRefused answer (IsCheckAnswer files a b name answer))
-      (λ files p q. unless_weaker answer (Concludes pair cert answer) (IsCheckAnswer files a b name answer)
-        (λ done. inr (one, p.0, inr (two, p.1, inr (pair, joined, (cert, q, done))))) ends)
-      both
-      third
+    (λ files p q. unless_weaker answer (Concludes pair cert answer) (IsCheckAnswer files a b name answer)
+    (λ done. inr (one, p.0, inr (two, p.1, inr (pair, joined, (cert, q, done))))) ends)
+    both
+    third
 
 pub returns-in-Ok-read_certificate-clause-no_read_fault : goal.returns-in-Ok-read_certificate-clause-no_read_fault
 returns-in-Ok-read_certificate-clause-no_read_fault g c = λ _.
     c.in-Ok-read_certificate.ensures.no_read_fault (λ e. ok_is_not_err _ _ e)
-      ∙ c.in-Ok-read_automaton.ensures.no_read_fault (λ e. ok_is_not_err _ _ e)
-      ∙ c.in-Ok.ensures.no_read_fault (λ e. ok_is_not_err _ _ e)
+    ∙ c.in-Ok-read_automaton.ensures.no_read_fault (λ e. ok_is_not_err _ _ e)
+    ∙ c.in-Ok.ensures.no_read_fault (λ e. ok_is_not_err _ _ e)
 
 pub returns-clause-answer : goal.returns-clause-answer
 returns-clause-answer g c =
@@ -55,13 +55,13 @@ returns-clause-answer g c =
     let third : IfSome held (λ files. UnlessRefused answer (IsCertificateFault files name answer)) = subst Q same_three c.in-Err-read_certificate.ensures.fault in
     let both = of_files held (λ files. ReadsAs files a one) (λ files. ReadsAs files b two) (λ files. ReadsAs files a one × ReadsAs files b two) (λ files p q. (p, q)) c.in-Ok.ensures.read second in
     of_files held (λ files. ReadsAs files a one × ReadsAs files b two) (λ files. UnlessRefused answer (IsCertificateFault files name answer)) (λ files. UnlessRefused answer (IsCheckAnswer files a b name answer))
-      (λ files p q. unless_weaker answer (IsCertificateFault files name answer) (IsCheckAnswer files a b name answer)
-        (λ fault. inr (one, p.0, inr (two, p.1, inl fault))) q)
-      both
-      third
+    (λ files p q. unless_weaker answer (IsCertificateFault files name answer) (IsCheckAnswer files a b name answer)
+    (λ fault. inr (one, p.0, inr (two, p.1, inl fault))) q)
+    both
+    third
 
 pub returns-clause-no_read_fault : goal.returns-clause-no_read_fault
 returns-clause-no_read_fault g c = λ other.
     c.in-Err-read_certificate.ensures.no_read_fault (λ e. other (same_err _ _ e))
-      ∙ c.in-Ok-read_automaton.ensures.no_read_fault (λ e. ok_is_not_err _ _ e)
-      ∙ c.in-Ok.ensures.no_read_fault (λ e. ok_is_not_err _ _ e)
+    ∙ c.in-Ok-read_automaton.ensures.no_read_fault (λ e. ok_is_not_err _ _ e)
+    ∙ c.in-Ok.ensures.no_read_fault (λ e. ok_is_not_err _ _ e)

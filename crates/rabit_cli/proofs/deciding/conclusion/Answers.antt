@@ -7,5 +7,5 @@ pub returns-in-Err-Refused-clause-concludes : goal.returns-in-Err-Refused-clause
 returns-in-Err-Refused-clause-concludes c =
     let built : has_checked_form c.args.cert.now ≡ true = search rules in
     let broken : FirstBroken (checks_of c.args.pair c.args.cert.now) c.in-Err-Refused.refusal =
-      search (rules, c.in-Err-Refused.ensures.refused) in
+    search (rules, c.in-Err-Refused.ensures.refused) in
     inr (inl (built, (c.in-Err-Refused.refusal, broken, refl)))

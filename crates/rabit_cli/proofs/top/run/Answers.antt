@@ -11,22 +11,22 @@ use Rattle.rabit_cli.proofs.top.run.Goals as goal
 pub returns-clause-answered : goal.returns-clause-answered
 returns-clause-answered g c =
     elim c.say.ensures [
-      inl said ↦
-        record {
-          answer = c.answer_to-answer.result;
-          right = c.answer_to-answer.ensures.answer;
-          said = said;
-          read_fault = c.answer_to-answer.ensures.read_fault;
-          no_read_fault = c.answer_to-answer.ensures.no_read_fault;
-        }
+      | inl said ↦
+          record {
+            answer = c.answer_to-answer.result;
+            right = c.answer_to-answer.ensures.answer;
+            said = said;
+            read_fault = c.answer_to-answer.ensures.read_fault;
+            no_read_fault = c.answer_to-answer.ensures.no_read_fault;
+          }
       | inr memory ↦
-        record {
-          answer = OutOfMemory;
-          right = unless_memory (g.H.Shelf.held c.args.shelf.now) (λ files. IsAnswerTo files (question_of (map (string_bytes {Z = Global}) c.args.words.now)) OutOfMemory);
-          said = memory.1;
-          read_fault = λ e. absurd (memory_not_fault e);
-          no_read_fault = λ _. c.answer_to-answer.ensures.no_read_fault memory.0;
-        }
+          record {
+            answer = OutOfMemory;
+            right = unless_memory (g.H.Shelf.held c.args.shelf.now) (λ files. IsAnswerTo files (question_of (map (string_bytes {Z = Global}) c.args.words.now)) OutOfMemory);
+            said = memory.1;
+            read_fault = λ e. absurd (memory_not_fault e);
+            no_read_fault = λ _. c.answer_to-answer.ensures.no_read_fault memory.0;
+          }
     ]
 
 pub returns-clause-not_included : goal.returns-clause-not_included

@@ -1,0 +1,205 @@
+//! The top call on files in memory: statuses, printed texts, and calls of the outside that fail.
+
+use crate::top::run;
+use auto_core::{List, Memory};
+use shelf_io::{File, MemShelf, MemSink};
+use std::alloc::Global;
+use std::test::Fail;
+
+const RING: &str = "[0]\na,[0]->[1]\na,[1]->[2]\na,[2]->[0]\n[0]\n";
+
+const ONLY_B: &str = "[0]\nb,[0]->[0]\n[0]\n";
+
+const RING_NO: &str = "rabit-cert 1 buchi no\nsizes 3 1 2\nprefix\nloop 0\nend\n";
+
+const ONE_A: &str = "[0]\na,[0]->[0]\n[0]\n";
+
+const TWO_LETTERS: &str = "[0]\na,[0]->[0]\nb,[0]->[0]\n[0]\n";
+
+const LETTERS_NO: &str = "rabit-cert 1 buchi no\nsizes 1 1 2\nprefix 1\nloop 1\nend\n";
+
+fn list_of(alloc: Global, bytes: &[u8]) -> Result<List<u8>, Memory> {
+    let mut list = List::new(alloc);
+    for byte in bytes {
+        list.push(*byte)?;
+    }
+    Ok(list)
+}
+
+fn numbers_of(alloc: Global, numbers: &[u64]) -> Result<List<u64>, Memory> {
+    let mut list = List::new(alloc);
+    for number in numbers {
+        list.push(*number)?;
+    }
+    Ok(list)
+}
+
+fn shelf_of(alloc: Global, files: &[(&str, &str)], fails: &[u64]) -> Result<MemShelf, Memory> {
+    let mut held = List::new(alloc);
+    for (name, text) in files {
+        let name = list_of(alloc, name.as_bytes())?;
+        let bytes = list_of(alloc, text.as_bytes())?;
+        held.push(File { name, bytes })?;
+    }
+    MemShelf::new(alloc, held, 0, 65536, numbers_of(alloc, fails)?)
+}
+
+fn words_of(alloc: Global, words: &[&str]) -> Result<Vec<String>, Memory> {
+    let mut list = Vec::new(alloc);
+    for word in words {
+        list.push(String::from_str(alloc, word)?)?;
+    }
+    Ok(list)
+}
+
+/// The status, and whether the sink holds just this text.
+fn answers(
+    alloc: Global,
+    words: &[&str],
+    files: &[(&str, &str)],
+    fails: &[u64],
+    sink_fails: &[u64],
+    printed: &str,
+) -> Result<(u8, bool), Memory> {
+    let mut shelf = shelf_of(alloc, files, fails)?;
+    let mut out = MemSink::new(alloc, 1000, numbers_of(alloc, sink_fails)?)?;
+    let words = words_of(alloc, words)?;
+    let status = run(alloc, &words, &mut shelf, &mut out);
+    Ok((status, out.contents() == printed.as_bytes()))
+}
+
+fn check(
+    alloc: Global,
+    first: &str,
+    second: &str,
+    certificate: &str,
+    printed: &str,
+) -> Result<(u8, bool), Memory> {
+    let files = [("A", first), ("B", second), ("C", certificate)];
+    answers(alloc, &["check", "A", "B", "C"], &files, &[], &[], printed)
+}
+
+#[test]
+fn a_lasso_that_separates_is_printed(rt: HostRuntime) -> Result<(), Fail> {
+    let alloc = rt.alloc();
+    assert_eq!(rt;
+        check(
+            alloc,
+            RING,
+            ONLY_B,
+            RING_NO,
+            "not included\nprefix:\nloop: a\n"
+        )?,
+        (1, true)
+    );
+    assert_eq!(rt;
+        check(
+            alloc,
+            TWO_LETTERS,
+            ONE_A,
+            LETTERS_NO,
+            "not included\nprefix: b\nloop: b\n"
+        )?,
+        (1, true)
+    );
+    Ok(())
+}
+
+#[test]
+fn the_first_broken_rule_is_named(rt: HostRuntime) -> Result<(), Fail> {
+    let alloc = rt.alloc();
+    let accepted = "rabit-cert 1 buchi no\nsizes 1 1 2\nprefix 0\nloop 0\nend\n";
+    assert_eq!(rt;
+        check(
+            alloc,
+            ONE_A,
+            TWO_LETTERS,
+            LETTERS_NO,
+            "certificate item 2: rule 16\n"
+        )?,
+        (5, true)
+    );
+    assert_eq!(rt;
+        check(
+            alloc,
+            TWO_LETTERS,
+            ONE_A,
+            accepted,
+            "certificate item 2: rule 17\n"
+        )?,
+        (5, true)
+    );
+    assert_eq!(rt;
+        check(alloc, ONE_A, ONE_A, RING_NO, "certificate item 0: rule 1\n")?,
+        (5, true)
+    );
+    Ok(())
+}
+
+#[test]
+fn other_ends_have_their_status(rt: HostRuntime) -> Result<(), Fail> {
+    let alloc = rt.alloc();
+    let yes = "rabit-cert 1 finite no\nsizes 1 1 1\nword\nend\n";
+    assert_eq!(rt; check(alloc, ONE_A, ONE_A, yes, "not built\n")?, (9, true));
+    assert_eq!(rt;
+        check(alloc, "a,[0]-[1]\n", ONE_A, yes, "file 1 line 1: Shape\n")?,
+        (4, true)
+    );
+    assert_eq!(rt;
+        check(alloc, ONE_A, "", yes, "file 2 line 0: Empty\n")?,
+        (4, true)
+    );
+    assert_eq!(rt;
+        check(alloc, ONE_A, ONE_A, "", "certificate line 1: Truncated\n")?,
+        (5, true)
+    );
+    let files = [("A", RING), ("B", ONLY_B), ("C", RING_NO)];
+    assert_eq!(rt;
+        answers(
+            alloc,
+            &["check", "X", "B", "C"],
+            &files,
+            &[],
+            &[],
+            "read fault\n"
+        )?,
+        (6, true)
+    );
+    assert_eq!(rt;
+        answers(alloc, &["check", "A", "B"], &files, &[], &[], "not built\n")?,
+        (9, true)
+    );
+    assert_eq!(rt;
+        answers(alloc, &[], &files, &[], &[], "not built\n")?,
+        (9, true)
+    );
+    Ok(())
+}
+
+#[test]
+fn failing_calls_of_the_outside_are_told(rt: HostRuntime) -> Result<(), Fail> {
+    let alloc = rt.alloc();
+    let files = [("A", RING), ("B", ONLY_B), ("C", RING_NO)];
+    let words = ["check", "A", "B", "C"];
+    assert_eq!(rt;
+        answers(alloc, &words, &files, &[2], &[], "read fault\n")?,
+        (6, true)
+    );
+    assert_eq!(rt;
+        answers(alloc, &words, &files, &[8], &[], "read fault\n")?,
+        (6, true)
+    );
+    assert_eq!(rt;
+        answers(
+            alloc,
+            &words,
+            &files,
+            &[9],
+            &[],
+            "not included\nprefix:\nloop: a\n"
+        )?,
+        (1, true)
+    );
+    assert_eq!(rt; answers(alloc, &words, &files, &[], &[0], "")?, (7, true));
+    Ok(())
+}
