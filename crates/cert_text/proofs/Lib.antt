@@ -1,2 +1,5 @@
 pub mod TextLemmas
 pub mod CheckLemmas
+pub mod SplitLemmas
+pub mod FormLemmas
+pub mod PairLemmas

@@ -79,7 +79,7 @@ fn is_block(block: &RelBlock) -> bool
 }
 
 /// Whether the right numbers ascend.
-fn rights_ascend(pairs: &[Ranked]) -> bool
+pub(crate) fn rights_ascend(pairs: &[Ranked]) -> bool
     ensures { result ≡ ascend (rights_of pairs.now) }
 {
     let mut bound = 0u64;
@@ -93,7 +93,7 @@ fn rights_ascend(pairs: &[Ranked]) -> bool
 }
 
 /// Whether what goes ascends.
-fn gone_ascend(pairs: &[GoneBy]) -> bool
+pub(crate) fn gone_ascend(pairs: &[GoneBy]) -> bool
     ensures { result ≡ ascend (gone_of pairs.now) }
 {
     let mut bound = 0u64;

@@ -1,12 +1,24 @@
 //! Certificates, version 1: the value, its text, the reader with exact faults and the writer.
 #![tactic(auto)]
 
+mod blocks;
 mod checks;
+mod evidence;
+mod faults;
+mod first_log;
+mod forms;
+mod heads;
 mod keywords;
+mod lines;
+mod machine;
+mod origins;
+mod parts;
 
 mod printed_parts;
 mod printing;
 
+mod second_log;
+mod tokens;
 mod types;
 
 mod write;
@@ -17,3 +29,4 @@ pub use types::{
 };
 pub use checks::well_formed;
 pub use write::write_cert;
+pub use faults::{CertReadFault, TextFault, TextKind};
