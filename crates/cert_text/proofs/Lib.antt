@@ -3,3 +3,6 @@ pub mod CheckLemmas
 pub mod SplitLemmas
 pub mod FormLemmas
 pub mod PairLemmas
+pub mod Resume
+pub mod ResumeState
+pub mod ReadLemmas

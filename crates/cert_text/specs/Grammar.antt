@@ -229,7 +229,9 @@ read_body m (answer.List) next = read_logs m answer.List next
 -- There is no byte.
 abbrev pub is_bare : Line → Bool
 is_bare [] = false
-is_bare (token ∷ tokens) = not (has_some token) && not (has_some tokens)
+is_bare ([] ∷ []) = true
+is_bare ([] ∷ other ∷ tokens) = false
+is_bare ((byte ∷ bytes) ∷ tokens) = false
 
 -- No byte follows the last line.
 abbrev pub finish : Then Cert
@@ -268,14 +270,16 @@ read_lines =
 abbrev pub lines_of : List ℕ → List Line
 lines_of bytes = map tokens_of (slice_split (λ b. b == 10) bytes)
 
--- The number of the line at which these lines are left.
-abbrev pub line_number : List ℕ → List Line → ℕ
-line_number bytes rest = (length (lines_of bytes) - length rest) + 1
+-- What comes of the bytes, if a fault stands at the line with this number.
+abbrev pub told_at : ℕ → Outcome → Result Cert TextFault
+told_at line (Read c) = Ok c
+told_at line (Stopped fault rest) = Err (record { line = line; kind = fault })
 
--- What the bytes are: a certificate's text, or where they first are none, and why.
-abbrev pub told : List ℕ → Outcome → Result Cert TextFault
-told bytes (Read c) = Ok c
-told bytes (Stopped kind rest) = Err (record { line = line_number bytes rest; kind = kind })
+-- The number of the first line that is left, of these lines.
+abbrev pub first_left : List Line → Outcome → ℕ
+first_left lines (Read c) = 0
+first_left lines (Stopped fault rest) = (length lines + 1) - length rest
 
+-- What the bytes are: a certificate's text, or where they first begin none, and why.
 abbrev pub reading : List ℕ → Result Cert TextFault
-reading bytes = told bytes (read_lines (lines_of bytes))
+reading bytes = told_at (first_left (lines_of bytes) (read_lines (lines_of bytes))) (read_lines (lines_of bytes))

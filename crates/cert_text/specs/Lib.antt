@@ -7,3 +7,4 @@ pub mod Lines
 pub mod Agrees
 pub mod Grammar
 pub mod Machine
+pub mod Told

@@ -59,7 +59,7 @@ use Rattle.cert_text.specs.declared.machine.State.TheVariants as state
 use Rattle.cert_text.specs.Text.{Line}
 use Rattle.cert_text.specs.WellFormed.{blocks_due, is_live}
 use Rattle.cert_text.specs.Lines.{Said, word_in, number_in, numbers_in, ascending_in, sizes_in, heading_in, row_in, rank_row_in, gone_by_in, first_head_in, second_head_in, origin_in, element_in, step_in}
-use Rattle.cert_text.specs.Grammar.{yes_of, list_of, cert_of}
+use Rattle.cert_text.specs.Grammar.{Outcome, Stopped, finish, yes_of, list_of, cert_of}
 
 -- What comes of what is said.
 abbrev pub map_said : {A B : Type 0} → (A → B) → Said A → Said B
@@ -272,3 +272,16 @@ step (state.Yes o firsts seconds at) line = map_said (with_yes o firsts seconds)
 step (state.List o firsts seconds at) line = map_said (with_list o firsts seconds) (step_list o.mode at line)
 step (state.End c) line = map_said (λ u. state.Done c) (word_in keyword.End line)
 step (state.Done c) line = Err kind.Trailing
+
+-- The certificate, where nothing is due any more.
+abbrev pub done_cert : State → Option Cert
+done_cert (state.Done c) = Some c
+done_cert _ = None
+
+abbrev pub ended : Option Cert → Line → Outcome
+ended (Some c) piece = finish c (piece ∷ [])
+ended None piece = Stopped kind.Truncated (piece ∷ [])
+
+-- What comes of the last piece, which is no whole line.
+abbrev pub at_end : State → Line → Outcome
+at_end s piece = ended (done_cert s) piece

@@ -2,7 +2,7 @@
 
 ghost use Rattle.std.specs.Prelude.{◌≡◌, ◌+◌, ◌∷◌, [], ◌++◌, drop};
 ghost use Rattle.cert_text.specs.Tokens.{tokens_of};
-ghost use Rattle.auto_core.specs.declared.parts.Mode.{Mode};
+ghost use Rattle.cert_text.specs.Lines.{step_in};
 ghost use Rattle.cert_text.specs.declared.evidence.YesState.TheVariants as yes_state;
 ghost use Rattle.cert_text.specs.Agrees.{Agrees};
 ghost use Rattle.cert_text.specs.Machine.{elements_left, live_from, step_or_whole, steps_left, with_order, step_yes, origins_left, step_list, step_no, step_block, map_said};
@@ -177,7 +177,6 @@ fn next_element(
 }
 
 /// The line of a live element.
-#[tactic(auto, unfolding(crate::specs::Machine::step_yes))]
 fn next_step(
     alloc: Global,
     order: RelBlock,
@@ -187,7 +186,9 @@ fn next_step(
     at: usize,
     line: &[u8],
 ) -> Result<Step<YesState, Closed>, LineFault>
-    ensures { (m : Mode) → Agrees (step_yes m (yes_state.Step order elements cover steps at) (tokens_of line.now)) result }
+    ensures { Agrees
+        (map_said (λ step. steps_left order elements cover (steps ++ step ∷ []) (at + 1)) (step_in at (tokens_of line.now)))
+        result }
 {
     match step_in(alloc, at, line) {
         Ok(step) => match pushed(steps, step) {

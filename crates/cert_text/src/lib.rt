@@ -17,6 +17,7 @@ mod parts;
 mod printed_parts;
 mod printing;
 
+mod read;
 mod second_log;
 mod tokens;
 mod types;
@@ -28,5 +29,6 @@ pub use types::{
     StepLine, YesBody,
 };
 pub use checks::well_formed;
+pub use read::read_cert;
 pub use write::write_cert;
 pub use faults::{CertReadFault, TextFault, TextKind};
