@@ -1,3 +1,10 @@
 pub mod Text
 pub mod WellFormed
 pub mod Printed
+pub mod Tokens
+pub mod Forms
+pub mod Lines
+pub mod Agrees
+pub mod Grammar
+pub mod Machine
+pub mod Told

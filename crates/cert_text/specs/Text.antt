@@ -58,6 +58,13 @@ spelled keyword.Start = codes "start"
 spelled keyword.Step = codes "step"
 spelled keyword.Trim = codes "trim"
 spelled keyword.Under = codes "under"
+spelled keyword.Buchi = codes "buchi"
+spelled keyword.Finite = codes "finite"
+spelled keyword.List = codes "list"
+spelled keyword.No = codes "no"
+spelled keyword.One = codes "1"
+spelled keyword.RabitCert = codes "rabit-cert"
+spelled keyword.Yes = codes "yes"
 spelled keyword.Word = codes "word"
 
 -- A line is a list of tokens.
@@ -206,15 +213,15 @@ body_lines (body.NoWord word) = (spelled keyword.Word ∷ numbers word) ∷ []
 body_lines (body.Listing list) = list_lines list
 
 -- The mode's word in the first line.
-abbrev pub mode_name : Mode → List ℕ
-mode_name (mode.Buchi) = codes "buchi"
-mode_name (mode.Finite) = codes "finite"
+abbrev pub mode_word : Mode → Keyword
+mode_word (mode.Buchi) = keyword.Buchi
+mode_word (mode.Finite) = keyword.Finite
 
 -- The answer's word in the first line.
-abbrev pub answer_name : Answer → List ℕ
-answer_name (answer.Yes) = codes "yes"
-answer_name (answer.No) = codes "no"
-answer_name (answer.List) = codes "list"
+abbrev pub answer_word : Answer → Keyword
+answer_word (answer.Yes) = keyword.Yes
+answer_word (answer.No) = keyword.No
+answer_word (answer.List) = keyword.List
 
 -- Which answer the body gives.
 abbrev pub answer_of : Body → Answer
@@ -225,7 +232,8 @@ answer_of (body.Listing list) = answer.List
 
 -- The first line.
 abbrev pub first_line : Mode → Answer → Line
-first_line m a = codes "rabit-cert" ∷ codes "1" ∷ mode_name m ∷ answer_name a ∷ []
+first_line m a =
+    spelled keyword.RabitCert ∷ spelled keyword.One ∷ spelled (mode_word m) ∷ spelled (answer_word a) ∷ []
 
 -- The line of sizes: the states of the read first automaton, of the read second one, and the joined labels.
 abbrev pub sizes_line : ℕ → ℕ → ℕ → Line

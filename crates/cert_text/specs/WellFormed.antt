@@ -8,6 +8,9 @@ use Rattle.auto_core.specs.declared.parts.Origin.TheVariants as origin
 use Rattle.cert_text.specs.declared.types.Cert.{Cert}
 use Rattle.cert_text.specs.declared.types.Body.{Body}
 use Rattle.cert_text.specs.declared.types.Body.TheVariants as body
+use Rattle.cert_text.specs.declared.types.YesBody.{YesBody}
+use Rattle.cert_text.specs.declared.types.ListBody.{ListBody}
+use Rattle.auto_core.specs.declared.parts.Lasso.{Lasso}
 use Rattle.cert_text.specs.declared.types.FirstStep.{FirstStep}
 use Rattle.cert_text.specs.declared.types.FirstStep.TheVariants as first
 use Rattle.cert_text.specs.declared.types.SecondStep.{SecondStep}
@@ -83,10 +86,18 @@ are_rank_rows bound (row ∷ rows) = is_rank_row bound row && are_rank_rows (row
 abbrev pub is_rank_block : RankBlock → Bool
 is_rank_block block = is_short (length block.rows) && are_rank_rows 0 block.rows
 
+-- What goes.
+abbrev pub gone_of : List GoneBy → List ℕ
+gone_of pairs = map (λ p. p.trans) pairs
+
+-- A pair of short numbers.
+abbrev pub is_gone : GoneBy → Bool
+is_gone pair = is_short pair.trans && is_short pair.by
+
 -- What goes and by what: at least one pair, what goes ascending.
 abbrev pub are_gone : List GoneBy → Bool
 are_gone pairs =
-    list_all (λ p. is_short p.trans && is_short p.by) pairs && (has_some pairs && ascend (map (λ p. p.trans) pairs))
+    list_all is_gone pairs && (has_some pairs && ascend (gone_of pairs))
 
 -- Ascending short numbers, maybe none.
 abbrev pub are_kept : List ℕ → Bool
@@ -100,13 +111,17 @@ are_classes classes = are_short classes && has_some classes
 abbrev pub blocks_due : ℕ → ℕ
 blocks_due pair = if pair == 1 then 1 else (if pair == 2 then 1 else (if pair == 3 then 2 else (if pair == 4 then 2 else 0)))
 
+-- A cut of the first log: by one of the four pairs, with the relations of that pair.
+abbrev pub is_cut : ℕ → ℕ → List GoneBy → List RelBlock → Bool
+is_cut pair look gone blocks =
+    nat_lt 0 (blocks_due pair)
+    && (is_short look && (are_gone gone && ((length blocks == blocks_due pair) && list_all is_block blocks)))
+
 -- A step of the first log.
 abbrev pub is_first_step : FirstStep → Bool
 is_first_step (first.Trim kept) = are_kept kept
 is_first_step (first.Merge classes) = are_classes classes
-is_first_step (first.Cut pair look gone blocks) =
-    nat_lt 0 (blocks_due pair)
-    && (is_short look && (are_gone gone && ((length blocks == blocks_due pair) && list_all is_block blocks)))
+is_first_step (first.Cut pair look gone blocks) = is_cut pair look gone blocks
 
 -- The grounds of a merge, which are delayed in a Büchi file alone.
 abbrev pub are_grounds : Mode → Grounds → Bool
@@ -161,20 +176,32 @@ are_logs m firsts seconds =
     is_short (length firsts)
     && (list_all is_first_step firsts && (is_short (length seconds) && list_all (is_second_step m) seconds))
 
--- The body fits the mode, and its parts have a text.
-abbrev pub is_body : Mode → Body → Bool
-is_body m (body.Yes y) =
+-- The evidence of inclusion.
+abbrev pub is_yes : Mode → YesBody → Bool
+is_yes m y =
     are_logs m y.first y.second
     && (is_block y.order
     && (is_short (length y.elements)
     && (list_all (is_element m) y.elements && (are_short y.cover && are_steps 0 y.elements y.steps))))
-is_body (mode.Buchi) (body.NoLasso lasso) = are_short lasso.prefix && (are_short lasso.turn && has_some lasso.turn)
+
+-- A lasso, whose loop is not empty.
+abbrev pub is_lasso : Lasso → Bool
+is_lasso lasso = are_short lasso.prefix && (are_short lasso.turn && has_some lasso.turn)
+
+-- The evidence that a limit was met.
+abbrev pub is_listing : Mode → ListBody → Bool
+is_listing m list =
+    are_logs m list.first list.second
+    && (is_short list.limit && (is_short (length list.elements) && list_all (is_origin m) list.elements))
+
+-- The body fits the mode, and its parts have a text.
+abbrev pub is_body : Mode → Body → Bool
+is_body m (body.Yes y) = is_yes m y
+is_body (mode.Buchi) (body.NoLasso lasso) = is_lasso lasso
 is_body (mode.Finite) (body.NoLasso lasso) = false
 is_body (mode.Buchi) (body.NoWord word) = false
 is_body (mode.Finite) (body.NoWord word) = are_short word
-is_body m (body.Listing list) =
-    are_logs m list.first list.second
-    && (is_short list.limit && (is_short (length list.elements) && list_all (is_origin m) list.elements))
+is_body m (body.Listing list) = is_listing m list
 
 -- Whether the certificate has a text.
 abbrev pub has_text : Cert → Bool

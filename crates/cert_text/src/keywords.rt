@@ -31,6 +31,13 @@ pub(crate) enum Keyword {
     Step,
     Trim,
     Under,
+    Buchi,
+    Finite,
+    List,
+    No,
+    One,
+    RabitCert,
+    Yes,
     Word,
 }
 
@@ -66,6 +73,13 @@ impl Keyword {
             Keyword::Step => b"step",
             Keyword::Trim => b"trim",
             Keyword::Under => b"under",
+            Keyword::Buchi => b"buchi",
+            Keyword::Finite => b"finite",
+            Keyword::List => b"list",
+            Keyword::No => b"no",
+            Keyword::One => b"1",
+            Keyword::RabitCert => b"rabit-cert",
+            Keyword::Yes => b"yes",
             Keyword::Word => b"word",
         }
     }

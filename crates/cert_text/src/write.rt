@@ -2,10 +2,10 @@
 
 ghost use Rattle.std.specs.Prelude.{◌≡◌, ◌++◌, ◌∷◌, [], OnOk, IfOk, codes, decimal};
 ghost use Rattle.cert_text.specs.declared.keywords.Keyword.TheVariants as keyword;
-ghost use Rattle.cert_text.specs.Text.{spelled, text_of, line_text, text, first_lines, second_lines, yes_lines, list_lines, body_lines, first_line, closed_lines, limit_lines, answer_of};
+ghost use Rattle.cert_text.specs.Text.{spelled, text_of, line_text, text, first_lines, second_lines, yes_lines, list_lines, body_lines, first_line, closed_lines, limit_lines, answer_of, mode_word, answer_word};
 
 use crate::keywords::Keyword;
-use crate::printing::{Print, print_all, print_bytes, print_count, print_line};
+use crate::printing::{Print, print_all, print_count, print_keyword, print_line};
 use crate::types::{Answer, Body, Cert, Element, FirstStep, ListBody, SecondStep, StepLine, YesBody};
 use auto_core::{List, Memory, Mode, Origin};
 use std::alloc::Global;
@@ -86,18 +86,48 @@ fn print_body(out: &mut List<u8>, body: &Body) -> Result<(), Memory>
     Ok(())
 }
 
-/// The first line of a file of this mode and answer.
-pub(crate) fn header_text(mode: Mode, answer: Answer) -> &'static [u8]
-    ensures { result.now ≡ line_text (first_line mode answer) }
+/// The mode's word in the first line.
+pub(crate) fn mode_word(mode: Mode) -> Keyword
+    ensures { result ≡ mode_word mode }
 {
-    match (mode, answer) {
-        (Mode::Buchi, Answer::Yes) => b"rabit-cert 1 buchi yes\n",
-        (Mode::Buchi, Answer::No) => b"rabit-cert 1 buchi no\n",
-        (Mode::Buchi, Answer::List) => b"rabit-cert 1 buchi list\n",
-        (Mode::Finite, Answer::Yes) => b"rabit-cert 1 finite yes\n",
-        (Mode::Finite, Answer::No) => b"rabit-cert 1 finite no\n",
-        (Mode::Finite, Answer::List) => b"rabit-cert 1 finite list\n",
+    match mode {
+        Mode::Buchi => Keyword::Buchi,
+        Mode::Finite => Keyword::Finite,
     }
+}
+
+/// The answer's word in the first line.
+pub(crate) fn answer_word(answer: Answer) -> Keyword
+    ensures { result ≡ answer_word answer }
+{
+    match answer {
+        Answer::Yes => Keyword::Yes,
+        Answer::No => Keyword::No,
+        Answer::List => Keyword::List,
+    }
+}
+
+/// Writes the words before the mode in the first line.
+fn print_format(out: &mut List<u8>) -> Result<(), Memory>
+    ensures { OnOk result
+        (out.new ≡ out.old ++ (spelled keyword.RabitCert ++ 32 ∷ (spelled keyword.One ++ 32 ∷ []))) }
+{
+    print_keyword(out, Keyword::RabitCert)?;
+    out.push(b' ')?;
+    print_keyword(out, Keyword::One)?;
+    out.push(b' ')?;
+    Ok(())
+}
+
+/// Writes the first line.
+fn print_first_line(out: &mut List<u8>, mode: Mode, answer: Answer) -> Result<(), Memory>
+    ensures { OnOk result (out.new ≡ out.old ++ line_text (first_line mode answer)) }
+{
+    print_format(out)?;
+    print_keyword(out, mode_word(mode))?;
+    out.push(b' ')?;
+    print_line(out, answer_word(answer), &[], &[])?;
+    Ok(())
 }
 
 /// Which answer the body gives.
@@ -115,7 +145,7 @@ fn answer_of(body: &Body) -> Answer
 fn print_cert(out: &mut List<u8>, cert: &Cert) -> Result<(), Memory>
     ensures { OnOk result (out.new ≡ out.old ++ text cert.now) }
 {
-    print_bytes(out, header_text(cert.mode, answer_of(&cert.body)))?;
+    print_first_line(out, cert.mode, answer_of(&cert.body))?;
     print_line(out, Keyword::Sizes, &[cert.first_states, cert.second_states, cert.labels], &[])?;
     print_body(out, &cert.body)?;
     print_line(out, Keyword::End, &[], &[])?;

@@ -11,7 +11,7 @@ returns c =
     (line_text (sizes_line k.first_states k.second_states k.labels))
     (text_of (body_lines k.body))
     (line_text end_line)
-    (rw (c.header_text.ensures, c.answer_of.ensures) at c.in_ok-print_bytes.ensures)
+    (rw c.answer_of.ensures at c.in_ok-print_first_line.ensures)
     c.in_ok-print_line.ensures
     c.in_ok-print_body.ensures
     c.in_ok-print_line-2.ensures

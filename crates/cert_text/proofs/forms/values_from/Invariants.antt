@@ -1,0 +1,11 @@
+use Rattle.std.proofs.Common.{◌≡◌, ◌++◌, map, drop, length, nat_le, ◌-◌}
+use Rattle.std.specs.List.{list_all}
+use Rattle.cert_text.specs.Tokens.{tokens_of}
+use Rattle.cert_text.specs.Forms.{has_empty, fits, has_numbers, pair_up, values_from, is_number, value}
+use Rattle.cert_text.proofs.forms.values_from.Given as goal
+
+abbrev pub invariant-loop-token : goal.invariant-loop-token
+invariant-loop-token l = l.values ++ map value l.tokens ≡ values_from l.fn.number (tokens_of l.fn.line)
+
+abbrev pub decreases-loop-token : goal.decreases-loop-token
+decreases-loop-token l = length l.tokens

@@ -1,0 +1,212 @@
+//! The first log, read line by line.
+
+ghost use Rattle.std.specs.Prelude.{◌≡◌, ◌+◌, ◌∷◌, [], ◌++◌, drop};
+ghost use Rattle.cert_text.specs.Tokens.{tokens_of};
+ghost use Rattle.cert_text.specs.Agrees.{Agrees};
+ghost use Rattle.cert_text.specs.Machine.{blocks_left, with_block, first_started, step_first, first_left, with_first, step_first_log, step_block, map_said};
+
+use crate::blocks::{BlockState, step_block};
+use crate::checks::blocks_due;
+use crate::faults::LineFault;
+use crate::forms::Tail;
+use crate::heads::{FirstHead, first_head_in};
+use crate::keywords::Keyword;
+use crate::lines::{gone_by_in, number_in, numbers_in};
+use crate::parts::{Step, pushed};
+use crate::types::{FirstStep, GoneBy, RelBlock};
+use auto_core::List;
+use std::alloc::Global;
+
+/// What is due in a step of the first log.
+#[derive(Debug, Drop)]
+pub(crate) enum FirstState {
+    /// Its head.
+    Head,
+    /// The classes of a merge.
+    Classes,
+    /// What a cut by this pair, at this lookahead, takes away.
+    Gone(u32, u32),
+    /// A relation of a cut.
+    Blocks {
+        /// The pair.
+        pair: u32,
+        /// The lookahead.
+        look: u32,
+        /// What goes.
+        gone: List<GoneBy>,
+        /// The relations so far.
+        blocks: List<RelBlock>,
+        /// How many relations follow the one that is due.
+        later: u32,
+        /// What is due in it.
+        at: BlockState,
+    },
+}
+
+/// What is due in the first log.
+#[derive(Debug, Drop)]
+pub(crate) enum FirstLog {
+    /// The number of its steps.
+    Count,
+    /// A step.
+    Steps {
+        /// The steps so far.
+        steps: List<FirstStep>,
+        /// How many steps follow the one that is due.
+        later: u32,
+        /// What is due in it.
+        at: FirstState,
+    },
+}
+
+/// What is due of a cut with these relations, and this many to come.
+#[tactic(auto, unfolding(crate::specs::Machine::blocks_left))]
+fn blocks_left(
+    pair: u32,
+    look: u32,
+    gone: List<GoneBy>,
+    blocks: List<RelBlock>,
+    left: u32,
+) -> Step<FirstState, FirstStep>
+    ensures { result ≡ blocks_left pair look gone blocks left }
+{
+    if left == 0 {
+        Step::Whole(FirstStep::Cut { pair, look, gone, blocks })
+    } else {
+        Step::More(FirstState::Blocks {
+            pair,
+            look,
+            gone,
+            blocks,
+            later: left - 1,
+            at: BlockState::Count,
+        })
+    }
+}
+
+/// What is due after the head.
+#[tactic(auto, unfolding(crate::specs::Machine::first_started))]
+fn first_started(head: FirstHead) -> Step<FirstState, FirstStep>
+    ensures { result ≡ first_started head }
+{
+    match head {
+        FirstHead::Trim(kept) => Step::Whole(FirstStep::Trim { kept }),
+        FirstHead::Merge => Step::More(FirstState::Classes),
+        FirstHead::Cut(pair, look) => Step::More(FirstState::Gone(pair, look)),
+    }
+}
+
+/// The next line of a relation of a cut.
+#[tactic(auto, unfolding(crate::specs::Machine::with_block))]
+fn next_in_cut(
+    alloc: Global,
+    pair: u32,
+    look: u32,
+    gone: List<GoneBy>,
+    blocks: List<RelBlock>,
+    later: u32,
+    at: BlockState,
+    line: &[u8],
+) -> Result<Step<FirstState, FirstStep>, LineFault>
+    ensures { Agrees (map_said (with_block pair look gone blocks later) (step_block at (tokens_of line.now))) result }
+{
+    match step_block(alloc, at, line) {
+        Ok(Step::More(at)) => Ok(Step::More(FirstState::Blocks {
+            pair,
+            look,
+            gone,
+            blocks,
+            later,
+            at,
+        })),
+        Ok(Step::Whole(block)) => match pushed(blocks, block) {
+            Ok(blocks) => Ok(blocks_left(pair, look, gone, blocks, later)),
+            Err(fault) => Err(fault),
+        },
+        Err(fault) => Err(fault),
+    }
+}
+
+/// What the next line makes of a step.
+#[tactic(auto, unfolding(crate::specs::Machine::step_first))]
+fn step_first(alloc: Global, state: FirstState, line: &[u8]) -> Result<Step<FirstState, FirstStep>, LineFault>
+    ensures { Agrees (step_first state (tokens_of line.now)) result }
+{
+    match state {
+        FirstState::Head => match first_head_in(alloc, line) {
+            Ok(head) => Ok(first_started(head)),
+            Err(fault) => Err(fault),
+        },
+        FirstState::Classes => match numbers_in(alloc, Keyword::Classes, Tail::SomeNumbers, line) {
+            Ok(classes) => Ok(Step::Whole(FirstStep::Merge { classes })),
+            Err(fault) => Err(fault),
+        },
+        FirstState::Gone(pair, look) => match gone_by_in(alloc, line) {
+            Ok(gone) => Ok(blocks_left(pair, look, gone, List::new(alloc), blocks_due(pair))),
+            Err(fault) => Err(fault),
+        },
+        FirstState::Blocks {
+            pair,
+            look,
+            gone,
+            blocks,
+            later,
+            at,
+        } => next_in_cut(alloc, pair, look, gone, blocks, later, at, line),
+    }
+}
+
+/// What is due with these steps, and this many to come.
+#[tactic(auto, unfolding(crate::specs::Machine::first_left))]
+fn first_left(steps: List<FirstStep>, left: u32) -> Step<FirstLog, List<FirstStep>>
+    ensures { result ≡ first_left steps left }
+{
+    if left == 0 {
+        Step::Whole(steps)
+    } else {
+        Step::More(FirstLog::Steps {
+            steps,
+            later: left - 1,
+            at: FirstState::Head,
+        })
+    }
+}
+
+/// The next line of a step.
+#[tactic(auto, unfolding(crate::specs::Machine::with_first))]
+fn next_in_first(
+    alloc: Global,
+    steps: List<FirstStep>,
+    later: u32,
+    at: FirstState,
+    line: &[u8],
+) -> Result<Step<FirstLog, List<FirstStep>>, LineFault>
+    ensures { Agrees (map_said (with_first steps later) (step_first at (tokens_of line.now))) result }
+{
+    match step_first(alloc, at, line) {
+        Ok(Step::More(at)) => Ok(Step::More(FirstLog::Steps { steps, later, at })),
+        Ok(Step::Whole(step)) => match pushed(steps, step) {
+            Ok(steps) => Ok(first_left(steps, later)),
+            Err(fault) => Err(fault),
+        },
+        Err(fault) => Err(fault),
+    }
+}
+
+/// What the next line makes of the log.
+#[tactic(auto, unfolding(crate::specs::Machine::step_first_log))]
+pub(crate) fn step_first_log(
+    alloc: Global,
+    state: FirstLog,
+    line: &[u8],
+) -> Result<Step<FirstLog, List<FirstStep>>, LineFault>
+    ensures { Agrees (step_first_log state (tokens_of line.now)) result }
+{
+    match state {
+        FirstLog::Count => match number_in(Keyword::Log1, line) {
+            Ok(count) => Ok(first_left(List::new(alloc), count)),
+            Err(fault) => Err(fault),
+        },
+        FirstLog::Steps { steps, later, at } => next_in_first(alloc, steps, later, at, line),
+    }
+}

@@ -1,0 +1,50 @@
+//! What a reader has read of a certificate's parts.
+
+ghost use Rattle.std.specs.Prelude.{◌≡◌, ◌∷◌, [], ◌++◌, MatchResult};
+ghost use Rattle.cert_text.specs.declared.faults.LineFault.TheVariants as fault;
+
+use crate::faults::LineFault;
+use crate::types::{Element, RelBlock, StepLine};
+use auto_core::{List, Memory, Origin};
+
+/// What comes of a line: there is more to read, or the part is whole.
+#[derive(Debug, Drop)]
+pub(crate) enum Step<S: Drop, X: Drop> {
+    /// There is more to read.
+    More(S),
+    /// The part is whole.
+    Whole(X),
+}
+
+/// What a yes has after its logs.
+#[derive(Debug, Drop)]
+pub(crate) struct Closed {
+    /// The order.
+    pub(crate) order: RelBlock,
+    /// The elements.
+    pub(crate) elements: List<Element>,
+    /// The cover of the starts.
+    pub(crate) cover: List<u32>,
+    /// The extensions.
+    pub(crate) steps: List<StepLine>,
+}
+
+/// What a list has after its logs.
+#[derive(Debug, Drop)]
+pub(crate) struct Limited {
+    /// The limit.
+    pub(crate) limit: u32,
+    /// The elements.
+    pub(crate) elements: List<Origin>,
+}
+
+/// The list with the item at its end.
+pub(crate) fn pushed<T: Drop>(list: List<T>, item: T) -> Result<List<T>, LineFault>
+    ensures { MatchResult result (λ longer. longer ≡ list ++ item ∷ []) (λ e. e ≡ fault.Memory) }
+{
+    let mut list = list;
+    match list.push(item) {
+        Ok(()) => Ok(list),
+        Err(Memory) => Err(LineFault::Memory),
+    }
+}

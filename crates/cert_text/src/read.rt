@@ -1,0 +1,93 @@
+//! The reader of certificates.
+
+ghost use Rattle.std.specs.Prelude.{◌≡◌, ◌==◌, ◌≤◌, ◌^◌, ◌∷◌, [], ℕ, length, position, ◌<◌, MatchOption, IfSome};
+ghost use Rattle.cert_text.specs.Tokens.{tokens_of};
+ghost use Rattle.cert_text.specs.Grammar.{lines_of, reading, told_at};
+ghost use Rattle.cert_text.specs.Told.{Told, located};
+ghost use Rattle.cert_text.specs.Machine.{done_cert, at_end};
+
+use crate::faults::{CertReadFault, LineFault, TextFault, TextKind};
+use crate::machine::{State, next_state};
+use crate::types::Cert;
+use std::alloc::Global;
+
+/// Where the first LF stands.
+fn newline_at(bytes: &[u8]) -> Option<usize>
+    ensures { result ≡ position (λ b. b == 10) bytes.now }
+{
+    bytes.iter().position(|byte| *byte == b'\n')
+}
+
+/// The first line, without its LF, and what follows it.
+fn first_line(bytes: &[u8]) -> Option<(&[u8], &[u8])>
+    ensures cut { MatchOption result
+        (lines_of bytes.now ≡ tokens_of bytes.now ∷ [])
+        (λ cut. lines_of bytes.now ≡ tokens_of cut.0.now ∷ lines_of cut.1.now) }
+    ensures shorter { IfSome result (λ cut. length cut.1.now < length bytes.now) }
+{
+    match newline_at(bytes) {
+        None => None,
+        Some(at) => Some((&bytes[..at], &bytes[at + 1..])),
+    }
+}
+
+/// The fault, at the line with this number.
+fn located(fault: LineFault, line: u32) -> CertReadFault
+    ensures { result ≡ located line fault }
+{
+    match fault {
+        LineFault::Text(kind) => CertReadFault::Text(TextFault { line, kind }),
+        LineFault::Memory => CertReadFault::Memory,
+    }
+}
+
+/// The certificate, where nothing is due any more.
+fn done_cert(state: State) -> Option<Cert>
+    ensures { result ≡ done_cert state }
+{
+    match state {
+        State::Done(cert) => Some(cert),
+        _ => None,
+    }
+}
+
+/// What comes of the bytes after the last LF.
+fn at_end(state: State, rest: &[u8], line: u32) -> Result<Cert, CertReadFault>
+    ensures { Told (told_at line (at_end state (tokens_of rest.now))) result }
+{
+    match done_cert(state) {
+        Some(cert) => {
+            if rest.is_empty() {
+                Ok(cert)
+            } else {
+                Err(CertReadFault::Text(TextFault {
+                    line,
+                    kind: TextKind::Trailing,
+                }))
+            }
+        }
+        None => Err(CertReadFault::Text(TextFault {
+            line,
+            kind: TextKind::Truncated,
+        })),
+    }
+}
+
+/// Reads a certificate's text, of at most 1 GiB.
+pub fn read_cert(alloc: Global, bytes: &[u8]) -> Result<Cert, CertReadFault>
+    requires { length bytes.now ≤ 2 ^ 30 }
+    ensures reading { Told (reading bytes.now) result }
+{
+    let mut state = State::Heading;
+    let mut rest = bytes;
+    let mut line = 1u32;
+    while let Some((text, left)) = first_line(rest) {
+        match next_state(alloc, state, text) {
+            Ok(next) => state = next,
+            Err(fault) => return Err(located(fault, line)),
+        }
+        rest = left;
+        line += 1;
+    }
+    at_end(state, rest, line)
+}
