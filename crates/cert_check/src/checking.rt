@@ -1,7 +1,6 @@
 //! The check of a certificate.
 
 ghost use Rattle.std.specs.Prelude.{◌≡◌, ◌↔◌, IfOk, IsTrue, length, true, Err};
-ghost use Rattle.cert_text.specs.WellFormed.{WellFormed};
 ghost use Rattle.cert_check.specs.Checks.{AllHold, FirstBroken};
 ghost use Rattle.cert_check.specs.Rules.{checks_of, has_checked_form, HasSizes, IsVerdictOf, SaysTruly};
 
@@ -29,7 +28,6 @@ fn has_sizes(pair: &Joined, cert: &Cert) -> bool
 /// The verdict of a certificate that is valid for the two automata, which is true of them; otherwise the first broken rule,
 /// or want of memory. Both automata have as many labels as `pair.labels` has texts.
 pub fn check(alloc: Global, pair: &Joined, cert: &Cert) -> Result<Verdict, CheckFault>
-    requires well_formed { WellFormed cert.now }
     requires form { has_checked_form cert.now ≡ true }
     requires first_labels { pair.now.first.labels ≡ length pair.now.labels }
     requires second_labels { pair.now.second.labels ≡ length pair.now.labels }

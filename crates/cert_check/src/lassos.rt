@@ -30,7 +30,6 @@ fn copy_word(alloc: Global, word: &Word) -> Result<Word, Memory>
 
 /// The lasso, if it separates the two automata; otherwise the first broken rule.
 pub fn check_lasso(alloc: Global, pair: &Joined, lasso: &Lasso) -> Result<Verdict, CheckFault>
-    requires room { length pair.now.labels < 2 ^ 32 }
     ensures valid { IfOk result (λ verdict. (verdict ≡ Verdict.Apart lasso.now) × AllHold (lasso_checks pair.now lasso.now)) }
     ensures refused { (refusal : Refusal) → result ≡ Err (CheckFault.Refused refusal) → FirstBroken (lasso_checks pair.now lasso.now) refusal }
 {

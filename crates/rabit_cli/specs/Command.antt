@@ -1,5 +1,5 @@
 -- Which answer a command has, by the files that it names.
-use Rattle.std.specs.Prelude.{◌≡◌, ℕ, ◌<◌, ◌≤◌, ◌^◌, ◌⊎◌, List, length, Option, Some, None, true, false}
+use Rattle.std.specs.Prelude.{◌≡◌, ℕ, ◌<◌, ◌≤◌, ◌^◌, ◌⊎◌, List, length, Option, Some, None, Result, Ok, Err, true, false}
 use Rattle.std.specs.FinMap as map
 use Rattle.shelf_io.specs.Shelf.{FileMap}
 use Rattle.ba_format.specs.declared.parts.BaFault.{BaFault}
@@ -13,10 +13,8 @@ use Rattle.auto_core.specs.declared.parts.Lasso.{Lasso}
 use Rattle.cert_text.specs.declared.types.Cert.{Cert}
 use Rattle.cert_text.specs.declared.types.Body.TheVariants.{Yes, NoLasso, NoWord, Listing}
 use Rattle.cert_text.specs.declared.types.Body.{Body}
-use Rattle.rabit_cli.specs.Pending.{IsFirstFault}
 use Rattle.cert_text.specs.declared.faults.TextFault.{TextFault}
-use Rattle.cert_text.specs.WellFormed.{WellFormed}
-use Rattle.cert_text.specs.Text.{text}
+use Rattle.cert_text.specs.Grammar.{reading}
 use Rattle.cert_check.specs.declared.faults.Refusal.{Refusal}
 use Rattle.cert_check.specs.Checks.{AllHold, FirstBroken}
 use Rattle.cert_check.specs.Rules.{checks_of, has_checked_form}
@@ -56,12 +54,12 @@ IsCertificateFault files name answer =
     (bytes : List ℕ)
     × Holds files name bytes
     × (((2 ^ 30 < length bytes) × (answer ≡ LongCertificate))
-    ⊎ ((length bytes ≤ 2 ^ 30) × ((fault : TextFault) × IsFirstFault bytes fault × (answer ≡ BadText fault))))
+    ⊎ ((length bytes ≤ 2 ^ 30) × ((fault : TextFault) × (reading bytes ≡ Err fault) × (answer ≡ BadText fault))))
 
--- The file holds the text of this certificate, which is well-formed.
+-- The file reads as this certificate.
 abbrev pub HoldsCertificate : FileMap → List ℕ → Cert → Type 0
 HoldsCertificate files name cert =
-    (bytes : List ℕ) × Holds files name bytes × (length bytes ≤ 2 ^ 30) × WellFormed cert × (bytes ≡ text cert)
+    (bytes : List ℕ) × Holds files name bytes × (length bytes ≤ 2 ^ 30) × (reading bytes ≡ Ok cert)
 
 -- The answer of a valid certificate with this body.
 abbrev pub IsVerdictAnswer : Joined → Body → Answer → Type 0

@@ -1,5 +1,4 @@
 pub mod Question
 pub mod Printed
-pub mod Pending
 pub mod Command
 pub mod Said

@@ -3,7 +3,6 @@
 ghost use Rattle.std.specs.Prelude.{◌≡◌, ◌≤◌, ◌^◌, ◌<◌, ◌⊎◌, List, ℕ, length, map, IfSome};
 ghost use Rattle.std.specs.String.{string_bytes};
 ghost use Rattle.shelf_io.specs.Counts.{Rose};
-ghost use Rattle.cert_text.specs.WellFormed.{WellFormed};
 ghost use Rattle.rabit_cli.specs.Question.{question_of};
 ghost use Rattle.rabit_cli.specs.Printed.{IsPrintable};
 ghost use Rattle.rabit_cli.specs.Command.{HasLabelTexts, Concludes, IsCheckAnswer, IsAnswerTo, UnlessRefused};
@@ -18,7 +17,6 @@ use std::alloc::Global;
 
 /// The answer for the joined automata and the certificate.
 fn conclusion(alloc: Global, pair: Joined, cert: &Cert) -> Answer
-    requires well_formed { WellFormed cert.now }
     requires labels { HasLabelTexts pair }
     ensures concludes { UnlessRefused result (Concludes pair cert.now result) }
     ensures printable { IsPrintable result }

@@ -4,16 +4,13 @@ ghost use Rattle.std.specs.Prelude.{◌≡◌, ◌≤◌, ◌^◌, ◌<◌, List
 ghost use Rattle.shelf_io.specs.Counts.{Rose};
 ghost use Rattle.ba_format.specs.Reading.{IsWithin};
 ghost use Rattle.ba_format.specs.Joining.{IsJoined};
-ghost use Rattle.cert_text.specs.WellFormed.{WellFormed};
-ghost use Rattle.cert_text.specs.Text.{text};
-ghost use Rattle.rabit_cli.specs.Pending.{IsFirstFault};
 ghost use Rattle.rabit_cli.specs.Printed.{IsPrintable};
 ghost use Rattle.rabit_cli.specs.Command.{check_limits, HasLabelTexts, IsFileFault, ReadsAs, IsCertificateFault, HoldsCertificate, UnlessRefused};
 
 use crate::answer::Answer;
 use auto_core::Memory;
 use ba_format::{Joined, Limits, Named, ReadFault};
-use cert_text::{Cert, CertReadFault, TextFault};
+use cert_text::{Cert, CertReadFault};
 use shelf_io::{LoadFault, Shelf};
 use std::alloc::Global;
 
@@ -71,18 +68,9 @@ pub fn joined(alloc: Global, one: &Named, two: &Named) -> Result<Joined, Memory>
     ba_format::join(alloc, one, two)
 }
 
-fn certificate_of(_alloc: Global, _bytes: &[u8]) -> Result<Cert, CertReadFault>
-    requires { length _bytes.now ≤ 2 ^ 30 }
-    ensures read { IfOk result (λ cert. WellFormed cert × (_bytes.now ≡ text cert)) }
-    ensures fault { (fault : TextFault) → result ≡ Err (CertReadFault.Text fault) → IsFirstFault _bytes.now fault }
-{
-    Err(CertReadFault::Memory)
-}
-
 /// Loads and reads the certificate, or tells the answer that its file ends with.
 pub fn read_certificate<H: Shelf>(alloc: Global, shelf: &mut H, name: &str) -> Result<Cert, Answer>
     ensures read { IfOk result (λ cert. IfSome (H.held shelf.old) (λ files. HoldsCertificate files name.now cert)) }
-    ensures well_formed { IfOk result WellFormed }
     ensures printable { IfErr result IsPrintable }
     ensures fault { IfErr result (λ answer. IfSome (H.held shelf.old) (λ files. UnlessRefused answer (IsCertificateFault files name.now answer))) }
     ensures read_fault { result ≡ Err Answer.ReadFault → Rose (H.faults shelf.old) (H.faults shelf.new) }
@@ -96,7 +84,7 @@ pub fn read_certificate<H: Shelf>(alloc: Global, shelf: &mut H, name: &str) -> R
         Err(LoadFault::Long) => return Err(Answer::LongCertificate),
         Err(LoadFault::Memory) => return Err(Answer::OutOfMemory),
     };
-    match certificate_of(alloc, bytes.as_slice()) {
+    match cert_text::read_cert(alloc, bytes.as_slice()) {
         Ok(cert) => Ok(cert),
         Err(CertReadFault::Text(fault)) => Err(Answer::BadText(fault)),
         Err(CertReadFault::Memory) => Err(Answer::OutOfMemory),
