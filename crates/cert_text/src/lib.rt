@@ -13,22 +13,19 @@ mod lines;
 mod machine;
 mod origins;
 mod parts;
-
 mod printed_parts;
 mod printing;
-
 mod read;
 mod second_log;
 mod tokens;
 mod types;
-
 mod write;
 
-pub use types::{
-    Body, Cert, Element, FirstStep, GoneBy, Grounds, ListBody, Mark, RankBlock, RankRow, Ranked, RelBlock, Row, SecondStep,
-    StepLine, YesBody,
-};
 pub use checks::well_formed;
-pub use read::read_cert;
-pub use write::write_cert;
 pub use faults::{CertReadFault, TextFault, TextKind};
+pub use read::read_cert;
+pub use types::{
+    Body, Cert, Element, FirstStep, GoneBy, Grounds, ListBody, Mark, RankBlock, RankRow, Ranked,
+    RelBlock, Row, SecondStep, StepLine, YesBody,
+};
+pub use write::write_cert;
