@@ -1,5 +1,5 @@
 -- Facts about an answer, joined along the files that were read.
-use Rattle.std.proofs.Common.{◌≡◌, ◌⊎◌, ℕ, List, Option, Some, None, IfSome, inl, inr, Result, Ok, Err}
+use Rattle.std.proofs.Common.{◌≡◌, Option, Some, None, IfSome, Result, Ok, Err}
 use Rattle.shelf_io.specs.Shelf.{FileMap}
 use Rattle.rabit_cli.specs.declared.answer.Answer.{Answer}
 use Rattle.rabit_cli.specs.declared.answer.Answer.TheVariants.{NotBuilt, BadFile, LongFile, BadText, LongCertificate, Refused, NotIncluded, ReadFault, OutOfMemory}

@@ -1,3 +1,4 @@
 pub mod WordLemmas
 pub mod AnswerLemmas
 pub mod RunLemmas
+pub mod OneAnswer

@@ -1,5 +1,5 @@
 -- From the answer that was said to its status and what it shows.
-use Rattle.std.proofs.Common.{◌≡◌, ◌⊎◌, ℕ, List, take, Option, Some, None, IfSome, inl, inr, refl, sym, ◌∙◌, ap, subst, arith, true}
+use Rattle.std.proofs.Common.{◌≡◌, ◌⊎◌, ℕ, List, Option, Some, None, IfSome, inl, inr, refl, ◌∙◌, ap, subst, arith}
 use Rattle.std.specs.Io.KnownBytes.{append_known}
 use Rattle.shelf_io.specs.Counts.{Rose}
 use Rattle.shelf_io.specs.Shelf.{FileMap}
@@ -11,11 +11,12 @@ use Rattle.cert_text.specs.declared.types.Cert.{Cert}
 use Rattle.cert_text.specs.declared.types.Body.{Body}
 use Rattle.cert_text.specs.declared.types.Body.TheVariants.{Yes, NoLasso, NoWord, Listing}
 use Rattle.cert_check.specs.Checks.{AllHold}
-use Rattle.cert_check.specs.Rules.{body_checks, checks_of}
+use Rattle.cert_check.specs.Rules.{body_checks}
 use Rattle.rabit_cli.specs.Question.{Question, Check}
-use Rattle.rabit_cli.specs.Printed.{text_for, status_of, status_unsent}
-use Rattle.rabit_cli.specs.Command.{ReadsAs, HoldsCertificate, Concludes, IsVerdictAnswer, IsAnswerTo, IsCheckAnswer, IsFileFault, IsCertificateFault, UnlessRefused}
-use Rattle.rabit_cli.specs.Said.{WasSaid, IsAnswered, IsApart, ShowsApart}
+use Rattle.rabit_cli.specs.Printed.{text_for, status_of}
+use Rattle.rabit_cli.specs.Command.{ReadsAs, HoldsCertificate, IsVerdictAnswer, IsAnswerTo, IsFileFault, IsCertificateFault, UnlessRefused}
+use Rattle.rabit_cli.specs.Said.{WasSaid, IsAnswered, IsApart, ShowsApart, SaysEachAnswer}
+use Rattle.rabit_cli.proofs.OneAnswer.{one_answer}
 use Rattle.rabit_cli.specs.declared.answer.Answer.{Answer}
 use Rattle.rabit_cli.specs.declared.answer.Answer.TheVariants.{NotBuilt, BadFile, LongFile, BadText, LongCertificate, Refused, NotIncluded, ReadFault, OutOfMemory}
 
@@ -121,3 +122,43 @@ shows_apart (Some files) question status sent sent' sink sink' faults faults' a 
 pub unless_memory : (held : Option FileMap) (P : FileMap → Type 0) → IfSome held (λ files. UnlessRefused OutOfMemory (P files))
 unless_memory None P = tt
 unless_memory (Some files) P = tt
+
+module _ (files : FileMap) (question : Option Question) (status : ℕ) (sent sent' : Option (List ℕ)) (sink sink' faults faults' : ℕ) where
+  Said : Answer → Type 0
+  Said answer = ((status ≡ status_of answer) × (sent' ≡ append_known sent (text_for answer))) ⊎ Rose faults faults' ⊎ Rose sink sink' ⊎ (status ≡ 8)
+
+  said_other : (x answer : Answer) → x ≡ answer → WasSaid x status sent sent' sink sink' → Said answer
+  unfolding Said
+  said_other x answer e said =
+      let P : Answer → Type 0 = λ z. (status ≡ status_of z) × (sent' ≡ append_known sent (text_for z)) in
+      elim said [
+        | inl whole ↦ inl (subst P e (whole.0, whole.1))
+        | inr front ↦ inr (inr (inl front.1))
+      ]
+
+  said_each :
+      (x answer : Answer)
+      → UnlessRefused x (IsAnswerTo files question x)
+      → WasSaid x status sent sent' sink sink'
+      → (x ≡ ReadFault → Rose faults faults')
+      → IsAnswerTo files question answer
+      → Said answer
+  unfolding Said
+  said_each ReadFault answer right said rose is = inr (inl (rose refl))
+  said_each OutOfMemory answer right said rose is = inr (inr (inr (elim said [ inl whole ↦ whole.0 | inr front ↦ front.0 ])))
+  said_each NotBuilt answer right said rose is = said_other NotBuilt answer (one_answer files question NotBuilt answer right is) said
+  said_each (BadFile n x) answer right said rose is = said_other (BadFile n x) answer (one_answer files question (BadFile n x) answer right is) said
+  said_each (LongFile n) answer right said rose is = said_other (LongFile n) answer (one_answer files question (LongFile n) answer right is) said
+  said_each (BadText x) answer right said rose is = said_other (BadText x) answer (one_answer files question (BadText x) answer right is) said
+  said_each LongCertificate answer right said rose is = said_other LongCertificate answer (one_answer files question LongCertificate answer right is) said
+  said_each (Refused x) answer right said rose is = said_other (Refused x) answer (one_answer files question (Refused x) answer right is) said
+  said_each (NotIncluded labels lasso) answer right said rose is = said_other (NotIncluded labels lasso) answer (one_answer files question (NotIncluded labels lasso) answer right is) said
+
+pub says_each_answer :
+    (held : Option FileMap) (question : Option Question) (status : ℕ) (sent sent' : Option (List ℕ)) (sink sink' faults faults' : ℕ)
+    → IsAnswered held question status sent sent' sink sink' faults faults'
+    → IfSome held (λ files. SaysEachAnswer files question status sent sent' sink sink' faults faults')
+unfolding Said
+says_each_answer None question status sent sent' sink sink' faults faults' a = a.right
+says_each_answer (Some files) question status sent sent' sink sink' faults faults' a =
+    λ answer is. said_each files question status sent sent' sink sink' faults faults' a.answer answer a.right a.said a.read_fault is

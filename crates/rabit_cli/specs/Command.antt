@@ -1,5 +1,5 @@
 -- Which answer a command has, by the files that it names.
-use Rattle.std.specs.Prelude.{◌≡◌, ℕ, ◌<◌, ◌≤◌, ◌^◌, ◌⊎◌, List, length, Option, Some, None, Result, Ok, Err, true, false}
+use Rattle.std.specs.Prelude.{◌≡◌, ℕ, ◌<◌, ◌≤◌, ◌^◌, ◌⊎◌, List, length, Option, Some, None, Ok, Err, true, false}
 use Rattle.std.specs.FinMap as map
 use Rattle.shelf_io.specs.Shelf.{FileMap}
 use Rattle.ba_format.specs.declared.parts.BaFault.{BaFault}
@@ -9,7 +9,6 @@ use Rattle.ba_format.specs.declared.parts.Joined.{Joined}
 use Rattle.ba_format.specs.Faults.{fault_of}
 use Rattle.ba_format.specs.Reading.{Reads}
 use Rattle.ba_format.specs.Joining.{IsJoined}
-use Rattle.auto_core.specs.declared.parts.Lasso.{Lasso}
 use Rattle.cert_text.specs.declared.types.Cert.{Cert}
 use Rattle.cert_text.specs.declared.types.Body.TheVariants.{Yes, NoLasso, NoWord, Listing}
 use Rattle.cert_text.specs.declared.types.Body.{Body}
@@ -18,7 +17,7 @@ use Rattle.cert_text.specs.Grammar.{reading}
 use Rattle.cert_check.specs.declared.faults.Refusal.{Refusal}
 use Rattle.cert_check.specs.Checks.{AllHold, FirstBroken}
 use Rattle.cert_check.specs.Rules.{checks_of, has_checked_form}
-use Rattle.rabit_cli.specs.Question.{Question, Check, question_of}
+use Rattle.rabit_cli.specs.Question.{Question, Check}
 use Rattle.rabit_cli.specs.declared.answer.Answer.{Answer}
 use Rattle.rabit_cli.specs.declared.answer.Answer.TheVariants.{NotBuilt, BadFile, LongFile, BadText, LongCertificate, Refused, NotIncluded, ReadFault, OutOfMemory}
 

@@ -51,3 +51,14 @@ pub record IsApart (files : FileMap) (a b c : List ℕ) (sent sent' : Option (Li
 abbrev pub ShowsApart : FileMap → Option Question → Option (List ℕ) → Option (List ℕ) → Type 0
 ShowsApart files None sent sent' = ⊥
 ShowsApart files (Some (Check a b c)) sent sent' = IsApart files a b c sent sent'
+
+-- Whatever is the answer to the question: it was said whole, with its status, unless a count of the outside rose or memory was
+-- refused.
+abbrev pub SaysEachAnswer : FileMap → Option Question → ℕ → Option (List ℕ) → Option (List ℕ) → ℕ → ℕ → ℕ → ℕ → Type 0
+SaysEachAnswer files question status sent sent' sink sink' faults faults' =
+    (answer : Answer)
+    → IsAnswerTo files question answer
+    → ((status ≡ status_of answer) × (sent' ≡ append_known sent (text_for answer)))
+    ⊎ Rose faults faults'
+    ⊎ Rose sink sink'
+    ⊎ (status ≡ 8)

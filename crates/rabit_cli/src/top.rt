@@ -6,7 +6,7 @@ ghost use Rattle.shelf_io.specs.Counts.{Rose};
 ghost use Rattle.rabit_cli.specs.Question.{question_of};
 ghost use Rattle.rabit_cli.specs.Printed.{IsPrintable, text_for};
 ghost use Rattle.rabit_cli.specs.Command.{IsAnswerTo, UnlessRefused};
-ghost use Rattle.rabit_cli.specs.Said.{WasSaid, IsAnswered, ShowsApart};
+ghost use Rattle.rabit_cli.specs.Said.{WasSaid, IsAnswered, ShowsApart, SaysEachAnswer};
 
 use crate::answer::Answer;
 use crate::{deciding, lines};
@@ -44,6 +44,11 @@ pub fn run<H: Shelf, K: Sink>(alloc: Global, words: &[String], shelf: &mut H, ou
     // One answer was said, and where the shelf tells its files it is the right one.
     ensures answered { IsAnswered (H.held shelf.old) (question_of (map string_bytes words.now)) result
         (K.sent out.old) (K.sent out.new) (K.faults out.old) (K.faults out.new) (H.faults shelf.old) (H.faults shelf.new) }
+
+    // The answer to the question, whatever it is, comes with its status and its whole text, but for these.
+    ensures exact { IfSome (H.held shelf.old) (λ files.
+        SaysEachAnswer files (question_of (map string_bytes words.now)) result
+        (K.sent out.old) (K.sent out.new) (K.faults out.old) (K.faults out.new) (H.faults shelf.old) (H.faults shelf.new)) }
 
     // Not included: the certificate's lasso separates the two read automata, and it was printed.
     ensures not_included { result ≡ 1 → IfSome (H.held shelf.old) (λ files. ShowsApart files (question_of (map string_bytes words.now)) (K.sent out.old) (K.sent out.new)) }

@@ -1,4 +1,4 @@
-use Rattle.std.proofs.Common.{◌≡◌, ℕ, Option, IfSome, inl, inr, refl, sym, ◌∙◌, rules, subst}
+use Rattle.std.proofs.Common.{◌≡◌, Option, IfSome, inl, inr, ◌∙◌, subst}
 use Rattle.shelf_io.specs.Shelf.{FileMap}
 use Rattle.ba_format.specs.Joining.{IsJoined}
 use Rattle.rabit_cli.specs.Command.{ReadsAs, HoldsCertificate, IsCertificateFault, Concludes, IsCheckAnswer, UnlessRefused}

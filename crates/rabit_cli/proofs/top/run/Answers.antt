@@ -1,10 +1,9 @@
-use Rattle.std.proofs.Common.{◌≡◌, inl, inr, map, refl, sym, IfSome, Global, List, ℕ, Option}
+use Rattle.std.proofs.Common.{inl, inr, map, Global}
 use Rattle.std.specs.String.{string_bytes}
-use Rattle.rabit_cli.specs.Question.{Question, question_of}
+use Rattle.rabit_cli.specs.Question.{question_of}
 use Rattle.rabit_cli.specs.Command.{IsAnswerTo}
-use Rattle.rabit_cli.specs.declared.answer.Answer.TheVariants.{ReadFault, OutOfMemory}
-use Rattle.rabit_cli.specs.Said.{IsAnswered}
-use Rattle.rabit_cli.proofs.RunLemmas.{shows_apart, unless_memory}
+use Rattle.rabit_cli.specs.declared.answer.Answer.TheVariants.{OutOfMemory}
+use Rattle.rabit_cli.proofs.RunLemmas.{shows_apart, says_each_answer, unless_memory}
 use Rattle.rabit_cli.proofs.AnswerLemmas.{memory_not_fault}
 use Rattle.rabit_cli.proofs.top.run.Goals as goal
 
@@ -32,3 +31,7 @@ returns-clause-answered g c =
 pub returns-clause-not_included : goal.returns-clause-not_included
 returns-clause-not_included g c = λ one.
     shows_apart (g.H.Shelf.held c.args.shelf.now) (question_of (map (string_bytes {Z = Global}) c.args.words.now)) _ _ _ _ _ _ _ (returns-clause-answered g c) one
+
+pub returns-clause-exact : goal.returns-clause-exact
+returns-clause-exact g c =
+    says_each_answer (g.H.Shelf.held c.args.shelf.now) (question_of (map (string_bytes {Z = Global}) c.args.words.now)) _ _ _ _ _ _ _ (returns-clause-answered g c)

@@ -1,0 +1,237 @@
+-- A question has one answer for the files, at most.
+use Rattle.std.proofs.Common.{◌≡◌, ◌⊎◌, ℕ, List, [], ◌∷◌, length, Option, Some, None, Result, Ok, Err, inl, inr, sym, ◌∙◌, ap, subst, arith}
+use Rattle.std.proofs.lemmas.Bool.{false≢true}
+use Rattle.shelf_io.specs.Shelf.{FileMap}
+use Rattle.ba_format.specs.declared.parts.Named.{Named}
+use Rattle.ba_format.specs.declared.parts.Joined.{Joined}
+use Rattle.ba_format.specs.Faults.{fault_of}
+use Rattle.ba_format.specs.Reading.{Reads}
+use Rattle.ba_format.proofs.LawLemmas.{reads_as_one, joins_as_one}
+use Rattle.ba_format.specs.Joining.{IsJoined}
+use Rattle.cert_text.specs.declared.types.Cert.{Cert}
+use Rattle.cert_text.specs.declared.types.Body.{Body}
+use Rattle.cert_text.specs.declared.types.Body.TheVariants.{Yes, NoLasso, NoWord, Listing}
+use Rattle.cert_text.specs.Grammar.{reading}
+use Rattle.cert_check.specs.declared.faults.Refusal.{Refusal}
+use Rattle.cert_check.specs.Checks.{Check as Rule, AllHold, FirstBroken}
+use Rattle.cert_check.specs.Rules.{checks_of}
+use Rattle.rabit_cli.specs.Question.{Question, Check}
+use Rattle.rabit_cli.specs.Command.{Holds, ReadsAs, HoldsCertificate, Concludes, IsVerdictAnswer, IsAnswerTo, IsCheckAnswer, IsFileFault, IsCertificateFault, check_limits}
+use Rattle.rabit_cli.specs.declared.answer.Answer.{Answer}
+use Rattle.rabit_cli.specs.declared.answer.Answer.TheVariants.{BadFile, BadText, Refused}
+
+same_some : {X : Type 0} (a b : X) (o : Option X) → o ≡ Some a → o ≡ Some b → a ≡ b
+same_some a b o p q = cc
+
+none_some : {X : Type 0} (a : X) (o : Option X) → o ≡ None → o ≡ Some a → ⊥
+none_some a o p q = cc
+
+same_ok : {X E : Type 0} (a b : X) (r : Result X E) → r ≡ Ok a → r ≡ Ok b → a ≡ b
+same_ok a b r p q = cc
+
+same_error : {X E : Type 0} (a b : E) (r : Result X E) → r ≡ Err a → r ≡ Err b → a ≡ b
+same_error a b r p q = cc
+
+ok_error : {X E : Type 0} (a : X) (b : E) (r : Result X E) → r ≡ Ok a → r ≡ Err b → ⊥
+ok_error a b r p q = cc
+
+-- the first broken rule is one, and none where all hold
+pub one_broken : (cs : List Rule) (r s : Refusal) → FirstBroken cs r → FirstBroken cs s → r ≡ s
+one_broken [] r s p q = absurd p
+one_broken (c ∷ cs) r s p q =
+    elim p [
+      | inl here ↦ elim q [ inl here' ↦ here.1 ∙ sym here'.1 | inr later ↦ absurd (here.0 later.0) ]
+      | inr later ↦ elim q [ inl here ↦ absurd (here.0 later.0) | inr later' ↦ one_broken cs r s later.1 later'.1 ]
+    ]
+
+pub not_broken : (cs : List Rule) (r : Refusal) → FirstBroken cs r → AllHold cs → ⊥
+not_broken [] r p q = p
+not_broken (c ∷ cs) r p q = elim p [ inl here ↦ here.0 q.0 | inr later ↦ not_broken cs r later.1 q.1 ]
+
+same_bytes : (files : FileMap) (name a b : List ℕ) → Holds files name a → Holds files name b → a ≡ b
+same_bytes files name a b p q = same_some a b _ p q
+
+module _ (number : ℕ) (files : FileMap) (name : List ℕ) where
+  one_file_fault : (x y : Answer) → IsFileFault number files name x → IsFileFault number files name y → x ≡ y
+  one_file_fault x y (a, held, why) (b, held', why') =
+      let e = same_bytes files name a b held held' in
+      let len : length a ≡ length b = ap length e in
+      elim why [
+        | inl long ↦
+            elim why' [
+              | inl long' ↦ long.1 ∙ sym long'.1
+              | inr bad ↦ let p = long.0 in let q = bad.0 in absurd (omega arith)
+            ]
+        | inr bad ↦
+            elim why' [
+              | inl long ↦ let p = long.0 in let q = bad.0 in absurd (omega arith)
+              | inr bad' ↦
+                  let f = bad.1 in
+                  let f' = bad'.1 in
+                  let P : List ℕ → Type 0 = λ t. fault_of t check_limits ≡ Some f.0 in
+                  let same = same_some f.0 f'.0 _ (subst P e f.1) f'.1 in
+                  f.2 ∙ ap (λ z. BadFile number z) same ∙ sym f'.2
+            ]
+      ]
+
+  fault_or_reads : (x : Answer) (named : Named) → IsFileFault number files name x → ReadsAs files name named → ⊥
+  fault_or_reads x named (a, held, why) (b, held', few, reads) =
+      let e = same_bytes files name a b held held' in
+      let len : length a ≡ length b = ap length e in
+      elim why [
+        | inl long ↦ let p = long.0 in omega arith
+        | inr bad ↦
+            let f = bad.1 in
+            let P : List ℕ → Type 0 = λ t. fault_of t check_limits ≡ Some f.0 in
+            none_some f.0 _ reads.no_fault (subst P e f.1)
+      ]
+
+  one_named : (x y : Named) → ReadsAs files name x → ReadsAs files name y → x ≡ y
+  one_named x y (a, held, few, reads) (b, held', few', reads') =
+      let e = same_bytes files name a b held held' in
+      let P : List ℕ → Type 0 = λ t. Reads t check_limits x in
+      reads_as_one b check_limits x y (subst P e reads) reads'
+
+  one_certificate_fault : (x y : Answer) → IsCertificateFault files name x → IsCertificateFault files name y → x ≡ y
+  one_certificate_fault x y (a, held, why) (b, held', why') =
+      let e = same_bytes files name a b held held' in
+      let len : length a ≡ length b = ap length e in
+      elim why [
+        | inl long ↦
+            elim why' [
+              | inl long' ↦ long.1 ∙ sym long'.1
+              | inr bad ↦ let p = long.0 in let q = bad.0 in absurd (omega arith)
+            ]
+        | inr bad ↦
+            elim why' [
+              | inl long ↦ let p = long.0 in let q = bad.0 in absurd (omega arith)
+              | inr bad' ↦
+                  let f = bad.1 in
+                  let f' = bad'.1 in
+                  let P : List ℕ → Type 0 = λ t. reading t ≡ Err f.0 in
+                  let same = same_error f.0 f'.0 _ (subst P e f.1) f'.1 in
+                  f.2 ∙ ap (λ z. BadText z) same ∙ sym f'.2
+            ]
+      ]
+
+  fault_or_certificate : (x : Answer) (cert : Cert) → IsCertificateFault files name x → HoldsCertificate files name cert → ⊥
+  fault_or_certificate x cert (a, held, why) (b, held', few, read) =
+      let e = same_bytes files name a b held held' in
+      let len : length a ≡ length b = ap length e in
+      elim why [
+        | inl long ↦ let p = long.0 in omega arith
+        | inr bad ↦
+            let f = bad.1 in
+            let P : List ℕ → Type 0 = λ t. reading t ≡ Err f.0 in
+            ok_error cert f.0 _ read (subst P e f.1)
+      ]
+
+  one_cert : (x y : Cert) → HoldsCertificate files name x → HoldsCertificate files name y → x ≡ y
+  one_cert x y (a, held, few, read) (b, held', few', read') =
+      let e = same_bytes files name a b held held' in
+      let P : List ℕ → Type 0 = λ t. reading t ≡ Ok x in
+      same_ok x y _ (subst P e read) read'
+
+one_verdict : (pair : Joined) (body : Body) (x y : Answer) → IsVerdictAnswer pair body x → IsVerdictAnswer pair body y → x ≡ y
+one_verdict pair (Yes b) x y p q = absurd p
+one_verdict pair (NoLasso l) x y p q = p ∙ sym q
+one_verdict pair (NoWord w) x y p q = absurd p
+one_verdict pair (Listing l) x y p q = absurd p
+
+one_conclusion : (pair : Joined) (cert : Cert) (x y : Answer) → Concludes pair cert x → Concludes pair cert y → x ≡ y
+one_conclusion pair cert x y p q =
+    elim p [
+      | inl unbuilt ↦
+          elim q [
+            | inl unbuilt' ↦ unbuilt.1 ∙ sym unbuilt'.1
+            | inr decided ↦ elim decided [ inl broken ↦ absurd (false≢true (sym unbuilt.0 ∙ broken.0)) | inr valid ↦ absurd (false≢true (sym unbuilt.0 ∙ valid.0)) ]
+          ]
+      | inr decided ↦
+          elim decided [
+            | inl broken ↦
+                elim q [
+                  | inl unbuilt ↦ absurd (false≢true (sym unbuilt.0 ∙ broken.0))
+                  | inr decided' ↦
+                      elim decided' [
+                        | inl broken' ↦
+                            let r = broken.1 in
+                            let r' = broken'.1 in
+                            r.2 ∙ ap (λ z. Refused z) (one_broken (checks_of pair cert) r.0 r'.0 r.1 r'.1) ∙ sym r'.2
+                        | inr valid ↦ let r = broken.1 in absurd (not_broken (checks_of pair cert) r.0 r.1 valid.1)
+                      ]
+                ]
+            | inr valid ↦
+                elim q [
+                  | inl unbuilt ↦ absurd (false≢true (sym unbuilt.0 ∙ valid.0))
+                  | inr decided' ↦
+                      elim decided' [
+                        | inl broken ↦ let r = broken.1 in absurd (not_broken (checks_of pair cert) r.0 r.1 valid.1)
+                        | inr valid' ↦ one_verdict pair cert.body x y valid.2 valid'.2
+                      ]
+                ]
+          ]
+    ]
+
+-- what is left of a check after both automata were read
+After : FileMap → List ℕ → Named → Named → Answer → Type 0
+After files c one two answer =
+    IsCertificateFault files c answer
+    ⊎ ((pair : Joined) × IsJoined one two pair × ((cert : Cert) × HoldsCertificate files c cert × Concludes pair cert answer))
+
+one_after : (files : FileMap) (c : List ℕ) (one two : Named) (x y : Answer) → After files c one two x → After files c one two y → x ≡ y
+unfolding After
+one_after files c one two x y p q =
+    elim p [
+      | inl fault ↦
+          elim q [
+            | inl fault' ↦ one_certificate_fault 0 files c x y fault fault'
+            | inr (pair, joined, last) ↦ absurd (fault_or_certificate 0 files c x last.0 fault last.1)
+          ]
+      | inr (pair, joined, last) ↦
+          elim q [
+            | inl fault ↦ absurd (fault_or_certificate 0 files c y last.0 fault last.1)
+            | inr (pair', joined', last') ↦
+                let same_pair = joins_as_one one two pair pair' joined joined' in
+                let same_cert = one_cert 0 files c last.0 last'.0 last.1 last'.1 in
+                let P : Joined → Type 0 = λ z. Concludes z last.0 x in
+                let Q : Cert → Type 0 = λ z. Concludes pair' z x in
+                one_conclusion pair' last'.0 x y (subst Q same_cert (subst P same_pair last.2)) last'.2
+          ]
+    ]
+
+one_check_answer : (files : FileMap) (a b c : List ℕ) (x y : Answer) → IsCheckAnswer files a b c x → IsCheckAnswer files a b c y → x ≡ y
+unfolding After
+one_check_answer files a b c x y p q =
+    elim p [
+      | inl fault ↦
+          elim q [
+            | inl fault' ↦ one_file_fault 1 files a x y fault fault'
+            | inr (one, reads, more) ↦ absurd (fault_or_reads 1 files a x one fault reads)
+          ]
+      | inr (one, reads, more) ↦
+          elim q [
+            | inl fault ↦ absurd (fault_or_reads 1 files a y one fault reads)
+            | inr (one', reads', more') ↦
+                elim more [
+                  | inl fault ↦
+                      elim more' [
+                        | inl fault' ↦ one_file_fault 2 files b x y fault fault'
+                        | inr (two, reads_two, rest) ↦ absurd (fault_or_reads 2 files b x two fault reads_two)
+                      ]
+                  | inr (two, reads_two, rest) ↦
+                      elim more' [
+                        | inl fault ↦ absurd (fault_or_reads 2 files b y two fault reads_two)
+                        | inr (two', reads_two', rest') ↦
+                            let same_one = one_named 1 files a one one' reads reads' in
+                            let same_two = one_named 2 files b two two' reads_two reads_two' in
+                            let P : Named → Type 0 = λ z. After files c z two x in
+                            let Q : Named → Type 0 = λ z. After files c one' z x in
+                            one_after files c one' two' x y (subst Q same_two (subst P same_one rest)) rest'
+                      ]
+                ]
+          ]
+    ]
+
+pub one_answer : (files : FileMap) (question : Option Question) (x y : Answer) → IsAnswerTo files question x → IsAnswerTo files question y → x ≡ y
+one_answer files None x y p q = p ∙ sym q
+one_answer files (Some (Check a b c)) x y p q = one_check_answer files a b c x y p q
