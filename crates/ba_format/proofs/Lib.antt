@@ -6,3 +6,5 @@ pub mod TakeLemmas
 pub mod ReadLemmas
 pub mod NamedLemmas
 pub mod LawLemmas
+pub mod RenameLemmas
+pub mod WrittenLemmas

@@ -66,7 +66,7 @@ length-noted same seen x = by (list_any (same x) seen)
     by true = omega arith
     by false = omega (arith, length-append seen (x ∷ []))
 
-length-seen : {X : Type 0} (same : X → X → Bool) (seen xs : List X) → length seen ≤ length (fold (noted same) seen xs)
+pub length-seen : {X : Type 0} (same : X → X → Bool) (seen xs : List X) → length seen ≤ length (fold (noted same) seen xs)
 length-seen same seen [] = omega arith
 length-seen same seen (x ∷ xs) = omega (arith, length-noted same seen x, length-seen same (noted same seen x) xs)
 
