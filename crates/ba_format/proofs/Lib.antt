@@ -8,3 +8,4 @@ pub mod NamedLemmas
 pub mod LawLemmas
 pub mod RenameLemmas
 pub mod WrittenLemmas
+pub mod BackLemmas

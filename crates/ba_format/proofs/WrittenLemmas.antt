@@ -1,5 +1,5 @@
 -- A written text, line by line.
-use Rattle.std.proofs.Common.{◌≡◌, ℕ, zero, suc, ◌+◌, ◌-◌, ◌*◌, ◌/◌, ◌%◌, ◌^◌, ◌<◌, ◌≤◌, Bool, true, false, not, cond, eqb, ltb, leb, ◌||◌, ◌&&◌, List, [], ◌∷◌, ◌++◌, length, map, fold, reverse, take, drop, get_or, All, Option, None, Some, codes, count_by, refl, sym, ap, subst, ◌∙◌, true≢false, inl, inr, arith, if◌then◌else◌}
+use Rattle.std.proofs.Common.{◌≡◌, ℕ, zero, suc, ◌+◌, ◌-◌, ◌*◌, ◌/◌, ◌%◌, ◌^◌, ◌<◌, ◌≤◌, Bool, true, false, not, cond, eqb, ltb, leb, ◌||◌, ◌&&◌, List, [], ◌∷◌, ◌++◌, length, map, fold, reverse, take, drop, get_or, All, ◌⊎◌, Option, None, Some, codes, count_by, refl, sym, ap, subst, ◌∙◌, true≢false, inl, inr, arith, if◌then◌else◌}
 use Rattle.std.specs.Fmt.{decimal}
 use Rattle.std.specs.Option.{option_or}
 use Rattle.std.specs.List.{list_any, list_all, flat_map, slice_split, before_first, after_first, position_or_len}
@@ -360,3 +360,94 @@ pub no_fault-ended : (limits : Limits) (lines : List (List ℕ)) (entries : List
 no_fault-ended limits lines entries h o some f =
     no_fault_text limits (ended lines) (subst (λ es. 0 < length es) (sym (entries-ended lines entries h)) some)
       (ap (first_fault limits []) (lines_of-ended lines entries h) ∙ no_first_fault limits 1 lines [] entries h o f)
+
+-- ---- the written text
+
+-- what the line of a transition says
+abbrev pub transition_entry_of : List (List ℕ) → Trans → Entry
+transition_entry_of labels t = TransitionLine (get_or labels t.label []) (name_text t.source) (name_text t.target)
+
+abbrev pub line_of : List (List ℕ) → Trans → List ℕ
+line_of labels t = transition_line (get_or labels t.label []) t.source t.target
+
+abbrev pub written_lines : Automaton → List (List ℕ) → List (List ℕ)
+written_lines A labels = name_text A.initial ∷ (map (line_of labels) A.transitions ++ map name_text (accepting_written A))
+
+abbrev pub written_entries : Automaton → List (List ℕ) → List Entry
+written_entries A labels = StateLine (name_text A.initial) ∷ (map (transition_entry_of labels) A.transitions ++ map (λ q. StateLine (name_text q)) (accepting_written A))
+
+transition_text-ended : (labels : List (List ℕ)) (t : Trans) → line_of labels t ++ 10 ∷ [] ≡ transition_text labels t
+transition_text-ended labels t =
+    append_assoc (get_or labels t.label []) (44 ∷ (name_text t.source ++ 45 ∷ 62 ∷ name_text t.target)) (10 ∷ [])
+      ∙ ap (λ l. get_or labels t.label [] ++ 44 ∷ l) (append_assoc (name_text t.source) (45 ∷ 62 ∷ name_text t.target) (10 ∷ []))
+
+pub written-ended : (A : Automaton) (labels : List (List ℕ)) → ended (written_lines A labels) ≡ written A labels
+written-ended A labels =
+    ap (λ l. (name_text A.initial ++ 10 ∷ []) ++ l)
+      (flat_map-append (λ l. l ++ 10 ∷ []) (map (line_of labels) A.transitions) (map name_text (accepting_written A))
+        ∙ (λ i.
+          (flat_map-map (λ l. l ++ 10 ∷ []) (line_of labels) A.transitions ∙ (λ j. flat_map (λ t. transition_text-ended labels t j) A.transitions)) i
+            ++ flat_map-map (λ l. l ++ 10 ∷ []) name_text (accepting_written A) i))
+
+AllSay-append : (ls ms : List (List ℕ)) (es fs : List Entry) → AllSay ls es → AllSay ms fs → AllSay (ls ++ ms) (es ++ fs)
+AllSay-append [] ms [] fs h g = g
+AllSay-append [] ms (e ∷ es) fs h g = absurd h
+AllSay-append (l ∷ ls) ms [] fs h g = absurd h
+AllSay-append (l ∷ ls) ms (e ∷ es) fs h g = (h.0, AllSay-append ls ms es fs h.1 g)
+
+AllSay-map : {X : Type 0} (f : X → List ℕ) (g : X → Entry) (xs : List X) → All (λ x. LineSays (f x) (g x)) xs → AllSay (map f xs) (map g xs)
+AllSay-map f g [] h = tt
+AllSay-map f g (x ∷ xs) h = (All-head (λ x. LineSays (f x) (g x)) x xs h, AllSay-map f g xs (All-tail (λ x. LineSays (f x) (g x)) x xs h))
+
+accepting_small : (A : Automaton) → IsAutomaton A → (b : Bool) → All (λ q. q ≤ 2 ^ 32) (if b then A.states ∷ [] else A.accepting)
+accepting_small A v true = All-cons (λ q. q ≤ 2 ^ 32) A.states [] (omega (arith, v.states_fit)) (All-nil (λ q. q ≤ 2 ^ 32))
+accepting_small A v false = λ k d lt. omega (arith, v.accepting_in_range k d lt, v.states_fit)
+
+pub written_say : (A : Automaton) (labels : List (List ℕ)) → IsWritable A labels → AllSay (written_lines A labels) (written_entries A labels)
+written_say A labels w =
+    let v = w.valid in
+    (
+      state_says A.initial (omega (arith, v.initial_is_state, v.states_fit)),
+      AllSay-append (map (line_of labels) A.transitions) (map name_text (accepting_written A)) (map (transition_entry_of labels) A.transitions) (map (λ q. StateLine (name_text q)) (accepting_written A))
+        (AllSay-map (line_of labels) (transition_entry_of labels) A.transitions (λ k d lt.
+          let t = get_or A.transitions k d in
+          let r = v.in_range k d lt in
+          transition_says (get_or labels t.label []) t.source t.target (w.fit t.label [] (omega (arith, r.2, w.all_named))) (omega (arith, r.0, v.states_fit)) (omega (arith, r.1, v.states_fit))))
+        (AllSay-map name_text (λ q. StateLine (name_text q)) (accepting_written A) (λ k d lt.
+          state_says (get_or (accepting_written A) k d) (accepting_small A v (eqb (length A.accepting) 0) k d lt))),
+    )
+
+-- one line, or a transition line among them
+abbrev StartsOnce : List Entry → Type 0
+StartsOnce earlier = (length earlier ≡ 1) ⊎ (list_all is_state_line earlier ≡ false)
+
+orderly_states : (earlier : List Entry) (qs : List ℕ) → Orderly earlier (map (λ q. StateLine (name_text q)) qs)
+orderly_states earlier [] = tt
+orderly_states earlier (q ∷ qs) = (refl, orderly_states (earlier ++ StateLine (name_text q) ∷ []) qs)
+
+orderly_transitions : (labels : List (List ℕ)) (earlier : List Entry) (ts : List Trans) (qs : List ℕ) → StartsOnce earlier
+    → Orderly earlier (map (transition_entry_of labels) ts ++ map (λ q. StateLine (name_text q)) qs)
+orderly_transitions labels earlier [] qs h = orderly_states earlier qs
+orderly_transitions labels earlier (t ∷ ts) qs h =
+    (once h, orderly_transitions labels (earlier ++ transition_entry_of labels t ∷ []) ts qs (inr (list_all-append is_state_line earlier (transition_entry_of labels t ∷ []) ∙ and_false (list_all is_state_line earlier))))
+  where
+    and_false : (b : Bool) → (b && false) ≡ false
+    and_false true = refl
+    and_false false = refl
+    once : StartsOnce earlier → (list_all is_state_line earlier && leb 2 (length earlier)) ≡ false
+    once (inl e) = ap (λ n. list_all is_state_line earlier && leb 2 n) e ∙ and_false (list_all is_state_line earlier)
+    once (inr e) = ap (λ b. b && leb 2 (length earlier)) e
+
+pub written_orderly : (A : Automaton) (labels : List (List ℕ)) → Orderly [] (written_entries A labels)
+written_orderly A labels = (refl, orderly_transitions labels (StateLine (name_text A.initial) ∷ []) A.transitions (accepting_written A) (inl refl))
+
+pub entries_of-written : (A : Automaton) (labels : List (List ℕ)) → IsWritable A labels → entries_of (written A labels) ≡ written_entries A labels
+entries_of-written A labels w = ap entries_of (sym (written-ended A labels)) ∙ entries-ended (written_lines A labels) (written_entries A labels) (written_say A labels w)
+
+pub written_reads : WrittenReads
+written_reads A labels limits w counts =
+    let same = entries_of-written A labels w in
+    let fits : Fits limits (written_entries A labels) =
+          subst (Fits limits) same (record { states = counts.states; labels = counts.labels; transitions = counts.transitions }) in
+    ap (λ t. fault_of t limits) (sym (written-ended A labels))
+      ∙ no_fault-ended limits (written_lines A labels) (written_entries A labels) (written_say A labels w) (written_orderly A labels) (omega arith) fits
