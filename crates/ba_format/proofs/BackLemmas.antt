@@ -1,9 +1,9 @@
 -- What a written text reads as is the written automaton with its states renamed.
-use Rattle.std.proofs.Common.{◌≡◌, ℕ, zero, suc, ◌+◌, ◌-◌, ◌^◌, ◌<◌, ◌≤◌, Bool, true, false, not, cond, eqb, ltb, ◌||◌, ◌&&◌, List, [], ◌∷◌, ◌++◌, length, map, fold, reverse, drop, get_or, All, Contains, ◌⊎◌, inl, inr, refl, sym, ap, subst, ◌∙◌, true≢false, arith, if◌then◌else◌}
+use Rattle.std.proofs.Common.{◌≡◌, ℕ, suc, ◌^◌, ◌<◌, ◌≤◌, Bool, true, false, eqb, ◌&&◌, List, [], ◌∷◌, ◌++◌, length, map, fold, reverse, drop, get_or, All, Contains, ◌⊎◌, inl, inr, refl, sym, ap, subst, ◌∙◌, true≢false, arith, if◌then◌else◌}
 use Rattle.std.specs.Fmt.{decimal}
 use Rattle.std.specs.List.{list_any, flat_map, range_with_len}
 use Rattle.std.proofs.lemmas.List.{append-nil, reverse-append, reverse-reverse}
-use Rattle.std.proofs.lemmas.List.Elements.{All-nil, All-cons, All-contains, Contains-append_left, Contains-append_right, Contains-push, Contains-push_cases, Contains-append_cases}
+use Rattle.std.proofs.lemmas.List.Elements.{All-nil, All-cons, All-contains, Contains-append_left, Contains-push, Contains-push_cases}
 use Rattle.std.proofs.lemmas.List.Concat.{flat_map_single}
 use Rattle.std.proofs.lemmas.List.Folds.{flat_map-map}
 use Rattle.std.proofs.lemmas.List.Sorted.{IsPermutation-sym, Contains-permutation}
@@ -13,19 +13,17 @@ use Rattle.std.proofs.lemmas.Fmt.{decimal_injective}
 use Rattle.indexmap.proofs.CallerLemmas.{Contains-list_any}
 use Rattle.auto_core.specs.declared.parts.Trans.{Trans}
 use Rattle.auto_core.specs.declared.parts.Mode.{Mode}
-use Rattle.auto_core.specs.Automaton.{Automaton, IsAutomaton, Moves, IsAccepting, is_accepting, trans}
+use Rattle.auto_core.specs.Automaton.{Automaton, Moves, is_accepting, trans}
 use Rattle.auto_core.specs.Accept.{Same}
-use Rattle.auto_core.specs.Build.{IsBuilt}
 use Rattle.auto_core.proofs.Accepting.{Contains-from_test, test-from_Contains}
-use Rattle.ba_format.specs.declared.parts.Limits.{Limits}
 use Rattle.ba_format.specs.declared.parts.Named.{Named}
 use Rattle.ba_format.specs.declared.parts.Joined.{Joined}
 use Rattle.ba_format.specs.Sight.{same_text, noted, first_seen, number_in}
-use Rattle.ba_format.specs.Grammar.{Entry, StateLine, TransitionLine}
-use Rattle.ba_format.specs.Faults.{states_in, labels_in, transitions_in, same_trans, state_lines, names_of, labels_of, transitions_of, initial_of, accepting_names, accepting_numbers, accepting_of, entries_of}
-use Rattle.ba_format.specs.Reading.{IsReading, Reads}
-use Rattle.ba_format.specs.Joining.{relabelled, IsJoined, IsRelabelled}
-use Rattle.ba_format.specs.Writing.{name_text, accepting_written, written}
+use Rattle.ba_format.specs.Grammar.{StateLine}
+use Rattle.ba_format.specs.Faults.{states_in, labels_in, transitions_in, same_trans, state_lines, names_of, labels_of, transitions_of, accepting_names, accepting_numbers, accepting_of}
+use Rattle.ba_format.specs.Reading.{IsReading}
+use Rattle.ba_format.specs.Joining.{relabelled, IsJoined}
+use Rattle.ba_format.specs.Writing.{name_text, accepting_written}
 use Rattle.ba_format.specs.Laws.{IsWritable, WrittenReadsBack}
 use Rattle.ba_format.proofs.JoinLemmas.{at_number, number_tells}
 use Rattle.ba_format.proofs.DraftLemmas.{AllFound, AllFound-noted, AllFound-left, AllFound-right}
@@ -182,7 +180,7 @@ module _ (A : Automaton) (labels : List (List ℕ)) (w : IsWritable A labels) wh
   tail_states : AllFound (NS A labels) (flat_map states_in (map (transition_entry_of labels) A.transitions) ++ flat_map states_in (map (λ q. StateLine (name_text q)) (accepting_written A)))
   tail_states =
       subst (AllFound (NS A labels)) (flat_map-append states_in (map (transition_entry_of labels) A.transitions) (map (λ q. StateLine (name_text q)) (accepting_written A)))
-        (AllFound-noted (flat_map states_in (written_entries A labels)) []).1
+      (AllFound-noted (flat_map states_in (written_entries A labels)) []).1
 
   initial_known : list_any (same_text (name_text A.initial)) (NS A labels) ≡ true
   initial_known = (AllFound-noted (flat_map states_in (written_entries A labels)) []).0
@@ -190,20 +188,20 @@ module _ (A : Automaton) (labels : List (List ℕ)) (w : IsWritable A labels) wh
   ends_known : (t : Trans) → Contains A.transitions t → (list_any (same_text (name_text t.source)) (NS A labels) ≡ true) × (list_any (same_text (name_text t.target)) (NS A labels) ≡ true)
   ends_known t c =
       All-contains (λ t. (list_any (same_text (name_text t.source)) (NS A labels) ≡ true) × (list_any (same_text (name_text t.target)) (NS A labels) ≡ true)) A.transitions t
-        (found_states (NS A labels) labels A.transitions (AllFound-left (flat_map states_in (map (transition_entry_of labels) A.transitions)) (flat_map states_in (map (λ q. StateLine (name_text q)) (accepting_written A))) (NS A labels) tail_states)) c
+      (found_states (NS A labels) labels A.transitions (AllFound-left (flat_map states_in (map (transition_entry_of labels) A.transitions)) (flat_map states_in (map (λ q. StateLine (name_text q)) (accepting_written A))) (NS A labels) tail_states)) c
 
   accepting_known : (q : ℕ) → Contains (accepting_written A) q → list_any (same_text (name_text q)) (NS A labels) ≡ true
   accepting_known q c =
       All-contains (λ q. list_any (same_text (name_text q)) (NS A labels) ≡ true) (accepting_written A) q
-        (found_accepting (NS A labels) (accepting_written A) (AllFound-right (flat_map states_in (map (transition_entry_of labels) A.transitions)) (flat_map states_in (map (λ q. StateLine (name_text q)) (accepting_written A))) (NS A labels) tail_states)) c
+      (found_accepting (NS A labels) (accepting_written A) (AllFound-right (flat_map states_in (map (transition_entry_of labels) A.transitions)) (flat_map states_in (map (λ q. StateLine (name_text q)) (accepting_written A))) (NS A labels) tail_states)) c
 
   label_known : (t : Trans) → Contains A.transitions t → list_any (same_text (get_or labels t.label [])) (LS A labels) ≡ true
   label_known t c =
       All-contains (λ t. list_any (same_text (get_or labels t.label [])) (LS A labels) ≡ true) A.transitions t
-        (found_labels (LS A labels) labels A.transitions
-          (AllFound-left (flat_map labels_in (map (transition_entry_of labels) A.transitions)) (flat_map labels_in (map (λ q. StateLine (name_text q)) (accepting_written A))) (LS A labels)
-            (subst (AllFound (LS A labels)) (flat_map-append labels_in (map (transition_entry_of labels) A.transitions) (map (λ q. StateLine (name_text q)) (accepting_written A)))
-              (AllFound-noted (flat_map labels_in (written_entries A labels)) [])))) c
+      (found_labels (LS A labels) labels A.transitions
+      (AllFound-left (flat_map labels_in (map (transition_entry_of labels) A.transitions)) (flat_map labels_in (map (λ q. StateLine (name_text q)) (accepting_written A))) (LS A labels)
+      (subst (AllFound (LS A labels)) (flat_map-append labels_in (map (transition_entry_of labels) A.transitions) (map (λ q. StateLine (name_text q)) (accepting_written A)))
+      (AllFound-noted (flat_map labels_in (written_entries A labels)) [])))) c
 
   ranges : (t : Trans) → Contains A.transitions t → (t.source < A.states) × (t.target < A.states) × (t.label < A.labels)
   ranges t c = All-contains (λ t. (t.source < A.states) × (t.target < A.states) × (t.label < A.labels)) A.transitions t w.valid.in_range c
@@ -222,15 +220,15 @@ module _ (A : Automaton) (labels : List (List ℕ)) (w : IsWritable A labels) wh
   transitions_listed =
       let T = transitions_in (NS A labels) (LS A labels) in
       flat_map-append T (map (transition_entry_of labels) A.transitions) (map (λ q. StateLine (name_text q)) (accepting_written A))
-        ∙ (λ i. flat_map-map T (transition_entry_of labels) A.transitions i ++ no_transitions (NS A labels) (LS A labels) (accepting_written A) i)
-        ∙ append-nil (flat_map (λ t. renumbered A labels t ∷ []) A.transitions)
-        ∙ flat_map_single (renumbered A labels) A.transitions
+      ∙ (λ i. flat_map-map T (transition_entry_of labels) A.transitions i ++ no_transitions (NS A labels) (LS A labels) (accepting_written A) i)
+      ∙ append-nil (flat_map (λ t. renumbered A labels t ∷ []) A.transitions)
+      ∙ flat_map_single (renumbered A labels) A.transitions
 
   -- the states of the accepting lines
   accepting_listed : accepting_names (written_entries A labels) ≡ map name_text (accepting_written A)
   accepting_listed =
       flat_map-append state_lines (map (transition_entry_of labels) A.transitions) (map (λ q. StateLine (name_text q)) (accepting_written A))
-        ∙ (λ i. no_state_lines labels A.transitions i ++ only_state_lines (accepting_written A) i)
+      ∙ (λ i. no_state_lines labels A.transitions i ++ only_state_lines (accepting_written A) i)
 
   some_accepting : (b : Bool) → eqb (length A.accepting) 0 ≡ b → eqb (length (map name_text (if b then A.states ∷ [] else A.accepting))) 0 ≡ false
   some_accepting true e = refl
@@ -243,22 +241,22 @@ module _ (A : Automaton) (labels : List (List ℕ)) (w : IsWritable A labels) wh
   accepting_numbered : accepting_of (written_entries A labels) ≡ first_seen (λ a b. eqb a b) (map (number_in same_text (NS A labels)) (map name_text (accepting_written A)))
   accepting_numbered =
       ap (λ b. if b then range_with_len 0 (length (NS A labels)) else accepting_numbers (written_entries A labels)) (ap (λ l. eqb (length l) 0) accepting_listed ∙ some_accepting (eqb (length A.accepting) 0) refl)
-        ∙ ap (λ l. first_seen (λ a b. eqb a b) (map (number_in same_text (NS A labels)) l)) accepting_listed
+      ∙ ap (λ l. first_seen (λ a b. eqb a b) (map (number_in same_text (NS A labels)) l)) accepting_listed
 
   module _ (names : List (List ℕ)) (read : Named) (joined : Joined) (rd : IsReading (written_entries A labels) read)
       (j : IsJoined (record { auto = A; names = names; labels = labels }) read joined) where
     from_read : (u : Trans) → Contains read.auto.transitions u → (t : Trans) × Contains A.transitions t × (renumbered A labels t ≡ u)
     from_read u c =
         contains_map (renumbered A labels) A.transitions u
-          (subst (λ l. Contains l u) transitions_listed
-            (first_from same_trans same_trans-equal (flat_map (transitions_in (NS A labels) (LS A labels)) (written_entries A labels)) u
-              (Contains-permutation read.auto.transitions (transitions_of (written_entries A labels)) u (IsPermutation-sym (transitions_of (written_entries A labels)) read.auto.transitions rd.auto.transitions_given) c)))
+        (subst (λ l. Contains l u) transitions_listed
+        (first_from same_trans same_trans-equal (flat_map (transitions_in (NS A labels) (LS A labels)) (written_entries A labels)) u
+        (Contains-permutation read.auto.transitions (transitions_of (written_entries A labels)) u (IsPermutation-sym (transitions_of (written_entries A labels)) read.auto.transitions rd.auto.transitions_given) c)))
 
     to_read : (t : Trans) → Contains A.transitions t → Contains read.auto.transitions (renumbered A labels t)
     to_read t c =
         Contains-permutation (transitions_of (written_entries A labels)) read.auto.transitions (renumbered A labels t) rd.auto.transitions_given
-          (first_has same_trans same_trans-equal (flat_map (transitions_in (NS A labels) (LS A labels)) (written_entries A labels)) (renumbered A labels t)
-            (subst (λ l. Contains l (renumbered A labels t)) (sym transitions_listed) (map_contains (renumbered A labels) A.transitions t c)))
+        (first_has same_trans same_trans-equal (flat_map (transitions_in (NS A labels) (LS A labels)) (written_entries A labels)) (renumbered A labels t)
+        (subst (λ l. Contains l (renumbered A labels t)) (sym transitions_listed) (map_contains (renumbered A labels) A.transitions t c)))
 
     -- the letter of a transition in the joined numbers
     letter : Trans → ℕ
@@ -268,31 +266,31 @@ module _ (A : Automaton) (labels : List (List ℕ)) (w : IsWritable A labels) wh
         → relabelled read.labels joined.labels (renumbered A labels t) ≡ trans (renamed A labels t.source) (number_in same_text joined.labels (get_or labels t.label [])) (renamed A labels t.target)
     same_letter t c =
         (λ i. relabelled (rd.labels i) joined.labels (renumbered A labels t))
-          ∙ ap (λ text. trans (renamed A labels t.source) (number_in same_text joined.labels text) (renamed A labels t.target)) (sym (at_number (LS A labels) (get_or labels t.label []) (label_known t c)))
+        ∙ ap (λ text. trans (renamed A labels t.source) (number_in same_text joined.labels text) (renamed A labels t.target)) (sym (at_number (LS A labels) (get_or labels t.label []) (label_known t c)))
 
     to_second : (t : Trans) → Contains A.transitions t → Moves joined.second (renamed A labels t.source) (number_in same_text joined.labels (get_or labels t.label [])) (renamed A labels t.target)
     to_second t c =
         Contains-permutation (map (relabelled read.labels joined.labels) read.auto.transitions) joined.second.transitions _ j.second.transitions_given
-          (subst (Contains (map (relabelled read.labels joined.labels) read.auto.transitions)) (same_letter t c)
-            (map_contains (relabelled read.labels joined.labels) read.auto.transitions (renumbered A labels t) (to_read t c)))
+        (subst (Contains (map (relabelled read.labels joined.labels) read.auto.transitions)) (same_letter t c)
+        (map_contains (relabelled read.labels joined.labels) read.auto.transitions (renumbered A labels t) (to_read t c)))
 
     from_second : (u : Trans) → Contains joined.second.transitions u
         → (t : Trans) × Contains A.transitions t × (trans (renamed A labels t.source) (number_in same_text joined.labels (get_or labels t.label [])) (renamed A labels t.target) ≡ u)
     from_second u c =
         let given = contains_map (relabelled read.labels joined.labels) read.auto.transitions u
-              (Contains-permutation joined.second.transitions (map (relabelled read.labels joined.labels) read.auto.transitions) u (IsPermutation-sym (map (relabelled read.labels joined.labels) read.auto.transitions) joined.second.transitions j.second.transitions_given) c) in
+        (Contains-permutation joined.second.transitions (map (relabelled read.labels joined.labels) read.auto.transitions) u (IsPermutation-sym (map (relabelled read.labels joined.labels) read.auto.transitions) joined.second.transitions j.second.transitions_given) c) in
         let own = from_read given.0 given.1 in
         (own.0, own.1, sym (same_letter own.0 own.1) ∙ ap (relabelled read.labels joined.labels) own.2 ∙ given.2)
 
     to_first : (t : Trans) → Contains A.transitions t → Moves joined.first t.source (number_in same_text joined.labels (get_or labels t.label [])) t.target
     to_first t c =
         Contains-permutation (map (relabelled labels joined.labels) A.transitions) joined.first.transitions (relabelled labels joined.labels t) j.first.transitions_given
-          (map_contains (relabelled labels joined.labels) A.transitions t c)
+        (map_contains (relabelled labels joined.labels) A.transitions t c)
 
     from_first : (u : Trans) → Contains joined.first.transitions u → (t : Trans) × Contains A.transitions t × (relabelled labels joined.labels t ≡ u)
     from_first u c =
         contains_map (relabelled labels joined.labels) A.transitions u
-          (Contains-permutation joined.first.transitions (map (relabelled labels joined.labels) A.transitions) u (IsPermutation-sym (map (relabelled labels joined.labels) A.transitions) joined.first.transitions j.first.transitions_given) c)
+        (Contains-permutation joined.first.transitions (map (relabelled labels joined.labels) A.transitions) u (IsPermutation-sym (map (relabelled labels joined.labels) A.transitions) joined.first.transitions j.first.transitions_given) c)
 
     -- ---- accepting states
 
@@ -310,8 +308,8 @@ module _ (A : Automaton) (labels : List (List ℕ)) (w : IsWritable A labels) wh
         let numbers = map (number_in same_text (NS A labels)) (map name_text (accepting_written A)) in
         let listed = map_contains (number_in same_text (NS A labels)) (map name_text (accepting_written A)) (name_text q) (map_contains name_text (accepting_written A) q c) in
         Contains-permutation read.auto.accepting joined.second.accepting (renamed A labels q) j.second.accepting_given
-          (Contains-permutation (accepting_of (written_entries A labels)) read.auto.accepting (renamed A labels q) rd.auto.accepting_given
-            (subst (λ l. Contains l (renamed A labels q)) (sym accepting_numbered) (first_has (λ a b. eqb a b) eqb-equal numbers (renamed A labels q) listed)))
+        (Contains-permutation (accepting_of (written_entries A labels)) read.auto.accepting (renamed A labels q) rd.auto.accepting_given
+        (subst (λ l. Contains l (renamed A labels q)) (sym accepting_numbered) (first_has (λ a b. eqb a b) eqb-equal numbers (renamed A labels q) listed)))
 
     -- a state of A in the written list is accepting, and the other way round
     written_is : (b : Bool) → eqb (length A.accepting) 0 ≡ b → (q : ℕ) → q < A.states → Contains (if b then A.states ∷ [] else A.accepting) q → Contains A.accepting q
@@ -332,15 +330,15 @@ module _ (A : Automaton) (labels : List (List ℕ)) (w : IsWritable A labels) wh
     accepting_same : (q : ℕ) → Known A labels q → is_accepting joined.second (renamed A labels q) ≡ is_accepting joined.first q
     accepting_same q k =
         same_bool (is_accepting joined.second (renamed A labels q)) (is_accepting joined.first q)
-          (λ h.
-            let from = accepting_from (renamed A labels q) (Contains-from_test joined.second.accepting (renamed A labels q) h) in
-            let p = from.0 in
-            let same = tells p q (small (eqb (length A.accepting) 0) p from.1) (omega (arith, k.1, w.valid.states_fit)) (accepting_known p from.1) k.0 from.2 in
-            let own = written_is (eqb (length A.accepting) 0) refl q k.1 (subst (Contains (accepting_written A)) same from.1) in
-            test-from_Contains joined.first.accepting q (Contains-permutation A.accepting joined.first.accepting q j.first.accepting_given own))
-          (λ h.
-            let own = Contains-permutation joined.first.accepting A.accepting q (IsPermutation-sym A.accepting joined.first.accepting j.first.accepting_given) (Contains-from_test joined.first.accepting q h) in
-            test-from_Contains joined.second.accepting (renamed A labels q) (accepting_to q (is_written (eqb (length A.accepting) 0) refl q own)))
+        (λ h.
+        let from = accepting_from (renamed A labels q) (Contains-from_test joined.second.accepting (renamed A labels q) h) in
+        let p = from.0 in
+        let same = tells p q (small (eqb (length A.accepting) 0) p from.1) (omega (arith, k.1, w.valid.states_fit)) (accepting_known p from.1) k.0 from.2 in
+        let own = written_is (eqb (length A.accepting) 0) refl q k.1 (subst (Contains (accepting_written A)) same from.1) in
+        test-from_Contains joined.first.accepting q (Contains-permutation A.accepting joined.first.accepting q j.first.accepting_given own))
+        (λ h.
+        let own = Contains-permutation joined.first.accepting A.accepting q (IsPermutation-sym A.accepting joined.first.accepting j.first.accepting_given) (Contains-from_test joined.first.accepting q h) in
+        test-from_Contains joined.second.accepting (renamed A labels q) (accepting_to q (is_written (eqb (length A.accepting) 0) refl q own)))
 
     renaming : IsRenaming joined.first joined.second (renamed A labels) (Known A labels)
     renaming =
@@ -348,20 +346,19 @@ module _ (A : Automaton) (labels : List (List ℕ)) (w : IsWritable A labels) wh
           first = subst (Known A labels) (sym j.first.initial_given) (initial_known, w.valid.initial_is_state);
           initial = j.second.initial_given ∙ rd.auto.initial_given ∙ ap (renamed A labels) (sym j.first.initial_given);
           stays = λ p a q h m.
-            let t = from_first (trans p a q) m in
-            subst (Known A labels) (ap (λ u. u.target) t.2) (target_known t.0 t.1);
+              let t = from_first (trans p a q) m in
+              subst (Known A labels) (ap (λ u. u.target) t.2) (target_known t.0 t.1);
           there = λ p a q h m.
-            let t = from_first (trans p a q) m in
-            subst (λ (u : Trans). Contains joined.second.transitions (trans (renamed A labels u.source) u.label (renamed A labels u.target))) t.2 (to_second t.0 t.1);
+              let t = from_first (trans p a q) m in
+              subst (λ (u : Trans). Contains joined.second.transitions (trans (renamed A labels u.source) u.label (renamed A labels u.target))) t.2 (to_second t.0 t.1);
           back = λ p a z h m.
-            let t = from_second (trans (renamed A labels p) a z) m in
-            let k = source_known t.0 t.1 in
-            let same = tells t.0.source p (omega (arith, k.1, w.valid.states_fit)) (omega (arith, h.1, w.valid.states_fit)) k.0 h.0 (ap (λ u. u.source) t.2) in
-            (
-              t.0.target,
-              sym (ap (λ u. u.target) t.2),
-              subst (λ s. Moves joined.first s a t.0.target) same (subst (λ x. Moves joined.first t.0.source x t.0.target) (ap (λ u. u.label) t.2) (to_first t.0 t.1)),
-            );
+              let t = from_second (trans (renamed A labels p) a z) m in
+              let k = source_known t.0 t.1 in
+              let same = tells t.0.source p (omega (arith, k.1, w.valid.states_fit)) (omega (arith, h.1, w.valid.states_fit)) k.0 h.0 (ap (λ u. u.source) t.2) in (
+                t.0.target,
+                sym (ap (λ u. u.target) t.2),
+                subst (λ s. Moves joined.first s a t.0.target) same (subst (λ x. Moves joined.first t.0.source x t.0.target) (ap (λ u. u.label) t.2) (to_first t.0 t.1)),
+              );
           accepts = accepting_same;
           tells = λ p q hp hq e. tells p q (omega (arith, hp.1, w.valid.states_fit)) (omega (arith, hq.1, w.valid.states_fit)) hp.0 hq.0 e;
         }

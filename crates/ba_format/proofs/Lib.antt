@@ -9,3 +9,4 @@ pub mod LawLemmas
 pub mod RenameLemmas
 pub mod WrittenLemmas
 pub mod BackLemmas
+pub mod LabelLemmas

@@ -49,7 +49,7 @@ module _ {X : Type 0} (same : X → X → Bool) where
         by true e = h
         by false e = all_pairs_push (λ a b. a ≡ b → ⊥) seen x h (λ k d lt f. true≢false (sym (list_any_at (same x) seen k d lt (ap (same x) f ∙ itself x)) ∙ e))
 
-    different-seen : (seen xs : List X) → AllPairs (λ a b. a ≡ b → ⊥) seen → AllPairs (λ a b. a ≡ b → ⊥) (fold (noted same) seen xs)
+    pub different-seen : (seen xs : List X) → AllPairs (λ a b. a ≡ b → ⊥) seen → AllPairs (λ a b. a ≡ b → ⊥) (fold (noted same) seen xs)
     different-seen seen [] h = h
     different-seen seen (x ∷ xs) h = different-seen (noted same seen x) xs (different-noted seen x h)
 

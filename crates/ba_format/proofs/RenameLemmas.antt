@@ -1,8 +1,8 @@
 -- Two automata that differ in their states' numbers alone accept the same.
-use Rattle.std.proofs.Common.{◌≡◌, ℕ, ◌≤◌, Bool, true, false, ◌||◌, List, [], ◌∷◌, ◌++◌, Contains, refl, sym, ap, subst, ◌∙◌}
+use Rattle.std.proofs.Common.{◌≡◌, ℕ, Bool, true, ◌||◌, List, [], ◌∷◌, ◌++◌, refl, sym, ap, subst, ◌∙◌}
 use Rattle.auto_core.specs.Automaton.{Automaton, Moves, IsAccepting, is_accepting}
 use Rattle.auto_core.specs.Run.{Run, repeated}
-use Rattle.auto_core.specs.Accept.{AcceptsLasso, AcceptsWord, Includes, Same}
+use Rattle.auto_core.specs.Accept.{AcceptsLasso, AcceptsWord, Same}
 use Rattle.auto_core.specs.declared.parts.Mode.{Mode}
 use Rattle.auto_core.specs.declared.parts.Mode.TheVariants.{Buchi, Finite}
 use Rattle.auto_core.proofs.Accepting.{Contains-from_test, test-from_Contains}

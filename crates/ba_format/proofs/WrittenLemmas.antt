@@ -1,9 +1,9 @@
 -- A written text, line by line.
-use Rattle.std.proofs.Common.{◌≡◌, ℕ, zero, suc, ◌+◌, ◌-◌, ◌*◌, ◌/◌, ◌%◌, ◌^◌, ◌<◌, ◌≤◌, Bool, true, false, not, cond, eqb, ltb, leb, ◌||◌, ◌&&◌, List, [], ◌∷◌, ◌++◌, length, map, fold, reverse, take, drop, get_or, All, ◌⊎◌, Option, None, Some, codes, count_by, refl, sym, ap, subst, ◌∙◌, true≢false, inl, inr, arith, if◌then◌else◌}
+use Rattle.std.proofs.Common.{◌≡◌, ℕ, suc, ◌+◌, ◌-◌, ◌%◌, ◌^◌, ◌<◌, ◌≤◌, Bool, true, false, not, cond, eqb, ltb, leb, ◌||◌, ◌&&◌, List, [], ◌∷◌, ◌++◌, length, map, reverse, drop, get_or, All, ◌⊎◌, None, count_by, refl, sym, ap, subst, ◌∙◌, true≢false, inl, inr, arith, if◌then◌else◌}
 use Rattle.std.specs.Fmt.{decimal}
 use Rattle.std.specs.Option.{option_or}
 use Rattle.std.specs.List.{list_any, list_all, flat_map, slice_split, before_first, after_first, position_or_len}
-use Rattle.std.proofs.lemmas.List.{append-nil, append_assoc, length-append, take_at, get_or-reverse, reverse-append, reverse-reverse, get_or_default, get_or_append_left as get_or-append}
+use Rattle.std.proofs.lemmas.List.{append-nil, append_assoc, length-append, take_at, get_or-reverse, reverse-append, reverse-reverse, get_or_append_left as get_or-append}
 use Rattle.std.proofs.lemmas.List.Folds.{list_any-append, list_all-append, flat_map-map}
 use Rattle.std.proofs.lemmas.List.Splits.{slice_split_at}
 use Rattle.std.proofs.lemmas.List.Elements.{All-head, All-tail, All-nil, All-cons}
@@ -11,16 +11,15 @@ use Rattle.std.proofs.lemmas.Grind.{flat_map-append}
 use Rattle.std.proofs.lemmas.Bool.Decides.{nat_tests}
 use Rattle.std.proofs.lemmas.Fmt.{decimal_by_steps, length-decimal-le}
 use Rattle.auto_core.specs.declared.parts.Trans.{Trans}
-use Rattle.auto_core.specs.Automaton.{Automaton, IsAutomaton, trans}
-use Rattle.ba_format.specs.declared.parts.BaKind.{BaKind}
+use Rattle.auto_core.specs.Automaton.{Automaton, IsAutomaton}
 use Rattle.ba_format.specs.declared.parts.Limits.{Limits}
 use Rattle.ba_format.specs.Grammar.{Line, Entry, StateLine, TransitionLine, is_newline, is_blank, without_leading, trimmed, onto_lines, lines_from, lines_of, arrows, before_arrow, after_arrow, is_comma, entry_of, is_bad, is_shaped, is_empty, is_long, token_fault, own_fault}
 use Rattle.ba_format.specs.Sight.{same_text}
 use Rattle.ba_format.specs.Faults.{states_in, labels_in, transitions_in, same_trans, names_of, labels_of, transitions_of, is_state_line, opens_twice, later_fault, kind_of_line, or_later, first_fault, fault_of, entries_of}
 use Rattle.ba_format.specs.Draft.{Fits}
 use Rattle.ba_format.specs.Seen.{is_cut_shaped}
-use Rattle.ba_format.specs.Writing.{name_text, state_text, transition_text, accepting_written, written}
-use Rattle.ba_format.specs.Laws.{IsLabelText, IsWritable, CountsFit, WrittenReads}
+use Rattle.ba_format.specs.Writing.{name_text, transition_text, accepting_written, written}
+use Rattle.ba_format.specs.Laws.{IsLabelText, IsWritable, WrittenReads}
 use Rattle.ba_format.proofs.LineLemmas.{is_shaped-cut}
 use Rattle.ba_format.proofs.DraftLemmas.{names-push, labels-push, transitions-push}
 use Rattle.ba_format.proofs.TakeLemmas.{no_fault}
@@ -37,8 +36,10 @@ digits_all n h = decimal_by_steps (λ n ds. list_all is_digit ds ≡ true) one m
   where
     digit : (k : ℕ) → k < 10 → is_digit (48 + k) ≡ true
     digit k h = grind (arith, nat_tests)
+
     one : (n : ℕ) → n < 10 → list_all is_digit ((48 + n) ∷ []) ≡ true
     one n h = ap (λ b. b && true) (digit n h)
+
     more : (n : ℕ) (ds : List ℕ) → 10 ≤ n → list_all is_digit ds ≡ true → list_all is_digit (ds ++ ((48 + n % 10) ∷ [])) ≡ true
     more n ds big h =
         let last : n % 10 < 10 = omega arith in
@@ -84,7 +85,7 @@ name-no_dash q h = name-none is_dash refl refl (λ b d. grind (arith, nat_tests)
 
 -- ---- arrows
 
-none_of : (a b : Bool) → (a || b) ≡ false → (a ≡ false) × (b ≡ false)
+pub none_of : (a b : Bool) → (a || b) ≡ false → (a ≡ false) × (b ≡ false)
 none_of true b h = absurd (true≢false h)
 none_of false b h = (refl, h)
 
@@ -178,6 +179,7 @@ full_token token some short = (by_empty (length token) some, by_long (length tok
   where
     by_empty : (n : ℕ) → 0 < n → eqb n 0 ≡ false
     by_empty n h = grind (arith, nat_tests)
+
     by_long : (n : ℕ) → n ≤ 255 → ltb 255 n ≡ false
     by_long n h = grind (arith, nat_tests)
 
@@ -186,10 +188,10 @@ state_says q h =
     let big : q < 2 ^ 64 = omega arith in
     let no_comma = name-no_comma q big in
     let says : entry_of (name_text q) ≡ StateLine (name_text q) =
-          ap (λ b. if b then TransitionLine (trimmed (before_first is_comma (name_text q))) (trimmed (before_arrow (after_first is_comma (name_text q)))) (trimmed (after_arrow (after_first is_comma (name_text q)))) else StateLine (name_text q)) no_comma in
+    ap (λ b. if b then TransitionLine (trimmed (before_first is_comma (name_text q))) (trimmed (before_arrow (after_first is_comma (name_text q)))) (trimmed (after_arrow (after_first is_comma (name_text q)))) else StateLine (name_text q)) no_comma in
     let shaped : is_shaped (name_text q) ≡ true =
-          ap (λ b. if b then (eqb (count_by is_comma (name_text q)) 1 && eqb (arrows (name_text q)) 1 && eqb (arrows (after_first is_comma (name_text q))) 1) else eqb (arrows (name_text q)) 0) no_comma
-            ∙ ap (λ n. eqb n 0) (arrows-none (name_text q) (name-no_dash q big)) in
+    ap (λ b. if b then (eqb (count_by is_comma (name_text q)) 1 && eqb (arrows (name_text q)) 1 && eqb (arrows (after_first is_comma (name_text q))) 1) else eqb (arrows (name_text q)) 0) no_comma
+    ∙ ap (λ n. eqb n 0) (arrows-none (name_text q) (name-no_dash q big)) in
     let long = name-length q h in
     let token = full_token (name_text q) (omega (arith, long.0)) long.1 in
     let tokens : token_fault (StateLine (name_text q)) ≡ None = rw (token.0, token.1) refl in
@@ -220,7 +222,7 @@ line-none : (p : ℕ → Bool) (label : List ℕ) (m n : List ℕ) → list_any 
     → list_any p (label ++ 44 ∷ (m ++ 45 ∷ 62 ∷ n)) ≡ false
 line-none p label m n hl hm hn c d e =
     list_any-append p label (44 ∷ (m ++ 45 ∷ 62 ∷ n))
-      ∙ (λ i. hl i || (c i || (list_any-append p m (45 ∷ 62 ∷ n) ∙ (λ j. hm j || (d j || (e j || hn j)))) i))
+    ∙ (λ i. hl i || (c i || (list_any-append p m (45 ∷ 62 ∷ n) ∙ (λ j. hm j || (d j || (e j || hn j)))) i))
 
 transition_says : (label : List ℕ) (p q : ℕ) → IsLabelText label → p ≤ 2 ^ 32 → q ≤ 2 ^ 32 → LineSays (transition_line label p q) (TransitionLine label (name_text p) (name_text q))
 transition_says label p q l hp hq =
@@ -235,17 +237,17 @@ transition_says label p q l hp hq =
     let after : after_first is_comma line ≡ rest = after-first_at is_comma label 44 rest l.no_comma refl in
     let no_dash = name-no_dash p bigp in
     let shaped : is_shaped line ≡ true =
-          is_shaped-cut line comma
-            ∙ (λ i. is_cut_shaped (before i) (after i))
-            ∙ cut_shaped label rest
-                (list_any-append is_comma m (45 ∷ 62 ∷ n) ∙ (λ i. name-no_comma p bigp i || (false || (false || name-no_comma q bigq i))))
-                l.no_arrow
-                (arrows-cut_at m n no_dash ∙ ap (λ k. k + 1) (arrows-none n (name-no_dash q bigq))) in
+    is_shaped-cut line comma
+    ∙ (λ i. is_cut_shaped (before i) (after i))
+    ∙ cut_shaped label rest
+    (list_any-append is_comma m (45 ∷ 62 ∷ n) ∙ (λ i. name-no_comma p bigp i || (false || (false || name-no_comma q bigq i))))
+    l.no_arrow
+    (arrows-cut_at m n no_dash ∙ ap (λ k. k + 1) (arrows-none n (name-no_dash q bigq))) in
     let says : entry_of line ≡ TransitionLine label m n =
-          ap (λ b. if b then TransitionLine (trimmed (before_first is_comma line)) (trimmed (before_arrow (after_first is_comma line))) (trimmed (after_arrow (after_first is_comma line))) else StateLine line) comma
-            ∙ (λ i. TransitionLine (trimmed (before i)) (trimmed (before_arrow (after i))) (trimmed (after_arrow (after i))))
-            ∙ (λ i. TransitionLine (label_kept label l i) (trimmed (before-cut_at m n no_dash i)) (trimmed (after-cut_at m n no_dash i)))
-            ∙ (λ i. TransitionLine label (name_kept p i) (name_kept q i)) in
+    ap (λ b. if b then TransitionLine (trimmed (before_first is_comma line)) (trimmed (before_arrow (after_first is_comma line))) (trimmed (after_arrow (after_first is_comma line))) else StateLine line) comma
+    ∙ (λ i. TransitionLine (trimmed (before i)) (trimmed (before_arrow (after i))) (trimmed (after_arrow (after i))))
+    ∙ (λ i. TransitionLine (label_kept label l i) (trimmed (before-cut_at m n no_dash i)) (trimmed (after-cut_at m n no_dash i)))
+    ∙ (λ i. TransitionLine label (name_kept p i) (name_kept q i)) in
     let lp = name-length p hp in
     let lq = name-length q hq in
     let tl = full_token label l.some l.short in
@@ -263,12 +265,13 @@ transition_says label p q l hp hq =
   where
     cut_shaped : (label rest : List ℕ) → list_any is_comma rest ≡ false → arrows label ≡ 0 → arrows rest ≡ 1 → is_cut_shaped label rest ≡ true
     cut_shaped label rest c a r = λ i. not (c i) && not (ltb 0 (a i)) && eqb (r i) 1
+
     -- the last byte is a bracket
     ends : (label m : List ℕ) (q : ℕ) → get_or (reverse (label ++ 44 ∷ (m ++ 45 ∷ 62 ∷ name_text q))) 0 0 ≡ 93
     ends label m q =
         ap (λ l. get_or (reverse l) 0 0)
-          (sym (append_assoc label (44 ∷ (m ++ 45 ∷ 62 ∷ 91 ∷ decimal q)) (93 ∷ []) ∙ ap (λ l. label ++ 44 ∷ l) (append_assoc m (45 ∷ 62 ∷ 91 ∷ decimal q) (93 ∷ []))))
-          ∙ last_of (label ++ 44 ∷ (m ++ 45 ∷ 62 ∷ 91 ∷ decimal q)) 93
+        (sym (append_assoc label (44 ∷ (m ++ 45 ∷ 62 ∷ 91 ∷ decimal q)) (93 ∷ []) ∙ ap (λ l. label ++ 44 ∷ l) (append_assoc m (45 ∷ 62 ∷ 91 ∷ decimal q) (93 ∷ []))))
+        ∙ last_of (label ++ 44 ∷ (m ++ 45 ∷ 62 ∷ 91 ∷ decimal q)) 93
 
 -- ---- the lines of a text that ends each of them
 
@@ -298,8 +301,8 @@ split-ended [] (e ∷ es) h = absurd h
 split-ended (l ∷ ls) [] h = absurd h
 split-ended (l ∷ ls) (e ∷ es) h =
     ap (slice_split is_newline) (append_assoc l (10 ∷ []) (ended ls))
-      ∙ slice_split_at is_newline l 10 (ended ls) (none_all is_newline l h.0.one) refl
-      ∙ ap (λ x. l ∷ x) (split-ended ls es h.1)
+    ∙ slice_split_at is_newline l 10 (ended ls) (none_all is_newline l h.0.one) refl
+    ∙ ap (λ x. l ∷ x) (split-ended ls es h.1)
 
 onto-line : (n : ℕ) (l : List ℕ) (lines : List Line) → trimmed l ≡ l → 0 < length l → onto_lines n (trimmed l) lines ≡ record { number = n; text = l } ∷ lines
 onto-line n [] lines e h = absurd (omega arith)
@@ -349,17 +352,17 @@ no_first_fault limits n (l ∷ ls) earlier [] h o f = absurd h
 no_first_fault limits n (l ∷ ls) earlier (e ∷ es) h o f =
     let all = subst (Fits limits) (sym (append_assoc earlier (e ∷ []) es)) f in
     let kind : kind_of_line limits earlier l ≡ None =
-          ap (λ own. option_or own (later_fault limits earlier (entry_of l))) h.0.own
-            ∙ ap (later_fault limits earlier) h.0.says
-            ∙ no_fault limits earlier e o.0 (fits-front limits es (earlier ++ e ∷ []) all) in
+    ap (λ own. option_or own (later_fault limits earlier (entry_of l))) h.0.own
+    ∙ ap (later_fault limits earlier) h.0.says
+    ∙ no_fault limits earlier e o.0 (fits-front limits es (earlier ++ e ∷ []) all) in
     ap (λ k. or_later n k (first_fault limits (earlier ++ entry_of l ∷ []) (numbered (n + 1) ls))) kind
-      ∙ ap (λ x. first_fault limits (earlier ++ x ∷ []) (numbered (n + 1) ls)) h.0.says
-      ∙ no_first_fault limits (n + 1) ls (earlier ++ e ∷ []) es h.1 o.1 all
+    ∙ ap (λ x. first_fault limits (earlier ++ x ∷ []) (numbered (n + 1) ls)) h.0.says
+    ∙ no_first_fault limits (n + 1) ls (earlier ++ e ∷ []) es h.1 o.1 all
 
 pub no_fault-ended : (limits : Limits) (lines : List (List ℕ)) (entries : List Entry) → AllSay lines entries → Orderly [] entries → 0 < length entries → Fits limits entries → fault_of (ended lines) limits ≡ None
 no_fault-ended limits lines entries h o some f =
     no_fault_text limits (ended lines) (subst (λ es. 0 < length es) (sym (entries-ended lines entries h)) some)
-      (ap (first_fault limits []) (lines_of-ended lines entries h) ∙ no_first_fault limits 1 lines [] entries h o f)
+    (ap (first_fault limits []) (lines_of-ended lines entries h) ∙ no_first_fault limits 1 lines [] entries h o f)
 
 -- ---- the written text
 
@@ -379,15 +382,15 @@ written_entries A labels = StateLine (name_text A.initial) ∷ (map (transition_
 transition_text-ended : (labels : List (List ℕ)) (t : Trans) → line_of labels t ++ 10 ∷ [] ≡ transition_text labels t
 transition_text-ended labels t =
     append_assoc (get_or labels t.label []) (44 ∷ (name_text t.source ++ 45 ∷ 62 ∷ name_text t.target)) (10 ∷ [])
-      ∙ ap (λ l. get_or labels t.label [] ++ 44 ∷ l) (append_assoc (name_text t.source) (45 ∷ 62 ∷ name_text t.target) (10 ∷ []))
+    ∙ ap (λ l. get_or labels t.label [] ++ 44 ∷ l) (append_assoc (name_text t.source) (45 ∷ 62 ∷ name_text t.target) (10 ∷ []))
 
 pub written-ended : (A : Automaton) (labels : List (List ℕ)) → ended (written_lines A labels) ≡ written A labels
 written-ended A labels =
     ap (λ l. (name_text A.initial ++ 10 ∷ []) ++ l)
-      (flat_map-append (λ l. l ++ 10 ∷ []) (map (line_of labels) A.transitions) (map name_text (accepting_written A))
-        ∙ (λ i.
-          (flat_map-map (λ l. l ++ 10 ∷ []) (line_of labels) A.transitions ∙ (λ j. flat_map (λ t. transition_text-ended labels t j) A.transitions)) i
-            ++ flat_map-map (λ l. l ++ 10 ∷ []) name_text (accepting_written A) i))
+    (flat_map-append (λ l. l ++ 10 ∷ []) (map (line_of labels) A.transitions) (map name_text (accepting_written A))
+    ∙ (λ i.
+    (flat_map-map (λ l. l ++ 10 ∷ []) (line_of labels) A.transitions ∙ (λ j. flat_map (λ t. transition_text-ended labels t j) A.transitions)) i
+    ++ flat_map-map (λ l. l ++ 10 ∷ []) name_text (accepting_written A) i))
 
 AllSay-append : (ls ms : List (List ℕ)) (es fs : List Entry) → AllSay ls es → AllSay ms fs → AllSay (ls ++ ms) (es ++ fs)
 AllSay-append [] ms [] fs h g = g
@@ -405,15 +408,14 @@ accepting_small A v false = λ k d lt. omega (arith, v.accepting_in_range k d lt
 
 pub written_say : (A : Automaton) (labels : List (List ℕ)) → IsWritable A labels → AllSay (written_lines A labels) (written_entries A labels)
 written_say A labels w =
-    let v = w.valid in
-    (
+    let v = w.valid in (
       state_says A.initial (omega (arith, v.initial_is_state, v.states_fit)),
       AllSay-append (map (line_of labels) A.transitions) (map name_text (accepting_written A)) (map (transition_entry_of labels) A.transitions) (map (λ q. StateLine (name_text q)) (accepting_written A))
-        (AllSay-map (line_of labels) (transition_entry_of labels) A.transitions (λ k d lt.
+          (AllSay-map (line_of labels) (transition_entry_of labels) A.transitions (λ k d lt.
           let t = get_or A.transitions k d in
           let r = v.in_range k d lt in
           transition_says (get_or labels t.label []) t.source t.target (w.fit t.label [] (omega (arith, r.2, w.all_named))) (omega (arith, r.0, v.states_fit)) (omega (arith, r.1, v.states_fit))))
-        (AllSay-map name_text (λ q. StateLine (name_text q)) (accepting_written A) (λ k d lt.
+          (AllSay-map name_text (λ q. StateLine (name_text q)) (accepting_written A) (λ k d lt.
           state_says (get_or (accepting_written A) k d) (accepting_small A v (eqb (length A.accepting) 0) k d lt))),
     )
 
@@ -434,6 +436,7 @@ orderly_transitions labels earlier (t ∷ ts) qs h =
     and_false : (b : Bool) → (b && false) ≡ false
     and_false true = refl
     and_false false = refl
+
     once : StartsOnce earlier → (list_all is_state_line earlier && leb 2 (length earlier)) ≡ false
     once (inl e) = ap (λ n. list_all is_state_line earlier && leb 2 n) e ∙ and_false (list_all is_state_line earlier)
     once (inr e) = ap (λ b. b && leb 2 (length earlier)) e
@@ -448,6 +451,6 @@ pub written_reads : WrittenReads
 written_reads A labels limits w counts =
     let same = entries_of-written A labels w in
     let fits : Fits limits (written_entries A labels) =
-          subst (Fits limits) same (record { states = counts.states; labels = counts.labels; transitions = counts.transitions }) in
+    subst (Fits limits) same (record { states = counts.states; labels = counts.labels; transitions = counts.transitions }) in
     ap (λ t. fault_of t limits) (sym (written-ended A labels))
-      ∙ no_fault-ended limits (written_lines A labels) (written_entries A labels) (written_say A labels w) (written_orderly A labels) (omega arith) fits
+    ∙ no_fault-ended limits (written_lines A labels) (written_entries A labels) (written_say A labels w) (written_orderly A labels) (omega arith) fits

@@ -33,6 +33,10 @@ pub record IsLabelText (text : List ℕ) : Type 0 where
   pub begins : is_blank (slice_index text 0) ≡ false
   pub ends : is_blank (slice_index text (length text - 1)) ≡ false
 
+-- The labels of what a text reads as are label texts, all different: with them every automaton over them can be written.
+abbrev pub LabelsFit : Type 0
+LabelsFit = (text : List ℕ) (limits : Limits) (read : Named) → Reads text limits read → All IsLabelText read.labels × AreDifferent read.labels
+
 -- The automaton can be written with these labels.
 pub record IsWritable (A : Automaton) (labels : List (List ℕ)) : Type 0 where
   pub valid : IsAutomaton A
