@@ -76,7 +76,7 @@ pub AllFound-noted : (xs seen : List (List ℕ)) → AllFound (fold (noted same_
 AllFound-noted [] seen = tt
 AllFound-noted (x ∷ xs) seen = (found-all x xs (noted same_text seen x) (found-noted x seen), AllFound-noted xs (noted same_text seen x))
 
-AllFound-left : (xs ys seen : List (List ℕ)) → AllFound seen (xs ++ ys) → AllFound seen xs
+pub AllFound-left : (xs ys seen : List (List ℕ)) → AllFound seen (xs ++ ys) → AllFound seen xs
 AllFound-left [] ys seen h = tt
 AllFound-left (x ∷ xs) ys seen h = (h.0, AllFound-left xs ys seen h.1)
 

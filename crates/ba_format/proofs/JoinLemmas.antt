@@ -194,11 +194,11 @@ number_within texts text h = within _ _ (place_within (same_text text) texts ∙
     within : (m n : ℕ) → ltb m n ≡ true → m < n
     within m n e = grind (arith, nat_tests)
 
-at_number : (texts : List (List ℕ)) (text : List ℕ) → list_any (same_text text) texts ≡ true → text ≡ get_or texts (number_in same_text texts text) []
+pub at_number : (texts : List (List ℕ)) (text : List ℕ) → list_any (same_text text) texts ≡ true → text ≡ get_or texts (number_in same_text texts text) []
 at_number texts text h = same_text-equal text _ (passes_at_first (same_text text) texts [] (number_within texts text h))
 
 -- different texts have different numbers
-number_tells : (texts : List (List ℕ)) (a b : List ℕ) → list_any (same_text a) texts ≡ true → list_any (same_text b) texts ≡ true
+pub number_tells : (texts : List (List ℕ)) (a b : List ℕ) → list_any (same_text a) texts ≡ true → list_any (same_text b) texts ≡ true
     → number_in same_text texts a ≡ number_in same_text texts b → a ≡ b
 number_tells texts a b ha hb e = at_number texts a ha ∙ ap (λ n. get_or texts n []) e ∙ sym (at_number texts b hb)
 

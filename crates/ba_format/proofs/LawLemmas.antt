@@ -11,14 +11,14 @@ use Rattle.auto_core.proofs.Order.{IsBefore-trans}
 use Rattle.ba_format.specs.Joining.{IsRelabelled}
 use Rattle.ba_format.specs.Laws.{ReadsAsOne, JoinsAsOne}
 
-contains_cases : {X : Type 0} (x : X) (xs : List X) (z : X) → Contains (x ∷ xs) z → (x ≡ z) ⊎ Contains xs z
+pub contains_cases : {X : Type 0} (x : X) (xs : List X) (z : X) → Contains (x ∷ xs) z → (x ≡ z) ⊎ Contains xs z
 contains_cases x xs z (zero, lt, e) = inl e
 contains_cases x xs z (suc k, lt, e) = inr (k, omega arith, e)
 
-contains_later : {X : Type 0} (x : X) (xs : List X) (z : X) → Contains xs z → Contains (x ∷ xs) z
+pub contains_later : {X : Type 0} (x : X) (xs : List X) (z : X) → Contains xs z → Contains (x ∷ xs) z
 contains_later x xs z (k, lt, e) = (suc k, omega arith, e)
 
-contains_first : {X : Type 0} (x : X) (xs : List X) → Contains (x ∷ xs) x
+pub contains_first : {X : Type 0} (x : X) (xs : List X) → Contains (x ∷ xs) x
 contains_first x xs = (zero, omega arith, refl)
 
 module _ {X : Type 0} (R : X → X → Type 0) (never : (x : X) → R x x → ⊥) (chain : (x y z : X) → R x y → R y z → R x z) where

@@ -6,3 +6,7 @@ pub mod TakeLemmas
 pub mod ReadLemmas
 pub mod NamedLemmas
 pub mod LawLemmas
+pub mod RenameLemmas
+pub mod WrittenLemmas
+pub mod BackLemmas
+pub mod LabelLemmas

@@ -117,7 +117,7 @@ count-none p (x ∷ xs) h =
     none_of false d h = (refl, h)
 
 -- no comma stands before the first one
-before-none : {X : Type 0} (p : X → Bool) (xs : List X) → list_any p (before_first p xs) ≡ false
+pub before-none : {X : Type 0} (p : X → Bool) (xs : List X) → list_any p (before_first p xs) ≡ false
 before-none p [] = refl
 before-none p (x ∷ xs) = by (p x) refl (before-none p xs)
   where
@@ -128,7 +128,7 @@ before-none p (x ∷ xs) = by (p x) refl (before-none p xs)
         ap (λ n. list_any p (take n (x ∷ xs))) one ∙ ap (λ b. b || list_any p (before_first p xs)) e ∙ rest
 
 -- a line with a comma is cut at the first one
-cut_at : (line : List ℕ) → list_any is_comma line ≡ true → line ≡ before_first is_comma line ++ 44 ∷ after_first is_comma line
+pub cut_at : (line : List ℕ) → list_any is_comma line ≡ true → line ≡ before_first is_comma line ++ 44 ∷ after_first is_comma line
 cut_at line h =
     let within : position_or_len is_comma line < length line = lt_from_ltb _ _ (place_within is_comma line ∙ h) in
     split_at_first is_comma line 0 within

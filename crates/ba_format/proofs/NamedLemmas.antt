@@ -49,7 +49,7 @@ module _ {X : Type 0} (same : X → X → Bool) where
         by true e = h
         by false e = all_pairs_push (λ a b. a ≡ b → ⊥) seen x h (λ k d lt f. true≢false (sym (list_any_at (same x) seen k d lt (ap (same x) f ∙ itself x)) ∙ e))
 
-    different-seen : (seen xs : List X) → AllPairs (λ a b. a ≡ b → ⊥) seen → AllPairs (λ a b. a ≡ b → ⊥) (fold (noted same) seen xs)
+    pub different-seen : (seen xs : List X) → AllPairs (λ a b. a ≡ b → ⊥) seen → AllPairs (λ a b. a ≡ b → ⊥) (fold (noted same) seen xs)
     different-seen seen [] h = h
     different-seen seen (x ∷ xs) h = different-seen (noted same seen x) xs (different-noted seen x h)
 
@@ -66,7 +66,7 @@ length-noted same seen x = by (list_any (same x) seen)
     by true = omega arith
     by false = omega (arith, length-append seen (x ∷ []))
 
-length-seen : {X : Type 0} (same : X → X → Bool) (seen xs : List X) → length seen ≤ length (fold (noted same) seen xs)
+pub length-seen : {X : Type 0} (same : X → X → Bool) (seen xs : List X) → length seen ≤ length (fold (noted same) seen xs)
 length-seen same seen [] = omega arith
 length-seen same seen (x ∷ xs) = omega (arith, length-noted same seen x, length-seen same (noted same seen x) xs)
 
