@@ -6,3 +6,4 @@ pub mod PairLemmas
 pub mod Resume
 pub mod ResumeState
 pub mod ReadLemmas
+pub mod NumberFacts

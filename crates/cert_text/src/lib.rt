@@ -19,6 +19,8 @@ mod printing;
 
 mod read;
 mod second_log;
+#[cfg(test)]
+mod tests;
 mod tokens;
 mod types;
 
