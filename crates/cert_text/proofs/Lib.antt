@@ -7,3 +7,6 @@ pub mod Resume
 pub mod ResumeState
 pub mod ReadLemmas
 pub mod NumberFacts
+pub mod FormFacts
+pub mod LineFacts
+pub mod HeadFacts

@@ -17,10 +17,10 @@ short_lt n e = ltb-true n 1000000000 e
 
 -- the parts of a number's test
 pub record Numeral (t : List ℕ) : Type 0 where
-  some : 0 < length t
-  few : length t < 10
-  plain : get_or t 0 0 ≡ 48 → length t ≡ 1
-  digits : list_all is_digit t ≡ true
+  pub some : 0 < length t
+  pub few : length t < 10
+  pub plain : get_or t 0 0 ≡ 48 → length t ≡ 1
+  pub digits : list_all is_digit t ≡ true
 
 plain_of : (t : List ℕ) → 0 < length t → (nat_lt (length t) 2 || not (get_or t 0 0 == 48)) ≡ true → get_or t 0 0 ≡ 48 → length t ≡ 1
 plain_of t some e h =
