@@ -10,3 +10,4 @@ pub mod NumberFacts
 pub mod FormFacts
 pub mod LineFacts
 pub mod HeadFacts
+pub mod OriginFacts
