@@ -11,3 +11,4 @@ pub mod FormFacts
 pub mod LineFacts
 pub mod HeadFacts
 pub mod OriginFacts
+pub mod Forward
