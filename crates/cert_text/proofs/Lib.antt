@@ -12,3 +12,4 @@ pub mod LineFacts
 pub mod HeadFacts
 pub mod OriginFacts
 pub mod Forward
+pub mod Backward
