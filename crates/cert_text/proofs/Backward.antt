@@ -632,7 +632,7 @@ read_cond : (b : Bool) (x c : Cert) (k : TextKind) (ls : List Line) → cond b (
 read_cond true x c k ls e = (refl, cc)
 read_cond false x c k ls e = absurd (cc)
 
-finish_bw : (x c : Cert) (ls : List Line) → finish x ls ≡ Read c → (x ≡ c) × (ls ≡ (([] ∷ []) ∷ []))
+pub finish_bw : (x c : Cert) (ls : List Line) → finish x ls ≡ Read c → (x ≡ c) × (ls ≡ (([] ∷ []) ∷ []))
 finish_bw x c [] e = absurd (cc)
 finish_bw x c (piece ∷ []) e =
     let p = read_cond (is_bare piece) x c Trailing (piece ∷ []) e in

@@ -376,23 +376,22 @@ body_fw m (body.Listing list) next rest e h =
     ∙ second_log_fw m list.second k2 (C ++ rest) l2.0 l2.1 some2
     ∙ limited_fw m list.limit list.elements (λ limited. next (list_of list.first list.second limited)) rest b.0 c.0 c.1 h
 
--- the lines of a certificate are read as it
-pub cert_fw : (c : Cert) → has_text c ≡ true → read_lines (cert_lines c ++ (([] ∷ []) ∷ [])) ≡ Read c
-cert_fw c e =
+-- the lines of a certificate are read as it, whatever follows
+pub cert_fw : (c : Cert) (rest : List Line) → has_text c ≡ true → has_some rest ≡ true → read_lines (cert_lines c ++ rest) ≡ finish c rest
+cert_fw c rest e h =
     let a = and_parts (is_short c.first_states) _ e in
     let b = and_parts (is_short c.second_states) _ a.1 in
     let d = and_parts (is_short c.labels) _ b.1 in
-    let bare = ([] ∷ []) ∷ [] in
-    let h : Heading = record { mode = c.mode; answer = answer_of c.body } in
+    let heading : Heading = record { mode = c.mode; answer = answer_of c.body } in
     let sizes : Sizes = record { first_states = c.first_states; second_states = c.second_states; labels = c.labels } in
-    let the_end = end_line ∷ bare in
+    let the_end = end_line ∷ rest in
     let k = λ (b : Body). read_end (cert_of c.mode sizes b) in
     let B = body_lines c.body in
     let s = sizes_line c.first_states c.second_states c.labels in
-    line_fw heading_in read_sizes (first_line c.mode (answer_of c.body)) h (s ∷ ((B ++ end_line ∷ []) ++ bare))
-    (heading_fw c.mode (answer_of c.body)) (some_cons s ((B ++ end_line ∷ []) ++ bare))
-    ∙ ap (λ ls. read_sizes h (s ∷ ls)) (append_assoc B (end_line ∷ []) bare)
-    ∙ line_fw sizes_in (read_rest h) s sizes (B ++ the_end) (sizes_fw c.first_states c.second_states c.labels a.0 b.0 d.0)
-    (some_append B the_end (some_cons end_line bare))
-    ∙ body_fw c.mode c.body k the_end d.1 (some_cons end_line bare)
-    ∙ line_fw (word_in keyword.End) (λ u. finish c) end_line tt bare (word_fw keyword.End) refl
+    line_fw heading_in read_sizes (first_line c.mode (answer_of c.body)) heading (s ∷ ((B ++ end_line ∷ []) ++ rest))
+    (heading_fw c.mode (answer_of c.body)) (some_cons s ((B ++ end_line ∷ []) ++ rest))
+    ∙ ap (λ ls. read_sizes heading (s ∷ ls)) (append_assoc B (end_line ∷ []) rest)
+    ∙ line_fw sizes_in (read_rest heading) s sizes (B ++ the_end) (sizes_fw c.first_states c.second_states c.labels a.0 b.0 d.0)
+    (some_append B the_end (some_cons end_line rest))
+    ∙ body_fw c.mode c.body k the_end d.1 (some_cons end_line rest)
+    ∙ line_fw (word_in keyword.End) (λ u. finish c) end_line tt rest (word_fw keyword.End) h

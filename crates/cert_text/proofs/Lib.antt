@@ -13,3 +13,6 @@ pub mod HeadFacts
 pub mod OriginFacts
 pub mod Forward
 pub mod Backward
+pub mod BytesLines
+pub mod PlainCert
+pub mod Theorem

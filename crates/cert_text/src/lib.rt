@@ -9,6 +9,7 @@ mod first_log;
 mod forms;
 mod heads;
 mod keywords;
+mod laws;
 mod lines;
 mod machine;
 mod origins;
@@ -31,6 +32,7 @@ pub use types::{
     StepLine, YesBody,
 };
 pub use checks::well_formed;
+pub use laws::one_text;
 pub use read::read_cert;
 pub use write::write_cert;
 pub use faults::{CertReadFault, TextFault, TextKind};
