@@ -41,7 +41,6 @@ use Rattle.auto_core.specs.declared.parts.Origin.TheVariants as origin
 use Rattle.cert_text.specs.Tokens.{tokens_of}
 use Rattle.cert_text.specs.WellFormed.{blocks_due, is_live, has_some, is_short, are_short, ascend, is_row, are_rows, is_block, is_rank_row, are_rank_rows, is_rank_block, are_gone, are_kept, are_classes, is_cut, is_first_step, are_grounds, is_second_step, is_origin, is_element, is_step_of, are_steps, are_logs, is_yes, is_lasso, is_listing, is_body, has_text}
 use Rattle.cert_text.specs.Lines.{Said, word_in, number_in, numbers_in, ascending_in, sizes_in, heading_in, row_in, rank_row_in, gone_by_in, first_head_in, second_head_in, origin_in, element_in, step_in}
-
 use Rattle.cert_text.specs.Grammar.{Outcome, Read, Stopped, Then, after, next_line, read_rows, read_block, read_rank_rows, read_rank_block, read_blocks, read_classes, read_first_rest, read_first_steps, read_grounds, read_second_rest, read_second_steps, read_elements, read_steps, read_origins, read_cover, read_all_elements, read_closed, read_all_origins, read_limited, read_first_log, read_second_log, read_turn, read_lasso, read_word, yes_of, list_of, read_evidence, read_after_first, read_logs, read_body, is_bare, finish, cert_of, read_end, read_rest, read_sizes, read_lines}
 use Rattle.std.specs.List.{list_all}
 use Rattle.std.proofs.lemmas.Bool.{and_parts, and_from, cond-true, cond-false, cases_Bool, ltb-true}
@@ -113,7 +112,7 @@ block_bw next ls c e =
     let f = number_bw keyword.Rel l.line l.item l.told in
     let t = rows_bw l.item 0 [] (λ rows. next (record { rows = rows })) l.rest c l.on in
     let head : spelled keyword.Rel ∷ decimal l.item ∷ [] ≡ spelled keyword.Rel ∷ decimal (length t.item) ∷ [] =
-        ap (λ n. spelled keyword.Rel ∷ decimal n ∷ []) (sym t.fine.0) in
+    ap (λ n. spelled keyword.Rel ∷ decimal n ∷ []) (sym t.fine.0) in
     record {
       item = record { rows = t.item };
       rest = t.rest;
@@ -152,7 +151,7 @@ rank_block_bw next ls c e =
     let f = number_bw keyword.Rel l.line l.item l.told in
     let t = rank_rows_bw l.item 0 [] (λ rows. next (record { rows = rows })) l.rest c l.on in
     let head : spelled keyword.Rel ∷ decimal l.item ∷ [] ≡ spelled keyword.Rel ∷ decimal (length t.item) ∷ [] =
-        ap (λ n. spelled keyword.Rel ∷ decimal n ∷ []) (sym t.fine.0) in
+    ap (λ n. spelled keyword.Rel ∷ decimal n ∷ []) (sym t.fine.0) in
     record {
       item = record { rows = t.item };
       rest = t.rest;
@@ -224,9 +223,9 @@ first_rest_bw (first_head.Cut pair look) line after next c f g e =
       item = first.Cut pair look l.item t.item;
       rest = t.rest;
       fine = and_from (nat_lt 0 (blocks_due pair)) _ a.0
-        (and_from (is_short look) _ a.1
-        (and_from (are_gone l.item) _ gg.0
-        (and_from (length t.item == blocks_due pair) _ (eq-eqb (length t.item) (blocks_due pair) t.fine.0) t.fine.1)));
+          (and_from (is_short look) _ a.1
+          (and_from (are_gone l.item) _ gg.0
+          (and_from (length t.item == blocks_due pair) _ (eq-eqb (length t.item) (blocks_due pair) t.fine.0) t.fine.1)));
       cut = ap (λ x. x ∷ after) g ∙ ap (λ y. head ∷ y) (l.cut ∙ ap (λ x. x ∷ l.rest) gg.1 ∙ ap (λ y. gone_line ∷ y) t.cut);
       on = t.on;
     }
@@ -333,7 +332,7 @@ second_rest_bw m (second_head.Cut) line after next c f g e =
       rest = l.rest;
       fine = and_from (are_short l.item) _ short (and_from (has_some l.item) (ascend l.item) some up);
       cut = ap (λ x. x ∷ after) g
-        ∙ ap (λ y. (spelled keyword.Cut ∷ []) ∷ y) (l.cut ∙ ap (λ x. x ∷ l.rest) (r.4 ∙ ap (λ ns. spelled keyword.Gone ∷ numbers ns) same));
+          ∙ ap (λ y. (spelled keyword.Cut ∷ []) ∷ y) (l.cut ∙ ap (λ x. x ∷ l.rest) (r.4 ∙ ap (λ ns. spelled keyword.Gone ∷ numbers ns) same));
       on = l.on;
     }
 
@@ -447,26 +446,26 @@ steps_bw n (x ∷ xs) acc next ls c e =
     let dead = read_steps (n + 1) xs acc next ls in
     ⊎_elim
     (λ yes_live.
-      let l = line_bw (step_in n) (λ step. read_steps (n + 1) xs (acc ++ step ∷ []) next) ls c
-        (sym (cond-true (is_live x.mark) live dead yes_live) ∙ e) in
-      let f = step_bw n l.line l.item l.told in
-      let t = steps_bw (n + 1) xs (acc ++ l.item ∷ []) next l.rest c l.on in
-      record {
-        item = l.item ∷ t.item;
-        rest = t.rest;
-        fine = live_steps (is_live x.mark) n xs t.item l.item yes_live (and_from (is_step_of n l.item) _ f.0 t.fine);
-        cut = cut_cons step_lines l.item t.item ls l.rest t.rest (l.cut ∙ ap (λ y. y ∷ l.rest) f.1) t.cut;
-        on = ap (λ y. next y t.rest) (sym (append_assoc acc (l.item ∷ []) t.item)) ∙ t.on;
-      })
+    let l = line_bw (step_in n) (λ step. read_steps (n + 1) xs (acc ++ step ∷ []) next) ls c
+    (sym (cond-true (is_live x.mark) live dead yes_live) ∙ e) in
+    let f = step_bw n l.line l.item l.told in
+    let t = steps_bw (n + 1) xs (acc ++ l.item ∷ []) next l.rest c l.on in
+    record {
+      item = l.item ∷ t.item;
+      rest = t.rest;
+      fine = live_steps (is_live x.mark) n xs t.item l.item yes_live (and_from (is_step_of n l.item) _ f.0 t.fine);
+      cut = cut_cons step_lines l.item t.item ls l.rest t.rest (l.cut ∙ ap (λ y. y ∷ l.rest) f.1) t.cut;
+      on = ap (λ y. next y t.rest) (sym (append_assoc acc (l.item ∷ []) t.item)) ∙ t.on;
+    })
     (λ not_live.
-      let t = steps_bw (n + 1) xs acc next ls c (sym (cond-false (is_live x.mark) live dead not_live) ∙ e) in
-      record {
-        item = t.item;
-        rest = t.rest;
-        fine = dead_steps x n xs t.item not_live t.fine;
-        cut = t.cut;
-        on = t.on;
-      })
+    let t = steps_bw (n + 1) xs acc next ls c (sym (cond-false (is_live x.mark) live dead not_live) ∙ e) in
+    record {
+      item = t.item;
+      rest = t.rest;
+      fine = dead_steps x n xs t.item not_live t.fine;
+      cut = t.cut;
+      on = t.on;
+    })
     (cases_Bool (is_live x.mark))
 
 -- What a yes has after its logs.
@@ -491,12 +490,12 @@ closed_bw m next ls c e =
     let cover_line = spelled keyword.Cover ∷ numbers cv.item in
     let head = ap (λ n. elements_line n) (sym es.fine.0) in
     let after_count : n.rest ≡ (each element_lines es.item ++ (cover_line ∷ each step_lines ss.item)) ++ ss.rest =
-        es.cut
-        ∙ ap (λ y. each element_lines es.item ++ y) (cv.cut ∙ ap (λ x. x ∷ cv.rest) cf.2 ∙ ap (λ y. cover_line ∷ y) ss.cut)
-        ∙ sym (append_assoc (each element_lines es.item) (cover_line ∷ each step_lines ss.item) ss.rest) in
+    es.cut
+    ∙ ap (λ y. each element_lines es.item ++ y) (cv.cut ∙ ap (λ x. x ∷ cv.rest) cf.2 ∙ ap (λ y. cover_line ∷ y) ss.cut)
+    ∙ sym (append_assoc (each element_lines es.item) (cover_line ∷ each step_lines ss.item) ss.rest) in
     let closed = closed_lines es.item cv.item ss.item in
     let after_block : b.rest ≡ closed ++ ss.rest =
-        n.cut ∙ ap (λ x. x ∷ n.rest) (nf.1 ∙ head) ∙ ap (λ y. elements_line (length es.item) ∷ y) after_count in
+    n.cut ∙ ap (λ x. x ∷ n.rest) (nf.1 ∙ head) ∙ ap (λ y. elements_line (length es.item) ∷ y) after_count in
     record {
       item = record { order = b.item; elements = es.item; cover = cv.item; steps = ss.item };
       rest = ss.rest;
@@ -533,7 +532,7 @@ limited_bw m next ls c e =
       rest = es.rest;
       fine = record { limit = bf.0; count = ap is_short es.fine.0 ∙ nf.0; elements = es.fine.1 };
       cut = b.cut ∙ ap (λ x. x ∷ b.rest) bf.1
-        ∙ ap (λ y. limit_line ∷ y) (n.cut ∙ ap (λ x. x ∷ n.rest) (nf.1 ∙ head) ∙ ap (λ y. elements_line (length es.item) ∷ y) es.cut);
+          ∙ ap (λ y. limit_line ∷ y) (n.cut ∙ ap (λ x. x ∷ n.rest) (nf.1 ∙ head) ∙ ap (λ y. elements_line (length es.item) ∷ y) es.cut);
       on = es.on;
     }
 
@@ -561,13 +560,16 @@ yes_bw m next ls c e =
     record {
       item = yes_of f.item s.item k.item;
       rest = k.rest;
-      fine = (and_from (are_logs m f.item s.item) _ (logs_fine m f.item s.item f.fine s.fine)
-        (and_from (is_block k.item.order) _ k.fine.order
-        (and_from (is_short (length k.item.elements)) _ k.fine.count
-        (and_from (list_all (is_element m) k.item.elements) _ k.fine.elements
-        (and_from (are_short k.item.cover) _ k.fine.cover k.fine.steps)))), refl);
+      fine = (
+        and_from (are_logs m f.item s.item) _ (logs_fine m f.item s.item f.fine s.fine)
+            (and_from (is_block k.item.order) _ k.fine.order
+            (and_from (is_short (length k.item.elements)) _ k.fine.count
+            (and_from (list_all (is_element m) k.item.elements) _ k.fine.elements
+            (and_from (are_short k.item.cover) _ k.fine.cover k.fine.steps)))),
+        refl,
+      );
       cut = f.cut ∙ ap (λ y. first_lines f.item ++ y) (s.cut ∙ ap (λ y. second_lines s.item ++ y) k.cut)
-        ∙ three (first_lines f.item) (second_lines s.item) C k.rest;
+          ∙ three (first_lines f.item) (second_lines s.item) C k.rest;
       on = k.on;
     }
 
@@ -580,11 +582,14 @@ list_bw m next ls c e =
     record {
       item = list_of f.item s.item k.item;
       rest = k.rest;
-      fine = (and_from (are_logs m f.item s.item) _ (logs_fine m f.item s.item f.fine s.fine)
-        (and_from (is_short k.item.limit) _ k.fine.limit
-        (and_from (is_short (length k.item.elements)) _ k.fine.count k.fine.elements)), refl);
+      fine = (
+        and_from (are_logs m f.item s.item) _ (logs_fine m f.item s.item f.fine s.fine)
+            (and_from (is_short k.item.limit) _ k.fine.limit
+            (and_from (is_short (length k.item.elements)) _ k.fine.count k.fine.elements)),
+        refl,
+      );
       cut = f.cut ∙ ap (λ y. first_lines f.item ++ y) (s.cut ∙ ap (λ y. second_lines s.item ++ y) k.cut)
-        ∙ three (first_lines f.item) (second_lines s.item) C k.rest;
+          ∙ three (first_lines f.item) (second_lines s.item) C k.rest;
       on = k.on;
     }
 
@@ -600,7 +605,7 @@ lasso_bw next ls c e =
       rest = t.rest;
       fine = (and_from (are_short p.item) _ pf.0 (and_from (are_short t.item) (has_some t.item) tf.0 (numbers_some t.item tf.1)), refl);
       cut = p.cut ∙ ap (λ x. x ∷ p.rest) pf.2
-        ∙ ap (λ y. (spelled keyword.Prefix ∷ numbers p.item) ∷ y) (t.cut ∙ ap (λ x. x ∷ t.rest) tf.2);
+          ∙ ap (λ y. (spelled keyword.Prefix ∷ numbers p.item) ∷ y) (t.cut ∙ ap (λ x. x ∷ t.rest) tf.2);
       on = t.on;
     }
 
@@ -657,11 +662,12 @@ cert_bw ls c e =
     let first : h.line ≡ first_line h.item.mode (answer_of b.item) = hf ∙ ap (λ a. first_line h.item.mode a) (sym b.fine.1) in
     let last : b.rest ≡ end_line ∷ bare = z.cut ∙ ap (λ x. x ∷ z.rest) zf ∙ ap (λ y. end_line ∷ y) f.1 in
     let after_sizes : s.rest ≡ (B ++ end_line ∷ []) ++ bare =
-        b.cut ∙ ap (λ y. B ++ y) last ∙ sym (append_assoc B (end_line ∷ []) bare) in
+    b.cut ∙ ap (λ y. B ++ y) last ∙ sym (append_assoc B (end_line ∷ []) bare) in
     let sizes = sizes_line s.item.first_states s.item.second_states s.item.labels in
     let P : Cert → Type 0 = λ c. (has_text c ≡ true) × (ls ≡ cert_lines c ++ bare) in
-    subst P f.0
-    (and_from (is_short s.item.first_states) _ sf.0
-      (and_from (is_short s.item.second_states) _ sf.1 (and_from (is_short s.item.labels) _ sf.2 b.fine.0)),
-    h.cut ∙ ap (λ x. x ∷ h.rest) first
-    ∙ ap (λ y. first_line h.item.mode (answer_of b.item) ∷ y) (s.cut ∙ ap (λ x. x ∷ s.rest) sf.3 ∙ ap (λ y. sizes ∷ y) after_sizes))
+    subst P f.0 (
+      and_from (is_short s.item.first_states) _ sf.0
+          (and_from (is_short s.item.second_states) _ sf.1 (and_from (is_short s.item.labels) _ sf.2 b.fine.0)),
+      h.cut ∙ ap (λ x. x ∷ h.rest) first
+          ∙ ap (λ y. first_line h.item.mode (answer_of b.item) ∷ y) (s.cut ∙ ap (λ x. x ∷ s.rest) sf.3 ∙ ap (λ y. sizes ∷ y) after_sizes),
+    )

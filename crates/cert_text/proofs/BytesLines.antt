@@ -143,8 +143,8 @@ lines_text ((t ∷ ts) ∷ ls) more h =
     let j = join_with_byte 32 (t ∷ ts) in
     let rest = text_of ls ++ more in
     let e : text_of ((t ∷ ts) ∷ ls) ++ more ≡ j ++ 10 ∷ rest =
-        append_assoc (line_text (t ∷ ts)) (text_of ls) more
-        ∙ ap (λ x. x ++ rest) (line_join (t ∷ ts)) ∙ append_assoc j (10 ∷ []) rest in
+    append_assoc (line_text (t ∷ ts)) (text_of ls) more
+    ∙ ap (λ x. x ++ rest) (line_join (t ∷ ts)) ∙ append_assoc j (10 ∷ []) rest in
     ap lines_of e
     ∙ ap (λ parts. map tokens_of parts) (split_clean (λ b. b == 10) j 10 rest (join_clean t ts h.0) refl)
     ∙ ap (λ x. x ∷ lines_of rest) (tokens_join t ts h.0)

@@ -180,9 +180,10 @@ bw_filled (Word w ∷ ps) i all (t ∷ ts) e f g k =
 bw_filled (Number ∷ ps) i all (t ∷ ts) e f g k =
     let p = and_parts (is_number t) _ g in
     let r = bw_filled ps (i + 1) all ts (next_left i all t ts e) f p.1 (omega arith) in
-    let at : value_at all i ≡ value t = ap value (front_is all i t [] ts e) in
-    (ap (λ x. x ∷ ts) (sym (decimal_value t p.0) ∙ ap decimal (sym at)) ∙ ap (λ xs. decimal (value_at all i) ∷ xs) r.0,
-    (ap is_short at ∙ value_short t p.0, r.1))
+    let at : value_at all i ≡ value t = ap value (front_is all i t [] ts e) in (
+      ap (λ x. x ∷ ts) (sym (decimal_value t p.0) ∙ ap decimal (sym at)) ∙ ap (λ xs. decimal (value_at all i) ∷ xs) r.0,
+      (ap is_short at ∙ value_short t p.0, r.1),
+    )
 
 nothing_left : (ts : Line) → may_follow tail.Nothing ts ≡ true → ts ≡ []
 nothing_left [] e = refl

@@ -41,7 +41,6 @@ use Rattle.auto_core.specs.declared.parts.Origin.TheVariants as origin
 use Rattle.cert_text.specs.Tokens.{tokens_of}
 use Rattle.cert_text.specs.WellFormed.{blocks_due, is_live, has_some, is_short, are_short, ascend, is_row, are_rows, is_block, is_rank_row, are_rank_rows, is_rank_block, are_gone, are_kept, are_classes, is_cut, is_first_step, are_grounds, is_second_step, is_origin, is_element, is_step_of, are_steps, are_logs, is_yes, is_lasso, is_listing, is_body, has_text}
 use Rattle.cert_text.specs.Lines.{Said, word_in, number_in, numbers_in, ascending_in, sizes_in, heading_in, row_in, rank_row_in, gone_by_in, first_head_in, second_head_in, origin_in, element_in, step_in}
-
 use Rattle.cert_text.specs.Grammar.{Outcome, Read, Stopped, Then, after, next_line, read_rows, read_block, read_rank_rows, read_rank_block, read_blocks, read_classes, read_first_rest, read_first_steps, read_grounds, read_second_rest, read_second_steps, read_elements, read_steps, read_origins, read_cover, read_all_elements, read_closed, read_all_origins, read_limited, read_first_log, read_second_log, read_turn, read_lasso, read_word, yes_of, list_of, read_evidence, read_after_first, read_logs, read_body, is_bare, finish, cert_of, read_end, read_rest, read_sizes, read_lines}
 use Rattle.std.specs.List.{list_all}
 use Rattle.std.proofs.lemmas.Bool.{and_parts, and_from, cond-true, cond-false, cases_Bool, ltb-true}
@@ -297,7 +296,7 @@ closed_fw m order es cover ss next rest a b c d e h =
     block_fw order (λ order. read_all_elements m order next) (closed_lines es cover ss ++ rest) a
     (some_cons (elements_line (length es)) ((each element_lines es ++ (cover_line ∷ each step_lines ss)) ++ rest))
     ∙ ap (λ ls. read_all_elements m order next (elements_line (length es) ∷ ls))
-      (append_assoc (each element_lines es) (cover_line ∷ each step_lines ss) rest)
+    (append_assoc (each element_lines es) (cover_line ∷ each step_lines ss) rest)
     ∙ line_fw (number_in keyword.Elements) (λ n. read_elements m n [] (λ elements. read_cover order elements next))
     (elements_line (length es)) (length es) (each element_lines es ++ after_elements) (number_fw keyword.Elements (length es) b)
     (some_append (each element_lines es) after_elements some_elements)
@@ -340,8 +339,8 @@ body_fw m (body.Yes y) next rest e h =
     let k = λ (firsts : List FirstStep). read_after_first m answer.Yes firsts next in
     let k2 = λ (seconds : List SecondStep). read_evidence m answer.Yes y.first seconds next in
     ap (λ ls. read_first_log k ls)
-      (append_assoc (first_lines y.first) (B ++ (C ++ closed)) rest
-      ∙ ap (λ ls. first_lines y.first ++ ls) (append_assoc B (C ++ closed) rest ∙ ap (λ ls. B ++ ls) (append_assoc C closed rest)))
+    (append_assoc (first_lines y.first) (B ++ (C ++ closed)) rest
+    ∙ ap (λ ls. first_lines y.first ++ ls) (append_assoc B (C ++ closed) rest ∙ ap (λ ls. B ++ ls) (append_assoc C closed rest)))
     ∙ first_log_fw y.first k after_first l.0 l1.0 (some_append B after_second some2)
     ∙ second_log_fw m y.second k2 after_second l2.0 l2.1 some2
     ∙ closed_fw m y.order y.elements y.cover y.steps (λ closed. next (yes_of y.first y.second closed)) rest b.0 c.0 d.0 f.0 f.1 h
@@ -371,7 +370,7 @@ body_fw m (body.Listing list) next rest e h =
     let k = λ (firsts : List FirstStep). read_after_first m answer.List firsts next in
     let k2 = λ (seconds : List SecondStep). read_evidence m answer.List list.first seconds next in
     ap (λ ls. read_first_log k ls)
-      (append_assoc (first_lines list.first) (B ++ C) rest ∙ ap (λ ls. first_lines list.first ++ ls) (append_assoc B C rest))
+    (append_assoc (first_lines list.first) (B ++ C) rest ∙ ap (λ ls. first_lines list.first ++ ls) (append_assoc B C rest))
     ∙ first_log_fw list.first k (B ++ (C ++ rest)) l.0 l1.0 (some_append B (C ++ rest) some2)
     ∙ second_log_fw m list.second k2 (C ++ rest) l2.0 l2.1 some2
     ∙ limited_fw m list.limit list.elements (λ limited. next (list_of list.first list.second limited)) rest b.0 c.0 c.1 h

@@ -87,7 +87,6 @@ backward_delayed : bytes_eq (spelled keyword.Delayed) (spelled keyword.Backward)
 unfolding spelled
 backward_delayed = refl
 
-
 -- Heads of steps of the first log.
 abbrev pub first_head_line : FirstHead → Line
 first_head_line (first.Trim kept) = spelled keyword.Trim ∷ numbers kept
@@ -141,18 +140,18 @@ first_head_bw ts h e =
     let P : FirstHead → Type 0 = λ h. (is_first_head h ≡ true) × (ts ≡ first_head_line h) in
     ⊎_elim
     (λ trim. let r = sorted_bw keyword.Trim tail.Numbers first.Trim ts h trim in
-      subst P r.5 (and_from (are_short r.0) (ascend r.0) r.1 r.2, r.4))
+    subst P r.5 (and_from (are_short r.0) (ascend r.0) r.1 r.2, r.4))
     (λ more. ⊎_elim
-      (λ merge. let p = as_bw (Word keyword.Merge ∷ []) tail.Nothing (λ tokens. Ok first.Merge) ts h merge in
-        let same : first.Merge ≡ h = let q = p.1 in cc in
-        subst P same (refl, closed_none (Word keyword.Merge ∷ []) ts p.0))
-      (λ cut.
-        let ps = Word keyword.Cut ∷ Number ∷ Number ∷ [] in
-        let f : ℕ → ℕ → Said FirstHead = λ p k. cond (nat_lt 0 (blocks_due p)) (Ok (first.Cut p k)) (Err kind.Shape) in
-        let p = as_bw ps tail.Nothing (λ tokens. f (value_at tokens 1) (value_at tokens 2)) ts h cut in
-        let c = cut_bw (nat_lt 0 (blocks_due (value_at ts 1))) (first.Cut (value_at ts 1) (value_at ts 2)) h (Err kind.Shape) refl p.1 in
-        subst P c.1 (and_from _ (is_short (value_at ts 2)) c.0 p.0.heads.1.0, closed_none ps ts p.0))
-      (either_bw (fits (Word keyword.Merge ∷ []) ts) _ _ h more))
+    (λ merge. let p = as_bw (Word keyword.Merge ∷ []) tail.Nothing (λ tokens. Ok first.Merge) ts h merge in
+    let same : first.Merge ≡ h = let q = p.1 in cc in
+    subst P same (refl, closed_none (Word keyword.Merge ∷ []) ts p.0))
+    (λ cut.
+    let ps = Word keyword.Cut ∷ Number ∷ Number ∷ [] in
+    let f : ℕ → ℕ → Said FirstHead = λ p k. cond (nat_lt 0 (blocks_due p)) (Ok (first.Cut p k)) (Err kind.Shape) in
+    let p = as_bw ps tail.Nothing (λ tokens. f (value_at tokens 1) (value_at tokens 2)) ts h cut in
+    let c = cut_bw (nat_lt 0 (blocks_due (value_at ts 1))) (first.Cut (value_at ts 1) (value_at ts 2)) h (Err kind.Shape) refl p.1 in
+    subst P c.1 (and_from _ (is_short (value_at ts 2)) c.0 p.0.heads.1.0, closed_none ps ts p.0))
+    (either_bw (fits (Word keyword.Merge ∷ []) ts) _ _ h more))
     (either_bw (fits (Word keyword.Trim ∷ []) ts) _ _ h e)
 
 -- Heads of steps of the second log.
@@ -255,8 +254,8 @@ delayed_back (mode.Buchi) ts h e =
     let P : SecondHead → Type 0 = λ h. SecondBack mode.Buchi ts h in
     ⊎_elim
     (λ d. let p = as_bw ps tail.Nothing (λ tokens. Ok (second.Merge way.Delayed)) ts h d in
-      let same : second.Merge way.Delayed ≡ h = let q = p.1 in cc in
-      subst P same (refl, closed_none ps ts p.0))
+    let same : second.Merge way.Delayed ≡ h = let q = p.1 in cc in
+    subst P same (refl, closed_none ps ts p.0))
     (cut_back mode.Buchi ts h)
     (either_bw (fits ps ts) _ _ h e)
 
@@ -281,8 +280,8 @@ second_head_bw m ts h e =
     let P : SecondHead → Type 0 = λ h. SecondBack m ts h in
     ⊎_elim
     (λ trim. let r = sorted_bw keyword.Trim tail.Numbers second.Trim ts h trim in
-      subst P r.5 (and_from (are_short r.0) (ascend r.0) r.1 r.2, r.4))
+    subst P r.5 (and_from (are_short r.0) (ascend r.0) r.1 r.2, r.4))
     (λ more. ⊎_elim (forward_back m ts h)
-      (λ rest. ⊎_elim (backward_back m ts h) (delayed_back m ts h) (either_bw (fits (merge_places keyword.Backward) ts) _ _ h rest))
-      (either_bw (fits (merge_places keyword.Forward) ts) _ _ h more))
+    (λ rest. ⊎_elim (backward_back m ts h) (delayed_back m ts h) (either_bw (fits (merge_places keyword.Backward) ts) _ _ h rest))
+    (either_bw (fits (merge_places keyword.Forward) ts) _ _ h more))
     (either_bw (fits (Word keyword.Trim ∷ []) ts) _ _ h e)

@@ -68,9 +68,10 @@ pub number_bw : (w : Keyword) (ts : Line) (n : ℕ) → number_in w ts ≡ Ok n
     → (is_short n ≡ true) × (ts ≡ spelled w ∷ decimal n ∷ [])
 number_bw w ts n e =
     let p = as_bw (Word w ∷ Number ∷ []) tail.Nothing (λ tokens. Ok (value_at tokens 1)) ts n e in
-    let same : value_at ts 1 ≡ n = let q = p.1 in cc in
-    (ap is_short (sym same) ∙ p.0.heads.0,
-    closed_none (Word w ∷ Number ∷ []) ts p.0 ∙ ap (λ v. spelled w ∷ decimal v ∷ []) same)
+    let same : value_at ts 1 ≡ n = let q = p.1 in cc in (
+      ap is_short (sym same) ∙ p.0.heads.0,
+      closed_none (Word w ∷ Number ∷ []) ts p.0 ∙ ap (λ v. spelled w ∷ decimal v ∷ []) same,
+    )
 
 -- Lines of a word and numbers.
 pub numbers_fw : (w : Keyword) (t : Tail) (ns : List ℕ) → are_short ns ≡ true → may_follow t (numbers ns) ≡ true
@@ -84,10 +85,11 @@ pub numbers_bw : (w : Keyword) (t : Tail) (ts : Line) (ns : List ℕ) → number
     → (are_short ns ≡ true) × (may_follow t (numbers ns) ≡ true) × (ts ≡ spelled w ∷ numbers ns)
 numbers_bw w t ts ns e =
     let p = as_bw (Word w ∷ []) t (λ tokens. Ok (values_from 1 tokens)) ts ns e in
-    let same : values_from 1 ts ≡ ns = let q = p.1 in cc in
-    (ap are_short (sym same) ∙ p.0.short,
-    ap (λ vs. may_follow t (numbers vs)) (sym same) ∙ p.0.follows,
-    p.0.line ∙ ap (λ vs. spelled w ∷ numbers vs) same)
+    let same : values_from 1 ts ≡ ns = let q = p.1 in cc in (
+      ap are_short (sym same) ∙ p.0.short,
+      ap (λ vs. may_follow t (numbers vs)) (sym same) ∙ p.0.follows,
+      p.0.line ∙ ap (λ vs. spelled w ∷ numbers vs) same,
+    )
 
 -- Lines of a word and numbers that ascend.
 abbrev pub sorted_in : {A : Type 0} → Keyword → Tail → (List ℕ → A) → Line → Said A
@@ -130,11 +132,11 @@ pub sizes_bw : (ts : Line) (s : Sizes) → sizes_in ts ≡ Ok s
 sizes_bw ts s e =
     let ps = Word keyword.Sizes ∷ Number ∷ Number ∷ Number ∷ [] in
     let p = as_bw ps tail.Nothing
-      (λ tokens. Ok (record { first_states = value_at tokens 1; second_states = value_at tokens 2; labels = value_at tokens 3 })) ts s e in
+    (λ tokens. Ok (record { first_states = value_at tokens 1; second_states = value_at tokens 2; labels = value_at tokens 3 })) ts s e in
     let own : Sizes = record { first_states = value_at ts 1; second_states = value_at ts 2; labels = value_at ts 3 } in
     let same : own ≡ s = let q = p.1 in cc in
     let P : Sizes → Type 0 = λ s. (is_short s.first_states ≡ true) × (is_short s.second_states ≡ true) × (is_short s.labels ≡ true)
-      × (ts ≡ spelled keyword.Sizes ∷ decimal s.first_states ∷ decimal s.second_states ∷ decimal s.labels ∷ []) in
+    × (ts ≡ spelled keyword.Sizes ∷ decimal s.first_states ∷ decimal s.second_states ∷ decimal s.labels ∷ []) in
     subst P same (p.0.heads.0, p.0.heads.1.0, p.0.heads.1.1.0, closed_none ps ts p.0)
 
 -- Rows.
@@ -155,14 +157,15 @@ pub row_bw : (bound : ℕ) (ts : Line) (row : Row) → row_in bound ts ≡ Ok ro
     → (is_row bound row ≡ true) × (ts ≡ spelled keyword.Row ∷ decimal row.left ∷ numbers row.rights)
 row_bw bound ts row e =
     let p = as_bw (Word keyword.Row ∷ Number ∷ []) tail.SomeNumbers
-      (λ tokens. in_order (ascend (row_of tokens).rights && nat_le bound (row_of tokens).left) (row_of tokens)) ts row e in
+    (λ tokens. in_order (ascend (row_of tokens).rights && nat_le bound (row_of tokens).left) (row_of tokens)) ts row e in
     let o = order_bw (ascend (values_from 2 ts) && nat_le bound (value_at ts 1)) (row_of ts) row p.1 in
     let P : Row → Type 0 = λ row. (is_row bound row ≡ true) × (ts ≡ spelled keyword.Row ∷ decimal row.left ∷ numbers row.rights) in
-    subst P o.1
-    (and_from (is_short (value_at ts 1)) _ p.0.heads.0
-      (and_from (are_short (values_from 2 ts)) _ p.0.short
-      (and_from (has_some (values_from 2 ts)) _ (numbers_some (values_from 2 ts) p.0.follows) o.0)),
-    p.0.line)
+    subst P o.1 (
+      and_from (is_short (value_at ts 1)) _ p.0.heads.0
+          (and_from (are_short (values_from 2 ts)) _ p.0.short
+          (and_from (has_some (values_from 2 ts)) _ (numbers_some (values_from 2 ts) p.0.follows) o.0)),
+      p.0.line,
+    )
 
 -- Rows with ranks.
 pub ranked_back : (ps : List Ranked) → ranked_of (ranked_numbers ps) ≡ ps
@@ -221,17 +224,18 @@ pub rank_row_bw : (bound : ℕ) (ts : Line) (row : RankRow) → rank_row_in boun
     → (is_rank_row bound row ≡ true) × (ts ≡ spelled keyword.Row ∷ decimal row.left ∷ numbers (ranked_numbers row.rights))
 rank_row_bw bound ts row e =
     let p = as_bw (Word keyword.Row ∷ Number ∷ []) tail.SomePairs
-      (λ tokens. in_order (ascend (rights_of (rank_row_of tokens).rights) && nat_le bound (rank_row_of tokens).left) (rank_row_of tokens)) ts row e in
+    (λ tokens. in_order (ascend (rights_of (rank_row_of tokens).rights) && nat_le bound (rank_row_of tokens).left) (rank_row_of tokens)) ts row e in
     let ns = values_from 2 ts in
     let o = order_bw (ascend (rights_of (ranked_of ns)) && nat_le bound (value_at ts 1)) (rank_row_of ts) row p.1 in
     let m = and_parts (has_some (numbers ns)) (pair_up (numbers ns)) p.0.follows in
     let P : RankRow → Type 0 = λ row. (is_rank_row bound row ≡ true)
-      × (ts ≡ spelled keyword.Row ∷ decimal row.left ∷ numbers (ranked_numbers row.rights)) in
-    subst P o.1
-    (and_from (is_short (value_at ts 1)) _ p.0.heads.0
-      (and_from (list_all is_ranked (ranked_of ns)) _ (short_ranked ns p.0.short)
-      (and_from (has_some (ranked_of ns)) _ (some_ranked ns m.0 m.1) o.0)),
-    p.0.line ∙ ap (λ xs. spelled keyword.Row ∷ decimal (value_at ts 1) ∷ numbers xs) (sym (ranked_there ns m.1)))
+    × (ts ≡ spelled keyword.Row ∷ decimal row.left ∷ numbers (ranked_numbers row.rights)) in
+    subst P o.1 (
+      and_from (is_short (value_at ts 1)) _ p.0.heads.0
+          (and_from (list_all is_ranked (ranked_of ns)) _ (short_ranked ns p.0.short)
+          (and_from (has_some (ranked_of ns)) _ (some_ranked ns m.0 m.1) o.0)),
+      p.0.line ∙ ap (λ xs. spelled keyword.Row ∷ decimal (value_at ts 1) ∷ numbers xs) (sym (ranked_there ns m.1)),
+    )
 
 -- What goes and by what.
 pub gone_back : (ps : List GoneBy) → gone_by_of (gone_numbers ps) ≡ ps
@@ -289,15 +293,16 @@ pub gone_bw : (ts : Line) (ps : List GoneBy) → gone_by_in ts ≡ Ok ps
     → (are_gone ps ≡ true) × (ts ≡ spelled keyword.Gone ∷ numbers (gone_numbers ps))
 gone_bw ts ps e =
     let p = as_bw (Word keyword.Gone ∷ []) tail.SomePairs
-      (λ tokens. in_order (ascend (gone_of (gone_by_of (values_from 1 tokens)))) (gone_by_of (values_from 1 tokens))) ts ps e in
+    (λ tokens. in_order (ascend (gone_of (gone_by_of (values_from 1 tokens)))) (gone_by_of (values_from 1 tokens))) ts ps e in
     let ns = values_from 1 ts in
     let o = order_bw (ascend (gone_of (gone_by_of ns))) (gone_by_of ns) ps p.1 in
     let m = and_parts (has_some (numbers ns)) (pair_up (numbers ns)) p.0.follows in
     let P : List GoneBy → Type 0 = λ ps. (are_gone ps ≡ true) × (ts ≡ spelled keyword.Gone ∷ numbers (gone_numbers ps)) in
-    subst P o.1
-    (and_from (list_all is_gone (gone_by_of ns)) _ (short_gone ns p.0.short)
-      (and_from (has_some (gone_by_of ns)) _ (some_gone ns m.0 m.1) o.0),
-    p.0.line ∙ ap (λ xs. spelled keyword.Gone ∷ numbers xs) (sym (gone_there ns m.1)))
+    subst P o.1 (
+      and_from (list_all is_gone (gone_by_of ns)) _ (short_gone ns p.0.short)
+          (and_from (has_some (gone_by_of ns)) _ (some_gone ns m.0 m.1) o.0),
+      p.0.line ∙ ap (λ xs. spelled keyword.Gone ∷ numbers xs) (sym (gone_there ns m.1)),
+    )
 
 -- The lines of live elements.
 pub step_fw : (n : ℕ) (s : StepLine) → is_step_of n s ≡ true
@@ -316,10 +321,11 @@ pub step_bw : (n : ℕ) (ts : Line) (s : StepLine) → step_in n ts ≡ Ok s
     → (is_step_of n s ≡ true) × (ts ≡ spelled keyword.Step ∷ decimal s.element ∷ numbers s.by)
 step_bw n ts s e =
     let p = as_bw (Word keyword.Step ∷ Number ∷ []) tail.Numbers
-      (λ tokens. in_order ((step_of tokens).element == n) (step_of tokens)) ts s e in
+    (λ tokens. in_order ((step_of tokens).element == n) (step_of tokens)) ts s e in
     let o = order_bw (value_at ts 1 == n) (step_of ts) s p.1 in
     let P : StepLine → Type 0 = λ s. (is_step_of n s ≡ true) × (ts ≡ spelled keyword.Step ∷ decimal s.element ∷ numbers s.by) in
-    subst P o.1
-    (and_from (is_short (value_at ts 1)) _ p.0.heads.0
-      (and_from (are_short (values_from 2 ts)) _ p.0.short o.0),
-    p.0.line)
+    subst P o.1 (
+      and_from (is_short (value_at ts 1)) _ p.0.heads.0
+          (and_from (are_short (values_from 2 ts)) _ p.0.short o.0),
+      p.0.line,
+    )

@@ -69,13 +69,13 @@ number_decimal n e =
     let far : n < 10 ^ 64 = omega arith in
     let few : length (decimal n) ≤ 9 = length-decimal-le_wide 9 n (lit< tt) nine far in
     let plain : (nat_lt (length (decimal n)) 2 || not (get_or (decimal n) 0 0 == 48)) ≡ true =
-        ⊎_elim
-        (λ digit. or_left (nat_lt (length (decimal n)) 2) (not (get_or (decimal n) 0 0 == 48))
-          (ap (λ xs. nat_lt (length xs) 2) (decimal_digit n digit)))
-        (λ more. or_right (nat_lt (length (decimal n)) 2) (not (get_or (decimal n) 0 0 == 48))
-          (let big = first_decimal n (omega arith) wide in
-            ap not (ne_eqb (get_or (decimal n) 0 0) 48 (λ h. omega arith))))
-        (cases_lt n 10) in
+    ⊎_elim
+    (λ digit. or_left (nat_lt (length (decimal n)) 2) (not (get_or (decimal n) 0 0 == 48))
+    (ap (λ xs. nat_lt (length xs) 2) (decimal_digit n digit)))
+    (λ more. or_right (nat_lt (length (decimal n)) 2) (not (get_or (decimal n) 0 0 == 48))
+    (let big = first_decimal n (omega arith) wide in
+    ap not (ne_eqb (get_or (decimal n) 0 0) 48 (λ h. omega arith))))
+    (cases_lt n 10) in
     and_from (nat_lt 0 (length (decimal n))) _ (lt-ltb 0 (length (decimal n)) some)
     (and_from (nat_lt (length (decimal n)) 10) _ (lt-ltb (length (decimal n)) 10 (omega arith))
     (and_from _ (list_all is_digit (decimal n)) plain (digits_decimal own n wide)))

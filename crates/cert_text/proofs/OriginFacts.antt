@@ -116,16 +116,16 @@ origin_bw (mode.Buchi) ts from e =
     let P : Origin → Type 0 = λ from. OriginBack mode.Buchi ts from in
     ⊎_elim
     (λ d. let p = as_bw base_places tail.Nothing (λ tokens. Ok (origin.Base (value_at tokens 1))) ts from d in
-      let same : origin.Base (value_at ts 1) ≡ from = let q = p.1 in cc in
-      subst P same (p.0.heads.0, closed_none base_places ts p.0))
+    let same : origin.Base (value_at ts 1) ≡ from = let q = p.1 in cc in
+    subst P same (p.0.heads.0, closed_none base_places ts p.0))
     (next_back mode.Buchi ts from)
     (either_bw (fits base_places ts) _ _ from e)
 origin_bw (mode.Finite) ts from e =
     let P : Origin → Type 0 = λ from. OriginBack mode.Finite ts from in
     ⊎_elim
     (λ d. let p = as_bw start_places tail.Nothing (λ tokens. Ok origin.Start) ts from d in
-      let same : origin.Start ≡ from = let q = p.1 in cc in
-      subst P same (refl, closed_none start_places ts p.0))
+    let same : origin.Start ≡ from = let q = p.1 in cc in
+    subst P same (refl, closed_none start_places ts p.0))
     (next_back mode.Finite ts from)
     (either_bw (fits start_places ts) _ _ from e)
 
@@ -217,14 +217,16 @@ next_element_back m ts e h =
     let P : Element → Type 0 = λ e. ElementBack m ts e in
     ⊎_elim
     (λ d. let p = as_bw live_next tail.Nothing (λ tokens. Ok (live (origin.Next (value_at tokens 2) (value_at tokens 3)))) ts e d in
-      let same : live (origin.Next (value_at ts 2) (value_at ts 3)) ≡ e = let q = p.1 in cc in
-      subst P same (and_from (is_short (value_at ts 2)) (is_short (value_at ts 3)) p.0.heads.0 p.0.heads.1.0, closed_none live_next ts p.0))
+    let same : live (origin.Next (value_at ts 2) (value_at ts 3)) ≡ e = let q = p.1 in cc in
+    subst P same (and_from (is_short (value_at ts 2)) (is_short (value_at ts 3)) p.0.heads.0 p.0.heads.1.0, closed_none live_next ts p.0))
     (λ d. let p = as_bw under_next tail.Nothing
-        (λ tokens. Ok (under (value_at tokens 1) (origin.Next (value_at tokens 3) (value_at tokens 4)))) ts e d in
-      let same : under (value_at ts 1) (origin.Next (value_at ts 3) (value_at ts 4)) ≡ e = let q = p.1 in cc in
-      subst P same
-      (and_from (is_short (value_at ts 1)) _ p.0.heads.0
-        (and_from (is_short (value_at ts 3)) (is_short (value_at ts 4)) p.0.heads.1.0 p.0.heads.1.1.0), closed_none under_next ts p.0))
+    (λ tokens. Ok (under (value_at tokens 1) (origin.Next (value_at tokens 3) (value_at tokens 4)))) ts e d in
+    let same : under (value_at ts 1) (origin.Next (value_at ts 3) (value_at ts 4)) ≡ e = let q = p.1 in cc in
+    subst P same (
+      and_from (is_short (value_at ts 1)) _ p.0.heads.0
+          (and_from (is_short (value_at ts 3)) (is_short (value_at ts 4)) p.0.heads.1.0 p.0.heads.1.1.0),
+      closed_none under_next ts p.0,
+    ))
     (either_bw (fits live_next ts) _ _ e h)
 
 pub element_bw : (m : Mode) (ts : Line) (e : Element) → element_in m ts ≡ Ok e → ElementBack m ts e
@@ -232,27 +234,27 @@ element_bw (mode.Buchi) ts e h =
     let P : Element → Type 0 = λ e. ElementBack mode.Buchi ts e in
     ⊎_elim
     (λ d. let p = as_bw live_base tail.Nothing (λ tokens. Ok (live (origin.Base (value_at tokens 2)))) ts e d in
-      let same : live (origin.Base (value_at ts 2)) ≡ e = let q = p.1 in cc in
-      subst P same (p.0.heads.0, closed_none live_base ts p.0))
+    let same : live (origin.Base (value_at ts 2)) ≡ e = let q = p.1 in cc in
+    subst P same (p.0.heads.0, closed_none live_base ts p.0))
     (λ more. ⊎_elim
-      (λ d. let p = as_bw under_base tail.Nothing (λ tokens. Ok (under (value_at tokens 1) (origin.Base (value_at tokens 3)))) ts e d in
-        let same : under (value_at ts 1) (origin.Base (value_at ts 3)) ≡ e = let q = p.1 in cc in
-        subst P same (and_from (is_short (value_at ts 1)) (is_short (value_at ts 3)) p.0.heads.0 p.0.heads.1.0, closed_none under_base ts p.0))
-      (next_element_back mode.Buchi ts e)
-      (either_bw (fits under_base ts) _ _ e more))
+    (λ d. let p = as_bw under_base tail.Nothing (λ tokens. Ok (under (value_at tokens 1) (origin.Base (value_at tokens 3)))) ts e d in
+    let same : under (value_at ts 1) (origin.Base (value_at ts 3)) ≡ e = let q = p.1 in cc in
+    subst P same (and_from (is_short (value_at ts 1)) (is_short (value_at ts 3)) p.0.heads.0 p.0.heads.1.0, closed_none under_base ts p.0))
+    (next_element_back mode.Buchi ts e)
+    (either_bw (fits under_base ts) _ _ e more))
     (either_bw (fits live_base ts) _ _ e h)
 element_bw (mode.Finite) ts e h =
     let P : Element → Type 0 = λ e. ElementBack mode.Finite ts e in
     ⊎_elim
     (λ d. let p = as_bw live_start tail.Nothing (λ tokens. Ok (live origin.Start)) ts e d in
-      let same : live origin.Start ≡ e = let q = p.1 in cc in
-      subst P same (refl, closed_none live_start ts p.0))
+    let same : live origin.Start ≡ e = let q = p.1 in cc in
+    subst P same (refl, closed_none live_start ts p.0))
     (λ more. ⊎_elim
-      (λ d. let p = as_bw under_start tail.Nothing (λ tokens. Ok (under (value_at tokens 1) origin.Start)) ts e d in
-        let same : under (value_at ts 1) origin.Start ≡ e = let q = p.1 in cc in
-        subst P same (and_from (is_short (value_at ts 1)) true p.0.heads.0 refl, closed_none under_start ts p.0))
-      (next_element_back mode.Finite ts e)
-      (either_bw (fits under_start ts) _ _ e more))
+    (λ d. let p = as_bw under_start tail.Nothing (λ tokens. Ok (under (value_at tokens 1) origin.Start)) ts e d in
+    let same : under (value_at ts 1) origin.Start ≡ e = let q = p.1 in cc in
+    subst P same (and_from (is_short (value_at ts 1)) true p.0.heads.0 refl, closed_none under_start ts p.0))
+    (next_element_back mode.Finite ts e)
+    (either_bw (fits under_start ts) _ _ e more))
     (either_bw (fits live_start ts) _ _ e h)
 
 -- First lines.

@@ -31,7 +31,6 @@ use Rattle.cert_text.specs.declared.types.Element.{Element}
 use Rattle.cert_text.specs.declared.types.Mark.{Mark}
 use Rattle.cert_text.specs.declared.types.Mark.TheVariants as mark
 use Rattle.cert_text.specs.declared.types.StepLine.{StepLine}
-
 use Rattle.cert_text.specs.Text.{Line, spelled, numbers, each, row_lines, block_lines, ranked_numbers, rank_row_lines, rank_block_lines, gone_numbers, classes_line, first_step_lines, merge_lines, second_step_lines, origin_line, mark_tokens, element_lines, origin_lines, step_lines, first_lines, second_lines, elements_line, closed_lines, yes_lines, limit_lines, list_lines, body_lines, mode_word, answer_word, answer_of, first_line, sizes_line, end_line, cert_lines}
 use Rattle.cert_text.proofs.BytesLines.{plain, PlainLine, PlainLines, spelled_plain, decimal_plain, numbers_plain}
 
@@ -74,9 +73,10 @@ plain_numbers w ns = word_line w (numbers ns) (numbers_plain ns)
 plain_first : (s : FirstStep) → PlainLines (first_step_lines s)
 plain_first (first.Trim kept) = (plain_numbers keyword.Trim kept, tt)
 plain_first (first.Merge classes) = (word_line keyword.Merge [] refl, (plain_numbers keyword.Classes classes, tt))
-plain_first (first.Cut pair look gone blocks) =
-    (word_line keyword.Cut (decimal pair ∷ decimal look ∷ []) (number_then pair (decimal look ∷ []) (number_then look [] refl)),
-    (plain_numbers keyword.Gone (gone_numbers gone), plain_each block_lines plain_block blocks))
+plain_first (first.Cut pair look gone blocks) = (
+  word_line keyword.Cut (decimal pair ∷ decimal look ∷ []) (number_then pair (decimal look ∷ []) (number_then look [] refl)),
+  (plain_numbers keyword.Gone (gone_numbers gone), plain_each block_lines plain_block blocks),
+)
 
 two_words : (w v : Keyword) (rest : Line) → list_all plain rest ≡ true → PlainLine (spelled w ∷ spelled v ∷ rest)
 two_words w v rest e = word_line w (spelled v ∷ rest) (and_from (plain (spelled v)) (list_all plain rest) (spelled_plain v) e)
@@ -120,25 +120,30 @@ plain_logs fs ss after h =
 plain_body : (b : Body) → PlainLines (body_lines b)
 plain_body (body.Yes y) =
     plain_logs y.first y.second (block_lines y.order ++ closed_lines y.elements y.cover y.steps)
-    (plain_append (block_lines y.order) (closed_lines y.elements y.cover y.steps) (plain_block y.order)
-    (one_number keyword.Elements (length y.elements),
-    plain_append (each element_lines y.elements) ((spelled keyword.Cover ∷ numbers y.cover) ∷ each step_lines y.steps)
-    (plain_each element_lines (λ e. (plain_element e.mark e.origin, tt)) y.elements)
-    (plain_numbers keyword.Cover y.cover, plain_each step_lines plain_step y.steps)))
+    (plain_append (block_lines y.order) (closed_lines y.elements y.cover y.steps) (plain_block y.order) (
+      one_number keyword.Elements (length y.elements),
+      plain_append (each element_lines y.elements) ((spelled keyword.Cover ∷ numbers y.cover) ∷ each step_lines y.steps)
+          (plain_each element_lines (λ e. (plain_element e.mark e.origin, tt)) y.elements)
+          (plain_numbers keyword.Cover y.cover, plain_each step_lines plain_step y.steps),
+    ))
 plain_body (body.NoLasso lasso) = (plain_numbers keyword.Prefix lasso.prefix, (plain_numbers keyword.Loop lasso.turn, tt))
 plain_body (body.NoWord word) = (plain_numbers keyword.Word word, tt)
 plain_body (body.Listing list) =
-    plain_logs list.first list.second (limit_lines list.limit list.elements)
-    (one_number keyword.Limit list.limit,
-    (one_number keyword.Elements (length list.elements), plain_each origin_lines (λ from. (origin_is from, tt)) list.elements))
+    plain_logs list.first list.second (limit_lines list.limit list.elements) (
+      one_number keyword.Limit list.limit,
+      (one_number keyword.Elements (length list.elements), plain_each origin_lines (λ from. (origin_is from, tt)) list.elements),
+    )
 
 -- all lines of a certificate are plain
 pub plain_cert : (c : Cert) → PlainLines (cert_lines c)
-plain_cert c =
-    (two_words keyword.RabitCert keyword.One (spelled (mode_word c.mode) ∷ spelled (answer_word (answer_of c.body)) ∷ [])
+plain_cert c = (
+  two_words keyword.RabitCert keyword.One (spelled (mode_word c.mode) ∷ spelled (answer_word (answer_of c.body)) ∷ [])
       (and_from (plain (spelled (mode_word c.mode))) _ (spelled_plain (mode_word c.mode))
       (and_from (plain (spelled (answer_word (answer_of c.body)))) true (spelled_plain (answer_word (answer_of c.body))) refl)),
-    (word_line keyword.Sizes (decimal c.first_states ∷ decimal c.second_states ∷ decimal c.labels ∷ [])
-      (number_then c.first_states (decimal c.second_states ∷ decimal c.labels ∷ [])
-      (number_then c.second_states (decimal c.labels ∷ []) (number_then c.labels [] refl))),
-    plain_append (body_lines c.body) (end_line ∷ []) (plain_body c.body) (word_line keyword.End [] refl, tt)))
+  (
+    word_line keyword.Sizes (decimal c.first_states ∷ decimal c.second_states ∷ decimal c.labels ∷ [])
+        (number_then c.first_states (decimal c.second_states ∷ decimal c.labels ∷ [])
+        (number_then c.second_states (decimal c.labels ∷ []) (number_then c.labels [] refl))),
+    plain_append (body_lines c.body) (end_line ∷ []) (plain_body c.body) (word_line keyword.End [] refl, tt),
+  ),
+)

@@ -73,8 +73,8 @@ stops bytes s t rest n (Text fault) same k a =
     let ls : lines_of rest ≡ tokens_of parts.0 ∷ map tokens_of parts.1 = ap (λ ps. map tokens_of ps) parts.2 in
     let P : List Line → Type 0 = λ xs. resume s (t ∷ xs) ≡ Stopped fault (t ∷ xs) in
     let stop : P (lines_of rest) = subst P (sym ls)
-      (state_law s t (tokens_of parts.0) (map tokens_of parts.1)
-      ∙ ap (λ r. after r resume (t ∷ tokens_of parts.0 ∷ map tokens_of parts.1) (tokens_of parts.0 ∷ map tokens_of parts.1)) a) in
+    (state_law s t (tokens_of parts.0) (map tokens_of parts.1)
+    ∙ ap (λ r. after r resume (t ∷ tokens_of parts.0 ∷ map tokens_of parts.1) (tokens_of parts.0 ∷ map tokens_of parts.1)) a) in
     told_stopped bytes fault (t ∷ lines_of rest) n (sym same ∙ stop) k
 
 -- the reader goes on

@@ -63,7 +63,6 @@ use Rattle.cert_text.specs.Grammar.{Outcome, Read, Stopped, Then, after, next_li
 use Rattle.cert_text.specs.Machine.{map_said, on_or, rows_due, step_block, rank_rows_due, step_ranks, blocks_left, with_block, first_started, step_first, first_left, with_first, step_first_log, rel_due, with_forward, with_backward, with_delayed, second_started, step_second, second_left, with_second, step_second_log, elements_left, live_from, step_or_whole, steps_left, with_order, step_yes, origins_left, step_list, step_no, whole, begun, with_no, with_first_log, evidence_due, with_second_log, with_yes, with_list, step}
 use Rattle.cert_text.proofs.FormLemmas.{drop_one}
 
-
 -- How a state reads on, and what a step reads on.
 abbrev pub Resume : Type 0 → Type 0 → Type 0
 Resume S X = S → Then X → List Line → Outcome

@@ -64,8 +64,6 @@ use Rattle.cert_text.specs.Machine.{map_said, on_or, rows_due, step_block, rank_
 use Rattle.cert_text.proofs.Resume.{Resume, on_step, arm, on_suc, resume_block, block_law, block_last, resume_first_log, first_log_law, first_log_last, resume_second_log, second_log_law, second_log_last}
 use Rattle.cert_text.proofs.FormLemmas.{drop_one}
 
-
-
 -- The evidence of a yes.
 abbrev pub closed_next : RelBlock → List Element → List ℕ → Then Closed → Then (List StepLine)
 closed_next order elements cover next steps =
@@ -116,7 +114,7 @@ live_law m order elements cover steps next lines n [] left = refl
 live_law m order elements cover steps next lines n (e ∷ es) left =
     let k = closed_next order elements cover next in
     let rest : drop (n + 1) elements ≡ es =
-        ap (λ i. drop i elements) (add-one n) ∙ sym (drop_one n elements) ∙ ap (λ xs. drop 1 xs) left in
+    ap (λ i. drop i elements) (add-one n) ∙ sym (drop_one n elements) ∙ ap (λ xs. drop 1 xs) left in
     by_live m order elements cover steps next lines (is_live e.mark) n (live_from (n + 1) es)
     (next_line (step_in n) (λ step. read_steps (n + 1) es (steps ++ step ∷ []) k) lines)
     (read_steps (n + 1) es steps k lines)

@@ -8,8 +8,8 @@ none_from_len p [] h = refl
 none_from_len p (x ∷ xs) h =
     ⊎_elim (λ t. let g = rw t at h in absurd (omega arith))
     (λ f. let g = rw f at h in
-        let k : length xs ≤ position_or_len p xs = omega arith in
-        slice_split-cons_no p x xs f ∙ ap (λ parts. onto_first x parts) (none_from_len p xs k))
+    let k : length xs ≤ position_or_len p xs = omega arith in
+    slice_split-cons_no p x xs f ∙ ap (λ parts. onto_first x parts) (none_from_len p xs k))
     (cases_Bool (p x))
 
 -- a list without the byte is one part
@@ -27,8 +27,8 @@ pub split_some :
 split_some p xs at e =
     ⊎_elim
     (λ lt. let f = rw (lt-ltb (position_or_len p xs) (length xs) lt) at e in
-        let g : position_or_len p xs ≡ at = cc in
-        slice_split_first p xs 0 lt ∙ ap (λ n. take n xs ∷ slice_split p (drop (n + 1) xs)) g)
+    let g : position_or_len p xs ≡ at = cc in
+    slice_split_first p xs 0 lt ∙ ap (λ n. take n xs ∷ slice_split p (drop (n + 1) xs)) g)
     (λ le. let f = rw (le-ltb (position_or_len p xs) (length xs) le) at e in absurd (cc))
     (cases_lt (position_or_len p xs) (length xs))
 

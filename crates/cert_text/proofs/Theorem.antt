@@ -46,7 +46,7 @@ pub one_text : OneText
 one_text c d more hc hd e =
     let whole : read_lines (lines_of (text d ++ [])) ≡ Read d = text_then d [] hd in
     let front : finish c (lines_of more) ≡ Read d =
-        sym (text_then c more hc) ∙ ap (λ b. read_lines (lines_of b)) (e ∙ sym (append-nil (text d))) ∙ whole in
+    sym (text_then c more hc) ∙ ap (λ b. read_lines (lines_of b)) (e ∙ sym (append-nil (text d))) ∙ whole in
     let f = finish_bw c d (lines_of more) front in
     (text_back more [] f.1, f.0)
 

@@ -226,13 +226,13 @@ whole o b = state.End (cert_of o.mode o.sizes b)
 
 unfoldable pub begun : Heading → Sizes → State
 begun h sizes = elim h.answer [
-    answer.Yes ↦ state.First (record { mode = h.mode; answer = answer.Yes; sizes = sizes }) first_log.Count
+  | answer.Yes ↦ state.First (record { mode = h.mode; answer = answer.Yes; sizes = sizes }) first_log.Count
   | answer.No ↦ elim h.mode [
-      mode.Buchi ↦ state.No (record { mode = mode.Buchi; answer = answer.No; sizes = sizes }) no_state.Prefix
+    | mode.Buchi ↦ state.No (record { mode = mode.Buchi; answer = answer.No; sizes = sizes }) no_state.Prefix
     | mode.Finite ↦ state.No (record { mode = mode.Finite; answer = answer.No; sizes = sizes }) no_state.Word
-    ]
-  | answer.List ↦ state.First (record { mode = h.mode; answer = answer.List; sizes = sizes }) first_log.Count
   ]
+  | answer.List ↦ state.First (record { mode = h.mode; answer = answer.List; sizes = sizes }) first_log.Count
+]
 
 unfoldable pub with_no : Opening → Step NoState Body → State
 with_no o (More at) = state.No o at
@@ -244,10 +244,10 @@ with_first_log o (Whole firsts) = state.Second o firsts second_log.Count
 
 unfoldable pub evidence_due : Opening → List FirstStep → List SecondStep → State
 evidence_due o firsts seconds = elim o.answer [
-    answer.Yes ↦ state.Yes o firsts seconds (yes_state.Order block.Count)
+  | answer.Yes ↦ state.Yes o firsts seconds (yes_state.Order block.Count)
   | answer.No ↦ state.Yes o firsts seconds (yes_state.Order block.Count)
   | answer.List ↦ state.List o firsts seconds list_state.Limit
-  ]
+]
 
 unfoldable pub with_second_log : Opening → List FirstStep → Step SecondLog (List SecondStep) → State
 with_second_log o firsts (More at) = state.Second o firsts at

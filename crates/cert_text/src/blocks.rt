@@ -47,7 +47,11 @@ fn rows_due(rows: List<Row>, bound: u64, left: u32) -> Step<BlockState, RelBlock
 
 /// What the next line makes of it.
 #[tactic(auto, unfolding(crate::specs::Machine::step_block))]
-pub(crate) fn step_block(alloc: Global, state: BlockState, line: &[u8]) -> Result<Step<BlockState, RelBlock>, LineFault>
+pub(crate) fn step_block(
+    alloc: Global,
+    state: BlockState,
+    line: &[u8],
+) -> Result<Step<BlockState, RelBlock>, LineFault>
     ensures { Agrees (step_block state (tokens_of line.now)) result }
 {
     match state {
@@ -102,7 +106,11 @@ fn rank_rows_due(rows: List<RankRow>, bound: u64, left: u32) -> Step<RankState, 
 
 /// What the next line makes of it.
 #[tactic(auto, unfolding(crate::specs::Machine::step_ranks))]
-pub(crate) fn step_ranks(alloc: Global, state: RankState, line: &[u8]) -> Result<Step<RankState, RankBlock>, LineFault>
+pub(crate) fn step_ranks(
+    alloc: Global,
+    state: RankState,
+    line: &[u8],
+) -> Result<Step<RankState, RankBlock>, LineFault>
     ensures { Agrees (step_ranks state (tokens_of line.now)) result }
 {
     match state {

@@ -5,8 +5,8 @@ ghost use Rattle.std.specs.List.{list_all};
 ghost use Rattle.cert_text.specs.WellFormed.{is_short, are_short, has_some, ascend_from, ascend, is_row, are_rows, is_block, rights_of, is_ranked, is_rank_row, are_rank_rows, is_rank_block, are_gone, are_kept, are_classes, blocks_due, is_first_step, are_grounds, is_second_step, is_origin, is_live, is_mark, is_element, is_step_of, are_steps, are_logs, is_body, is_yes, is_lasso, is_listing, gone_of, is_gone, is_cut, has_text, WellFormed};
 
 use crate::types::{
-    Body, Cert, Element, FirstStep, GoneBy, Grounds, ListBody, Mark, RankBlock, RankRow, Ranked, RelBlock, Row, SecondStep,
-    StepLine, YesBody,
+    Body, Cert, Element, FirstStep, GoneBy, Grounds, ListBody, Mark, RankBlock, RankRow, Ranked,
+    RelBlock, Row, SecondStep, StepLine, YesBody,
 };
 use auto_core::{Lasso, List, Mode, Origin};
 
@@ -53,7 +53,11 @@ fn is_row(bound: u64, row: &Row) -> bool
     ensures { result ≡ is_row bound row.now }
 {
     let rights = row.rights.as_slice();
-    is_short(row.left) && are_short(rights) && !rights.is_empty() && ascend(rights) && bound <= row.left as u64
+    is_short(row.left)
+        && are_short(rights)
+        && !rights.is_empty()
+        && ascend(rights)
+        && bound <= row.left as u64
 }
 
 /// Whether the rows are, their left numbers ascending.
@@ -212,7 +216,11 @@ fn is_cut(pair: u32, look: u32, gone: &[GoneBy], blocks: &[RelBlock]) -> bool
     ensures { result ≡ is_cut pair look gone.now blocks.now }
 {
     let due = blocks_due(pair);
-    due > 0 && is_short(look) && are_gone(gone) && blocks.len() == due as usize && are_blocks(blocks)
+    due > 0
+        && is_short(look)
+        && are_gone(gone)
+        && blocks.len() == due as usize
+        && are_blocks(blocks)
 }
 
 /// Whether the step of the first log has a text.
@@ -222,7 +230,12 @@ fn is_first_step(step: &FirstStep) -> bool
     match step {
         FirstStep::Trim { kept } => are_kept(kept.as_slice()),
         FirstStep::Merge { classes } => are_classes(classes.as_slice()),
-        FirstStep::Cut { pair, look, gone, blocks } => is_cut(*pair, *look, gone.as_slice(), blocks.as_slice()),
+        FirstStep::Cut {
+            pair,
+            look,
+            gone,
+            blocks,
+        } => is_cut(*pair, *look, gone.as_slice(), blocks.as_slice()),
     }
 }
 
@@ -246,7 +259,8 @@ fn is_second_step(mode: Mode, step: &SecondStep) -> bool
 {
     match step {
         SecondStep::Trim { kept } => are_kept(kept.as_slice()),
-        SecondStep::Merge { by, classes } => are_classes(classes.as_slice()) && are_grounds(mode, by),
+        SecondStep::Merge { by, classes } => are_classes(classes.as_slice())
+            && are_grounds(mode, by),
         SecondStep::Cut { gone } => {
             let gone = gone.as_slice();
             are_short(gone) && !gone.is_empty() && ascend(gone)

@@ -146,7 +146,11 @@ fn steps_left(
 
 /// The next line of the order.
 #[tactic(auto, unfolding(crate::specs::Machine::with_order))]
-fn next_in_order(alloc: Global, at: BlockState, line: &[u8]) -> Result<Step<YesState, Closed>, LineFault>
+fn next_in_order(
+    alloc: Global,
+    at: BlockState,
+    line: &[u8],
+) -> Result<Step<YesState, Closed>, LineFault>
     ensures { Agrees (map_said with_order (step_block at (tokens_of line.now))) result }
 {
     match step_block(alloc, at, line) {
@@ -215,8 +219,17 @@ pub(crate) fn step_yes(
             Ok(count) => Ok(elements_left(order, List::new(alloc), count)),
             Err(fault) => Err(fault),
         },
-        YesState::Element { order, elements, later } => next_element(mode, order, elements, later, line),
-        YesState::Cover { order, elements } => match numbers_in(alloc, Keyword::Cover, Tail::Numbers, line) {
+        YesState::Element {
+            order,
+            elements,
+            later,
+        } => next_element(mode, order, elements, later, line),
+        YesState::Cover { order, elements } => match numbers_in(
+            alloc,
+            Keyword::Cover,
+            Tail::Numbers,
+            line,
+        ) {
             Ok(cover) => Ok(steps_left(order, elements, cover, List::new(alloc), 0)),
             Err(fault) => Err(fault),
         },
@@ -281,7 +294,11 @@ pub(crate) fn step_list(
 
 /// What the next line makes of a no.
 #[tactic(auto, unfolding(crate::specs::Machine::step_no))]
-pub(crate) fn step_no(alloc: Global, state: NoState, line: &[u8]) -> Result<Step<NoState, Body>, LineFault>
+pub(crate) fn step_no(
+    alloc: Global,
+    state: NoState,
+    line: &[u8],
+) -> Result<Step<NoState, Body>, LineFault>
     ensures { Agrees (step_no state (tokens_of line.now)) result }
 {
     match state {

@@ -71,7 +71,12 @@ fn blocks_left(
     ensures { result ≡ blocks_left pair look gone blocks left }
 {
     if left == 0 {
-        Step::Whole(FirstStep::Cut { pair, look, gone, blocks })
+        Step::Whole(FirstStep::Cut {
+            pair,
+            look,
+            gone,
+            blocks,
+        })
     } else {
         Step::More(FirstState::Blocks {
             pair,
@@ -129,7 +134,11 @@ fn next_in_cut(
 
 /// What the next line makes of a step.
 #[tactic(auto, unfolding(crate::specs::Machine::step_first))]
-fn step_first(alloc: Global, state: FirstState, line: &[u8]) -> Result<Step<FirstState, FirstStep>, LineFault>
+fn step_first(
+    alloc: Global,
+    state: FirstState,
+    line: &[u8],
+) -> Result<Step<FirstState, FirstStep>, LineFault>
     ensures { Agrees (step_first state (tokens_of line.now)) result }
 {
     match state {

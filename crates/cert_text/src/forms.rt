@@ -175,7 +175,8 @@ fn may_follow(tail: Tail, line: &[u8], places: usize) -> bool
         Tail::Nothing => is_over(Tokens::past(line, places)),
         Tail::Numbers => true,
         Tail::SomeNumbers => !is_over(Tokens::past(line, places)),
-        Tail::SomePairs => !is_over(Tokens::past(line, places)) && pair_up(Tokens::past(line, places)),
+        Tail::SomePairs => !is_over(Tokens::past(line, places))
+            && pair_up(Tokens::past(line, places)),
     }
 }
 

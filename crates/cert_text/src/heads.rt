@@ -51,7 +51,11 @@ pub(crate) enum SecondHead {
 fn first_cut_in(line: &[u8]) -> Result<FirstHead, LineFault>
     ensures { Agrees (first_cut_in (tokens_of line.now)) result }
 {
-    if let Some(fault) = line_fault(&[Place::Word(Keyword::Cut), Place::Number, Place::Number], Tail::Nothing, line) {
+    if let Some(fault) = line_fault(
+        &[Place::Word(Keyword::Cut), Place::Number, Place::Number],
+        Tail::Nothing,
+        line,
+    ) {
         return Err(LineFault::Text(fault));
     }
     let pair = value_at(line, 1);
@@ -111,14 +115,22 @@ fn second_trim_in(alloc: Global, line: &[u8]) -> Result<SecondHead, LineFault>
 fn merge_or_cut_in(mode: Mode, line: &[u8]) -> Result<SecondHead, LineFault>
     ensures { Agrees (merge_or_cut_in mode (tokens_of line.now)) result }
 {
-    let forward = [Place::Word(Keyword::Merge), Place::Word(Keyword::Forward), Place::Number];
+    let forward = [
+        Place::Word(Keyword::Merge),
+        Place::Word(Keyword::Forward),
+        Place::Number,
+    ];
     if fits(&forward, line) {
         return match line_fault(&forward, Tail::Nothing, line) {
             Some(fault) => Err(LineFault::Text(fault)),
             None => Ok(SecondHead::Merge(Way::Forward(value_at(line, 2)))),
         };
     }
-    let backward = [Place::Word(Keyword::Merge), Place::Word(Keyword::Backward), Place::Number];
+    let backward = [
+        Place::Word(Keyword::Merge),
+        Place::Word(Keyword::Backward),
+        Place::Number,
+    ];
     if fits(&backward, line) {
         return match line_fault(&backward, Tail::Nothing, line) {
             Some(fault) => Err(LineFault::Text(fault)),
@@ -129,7 +141,11 @@ fn merge_or_cut_in(mode: Mode, line: &[u8]) -> Result<SecondHead, LineFault>
 }
 
 /// The head of a step of the second log.
-pub(crate) fn second_head_in(alloc: Global, mode: Mode, line: &[u8]) -> Result<SecondHead, LineFault>
+pub(crate) fn second_head_in(
+    alloc: Global,
+    mode: Mode,
+    line: &[u8],
+) -> Result<SecondHead, LineFault>
     ensures { Agrees (second_head_in mode (tokens_of line.now)) result }
 {
     if fits(&[Place::Word(Keyword::Trim)], line) {

@@ -14,25 +14,22 @@ mod lines;
 mod machine;
 mod origins;
 mod parts;
-
 mod printed_parts;
 mod printing;
-
 mod read;
 mod second_log;
 #[cfg(test)]
 mod tests;
 mod tokens;
 mod types;
-
 mod write;
 
-pub use types::{
-    Body, Cert, Element, FirstStep, GoneBy, Grounds, ListBody, Mark, RankBlock, RankRow, Ranked, RelBlock, Row, SecondStep,
-    StepLine, YesBody,
-};
 pub use checks::well_formed;
+pub use faults::{CertReadFault, TextFault, TextKind};
 pub use laws::one_text;
 pub use read::read_cert;
+pub use types::{
+    Body, Cert, Element, FirstStep, GoneBy, Grounds, ListBody, Mark, RankBlock, RankRow, Ranked,
+    RelBlock, Row, SecondStep, StepLine, YesBody,
+};
 pub use write::write_cert;
-pub use faults::{CertReadFault, TextFault, TextKind};

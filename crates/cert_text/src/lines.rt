@@ -5,14 +5,13 @@ ghost use Rattle.cert_text.specs.Tokens.{tokens_of};
 ghost use Rattle.cert_text.specs.Lines.{word_in, number_in, numbers_in, ascending_in, sizes_in, row_in, rank_row_in, gone_by_in, step_in, ranked_of, gone_by_of, heading_in, has_heading, is_heading, finite_heading_in};
 ghost use Rattle.cert_text.specs.Agrees.{Agrees};
 
-use crate::checks::ascend;
-use crate::checks::{gone_ascend, rights_ascend};
+use crate::checks::{ascend, gone_ascend, rights_ascend};
 use crate::faults::{LineFault, TextKind};
 use crate::forms::{Place, Tail, line_fault, value_at, values_from};
 use crate::keywords::Keyword;
 use crate::types::{Answer, GoneBy, RankRow, Ranked, Row, StepLine};
-use auto_core::{List, Memory, Mode};
 use crate::write::{answer_word, mode_word};
+use auto_core::{List, Memory, Mode};
 use std::alloc::Global;
 
 /// The sizes that a certificate names.
@@ -39,8 +38,12 @@ pub(crate) struct Heading {
 fn has_heading(mode: Keyword, answer: Keyword, line: &[u8]) -> bool
     ensures { result ≡ has_heading mode answer (tokens_of line.now) }
 {
-    let places =
-        [Place::Word(Keyword::RabitCert), Place::Word(Keyword::One), Place::Word(mode), Place::Word(answer)];
+    let places = [
+        Place::Word(Keyword::RabitCert),
+        Place::Word(Keyword::One),
+        Place::Word(mode),
+        Place::Word(answer),
+    ];
     match line_fault(&places, Tail::Nothing, line) {
         Some(_) => false,
         None => true,
@@ -60,13 +63,22 @@ fn finite_heading_in(line: &[u8]) -> Result<Heading, LineFault>
 {
     let mode = Mode::Finite;
     if is_heading(mode, Answer::Yes, line) {
-        return Ok(Heading { mode, answer: Answer::Yes });
+        return Ok(Heading {
+            mode,
+            answer: Answer::Yes,
+        });
     }
     if is_heading(mode, Answer::No, line) {
-        return Ok(Heading { mode, answer: Answer::No });
+        return Ok(Heading {
+            mode,
+            answer: Answer::No,
+        });
     }
     if is_heading(mode, Answer::List, line) {
-        return Ok(Heading { mode, answer: Answer::List });
+        return Ok(Heading {
+            mode,
+            answer: Answer::List,
+        });
     }
     Err(LineFault::Text(TextKind::Header))
 }
@@ -77,13 +89,22 @@ pub(crate) fn heading_in(line: &[u8]) -> Result<Heading, LineFault>
 {
     let mode = Mode::Buchi;
     if is_heading(mode, Answer::Yes, line) {
-        return Ok(Heading { mode, answer: Answer::Yes });
+        return Ok(Heading {
+            mode,
+            answer: Answer::Yes,
+        });
     }
     if is_heading(mode, Answer::No, line) {
-        return Ok(Heading { mode, answer: Answer::No });
+        return Ok(Heading {
+            mode,
+            answer: Answer::No,
+        });
     }
     if is_heading(mode, Answer::List, line) {
-        return Ok(Heading { mode, answer: Answer::List });
+        return Ok(Heading {
+            mode,
+            answer: Answer::List,
+        });
     }
     finite_heading_in(line)
 }
@@ -109,7 +130,12 @@ pub(crate) fn number_in(keyword: Keyword, line: &[u8]) -> Result<u32, LineFault>
 }
 
 /// A line of a word and numbers.
-pub(crate) fn numbers_in(alloc: Global, keyword: Keyword, tail: Tail, line: &[u8]) -> Result<List<u32>, LineFault>
+pub(crate) fn numbers_in(
+    alloc: Global,
+    keyword: Keyword,
+    tail: Tail,
+    line: &[u8],
+) -> Result<List<u32>, LineFault>
     ensures { Agrees (numbers_in keyword tail (tokens_of line.now)) result }
 {
     if let Some(fault) = line_fault(&[Place::Word(keyword)], tail, line) {
@@ -119,7 +145,12 @@ pub(crate) fn numbers_in(alloc: Global, keyword: Keyword, tail: Tail, line: &[u8
 }
 
 /// A line of a word and numbers that ascend.
-pub(crate) fn ascending_in(alloc: Global, keyword: Keyword, tail: Tail, line: &[u8]) -> Result<List<u32>, LineFault>
+pub(crate) fn ascending_in(
+    alloc: Global,
+    keyword: Keyword,
+    tail: Tail,
+    line: &[u8],
+) -> Result<List<u32>, LineFault>
     ensures { Agrees (ascending_in keyword tail (tokens_of line.now)) result }
 {
     if let Some(fault) = line_fault(&[Place::Word(keyword)], tail, line) {
@@ -136,7 +167,12 @@ pub(crate) fn ascending_in(alloc: Global, keyword: Keyword, tail: Tail, line: &[
 pub(crate) fn sizes_in(line: &[u8]) -> Result<Sizes, LineFault>
     ensures { Agrees (sizes_in (tokens_of line.now)) result }
 {
-    let places = [Place::Word(Keyword::Sizes), Place::Number, Place::Number, Place::Number];
+    let places = [
+        Place::Word(Keyword::Sizes),
+        Place::Number,
+        Place::Number,
+        Place::Number,
+    ];
     match line_fault(&places, Tail::Nothing, line) {
         Some(fault) => Err(LineFault::Text(fault)),
         None => Ok(Sizes {
@@ -151,7 +187,11 @@ pub(crate) fn sizes_in(line: &[u8]) -> Result<Sizes, LineFault>
 pub(crate) fn row_in(alloc: Global, bound: u64, line: &[u8]) -> Result<Row, LineFault>
     ensures { Agrees (row_in bound (tokens_of line.now)) result }
 {
-    if let Some(fault) = line_fault(&[Place::Word(Keyword::Row), Place::Number], Tail::SomeNumbers, line) {
+    if let Some(fault) = line_fault(
+        &[Place::Word(Keyword::Row), Place::Number],
+        Tail::SomeNumbers,
+        line,
+    ) {
         return Err(LineFault::Text(fault));
     }
     let left = value_at(line, 1);
@@ -182,7 +222,11 @@ fn ranked_of(alloc: Global, numbers: &[u32]) -> Result<List<Ranked>, Memory>
 pub(crate) fn rank_row_in(alloc: Global, bound: u64, line: &[u8]) -> Result<RankRow, LineFault>
     ensures { Agrees (rank_row_in bound (tokens_of line.now)) result }
 {
-    if let Some(fault) = line_fault(&[Place::Word(Keyword::Row), Place::Number], Tail::SomePairs, line) {
+    if let Some(fault) = line_fault(
+        &[Place::Word(Keyword::Row), Place::Number],
+        Tail::SomePairs,
+        line,
+    ) {
         return Err(LineFault::Text(fault));
     }
     let left = value_at(line, 1);
@@ -229,7 +273,11 @@ pub(crate) fn gone_by_in(alloc: Global, line: &[u8]) -> Result<List<GoneBy>, Lin
 pub(crate) fn step_in(alloc: Global, number: usize, line: &[u8]) -> Result<StepLine, LineFault>
     ensures { Agrees (step_in number (tokens_of line.now)) result }
 {
-    if let Some(fault) = line_fault(&[Place::Word(Keyword::Step), Place::Number], Tail::Numbers, line) {
+    if let Some(fault) = line_fault(
+        &[Place::Word(Keyword::Step), Place::Number],
+        Tail::Numbers,
+        line,
+    ) {
         return Err(LineFault::Text(fault));
     }
     let element = value_at(line, 1);

@@ -99,7 +99,12 @@ fn next_no(alloc: Global, opening: Opening, at: NoState, line: &[u8]) -> Result<
 
 /// The next line of the first log.
 #[tactic(auto, unfolding(crate::specs::Machine::with_first_log))]
-fn next_first(alloc: Global, opening: Opening, at: FirstLog, line: &[u8]) -> Result<State, LineFault>
+fn next_first(
+    alloc: Global,
+    opening: Opening,
+    at: FirstLog,
+    line: &[u8],
+) -> Result<State, LineFault>
     ensures { Agrees (map_said (with_first_log opening) (step_first_log at (tokens_of line.now))) result }
 {
     match step_first_log(alloc, at, line) {
@@ -115,7 +120,12 @@ fn evidence_due(opening: Opening, first: List<FirstStep>, second: List<SecondSte
     ensures { result ≡ evidence_due opening first second }
 {
     match opening.answer {
-        Answer::Yes | Answer::No => State::Yes(opening, first, second, YesState::Order(BlockState::Count)),
+        Answer::Yes | Answer::No => State::Yes(
+            opening,
+            first,
+            second,
+            YesState::Order(BlockState::Count),
+        ),
         Answer::List => State::List(opening, first, second, ListState::Limit),
     }
 }
@@ -212,7 +222,9 @@ pub(crate) fn next_state(alloc: Global, state: State, line: &[u8]) -> Result<Sta
         State::First(opening, at) => next_first(alloc, opening, at, line),
         State::Second(opening, first, at) => next_second(alloc, opening, first, at, line),
         State::Yes(opening, first, second, at) => next_yes(alloc, opening, first, second, at, line),
-        State::List(opening, first, second, at) => next_list(alloc, opening, first, second, at, line),
+        State::List(opening, first, second, at) => next_list(
+            alloc, opening, first, second, at, line,
+        ),
         State::End(cert) => match word_in(Keyword::End, line) {
             Ok(()) => Ok(State::Done(cert)),
             Err(fault) => Err(fault),

@@ -47,7 +47,12 @@ pub(crate) fn origin_in(mode: Mode, line: &[u8]) -> Result<Origin, LineFault>
 fn next_element_in(line: &[u8]) -> Result<Element, LineFault>
     ensures { Agrees (next_element_in (tokens_of line.now)) result }
 {
-    let live = [Place::Word(Keyword::Live), Place::Word(Keyword::Next), Place::Number, Place::Number];
+    let live = [
+        Place::Word(Keyword::Live),
+        Place::Word(Keyword::Next),
+        Place::Number,
+        Place::Number,
+    ];
     if fits(&live, line) {
         return match line_fault(&live, Tail::Nothing, line) {
             Some(fault) => Err(LineFault::Text(fault)),
@@ -57,8 +62,13 @@ fn next_element_in(line: &[u8]) -> Result<Element, LineFault>
             }),
         };
     }
-    let under =
-        [Place::Word(Keyword::Under), Place::Number, Place::Word(Keyword::Next), Place::Number, Place::Number];
+    let under = [
+        Place::Word(Keyword::Under),
+        Place::Number,
+        Place::Word(Keyword::Next),
+        Place::Number,
+        Place::Number,
+    ];
     match line_fault(&under, Tail::Nothing, line) {
         Some(fault) => Err(LineFault::Text(fault)),
         None => Ok(Element {
@@ -72,7 +82,11 @@ fn next_element_in(line: &[u8]) -> Result<Element, LineFault>
 fn base_element_in(line: &[u8]) -> Result<Element, LineFault>
     ensures { Agrees (base_element_in (tokens_of line.now)) result }
 {
-    let live = [Place::Word(Keyword::Live), Place::Word(Keyword::Base), Place::Number];
+    let live = [
+        Place::Word(Keyword::Live),
+        Place::Word(Keyword::Base),
+        Place::Number,
+    ];
     if fits(&live, line) {
         return match line_fault(&live, Tail::Nothing, line) {
             Some(fault) => Err(LineFault::Text(fault)),
@@ -82,7 +96,12 @@ fn base_element_in(line: &[u8]) -> Result<Element, LineFault>
             }),
         };
     }
-    let under = [Place::Word(Keyword::Under), Place::Number, Place::Word(Keyword::Base), Place::Number];
+    let under = [
+        Place::Word(Keyword::Under),
+        Place::Number,
+        Place::Word(Keyword::Base),
+        Place::Number,
+    ];
     if fits(&under, line) {
         return match line_fault(&under, Tail::Nothing, line) {
             Some(fault) => Err(LineFault::Text(fault)),
@@ -109,7 +128,11 @@ fn start_element_in(line: &[u8]) -> Result<Element, LineFault>
             }),
         };
     }
-    let under = [Place::Word(Keyword::Under), Place::Number, Place::Word(Keyword::Start)];
+    let under = [
+        Place::Word(Keyword::Under),
+        Place::Number,
+        Place::Word(Keyword::Start),
+    ];
     if fits(&under, line) {
         return match line_fault(&under, Tail::Nothing, line) {
             Some(fault) => Err(LineFault::Text(fault)),

@@ -3,12 +3,14 @@
 ghost use Rattle.std.specs.Prelude.{◌≡◌, ◌++◌, ◌∷◌, [], OnOk, decimal};
 ghost use Rattle.cert_text.specs.declared.keywords.Keyword.TheVariants as keyword;
 ghost use Rattle.cert_text.specs.declared.types.FirstStep.TheVariants as first;
-ghost use Rattle.cert_text.specs.Text.{spelled, text_of, line_text, block_lines, rank_block_lines, first_step_lines, second_step_lines, row_lines, rank_row_lines, step_lines, origin_line,   spaced, merge_lines, numbers, gone_numbers, classes_line, element_lines};
+ghost use Rattle.cert_text.specs.Text.{spelled, text_of, line_text, block_lines, rank_block_lines, first_step_lines, second_step_lines, row_lines, rank_row_lines, step_lines, origin_line, spaced, merge_lines, numbers, gone_numbers, classes_line, element_lines};
 ghost use Rattle.cert_text.specs.Printed.{joined, mark_text};
 
 use crate::keywords::Keyword;
 use crate::printing::{Print, print_all, print_count, print_keyword, print_line};
-use crate::types::{Element, FirstStep, GoneBy, Grounds, Mark, RankRow, Ranked, RelBlock, Row, SecondStep, StepLine};
+use crate::types::{
+    Element, FirstStep, GoneBy, Grounds, Mark, RankRow, Ranked, RelBlock, Row, SecondStep, StepLine,
+};
 use auto_core::{List, Memory, Origin};
 
 impl Print for GoneBy {
@@ -182,9 +184,12 @@ impl Print for FirstStep {
                 print_line(out, Keyword::Merge, &[], &[])?;
                 print_line(out, Keyword::Classes, &[], classes.as_slice())?;
             }
-            FirstStep::Cut { pair, look, gone, blocks } => {
-                print_first_cut(out, *pair, *look, gone.as_slice(), blocks.as_slice())?
-            }
+            FirstStep::Cut {
+                pair,
+                look,
+                gone,
+                blocks,
+            } => { print_first_cut(out, *pair, *look, gone.as_slice(), blocks.as_slice())? }
         }
         Ok(())
     }

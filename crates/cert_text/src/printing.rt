@@ -68,7 +68,12 @@ pub(crate) fn print_keyword(out: &mut List<u8>, keyword: Keyword) -> Result<(), 
 }
 
 /// Writes a line: a word and numbers.
-pub(crate) fn print_line(out: &mut List<u8>, keyword: Keyword, heads: &[u32], tail: &[u32]) -> Result<(), Memory>
+pub(crate) fn print_line(
+    out: &mut List<u8>,
+    keyword: Keyword,
+    heads: &[u32],
+    tail: &[u32],
+) -> Result<(), Memory>
     ensures { OnOk result (out.new ≡ out.old ++ line_text (spelled keyword ∷ numbers (heads.now ++ tail.now))) }
 {
     print_keyword(out, keyword)?;

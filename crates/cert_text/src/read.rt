@@ -5,7 +5,6 @@ ghost use Rattle.cert_text.specs.Tokens.{tokens_of};
 ghost use Rattle.cert_text.specs.Grammar.{lines_of, reading, told_at};
 ghost use Rattle.cert_text.specs.Told.{Told, located};
 ghost use Rattle.cert_text.specs.Machine.{done_cert, at_end};
-
 ghost use Rattle.cert_text.specs.Law.{FirstFault};
 ghost use Rattle.cert_text.specs.Text.{text};
 ghost use Rattle.cert_text.specs.WellFormed.{WellFormed};

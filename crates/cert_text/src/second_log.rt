@@ -180,12 +180,21 @@ fn step_second(
             Ok(head) => Ok(second_started(head)),
             Err(fault) => Err(fault),
         },
-        SecondState::Classes(by) => match numbers_in(alloc, Keyword::Classes, Tail::SomeNumbers, line) {
+        SecondState::Classes(by) => match numbers_in(
+            alloc,
+            Keyword::Classes,
+            Tail::SomeNumbers,
+            line,
+        ) {
             Ok(classes) => Ok(Step::More(rel_due(by, classes))),
             Err(fault) => Err(fault),
         },
-        SecondState::Forward { look, classes, at } => next_in_forward(alloc, look, classes, at, line),
-        SecondState::Backward { look, classes, at } => next_in_backward(alloc, look, classes, at, line),
+        SecondState::Forward { look, classes, at } => next_in_forward(
+            alloc, look, classes, at, line,
+        ),
+        SecondState::Backward { look, classes, at } => next_in_backward(
+            alloc, look, classes, at, line,
+        ),
         SecondState::Delayed { classes, at } => next_in_delayed(alloc, classes, at, line),
         SecondState::Gone => match ascending_in(alloc, Keyword::Gone, Tail::SomeNumbers, line) {
             Ok(gone) => Ok(Step::Whole(SecondStep::Cut { gone })),
@@ -247,6 +256,8 @@ pub(crate) fn step_second_log(
             Ok(count) => Ok(second_left(List::new(alloc), count)),
             Err(fault) => Err(fault),
         },
-        SecondLog::Steps { steps, later, at } => next_in_second(alloc, mode, steps, later, at, line),
+        SecondLog::Steps { steps, later, at } => next_in_second(
+            alloc, mode, steps, later, at, line,
+        ),
     }
 }

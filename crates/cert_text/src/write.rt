@@ -6,7 +6,9 @@ ghost use Rattle.cert_text.specs.Text.{spelled, text_of, line_text, text, first_
 
 use crate::keywords::Keyword;
 use crate::printing::{Print, print_all, print_count, print_keyword, print_line};
-use crate::types::{Answer, Body, Cert, Element, FirstStep, ListBody, SecondStep, StepLine, YesBody};
+use crate::types::{
+    Answer, Body, Cert, Element, FirstStep, ListBody, SecondStep, StepLine, YesBody,
+};
 use auto_core::{List, Memory, Mode, Origin};
 use std::alloc::Global;
 
@@ -29,7 +31,12 @@ fn print_second_log(out: &mut List<u8>, steps: &[SecondStep]) -> Result<(), Memo
 }
 
 /// Writes the elements of a yes, their cover and their extensions.
-fn print_elements(out: &mut List<u8>, elements: &[Element], cover: &[u32], steps: &[StepLine]) -> Result<(), Memory>
+fn print_elements(
+    out: &mut List<u8>,
+    elements: &[Element],
+    cover: &[u32],
+    steps: &[StepLine],
+) -> Result<(), Memory>
     ensures { OnOk result (out.new ≡ out.old ++ text_of (closed_lines elements.now cover.now steps.now)) }
 {
     print_count(out, Keyword::Elements, elements.len())?;
@@ -46,7 +53,12 @@ fn print_yes(out: &mut List<u8>, yes: &YesBody) -> Result<(), Memory>
     print_first_log(out, yes.first.as_slice())?;
     print_second_log(out, yes.second.as_slice())?;
     yes.order.print(out)?;
-    print_elements(out, yes.elements.as_slice(), yes.cover.as_slice(), yes.steps.as_slice())?;
+    print_elements(
+        out,
+        yes.elements.as_slice(),
+        yes.cover.as_slice(),
+        yes.steps.as_slice(),
+    )?;
     Ok(())
 }
 
@@ -146,7 +158,12 @@ fn print_cert(out: &mut List<u8>, cert: &Cert) -> Result<(), Memory>
     ensures { OnOk result (out.new ≡ out.old ++ text cert.now) }
 {
     print_first_line(out, cert.mode, answer_of(&cert.body))?;
-    print_line(out, Keyword::Sizes, &[cert.first_states, cert.second_states, cert.labels], &[])?;
+    print_line(
+        out,
+        Keyword::Sizes,
+        &[cert.first_states, cert.second_states, cert.labels],
+        &[],
+    )?;
     print_body(out, &cert.body)?;
     print_line(out, Keyword::End, &[], &[])?;
     Ok(())

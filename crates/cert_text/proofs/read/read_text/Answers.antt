@@ -17,10 +17,10 @@ returns-in-Err c =
     let left = c.in-Some.left.now in
     let cut : lines_of c.loop-text.rest.now ≡ t ∷ lines_of left = c.in-Some.ensures.cut in
     let same : resume s (t ∷ lines_of left) ≡ read_lines (lines_of bytes) =
-        ap (λ xs. resume s xs) (sym cut) ∙ c.loop-text.invariant.same in
+    ap (λ xs. resume s xs) (sym cut) ∙ c.loop-text.invariant.same in
     let one : length (lines_of c.loop-text.rest.now) ≡ suc (length (lines_of left)) = ap (λ xs. length xs) cut in
     let number : c.loop-text.line + suc (length (lines_of left)) ≡ length (lines_of bytes) + 1 =
-        ap (λ n. c.loop-text.line + n) (sym one) ∙ c.loop-text.invariant.number in
+    ap (λ n. c.loop-text.line + n) (sym one) ∙ c.loop-text.invariant.number in
     let P : CertReadFault → Type 0 = λ r. Told (reading bytes) (Err r) in
     record { reading = subst P (sym c.located.ensures) (stops bytes s t left c.loop-text.line c.in-Err.fault same number c.in-Err.ensures) }
 
@@ -32,7 +32,7 @@ loop-text-preserved c =
     let left = c.in-Some.left.now in
     let cut : lines_of c.loop-text.rest.now ≡ t ∷ lines_of left = c.in-Some.ensures.cut in
     let same : resume s (t ∷ lines_of left) ≡ read_lines (lines_of bytes) =
-        ap (λ xs. resume s xs) (sym cut) ∙ c.loop-text.invariant.same in
+    ap (λ xs. resume s xs) (sym cut) ∙ c.loop-text.invariant.same in
     let one : length (lines_of c.loop-text.rest.now) ≡ suc (length (lines_of left)) = ap (λ xs. length xs) cut in
     let shorter = c.in-Some.ensures.shorter in
     record {
@@ -47,7 +47,7 @@ returns c =
     let P : Result Cert TextFault → Type 0 = λ o. Told o c.at_end.result in
     record {
       reading = subst P
-        (sym (is_over bytes c.loop-text.state c.loop-text.rest.now c.loop-text.line c.in_default.ensures.cut
-        c.loop-text.invariant.same c.loop-text.invariant.number))
-        c.at_end.ensures;
+          (sym (is_over bytes c.loop-text.state c.loop-text.rest.now c.loop-text.line c.in_default.ensures.cut
+          c.loop-text.invariant.same c.loop-text.invariant.number))
+          c.at_end.ensures;
     }
