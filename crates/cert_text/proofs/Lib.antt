@@ -6,3 +6,13 @@ pub mod PairLemmas
 pub mod Resume
 pub mod ResumeState
 pub mod ReadLemmas
+pub mod NumberFacts
+pub mod FormFacts
+pub mod LineFacts
+pub mod HeadFacts
+pub mod OriginFacts
+pub mod Forward
+pub mod Backward
+pub mod BytesLines
+pub mod PlainCert
+pub mod Theorem

@@ -8,3 +8,4 @@ pub mod Agrees
 pub mod Grammar
 pub mod Machine
 pub mod Told
+pub mod Law

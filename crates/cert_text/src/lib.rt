@@ -9,6 +9,7 @@ mod first_log;
 mod forms;
 mod heads;
 mod keywords;
+mod laws;
 mod lines;
 mod machine;
 mod origins;
@@ -17,12 +18,15 @@ mod printed_parts;
 mod printing;
 mod read;
 mod second_log;
+#[cfg(test)]
+mod tests;
 mod tokens;
 mod types;
 mod write;
 
 pub use checks::well_formed;
 pub use faults::{CertReadFault, TextFault, TextKind};
+pub use laws::one_text;
 pub use read::read_cert;
 pub use types::{
     Body, Cert, Element, FirstStep, GoneBy, Grounds, ListBody, Mark, RankBlock, RankRow, Ranked,

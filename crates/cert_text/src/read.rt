@@ -1,10 +1,16 @@
 //! The reader of certificates.
 
-ghost use Rattle.std.specs.Prelude.{◌≡◌, ◌==◌, ◌≤◌, ◌^◌, ◌∷◌, [], ℕ, length, position, ◌<◌, MatchOption, IfSome};
+ghost use Rattle.std.specs.Prelude.{◌≡◌, ◌==◌, ◌≤◌, ◌^◌, ◌∷◌, [], ℕ, length, position, ◌<◌, ◌⊎◌, Ok, Err, MatchOption, IfSome, IfOk};
 ghost use Rattle.cert_text.specs.Tokens.{tokens_of};
 ghost use Rattle.cert_text.specs.Grammar.{lines_of, reading, told_at};
 ghost use Rattle.cert_text.specs.Told.{Told, located};
 ghost use Rattle.cert_text.specs.Machine.{done_cert, at_end};
+ghost use Rattle.cert_text.specs.Law.{FirstFault};
+ghost use Rattle.cert_text.specs.Text.{text};
+ghost use Rattle.cert_text.specs.WellFormed.{WellFormed};
+ghost use Rattle.cert_text.specs.declared.types.Cert.{Cert};
+ghost use Rattle.cert_text.specs.declared.faults.TextFault.{TextFault};
+ghost use Rattle.cert_text.specs.declared.faults.CertReadFault.TheVariants as fault;
 
 use crate::faults::{CertReadFault, LineFault, TextFault, TextKind};
 use crate::machine::{State, next_state};
@@ -73,8 +79,8 @@ fn at_end(state: State, rest: &[u8], line: u32) -> Result<Cert, CertReadFault>
     }
 }
 
-/// Reads a certificate's text, of at most 1 GiB.
-pub fn read_cert(alloc: Global, bytes: &[u8]) -> Result<Cert, CertReadFault>
+/// What the bytes are, read line by line.
+fn read_text(alloc: Global, bytes: &[u8]) -> Result<Cert, CertReadFault>
     requires { length bytes.now ≤ 2 ^ 30 }
     ensures reading { Told (reading bytes.now) result }
 {
@@ -90,4 +96,20 @@ pub fn read_cert(alloc: Global, bytes: &[u8]) -> Result<Cert, CertReadFault>
         line += 1;
     }
     at_end(state, rest, line)
+}
+
+/// Reads a certificate's text, of at most 1 GiB. It takes no memory for lines that have not come.
+pub fn read_cert(alloc: Global, bytes: &[u8]) -> Result<Cert, CertReadFault>
+    requires { length bytes.now ≤ 2 ^ 30 }
+    ensures found { IfOk result (λ c. WellFormed c × (bytes.now ≡ text c)) }
+    ensures only { (c : Cert)
+        → WellFormed c
+        → bytes.now ≡ text c
+        → (result ≡ Ok c) ⊎ (result ≡ Err fault.Memory) }
+    ensures fault { (f : TextFault) → result ≡ Err (fault.Text f) → FirstFault bytes.now f }
+    ensures first { (f : TextFault)
+        → FirstFault bytes.now f
+        → (result ≡ Err (fault.Text f)) ⊎ (result ≡ Err fault.Memory) }
+{
+    read_text(alloc, bytes)
 }

@@ -1,7 +1,7 @@
 use Rattle.std.proofs.Common.{◌≡◌, ◌+◌, ◌≤◌, length}
 use Rattle.cert_text.specs.Grammar.{lines_of, read_lines}
 use Rattle.cert_text.proofs.ResumeState.{resume}
-use Rattle.cert_text.proofs.read.read_cert.Given as goal
+use Rattle.cert_text.proofs.read.read_text.Given as goal
 
 abbrev pub invariant-loop-text : goal.invariant-loop-text
 invariant-loop-text l = record {

@@ -1,0 +1,149 @@
+use Rattle.std.proofs.Common.{◌≡◌, ℕ, List, [], ◌∷◌, ◌++◌, length, map, decimal, Bool, true, ◌&&◌, refl}
+use Rattle.std.specs.List.{list_all}
+use Rattle.std.proofs.lemmas.Bool.{and_from}
+use Rattle.auto_core.specs.declared.parts.Mode.{Mode}
+use Rattle.auto_core.specs.declared.parts.Mode.TheVariants as mode
+use Rattle.auto_core.specs.declared.parts.Origin.{Origin}
+use Rattle.auto_core.specs.declared.parts.Origin.TheVariants as origin
+use Rattle.auto_core.specs.declared.parts.Lasso.{Lasso}
+use Rattle.cert_text.specs.declared.keywords.Keyword.{Keyword}
+use Rattle.cert_text.specs.declared.keywords.Keyword.TheVariants as keyword
+use Rattle.cert_text.specs.declared.types.Answer.{Answer}
+use Rattle.cert_text.specs.declared.types.Answer.TheVariants as answer
+use Rattle.cert_text.specs.declared.types.Cert.{Cert}
+use Rattle.cert_text.specs.declared.types.Body.{Body}
+use Rattle.cert_text.specs.declared.types.Body.TheVariants as body
+use Rattle.cert_text.specs.declared.types.YesBody.{YesBody}
+use Rattle.cert_text.specs.declared.types.ListBody.{ListBody}
+use Rattle.cert_text.specs.declared.types.FirstStep.{FirstStep}
+use Rattle.cert_text.specs.declared.types.FirstStep.TheVariants as first
+use Rattle.cert_text.specs.declared.types.SecondStep.{SecondStep}
+use Rattle.cert_text.specs.declared.types.SecondStep.TheVariants as second
+use Rattle.cert_text.specs.declared.types.Grounds.{Grounds}
+use Rattle.cert_text.specs.declared.types.Grounds.TheVariants as grounds
+use Rattle.cert_text.specs.declared.types.GoneBy.{GoneBy}
+use Rattle.cert_text.specs.declared.types.RelBlock.{RelBlock}
+use Rattle.cert_text.specs.declared.types.Row.{Row}
+use Rattle.cert_text.specs.declared.types.RankBlock.{RankBlock}
+use Rattle.cert_text.specs.declared.types.RankRow.{RankRow}
+use Rattle.cert_text.specs.declared.types.Ranked.{Ranked}
+use Rattle.cert_text.specs.declared.types.Element.{Element}
+use Rattle.cert_text.specs.declared.types.Mark.{Mark}
+use Rattle.cert_text.specs.declared.types.Mark.TheVariants as mark
+use Rattle.cert_text.specs.declared.types.StepLine.{StepLine}
+use Rattle.cert_text.specs.Text.{Line, spelled, numbers, each, row_lines, block_lines, ranked_numbers, rank_row_lines, rank_block_lines, gone_numbers, classes_line, first_step_lines, merge_lines, second_step_lines, origin_line, mark_tokens, element_lines, origin_lines, step_lines, first_lines, second_lines, elements_line, closed_lines, yes_lines, limit_lines, list_lines, body_lines, mode_word, answer_word, answer_of, first_line, sizes_line, end_line, cert_lines}
+use Rattle.cert_text.proofs.BytesLines.{plain, PlainLine, PlainLines, spelled_plain, decimal_plain, numbers_plain}
+
+-- A line of a word and plain tokens.
+word_line : (w : Keyword) (rest : Line) → list_all plain rest ≡ true → PlainLine (spelled w ∷ rest)
+word_line w rest e = and_from (plain (spelled w)) (list_all plain rest) (spelled_plain w) e
+
+-- a number before plain tokens
+number_then : (n : ℕ) (rest : Line) → list_all plain rest ≡ true → list_all plain (decimal n ∷ rest) ≡ true
+number_then n rest e = and_from (plain (decimal n)) (list_all plain rest) (decimal_plain n) e
+
+one_number : (w : Keyword) (n : ℕ) → PlainLine (spelled w ∷ decimal n ∷ [])
+one_number w n = word_line w (decimal n ∷ []) (number_then n [] refl)
+
+plain_append : (ls ms : List Line) → PlainLines ls → PlainLines ms → PlainLines (ls ++ ms)
+plain_append [] ms p q = q
+plain_append (l ∷ ls) ms p q = (p.0, plain_append ls ms p.1 q)
+
+plain_each : {A : Type 0} (f : A → List Line) → ((x : A) → PlainLines (f x)) → (xs : List A) → PlainLines (each f xs)
+plain_each f p [] = tt
+plain_each f p (x ∷ xs) = plain_append (f x) (each f xs) (p x) (plain_each f p xs)
+
+plain_row : (row : Row) → PlainLines (row_lines row)
+plain_row row = (word_line keyword.Row (decimal row.left ∷ numbers row.rights) (number_then row.left (numbers row.rights) (numbers_plain row.rights)), tt)
+
+plain_block : (b : RelBlock) → PlainLines (block_lines b)
+plain_block b = (one_number keyword.Rel (length b.rows), plain_each row_lines plain_row b.rows)
+
+plain_rank_row : (row : RankRow) → PlainLines (rank_row_lines row)
+plain_rank_row row =
+    let ns = ranked_numbers row.rights in
+    (word_line keyword.Row (decimal row.left ∷ numbers ns) (number_then row.left (numbers ns) (numbers_plain ns)), tt)
+
+plain_rank_block : (b : RankBlock) → PlainLines (rank_block_lines b)
+plain_rank_block b = (one_number keyword.Rel (length b.rows), plain_each rank_row_lines plain_rank_row b.rows)
+
+plain_numbers : (w : Keyword) (ns : List ℕ) → PlainLine (spelled w ∷ numbers ns)
+plain_numbers w ns = word_line w (numbers ns) (numbers_plain ns)
+
+plain_first : (s : FirstStep) → PlainLines (first_step_lines s)
+plain_first (first.Trim kept) = (plain_numbers keyword.Trim kept, tt)
+plain_first (first.Merge classes) = (word_line keyword.Merge [] refl, (plain_numbers keyword.Classes classes, tt))
+plain_first (first.Cut pair look gone blocks) = (
+  word_line keyword.Cut (decimal pair ∷ decimal look ∷ []) (number_then pair (decimal look ∷ []) (number_then look [] refl)),
+  (plain_numbers keyword.Gone (gone_numbers gone), plain_each block_lines plain_block blocks),
+)
+
+two_words : (w v : Keyword) (rest : Line) → list_all plain rest ≡ true → PlainLine (spelled w ∷ spelled v ∷ rest)
+two_words w v rest e = word_line w (spelled v ∷ rest) (and_from (plain (spelled v)) (list_all plain rest) (spelled_plain v) e)
+
+plain_merge : (by : Grounds) (classes : List ℕ) → PlainLines (merge_lines by classes)
+plain_merge (grounds.Forward look rel) classes =
+    (two_words keyword.Merge keyword.Forward (decimal look ∷ []) (number_then look [] refl), (plain_numbers keyword.Classes classes, plain_block rel))
+plain_merge (grounds.Backward look rel) classes =
+    (two_words keyword.Merge keyword.Backward (decimal look ∷ []) (number_then look [] refl), (plain_numbers keyword.Classes classes, plain_block rel))
+plain_merge (grounds.Delayed ranks) classes =
+    (two_words keyword.Merge keyword.Delayed [] refl, (plain_numbers keyword.Classes classes, plain_rank_block ranks))
+
+plain_second : (s : SecondStep) → PlainLines (second_step_lines s)
+plain_second (second.Trim kept) = (plain_numbers keyword.Trim kept, tt)
+plain_second (second.Merge by classes) = plain_merge by classes
+plain_second (second.Cut gone) = (word_line keyword.Cut [] refl, (plain_numbers keyword.Gone gone, tt))
+
+plain_origin : (from : Origin) → list_all plain (origin_line from) ≡ true
+plain_origin (origin.Start) = word_line keyword.Start [] refl
+plain_origin (origin.Base t) = one_number keyword.Base t
+plain_origin (origin.Next p t) = word_line keyword.Next (decimal p ∷ decimal t ∷ []) (number_then p (decimal t ∷ []) (number_then t [] refl))
+
+origin_is : (from : Origin) → PlainLine (origin_line from)
+origin_is (origin.Start) = plain_origin origin.Start
+origin_is (origin.Base t) = plain_origin (origin.Base t)
+origin_is (origin.Next p t) = plain_origin (origin.Next p t)
+
+plain_element : (mk : Mark) (from : Origin) → PlainLine (mark_tokens mk ++ origin_line from)
+plain_element (mark.Live) from = word_line keyword.Live (origin_line from) (plain_origin from)
+plain_element (mark.Under j) from = word_line keyword.Under (decimal j ∷ origin_line from) (number_then j (origin_line from) (plain_origin from))
+
+plain_step : (s : StepLine) → PlainLines (step_lines s)
+plain_step s = (word_line keyword.Step (decimal s.element ∷ numbers s.by) (number_then s.element (numbers s.by) (numbers_plain s.by)), tt)
+
+plain_logs : (fs : List FirstStep) (ss : List SecondStep) (after : List Line) → PlainLines after
+    → PlainLines (first_lines fs ++ (second_lines ss ++ after))
+plain_logs fs ss after h =
+    plain_append (first_lines fs) (second_lines ss ++ after) (one_number keyword.Log1 (length fs), plain_each first_step_lines plain_first fs)
+    (plain_append (second_lines ss) after (one_number keyword.Log2 (length ss), plain_each second_step_lines plain_second ss) h)
+
+plain_body : (b : Body) → PlainLines (body_lines b)
+plain_body (body.Yes y) =
+    plain_logs y.first y.second (block_lines y.order ++ closed_lines y.elements y.cover y.steps)
+    (plain_append (block_lines y.order) (closed_lines y.elements y.cover y.steps) (plain_block y.order) (
+      one_number keyword.Elements (length y.elements),
+      plain_append (each element_lines y.elements) ((spelled keyword.Cover ∷ numbers y.cover) ∷ each step_lines y.steps)
+          (plain_each element_lines (λ e. (plain_element e.mark e.origin, tt)) y.elements)
+          (plain_numbers keyword.Cover y.cover, plain_each step_lines plain_step y.steps),
+    ))
+plain_body (body.NoLasso lasso) = (plain_numbers keyword.Prefix lasso.prefix, (plain_numbers keyword.Loop lasso.turn, tt))
+plain_body (body.NoWord word) = (plain_numbers keyword.Word word, tt)
+plain_body (body.Listing list) =
+    plain_logs list.first list.second (limit_lines list.limit list.elements) (
+      one_number keyword.Limit list.limit,
+      (one_number keyword.Elements (length list.elements), plain_each origin_lines (λ from. (origin_is from, tt)) list.elements),
+    )
+
+-- all lines of a certificate are plain
+pub plain_cert : (c : Cert) → PlainLines (cert_lines c)
+plain_cert c = (
+  two_words keyword.RabitCert keyword.One (spelled (mode_word c.mode) ∷ spelled (answer_word (answer_of c.body)) ∷ [])
+      (and_from (plain (spelled (mode_word c.mode))) _ (spelled_plain (mode_word c.mode))
+      (and_from (plain (spelled (answer_word (answer_of c.body)))) true (spelled_plain (answer_word (answer_of c.body))) refl)),
+  (
+    word_line keyword.Sizes (decimal c.first_states ∷ decimal c.second_states ∷ decimal c.labels ∷ [])
+        (number_then c.first_states (decimal c.second_states ∷ decimal c.labels ∷ [])
+        (number_then c.second_states (decimal c.labels ∷ []) (number_then c.labels [] refl))),
+    plain_append (body_lines c.body) (end_line ∷ []) (plain_body c.body) (word_line keyword.End [] refl, tt),
+  ),
+)

@@ -1,0 +1,244 @@
+//! Whole files, damaged files and the edges of lines.
+
+ghost use Rattle.std.specs.Prelude.{◌≡◌, ◌≤◌, ◌^◌, length};
+
+use crate::{CertReadFault, TextKind, read_cert, well_formed, write_cert};
+use std::alloc::Global;
+
+/// What the reader says of a text, with its line.
+#[derive(Clone, Copy, Debug, PartialEq, Eq)]
+enum Answer {
+    /// A certificate that is written as it was read.
+    Same,
+    /// A certificate that is written in another way.
+    Other,
+    /// A fault of the text.
+    Fault(u32, TextKind),
+    /// Want of memory.
+    Memory,
+}
+
+fn read_back(alloc: Global, text: &[u8]) -> Answer {
+    if text.len() > 1_073_741_824 {
+        return Answer::Memory;
+    }
+    match read_cert(alloc, text) {
+        Ok(cert) => match write_cert(alloc, &cert) {
+            Ok(written) => {
+                if written.as_slice() == text && well_formed(&cert) {
+                    Answer::Same
+                } else {
+                    Answer::Other
+                }
+            }
+            Err(_) => Answer::Memory,
+        },
+        Err(CertReadFault::Text(fault)) => Answer::Fault(fault.line, fault.kind),
+        Err(CertReadFault::Memory) => Answer::Memory,
+    }
+}
+
+#[test]
+fn reads_whole_files(rt: HostRuntime) {
+    let alloc = rt.alloc();
+    let one =
+        b"rabit-cert 1 buchi yes\nsizes 1 1 1\nlog1 0\nlog2 0\nrel 1\nrow 0 0\nelements 1\nlive base 0\ncover 0\nstep 0 0\nend\n";
+    assert_eq!(rt; read_back(alloc, one), Answer::Same);
+    let ring =
+        b"rabit-cert 1 buchi yes\nsizes 2 2 2\nlog1 0\nlog2 0\nrel 2\nrow 0 0\nrow 1 1\nelements 4\nlive base 0\nlive base 1\nlive next 0 1\nlive next 1 0\ncover 0 1\nstep 0 2\nstep 1 3\nstep 2 0\nstep 3 1\nend\n";
+    assert_eq!(rt; read_back(alloc, ring), Answer::Same);
+    let merged =
+        b"rabit-cert 1 buchi yes\nsizes 1 2 1\nlog1 0\nlog2 1\nmerge delayed\nclasses 0 0\nrel 2\nrow 0 0 1 1 2\nrow 1 0 1 1 2\nrel 1\nrow 0 0\nelements 1\nlive base 0\ncover 0\nstep 0 0\nend\n";
+    assert_eq!(rt; read_back(alloc, merged), Answer::Same);
+    let cut =
+        b"rabit-cert 1 buchi yes\nsizes 3 2 3\nlog1 3\ncut 1 3\ngone 0 1\nrel 3\nrow 0 0\nrow 1 1 2\nrow 2 2\ncut 3 3\ngone 1 2\nrel 3\nrow 0 0\nrow 1 1 2\nrow 2 2\nrel 3\nrow 0 0\nrow 1 1 2\nrow 2 2\ntrim 0 2\nlog2 0\nrel 2\nrow 0 0\nrow 1 1\nelements 2\nlive base 0\nlive base 1\ncover 0 1 1\nstep 0 0 0\nstep 1 1 1\nend\n";
+    assert_eq!(rt; read_back(alloc, cut), Answer::Same);
+}
+
+#[test]
+fn reads_other_forms(rt: HostRuntime) {
+    let alloc = rt.alloc();
+    assert_eq!(rt;
+        read_back(
+            alloc,
+            b"rabit-cert 1 finite yes\nsizes 2 1 1\nlog1 0\nlog2 0\nrel 1\nrow 0 0\nelements 2\nlive start\nlive next 0 0\ncover 0\nstep 0 1\nstep 1 0\nend\n"
+        ),
+        Answer::Same
+    );
+    assert_eq!(rt;
+        read_back(alloc, b"rabit-cert 1 finite no\nsizes 1 2 0\nword\nend\n"),
+        Answer::Same
+    );
+    assert_eq!(rt;
+        read_back(
+            alloc,
+            b"rabit-cert 1 buchi no\nsizes 3 1 2\nprefix\nloop 0\nend\n"
+        ),
+        Answer::Same
+    );
+    assert_eq!(rt;
+        read_back(
+            alloc,
+            b"rabit-cert 1 buchi list\nsizes 2 2 2\nlog1 0\nlog2 0\nlimit 1\nelements 2\nbase 0\nbase 1\nend\n"
+        ),
+        Answer::Same
+    );
+    assert_eq!(rt;
+        read_back(
+            alloc,
+            b"rabit-cert 1 finite list\nsizes 2 2 2\nlog1 0\nlog2 3\nmerge forward 2\nclasses 0 1\nrel 1\nrow 0 1 2\ncut\ngone 1 4\nmerge backward 1\nclasses 0\nrel 0\nlimit 1\nelements 2\nstart\nnext 0 1\nend\n"
+        ),
+        Answer::Same
+    );
+    assert_eq!(rt;
+        read_back(
+            alloc,
+            b"rabit-cert 1 buchi yes\nsizes 2 1 2\nlog1 1\ntrim\nlog2 0\nrel 1\nrow 0 0\nelements 0\ncover\nend\n"
+        ),
+        Answer::Same
+    );
+    assert_eq!(rt;
+        read_back(
+            alloc,
+            b"rabit-cert 1 buchi yes\nsizes 2 1 2\nlog1 1\nmerge\nclasses 0 0\nlog2 0\nrel 0\nelements 2\nlive base 0\nunder 0 base 1\ncover 0\nstep 0 999999999\nend\n"
+        ),
+        Answer::Same
+    );
+}
+
+#[test]
+fn names_the_first_fault(rt: HostRuntime) {
+    let alloc = rt.alloc();
+    assert_eq!(rt;
+        read_back(alloc, b""),
+        Answer::Fault(1, TextKind::Truncated)
+    );
+    assert_eq!(rt;
+        read_back(alloc, b"rabit-cert 3 buchi yes\nsizes"),
+        Answer::Fault(1, TextKind::Header)
+    );
+    assert_eq!(rt;
+        read_back(alloc, b"rabit-cert 1 buchi yes"),
+        Answer::Fault(1, TextKind::Truncated)
+    );
+    assert_eq!(rt;
+        read_back(alloc, b"rabit-cert 1 buchi  yes\n"),
+        Answer::Fault(1, TextKind::Header)
+    );
+    assert_eq!(rt;
+        read_back(alloc, b"rabit-cert 1 buchi yes\nsizes 02 2 2\n"),
+        Answer::Fault(2, TextKind::Number)
+    );
+    assert_eq!(rt;
+        read_back(alloc, b"rabit-cert 1 buchi yes\nsizes 2 2\n"),
+        Answer::Fault(2, TextKind::Shape)
+    );
+    assert_eq!(rt;
+        read_back(alloc, b"rabit-cert 1 buchi yes\nsizes 2  2 2\n"),
+        Answer::Fault(2, TextKind::Shape)
+    );
+    assert_eq!(rt;
+        read_back(alloc, b"rabit-cert 1 buchi yes\nsizes 2 2 1000000000\n"),
+        Answer::Fault(2, TextKind::Number)
+    );
+    assert_eq!(rt;
+        read_back(
+            alloc,
+            b"rabit-cert 1 buchi yes\nsizes 2 2 2\nlog1 999999999\n"
+        ),
+        Answer::Fault(4, TextKind::Truncated)
+    );
+    assert_eq!(rt;
+        read_back(
+            alloc,
+            b"rabit-cert 1 buchi yes\nsizes 2 2 2\nlog1 1\ncut 5 3\n"
+        ),
+        Answer::Fault(4, TextKind::Shape)
+    );
+    assert_eq!(rt;
+        read_back(
+            alloc,
+            b"rabit-cert 1 buchi yes\nsizes 2 2 2\nlog1 1\ncut x 3\n"
+        ),
+        Answer::Fault(4, TextKind::Number)
+    );
+    assert_eq!(rt;
+        read_back(
+            alloc,
+            b"rabit-cert 1 buchi yes\nsizes 2 2 2\nlog1 1\nmerge 5\n"
+        ),
+        Answer::Fault(4, TextKind::Shape)
+    );
+    assert_eq!(rt;
+        read_back(
+            alloc,
+            b"rabit-cert 1 buchi yes\nsizes 2 2 2\nlog1 1\ntrim 2 2\n"
+        ),
+        Answer::Fault(4, TextKind::Order)
+    );
+    assert_eq!(rt;
+        read_back(
+            alloc,
+            b"rabit-cert 1 finite yes\nsizes 2 2 2\nlog1 0\nlog2 1\nmerge delayed\n"
+        ),
+        Answer::Fault(5, TextKind::Shape)
+    );
+    assert_eq!(rt;
+        read_back(
+            alloc,
+            b"rabit-cert 1 buchi yes\nsizes 2 2 2\nlog1 0\nlog2 0\nrel 0\nelements 4 x\n"
+        ),
+        Answer::Fault(6, TextKind::Shape)
+    );
+    assert_eq!(rt;
+        read_back(
+            alloc,
+            b"rabit-cert 1 buchi yes\nsizes 2 2 2\nlog1 0\nlog2 0\nrel 0\nelements x 4\n"
+        ),
+        Answer::Fault(6, TextKind::Number)
+    );
+    assert_eq!(rt;
+        read_back(
+            alloc,
+            b"rabit-cert 1 buchi yes\nsizes 2 2 2\nlog1 0\nlog2 0\nrel 0\nelements 1\nunder x\n"
+        ),
+        Answer::Fault(7, TextKind::Number)
+    );
+    assert_eq!(rt;
+        read_back(
+            alloc,
+            b"rabit-cert 1 buchi yes\nsizes 2 2 2\nlog1 0\nlog2 0\nrel 0\nelements 1\nunder base 1\n"
+        ),
+        Answer::Fault(7, TextKind::Shape)
+    );
+    assert_eq!(rt;
+        read_back(
+            alloc,
+            b"rabit-cert 1 buchi yes\nsizes 2 2 2\nlog1 0\nlog2 0\nrel 0\nelements 1\nunder 0 base 1\ncover\nstep 0\n"
+        ),
+        Answer::Fault(9, TextKind::Shape)
+    );
+    assert_eq!(rt;
+        read_back(
+            alloc,
+            b"rabit-cert 1 buchi yes\nsizes 2 2 2\nlog1 0\nlog2 0\nrel 0\nelements 1\nlive base 1\ncover\nstep 1\n"
+        ),
+        Answer::Fault(9, TextKind::Order)
+    );
+    assert_eq!(rt;
+        read_back(alloc, b"rabit-cert 1 finite no\nsizes 1 2 0\nword\nend x\n"),
+        Answer::Fault(4, TextKind::Shape)
+    );
+    assert_eq!(rt;
+        read_back(alloc, b"rabit-cert 1 finite no\nsizes 1 2 0\nword\nend"),
+        Answer::Fault(4, TextKind::Truncated)
+    );
+    assert_eq!(rt;
+        read_back(alloc, b"rabit-cert 1 finite no\nsizes 1 2 0\nword\nend\n\n"),
+        Answer::Fault(5, TextKind::Trailing)
+    );
+    assert_eq!(rt;
+        read_back(alloc, b"rabit-cert 1 finite no\nsizes 1 2 0\nword\nend\nx"),
+        Answer::Fault(5, TextKind::Trailing)
+    );
+}
