@@ -1,0 +1,5 @@
+pub mod NextLemmas
+pub mod AddedLemmas
+pub mod RowsLemmas
+pub mod ExtensionLemmas
+pub mod SameLemmas
