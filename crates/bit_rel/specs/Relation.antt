@@ -1,0 +1,32 @@
+-- Relations on states as lists of pairs.
+use Rattle.std.specs.Prelude.{◌≡◌, ℕ, ◌<◌, ◌⊎◌, ◌↔◌, List, [], ◌∷◌, Contains}
+use Rattle.auto_core.specs.Game.{Holds, ArePairsBelow}
+
+-- A relation on the states below `size`: the list of its pairs.
+pub record Relation : Type 0 where
+  pub size : ℕ
+  pub pairs : List (ℕ × ℕ)
+
+-- x stands before y: by left state, then by right one.
+abbrev pub IsBefore : ℕ × ℕ → ℕ × ℕ → Type 0
+IsBefore x y = (x.0 < y.0) ⊎ ((x.0 ≡ y.0) × (x.1 < y.1))
+
+-- Each pair stands before all later ones.
+abbrev pub ArePairsAscending : List (ℕ × ℕ) → Type 0
+ArePairsAscending [] = Unit {0}
+ArePairsAscending (x ∷ xs) = ((y : ℕ × ℕ) → Contains xs y → IsBefore x y) × ArePairsAscending xs
+
+-- A valid relation: both states of each pair are below `size`, and the pairs ascend.
+pub record IsRelation (R : Relation) : Type 0 where
+  pub in_range : ArePairsBelow R.size R.size R.pairs
+  pub in_order : ArePairsAscending R.pairs
+
+-- The new relation is on the same states and holds the pairs of the old one and this pair.
+pub record Adds (old new : Relation) (p q : ℕ) : Type 0 where
+  pub size : new.size ≡ old.size
+  pub pairs : (r s : ℕ) → Holds new.pairs r s ↔ (Holds old.pairs r s ⊎ ((r ≡ p) × (s ≡ q)))
+
+-- The new relation is on the same states and holds the pairs of the old one but for this pair.
+pub record Removes (old new : Relation) (p q : ℕ) : Type 0 where
+  pub size : new.size ≡ old.size
+  pub pairs : (r s : ℕ) → Holds new.pairs r s ↔ (Holds old.pairs r s × ¬ ((r ≡ p) × (s ≡ q)))
