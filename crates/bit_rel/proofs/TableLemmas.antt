@@ -1,12 +1,14 @@
 -- Relations that tables of bits stand for.
-use Rattle.std.proofs.Common.{◌≡◌, ℕ, ◌+◌, ◌*◌, ◌/◌, ◌%◌, ◌<◌, ◌≤◌, ◌⊎◌, inl, inr, true, false, List, [], ap, get_or, replicate, refl, sym, ◌∙◌, subst, arith}
+use Rattle.std.proofs.Common.{◌≡◌, ℕ, ◌+◌, ◌*◌, ◌/◌, ◌%◌, ◌<◌, ◌≤◌, ◌⊎◌, ◌↔◌, inl, inr, true, false, List, [], ap, get_or, replicate, refl, sym, ◌∙◌, subst, arith}
 use Rattle.std.proofs.lemmas.Bool.{cases_eq, cases_lt, false≢true}
 use Rattle.std.proofs.lemmas.List.{get_or-replicate, get_or_past, length-replicate}
 use Rattle.std.proofs.lemmas.Nat.Bits.{bit_at-zero}
-use Rattle.auto_core.specs.Rows.{cell_of, HasCell}
-use Rattle.auto_core.specs.Game.{Holds}
-use Rattle.bit_rel.specs.Relation.{Relation, IsRelation, Adds, Removes}
+use Rattle.auto_core.specs.Rows.{bit_of, cell_of, HasBit, HasCell}
+use Rattle.auto_core.specs.Reach.{IsTable, Arc}
+use Rattle.auto_core.specs.Game.{Holds, Close}
+use Rattle.bit_rel.specs.Relation.{Relation, IsRelation, Adds, Removes, IsClosed}
 use Rattle.bit_rel.specs.Stored.{pairs_below}
+use Rattle.bit_rel.proofs.ClosingLemmas.{close_same}
 use Rattle.bit_rel.proofs.PairLemmas.{pairs_hold, pairs_have, pairs_none, valid_pairs}
 
 -- the relation on n states that a table holds
@@ -96,3 +98,42 @@ pub no_pairs : (table : List ℕ) (m w n : ℕ) → table ≡ replicate m 0 → 
 no_pairs table m w n is =
     ap (λ t. table_relation t w n) is
     ∙ ap (λ ps. let R : Relation = record { size = n; pairs = ps } in R) (pairs_none (cell_of (replicate m 0) w) n n (λ p q left right. no_cells m w p q))
+
+-- a closed table stands for the closed relation
+pub closed_relation :
+    (old new : List ℕ) (w n : ℕ)
+    → ((p q : ℕ) → Arc new n w p q ↔ ((p < n) × (q < n) × Close (Arc old n w) p q))
+    → IsClosed (table_relation old w n) (table_relation new w n)
+closed_relation old new w n closed = record {
+  size = refl;
+  pairs = λ p q. (
+    λ h.
+        let way = (closed p q).0 (held_cell new w n p q h) in
+        (way.0, way.1, close_same (Arc old n w) (Holds (table_relation old w n).pairs) (λ r s a. cell_held old w n r s a.0 a.1 a.2) p q way.2),
+    λ (p_in, q_in, way).
+        let a = (closed p q).1 (p_in, q_in, close_same (Holds (table_relation old w n).pairs) (Arc old n w) (λ r s h. held_cell old w n r s h) p q way) in
+        cell_held new w n p q a.0 a.1 a.2,
+  );
+}
+
+-- a row's bits are the pairs of its number
+pub row_pairs :
+    (table row : List ℕ) (w n p : ℕ)
+    → IsTable table n w
+    → p < n
+    → ((q : ℕ) → q < w * 64 → bit_of row q ≡ cell_of table w p q)
+    → ((q : ℕ) → w * 64 ≤ q → bit_of row q ≡ false)
+    → (q : ℕ)
+    → HasBit row q ↔ Holds (table_relation table w n).pairs p q
+row_pairs table row w n p t p_in inside outside q = (
+  λ h. elim (cases_lt q (w * 64)) [
+    | inl near ↦
+        let cell : HasCell table w p q = sym (inside q near) ∙ h in
+        cell_held table w n p q p_in (t.columns p q p_in near cell) cell
+    | inr far ↦ absurd (false≢true (sym (outside q far) ∙ h))
+  ],
+  λ h.
+      let held = held_cell table w n p q h in
+      let room = t.room in
+      inside q (omega (arith, held.1)) ∙ held.2,
+)

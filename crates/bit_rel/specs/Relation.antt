@@ -1,6 +1,6 @@
 -- Relations on states as lists of pairs.
 use Rattle.std.specs.Prelude.{◌≡◌, ℕ, ◌<◌, ◌⊎◌, ◌↔◌, List, [], ◌∷◌, Contains}
-use Rattle.auto_core.specs.Game.{Holds, ArePairsBelow}
+use Rattle.auto_core.specs.Game.{Holds, ArePairsBelow, Close, Strict}
 
 -- A relation on the states below `size`: the list of its pairs.
 pub record Relation : Type 0 where
@@ -30,3 +30,13 @@ pub record Adds (old new : Relation) (p q : ℕ) : Type 0 where
 pub record Removes (old new : Relation) (p q : ℕ) : Type 0 where
   pub size : new.size ≡ old.size
   pub pairs : (r s : ℕ) → Holds new.pairs r s ↔ (Holds old.pairs r s × ¬ ((r ≡ p) × (s ≡ q)))
+
+-- The new relation is the reflexive and transitive closure of the old one on its states.
+pub record IsClosed (old new : Relation) : Type 0 where
+  pub size : new.size ≡ old.size
+  pub pairs : (p q : ℕ) → Holds new.pairs p q ↔ ((p < old.size) × (q < old.size) × Close (Holds old.pairs) p q)
+
+-- The part is on the same states and holds the pairs that the relation holds one way and not the other.
+pub record IsStrictPart (whole part : Relation) : Type 0 where
+  pub size : part.size ≡ whole.size
+  pub pairs : (p q : ℕ) → Holds part.pairs p q ↔ Strict (Holds whole.pairs) p q
