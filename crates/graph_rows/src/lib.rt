@@ -4,9 +4,11 @@
 
 mod bits;
 mod block;
+mod covering;
 mod letters;
 
 pub use block::{arc, joined, past, same, words_of};
+pub use covering::covers;
 pub use letters::{extend, letter};
 
 #[cfg(test)]
