@@ -3,3 +3,5 @@ pub mod AddedLemmas
 pub mod RowsLemmas
 pub mod ExtensionLemmas
 pub mod SameLemmas
+pub mod ArcLemmas
+pub mod CoveringLemmas

@@ -1,6 +1,6 @@
 //! When one graph covers another.
 
-ghost use Rattle.std.specs.Prelude.{◌≡◌, ◌*◌, ◌+◌, ◌/◌, ◌^◌, ◌<◌, ◌≤◌, ◌↔◌, ℕ, length, IsTrue};
+ghost use Rattle.std.specs.Prelude.{◌≡◌, ◌*◌, ◌+◌, ◌/◌, ◌^◌, ◌<◌, ◌≤◌, ◌↔◌, ℕ, true, false, length, IsTrue};
 ghost use Rattle.auto_core.specs.Rows.{HasBit, HasCell};
 ghost use Rattle.auto_core.specs.Reach.{IsTable, Arc};
 ghost use Rattle.auto_core.specs.Game.{Holds};
@@ -26,15 +26,31 @@ fn meets(row: &[u64], other: &[u64]) -> bool
     false
 }
 
-/// Tells whether the table has in its row an arc to some state that the order relates the target to.
-fn answers(order: &Rel, width: usize, table: &[u64], row: u32, target: u32) -> bool
+/// Tells whether an arc leads from the state of the row to some state that the order relates the target to: one of `past` if
+/// `flagged` says so, else one of `joined`.
+fn answers(
+    order: &Rel,
+    width: usize,
+    row: u32,
+    target: u32,
+    flagged: bool,
+    joined: &[u64],
+    past: &[u64],
+) -> bool
     requires width { width ≡ width_of order.now.size }
-    requires table { IsTable table.now order.now.size width }
     requires is_row { row < order.now.size }
     requires is_state { target < order.now.size }
-    ensures { IsTrue result ↔ ((u : ℕ) × Arc table.now order.now.size width row u × Holds order.now.pairs target u) }
+    requires joined { IsTable joined.now order.now.size width }
+    requires past { IsTable past.now order.now.size width }
+    ensures any { flagged ≡ false → IsTrue result ↔ ((u : ℕ) × Arc joined.now order.now.size width row u × Holds order.now.pairs target u) }
+    ensures marked { flagged ≡ true → IsTrue result ↔ ((u : ℕ) × Arc past.now order.now.size width row u × Holds order.now.pairs target u) }
 {
-    meets(rows::row_at(table, width, row as usize), order.row(target))
+    let wanted = order.row(target);
+    if flagged {
+        meets(rows::row_at(past, width, row as usize), wanted)
+    } else {
+        meets(rows::row_at(joined, width, row as usize), wanted)
+    }
 }
 
 /// Tells whether each arc out of the state of the row in the first graph has one of at least its value in the second, to some state
@@ -49,6 +65,7 @@ fn covers_row(
     other_past: &[u64],
 ) -> bool
     requires width { width ≡ width_of order.now.size }
+    requires states_fit { order.now.size < 2 ^ 32 }
     requires is_row { row < order.now.size }
     requires joined { IsTable joined.now order.now.size width }
     requires past { IsTable past.now order.now.size width }
@@ -62,8 +79,15 @@ fn covers_row(
     let mut at = 0;
     while let Some(target) = bits::next_bit(targets, at) {
         let flagged = rows::has_cell(past, width, row as usize, target);
-        let table = if flagged { other_past } else { other_joined };
-        if !answers(order, width, table, row, target as u32) {
+        if !answers(
+            order,
+            width,
+            row,
+            target as u32,
+            flagged,
+            other_joined,
+            other_past,
+        ) {
             return false;
         }
         at = target + 1;
