@@ -1,0 +1,4 @@
+pub mod PairLemmas
+pub mod TableLemmas
+pub mod ClosingLemmas
+pub mod StrictLemmas

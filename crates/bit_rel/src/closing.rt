@@ -1,0 +1,57 @@
+//! The reflexive and transitive closure of a table of bits, in place.
+
+ghost use Rattle.std.specs.Prelude.{◌≡◌, ◌+◌, ◌*◌, ◌<◌, ◌≤◌, ◌||◌, ◌&&◌, ◌==◌, ◌↔◌, ℕ, length};
+ghost use Rattle.auto_core.specs.Rows.{cell_of, HasCell};
+ghost use Rattle.auto_core.specs.Reach.{IsTable, Arc};
+ghost use Rattle.auto_core.specs.Game.{Close};
+
+use auto_core::rows;
+
+/// Adds the bits of row `from` to row `into` of the same table, and leaves the other rows.
+fn or_row_within(table: &mut [u64], width: usize, into: usize, from: usize)
+    requires into_row { into * width + width ≤ length table.old }
+    requires from_row { from * width + width ≤ length table.old }
+    ensures here { (q : ℕ) → q < width * 64 → cell_of table.new width into q ≡ (cell_of table.old width into q || cell_of table.old width from q) }
+    ensures others { (r q : ℕ) → q < width * 64 → ¬ (r ≡ into) → cell_of table.new width r q ≡ cell_of table.old width r q }
+{
+    for j in 0..width {
+        table[into * width + j] |= table[from * width + j];
+    }
+}
+
+/// Relates each of the `count` places to itself.
+fn relate_selves(table: &mut [u64], count: u32, width: usize)
+    requires { IsTable table.old count width }
+    ensures { (p q : ℕ) → p < count → q < width * 64 → cell_of table.new width p q ≡ (cell_of table.old width p q || p == q) }
+{
+    for p in 0..count as usize {
+        rows::set_cell(table, width, p, p);
+    }
+}
+
+/// Relates each place that is related to `via` to all that `via` is related to.
+fn pass_through(table: &mut [u64], count: u32, width: usize, via: usize)
+    requires table { IsTable table.old count width }
+    requires place { via < count }
+    requires itself { HasCell table.old width via via }
+    ensures { (p q : ℕ) → p < count → q < width * 64
+        → cell_of table.new width p q ≡ (cell_of table.old width p q || (cell_of table.old width p via && cell_of table.old width via q)) }
+{
+    for p in 0..count as usize {
+        if rows::has_cell(table, width, p, via) {
+            or_row_within(table, width, p, via);
+        }
+    }
+}
+
+/// Makes the table of `count` rows its reflexive and transitive closure: chains by way of ever more places (Warshall).
+pub fn close_table(table: &mut [u64], count: u32, width: usize)
+    requires { IsTable table.old count width }
+    ensures table { IsTable table.new count width }
+    ensures closed { (p q : ℕ) → Arc table.new count width p q ↔ ((p < count) × (q < count) × Close (Arc table.old count width) p q) }
+{
+    relate_selves(table, count, width);
+    for via in 0..count as usize {
+        pass_through(table, count, width, via);
+    }
+}

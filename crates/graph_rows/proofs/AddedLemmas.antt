@@ -1,0 +1,98 @@
+-- Columns added to a row, one addition after another, and row after row.
+use Rattle.std.proofs.Common.{◌≡◌, ℕ, ◌+◌, ◌*◌, ◌<◌, ◌≤◌, ◌↔◌, ◌⊎◌, inl, inr, true, false, List, refl, sym, ◌∙◌, subst, arith}
+use Rattle.std.proofs.lemmas.Bool.{cases_eq, false≢true}
+use Rattle.auto_core.specs.Automaton.{Automaton, IsAccepting, Moves, IsSuccessors, trans_at}
+use Rattle.auto_core.specs.Rows.{HasCell, cell_of, bit_of}
+use Rattle.auto_core.proofs.MoveLemmas.{successor_moves, moves_in_successors}
+use Rattle.graph_rows.specs.Added.{HasAdded}
+
+pub added_none : (width row : ℕ) (P : ℕ → Type 0) (table : List ℕ) → ((q : ℕ) → P q → ⊥) → HasAdded width row P table table
+added_none width row P table none =
+    record { here = λ q q_in. (λ h. inl h, λ h. elim h [ inl was ↦ was | inr new ↦ absurd (none q new) ]); others = λ p q q_in n. refl }
+
+-- one addition after another
+pub added_then :
+    (width row : ℕ) (P Q R : ℕ → Type 0) (old now new : List ℕ)
+    → ((q : ℕ) → q < width * 64 → R q ↔ (P q ⊎ Q q))
+    → HasAdded width row P old now
+    → HasAdded width row Q now new
+    → HasAdded width row R old new
+added_then width row P Q R old now new is first second =
+    record {
+      here = λ q q_in. (
+        λ h.
+            elim ((second.here q q_in).0 h) [
+              | inl before ↦
+                  elim ((first.here q q_in).0 before) [
+                    | inl was ↦ inl was
+                    | inr one ↦ inr ((is q q_in).1 (inl one))
+                  ]
+              | inr two ↦ inr ((is q q_in).1 (inr two))
+            ],
+        λ h.
+            elim h [
+              | inl was ↦ (second.here q q_in).1 (inl ((first.here q q_in).1 (inl was)))
+              | inr added ↦
+                  elim ((is q q_in).0 added) [
+                    | inl one ↦ (second.here q q_in).1 (inl ((first.here q q_in).1 (inr one)))
+                    | inr two ↦ (second.here q q_in).1 (inr two)
+                  ]
+            ],
+      );
+      others = λ p q q_in n. second.others p q q_in n ∙ first.others p q q_in n;
+    }
+
+-- the same columns in other words
+pub added_as :
+    (width row : ℕ) (P Q : ℕ → Type 0) (old new : List ℕ)
+    → ((q : ℕ) → q < width * 64 → P q ↔ Q q)
+    → HasAdded width row P old new
+    → HasAdded width row Q old new
+added_as width row P Q old new is added =
+    record {
+      here = λ q q_in. (
+        λ h. elim ((added.here q q_in).0 h) [ inl was ↦ inl was | inr one ↦ inr ((is q q_in).0 one) ],
+        λ h. elim h [ inl was ↦ (added.here q q_in).1 (inl was) | inr one ↦ (added.here q q_in).1 (inr ((is q q_in).1 one)) ],
+      );
+      others = added.others;
+    }
+
+-- The columns that the moves with the numbers from `begin` up to `upto` lead to, each under a condition.
+abbrev pub TargetOf : Automaton → ℕ → ℕ → (ℕ → Type 0) → ℕ → Type 0
+TargetOf A begin upto C q = ((t : ℕ) × (begin ≤ t) × (t < upto) × ((trans_at A t).target ≡ q)) × C q
+
+pub target_none : (A : Automaton) (begin : ℕ) (C : ℕ → Type 0) (q : ℕ) → TargetOf A begin begin C q → ⊥
+target_none A begin C q ((t, from, below, at), c) = absurd (omega arith)
+
+pub target_more :
+    (A : Automaton) (begin t : ℕ) (C D : ℕ → Type 0)
+    → begin ≤ t
+    → ((q : ℕ) → D q ↔ ((q ≡ (trans_at A t).target) × C q))
+    → (q : ℕ)
+    → TargetOf A begin (t + 1) C q ↔ (TargetOf A begin t C q ⊎ D q)
+target_more A begin t C D begin_le is q = (
+  λ ((s, from, below, at), c).
+      elim (cases_eq s t) [
+        | inl e ↦ inr ((is q).1 (sym at ∙ ap_target e, c))
+        | inr n ↦ inl ((s, from, omega arith, at), c)
+      ],
+  λ h.
+      elim h [
+        | inl ((s, from, below, at), c) ↦ ((s, from, omega arith, at), c)
+        | inr d ↦ let both = (is q).0 d in ((t, begin_le, omega arith, sym both.0), both.1)
+      ],
+)
+  where
+    ap_target : {s : ℕ} → s ≡ t → (trans_at A s).target ≡ (trans_at A t).target
+    ap_target {s} e = subst (λ k. (trans_at A s).target ≡ (trans_at A k).target) e refl
+
+-- all the moves of a state with a label
+pub target_moves :
+    (A : Automaton) (p a begin end : ℕ) (C : ℕ → Type 0)
+    → IsSuccessors A p a begin end
+    → (q : ℕ)
+    → TargetOf A begin end C q ↔ (Moves A p a q × C q)
+target_moves A p a begin end C s q = (
+  λ ((t, from, below, at), c). (subst (λ x. Moves A p a x) at (successor_moves A p a begin end s t from below), c),
+  λ (m, c). let (t, from, below, at) = moves_in_successors A p a begin end s q m in ((t, from, below, at), c),
+)

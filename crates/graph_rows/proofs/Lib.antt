@@ -1,0 +1,7 @@
+pub mod NextLemmas
+pub mod AddedLemmas
+pub mod RowsLemmas
+pub mod ExtensionLemmas
+pub mod SameLemmas
+pub mod ArcLemmas
+pub mod CoveringLemmas

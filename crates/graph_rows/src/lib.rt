@@ -1,0 +1,15 @@
+//! Graphs of words over the states of one automaton, in blocks of bits: two planes of rows, one row for each state. The first
+//! plane has the pairs of states that are joined, the second those that are joined past an accepting state.
+#![tactic(auto)]
+
+mod bits;
+mod block;
+mod covering;
+mod letters;
+
+pub use block::{arc, joined, past, same, words_of};
+pub use covering::covers;
+pub use letters::{extend, letter};
+
+#[cfg(test)]
+mod tests;

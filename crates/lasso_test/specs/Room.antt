@@ -1,0 +1,14 @@
+-- The room that a lasso test works in.
+use Rattle.std.specs.Prelude.{◌≡◌, ℕ, length}
+use Rattle.graph_rows.specs.Block.{width_of}
+use Rattle.lasso_test.specs.declared.passing.Scratch.TheInside.{Inside}
+
+-- The number of states that it is for.
+abbrev pub states_of : Inside → ℕ
+states_of s = s.states
+
+-- Each of the three rows has the words for so many bits.
+pub record HasRoom (s : Inside) : Type 0 where
+  pub marks : length s.marks.items ≡ width_of s.states
+  pub back : length s.back.items ≡ width_of s.states
+  pub done : length s.done.items ≡ width_of s.states

@@ -1,0 +1,18 @@
+-- The moves of a state as a list.
+use Rattle.std.specs.Prelude.{ℕ, List, map, ◌==◌}
+use Rattle.std.specs.List.{filter}
+use Rattle.auto_core.specs.Automaton.{Automaton}
+use Rattle.auto_core.specs.declared.parts.Trans.{Trans}
+use Rattle.look_round.specs.declared.moves.Move.{Move}
+
+-- The move by the letter a to q.
+abbrev pub move : ℕ → ℕ → Move
+move a q = record { label = a; to = q }
+
+-- The transition as a move out of its source.
+abbrev pub move_of : Trans → Move
+move_of t = move t.label t.target
+
+-- The moves forward out of p: the transitions whose source it is, in their order.
+abbrev pub forward_moves : Automaton → ℕ → List Move
+forward_moves A p = map move_of (filter (λ (t : Trans). t.source == p) A.transitions)

@@ -1,0 +1,8 @@
+//! One round of the game of looking ahead.
+#![tactic(auto)]
+
+mod moves;
+mod sides;
+
+pub use moves::Move;
+pub use sides::{Forward, Side};

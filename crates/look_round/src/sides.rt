@@ -1,0 +1,75 @@
+//! The sides from which the game is played: which moves a state has, and what one state asks of another.
+
+ghost use Rattle.std.specs.Prelude.{◌≡◌, ◌<◌, ◌↔◌, ℕ, List, length, Contains, slice_index_or, IsTrue};
+ghost use Rattle.auto_core.specs.Automaton.{Automaton, IsAutomaton, Moves};
+ghost use Rattle.auto_core.specs.Game.{MatchesForward};
+ghost use Rattle.look_round.specs.declared.moves.Move.{Move};
+ghost use Rattle.look_round.specs.Sides.{move, forward_moves};
+ghost use Rattle.look_round.specs.SideLaws.{forward_lists, forward_stays};
+
+use crate::moves::Move;
+use auto_core::Auto;
+
+/// A side of the game.
+pub trait Side {
+    ghost list: { Self → Automaton → ℕ → List Move };
+
+    ghost goes: { Self → Automaton → ℕ → ℕ → ℕ → Type 0 };
+
+    ghost keeps: { Self → Automaton → ℕ → ℕ → Type 0 };
+
+    /// The number of the state's moves.
+    fn moves(&self, auto: &Auto, state: u32) -> u32
+        requires { state < auto.now.states }
+        ensures { result ≡ length (list self.now auto.now state) };
+
+    /// The state's move at this place.
+    fn nth(&self, auto: &Auto, state: u32, at: u32) -> Move
+        requires state { state < auto.now.states }
+        requires place { at < length (list self.now auto.now state) }
+        ensures item { result ≡ slice_index_or (list self.now auto.now state) at (move 0 0) }
+        ensures in_range { result.to < auto.now.states };
+
+    /// Tells whether `q` has what Spoiler's `p` asks of it.
+    fn matched(&self, auto: &Auto, p: u32, q: u32) -> bool
+        requires left { p < auto.now.states }
+        requires right { q < auto.now.states }
+        ensures { IsTrue result ↔ keeps self.now auto.now p q };
+
+    ghost stays: { (s : Self) (A : Automaton) → IsAutomaton A → (p a q : ℕ) → goes s A p a q → q < A.states };
+
+    ghost lists: { (s : Self) (A : Automaton) (p a q : ℕ) → Contains (list s A p) (move a q) ↔ goes s A p a q };
+}
+
+/// The side of the transitions as they are: moves go from source to target, and an accepting state asks for an accepting one.
+#[derive(Clone, Copy, Debug)]
+pub struct Forward;
+
+impl Side for Forward {
+    ghost list = { λ _ A p. forward_moves A p };
+
+    ghost goes = { λ _ A. Moves A };
+
+    ghost keeps = { λ _ A. MatchesForward A A };
+
+    ghost stays = { λ _ A valid p a q m. forward_stays A valid p a q m };
+
+    ghost lists = { λ _ A p a q. forward_lists A p a q };
+
+    fn moves(&self, auto: &Auto, state: u32) -> u32 {
+        let out = auto.outgoing(state);
+        out.end - out.begin
+    }
+
+    fn nth(&self, auto: &Auto, state: u32, at: u32) -> Move {
+        let t = auto.transitions()[(auto.outgoing(state).begin + at) as usize];
+        Move {
+            label: t.label,
+            to: t.target,
+        }
+    }
+
+    fn matched(&self, auto: &Auto, p: u32, q: u32) -> bool {
+        if auto.accepting(p) { auto.accepting(q) } else { true }
+    }
+}
