@@ -1,1 +1,3 @@
 pub mod SegmentLemmas
+pub mod ReplyLemmas
+pub mod StepLemmas

@@ -2,6 +2,7 @@
 #![tactic(auto)]
 
 mod moves;
+mod replies;
 mod sides;
 
 pub use moves::Move;
