@@ -1,5 +1,5 @@
 -- Duplicator's replies, and a round from a set of states in which Duplicator may be.
-use Rattle.std.specs.Prelude.{◌≡◌, ℕ, zero, suc, ◌+◌, ◌*◌, ◌<◌, ◌≤◌, List, [], ◌∷◌, length}
+use Rattle.std.specs.Prelude.{◌≡◌, ℕ, ◌+◌, ◌*◌, ◌<◌, ◌≤◌, List, ◌∷◌, length}
 use Rattle.auto_core.specs.Rows.{cell_of, HasCell}
 use Rattle.auto_core.specs.Run.{PathBy}
 use Rattle.auto_core.specs.Game.{MayShow, Answers}

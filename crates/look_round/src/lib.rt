@@ -3,7 +3,11 @@
 
 mod moves;
 mod replies;
+mod round;
+mod scratch;
 mod sides;
 
 pub use moves::Move;
+pub use round::round_holds;
+pub use scratch::Scratch;
 pub use sides::{Forward, Side};

@@ -39,11 +39,23 @@ fn is_reply<S: Side>(side: &S, automaton: &Auto, step: Move, reply: Move) -> boo
     requires reply { reply.to < automaton.now.states }
     ensures { IsTrue result ↔ ((reply.label ≡ step.label) × S.keeps side.now automaton.now step.to reply.to) }
 {
-    if reply.label == step.label { side.matched(automaton, step.to, reply.to) } else { false }
+    if reply.label == step.label {
+        side.matched(automaton, step.to, reply.to)
+    } else {
+        false
+    }
 }
 
 /// Adds to the row of the table the states by which `from` answers the step.
-fn add_replies<S: Side>(side: &S, automaton: &Auto, from: u32, step: Move, table: &mut [u64], width: usize, row: usize)
+fn add_replies<S: Side>(
+    side: &S,
+    automaton: &Auto,
+    from: u32,
+    step: Move,
+    table: &mut [u64],
+    width: usize,
+    row: usize,
+)
     requires from { from < automaton.now.states }
     requires step { step.to < automaton.now.states }
     requires fits { row * width + width ≤ length table.old }
@@ -63,7 +75,15 @@ fn add_replies<S: Side>(side: &S, automaton: &Auto, from: u32, step: Move, table
 
 /// Adds to the row after `place` the states by which those states of row `place` answer the step that stand in the word with this
 /// number.
-fn add_word<S: Side>(side: &S, automaton: &Auto, step: Move, table: &mut [u64], width: usize, place: usize, word: usize)
+fn add_word<S: Side>(
+    side: &S,
+    automaton: &Auto,
+    step: Move,
+    table: &mut [u64],
+    width: usize,
+    place: usize,
+    word: usize,
+)
     requires step { step.to < automaton.now.states }
     requires here { place * width + width ≤ length table.old }
     requires next { (place + 1) * width + width ≤ length table.old }
@@ -72,7 +92,7 @@ fn add_word<S: Side>(side: &S, automaton: &Auto, step: Move, table: &mut [u64], 
     ensures next { (r : ℕ) → r < width * 64
         → HasCell table.new width (place + 1) r
         ↔ (HasCell table.old width (place + 1) r
-            ⊎ HasReplyWithin (S.goes side.now automaton.now) (S.keeps side.now automaton.now) step.label step.to (HasReply table.old automaton.now.states width place) (word * 64) (word * 64 + 64) r) }
+        ⊎ HasReplyWithin (S.goes side.now automaton.now) (S.keeps side.now automaton.now) step.label step.to (HasReply table.old automaton.now.states width place) (word * 64) (word * 64 + 64) r) }
     ensures others { (i r : ℕ) → r < width * 64 → ¬ (i ≡ place + 1) → cell_of table.new width i r ≡ cell_of table.old width i r }
 {
     let end = (automaton.states() as usize).min(word * 64 + 64);
@@ -84,7 +104,14 @@ fn add_word<S: Side>(side: &S, automaton: &Auto, step: Move, table: &mut [u64], 
 }
 
 /// Writes into the row after `place` the states by which the states of row `place` answer the step.
-pub fn step_replies<S: Side>(side: &S, automaton: &Auto, step: Move, table: &mut [u64], width: usize, place: usize)
+pub fn step_replies<S: Side>(
+    side: &S,
+    automaton: &Auto,
+    step: Move,
+    table: &mut [u64],
+    width: usize,
+    place: usize,
+)
     requires valid { IsAutomaton automaton.now }
     requires step { step.to < automaton.now.states }
     requires here { place * width + width ≤ length table.old }

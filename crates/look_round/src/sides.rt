@@ -70,6 +70,10 @@ impl Side for Forward {
     }
 
     fn matched(&self, automaton: &Auto, p: u32, q: u32) -> bool {
-        if automaton.accepting(p) { automaton.accepting(q) } else { true }
+        if automaton.accepting(p) {
+            automaton.accepting(q)
+        } else {
+            true
+        }
     }
 }

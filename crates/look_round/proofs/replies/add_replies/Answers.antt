@@ -1,4 +1,4 @@
-use Rattle.std.proofs.Common.{◌≡◌, ◌<◌, ◌*◌, ◌+◌, ℕ, List, length, subst, sym, rules, arith, ◌∙◌}
+use Rattle.std.proofs.Common.{◌≡◌, ◌+◌, ℕ, List, length, subst, sym, arith}
 use Rattle.std.proofs.lemmas.Bool.{iff_false}
 use Rattle.look_round.proofs.ReplyLemmas.{HasRepliesUpto, no_replies, reply_added, reply_passed, replies_done}
 use Rattle.look_round.proofs.replies.add_replies.Goals as goal

@@ -1,8 +1,8 @@
-use Rattle.std.proofs.Common.{◌≡◌, ◌<◌, ◌≤◌, ◌*◌, ◌+◌, ℕ, List, subst, sym, rules, arith, ◌∙◌, false}
+use Rattle.std.proofs.Common.{◌≡◌, ◌<◌, ◌*◌, ◌+◌, ℕ, List, subst, sym, arith, ◌∙◌}
 use Rattle.std.proofs.lemmas.Bool.{false≢true}
 use Rattle.auto_core.specs.Rows.{cell_of, HasCell}
 use Rattle.look_round.specs.Replies.{HasReply}
-use Rattle.look_round.proofs.StepLemmas.{HasStepUpto, no_step, step_more, step_none, step_rest}
+use Rattle.look_round.proofs.StepLemmas.{HasStepUpto, step_more, step_none}
 use Rattle.look_round.proofs.replies.add_word.Goals as goal
 use Rattle.look_round.proofs.replies.add_word.Goals.{then-has_cell, else-has_cell}
 

@@ -1,8 +1,7 @@
-use Rattle.std.proofs.Common.{◌≡◌, ◌<◌, ◌≤◌, ◌*◌, ◌+◌, ◌↔◌, ◌⊎◌, ℕ, List, subst, sym, rules, arith, ◌∙◌, false, get_or}
-use Rattle.std.proofs.lemmas.Bool.{false≢true}
+use Rattle.std.proofs.Common.{◌≡◌, ◌<◌, ◌≤◌, ◌*◌, ◌+◌, ℕ, List, subst, sym, arith, ◌∙◌}
 use Rattle.auto_core.specs.Rows.{cell_of, HasCell}
-use Rattle.look_round.specs.Replies.{HasReply, HasReplyWithin}
-use Rattle.look_round.proofs.StepLemmas.{HasStepUpto, no_step, step_word, step_zero, step_done, word_empty, reply_same, within_same}
+use Rattle.look_round.specs.Replies.{HasReply}
+use Rattle.look_round.proofs.StepLemmas.{HasStepUpto, step_word, step_zero, step_done, word_empty, reply_same, within_same}
 use Rattle.look_round.proofs.replies.step_replies.Goals as goal
 use Rattle.look_round.proofs.replies.step_replies.Goals.{then-table-place-ne0, else-table-place-ne0}
 

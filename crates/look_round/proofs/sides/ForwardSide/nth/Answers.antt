@@ -1,4 +1,4 @@
-use Rattle.std.proofs.Common.{◌≡◌, ◌+◌, ◌<◌, ℕ, List, length, get_or, ap, sym, ◌∙◌, arith, rules, subst}
+use Rattle.std.proofs.Common.{◌+◌, ◌<◌, List, length, get_or, ap, sym, ◌∙◌, arith, subst}
 use Rattle.auto_core.specs.Automaton.{trans}
 use Rattle.auto_core.specs.declared.parts.Trans.{Trans}
 use Rattle.look_round.specs.Sides.{move_of}
