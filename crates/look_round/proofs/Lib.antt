@@ -1,1 +1,5 @@
 pub mod SegmentLemmas
+pub mod ReplyLemmas
+pub mod StepLemmas
+pub mod RoundLemmas
+pub mod RoundLoop

@@ -1,5 +1,5 @@
 -- The moves of a state as a part of the sorted transitions.
-use Rattle.std.proofs.Common.{◌≡◌, ℕ, ◌+◌, ◌-◌, ◌<◌, ◌≤◌, Bool, true, false, List, [], ◌∷◌, ◌++◌, length, get_or, take, drop, map, ◌==◌, All, refl, sym, ap, ◌∙◌, subst, arith, length-drop, length-take-le, append-nil}
+use Rattle.std.proofs.Common.{◌≡◌, ℕ, ◌+◌, ◌-◌, ◌<◌, ◌≤◌, Bool, true, false, List, [], ◌∷◌, ◌++◌, length, get_or, take, drop, map, ◌==◌, All, refl, sym, ap, ◌∙◌, arith, length-drop, length-take-le, append-nil}
 use Rattle.std.specs.List.{filter}
 use Rattle.std.proofs.lemmas.Bool.{eq-eqb, ne_eqb}
 use Rattle.std.proofs.lemmas.List.{get_or-take, get_or-drop, take-append-drop, length-map}
@@ -85,8 +85,8 @@ forward_nth A p b e at o at_in =
     let here : at < e - b = omega arith in (
       omega arith,
       sym (
-        ap (λ ms. get_or ms at (move 0 0)) (forward_segment A p b e o)
-        ∙ get_or-map move_of (take (e - b) (drop b A.transitions)) at (trans 0 0 0)
-        ∙ ap move_of (get_or-take (e - b) (drop b A.transitions) at (trans 0 0 0) here ∙ get_or-drop b A.transitions at (trans 0 0 0))
-      ),
+          ap (λ ms. get_or ms at (move 0 0)) (forward_segment A p b e o)
+          ∙ get_or-map move_of (take (e - b) (drop b A.transitions)) at (trans 0 0 0)
+          ∙ ap move_of (get_or-take (e - b) (drop b A.transitions) at (trans 0 0 0) here ∙ get_or-drop b A.transitions at (trans 0 0 0))
+          ),
     )

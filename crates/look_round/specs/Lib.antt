@@ -1,2 +1,5 @@
 pub mod Sides
 pub mod SideLaws
+pub mod Replies
+pub mod Room
+pub mod RoomStored

@@ -1,7 +1,7 @@
 -- The moves of the lists are the transitions.
 use Rattle.std.specs.Prelude.{◌≡◌, ℕ, ◌<◌, ◌↔◌, List, [], ◌∷◌, map, ◌==◌, Bool, true, false, cond, Contains, refl}
 use Rattle.std.specs.List.{filter}
-use Rattle.std.proofs.Common.{◌⊎◌, inl, inr, sym, ap, ◌∙◌, subst}
+use Rattle.std.proofs.Common.{◌⊎◌, inl, inr, sym, ap, ◌∙◌}
 use Rattle.std.proofs.lemmas.Bool.{eqb-true, eq-eqb, false≢true}
 use Rattle.auto_core.specs.Automaton.{Automaton, IsAutomaton, Moves, trans}
 use Rattle.auto_core.proofs.MoveLemmas.{move_in_range}

@@ -2,7 +2,12 @@
 #![tactic(auto)]
 
 mod moves;
+mod replies;
+mod round;
+mod scratch;
 mod sides;
 
 pub use moves::Move;
+pub use round::round_holds;
+pub use scratch::Scratch;
 pub use sides::{Forward, Side};

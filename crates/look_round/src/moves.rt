@@ -1,7 +1,7 @@
 //! One move of a player.
 
 /// A move: its letter and the state that it leads to.
-#[derive(Clone, Copy, Debug, PartialEq, Eq)]
+#[derive(Clone, Copy, Debug, Default, PartialEq, Eq)]
 pub struct Move {
     /// Its letter.
     pub label: u32,

@@ -19,22 +19,22 @@ pub trait Side {
     ghost keeps: { Self → Automaton → ℕ → ℕ → Type 0 };
 
     /// The number of the state's moves.
-    fn moves(&self, auto: &Auto, state: u32) -> u32
-        requires { state < auto.now.states }
-        ensures { result ≡ length (list self.now auto.now state) };
+    fn moves(&self, automaton: &Auto, state: u32) -> u32
+        requires { state < automaton.now.states }
+        ensures { result ≡ length (list self.now automaton.now state) };
 
     /// The state's move at this place.
-    fn nth(&self, auto: &Auto, state: u32, at: u32) -> Move
-        requires state { state < auto.now.states }
-        requires place { at < length (list self.now auto.now state) }
-        ensures item { result ≡ slice_index_or (list self.now auto.now state) at (move 0 0) }
-        ensures in_range { result.to < auto.now.states };
+    fn nth(&self, automaton: &Auto, state: u32, at: u32) -> Move
+        requires state { state < automaton.now.states }
+        requires place { at < length (list self.now automaton.now state) }
+        ensures item { result ≡ slice_index_or (list self.now automaton.now state) at (move 0 0) }
+        ensures in_range { result.to < automaton.now.states };
 
     /// Tells whether `q` has what Spoiler's `p` asks of it.
-    fn matched(&self, auto: &Auto, p: u32, q: u32) -> bool
-        requires left { p < auto.now.states }
-        requires right { q < auto.now.states }
-        ensures { IsTrue result ↔ keeps self.now auto.now p q };
+    fn matched(&self, automaton: &Auto, p: u32, q: u32) -> bool
+        requires left { p < automaton.now.states }
+        requires right { q < automaton.now.states }
+        ensures { IsTrue result ↔ keeps self.now automaton.now p q };
 
     ghost stays: { (s : Self) (A : Automaton) → IsAutomaton A → (p a q : ℕ) → goes s A p a q → q < A.states };
 
@@ -56,20 +56,24 @@ impl Side for Forward {
 
     ghost lists = { λ _ A p a q. forward_lists A p a q };
 
-    fn moves(&self, auto: &Auto, state: u32) -> u32 {
-        let out = auto.outgoing(state);
+    fn moves(&self, automaton: &Auto, state: u32) -> u32 {
+        let out = automaton.outgoing(state);
         out.end - out.begin
     }
 
-    fn nth(&self, auto: &Auto, state: u32, at: u32) -> Move {
-        let t = auto.transitions()[(auto.outgoing(state).begin + at) as usize];
+    fn nth(&self, automaton: &Auto, state: u32, at: u32) -> Move {
+        let t = automaton.transitions()[(automaton.outgoing(state).begin + at) as usize];
         Move {
             label: t.label,
             to: t.target,
         }
     }
 
-    fn matched(&self, auto: &Auto, p: u32, q: u32) -> bool {
-        if auto.accepting(p) { auto.accepting(q) } else { true }
+    fn matched(&self, automaton: &Auto, p: u32, q: u32) -> bool {
+        if automaton.accepting(p) {
+            automaton.accepting(q)
+        } else {
+            true
+        }
     }
 }

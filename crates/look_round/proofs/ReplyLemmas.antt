@@ -1,0 +1,171 @@
+-- Rows of replies, move by move.
+use Rattle.std.proofs.Common.{◌≡◌, ℕ, ◌+◌, ◌*◌, ◌/◌, ◌%◌, ◌^◌, ◌<◌, ◌⊎◌, ◌↔◌, inl, inr, true, false, ◌==◌, List, length, get_or, bit_and, min, w64, Contains, refl, sym, ap, ◌∙◌, subst, arith}
+use Rattle.std.specs.Int.{bit_at, trailing_zeros}
+use Rattle.std.proofs.lemmas.Bool.{cases_eq, eqb-true, eq-eqb}
+use Rattle.std.proofs.lemmas.List.{get_or_default}
+use Rattle.std.proofs.lemmas.Nat.Bits.{bit_at-lt, bit_at-zero, bit_at_and, bit_at-trailing_zeros}
+use Rattle.auto_core.specs.Rows.{cell_of, HasBit, HasCell}
+use Rattle.auto_core.proofs.CellLemmas.{cell_at}
+use Rattle.look_round.specs.declared.moves.Move.{Move}
+use Rattle.look_round.specs.Sides.{move}
+
+-- a row of zeros
+pub row_cleared :
+    (table : List ℕ) (w row : ℕ)
+    → ((k : ℕ) → k < w → get_or table (row * w + k) 0 ≡ 0)
+    → (q : ℕ)
+    → q < w * 64
+    → cell_of table w row q ≡ false
+row_cleared table w row zeros q q_in =
+    rw (cell_at table w row q) (ap (λ n. bit_at n (q % 64) == 1) (zeros (q / 64) (omega arith)) ∙ ap (λ n. n == 1) (bit_at-zero (q % 64)))
+
+-- a bit in common
+common_bit : (a b i : ℕ) → bit_at (bit_and a b) i ≡ min (bit_at a i) (bit_at b i)
+common_bit a b i = bit_at_and a b i
+
+both_ones : (a b : ℕ) → a < 2 → b < 2 → min a b ≡ 1 → (a ≡ 1) × (b ≡ 1)
+both_ones a b a_bit b_bit h = omega arith
+
+min_ones : (a b : ℕ) → a ≡ 1 → b ≡ 1 → min a b ≡ 1
+min_ones a b e f = omega arith
+
+place : (j t : ℕ) → t < 64 → ((j * 64 + t) / 64 ≡ j) × ((j * 64 + t) % 64 ≡ t)
+place j t t_in = (omega arith, omega arith)
+
+pub common_found :
+    (table other : List ℕ) (w row j : ℕ)
+    → j < w
+    → bit_and (get_or table (row * w + j) 0) (get_or other j 0) < 2 ^ 64
+    → ¬ (bit_and (get_or table (row * w + j) 0) (get_or other j 0) ≡ 0)
+    → (q : ℕ) × (q < w * 64) × HasCell table w row q × HasBit other q
+common_found table other w row j j_in fits some =
+    let a = get_or table (row * w + j) 0 in
+    let b = get_or other j 0 in
+    let m = bit_and a b in
+    let positive : 0 < m = omega arith in
+    let found = bit_at-trailing_zeros w64 m positive fits in
+    let t = trailing_zeros w64 m in
+    let t_in : t < 64 = found.0 in
+    let both = both_ones (bit_at a t) (bit_at b t) (bit_at-lt a t) (bit_at-lt b t) (sym (common_bit a b t) ∙ found.1) in
+    let here = place j t t_in in
+    let q = j * 64 + t in (
+      q,
+      omega arith,
+      rw (cell_at table w row q, here.0, here.1) (eq-eqb (bit_at a t) 1 both.0),
+      rw (here.0, here.1) (eq-eqb (bit_at b t) 1 both.1),
+    )
+
+pub none_common :
+    (table other : List ℕ) (w row : ℕ)
+    → ((j : ℕ) → j < w → bit_and (get_or table (row * w + j) 0) (get_or other j 0) ≡ 0)
+    → ((q : ℕ) × (q < w * 64) × HasCell table w row q × HasBit other q)
+    → ⊥
+none_common table other w row none (q, q_in, cell, bit) =
+    let j = q / 64 in
+    let t = q % 64 in
+    let a = get_or table (row * w + j) 0 in
+    let b = get_or other j 0 in
+    let left : bit_at a t ≡ 1 = eqb-true (bit_at a t) 1 (sym (cell_at table w row q) ∙ cell) in
+    let right : bit_at b t ≡ 1 = eqb-true (bit_at b t) 1 bit in
+    let one : bit_at (bit_and a b) t ≡ 1 = common_bit a b t ∙ min_ones (bit_at a t) (bit_at b t) left right in
+    let zero : bit_at (bit_and a b) t ≡ 0 = ap (λ n. bit_at n t) (none j (omega arith)) ∙ bit_at-zero t in
+    omega arith
+
+-- The row holds what it held and the replies among the first n moves of the list.
+pub record HasRepliesUpto (moves : List Move) (ok : ℕ → ℕ → Type 0) (a p : ℕ) (old now : List ℕ) (width row n : ℕ) : Type 0 where
+  pub each : (r : ℕ) → r < width * 64 → HasCell now width row r → HasCell old width row r ⊎ ((j : ℕ) × (j < n) × (get_or moves j (move 0 0) ≡ move a r) × ok p r)
+  pub kept : (r : ℕ) → r < width * 64 → HasCell old width row r → HasCell now width row r
+  pub all : (j : ℕ) → j < n → (get_or moves j (move 0 0)).to < width * 64 → (get_or moves j (move 0 0)).label ≡ a → ok p (get_or moves j (move 0 0)).to → HasCell now width row (get_or moves j (move 0 0)).to
+  pub others : (i r : ℕ) → r < width * 64 → ¬ (i ≡ row) → cell_of now width i r ≡ cell_of old width i r
+
+pub no_replies : (moves : List Move) (ok : ℕ → ℕ → Type 0) (a p : ℕ) (old : List ℕ) (width row : ℕ) → HasRepliesUpto moves ok a p old old width row 0
+no_replies moves ok a p old width row = record {
+  each = λ r near h. inl h;
+  kept = λ r near h. h;
+  all = λ j j_in near e k. absurd (omega arith);
+  others = λ i r near apart. refl;
+}
+
+same_move : (m : Move) (a : ℕ) → m.label ≡ a → m ≡ move a m.to
+same_move m a e = ap (λ x. move x m.to) e
+
+pub reply_added :
+    (moves : List Move) (ok : ℕ → ℕ → Type 0) (a p : ℕ) (old now new : List ℕ) (width row n : ℕ)
+    → HasRepliesUpto moves ok a p old now width row n
+    → (m : Move)
+    → m ≡ get_or moves n (move 0 0)
+    → m.label ≡ a
+    → ok p m.to
+    → m.to < width * 64
+    → cell_of new width row m.to ≡ true
+    → ((i r : ℕ) → r < width * 64 → ¬ ((i ≡ row) × (r ≡ m.to)) → cell_of new width i r ≡ cell_of now width i r)
+    → HasRepliesUpto moves ok a p old new width row (n + 1)
+reply_added moves ok a p old now new width row n h m is label match m_near here same = record {
+  each = λ r near cell. elim (cases_eq r m.to) [
+    | inl e ↦ inr (n, omega arith, sym is ∙ same_move m a label ∙ ap (λ x. move a x) (sym e), subst (ok p) (sym e) match)
+    | inr apart ↦ elim (h.each r near (sym (same row r near (λ x. apart x.1)) ∙ cell)) [
+      | inl was ↦ inl was
+      | inr found ↦ let lt = found.1 in inr (found.0, omega arith, found.2, found.3)
+    ]
+  ];
+  kept = λ r near was. more r near (h.kept r near was);
+  all = λ j j_in near e k. elim (cases_eq j n) [
+    | inl f ↦ subst (λ (x : Move). HasCell new width row x.to) (is ∙ ap (λ x. get_or moves x (move 0 0)) (sym f)) here
+    | inr apart ↦ more (get_or moves j (move 0 0)).to near (h.all j (omega arith) near e k)
+  ];
+  others = λ i r near apart. same i r near (λ x. apart x.0) ∙ h.others i r near apart;
+}
+  where
+    more : (r : ℕ) → r < width * 64 → HasCell now width row r → HasCell new width row r
+    more r near cell = elim (cases_eq r m.to) [
+      | inl e ↦ subst (λ x. HasCell new width row x) (sym e) here
+      | inr apart ↦ same row r near (λ x. apart x.1) ∙ cell
+    ]
+
+pub reply_passed :
+    (moves : List Move) (ok : ℕ → ℕ → Type 0) (a p : ℕ) (old now : List ℕ) (width row n : ℕ)
+    → HasRepliesUpto moves ok a p old now width row n
+    → (m : Move)
+    → m ≡ get_or moves n (move 0 0)
+    → ((m.label ≡ a) × ok p m.to → ⊥)
+    → HasRepliesUpto moves ok a p old now width row (n + 1)
+reply_passed moves ok a p old now width row n h m is none = record {
+  each = λ r near cell. elim (h.each r near cell) [
+    | inl was ↦ inl was
+    | inr found ↦ let lt = found.1 in inr (found.0, omega arith, found.2, found.3)
+  ];
+  kept = h.kept;
+  all = λ j j_in near e k. elim (cases_eq j n) [
+    | inl f ↦
+        let same : get_or moves j (move 0 0) ≡ m = ap (λ x. get_or moves x (move 0 0)) f ∙ sym is in
+        absurd (none (sym (ap (λ (x : Move). x.label) same) ∙ e, subst (λ (x : Move). ok p x.to) same k))
+    | inr apart ↦ h.all j (omega arith) near e k
+  ];
+  others = h.others;
+}
+
+-- all moves have been tried
+pub replies_done :
+    (moves : List Move) (goes : ℕ → ℕ → Type 0) (ok : ℕ → ℕ → Type 0) (a p : ℕ) (old now : List ℕ) (width row n : ℕ)
+    → ((b r : ℕ) → Contains moves (move b r) ↔ goes b r)
+    → HasRepliesUpto moves ok a p old now width row n
+    → n ≡ length moves
+    → (r : ℕ)
+    → r < width * 64
+    → HasCell now width row r ↔ (HasCell old width row r ⊎ (goes a r × ok p r))
+replies_done moves goes ok a p old now width row n lists h all r near = (
+  λ cell. elim (h.each r near cell) [
+    | inl was ↦ inl was
+    | inr (j, j_in, is, match) ↦ inr ((lists a r).0 (j, omega arith, get_or_default moves j (move a r) (move 0 0) (omega arith) ∙ is), match)
+  ],
+  λ either. elim either [
+    | inl was ↦ h.kept r near was
+    | inr (go, match) ↦
+        let (j, j_in, is) = (lists a r).1 go in
+        let here : get_or moves j (move 0 0) ≡ move a r = get_or_default moves j (move 0 0) (move a r) j_in ∙ is in
+        let P : Move → Type 0 = λ m. m.to < width * 64 in
+        let Q : Move → Type 0 = λ m. ok p m.to in
+        let R : Move → Type 0 = λ m. HasCell now width row m.to in
+        subst R here (h.all j (omega arith) (subst P (sym here) near) (ap (λ (m : Move). m.label) here) (subst Q (sym here) match))
+  ],
+)

@@ -1,0 +1,8 @@
+use Rattle.std.proofs.Common.{◌*◌, ◌+◌}
+use Rattle.look_round.specs.Replies.{HasReply}
+use Rattle.look_round.proofs.StepLemmas.{HasStepUpto}
+use Rattle.look_round.proofs.replies.step_replies.Given as goal
+
+abbrev pub invariant-loop-word : goal.invariant-loop-word
+invariant-loop-word g l =
+    HasStepUpto (g.S.Side.goes l.side l.automaton) (g.S.Side.keeps l.side l.automaton) l.step.label l.step.to (HasReply l.fn.table l.automaton.states l.width l.place) l.initial.table l.table l.width (l.place + 1) 0 (l.word * 64)

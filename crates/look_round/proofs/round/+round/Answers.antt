@@ -1,0 +1,193 @@
+use Rattle.std.proofs.Common.{rules, arith, ◌≡◌, ◌+◌, ◌-◌, ◌*◌, ◌<◌, ◌≤◌, ◌↔◌, ℕ, length, IsTrue, true, false, [], ◌∷◌, refl, sym, ap, ◌∙◌, subst, inl, inr, length-append}
+use Rattle.std.proofs.lemmas.Bool.{iff_false, false≢true}
+use Rattle.auto_core.specs.Game.{Holds, IsDead}
+use Rattle.look_round.specs.Replies.{HasReply, HasReplyFrom, RoundFrom, RoundAfter, KeepsRows}
+use Rattle.look_round.proofs.RoundLemmas.{met, ended, goes_on}
+use Rattle.look_round.proofs.RoundLoop.{told_first, one_answered, all_answered, one_unanswered, dead_from, alive_from}
+use Rattle.look_round.proofs.round.+round.Goals as goal
+
+pub round_from-returns-then-not-step_answered-clause-told : goal.round_from-returns-then-not-step_answered-clause-told
+round_from-returns-then-not-step_answered-clause-told g t c =
+    let A = c.args.automaton.now in
+    let s = c.args.side.now in
+    let M = g.S.Side.goes s A in
+    let ok = g.S.Side.keeps s A in
+    let W = Holds c.args.rel.now.pairs in
+    let moves = g.S.Side.list s A c.args.p in
+    let left = c.args.left in
+    let n = A.states in
+    let w = c.args.width in
+    let L = length c.args.path.now.items in
+    let m = c.nth-step.result in
+    let width = c.requires.width in
+    let room : n ≤ w * 64 = omega arith in
+    let same : length c.loop-at.path.items ≡ L = ap length c.loop-at.invariant.0 in
+    let P : ℕ → Type 0 = λ x. IsTrue c.step_answered.result ↔ RoundAfter M ok W left m.label m.to (HasReply c.loop-at.sets n w x) in
+    let told = told_first M ok W moves left n w L room c.args.sets.now c.loop-at.sets m.label m.to (IsTrue c.step_answered.result) c.loop-at.invariant.2.kept (subst P same c.step_answered.ensures.told) in
+    let failed : c.step_answered.result ≡ false = search rules in
+    let count : c.moves-at-end.result ≡ length moves = c.moves-at-end.ensures in
+    let j_in : c.loop-at.at < length moves = omega (arith, c.loop-at-test.true) in (
+      λ h. absurd (false≢true h),
+      λ h.
+          absurd
+          (one_unanswered M ok W moves left n w L room c.args.sets.now c.args.p c.loop-at.at m (g.met.S.Side.lists s A c.args.p) j_in c.nth-step.ensures.item
+          (iff_false told failed) h),
+    )
+
+pub round_from-loop-at-preserved : goal.round_from-loop-at-preserved
+round_from-loop-at-preserved g t c =
+    let A = c.args.automaton.now in
+    let s = c.args.side.now in
+    let M = g.S.Side.goes s A in
+    let ok = g.S.Side.keeps s A in
+    let W = Holds c.args.rel.now.pairs in
+    let moves = g.S.Side.list s A c.args.p in
+    let left = c.args.left in
+    let n = A.states in
+    let w = c.args.width in
+    let L = length c.args.path.now.items in
+    let m = c.nth-step.result in
+    let width = c.requires.width in
+    let room : n ≤ w * 64 = omega arith in
+    let same : length c.loop-at.path.items ≡ L = ap length c.loop-at.invariant.0 in
+    let P : ℕ → Type 0 = λ x. IsTrue c.step_answered.result ↔ RoundAfter M ok W left m.label m.to (HasReply c.loop-at.sets n w x) in
+    let told = told_first M ok W moves left n w L room c.args.sets.now c.loop-at.sets m.label m.to (IsTrue c.step_answered.result) c.loop-at.invariant.2.kept (subst P same c.step_answered.ensures.told) in
+    let held : c.step_answered.result ≡ true = search rules in
+    let Q : ℕ → Type 0 = λ x. KeepsRows c.loop-at.sets c.step_answered.new.sets w x in (
+      c.step_answered.ensures.path ∙ c.loop-at.invariant.0,
+      c.step_answered.ensures.capacity ∙ c.loop-at.invariant.1,
+      one_answered M ok W moves left n w L room c.args.sets.now c.loop-at.sets c.step_answered.new.sets c.loop-at.at m c.loop-at.invariant.2 c.nth-step.ensures.item
+          (told.0 held) (subst Q same c.step_answered.ensures.kept),
+    )
+
+pub round_from-returns-clause-told : goal.round_from-returns-clause-told
+round_from-returns-clause-told g t c =
+    let A = c.args.automaton.now in
+    let s = c.args.side.now in
+    let M = g.S.Side.goes s A in
+    let ok = g.S.Side.keeps s A in
+    let W = Holds c.args.rel.now.pairs in
+    let moves = g.S.Side.list s A c.args.p in
+    let left = c.args.left in
+    let n = A.states in
+    let w = c.args.width in
+    let width = c.requires.width in
+    let room : n ≤ w * 64 = omega arith in
+    let count : c.moves-at-end.result ≡ length moves = c.moves-at-end.ensures in
+    let all : c.loop-at.at ≡ length moves = omega (arith, c.loop-at-test.false) in (
+      λ h.
+          all_answered M ok W moves left n w (length c.args.path.now.items) room c.args.sets.now c.loop-at.sets c.loop-at.at c.args.p
+          (g.met.S.Side.lists s A c.args.p) c.requires.left all c.loop-at.invariant.2,
+      λ h. refl,
+    )
+
+pub step_answered-returns-then-meets-clause-told : goal.step_answered-returns-then-meets-clause-told
+step_answered-returns-then-meets-clause-told g t c =
+    let A = c.args.automaton.now in
+    let s = c.args.side.now in
+    let M = g.S.Side.goes s A in
+    let ok = g.S.Side.keeps s A in
+    let W = Holds c.args.rel.now.pairs in
+    let n = A.states in
+    let w = c.args.width in
+    let a = c.args.step.label in
+    let p = c.args.step.to in
+    let old = c.args.sets.now in
+    let new = c.step_replies.new.table in
+    let place = c.len-place.result in
+    let P : ℕ → Type 0 = λ x. (r : ℕ) → HasReply new n w (place + 1) r ↔ HasReplyFrom M ok a p (HasReply old n w x) r in
+    let replies = subst P c.len-place.ensures.value c.step_replies.ensures.next in
+    let found = c.meets.ensures.0 c.if-meets.true in
+    let related = (c.row.ensures.bits found.0).0 found.3 in
+    let below = (c.row.ensures.valid.in_range p found.0 related).1 in
+    let equal = c.requires.equal in (
+      λ h. met M ok W c.args.left a p (HasReply old n w (length c.args.path.now.items)) (HasReply new n w (place + 1)) replies found.0 (omega arith, found.2) related,
+      λ h. refl,
+    )
+
+pub step_answered-returns-then-left-eq1-clause-told : goal.step_answered-returns-then-left-eq1-clause-told
+step_answered-returns-then-left-eq1-clause-told g t c =
+    let A = c.args.automaton.now in
+    let s = c.args.side.now in
+    let M = g.S.Side.goes s A in
+    let ok = g.S.Side.keeps s A in
+    let W = Holds c.args.rel.now.pairs in
+    let n = A.states in
+    let w = c.args.width in
+    let a = c.args.step.label in
+    let p = c.args.step.to in
+    let old = c.args.sets.now in
+    let new = c.step_replies.new.table in
+    let place = c.len-place.result in
+    let P : ℕ → Type 0 = λ x. (r : ℕ) → HasReply new n w (place + 1) r ↔ HasReplyFrom M ok a p (HasReply old n w x) r in
+    let replies = subst P c.len-place.ensures.value c.step_replies.ensures.next in
+    let width = c.requires.width in
+    let apart = iff_false c.meets.ensures c.if-meets.false in
+    let none : (r : ℕ) → HasReply new n w (place + 1) r → W p r → ⊥ = λ r is related. apart (r, omega (arith, is.0), is.1, (c.row.ensures.bits r).1 related) in (
+      λ h. absurd (false≢true h),
+      λ h. absurd (ended M ok W c.args.left a p (HasReply old n w (length c.args.path.now.items)) (HasReply new n w (place + 1)) replies none (inl c.if-left-eq1.true) h),
+    )
+
+pub step_answered-returns-then-moves-eq0-clause-told : goal.step_answered-returns-then-moves-eq0-clause-told
+step_answered-returns-then-moves-eq0-clause-told g t c =
+    let A = c.args.automaton.now in
+    let s = c.args.side.now in
+    let M = g.S.Side.goes s A in
+    let ok = g.S.Side.keeps s A in
+    let W = Holds c.args.rel.now.pairs in
+    let n = A.states in
+    let w = c.args.width in
+    let a = c.args.step.label in
+    let p = c.args.step.to in
+    let old = c.args.sets.now in
+    let new = c.step_replies.new.table in
+    let place = c.len-place.result in
+    let P : ℕ → Type 0 = λ x. (r : ℕ) → HasReply new n w (place + 1) r ↔ HasReplyFrom M ok a p (HasReply old n w x) r in
+    let replies = subst P c.len-place.ensures.value c.step_replies.ensures.next in
+    let width = c.requires.width in
+    let apart = iff_false c.meets.ensures c.if-meets.false in
+    let none : (r : ℕ) → HasReply new n w (place + 1) r → W p r → ⊥ = λ r is related. apart (r, omega (arith, is.0), is.1, (c.row.ensures.bits r).1 related) in
+    let dead : IsDead M p = dead_from M (g.S.Side.list s A p) p (g.met.S.Side.lists s A p) (sym c.moves.ensures ∙ c.if-moves-eq0.true) in
+    let some = c.requires.left in
+    let more : 1 < c.args.left = omega (arith, c.if-left-eq1.false) in (
+      λ h. absurd (false≢true h),
+      λ h. absurd (ended M ok W c.args.left a p (HasReply old n w (length c.args.path.now.items)) (HasReply new n w (place + 1)) replies none (inr (more, dead)) h),
+    )
+
+pub step_answered-returns-clause-told : goal.step_answered-returns-clause-told
+step_answered-returns-clause-told g t c =
+    let A = c.args.automaton.now in
+    let s = c.args.side.now in
+    let M = g.S.Side.goes s A in
+    let ok = g.S.Side.keeps s A in
+    let W = Holds c.args.rel.now.pairs in
+    let n = A.states in
+    let w = c.args.width in
+    let a = c.args.step.label in
+    let p = c.args.step.to in
+    let old = c.args.sets.now in
+    let new = c.step_replies.new.table in
+    let place = c.len-place.result in
+    let P : ℕ → Type 0 = λ x. (r : ℕ) → HasReply new n w (place + 1) r ↔ HasReplyFrom M ok a p (HasReply old n w x) r in
+    let replies = subst P c.len-place.ensures.value c.step_replies.ensures.next in
+    let width = c.requires.width in
+    let apart = iff_false c.meets.ensures c.if-meets.false in
+    let none : (r : ℕ) → HasReply new n w (place + 1) r → W p r → ⊥ = λ r is related. apart (r, omega (arith, is.0), is.1, (c.row.ensures.bits r).1 related) in
+    let alive : IsDead M p → ⊥ = alive_from M (g.S.Side.list s A p) p (g.met.S.Side.lists s A p) (λ e. c.if-moves-eq0.false (c.moves.ensures ∙ e)) in
+    let some = c.requires.left in
+    let more : 1 < c.args.left = omega (arith, c.if-left-eq1.false) in
+    let both = goes_on M ok W c.args.left a p (HasReply old n w (length c.args.path.now.items)) (HasReply new n w (place + 1)) replies (c.args.left - 1) (omega arith) (omega arith) none alive in
+    let size : length c.push_reserved.new.self.items ≡ place + 1 =
+    ap length c.push_reserved.ensures.items ∙ length-append c.args.path.now.items (c.args.step ∷ []) ∙ ap (λ x. x + 1) (sym c.len-place.ensures.value) in
+    let Q : ℕ → Type 0 = λ x. IsTrue c.round_from-answered.result ↔ RoundFrom M ok W (c.args.left - 1) p (HasReply new n w x) in
+    let told = subst Q size c.round_from-answered.ensures.told in
+    (λ h. both.1 (told.0 h), λ h. told.1 (both.0 h))
+
+pub step_answered-returns-clause-kept : goal.step_answered-returns-clause-kept
+step_answered-returns-clause-kept g t c =
+    let place = c.len-place.result in
+    let value : place ≡ length c.args.path.now.items = c.len-place.ensures.value in
+    let size : length c.push_reserved.new.self.items ≡ place + 1 =
+    ap length c.push_reserved.ensures.items ∙ length-append c.args.path.now.items (c.args.step ∷ []) ∙ ap (λ x. x + 1) (sym c.len-place.ensures.value) in
+    λ i q i_in near.
+    c.round_from-answered.ensures.kept i q (omega (arith, size, value)) near ∙ c.step_replies.ensures.others i q near (λ e. omega (arith, value))

@@ -1,0 +1,131 @@
+//! Where Duplicator may be: a table of bits whose row i has the states that answer Spoiler's first i moves.
+
+ghost use Rattle.std.specs.Prelude.{◌≡◌, ◌+◌, ◌*◌, ◌/◌, ◌<◌, ◌≤◌, ◌↔◌, ◌⊎◌, ℕ, false, length, IsTrue};
+ghost use Rattle.auto_core.specs.Rows.{cell_of, HasCell, HasBit};
+ghost use Rattle.auto_core.specs.Automaton.{IsAutomaton};
+ghost use Rattle.look_round.specs.Replies.{IsReply, HasReply, HasReplyFrom, HasReplyWithin};
+
+use crate::moves::Move;
+use crate::sides::Side;
+use auto_core::{Auto, rows};
+
+/// Clears the row of the table, and leaves the others.
+pub fn clear_table_row(table: &mut [u64], width: usize, row: usize)
+    requires { row * width + width ≤ length table.old }
+    ensures here { (q : ℕ) → q < width * 64 → cell_of table.new width row q ≡ false }
+    ensures others { (i q : ℕ) → q < width * 64 → ¬ (i ≡ row) → cell_of table.new width i q ≡ cell_of table.old width i q }
+{
+    for j in 0..width {
+        table[row * width + j] = 0;
+    }
+}
+
+/// Tells whether the row of the table and the other row, which has `width` words, have a bit in common.
+pub fn meets(table: &[u64], width: usize, row: usize, other: &[u64]) -> bool
+    requires fits { row * width + width ≤ length table.now }
+    requires equal { length other.now ≡ width }
+    ensures { IsTrue result ↔ ((q : ℕ) × (q < width * 64) × HasCell table.now width row q × HasBit other.now q) }
+{
+    for j in 0..width {
+        if table[row * width + j] & other[j] != 0 {
+            return true;
+        }
+    }
+    false
+}
+
+fn is_reply<S: Side>(side: &S, automaton: &Auto, step: Move, reply: Move) -> bool
+    requires step { step.to < automaton.now.states }
+    requires reply { reply.to < automaton.now.states }
+    ensures { IsTrue result ↔ ((reply.label ≡ step.label) × S.keeps side.now automaton.now step.to reply.to) }
+{
+    if reply.label == step.label {
+        side.matched(automaton, step.to, reply.to)
+    } else {
+        false
+    }
+}
+
+/// Adds to the row of the table the states by which `from` answers the step.
+fn add_replies<S: Side>(
+    side: &S,
+    automaton: &Auto,
+    from: u32,
+    step: Move,
+    table: &mut [u64],
+    width: usize,
+    row: usize,
+)
+    requires from { from < automaton.now.states }
+    requires step { step.to < automaton.now.states }
+    requires fits { row * width + width ≤ length table.old }
+    requires room { automaton.now.states ≤ width * 64 }
+    ensures here { (r : ℕ) → r < width * 64
+        → HasCell table.new width row r
+        ↔ (HasCell table.old width row r ⊎ IsReply (S.goes side.now automaton.now) (S.keeps side.now automaton.now) step.label step.to from r) }
+    ensures others { (i r : ℕ) → r < width * 64 → ¬ (i ≡ row) → cell_of table.new width i r ≡ cell_of table.old width i r }
+{
+    for at in 0..side.moves(automaton, from) {
+        let reply = side.nth(automaton, from, at);
+        if is_reply(side, automaton, step, reply) {
+            rows::set_cell(table, width, row, reply.to as usize);
+        }
+    }
+}
+
+/// Adds to the row after `place` the states by which those states of row `place` answer the step that stand in the word with this
+/// number.
+fn add_word<S: Side>(
+    side: &S,
+    automaton: &Auto,
+    step: Move,
+    table: &mut [u64],
+    width: usize,
+    place: usize,
+    word: usize,
+)
+    requires step { step.to < automaton.now.states }
+    requires here { place * width + width ≤ length table.old }
+    requires next { (place + 1) * width + width ≤ length table.old }
+    requires width { width ≡ (automaton.now.states + 63) / 64 }
+    requires word { word < width }
+    ensures next { (r : ℕ) → r < width * 64
+        → HasCell table.new width (place + 1) r
+        ↔ (HasCell table.old width (place + 1) r
+        ⊎ HasReplyWithin (S.goes side.now automaton.now) (S.keeps side.now automaton.now) step.label step.to (HasReply table.old automaton.now.states width place) (word * 64) (word * 64 + 64) r) }
+    ensures others { (i r : ℕ) → r < width * 64 → ¬ (i ≡ place + 1) → cell_of table.new width i r ≡ cell_of table.old width i r }
+{
+    let end = (automaton.states() as usize).min(word * 64 + 64);
+    for q in word * 64..end {
+        if rows::has_cell(table, width, place, q) {
+            add_replies(side, automaton, q as u32, step, table, width, place + 1);
+        }
+    }
+}
+
+/// Writes into the row after `place` the states by which the states of row `place` answer the step.
+pub fn step_replies<S: Side>(
+    side: &S,
+    automaton: &Auto,
+    step: Move,
+    table: &mut [u64],
+    width: usize,
+    place: usize,
+)
+    requires valid { IsAutomaton automaton.now }
+    requires step { step.to < automaton.now.states }
+    requires here { place * width + width ≤ length table.old }
+    requires next { (place + 1) * width + width ≤ length table.old }
+    requires width { width ≡ (automaton.now.states + 63) / 64 }
+    ensures next { (r : ℕ)
+        → HasReply table.new automaton.now.states width (place + 1) r
+        ↔ HasReplyFrom (S.goes side.now automaton.now) (S.keeps side.now automaton.now) step.label step.to (HasReply table.old automaton.now.states width place) r }
+    ensures others { (i r : ℕ) → r < width * 64 → ¬ (i ≡ place + 1) → cell_of table.new width i r ≡ cell_of table.old width i r }
+{
+    clear_table_row(table, width, place + 1);
+    for word in 0..width {
+        if table[place * width + word] != 0 {
+            add_word(side, automaton, step, table, width, place, word);
+        }
+    }
+}

@@ -1,0 +1,153 @@
+//! One round: Spoiler's paths one after another, each move followed by all of Duplicator's replies at once.
+
+ghost use Rattle.std.specs.Prelude.{◌≡◌, ◌+◌, ◌*◌, ◌/◌, ◌<◌, ◌≤◌, ◌↔◌, ℕ, length, IsTrue};
+ghost use Rattle.auto_core.specs.Automaton.{IsAutomaton};
+ghost use Rattle.auto_core.specs.Game.{Round, Holds};
+ghost use Rattle.look_round.specs.Replies.{HasReply, RoundFrom, RoundAfter, HasRows, KeepsRows};
+
+use crate::moves::Move;
+use crate::replies;
+use crate::scratch::Scratch;
+use crate::sides::Side;
+use auto_core::{Auto, rows};
+use bit_rel::Rel;
+use smallvec::SmallVec;
+
+/// Tells whether Spoiler's paths of `left` moves, or shorter ones to a dead end, are answered where their first move is `step`.
+/// The path holds Spoiler's moves before, and row `path.len()` of `sets` the states where Duplicator may be.
+#[cycle(round)]
+fn step_answered<S: Side>(
+    side: &S,
+    automaton: &Auto,
+    rel: &Rel,
+    left: u32,
+    step: Move,
+    path: &mut SmallVec<Move, 6>,
+    sets: &mut [u64],
+    width: usize,
+) -> bool
+    requires valid { IsAutomaton automaton.now }
+    requires left { 1 ≤ left }
+    requires step { step.to < automaton.now.states }
+    requires equal { rel.now.size ≡ automaton.now.states }
+    requires width { width ≡ (automaton.now.states + 63) / 64 }
+    requires path { length path.old.items + left ≤ path.old.capacity }
+    requires sets { HasRows sets.old width (length path.old.items + left) }
+    ensures told { IsTrue result
+        ↔ RoundAfter (S.goes side.now automaton.now) (S.keeps side.now automaton.now) (Holds rel.now.pairs) left step.label step.to (HasReply sets.old automaton.now.states width (length path.old.items)) }
+    ensures path { path.new.items ≡ path.old.items }
+    ensures capacity { path.new.capacity ≡ path.old.capacity }
+    ensures kept { KeepsRows sets.old sets.new width (length path.old.items) }
+{
+    let place = path.len();
+    replies::step_replies(side, automaton, step, sets, width, place);
+    if replies::meets(sets, width, place + 1, rel.row(step.to)) {
+        return true;
+    }
+    if left == 1 {
+        return false;
+    }
+    if side.moves(automaton, step.to) == 0 {
+        return false;
+    }
+    path.push_reserved(step);
+    let answered = round_from(side, automaton, rel, left - 1, step.to, path, sets, width);
+    path.pop();
+    answered
+}
+
+/// Tells whether Spoiler's paths of `left` moves from `p`, or shorter ones to a dead end, are answered. The path holds Spoiler's
+/// moves before, and row `path.len()` of `sets` the states where Duplicator may be.
+#[cycle(round)]
+fn round_from<S: Side>(
+    side: &S,
+    automaton: &Auto,
+    rel: &Rel,
+    left: u32,
+    p: u32,
+    path: &mut SmallVec<Move, 6>,
+    sets: &mut [u64],
+    width: usize,
+) -> bool
+    requires valid { IsAutomaton automaton.now }
+    requires left { 1 ≤ left }
+    requires state { p < automaton.now.states }
+    requires equal { rel.now.size ≡ automaton.now.states }
+    requires width { width ≡ (automaton.now.states + 63) / 64 }
+    requires path { length path.old.items + left ≤ path.old.capacity }
+    requires sets { HasRows sets.old width (length path.old.items + left) }
+    ensures told { IsTrue result
+        ↔ RoundFrom (S.goes side.now automaton.now) (S.keeps side.now automaton.now) (Holds rel.now.pairs) left p (HasReply sets.old automaton.now.states width (length path.old.items)) }
+    ensures path { path.new.items ≡ path.old.items }
+    ensures capacity { path.new.capacity ≡ path.old.capacity }
+    ensures kept { KeepsRows sets.old sets.new width (length path.old.items) }
+{
+    for at in 0..side.moves(automaton, p) {
+        let step = side.nth(automaton, p, at);
+        if !step_answered(side, automaton, rel, left, step, path, sets, width) {
+            return false;
+        }
+    }
+    true
+}
+
+fn whole_round<S: Side>(
+    side: &S,
+    automaton: &Auto,
+    rel: &Rel,
+    look: u32,
+    p: u32,
+    q: u32,
+    path: &mut SmallVec<Move, 6>,
+    sets: &mut [u64],
+) -> bool
+    requires look { 1 ≤ look }
+    requires equal { rel.now.size ≡ automaton.now.states }
+    requires left { p < automaton.now.states }
+    requires right { q < automaton.now.states }
+    requires path { look ≤ path.old.capacity }
+    requires sets { length sets.old ≡ (look + 1) * ((automaton.now.states + 63) / 64) }
+    ensures told { IsTrue result
+        ↔ Round (S.goes side.now automaton.now) (S.goes side.now automaton.now) (S.keeps side.now automaton.now) look (Holds rel.now.pairs) p q }
+    ensures capacity { path.new.capacity ≡ path.old.capacity }
+{
+    let width = rows::words_for(automaton.states());
+    path.clear();
+    replies::clear_table_row(sets, width, 0);
+    rows::set_cell(sets, width, 0, q as usize);
+    round_from(side, automaton, rel, look, p, path, sets, width)
+}
+
+/// Tells whether the round from `p` and `q` holds: each path of `look` moves that Spoiler may show from `p`, or shorter one to a
+/// dead end, Duplicator answers from `q`, at least one of its letters, matched at each place, up to a pair of the relation.
+/// The scratch was made for this automaton and lookahead. (Clemente and Mayr, lookahead simulation.)
+pub fn round_holds<S: Side>(
+    side: &S,
+    automaton: &Auto,
+    rel: &Rel,
+    look: u32,
+    p: u32,
+    q: u32,
+    scratch: &mut Scratch,
+) -> bool
+    requires look_from { 1 ≤ look }
+    requires look_upto { look ≤ 6 }
+    requires equal { rel.now.size ≡ automaton.now.states }
+    requires made { scratch.old ≡ record { states = automaton.now.states; look = look } }
+    requires left { p < automaton.now.states }
+    requires right { q < automaton.now.states }
+    ensures told { IsTrue result
+        ↔ Round (S.goes side.now automaton.now) (S.goes side.now automaton.now) (S.keeps side.now automaton.now) look (Holds rel.now.pairs) p q }
+    ensures scratch { scratch.new ≡ scratch.old }
+{
+    whole_round(
+        side,
+        automaton,
+        rel,
+        look,
+        p,
+        q,
+        &mut scratch.path,
+        &mut scratch.sets,
+    )
+}

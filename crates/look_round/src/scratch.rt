@@ -1,0 +1,47 @@
+//! Room for one round.
+
+ghost use Rattle.std.specs.Prelude.{◌≡◌, IfOk};
+
+use crate::moves::Move;
+use auto_core::{Auto, Memory, rows};
+use smallvec::SmallVec;
+use std::alloc::Global;
+use std::marker::Model;
+
+/// Room for the rounds on an automaton at a lookahead: Spoiler's path, and a row of bits for each of its places and for its start.
+/// Contracts see the number of states and the lookahead that it was made for.
+#[derive(Drop)]
+pub struct Scratch {
+    pub(crate) states: u32,
+    pub(crate) look: u32,
+    pub(crate) path: SmallVec<Move, 6>,
+    pub(crate) sets: Vec<u64>,
+}
+
+impl Model for Scratch {
+    ghost use Rattle.look_round.specs.Room.{Room};
+
+    ghost Value = { Room };
+
+    ghost use Rattle.look_round.specs.RoomStored.{room_of, IsRoomStored};
+
+    ghost view = { room_of };
+
+    ghost invariant = { IsRoomStored };
+}
+
+impl Scratch {
+    /// Room for the rounds on this automaton at this lookahead.
+    pub fn new(alloc: Global, automaton: &Auto, look: u32) -> Result<Scratch, Memory>
+        ensures { IfOk result (λ s. s ≡ record { states = automaton.now.states; look = look }) }
+    {
+        let states = automaton.states();
+        let sets = vec![in alloc; 0; (look as usize + 1) * rows::words_for(states)]?;
+        Ok(Scratch {
+            states,
+            look,
+            path: SmallVec::new(alloc),
+            sets,
+        })
+    }
+}
