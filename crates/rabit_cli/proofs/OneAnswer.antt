@@ -12,6 +12,7 @@ use Rattle.cert_text.specs.declared.types.Cert.{Cert}
 use Rattle.cert_text.specs.declared.types.Body.{Body}
 use Rattle.cert_text.specs.declared.types.Body.TheVariants.{Yes, NoLasso, NoWord, Listing}
 use Rattle.cert_text.specs.Grammar.{reading}
+use Rattle.cert_text.proofs.Theorem.{reading_text}
 use Rattle.cert_check.specs.declared.faults.Refusal.{Refusal}
 use Rattle.cert_check.specs.Checks.{Check as Rule, AllHold, FirstBroken}
 use Rattle.cert_check.specs.Rules.{checks_of}
@@ -115,7 +116,8 @@ module _ (number : ℕ) (files : FileMap) (name : List ℕ) where
       ]
 
   fault_or_certificate : (x : Answer) (cert : Cert) → IsCertificateFault files name x → HoldsCertificate files name cert → ⊥
-  fault_or_certificate x cert (a, held, why) (b, held', few, read) =
+  fault_or_certificate x cert (a, held, why) (b, held', few, formed, is) =
+      let read : reading b ≡ Ok cert = ap reading is ∙ reading_text cert formed in
       let e = same_bytes files name a b held held' in
       let len : length a ≡ length b = ap length e in
       elim why [
@@ -127,7 +129,9 @@ module _ (number : ℕ) (files : FileMap) (name : List ℕ) where
       ]
 
   one_cert : (x y : Cert) → HoldsCertificate files name x → HoldsCertificate files name y → x ≡ y
-  one_cert x y (a, held, few, read) (b, held', few', read') =
+  one_cert x y (a, held, few, formed, is) (b, held', few', formed', is') =
+      let read : reading a ≡ Ok x = ap reading is ∙ reading_text x formed in
+      let read' : reading b ≡ Ok y = ap reading is' ∙ reading_text y formed' in
       let e = same_bytes files name a b held held' in
       let P : List ℕ → Type 0 = λ t. reading t ≡ Ok x in
       same_ok x y _ (subst P e read) read'

@@ -13,7 +13,9 @@ use Rattle.cert_text.specs.declared.types.Cert.{Cert}
 use Rattle.cert_text.specs.declared.types.Body.TheVariants.{Yes, NoLasso, NoWord, Listing}
 use Rattle.cert_text.specs.declared.types.Body.{Body}
 use Rattle.cert_text.specs.declared.faults.TextFault.{TextFault}
-use Rattle.cert_text.specs.Grammar.{reading}
+use Rattle.cert_text.specs.Law.{FirstFault}
+use Rattle.cert_text.specs.Text.{text}
+use Rattle.cert_text.specs.WellFormed.{WellFormed}
 use Rattle.cert_check.specs.declared.faults.Refusal.{Refusal}
 use Rattle.cert_check.specs.Checks.{AllHold, FirstBroken}
 use Rattle.cert_check.specs.Rules.{checks_of, has_checked_form}
@@ -53,12 +55,12 @@ IsCertificateFault files name answer =
     (bytes : List ℕ)
     × Holds files name bytes
     × (((2 ^ 30 < length bytes) × (answer ≡ LongCertificate))
-    ⊎ ((length bytes ≤ 2 ^ 30) × ((fault : TextFault) × (reading bytes ≡ Err fault) × (answer ≡ BadText fault))))
+    ⊎ ((length bytes ≤ 2 ^ 30) × ((fault : TextFault) × FirstFault bytes fault × (answer ≡ BadText fault))))
 
--- The file reads as this certificate.
+-- The file holds the text of this certificate, which is well-formed.
 abbrev pub HoldsCertificate : FileMap → List ℕ → Cert → Type 0
 HoldsCertificate files name cert =
-    (bytes : List ℕ) × Holds files name bytes × (length bytes ≤ 2 ^ 30) × (reading bytes ≡ Ok cert)
+    (bytes : List ℕ) × Holds files name bytes × (length bytes ≤ 2 ^ 30) × WellFormed cert × (bytes ≡ text cert)
 
 -- The answer of a valid certificate with this body.
 abbrev pub IsVerdictAnswer : Joined → Body → Answer → Type 0
