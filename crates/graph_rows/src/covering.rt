@@ -8,8 +8,7 @@ ghost use Rattle.auto_core.specs.Graph.{Covers, IsGraph, graph_of_tables};
 ghost use Rattle.graph_rows.specs.Block.{width_of, block_graph, IsFormed};
 ghost use Rattle.graph_rows.specs.Covering.{CoversRow};
 
-use crate::bits;
-use crate::block;
+use crate::{bits, block};
 use auto_core::rows;
 use bit_rel::Rel;
 

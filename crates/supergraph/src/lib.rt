@@ -4,3 +4,6 @@
 mod arcs;
 
 pub use arcs::{Arc, base, extend, subsumes};
+
+#[cfg(test)]
+mod tests;

@@ -16,8 +16,9 @@ loop-row-preserved c =
 
 pub returns : goal.returns
 returns c =
-    let n : ℕ = c.args.order.now.size in
-    (λ told.
-        covers_rows (Holds c.args.order.now.pairs) (block_graph n c.args.g.now) (block_graph n c.args.h.now) n (λ s t arc. arc.0) (λ s t arc. arc.0)
-        (λ s s_in. c.loop-row.invariant s (omega arith)),
-      λ covers. refl)
+    let n : ℕ = c.args.order.now.size in (
+      λ told.
+          covers_rows (Holds c.args.order.now.pairs) (block_graph n c.args.g.now) (block_graph n c.args.h.now) n (λ s t arc. arc.0) (λ s t arc. arc.0)
+          (λ s s_in. c.loop-row.invariant s (omega arith)),
+      λ covers. refl,
+    )

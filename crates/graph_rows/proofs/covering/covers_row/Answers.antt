@@ -50,7 +50,7 @@ loop-target-preserved c =
     let between : (k : ℕ) → at ≤ k → k < target → bit_of c.row_at-targets.result.now k ≡ false = search rules in
     let answered : c.answers.result ≡ true = search rules in
     let free : (k : ℕ) → at ≤ k → k < target → Arc c.args.joined.now n w s k → ⊥ = λ k k_from k_to.
-        no_arc c.args.joined.now c.row_at-targets.result.now n w s k c.row_at-targets.ensures.bits c.requires.joined.room (between k k_from k_to) in (
+    no_arc c.args.joined.now c.row_at-targets.result.now n w s k c.row_at-targets.ensures.bits c.requires.joined.room (between k k_from k_to) in (
       covers_more (Holds c.args.order.now.pairs) (graph_of_tables c.args.joined.now c.args.past.now n w) (graph_of_tables c.args.other_joined.now c.args.other_past.now n w)
           s at target c.has_cell-flagged.result c.requires.within c.requires.other_within free
           (λ arc. c.has_cell-flagged.ensures ∙ arc.2)
@@ -68,7 +68,7 @@ returns c =
     let at : ℕ = c.loop-target.at in
     let none : (k : ℕ) → at ≤ k → bit_of c.row_at-targets.result.now k ≡ false = search rules in
     let free : (k : ℕ) → at ≤ k → Arc c.args.joined.now n w s k → ⊥ = λ k k_from.
-        no_arc c.args.joined.now c.row_at-targets.result.now n w s k c.row_at-targets.ensures.bits c.requires.joined.room (none k k_from) in (
+    no_arc c.args.joined.now c.row_at-targets.result.now n w s k c.row_at-targets.ensures.bits c.requires.joined.room (none k k_from) in (
       λ told.
           covers_all (Holds c.args.order.now.pairs) (graph_of_tables c.args.joined.now c.args.past.now n w) (graph_of_tables c.args.other_joined.now c.args.other_past.now n w)
           s at c.requires.within free c.loop-target.invariant.0,
