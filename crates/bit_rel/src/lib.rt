@@ -5,3 +5,6 @@ mod closing;
 mod relation;
 
 pub use relation::Rel;
+
+#[cfg(test)]
+mod tests;

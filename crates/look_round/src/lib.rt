@@ -11,3 +11,6 @@ pub use moves::Move;
 pub use round::round_holds;
 pub use scratch::Scratch;
 pub use sides::{Forward, Side};
+
+#[cfg(test)]
+mod tests;

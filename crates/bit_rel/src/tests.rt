@@ -1,0 +1,90 @@
+//! What no clause says: that the calls succeed, and what known relations give, also where rows take two and three words.
+
+use crate::Rel;
+use auto_core::Memory;
+use std::alloc::Global;
+use std::test::Fail;
+
+/// Each state but the last is related to the next one.
+fn chain(alloc: Global, n: u32) -> Result<Rel, Memory> {
+    let mut rel = Rel::empty(alloc, n)?;
+    for q in 1..n {
+        if q < rel.size() {
+            rel.set(q - 1, q);
+        }
+    }
+    Ok(rel)
+}
+
+fn held_in_row(rel: &Rel, p: u32) -> u64 {
+    let mut count = 0u64;
+    for q in 0..rel.size() {
+        if p < rel.size() {
+            if rel.get(p, q) {
+                count = count.wrapping_add(1);
+            }
+        }
+    }
+    count
+}
+
+fn held(rel: &Rel) -> u64 {
+    let mut count = 0u64;
+    for p in 0..rel.size() {
+        count = count.wrapping_add(held_in_row(rel, p));
+    }
+    count
+}
+
+#[test]
+fn chains_close(rt: HostRuntime) -> Result<(), Fail> {
+    let alloc = rt.alloc();
+    for (n, orders) in [(2, 3), (65, 2145), (130, 8515)] {
+        let mut rel = chain(alloc, n)?;
+        assert_eq!(rt; rel.size(), n);
+        assert_eq!(rt; held(&rel), u64::from(n).wrapping_sub(1));
+        rel.close();
+        assert_eq!(rt; held(&rel), orders);
+        assert_eq!(rt;
+            held(&rel.strict(alloc)?),
+            orders.wrapping_sub(u64::from(n))
+        );
+        if 1 < rel.size() {
+            assert_eq!(rt; (rel.get(0, 1), rel.get(1, 0)), (true, false));
+            assert_eq!(rt; (rel.both_ways(0, 1), rel.both_ways(1, 1)), (false, true));
+            rel.set(1, 0);
+            rel.close();
+            assert_eq!(rt; rel.both_ways(0, 1), true);
+        }
+    }
+    Ok(())
+}
+
+#[test]
+fn rings_relate_all(rt: HostRuntime) -> Result<(), Fail> {
+    let alloc = rt.alloc();
+    for (n, last, all) in [(65, 64, 4225), (130, 129, 16900)] {
+        let mut rel = chain(alloc, n)?;
+        if last < rel.size() {
+            rel.set(last, 0);
+            assert_eq!(rt; rel.row(last).first().copied(), Some(1));
+            rel.close();
+        }
+        assert_eq!(rt; held(&rel), all);
+        assert_eq!(rt; held(&rel.strict(alloc)?), 0);
+        if last < rel.size() {
+            rel.clear(last, 0);
+            assert_eq!(rt; rel.row(last).first().copied(), Some(u64::MAX - 1));
+        }
+        assert_eq!(rt; held(&rel), all.wrapping_sub(1));
+    }
+    Ok(())
+}
+
+#[test]
+fn no_states(rt: HostRuntime) -> Result<(), Fail> {
+    let mut rel = Rel::empty(rt.alloc(), 0)?;
+    rel.close();
+    assert_eq!(rt; (rel.size(), held(&rel)), (0, 0));
+    Ok(())
+}
