@@ -27,15 +27,7 @@ fn round(
     let in_range = p < automaton.states() && q < automaton.states();
     let fits = 1 <= look && look <= 6 && rel.size() == automaton.states();
     if in_range && fits {
-        return Ok(Some(round_holds(
-            &Forward,
-            automaton,
-            &rel,
-            look,
-            p,
-            q,
-            &mut scratch,
-        )));
+        return Ok(Some(round_holds(&Forward, automaton, &rel, look, p, q, &mut scratch)));
     }
     Ok(None)
 }
@@ -69,8 +61,14 @@ fn dead_ends_are_answered(rt: HostRuntime) -> Result<(), Fail> {
     let moves = [trans(0, 0, 1), trans(2, 1, 2), trans(3, 0, 2)];
     let automaton = Auto::build(alloc, 4, 2, 0, &moves, &[])?;
     for look in [1, 2, 6] {
-        assert_eq!(rt; round(alloc, &automaton, &[(1, 2)], look, 0, 2)?, Some(false));
-        assert_eq!(rt; round(alloc, &automaton, &[(1, 2)], look, 0, 3)?, Some(true));
+        assert_eq!(rt;
+            round(alloc, &automaton, &[(1, 2)], look, 0, 2)?,
+            Some(false)
+        );
+        assert_eq!(rt;
+            round(alloc, &automaton, &[(1, 2)], look, 0, 3)?,
+            Some(true)
+        );
         assert_eq!(rt; round(alloc, &automaton, &[], look, 0, 3)?, Some(false));
         assert_eq!(rt; round(alloc, &automaton, &[], look, 1, 2)?, Some(true));
     }
@@ -116,10 +114,19 @@ fn rows_of_three_words(rt: HostRuntime) -> Result<(), Fail> {
         let automaton = Auto::build(alloc, 130, 1, 0, moves.as_slice(), &[])?;
         // the sixth move from 60 leads to 66, and from 123 to the dead end
         for (from, to) in [(60, 66), (123, 129)] {
-            assert_eq!(rt; round(alloc, &automaton, &[(to, to)], 6, from, from)?, Some(true));
-            assert_eq!(rt; round(alloc, &automaton, &[(to, to)], 5, from, from)?, Some(false));
+            assert_eq!(rt;
+                round(alloc, &automaton, &[(to, to)], 6, from, from)?,
+                Some(true)
+            );
+            assert_eq!(rt;
+                round(alloc, &automaton, &[(to, to)], 5, from, from)?,
+                Some(false)
+            );
         }
-        assert_eq!(rt; round(alloc, &automaton, &[(129, 129)], 6, 127, 127)?, Some(true));
+        assert_eq!(rt;
+            round(alloc, &automaton, &[(129, 129)], 6, 127, 127)?,
+            Some(true)
+        );
         assert_eq!(rt; Forward.moves(&automaton, 64), 1);
     }
     Ok(())
