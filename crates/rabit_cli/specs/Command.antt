@@ -89,6 +89,19 @@ IsCheckAnswer files a b c answer =
     × (IsCertificateFault files c answer
     ⊎ ((pair : Joined) × IsJoined one two pair × ((cert : Cert) × HoldsCertificate files c cert × Concludes pair cert answer))))))
 
+-- The shelf has no file of this name.
+abbrev pub Lacks : FileMap → List ℕ → Type 0
+Lacks files name = map.contains_key files name ≡ false
+
+-- The count of missing names rises only for a name whose turn it is: the first file's; the second's, once the first was read;
+-- the certificate's, once both were read.
+abbrev pub CountsInTurn : FileMap → Option Question → ℕ → ℕ → Type 0
+CountsInTurn files None before now = now ≡ before
+CountsInTurn files (Some (Check a b c)) before now =
+    (now ≡ before)
+    ⊎ Lacks files a
+    ⊎ ((one : Named) × ReadsAs files a one × (Lacks files b ⊎ ((two : Named) × ReadsAs files b two × Lacks files c)))
+
 -- The answer to what the words ask.
 abbrev pub IsAnswerTo : FileMap → Option Question → Answer → Type 0
 IsAnswerTo files None answer = answer ≡ NotBuilt

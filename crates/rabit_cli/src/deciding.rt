@@ -1,11 +1,11 @@
 //! What a command answers.
 
-ghost use Rattle.std.specs.Prelude.{◌≡◌, ◌≤◌, ◌^◌, ◌<◌, ◌⊎◌, List, ℕ, length, map, IfSome};
+ghost use Rattle.std.specs.Prelude.{◌≡◌, ◌≤◌, ◌^◌, ◌<◌, ◌⊎◌, List, ℕ, length, map, Some, IfSome};
 ghost use Rattle.std.specs.String.{string_bytes};
 ghost use Rattle.shelf_io.specs.Counts.{Rose};
-ghost use Rattle.rabit_cli.specs.Question.{question_of};
+ghost use Rattle.rabit_cli.specs.Question.{Check, question_of};
 ghost use Rattle.rabit_cli.specs.Printed.{IsPrintable};
-ghost use Rattle.rabit_cli.specs.Command.{HasLabelTexts, Concludes, IsCheckAnswer, IsAnswerTo, UnlessRefused};
+ghost use Rattle.rabit_cli.specs.Command.{HasLabelTexts, Concludes, CountsInTurn, IsCheckAnswer, IsAnswerTo, UnlessRefused};
 
 use crate::answer::Answer;
 use crate::{question, reading};
@@ -50,6 +50,7 @@ fn check_answer<H: Shelf>(
     ensures no_read_fault { ¬ (result ≡ Answer.ReadFault) → H.faults shelf.new ≡ H.faults shelf.old }
     ensures files_stay { H.held shelf.new ≡ H.held shelf.old }
     ensures puts_stay { H.put_faults shelf.new ≡ H.put_faults shelf.old }
+    ensures missing { IfSome (H.held shelf.old) (λ files. CountsInTurn files (Some (Check first.now second.now certificate.now)) (H.missed shelf.old) (H.missed shelf.new)) }
 {
     let one = match reading::read_automaton(alloc, shelf, first, 1) {
         Ok(one) => one,
@@ -77,6 +78,7 @@ pub fn answer_to<H: Shelf>(alloc: Global, words: &[String], shelf: &mut H) -> An
     ensures no_read_fault { ¬ (result ≡ Answer.ReadFault) → H.faults shelf.new ≡ H.faults shelf.old }
     ensures files_stay { H.held shelf.new ≡ H.held shelf.old }
     ensures puts_stay { H.put_faults shelf.new ≡ H.put_faults shelf.old }
+    ensures missing { IfSome (H.held shelf.old) (λ files. CountsInTurn files (question_of (map string_bytes words.now)) (H.missed shelf.old) (H.missed shelf.new)) }
 {
     match question::files_to_check(words) {
         Some((first, second, certificate)) => check_answer(

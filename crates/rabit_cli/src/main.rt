@@ -28,4 +28,8 @@ fn main(rt: HostRuntime) -> ExitCode {
 }
 
 #[cfg(test)]
+mod certificate_tests;
+#[cfg(test)]
+mod fault_tests;
+#[cfg(test)]
 mod tests;

@@ -2,6 +2,7 @@
 
 ghost use Rattle.std.specs.Prelude.{◌≡◌, ◌≤◌, ◌^◌, ◌<◌, List, ℕ, length, IfOk, IfErr, IfSome, Err};
 ghost use Rattle.shelf_io.specs.Counts.{Rose};
+ghost use Rattle.shelf_io.specs.Shelf.{CountsMissing};
 ghost use Rattle.ba_format.specs.Reading.{IsWithin};
 ghost use Rattle.ba_format.specs.Joining.{IsJoined};
 ghost use Rattle.rabit_cli.specs.Printed.{IsPrintable};
@@ -42,6 +43,7 @@ pub fn read_automaton<H: Shelf>(
     ensures no_read_fault { ¬ (result ≡ Err Answer.ReadFault) → H.faults shelf.new ≡ H.faults shelf.old }
     ensures files_stay { H.held shelf.new ≡ H.held shelf.old }
     ensures puts_stay { H.put_faults shelf.new ≡ H.put_faults shelf.old }
+    ensures counts_missing { CountsMissing (H.held shelf.old) name.now (H.missed shelf.old) (H.missed shelf.new) }
 {
     let bytes = match shelf_io::load(alloc, shelf, name, AUTOMATON_BYTES) {
         Ok(bytes) => bytes,
@@ -77,6 +79,7 @@ pub fn read_certificate<H: Shelf>(alloc: Global, shelf: &mut H, name: &str) -> R
     ensures no_read_fault { ¬ (result ≡ Err Answer.ReadFault) → H.faults shelf.new ≡ H.faults shelf.old }
     ensures files_stay { H.held shelf.new ≡ H.held shelf.old }
     ensures puts_stay { H.put_faults shelf.new ≡ H.put_faults shelf.old }
+    ensures counts_missing { CountsMissing (H.held shelf.old) name.now (H.missed shelf.old) (H.missed shelf.new) }
 {
     let bytes = match shelf_io::load(alloc, shelf, name, CERTIFICATE_BYTES) {
         Ok(bytes) => bytes,

@@ -6,11 +6,11 @@ use shelf_io::{File, MemShelf, MemSink};
 use std::alloc::Global;
 use std::test::Fail;
 
-const RING: &str = "[0]\na,[0]->[1]\na,[1]->[2]\na,[2]->[0]\n[0]\n";
+pub const RING: &str = "[0]\na,[0]->[1]\na,[1]->[2]\na,[2]->[0]\n[0]\n";
 
-const ONLY_B: &str = "[0]\nb,[0]->[0]\n[0]\n";
+pub const ONLY_B: &str = "[0]\nb,[0]->[0]\n[0]\n";
 
-const RING_NO: &str = "rabit-cert 1 buchi no\nsizes 3 1 2\nprefix\nloop 0\nend\n";
+pub const RING_NO: &str = "rabit-cert 1 buchi no\nsizes 3 1 2\nprefix\nloop 0\nend\n";
 
 const ONE_A: &str = "[0]\na,[0]->[0]\n[0]\n";
 
@@ -68,7 +68,7 @@ fn answers(
     Ok((status, out.contents() == printed.as_bytes()))
 }
 
-fn check(
+pub fn check(
     alloc: Global,
     first: &str,
     second: &str,
@@ -149,6 +149,29 @@ fn other_ends_have_their_status(rt: HostRuntime) -> Result<(), Fail> {
         check(alloc, ONE_A, "", yes, "file 2 line 0: Empty\n")?,
         (4, true)
     );
+    let shape = [("A", "a,[0]-[1]\n"), ("B", ONE_A)];
+    assert_eq!(rt;
+        answers(
+            alloc,
+            &["check", "A", "X", "X"],
+            &shape,
+            &[],
+            &[],
+            "file 1 line 1: Shape\n"
+        )?,
+        (4, true)
+    );
+    assert_eq!(rt;
+        answers(
+            alloc,
+            &["check", "B", "A", "X"],
+            &shape,
+            &[],
+            &[],
+            "file 2 line 1: Shape\n"
+        )?,
+        (4, true)
+    );
     assert_eq!(rt;
         check(alloc, ONE_A, ONE_A, "", "certificate line 1: Truncated\n")?,
         (5, true)
@@ -200,6 +223,42 @@ fn failing_calls_of_the_outside_are_told(rt: HostRuntime) -> Result<(), Fail> {
         )?,
         (1, true)
     );
+    assert_eq!(rt;
+        answers(
+            alloc,
+            &words,
+            &files,
+            &[],
+            &[1],
+            "not included\nprefix:\nloop: a\n"
+        )?,
+        (1, true)
+    );
     assert_eq!(rt; answers(alloc, &words, &files, &[], &[0], "")?, (7, true));
+    Ok(())
+}
+
+#[test]
+fn the_ring_may_be_written_in_many_ways(rt: HostRuntime) -> Result<(), Fail> {
+    let alloc = rt.alloc();
+    let texts = [
+        "[0]\r\na,[0]->[1]\r\na,[1]->[2]\r\na,[2]->[0]\r\n[0]\r\n",
+        "\n [0] \n\n a , [0] -> [1]\n\ta,[1]->[2]\na,[2]->\t[0]\n[0]",
+        "x\na,x->y\na,y->z\na,z->x\nx\n",
+        "a,0->1\na,1->2\na,2->0\n",
+        "[0]\na,[0]->[1]\n[0]\na,[1]->[2]\na,[0]->[1]\na,[2]->[0]\n[0]\n",
+    ];
+    for text in texts {
+        assert_eq!(rt;
+            check(
+                alloc,
+                text,
+                ONLY_B,
+                RING_NO,
+                "not included\nprefix:\nloop: a\n"
+            )?,
+            (1, true)
+        );
+    }
     Ok(())
 }

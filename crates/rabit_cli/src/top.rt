@@ -5,7 +5,7 @@ ghost use Rattle.std.specs.String.{string_bytes};
 ghost use Rattle.shelf_io.specs.Counts.{Rose};
 ghost use Rattle.rabit_cli.specs.Question.{question_of};
 ghost use Rattle.rabit_cli.specs.Printed.{IsPrintable, text_for};
-ghost use Rattle.rabit_cli.specs.Command.{IsAnswerTo, UnlessRefused};
+ghost use Rattle.rabit_cli.specs.Command.{CountsInTurn, IsAnswerTo, UnlessRefused};
 ghost use Rattle.rabit_cli.specs.Said.{WasSaid, IsAnswered, ShowsApart, SaysEachAnswer};
 
 use crate::answer::Answer;
@@ -59,6 +59,10 @@ pub fn run<H: Shelf, K: Sink>(alloc: Global, words: &[String], shelf: &mut H, ou
     ensures write_fault { result ≡ 7 → Rose (K.faults out.old) (K.faults out.new) }
     ensures files_stay { H.held shelf.new ≡ H.held shelf.old }
     ensures puts_stay { H.put_faults shelf.new ≡ H.put_faults shelf.old }
+
+    // Where the shelf tells its files, a missing one is counted only where the command reads it, after those before it.
+    ensures missing { IfSome (H.held shelf.old) (λ files.
+        CountsInTurn files (question_of (map string_bytes words.now)) (H.missed shelf.old) (H.missed shelf.new)) }
 {
     let answer = deciding::answer_to(alloc, words, shelf);
     say(alloc, &answer, out)

@@ -1,0 +1,107 @@
+//! Faulty texts of automata, and what the program says of each.
+
+use crate::tests::{ONLY_B, RING, RING_NO, check};
+use auto_core::Memory;
+use std::alloc::Global;
+use std::test::Fail;
+
+#[test]
+fn each_text_has_its_first_fault(rt: HostRuntime) -> Result<(), Fail> {
+    let alloc = rt.alloc();
+    let faults = [
+        ("", "line 0: Empty\n"),
+        ("\n", "line 0: Empty\n"),
+        ("\n \t\r\n\n", "line 0: Empty\n"),
+        ("   ", "line 0: Empty\n"),
+        ("[0]\na,[0]->[\u{1}]\n", "line 2: BadByte\n"),
+        ("[0]\n\u{7f}\n", "line 2: BadByte\n"),
+        ("[0]\na\rb\n", "line 2: BadByte\n"),
+        ("[0]\n\u{b}[1]\n", "line 2: BadByte\n"),
+        ("a,[0]-[1]\n", "line 1: Shape\n"),
+        ("[0]->[1]\n", "line 1: Shape\n"),
+        ("[0]\na,[0]-[1]\n", "line 2: Shape\n"),
+        ("a,b,[0]->[1]", "line 1: Shape\n"),
+        ("a,[0]->[1]->[2]", "line 1: Shape\n"),
+        ("a->[0],[1]", "line 1: Shape\n"),
+        ("a->,[0]->[1]", "line 1: Shape\n"),
+        ("\n\n,\n", "line 3: Shape\n"),
+        ("->\n", "line 1: Shape\n"),
+        ("a,[0]\n", "line 1: Shape\n"),
+        ("a,[0]>-[1]\n", "line 1: Shape\n"),
+        ("[0]\r\n\r\na,[0],[1]\r\n", "line 3: Shape\n"),
+        (",->\n", "line 1: EmptyToken\n"),
+        ("a, \t->[1]\n", "line 1: EmptyToken\n"),
+        (",[0]->[1]\n", "line 1: EmptyToken\n"),
+        ("a,[0]-> \n", "line 1: EmptyToken\n"),
+        (" , [0] -> [1]\n", "line 1: EmptyToken\n"),
+        ("[0]\na,[0]->[0]\nb,->[0]\n", "line 3: EmptyToken\n"),
+        ("[0]\n[1]\na,[0]->[1]\n", "line 3: TwoInitial\n"),
+        ("[0]\n\n[0]\na,[0]->[0]\n", "line 4: TwoInitial\n"),
+        ("[0]\n[1]\n[2]\na,[3]->[4]\n", "line 4: TwoInitial\n"),
+        ("[0]\n[1]\n\n\na,[0]->[1]\n[0]\n", "line 5: TwoInitial\n"),
+        // Two faults on one line: the lesser kind is named.
+        ("a,b,c->d\u{2}\n", "line 1: BadByte\n"),
+        ("->\u{1},\n", "line 1: BadByte\n"),
+        (",,->\n", "line 1: Shape\n"),
+        ("[0]\n[1]\n,->\n", "line 3: EmptyToken\n"),
+        ("[0]\n[1]\na,[0]-[1]\n", "line 3: Shape\n"),
+        ("[0]\n[1]\n,[0]->[1]\n", "line 3: EmptyToken\n"),
+        // Faults on two lines: the earlier line is named.
+        ("a,[0]-[1]\n\u{1}\n", "line 1: Shape\n"),
+        (",[0]->[1]\na,[0]-[1]\n", "line 1: EmptyToken\n"),
+        ("[0]\n[1]\na,[0]->[1]\n\u{1}\n", "line 3: TwoInitial\n"),
+        ("a,[0]->\n\n,\n\u{1}", "line 1: EmptyToken\n"),
+        ("[0]\na,[0]->[0]\n->\n,[0]->[0]\n", "line 3: Shape\n"),
+        ("x\u{1}\na,[0]-[1]\n", "line 1: BadByte\n"),
+    ];
+    for (text, said) in faults {
+        let mut first = String::from_str(alloc, "file 1 ")?;
+        first.push_str(said)?;
+        assert_eq!(rt;
+            check(alloc, text, ONLY_B, RING_NO, first.as_str())?,
+            (4, true),
+            "{text:?}"
+        );
+        let mut second = String::from_str(alloc, "file 2 ")?;
+        second.push_str(said)?;
+        assert_eq!(rt;
+            check(alloc, RING, text, RING_NO, second.as_str())?,
+            (4, true),
+            "{text:?}"
+        );
+    }
+    Ok(())
+}
+
+/// The lines of this many states, or of this many letters on one state.
+fn many_lines(alloc: Global, states: u32, letters: u32) -> Result<String, Memory> {
+    let mut text = String::new(alloc);
+    for state in 0..states {
+        text.push_str("[")?;
+        write!(text, "{state}")?;
+        text.push_str("]\n")?;
+    }
+    for letter in 0..letters {
+        write!(text, "a{letter},[0]->[0]\n")?;
+    }
+    Ok(text)
+}
+
+#[test]
+fn the_limits_of_an_automaton_are_told(rt: HostRuntime) -> Result<(), Fail> {
+    let alloc = rt.alloc();
+    let refused = "certificate item 0: rule 1\n";
+    for (states, letters, said, status) in [
+        (512, 0, refused, 5),
+        (513, 0, "file 1 line 513: TooManyStates\n", 4),
+        (1, 256, refused, 5),
+        (1, 257, "file 1 line 258: TooManyLabels\n", 4),
+    ] {
+        let text = many_lines(alloc, states, letters)?;
+        assert_eq!(rt;
+            check(alloc, text.as_str(), ONLY_B, RING_NO, said)?,
+            (status, true)
+        );
+    }
+    Ok(())
+}
