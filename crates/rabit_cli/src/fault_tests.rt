@@ -2,6 +2,7 @@
 
 use crate::tests::{ONLY_B, RING, RING_NO, check};
 use auto_core::Memory;
+use ba_format::{BaFault, BaKind, Limits, ReadFault, read};
 use std::alloc::Global;
 use std::test::Fail;
 
@@ -102,6 +103,52 @@ fn the_limits_of_an_automaton_are_told(rt: HostRuntime) -> Result<(), Fail> {
             check(alloc, text.as_str(), ONLY_B, RING_NO, said)?,
             (status, true)
         );
+    }
+    Ok(())
+}
+
+/// How many states and labels the text has within these limits, or its fault; none where it was not read.
+fn counts_in(alloc: Global, text: &[u8], limits: &Limits) -> Option<Result<(u32, u32), BaFault>> {
+    if text.len() > 1_000_000 {
+        return None;
+    }
+    match read(alloc, text, limits) {
+        Ok(named) => Some(Ok((named.auto.states(), named.auto.labels()))),
+        Err(ReadFault::Ba(fault)) => Some(Err(fault)),
+        Err(ReadFault::Memory) => None,
+    }
+}
+
+#[test]
+fn more_states_are_read_where_more_are_allowed(rt: HostRuntime) -> Result<(), Fail> {
+    let alloc = rt.alloc();
+    let limits = Limits {
+        states: 2048,
+        labels: 256,
+        transitions: 65_536,
+    };
+    for (states, letters, counts) in [
+        (2048, 0, Ok((2048, 0))),
+        (
+            2049,
+            0,
+            Err(BaFault {
+                line: 2049,
+                kind: BaKind::TooManyStates,
+            }),
+        ),
+        (1, 256, Ok((1, 256))),
+        (
+            1,
+            257,
+            Err(BaFault {
+                line: 258,
+                kind: BaKind::TooManyLabels,
+            }),
+        ),
+    ] {
+        let text = many_lines(alloc, states, letters)?;
+        assert_eq!(rt; counts_in(alloc, text.as_bytes(), &limits), Some(counts));
     }
     Ok(())
 }
