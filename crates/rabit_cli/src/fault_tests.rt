@@ -152,3 +152,31 @@ fn more_states_are_read_where_more_are_allowed(rt: HostRuntime) -> Result<(), Fa
     }
     Ok(())
 }
+
+#[test]
+fn a_long_token_and_too_many_transitions_are_told(rt: HostRuntime) -> Result<(), Fail> {
+    let alloc = rt.alloc();
+    let mut long = String::new(alloc);
+    long.push_str("[0]\n")?;
+    for _byte in 0..256 {
+        long.push_str("a")?;
+    }
+    long.push_str(",[0]->[0]\n")?;
+    let said = "file 1 line 2: TokenLong\n";
+    assert_eq!(rt;
+        check(alloc, long.as_str(), ONLY_B, RING_NO, said)?,
+        (4, true)
+    );
+    let mut many = String::new(alloc);
+    for state in 0..257 {
+        for letter in 0..256 {
+            write!(many, "a{letter},[{state}]->[{state}]\n")?;
+        }
+    }
+    let said = "file 1 line 65537: TooManyTransitions\n";
+    assert_eq!(rt;
+        check(alloc, many.as_str(), ONLY_B, RING_NO, said)?,
+        (4, true)
+    );
+    Ok(())
+}
