@@ -1,4 +1,4 @@
-//! Arcs of an automaton of 65 states, with its own graphs.
+//! Arcs of an automaton of 65 or 130 states, with its own graphs.
 
 use crate::{Arc, base, extend, subsumes};
 use auto_core::{Auto, Memory, Trans};
@@ -55,31 +55,31 @@ fn subsumes_by(
 
 #[test]
 fn arcs_are_extended(rt: HostRuntime) -> Result<(), Fail> {
-    let steps = [step(0, 0, 63), step(63, 1, 64), step(64, 0, 0)];
-    let automaton = Auto::build(rt.alloc(), 65, 2, 0, &steps, &[64])?;
-    assert!(rt;
-        two_steps(&automaton, 0, 1)
-            == Some(Arc {
-                from: 0,
-                to: 64,
-                accepting: true
-            })
-    );
-    assert!(rt;
-        two_steps(&automaton, 2, 0)
-            == Some(Arc {
-                from: 64,
-                to: 63,
-                accepting: false
-            })
-    );
+    for (states, before, last) in [(65, 63, 64), (130, 128, 129)] {
+        let steps = [step(0, 0, before), step(before, 1, last), step(last, 0, 0)];
+        let automaton = Auto::build(rt.alloc(), states, 2, 0, &steps, &[last])?;
+        assert!(rt;
+            two_steps(&automaton, 0, 1)
+                == Some(Arc {
+                    from: 0,
+                    to: last,
+                    accepting: true
+                })
+        );
+        assert!(rt;
+            two_steps(&automaton, 2, 0)
+                == Some(Arc {
+                    from: last,
+                    to: before,
+                    accepting: false
+                })
+        );
+    }
     Ok(())
 }
 
 #[test]
 fn smaller_graphs_subsume(rt: HostRuntime) -> Result<(), Fail> {
-    let steps = [step(0, 0, 63), step(0, 1, 64)];
-    let automaton = Auto::build(rt.alloc(), 65, 2, 0, &steps, &[64])?;
     let plain = Arc {
         from: 1,
         to: 2,
@@ -90,8 +90,12 @@ fn smaller_graphs_subsume(rt: HostRuntime) -> Result<(), Fail> {
         to: 2,
         accepting: true,
     };
-    assert!(rt; subsumes_by(rt.alloc(), &automaton, &marked, &plain, 63, 64)?);
-    assert!(rt; !subsumes_by(rt.alloc(), &automaton, &plain, &marked, 63, 64)?);
-    assert!(rt; !subsumes_by(rt.alloc(), &automaton, &marked, &plain, 64, 63)?);
+    for (states, before, last) in [(65, 63, 64), (130, 128, 129)] {
+        let steps = [step(0, 0, before), step(0, 1, last)];
+        let automaton = Auto::build(rt.alloc(), states, 2, 0, &steps, &[last])?;
+        assert!(rt; subsumes_by(rt.alloc(), &automaton, &marked, &plain, before, last)?);
+        assert!(rt; !subsumes_by(rt.alloc(), &automaton, &plain, &marked, before, last)?);
+        assert!(rt; !subsumes_by(rt.alloc(), &automaton, &marked, &plain, last, before)?);
+    }
     Ok(())
 }
