@@ -9,3 +9,4 @@ pub mod RunLaws
 pub mod Rows
 pub mod Reach
 pub mod Graph
+pub mod Closed
