@@ -2,6 +2,7 @@
 #![tactic(auto)]
 
 mod game;
+mod near;
 mod rounds;
 
 pub use game::greatest;
