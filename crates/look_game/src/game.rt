@@ -1,16 +1,51 @@
 //! The greatest relation, by a list of rows that are still to be tried.
 
-ghost use Rattle.std.specs.Prelude.{◌≡◌, ◌+◌, ◌/◌, ◌≤◌, ℕ, true, false, length, IfOk};
+ghost use Rattle.std.specs.Prelude.{◌≡◌, ◌+◌, ◌/◌, ◌<◌, ◌≤◌, ℕ, true, false, length, IfOk};
 ghost use Rattle.auto_core.specs.Automaton.{IsAutomaton};
 ghost use Rattle.auto_core.specs.Game.{IsGreatest};
-ghost use Rattle.look_game.specs.Taking.{IsMatching, Takes, TakesSome, HasRounds};
-ghost use Rattle.look_game.specs.Near.{IsApart, HasOtherRounds};
+ghost use Rattle.look_game.specs.Taking.{IsMatching, Takes, TakesSome, KeepsOthers, HasRounds};
+ghost use Rattle.look_game.specs.Near.{IsReachedWithin, IsApart, HasOtherRounds};
 
-use crate::{near, rounds};
+use crate::{first, near, rounds};
 use auto_core::{Auto, Memory, rows};
 use bit_rel::Rel;
 use look_round::{Scratch, Side};
 use std::alloc::Global;
+
+/// Takes away the pairs of `p` that do not have their round, and tells whether there were any.
+fn visit_row<S: Side>(
+    side: &S,
+    automaton: &Auto,
+    look: u32,
+    rel: &mut Rel,
+    scratch: &mut Scratch,
+    p: u32,
+) -> bool
+    requires look_from { 1 ≤ look }
+    requires look_upto { look ≤ 6 }
+    requires equal { rel.old.size ≡ automaton.now.states }
+    requires made { scratch.old ≡ record { states = automaton.now.states; look = look } }
+    requires state { p < automaton.now.states }
+    ensures takes { Takes (S.goes side.now automaton.now) (S.keeps side.now automaton.now) look rel.old rel.new }
+    ensures some { result ≡ true → TakesSome rel.old rel.new }
+    ensures same { result ≡ false → rel.new ≡ rel.old }
+    ensures rounds { result ≡ false → HasRounds (S.goes side.now automaton.now) (S.keeps side.now automaton.now) look rel.new p }
+    ensures others { KeepsOthers p rel.old rel.new }
+    ensures apart { (IsReachedWithin (S.goes side.now automaton.now) look p p → ⊥)
+        → HasRounds (S.goes side.now automaton.now) (S.keeps side.now automaton.now) look rel.new p }
+    ensures scratch { scratch.new ≡ scratch.old }
+{
+    let mut changed = false;
+    for q in 0..rel.size() {
+        if rel.get(p, q) {
+            if !first::holds(side, automaton, rel, look, p, q, scratch) {
+                rel.clear(p, q);
+                changed = true;
+            }
+        }
+    }
+    changed
+}
 
 /// Takes away pairs of the marked rows that do not have their round, each pair being tried once, and tells whether there were
 /// any. `changed` is made to mark the rows that lost pairs.
@@ -42,7 +77,7 @@ fn pass<S: Side>(
     let mut any = false;
     for p in 0..rel.size() {
         if rows::has_bit(marks, p as usize) {
-            if rounds::visit_row(side, automaton, look, rel, scratch, p) {
+            if visit_row(side, automaton, look, rel, scratch, p) {
                 rows::set_bit(changed, p as usize);
                 any = true;
             }

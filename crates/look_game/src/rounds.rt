@@ -2,8 +2,7 @@
 
 ghost use Rattle.std.specs.Prelude.{◌≡◌, ◌<◌, ◌≤◌, ℕ, true, false, IfOk};
 ghost use Rattle.auto_core.specs.Game.{IsGreatest};
-ghost use Rattle.look_game.specs.Taking.{AddsMatching, IsMatching, Takes, TakesSome, KeepsOthers, HasRounds};
-ghost use Rattle.look_game.specs.Near.{IsReachedWithin};
+ghost use Rattle.look_game.specs.Taking.{AddsMatching, IsMatching, Takes, TakesSome, HasRounds};
 
 use auto_core::{Auto, Memory};
 use bit_rel::Rel;
@@ -35,7 +34,7 @@ pub fn matching<S: Side>(alloc: Global, side: &S, automaton: &Auto) -> Result<Re
 }
 
 /// Takes away the pairs of `p` that do not have their round, and tells whether there were any.
-pub fn visit_row<S: Side>(
+fn visit_row<S: Side>(
     side: &S,
     automaton: &Auto,
     look: u32,
@@ -52,9 +51,6 @@ pub fn visit_row<S: Side>(
     ensures some { result ≡ true → TakesSome rel.old rel.new }
     ensures same { result ≡ false → rel.new ≡ rel.old }
     ensures rounds { result ≡ false → HasRounds (S.goes side.now automaton.now) (S.keeps side.now automaton.now) look rel.new p }
-    ensures others { KeepsOthers p rel.old rel.new }
-    ensures apart { (IsReachedWithin (S.goes side.now automaton.now) look p p → ⊥)
-        → HasRounds (S.goes side.now automaton.now) (S.keeps side.now automaton.now) look rel.new p }
     ensures scratch { scratch.new ≡ scratch.old }
 {
     let mut changed = false;

@@ -45,10 +45,3 @@ returns-clause-rounds g c = λ e q held.
     let below = h.takes.valid.in_range c.args.p q held in
     let lt = below.1 in
     h.rounds e q (omega (arith, lt, h.takes.size, c.loop-q-test.false, c.size-q-end.ensures.count)) held
-
-pub returns-clause-apart : goal.returns-clause-apart
-returns-clause-apart g c = λ free q held.
-    let h = c.loop-q.invariant.1 in
-    let below = h.takes.valid.in_range c.args.p q held in
-    let lt = below.1 in
-    h.apart free q (omega (arith, lt, h.takes.size, c.loop-q-test.false, c.size-q-end.ensures.count)) held
