@@ -109,40 +109,45 @@ module _ (M : ℕ → ℕ → ℕ → Type 0) (ok : ℕ → ℕ → Type 0) (k :
       let lt = below.0 in
       apart p (λ r bit reached. unmarked (near p r (omega arith) bit reached)) q held
 
-  -- The rows below n were tried if they are marked; `changed` marks those that lost pairs.
+  -- The rows from n on were tried if they are marked; `changed` marks those that lost pairs.
   pub record IsTrying (marks : List ℕ) (old now : Relation) (changed : List ℕ) (any : Bool) (n : ℕ) : Type 0 where
     pub valid : IsRelation old
     pub takes : Takes M ok k old now
     pub some : any ≡ true → TakesSome old now
     pub none : any ≡ false → (r : ℕ) → HasBit changed r → ⊥
-    pub rounds : (p : ℕ) → (p < n) ⊎ (HasBit marks p → ⊥) → IsApart M k changed p → HasRounds M ok k now p
+    pub rounds : (p : ℕ) → (n ≤ p) ⊎ (HasBit marks p → ⊥) → IsApart M k changed p → HasRounds M ok k now p
 
   pub trying_begins :
-      (marks : List ℕ) (R : Relation) (changed : List ℕ)
+      (marks : List ℕ) (R : Relation) (changed : List ℕ) (n : ℕ)
       → IsRelation R
+      → n ≡ R.size
       → ((r : ℕ) → bit_of changed r ≡ false)
       → HasOtherRounds M ok k R marks
-      → IsTrying marks R R changed false 0
-  trying_begins marks R changed valid clear others = record {
+      → IsTrying marks R R changed false n
+  trying_begins marks R changed n valid size clear others = record {
     valid = valid;
     takes = takes_none M ok k R valid;
     some = λ e. absurd (false≢true e);
     none = λ e r bit. false≢true (sym (clear r) ∙ bit);
-    rounds = λ p either apart. elim either [ inl lt ↦ absurd (omega arith) | inr unmarked ↦ others p unmarked ];
+    rounds = λ p either apart q held. elim either [
+      | inl far ↦ let below = valid.in_range p q held in let lt = below.0 in absurd (omega arith)
+      | inr unmarked ↦ others p unmarked q held
+    ];
   }
 
   -- the row lost pairs
   pub row_lost :
-      (marks : List ℕ) (old now new : Relation) (changed after : List ℕ) (any : Bool) (p : ℕ)
-      → IsTrying marks old now changed any p
+      (marks : List ℕ) (old now new : Relation) (changed after : List ℕ) (any : Bool) (p n : ℕ)
+      → p + 1 ≡ n
+      → IsTrying marks old now changed any n
       → Takes M ok k now new
       → TakesSome now new
       → KeepsOthers p now new
       → ((IsReachedWithin M k p p → ⊥) → HasRounds M ok k new p)
       → bit_of after p ≡ true
       → ((i : ℕ) → ¬ (i ≡ p) → bit_of after i ≡ bit_of changed i)
-      → IsTrying marks old new after true (p + 1)
-  row_lost marks old now new changed after any p h takes fewer keeps free here others =
+      → IsTrying marks old new after true p
+  row_lost marks old now new changed after any p n next h takes fewer keeps free here others =
       let upto = takes_upto M ok k old now h.valid h.takes in
       record {
         valid = h.valid;
@@ -160,7 +165,7 @@ module _ (M : ℕ → ℕ → ℕ → Type 0) (ok : ℕ → ℕ → Type 0) (k :
       still : (r : ℕ) → HasBit changed r → HasBit after r
       still r bit = elim (cases_eq r p) [ inl e ↦ subst (λ x. HasBit after x) (sym e) here | inr other ↦ others r other ∙ bit ]
 
-      stay : (r : ℕ) → (r < p) ⊎ (HasBit marks r → ⊥) → IsApart M k after r → HasRounds M ok k new r
+      stay : (r : ℕ) → (n ≤ r) ⊎ (HasBit marks r → ⊥) → IsApart M k after r → HasRounds M ok k new r
       stay r either apart q held =
           round_near M ok (Holds now.pairs) (Holds new.pairs) k r q
           (λ u v reached is. keeps u v (λ e. apart u (subst (λ x. HasBit after x) (sym e) here) reached) is)
@@ -168,17 +173,18 @@ module _ (M : ℕ → ℕ → ℕ → Type 0) (ok : ℕ → ℕ → Type 0) (k :
 
   -- it lost none
   pub row_kept :
-      (marks : List ℕ) (old now new : Relation) (changed : List ℕ) (any : Bool) (p : ℕ)
-      → IsTrying marks old now changed any p
+      (marks : List ℕ) (old now new : Relation) (changed : List ℕ) (any : Bool) (p n : ℕ)
+      → p + 1 ≡ n
+      → IsTrying marks old now changed any n
       → new ≡ now
       → HasRounds M ok k new p
-      → IsTrying marks old new changed any (p + 1)
-  row_kept marks old now new changed any p h same rounds =
-      let P : Relation → Type 0 = λ R. IsTrying marks old R changed any (p + 1) in
+      → IsTrying marks old new changed any p
+  row_kept marks old now new changed any p n next h same rounds =
+      let P : Relation → Type 0 = λ R. IsTrying marks old R changed any p in
       let Q : Relation → Type 0 = λ R. HasRounds M ok k R p in
       subst P (sym same) (on (subst Q same rounds))
     where
-      on : HasRounds M ok k now p → IsTrying marks old now changed any (p + 1)
+      on : HasRounds M ok k now p → IsTrying marks old now changed any p
       on here = record {
         valid = h.valid;
         takes = h.takes;
@@ -192,11 +198,12 @@ module _ (M : ℕ → ℕ → ℕ → Type 0) (ok : ℕ → ℕ → Type 0) (k :
 
   -- it is not marked
   pub row_passed :
-      (marks : List ℕ) (old now : Relation) (changed : List ℕ) (any : Bool) (p : ℕ)
-      → IsTrying marks old now changed any p
+      (marks : List ℕ) (old now : Relation) (changed : List ℕ) (any : Bool) (p n : ℕ)
+      → p + 1 ≡ n
+      → IsTrying marks old now changed any n
       → (HasBit marks p → ⊥)
-      → IsTrying marks old now changed any (p + 1)
-  row_passed marks old now changed any p h unmarked = record {
+      → IsTrying marks old now changed any p
+  row_passed marks old now changed any p n next h unmarked = record {
     valid = h.valid;
     takes = h.takes;
     some = h.some;
@@ -211,11 +218,8 @@ module _ (M : ℕ → ℕ → ℕ → Type 0) (ok : ℕ → ℕ → Type 0) (k :
   pub all_tried :
       (marks : List ℕ) (old now : Relation) (changed : List ℕ) (any : Bool) (n : ℕ)
       → IsTrying marks old now changed any n
-      → now.size ≤ n
+      → n ≡ 0
       → (p : ℕ)
       → IsApart M k changed p
       → HasRounds M ok k now p
-  all_tried marks old now changed any n h all p apart q held =
-      let below = h.takes.valid.in_range p q held in
-      let lt = below.0 in
-      h.rounds p (inl (omega arith)) apart q held
+  all_tried marks old now changed any n h all p apart = h.rounds p (inl (omega arith)) apart

@@ -37,11 +37,15 @@ answers_near :
 answers_near M ok V W k p q [] ps path few same h = h
 answers_near M ok V W k p q (a ∷ w) [] path few same h = h
 answers_near M ok V W zero p q (a ∷ w) (r ∷ ps) path few same h = absurd (omega arith)
-answers_near M ok V W (suc k) p q (a ∷ w) (r ∷ ps) (move, rest) few same (s, go, match, h) =
-    (s, go, match, elim h [
-      | inl held ↦ inl (same r s (a, r, move, inl refl) held)
-      | inr later ↦ inr (answers_near M ok V W k r s w ps rest (omega arith) (λ u v is held. same u v (a, r, move, inr is) held) later)
-    ])
+answers_near M ok V W (suc k) p q (a ∷ w) (r ∷ ps) (move, rest) few same (s, go, match, h) = (
+  s,
+  go,
+  match,
+  elim h [
+    | inl held ↦ inl (same r s (a, r, move, inl refl) held)
+    | inr later ↦ inr (answers_near M ok V W k r s w ps rest (omega arith) (λ u v is held. same u v (a, r, move, inr is) held) later)
+  ],
+)
 
 pub round_near :
     (M : ℕ → ℕ → ℕ → Type 0) (ok V W : ℕ → ℕ → Type 0) (k p q : ℕ)

@@ -48,7 +48,7 @@ fn visit_row<S: Side>(
 }
 
 /// Takes away pairs of the marked rows that do not have their round, each pair being tried once, and tells whether there were
-/// any. `changed` is made to mark the rows that lost pairs.
+/// any. The last rows come first, since moves mostly lead on to later states. `changed` is made to mark the rows that lost pairs.
 fn pass<S: Side>(
     side: &S,
     automaton: &Auto,
@@ -75,7 +75,7 @@ fn pass<S: Side>(
 {
     rows::clear_row(changed);
     let mut any = false;
-    for p in 0..rel.size() {
+    for p in (0..rel.size()).rev() {
         if rows::has_bit(marks, p as usize) {
             if visit_row(side, automaton, look, rel, scratch, p) {
                 rows::set_bit(changed, p as usize);

@@ -8,3 +8,6 @@ mod rounds;
 
 pub use game::greatest;
 pub use rounds::greatest_by_rounds;
+
+#[cfg(test)]
+mod tests;

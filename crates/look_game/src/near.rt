@@ -38,13 +38,7 @@ fn moves_into<S: Side>(side: &S, automaton: &Auto, p: u32, marks: &[u64], near: 
 }
 
 /// Marks in `next` the states from which a move leads to a state that one of the other rows marks.
-fn step_near<S: Side>(
-    side: &S,
-    automaton: &Auto,
-    marks: &[u64],
-    near: &[u64],
-    next: &mut [u64],
-)
+fn step_near<S: Side>(side: &S, automaton: &Auto, marks: &[u64], near: &[u64], next: &mut [u64])
     requires marks_len { length marks.now ≡ (automaton.now.states + 63) / 64 }
     requires near_len { length near.now ≡ (automaton.now.states + 63) / 64 }
     requires next_len { length next.old ≡ (automaton.now.states + 63) / 64 }

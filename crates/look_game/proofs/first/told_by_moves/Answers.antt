@@ -27,10 +27,11 @@ loop-at-preserved g c =
     let moves = g.S.Side.list s A c.args.p in
     let m = c.nth.result in
     elim c.match-told_by_replies.branch [
-      | in-Holds w ↦
-          (λ e. c.loop-at.invariant.0 (sym w.told-is ∙ e),
-          λ e. answered_next M ok W moves c.args.q c.loop-at.at m (c.loop-at.invariant.1 (sym w.told-is ∙ e)) c.nth.ensures.item (c.told_by_replies.ensures.holds w.in-Holds.is))
-      | in-Nothing w ↦ (λ e. search rules, λ e. absurd (search rules))
+      | in-Holds w ↦ (
+        λ e. c.loop-at.invariant.0 (sym w.told-is ∙ e),
+        λ e. answered_next M ok W moves c.args.q c.loop-at.at m (c.loop-at.invariant.1 (sym w.told-is ∙ e)) c.nth.ensures.item (c.told_by_replies.ensures.holds w.in-Holds.is),
+      )
+      | in-Nothing w ↦ (λ e. search rules, λ e. absurd {A = AnsweredUpto M ok W moves c.args.q (c.loop-at.at + 1)} (search rules))
     ]
 
 pub returns-clause-holds : goal.returns-clause-holds

@@ -13,9 +13,11 @@ pub passes-preserved : goal.passes-preserved
 passes-preserved g c =
     let M = g.S.Side.goes c.args.side.now c.args.automaton.now in
     let ok = g.S.Side.keeps c.args.side.now c.args.automaton.now in
-    let takes = takes_then M ok c.args.look c.args.rel.now c.passes.rel c.pass.new.rel c.passes.invariant.1 c.pass.ensures.takes in
-    (c.pass.ensures.scratch ∙ c.passes.invariant.0, takes,
-    others_again M ok c.args.look c.args.automaton.now.states c.pass.new.rel c.pass.new.changed c.mark_near.new.near takes.valid (takes.size ∙ c.requires.equal) c.mark_near.ensures c.pass.ensures.apart)
+    let takes = takes_then M ok c.args.look c.args.rel.now c.passes.rel c.pass.new.rel c.passes.invariant.1 c.pass.ensures.takes in (
+      c.pass.ensures.scratch ∙ c.passes.invariant.0,
+      takes,
+      others_again M ok c.args.look c.args.automaton.now.states c.pass.new.rel c.pass.new.changed c.mark_near.new.near takes.valid (takes.size ∙ c.requires.equal) c.mark_near.ensures c.pass.ensures.apart,
+    )
 
 pub returns-clause-takes : goal.returns-clause-takes
 returns-clause-takes g c =
