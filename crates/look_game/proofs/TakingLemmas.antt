@@ -1,8 +1,8 @@
 -- Taking pairs away.
-use Rattle.std.proofs.Common.{◌≡◌, ℕ, zero, suc, ◌+◌, ◌<◌, ◌≤◌, ◌⊎◌, inl, inr, true, false, List, [], ◌∷◌, length, Contains, refl, sym, ap, ◌∙◌, subst, arith, le_refl}
+use Rattle.std.proofs.Common.{◌≡◌, ℕ, zero, suc, ◌<◌, ◌≤◌, inl, inr, List, [], ◌∷◌, length, Contains, refl, sym, ◌∙◌, subst, arith}
 use Rattle.auto_core.proofs.PathLemmas.{Contains-here, Contains-later, Contains-cons_cases, none_in_nil}
 use Rattle.auto_core.specs.Run.{PathBy}
-use Rattle.auto_core.specs.Game.{MayShow, Answers, Round, Stable, Holds, IsWithin}
+use Rattle.auto_core.specs.Game.{Answers, Round, Holds}
 use Rattle.bit_rel.specs.Relation.{Relation, IsRelation, IsBefore, ArePairsAscending, Removes}
 use Rattle.look_game.specs.Taking.{Takes, TakesSome}
 use Rattle.look_game.specs.Near.{IsReachedWithin}

@@ -1,5 +1,5 @@
 -- What the first moves tell of a round.
-use Rattle.std.specs.Prelude.{◌≡◌, ℕ}
+use Rattle.std.specs.Prelude.{ℕ}
 
 -- From q the move by the letter a to p is answered by a matched state that W relates p to: then no further move is needed.
 abbrev pub IsAnsweredAtOnce : (ℕ → ℕ → ℕ → Type 0) → (ℕ → ℕ → Type 0) → (ℕ → ℕ → Type 0) → ℕ → ℕ → ℕ → Type 0

@@ -1,6 +1,6 @@
 -- Taking pairs away until each that is left has its round.
 use Rattle.std.specs.Prelude.{◌≡◌, ℕ, ◌<◌, ◌↔◌, ◌⊎◌, List, length}
-use Rattle.auto_core.specs.Game.{Round, Stable, Holds, ArePairsBelow, IsWithin}
+use Rattle.auto_core.specs.Game.{Round, Stable, Holds, IsWithin}
 use Rattle.bit_rel.specs.Relation.{Relation, IsRelation}
 
 -- The new relation holds besides the old one's pairs those of p and a state below n that matches it.

@@ -1,7 +1,5 @@
-use Rattle.std.proofs.Common.{rules, ◌≡◌, ℕ, ◌+◌, ◌<◌, length, refl, sym, ◌∙◌, subst, arith}
+use Rattle.std.proofs.Common.{rules, ◌≡◌, ◌+◌, ◌<◌, length, sym, ◌∙◌, arith}
 use Rattle.auto_core.specs.Game.{Holds as Held}
-use Rattle.look_game.specs.declared.first.Told.{Told}
-use Rattle.look_game.specs.declared.first.Told.TheVariants.{Holds, Fails, Nothing}
 use Rattle.look_game.proofs.FirstLemmas.{AnsweredUpto, round_fails, round_holds, answered_next, all_answered, move_at}
 use Rattle.look_game.proofs.first.told_by_moves.Goals as goal
 use Rattle.look_game.proofs.first.told_by_moves.Goals.{in-Holds, in-Nothing}

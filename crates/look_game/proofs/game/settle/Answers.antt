@@ -1,4 +1,4 @@
-use Rattle.std.proofs.Common.{◌≡◌, refl, ◌∙◌, arith}
+use Rattle.std.proofs.Common.{refl, ◌∙◌, arith}
 use Rattle.look_game.proofs.TakingLemmas.{takes_none, takes_then}
 use Rattle.look_game.proofs.NearLemmas.{others_begin, others_again}
 use Rattle.look_game.proofs.game.settle.Goals as goal

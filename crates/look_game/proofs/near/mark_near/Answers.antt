@@ -1,4 +1,4 @@
-use Rattle.std.proofs.Common.{ℕ, ◌≡◌, suc, ◌+◌, List, sym, subst, arith}
+use Rattle.std.proofs.Common.{ℕ, ◌≡◌, ◌+◌, List, sym, subst, arith}
 use Rattle.look_game.specs.Near.{MarksNear}
 use Rattle.look_game.proofs.NearLemmas.{next_near}
 use Rattle.look_game.proofs.near.mark_near.Goals as goal
