@@ -10,3 +10,4 @@ pub mod Rows
 pub mod Reach
 pub mod Graph
 pub mod Closed
+pub mod Outcome
