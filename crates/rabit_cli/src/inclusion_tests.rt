@@ -204,7 +204,15 @@ fn pairs_without_a_lasso_are_named(rt: HostRuntime) -> Result<(), Fail> {
 #[test]
 fn logs_with_steps_are_not_checked(rt: HostRuntime) -> Result<(), Fail> {
     let alloc = rt.alloc();
-    let text = with_lines(alloc, &[(2, "log1 1\ntrim 0 1\n")])?;
+    let first = "[0]\na,[0]->[1]\na,[0]->[2]\nb,[1]->[1]\nb,[2]->[2]\nc,[2]->[2]\n[1]\n[2]\n";
+    let second = "[0]\na,[0]->[1]\nb,[1]->[1]\nc,[1]->[1]\n[1]\n";
+    let reduced =
+        "rabit-cert 1 buchi yes\nsizes 3 2 3\nlog1 3\ncut 1 3\ngone 0 1\nrel 3\nrow 0 0\nrow 1 1 2\nrow 2 2\ncut 3 3\ngone 1 2\nrel 3\nrow 0 0\nrow 1 1 2\nrow 2 2\nrel 3\nrow 0 0\nrow 1 1 2\nrow 2 2\ntrim 0 2\nlog2 0\nrel 2\nrow 0 0\nrow 1 1\nelements 2\nlive base 0\nlive base 1\ncover 0 1 1\nstep 0 0 0\nstep 1 1 1\nend\n";
+    assert_eq!(rt;
+        check(alloc, first, second, reduced, "not built\n")?,
+        (9, true)
+    );
+    let text = with_lines(alloc, &[(3, "log2 1\ntrim 0 1\n")])?;
     assert_eq!(rt;
         check(alloc, PAIR, PAIR, text.as_str(), "not built\n")?,
         (9, true)
