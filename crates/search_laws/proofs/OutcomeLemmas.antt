@@ -26,13 +26,13 @@ ends A B S limit o h =
     at_the_end Entry (supergraph_rules A B S) limit (HaveOrigins A) (FitsBehind A) (origins_of_none A) (origins_more A) (fits_at_the_start A B S) (fits_later A)
     (λ es e x c have is has. fits_after_a_turn A B S es e x c is has) o h
 
-closed_end : (A B : Automaton) (S : List (ℕ × ℕ)) (limit : ℕ) (es : List Entry) → SearchEnds A B S limit (Closed es) → HasClosed (supergraph_rules A B S) limit (HaveOrigins A) es
+pub closed_end : (A B : Automaton) (S : List (ℕ × ℕ)) (limit : ℕ) (es : List Entry) → SearchEnds A B S limit (Closed es) → HasClosed (supergraph_rules A B S) limit (HaveOrigins A) es
 closed_end A B S limit es h = ends A B S limit (Closed es) h
 
-apart_end : (A B : Automaton) (S : List (ℕ × ℕ)) (limit : ℕ) (x y : Entry) → SearchEnds A B S limit (Apart x y) → HasFailed (supergraph_rules A B S) (HaveOrigins A) x y
+pub apart_end : (A B : Automaton) (S : List (ℕ × ℕ)) (limit : ℕ) (x y : Entry) → SearchEnds A B S limit (Apart x y) → HasFailed (supergraph_rules A B S) (HaveOrigins A) x y
 apart_end A B S limit x y h = ends A B S limit (Apart x y) h
 
-limit_end : (A B : Automaton) (S : List (ℕ × ℕ)) (limit : ℕ) (es : List Entry) → SearchEnds A B S limit (Limit es) → HasMet (supergraph_rules A B S) limit (HaveOrigins A) es
+pub limit_end : (A B : Automaton) (S : List (ℕ × ℕ)) (limit : ℕ) (es : List Entry) → SearchEnds A B S limit (Limit es) → HasMet (supergraph_rules A B S) limit (HaveOrigins A) es
 limit_end A B S limit es h = ends A B S limit (Limit es) h
 
 pub origins_fit : OriginsFit
@@ -44,7 +44,7 @@ entries_join : (A B : Automaton) (S : List (ℕ × ℕ)) → IsGreatestForward B
 entries_join A B S greatest x y z = subsumes_trans (Holds S) (greatest_transitive B S greatest) (super_entry B x) (super_entry B y) (super_entry B z)
 
 -- What is met is subsumed.
-met_is_subsumed : (A B : Automaton) (S : List (ℕ × ℕ)) → IsAutomaton B → IsGreatestForward B 1 S → (es : List Entry) → HaveOrigins A es → (c : Entry) →
+pub met_is_subsumed : (A B : Automaton) (S : List (ℕ × ℕ)) → IsAutomaton B → IsGreatestForward B 1 S → (es : List Entry) → HaveOrigins A es → (c : Entry) →
     IsMet (supergraph_rules A B S) es c → HasSubsumer (supergraph_rules A B S) es c
 met_is_subsumed A B S valid greatest es have c met = elim met [
   | inl has ↦ has

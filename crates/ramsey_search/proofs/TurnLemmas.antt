@@ -1,0 +1,303 @@
+-- The search, candidate by candidate.
+use Rattle.std.proofs.Common.{◌≡◌, ℕ, zero, suc, ◌+◌, ◌-◌, ◌*◌, ◌<◌, ◌≤◌, ◌⊎◌, Bool, true, false, cond, ◌==◌, List, [], ◌∷◌, ◌++◌, length, map, slice_index_or, refl, sym, ap, ◌∙◌, subst, inl, inr, arith, length-append, append-nil}
+use Rattle.std.specs.Prelude.{filter}
+use Rattle.std.specs.List.{range_with_len}
+use Rattle.std.proofs.lemmas.Bool.{cases_Bool, eq-eqb, eqb-true}
+use Rattle.std.proofs.lemmas.List.Elements.{filter-append}
+use Rattle.auto_core.specs.Automaton.{Automaton, IsAutomaton, trans_at, IsOutgoing}
+use Rattle.auto_core.specs.Run.{Run}
+use Rattle.auto_core.specs.Game.{IsGreatestForward}
+use Rattle.auto_core.specs.Graph.{WordArc, IsPlacedAt, arc_at, extended_arc}
+use Rattle.auto_core.specs.Outcome.{At, Entry, Closed, Apart, Limit, HasSubsumer, HasNoSubsumer, PassesBefore, FirstFailing, Comes, passed_over, limit_met, told_apart, entered, turn_of_live, turn_of_dropped, done, base_entry, next_entry, steps_out, supergraph_rules, arcs_in}
+use Rattle.auto_core.specs.declared.parts.Origin.TheVariants.{Base, Next}
+use Rattle.auto_core.proofs.MoveLemmas.{move_in_range}
+use Rattle.graph_rows.specs.Block.{IsFormed}
+use Rattle.search_laws.specs.Outcomes.{HaveOrigins}
+use Rattle.search_laws.proofs.PlaceLemmas.{at_within, at_some, at_more, at_new}
+use Rattle.search_laws.proofs.EntryLemmas.{FitsBehind, origins_more, entry_is_real, arc_here}
+use Rattle.ramsey_search.specs.Entries.{entry_of, entries_of}
+use Rattle.ramsey_search.specs.declared.parts.Held.{Held}
+use Rattle.ramsey_search.specs.declared.family.Family.{Family}
+use Rattle.ramsey_search.specs.declared.parts.Fate.{Fate}
+use Rattle.ramsey_search.specs.declared.parts.Fate.TheVariants as fates
+use Rattle.ramsey_search.specs.Kept.{IsKept, IsFamily, IsWhole, IsCandidate, IsTold, FitsTogether, HasEntered, HasCome, HasEnded, Leads, numbers_at, entries_held}
+use Rattle.ramsey_search.proofs.EntriesLemmas.{entries_entered}
+use Rattle.ramsey_search.proofs.EnteredLemmas.{entered_family}
+use Rattle.ramsey_search.proofs.NumberLemmas.{contains_of_at}
+
+-- The ends of a real arc are states.
+real_in_range : (A : Automaton) → IsAutomaton A → (p : ℕ) (w : List ℕ) (q : ℕ) (flag : Bool) → 1 ≤ length w → Run A p w q flag → (p < A.states) × (q < A.states)
+real_in_range A valid p [] q flag some run = absurd (omega arith)
+real_in_range A valid p (a ∷ []) q flag some (next, later, move, rest, e) = let m = move_in_range A valid p a next move in (m.0, subst (λ k. k < A.states) rest.0 m.1)
+real_in_range A valid p (a ∷ b ∷ w) q flag some (next, later, move, rest, e) =
+    ((move_in_range A valid p a next move).0, (real_in_range A valid next (b ∷ w) q later (omega arith) rest).1)
+
+pub entry_in_range : (A : Automaton) → IsAutomaton A → (es : List Entry) → HaveOrigins A es → (i : ℕ) (x : Entry) → At es i x → (x.arc.from < A.states) × (x.arc.to < A.states)
+entry_in_range A valid es have i x is = let real = entry_is_real A es have i x is in real_in_range A valid x.arc.from x.arc.word x.arc.to x.arc.flag real.reads real.run
+
+pub held_in_range : (A B : Automaton) (S : List (ℕ × ℕ)) → IsAutomaton A → (es : List Entry) → HaveOrigins A es → (i : ℕ) (x : Entry) (h : Held) → At es i x → IsKept B S h x → (h.arc.from < A.states) × (h.arc.to < A.states)
+held_in_range A B S valid es have i x h is kept =
+    let ends = entry_in_range A valid es have i x is in (
+      subst (λ k. k < A.states) (sym (ap (λ (a : WordArc). a.from) kept.arc)) ends.0,
+      subst (λ k. k < A.states) (sym (ap (λ (a : WordArc). a.to) kept.arc)) ends.1,
+    )
+
+-- A family's parts fit together.
+pub fits_together : (A B : Automaton) (S : List (ℕ × ℕ)) (n : ℕ) (f : Family) (es : List Entry) → n ≡ B.states → IsFamily A B S f es → FitsTogether n f
+fits_together A B S n f es same family = record {
+  live_size = family.live_size ∙ sym family.size;
+  ends_size = family.ends_size ∙ ap (λ k. k * k) (sym family.states);
+  there = λ p q p_in q_in k j is.
+      let numbers : List ℕ = numbers_at f.ends.items (p * A.states + q) in
+      let among = family.between p q (subst (λ m. p < m) family.states p_in) (subst (λ m. q < m) family.states q_in) in
+      let here : At numbers k j = subst (λ m. At (numbers_at f.ends.items (p * m + q)) k j) family.states is in
+      let lies = among.only j (contains_of_at numbers k j here) in
+      let within = at_within es j lies.element lies.is in
+      let size = family.size in
+      omega arith;
+  formed = λ i h h_is.
+      let within = at_within f.held.items i h h_is in
+      let size = family.size in
+      let x = at_some es i (omega arith) in
+      subst (λ m. IsFormed m h.graph.items) (sym same) (family.kept i h x.0 h_is x.1).formed;
+}
+
+-- The candidate's arc is between states.
+fits_behind : (A B : Automaton) (S : List (ℕ × ℕ)) (es : List Entry) (h : Held) → IsCandidate A B S es h → FitsBehind A es (entry_of A es h.origin)
+fits_behind A B S es h candidate = record { placed = candidate.placed; is = refl }
+
+pub candidate_in_range : (A B : Automaton) (S : List (ℕ × ℕ)) → IsAutomaton A → (es : List Entry) → HaveOrigins A es → (h : Held) → IsCandidate A B S es h → (h.arc.from < A.states) × (h.arc.to < A.states)
+candidate_in_range A B S valid es have h candidate =
+    let c : Entry = entry_of A es h.origin in
+    held_in_range A B S valid (es ++ c ∷ []) (origins_more A es c have (fits_behind A B S es h candidate)) (length es) c h (at_new es c) candidate.kept
+
+-- After the candidate has entered.
+pub entered_whole : (A B : Automaton) (S : List (ℕ × ℕ)) → IsAutomaton A → IsGreatestForward B 1 S → (n : ℕ) → n ≡ B.states → (old now : Family) (h : Held) → IsWhole A B S old → IsCandidate A B S (entries_held A old) h →
+    HasEntered n S h old now → IsFamily A B S now (entries_held A old ++ entry_of A (entries_held A old) h.origin ∷ [])
+entered_whole A B S valid greatest n same old now h whole candidate has =
+    let es : List Entry = entries_held A old in
+    let ends = candidate_in_range A B S valid es whole.origins h candidate in
+    entered_family A B S greatest old now es h (entry_of A es h.origin) whole candidate.kept (fits_behind A B S es h candidate) ends.0 ends.1 (subst (λ m. HasEntered m S h old now) same has)
+
+-- Steps of the search go on from one another.
+leads_then : (A B : Automaton) (S : List (ℕ × ℕ)) (limit : ℕ) (es mid now cs mid_cs left : List Entry) (turn mid_turn later : ℕ) (fate : Fate) →
+    Leads A B S limit es cs turn fates.GoesOn mid mid_cs mid_turn → Leads A B S limit mid mid_cs mid_turn fate now left later → Leads A B S limit es cs turn fate now left later
+leads_then A B S limit es mid now cs mid_cs left turn mid_turn later fates.GoesOn first second = λ o rest. first o (second o rest)
+leads_then A B S limit es mid now cs mid_cs left turn mid_turn later (fates.Apart i j) first second = (second.0, second.1, second.2, second.3, first (Apart second.0 second.1) second.4)
+leads_then A B S limit es mid now cs mid_cs left turn mid_turn later fates.Full first second = first (Limit now) second
+
+pub come_then : (A B : Automaton) (S : List (ℕ × ℕ)) (limit : ℕ) (old mid now : Family) (cs mid_cs left : List Entry) (turn mid_turn later : ℕ) (fate : Fate) →
+    HasCome A B S limit old mid fates.GoesOn cs mid_cs turn mid_turn → HasCome A B S limit mid now fate mid_cs left mid_turn later → HasCome A B S limit old now fate cs left turn later
+come_then A B S limit old mid now cs mid_cs left turn mid_turn later fate first second = record {
+  whole = second.whole;
+  few = second.few;
+  grown = λ i x is. second.grown i x (first.grown i x is);
+  leads = leads_then A B S limit (entries_held A old) (entries_held A mid) (entries_held A now) cs mid_cs left turn mid_turn later fate first.leads second.leads;
+}
+
+-- Nothing has happened yet.
+pub come_first : (A B : Automaton) (S : List (ℕ × ℕ)) (limit : ℕ) (f : Family) (cs : List Entry) (turn : ℕ) → IsWhole A B S f → length f.held.items ≤ limit → HasCome A B S limit f f fates.GoesOn cs cs turn turn
+come_first A B S limit f cs turn whole few = record { whole = whole; few = λ e. few; grown = λ i x is. is; leads = λ o rest. rest }
+
+-- A candidate that an element subsumes.
+pub come_past : (A B : Automaton) (S : List (ℕ × ℕ)) (limit : ℕ) (f : Family) (c : Entry) (cs : List Entry) (turn : ℕ) → IsWhole A B S f → length f.held.items ≤ limit →
+    HasSubsumer (supergraph_rules A B S) (entries_held A f) c → HasCome A B S limit f f fates.GoesOn (c ∷ cs) cs turn turn
+come_past A B S limit f c cs turn whole few has = record { whole = whole; few = λ e. few; grown = λ i x is. is; leads = λ o rest. passed_over has rest }
+
+-- A candidate that enters.
+module _ (A B : Automaton) (S : List (ℕ × ℕ)) (limit : ℕ) (old now : Family) (h : Held) (cs : List Entry) (turn : ℕ)
+    (family : IsFamily A B S now (entries_held A old ++ entry_of A (entries_held A old) h.origin ∷ []))
+    (held : now.held.items ≡ old.held.items ++ h ∷ [])
+    (size : length old.held.items ≡ length (entries_held A old))
+    (none : HasNoSubsumer (supergraph_rules A B S) (entries_held A old) (entry_of A (entries_held A old) h.origin))
+  where
+    abbrev es : List Entry
+    es = entries_held A old
+
+    abbrev c : Entry
+    c = entry_of A es h.origin
+
+    now_is : entries_held A now ≡ es ++ c ∷ []
+    now_is = entries_entered A old now h held
+
+    pub is_whole : IsWhole A B S now
+    is_whole = subst (IsFamily A B S now) (sym now_is) family
+
+    grows : (i : ℕ) (x : Entry) → At es i x → At (entries_held A now) i x
+    grows i x is = subst (λ l. At l i x) (sym now_is) (at_more es (c ∷ []) i x is)
+
+    pub come_full : length old.held.items ≡ limit → HasCome A B S limit old now fates.Full (c ∷ cs) cs turn turn
+    come_full full = record {
+      whole = is_whole;
+      few = λ e. absurd (cc);
+      grown = grows;
+      leads = limit_met none (sym size ∙ full) (ap Limit now_is);
+    }
+
+    pub come_in : length old.held.items < limit → (fate : Fate) → IsTold A B S (entries_held A now) c fate → HasCome A B S limit old now fate (c ∷ cs) cs turn turn
+    come_in few fates.GoesOn told = record {
+      whole = is_whole;
+      few = λ e. let more = length-append old.held.items (h ∷ []) in let total = ap length held in omega arith;
+      grown = grows;
+      leads = λ o rest.
+          entered none (subst (λ k. k < limit) size few) (subst (λ l. PassesBefore (supergraph_rules A B S) l c (length l)) now_is told)
+          (subst (λ l. Comes Entry (supergraph_rules A B S) limit l cs turn o) now_is rest);
+    }
+    come_in few (fates.Apart i j) (x, y, x_is, y_is, first) = record {
+      whole = is_whole;
+      few = λ e. absurd (cc);
+      grown = grows;
+      leads = (x, y, x_is, y_is, told_apart x y none (subst (λ k. k < limit) size few) (subst (λ l. FirstFailing (supergraph_rules A B S) l c x y) now_is first) refl);
+    }
+    come_in few fates.Full told = absurd told
+
+-- The candidates of the start from a transition on, and those of an element.
+abbrev pub starts_from : Automaton → ℕ → List Entry
+starts_from A t = map (base_entry A) (range_with_len t (length A.transitions - t))
+
+abbrev pub extensions_from : Automaton → ℕ → Entry → ℕ → ℕ → List Entry
+extensions_from A e x t end = map (next_entry A e x) (range_with_len t (end - t))
+
+range_more : (t n : ℕ) → t < n → range_with_len t (n - t) ≡ t ∷ range_with_len (t + 1) (n - (t + 1))
+range_more t n lt = let e : n - t ≡ suc (n - (t + 1)) = omega arith in ap (range_with_len t) e
+
+range_over : (t n : ℕ) → n ≤ t → range_with_len t (n - t) ≡ []
+range_over t n le = let e : n - t ≡ 0 = omega arith in ap (range_with_len t) e
+
+pub starts_more : (A : Automaton) (t : ℕ) → t < length A.transitions → starts_from A t ≡ base_entry A t ∷ starts_from A (t + 1)
+starts_more A t lt = ap (map (base_entry A)) (range_more t (length A.transitions) lt)
+
+pub starts_over : (A : Automaton) (t : ℕ) → length A.transitions ≤ t → starts_from A t ≡ []
+starts_over A t le = ap (map (base_entry A)) (range_over t (length A.transitions) le)
+
+pub extensions_more : (A : Automaton) (e : ℕ) (x : Entry) (t end : ℕ) → t < end → extensions_from A e x t end ≡ next_entry A e x t ∷ extensions_from A e x (t + 1) end
+extensions_more A e x t end lt = ap (map (next_entry A e x)) (range_more t end lt)
+
+pub extensions_over : (A : Automaton) (e : ℕ) (x : Entry) (t end : ℕ) → end ≤ t → extensions_from A e x t end ≡ []
+extensions_over A e x t end le = ap (map (next_entry A e x)) (range_over t end le)
+
+-- The transitions out of a state are a range.
+none_out : (p : ℕ → Bool) (a n : ℕ) → ((t : ℕ) → a ≤ t → t < a + n → p t ≡ false) → filter p (range_with_len a n) ≡ []
+none_out p a zero none = refl
+none_out p a (suc n) none =
+    ap (λ b. cond b (a ∷ filter p (range_with_len (a + 1) n)) (filter p (range_with_len (a + 1) n))) (none a (omega arith) (omega arith))
+    ∙ none_out p (a + 1) n (λ t from below. none t (omega arith) (omega arith))
+
+all_out : (p : ℕ → Bool) (a n : ℕ) → ((t : ℕ) → a ≤ t → t < a + n → p t ≡ true) → filter p (range_with_len a n) ≡ range_with_len a n
+all_out p a zero all = refl
+all_out p a (suc n) all =
+    ap (λ b. cond b (a ∷ filter p (range_with_len (a + 1) n)) (filter p (range_with_len (a + 1) n))) (all a (omega arith) (omega arith))
+    ∙ ap (λ l. a ∷ l) (all_out p (a + 1) n (λ t from below. all t (omega arith) (omega arith)))
+
+pub range_splits : (a m n : ℕ) → range_with_len a (m + n) ≡ range_with_len a m ++ range_with_len (a + m) n
+range_splits a zero n = let e : zero + n ≡ n = omega arith in let f : a ≡ a + zero = omega arith in ap (range_with_len a) e ∙ ap (λ k. range_with_len k n) f
+range_splits a (suc m) n =
+    let e : suc m + n ≡ suc (m + n) = omega arith in
+    let f : (a + 1) + m ≡ a + suc m = omega arith in
+    ap (range_with_len a) e ∙ ap (λ l. a ∷ l) (range_splits (a + 1) m n ∙ ap (λ k. range_with_len (a + 1) m ++ range_with_len k n) f)
+
+filter_over : (p : ℕ → Bool) (xs ys : List ℕ) → filter p (xs ++ ys) ≡ filter p xs ++ filter p ys
+filter_over p xs ys = filter-append p xs ys
+
+pub steps_out_are : (A : Automaton) (p begin end : ℕ) → IsOutgoing A p begin end → steps_out A p ≡ range_with_len begin (end - begin)
+steps_out_are A p begin end out =
+    let is : ℕ → Bool = λ t. (trans_at A t).source == p in
+    let n : ℕ = length A.transitions in
+    let range = out.is_range in
+    let within = out.within in
+    let first : n ≡ begin + ((end - begin) + (n - end)) = omega arith in
+    let at : 0 + begin ≡ begin = omega arith in
+    let split : range_with_len 0 n ≡ range_with_len 0 begin ++ (range_with_len begin (end - begin) ++ range_with_len end (n - end)) =
+    ap (range_with_len 0) first
+    ∙ range_splits 0 begin ((end - begin) + (n - end))
+    ∙ ap (λ k. range_with_len 0 begin ++ range_with_len k ((end - begin) + (n - end))) at
+    ∙ ap (λ l. range_with_len 0 begin ++ l) (range_splits begin (end - begin) (n - end) ∙ (let e : begin + (end - begin) ≡ end = omega arith in ap (λ k. range_with_len begin (end - begin) ++ range_with_len k (n - end)) e)) in
+    let low : filter is (range_with_len 0 begin) ≡ [] = none_out is 0 begin (λ t from below. not_equal (trans_at A t).source p (inl (out.before t (omega arith)))) in
+    let middle : filter is (range_with_len begin (end - begin)) ≡ range_with_len begin (end - begin) =
+    all_out is begin (end - begin) (λ t from below. eq-eqb (trans_at A t).source p (out.inside t from (omega arith))) in
+    let high : filter is (range_with_len end (n - end)) ≡ [] = none_out is end (n - end) (λ t from below. not_equal (trans_at A t).source p (inr (out.after t from (omega arith)))) in
+    ap (filter is) split
+    ∙ filter_over is (range_with_len 0 begin) (range_with_len begin (end - begin) ++ range_with_len end (n - end))
+    ∙ ap (λ l. l ++ filter is (range_with_len begin (end - begin) ++ range_with_len end (n - end))) low
+    ∙ filter_over is (range_with_len begin (end - begin)) (range_with_len end (n - end))
+    ∙ ap (λ l. filter is (range_with_len begin (end - begin)) ++ l) high
+    ∙ append-nil (filter is (range_with_len begin (end - begin)))
+    ∙ middle
+  where
+    not_equal : (a b : ℕ) → (a < b) ⊎ (b < a) → (a == b) ≡ false
+    not_equal a b h = elim (cases_Bool (a == b)) [ inr no_eq ↦ no_eq | inl yes_eq ↦ let e = eqb-true a b yes_eq in absurd (elim h [ inl lt ↦ omega arith | inr lt ↦ omega arith ]) ]
+
+-- Where the search has ended, what was left does not matter.
+pub come_ends : (A B : Automaton) (S : List (ℕ × ℕ)) (limit : ℕ) (old now : Family) (fate : Fate) (cs left other : List Entry) (turn later last : ℕ) → (fate ≡ fates.GoesOn → ⊥) →
+    HasCome A B S limit old now fate cs left turn later → HasCome A B S limit old now fate cs other turn last
+come_ends A B S limit old now fates.GoesOn cs left other turn later last not come = absurd (not refl)
+come_ends A B S limit old now (fates.Apart i j) cs left other turn later last not come = record { whole = come.whole; few = come.few; grown = come.grown; leads = come.leads }
+come_ends A B S limit old now fates.Full cs left other turn later last not come = record { whole = come.whole; few = come.few; grown = come.grown; leads = come.leads }
+
+-- The candidates of the start and of a turn.
+pub base_is_candidate : (A B : Automaton) (S : List (ℕ × ℕ)) (es : List Entry) (t : ℕ) (h : Held) → t < length A.transitions → IsKept B S h (base_entry A t) →
+    IsCandidate A B S es h × (entry_of A es h.origin ≡ base_entry A t)
+base_is_candidate A B S es t h lt kept =
+    let is : h.origin ≡ Base t = kept.origin in
+    let same : entry_of A es h.origin ≡ base_entry A t = ap (entry_of A es) is in
+    (record { placed = subst (IsPlacedAt A (arcs_in es) (length es)) (sym is) lt; kept = subst (IsKept B S h) (sym same) kept }, same)
+
+pub next_is_candidate : (A B : Automaton) (S : List (ℕ × ℕ)) (es : List Entry) (e t : ℕ) (x : Entry) (h : Held) → At es e x → t < length A.transitions → (trans_at A t).source ≡ x.arc.to → IsKept B S h (next_entry A e x t) →
+    IsCandidate A B S es h × (entry_of A es h.origin ≡ next_entry A e x t)
+next_is_candidate A B S es e t x h x_is lt leaves kept =
+    let is : h.origin ≡ Next e t = kept.origin in
+    let arc : arc_at A (arcs_in es) e ≡ x.arc = arc_here A es e x x_is in
+    let same : entry_of A es h.origin ≡ next_entry A e x t = ap (entry_of A es) is ∙ ap (λ (a : WordArc). record { origin = Next e t; arc = extended_arc A a (trans_at A t) }) arc in
+    let placed : IsPlacedAt A (arcs_in es) (length es) (Next e t) = (at_within es e x x_is, lt, leaves ∙ sym (ap (λ (a : WordArc). a.to) arc)) in
+    (record { placed = subst (IsPlacedAt A (arcs_in es) (length es)) (sym is) placed; kept = subst (IsKept B S h) (sym same) kept }, same)
+
+-- A turn begins.
+pub turn_begins : (A B : Automaton) (S : List (ℕ × ℕ)) (limit : ℕ) (f : Family) (turn begin end : ℕ) (x : Entry) → IsWhole A B S f → length f.held.items ≤ limit → At (entries_held A f) turn x →
+    slice_index_or f.live.items turn false ≡ true → IsOutgoing A x.arc.to begin end → HasCome A B S limit f f fates.GoesOn [] (extensions_from A turn x begin end) turn (turn + 1)
+turn_begins A B S limit f turn begin end x whole few x_is live out =
+    let within = at_within (entries_held A f) turn x x_is in
+    let stays = whole.tells.stays turn within live in
+    let extensions : map (next_entry A turn x) (steps_out A x.arc.to) ≡ extensions_from A turn x begin end = ap (map (next_entry A turn x)) (steps_out_are A x.arc.to begin end out) in
+    let after : turn + 1 ≡ suc turn = omega arith in
+    record {
+      whole = whole;
+      few = λ e. few;
+      grown = λ i y is. is;
+      leads = λ o rest. turn_of_live x x_is stays
+          (subst (λ k. Comes Entry (supergraph_rules A B S) limit (entries_held A f) (map (next_entry A turn x) (steps_out A x.arc.to)) k o) after
+          (subst (λ l. Comes Entry (supergraph_rules A B S) limit (entries_held A f) l (turn + 1) o) (sym extensions) rest));
+    }
+
+pub turn_passes : (A B : Automaton) (S : List (ℕ × ℕ)) (limit : ℕ) (f : Family) (turn : ℕ) → IsWhole A B S f → length f.held.items ≤ limit → turn < length f.held.items →
+    slice_index_or f.live.items turn false ≡ false → HasCome A B S limit f f fates.GoesOn [] [] turn (turn + 1)
+turn_passes A B S limit f turn whole few lt gone =
+    let size = whole.size in
+    let dropped = whole.tells.drops turn (omega arith) gone in
+    let after : turn + 1 ≡ suc turn = omega arith in
+    record {
+      whole = whole;
+      few = λ e. few;
+      grown = λ i y is. is;
+      leads = λ o rest. turn_of_dropped dropped (subst (λ k. Comes Entry (supergraph_rules A B S) limit (entries_held A f) [] k o) after rest);
+    }
+
+-- The whole search.
+pub entries_none : (A : Automaton) (f : Family) → f.held.items ≡ [] → entries_held A f ≡ []
+entries_none A f none = ap (λ l. entries_of A (map (λ (h : Held). h.origin) l)) none
+
+pub has_ended : (A B : Automaton) (S : List (ℕ × ℕ)) (limit : ℕ) (old now : Family) (fate : Fate) (turn : ℕ) → old.held.items ≡ [] → (fate ≡ fates.GoesOn → length now.held.items ≤ turn) →
+    HasCome A B S limit old now fate (supergraph_rules A B S).starts [] 0 turn → HasEnded A B S limit fate (entries_held A now)
+has_ended A B S limit old now fates.GoesOn turn none over come =
+    let size = come.whole.size in
+    let past = over refl in
+    subst (λ l. Comes Entry (supergraph_rules A B S) limit l (supergraph_rules A B S).starts 0 (Closed (entries_held A now))) (entries_none A old none)
+    (come.leads (Closed (entries_held A now)) (done (omega arith) refl))
+has_ended A B S limit old now (fates.Apart i j) turn none over come = (
+  come.leads.0,
+  come.leads.1,
+  come.leads.2,
+  come.leads.3,
+  subst (λ l. Comes Entry (supergraph_rules A B S) limit l (supergraph_rules A B S).starts 0 (Apart come.leads.0 come.leads.1)) (entries_none A old none) come.leads.4,
+)
+has_ended A B S limit old now fates.Full turn none over come =
+    subst (λ l. Comes Entry (supergraph_rules A B S) limit l (supergraph_rules A B S).starts 0 (Limit (entries_held A now))) (entries_none A old none) come.leads

@@ -1,0 +1,11 @@
+use Rattle.std.proofs.Common.{◌≡◌, ℕ, ◌+◌, length}
+use Rattle.auto_core.specs.Outcome.{At, Entry, IsLeastSubsumer, next_entry, supergraph_rules}
+use Rattle.ramsey_search.specs.Kept.{entries_held}
+use Rattle.ramsey_search.proofs.closing.step_line.Given as goal
+
+abbrev pub invariant-loop-t : goal.invariant-loop-t
+invariant-loop-t l = record {
+  size : l.initial.t + length l.by ≡ l.t;
+  each : (k j : ℕ) (x : Entry) → At l.by k j → At (entries_held l.first l.family) l.element x
+      → IsLeastSubsumer (supergraph_rules l.first l.second l.order.pairs) (entries_held l.first l.family) (next_entry l.first l.element x (l.initial.t + k)) j;
+}

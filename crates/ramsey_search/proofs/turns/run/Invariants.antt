@@ -1,0 +1,15 @@
+use Rattle.std.proofs.Common.{◌≡◌, ◌-◌, ◌≤◌, []}
+use Rattle.auto_core.specs.Outcome.{supergraph_rules}
+use Rattle.ramsey_search.specs.declared.parts.Fate.TheVariants as fates
+use Rattle.ramsey_search.specs.Kept.{HasCome}
+use Rattle.ramsey_search.proofs.turns.run.Given as goal
+
+abbrev pub invariant-loop-turn : goal.invariant-loop-turn
+invariant-loop-turn l = record {
+  come : HasCome l.first l.second l.order.pairs l.limit l.fn.family l.family fates.GoesOn (supergraph_rules l.first l.second l.order.pairs).starts [] 0 l.turn;
+  reached : l.turn ≤ l.limit;
+  room : l.scratch ≡ l.second.states;
+}
+
+abbrev pub decreases-loop-turn : goal.decreases-loop-turn
+decreases-loop-turn l = l.limit - l.turn

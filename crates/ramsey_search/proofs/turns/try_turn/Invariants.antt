@@ -1,0 +1,13 @@
+use Rattle.std.proofs.Common.{◌≡◌, ◌+◌, []}
+use Rattle.auto_core.specs.Outcome.{At, Entry}
+use Rattle.ramsey_search.specs.declared.parts.Fate.TheVariants as fates
+use Rattle.ramsey_search.specs.Kept.{HasCome, entries_held}
+use Rattle.ramsey_search.proofs.TurnLemmas.{extensions_from}
+use Rattle.ramsey_search.proofs.turns.try_turn.Given as goal
+
+abbrev pub invariant-loop-t : goal.invariant-loop-t
+invariant-loop-t l = record {
+  come : (x : Entry) → At (entries_held l.first l.initial.family) l.turn x
+      → HasCome l.first l.second l.order.pairs l.limit l.initial.family l.family fates.GoesOn [] (extensions_from l.first l.turn x l.t l.t-end) l.turn (l.turn + 1);
+  room : l.scratch ≡ l.second.states;
+}

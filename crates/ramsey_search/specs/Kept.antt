@@ -1,0 +1,183 @@
+-- How the search keeps its elements.
+use Rattle.std.specs.Prelude.{◌≡◌, ℕ, ◌+◌, ◌*◌, ◌<◌, ◌≤◌, ◌⊎◌, Bool, true, false, List, [], ◌∷◌, ◌++◌, length, map, Contains, filter, slice_index_or, Vec}
+use Rattle.std.specs.List.Sorted.{IsStrictlyIncreasing}
+use Rattle.std.specs.declared.alloc.Global.{Global}
+use Rattle.auto_core.specs.Automaton.{Automaton}
+use Rattle.auto_core.specs.Game.{Holds}
+use Rattle.auto_core.specs.Graph.{Supergraph, Covers, Subsumes, Passes, Fails, graph_of}
+use Rattle.auto_core.specs.Outcome.{At, Entry, Outcome, Closed, Apart, Limit, Comes, SearchEnds, TellsLive, PassesBefore, FirstFailing, supergraph_rules}
+use Rattle.graph_rows.specs.Block.{IsFormed, block_graph}
+use Rattle.supergraph.specs.Stands.{with_word, with_graph}
+use Rattle.search_laws.specs.Outcomes.{HaveOrigins}
+use Rattle.auto_core.specs.Graph.{IsPlacedAt}
+use Rattle.auto_core.specs.Outcome.{arcs_in}
+use Rattle.ramsey_search.specs.Entries.{entry_of, entries_of}
+use Rattle.ramsey_search.specs.declared.parts.Held.{Held}
+use Rattle.ramsey_search.specs.declared.parts.Fate.{Fate}
+use Rattle.ramsey_search.specs.declared.parts.Fate.TheVariants as fates
+use Rattle.ramsey_search.specs.declared.family.Family.{Family}
+
+-- The kept element stands for x: it has its origin and its arc, and its graph and that of x's word cover each other.
+pub record IsKept (B : Automaton) (S : List (ℕ × ℕ)) (h : Held) (x : Entry) : Type 0 where
+  pub origin : h.origin ≡ x.origin
+  pub arc : with_word h.arc x.arc.word ≡ x.arc
+  pub formed : IsFormed B.states h.graph.items
+  pub covers : Covers (Holds S) (block_graph B.states h.graph.items) (graph_of B x.arc.word)
+  pub covered : Covers (Holds S) (graph_of B x.arc.word) (block_graph B.states h.graph.items)
+
+-- The supergraph that the kept element holds.
+abbrev pub held_super : ℕ → Held → Supergraph
+held_super n h = with_graph h.arc (block_graph n h.graph.items)
+
+-- One kept element subsumes another, by the graphs that are kept.
+abbrev pub HeldSubsumes : ℕ → List (ℕ × ℕ) → Held → Held → Type 0
+HeldSubsumes n S x y = Subsumes (Holds S) (held_super n x) (held_super n y)
+
+-- The element with this number is live and leads from p to q.
+pub record LiesBetween (es : List Entry) (live : List Bool) (p q j : ℕ) : Type 0 where
+  pub element : Entry
+  pub is : At es j element
+  pub stays : slice_index_or live j false ≡ true
+  pub from : element.arc.from ≡ p
+  pub to : element.arc.to ≡ q
+
+-- The list has just the numbers of the live elements that lead from p to q, ascending.
+pub record AreBetween (es : List Entry) (live : List Bool) (p q : ℕ) (numbers : List ℕ) : Type 0 where
+  pub ascending : IsStrictlyIncreasing numbers
+  pub only : (j : ℕ) → Contains numbers j → LiesBetween es live p q j
+  pub all : (j : ℕ) → LiesBetween es live p q j → Contains numbers j
+
+-- The numbers at a place of the table.
+abbrev pub numbers_at : List (Vec ℕ Global) → ℕ → List ℕ
+numbers_at ends k = slice_index_or (map (λ (v : Vec ℕ Global). v.items) ends) k []
+
+-- The family holds these elements.
+pub record IsFamily (A B : Automaton) (S : List (ℕ × ℕ)) (f : Family) (es : List Entry) : Type 0 where
+  pub states : f.states ≡ A.states
+  pub size : length f.held.items ≡ length es
+  pub live_size : length f.live.items ≡ length es
+  pub ends_size : length f.ends.items ≡ A.states * A.states
+  pub origins : HaveOrigins A es
+  pub kept : (i : ℕ) (h : Held) (x : Entry) → At f.held.items i h → At es i x → IsKept B S h x
+  pub tells : TellsLive (supergraph_rules A B S) es (λ i. slice_index_or f.live.items i false)
+  pub between : (p q : ℕ) → p < A.states → q < A.states → AreBetween es f.live.items p q (numbers_at f.ends.items (p * A.states + q))
+
+-- The elements of the family, by the origins that it holds.
+abbrev pub entries_held : Automaton → Family → List Entry
+entries_held A f = entries_of A (map (λ (h : Held). h.origin) f.held.items)
+
+-- The family holds just the elements of its origins.
+abbrev pub IsWhole : Automaton → Automaton → List (ℕ × ℕ) → Family → Type 0
+IsWhole A B S f = IsFamily A B S f (entries_held A f)
+
+-- From es with the candidates cs before a turn the search comes to `now` with `left` before a later turn, or it ends there: with
+-- a pair of elements of `now`, or with `now`, which is longer than the limit.
+abbrev pub Leads : Automaton → Automaton → List (ℕ × ℕ) → ℕ → List Entry → List Entry → ℕ → Fate → List Entry → List Entry → ℕ → Type 0
+Leads A B S limit es cs turn fates.GoesOn now left later =
+    (o : Outcome Entry) → Comes Entry (supergraph_rules A B S) limit now left later o → Comes Entry (supergraph_rules A B S) limit es cs turn o
+Leads A B S limit es cs turn (fates.Apart i j) now left later =
+    (x y : Entry) × At now i x × At now j y × Comes Entry (supergraph_rules A B S) limit es cs turn (Apart x y)
+Leads A B S limit es cs turn fates.Full now left later = Comes Entry (supergraph_rules A B S) limit es cs turn (Limit now)
+
+-- The graphs that are kept are formed.
+abbrev pub AreFormed : ℕ → List Held → Type 0
+AreFormed n held = (i : ℕ) (h : Held) → At held i h → IsFormed n h.graph.items
+
+-- The numbers are those of elements that are there.
+abbrev pub AreThere : List ℕ → ℕ → Type 0
+AreThere numbers count = (k j : ℕ) → At numbers k j → j < count
+
+-- No kept element of these numbers subsumes x.
+abbrev pub NoneSubsumes : ℕ → List (ℕ × ℕ) → List Held → List ℕ → Supergraph → Type 0
+NoneSubsumes n S held numbers x = (k j : ℕ) (h : Held) → At numbers k j → At held j h → Subsumes (Holds S) (held_super n h) x → ⊥
+
+-- Of the kept elements of these numbers j is the first that subsumes x.
+pub record IsFirstSubsumer (n : ℕ) (S : List (ℕ × ℕ)) (held : List Held) (numbers : List ℕ) (x : Supergraph) (j : ℕ) : Type 0 where
+  pub place : ℕ
+  pub is : At numbers place j
+  pub element : Held
+  pub element_is : At held j element
+  pub subsumes : Subsumes (Holds S) (held_super n element) x
+  pub before : (k i : ℕ) (h : Held) → k < place → At numbers k i → At held i h → Subsumes (Holds S) (held_super n h) x → ⊥
+
+-- The kept element is one of these numbers, and x subsumes it.
+pub record IsSubsumedOf (n : ℕ) (S : List (ℕ × ℕ)) (held : List Held) (numbers : List ℕ) (x : Supergraph) (j : ℕ) : Type 0 where
+  pub place : ℕ
+  pub is : At numbers place j
+  pub element : Held
+  pub element_is : At held j element
+  pub subsumes : Subsumes (Holds S) x (held_super n element)
+
+-- Of the flags just those of the kept elements of these numbers that x subsumes are taken away.
+pub record AreDropped (n : ℕ) (S : List (ℕ × ℕ)) (held : List Held) (numbers : List ℕ) (x : Supergraph) (old new : List Bool) : Type 0 where
+  pub size : length new ≡ length old
+  pub each : (j : ℕ) → (slice_index_or new j false ≡ slice_index_or old j false) ⊎ ((slice_index_or new j false ≡ false) × IsSubsumedOf n S held numbers x j)
+  pub all : (j : ℕ) → IsSubsumedOf n S held numbers x j → slice_index_or new j false ≡ false
+
+-- The parts of the family fit one another, for graphs of n states: there are as many flags as elements, a list of numbers for each
+-- two states, each number is that of an element, and the graphs are formed.
+pub record FitsTogether (n : ℕ) (f : Family) : Type 0 where
+  pub live_size : length f.live.items ≡ length f.held.items
+  pub ends_size : length f.ends.items ≡ f.states * f.states
+  pub there : (p q : ℕ) → p < f.states → q < f.states → AreThere (numbers_at f.ends.items (p * f.states + q)) (length f.held.items)
+  pub formed : AreFormed n f.held.items
+
+-- The new element has entered the family behind the others and is live; of those with its ends, the ones that it subsumes are
+-- dropped, and its number stands behind the rest of them.
+pub record HasEntered (n : ℕ) (S : List (ℕ × ℕ)) (new : Held) (old now : Family) : Type 0 where
+  pub states : now.states ≡ old.states
+  pub held : now.held.items ≡ old.held.items ++ new ∷ []
+  pub flags : List Bool
+  pub dropped : AreDropped n S old.held.items (numbers_at old.ends.items (new.arc.from * old.states + new.arc.to)) (held_super n new) old.live.items flags
+  pub live : now.live.items ≡ flags ++ true ∷ []
+  pub ends_size : length now.ends.items ≡ length old.ends.items
+  pub here : numbers_at now.ends.items (new.arc.from * old.states + new.arc.to)
+      ≡ filter (λ j. slice_index_or flags j false) (numbers_at old.ends.items (new.arc.from * old.states + new.arc.to)) ++ length old.held.items ∷ []
+  pub others : (k : ℕ) → (k ≡ new.arc.from * old.states + new.arc.to → ⊥) → numbers_at now.ends.items k ≡ numbers_at old.ends.items k
+
+-- The kept element may come behind these: its origin fits, and it stands for the element of its origin.
+pub record IsCandidate (A B : Automaton) (S : List (ℕ × ℕ)) (es : List Entry) (h : Held) : Type 0 where
+  pub placed : IsPlacedAt A (arcs_in es) (length es) h.origin
+  pub kept : IsKept B S h (entry_of A es h.origin)
+
+-- What was told of the pairs of the kept element `new` with those of these numbers, in their order: all pass, or this is the first
+-- that fails.
+pub record AllPass (A B : Automaton) (n : ℕ) (held : List Held) (numbers : List ℕ) (new : Held) (place : ℕ) : Type 0 where
+  pub first : (k j : ℕ) (h : Held) → k < place → At numbers k j → At held j h → Passes A B (held_super n new) (held_super n h)
+  pub second : (k j : ℕ) (h : Held) → k < place → At numbers k j → At held j h → Passes A B (held_super n h) (held_super n new)
+
+pub record FailsFirst (A B : Automaton) (n : ℕ) (held : List Held) (numbers : List ℕ) (new : ℕ) (it : Held) (i j : ℕ) : Type 0 where
+  pub place : ℕ
+  pub other : ℕ
+  pub is : At numbers place other
+  pub element : Held
+  pub element_is : At held other element
+  pub before : AllPass A B n held numbers it place
+  pub fails :
+      ((i ≡ new) × (j ≡ other) × Fails A B (held_super n it) (held_super n element))
+      ⊎ ((i ≡ other) × (j ≡ new) × Passes A B (held_super n it) (held_super n element) × Fails A B (held_super n element) (held_super n it))
+
+abbrev pub AreTold : Automaton → Automaton → ℕ → List Held → List ℕ → ℕ → Held → Fate → Type 0
+AreTold A B n held numbers new it fates.GoesOn = AllPass A B n held numbers it (length numbers)
+AreTold A B n held numbers new it (fates.Apart i j) = FailsFirst A B n held numbers new it i j
+AreTold A B n held numbers new it fates.Full = ⊥
+
+-- The same of the elements of the search: all live ones pass with c, or the first pair that fails has these numbers.
+abbrev pub IsTold : Automaton → Automaton → List (ℕ × ℕ) → List Entry → Entry → Fate → Type 0
+IsTold A B S es c fates.GoesOn = PassesBefore (supergraph_rules A B S) es c (length es)
+IsTold A B S es c (fates.Apart i j) = (x y : Entry) × At es i x × At es j y × FirstFailing (supergraph_rules A B S) es c x y
+IsTold A B S es c fates.Full = ⊥
+
+-- The search has come from the old family with the candidates cs before a turn to the family now with `left` before a later turn,
+-- or to an end.
+pub record HasCome (A B : Automaton) (S : List (ℕ × ℕ)) (limit : ℕ) (old now : Family) (fate : Fate) (cs left : List Entry) (turn later : ℕ) : Type 0 where
+  pub whole : IsWhole A B S now
+  pub few : fate ≡ fates.GoesOn → length now.held.items ≤ limit
+  pub grown : (i : ℕ) (x : Entry) → At (entries_held A old) i x → At (entries_held A now) i x
+  pub leads : Leads A B S limit (entries_held A old) cs turn fate (entries_held A now) left later
+
+-- The whole search has ended so.
+abbrev pub HasEnded : Automaton → Automaton → List (ℕ × ℕ) → ℕ → Fate → List Entry → Type 0
+HasEnded A B S limit fates.GoesOn now = SearchEnds A B S limit (Closed now)
+HasEnded A B S limit (fates.Apart i j) now = (x y : Entry) × At now i x × At now j y × SearchEnds A B S limit (Apart x y)
+HasEnded A B S limit fates.Full now = SearchEnds A B S limit (Limit now)

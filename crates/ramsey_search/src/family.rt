@@ -1,0 +1,104 @@
+//! The elements that have entered.
+
+ghost use Rattle.std.specs.Prelude.{◌≡◌, ◌+◌, ◌*◌, ◌^◌, ◌<◌, ◌≤◌, ℕ, [], length, MatchOption, IfOk, OnOk};
+ghost use Rattle.graph_rows.specs.Block.{IsFormed, block_graph};
+ghost use Rattle.supergraph.specs.Stands.{with_graph};
+ghost use Rattle.ramsey_search.specs.Kept.{FitsTogether, HasEntered, NoneSubsumes, IsFirstSubsumer, numbers_at};
+
+use crate::meeting::{drop_subsumed, least_subsumer, still_live};
+use crate::parts::Held;
+use auto_core::Memory;
+use bit_rel::Rel;
+use std::alloc::Global;
+use supergraph::Arc;
+
+/// The elements in the order in which they entered, whether each is live, and for each two states of the first automaton the
+/// numbers of the live elements from the one to the other.
+#[derive(Debug, Drop)]
+pub(crate) struct Family {
+    pub(crate) states: u32,
+    pub(crate) held: Vec<Held>,
+    pub(crate) live: Vec<bool>,
+    pub(crate) ends: Vec<Vec<u32>>,
+}
+
+impl Family {
+    /// No element, for arcs between so many states.
+    pub(crate) fn new(alloc: Global, states: u32) -> Result<Family, Memory>
+        ensures states { IfOk result (λ f. f.states ≡ states) }
+        ensures held { IfOk result (λ f. f.held.items ≡ []) }
+        ensures live { IfOk result (λ f. f.live.items ≡ []) }
+        ensures ends_size { IfOk result (λ f. length f.ends.items ≡ states * states) }
+        ensures ends { IfOk result (λ f. (k : ℕ) → numbers_at f.ends.items k ≡ []) }
+    {
+        let mut ends = Vec::new(alloc);
+        for _place in 0..states as u64 * states as u64 {
+            ends.push(Vec::new(alloc))?;
+        }
+        Ok(Family {
+            states,
+            held: Vec::new(alloc),
+            live: Vec::new(alloc),
+            ends,
+        })
+    }
+
+    /// The place of the two states.
+    fn place(&self, from: u32, to: u32) -> usize
+        requires from { from < self.now.states }
+        requires to { to < self.now.states }
+        ensures place { result ≡ from * self.now.states + to }
+        ensures within { result < self.now.states * self.now.states }
+    {
+        from as usize * self.states as usize + to as usize
+    }
+
+    /// The numbers of the live elements between the two states, ascending.
+    pub(crate) fn between(&self, from: u32, to: u32) -> &[u32]
+        requires from { from < self.now.states }
+        requires to { to < self.now.states }
+        requires size { length self.now.ends.items ≡ self.now.states * self.now.states }
+        ensures { result.now ≡ numbers_at self.now.ends.items (from * self.now.states + to) }
+    {
+        &self.ends[self.place(from, to)]
+    }
+
+    /// The least live element that subsumes the supergraph.
+    pub(crate) fn least(&self, order: &Rel, arc: &Arc, graph: &[u64]) -> Option<u32>
+        requires from { arc.now.from < self.now.states }
+        requires to { arc.now.to < self.now.states }
+        requires fits { FitsTogether order.now.size self.now }
+        requires formed { IsFormed order.now.size graph.now }
+        ensures { let x = with_graph arc.now (block_graph order.now.size graph.now) in
+            let numbers = numbers_at self.now.ends.items (arc.now.from * self.now.states + arc.now.to) in
+            MatchOption result (NoneSubsumes order.now.size order.now.pairs self.now.held.items numbers x) (IsFirstSubsumer order.now.size order.now.pairs self.now.held.items numbers x) }
+    {
+        least_subsumer(
+            order,
+            &self.held,
+            self.between(arc.from, arc.to),
+            arc,
+            graph,
+        )
+    }
+
+    /// The element enters and is live; those that it subsumes are dropped.
+    pub(crate) fn enter(&mut self, alloc: Global, order: &Rel, new: Held) -> Result<(), Memory>
+        requires from { new.arc.from < self.old.states }
+        requires to { new.arc.to < self.old.states }
+        requires fits { FitsTogether order.now.size self.old }
+        requires formed { IsFormed order.now.size new.graph.items }
+        requires few { length self.old.held.items < 2 ^ 32 }
+        ensures { OnOk result (HasEntered order.now.size order.now.pairs new self.old self.new) }
+    {
+        let place = self.place(new.arc.from, new.arc.to);
+        let number = self.held.len() as u32;
+        drop_subsumed(order, &self.held, &self.ends[place], &new, &mut self.live);
+        let mut kept = still_live(alloc, &self.ends[place], &self.live)?;
+        kept.push(number)?;
+        self.ends[place] = kept;
+        self.held.push(new)?;
+        self.live.push(true)?;
+        Ok(())
+    }
+}

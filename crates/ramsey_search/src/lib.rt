@@ -1,0 +1,14 @@
+//! The search for a closed set of supergraphs: whether an automaton accepts each lasso that another accepts, with the evidence.
+#![tactic(auto)]
+
+mod candidates;
+mod closing;
+mod family;
+mod meeting;
+mod pairs;
+mod parts;
+mod searching;
+mod turns;
+
+pub use parts::{Closure, Outcome};
+pub use searching::search;

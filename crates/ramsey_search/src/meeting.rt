@@ -1,0 +1,71 @@
+//! A candidate meets the live elements that have its ends.
+
+ghost use Rattle.std.specs.Prelude.{◌≡◌, length, vec_len, MatchOption, IfOk, filter, slice_index_or, false};
+ghost use Rattle.graph_rows.specs.Block.{IsFormed, block_graph};
+ghost use Rattle.supergraph.specs.Stands.{with_graph};
+ghost use Rattle.ramsey_search.specs.Kept.{AreFormed, AreThere, NoneSubsumes, IsFirstSubsumer, AreDropped, held_super};
+
+use crate::parts::Held;
+use auto_core::Memory;
+use bit_rel::Rel;
+use std::alloc::Global;
+use supergraph::Arc;
+
+/// The first of these elements that subsumes the supergraph.
+pub(crate) fn least_subsumer(
+    order: &Rel,
+    held: &[Held],
+    among: &[u32],
+    arc: &Arc,
+    graph: &[u64],
+) -> Option<u32>
+    requires there { AreThere among.now (length held.now) }
+    requires formed { AreFormed order.now.size held.now }
+    requires graph { IsFormed order.now.size graph.now }
+    ensures { let x = with_graph arc.now (block_graph order.now.size graph.now) in
+        MatchOption result (NoneSubsumes order.now.size order.now.pairs held.now among.now x) (IsFirstSubsumer order.now.size order.now.pairs held.now among.now x) }
+{
+    for number in among {
+        let element = &held[*number as usize];
+        if supergraph::subsumes(order, &element.arc, &element.graph, arc, graph) {
+            return Some(*number);
+        }
+    }
+    None
+}
+
+/// Drops those of these elements that the new one subsumes.
+pub(crate) fn drop_subsumed(
+    order: &Rel,
+    held: &[Held],
+    among: &[u32],
+    new: &Held,
+    live: &mut Vec<bool>,
+)
+    requires there { AreThere among.now (length held.now) }
+    requires formed { AreFormed order.now.size held.now }
+    requires graph { IsFormed order.now.size new.now.graph.items }
+    requires flags { vec_len live.old ≡ length held.now }
+    ensures { AreDropped order.now.size order.now.pairs held.now among.now (held_super order.now.size new.now) live.old.items live.new.items }
+{
+    for number in among {
+        let element = &held[*number as usize];
+        if supergraph::subsumes(order, &new.arc, &new.graph, &element.arc, &element.graph) {
+            live[*number as usize] = false;
+        }
+    }
+}
+
+/// Those of these elements that are live.
+pub(crate) fn still_live(alloc: Global, among: &[u32], live: &[bool]) -> Result<Vec<u32>, Memory>
+    requires { AreThere among.now (length live.now) }
+    ensures { IfOk result (λ kept. kept.items ≡ filter (λ j. slice_index_or live.now j false) among.now) }
+{
+    let mut kept = Vec::new(alloc);
+    for number in among {
+        if live[*number as usize] {
+            kept.push(*number)?;
+        }
+    }
+    Ok(kept)
+}

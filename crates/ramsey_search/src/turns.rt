@@ -1,0 +1,187 @@
+//! The search, candidate by candidate and turn by turn.
+
+ghost use Rattle.std.specs.Prelude.{◌≡◌, ◌+◌, ◌<◌, ◌≤◌, ℕ, List, [], ◌∷◌, length, IfOk};
+ghost use Rattle.auto_core.specs.Automaton.{IsAutomaton};
+ghost use Rattle.auto_core.specs.Game.{IsGreatestForward};
+ghost use Rattle.auto_core.specs.Outcome.{At, Entry, HasNoSubsumer, supergraph_rules};
+ghost use Rattle.ramsey_search.specs.Entries.{entry_of};
+ghost use Rattle.ramsey_search.specs.Kept.{HasCome, HasEnded, IsCandidate, IsWhole, entries_held};
+
+use crate::candidates::{base_candidate, next_candidate};
+use crate::family::Family;
+use crate::pairs::first_failing;
+use crate::parts::{Fate, Held};
+use auto_core::{Auto, Memory};
+use bit_rel::Rel;
+use lasso_test::Scratch;
+use std::alloc::Global;
+
+/// The candidate, which no element subsumes, enters, and its pairs are tested, unless it is one too many.
+fn admit(
+    alloc: Global,
+    first: &Auto,
+    second: &Auto,
+    order: &Rel,
+    limit: u32,
+    new: Held,
+    family: &mut Family,
+    scratch: &mut Scratch,
+) -> Result<Fate, Memory>
+    requires first_valid { IsAutomaton first.now }
+    requires second_valid { IsAutomaton second.now }
+    requires greatest { IsGreatestForward second.now 1 order.now.pairs }
+    requires order_size { order.now.size ≡ second.now.states }
+    requires whole { IsWhole first.now second.now order.now.pairs family.old }
+    requires candidate { IsCandidate first.now second.now order.now.pairs (entries_held first.now family.old) new }
+    requires few { length family.old.held.items ≤ limit }
+    requires room { scratch.old ≡ second.now.states }
+    requires unmet { HasNoSubsumer (supergraph_rules first.now second.now order.now.pairs) (entries_held first.now family.old) (entry_of first.now (entries_held first.now family.old) new.origin) }
+    ensures come { IfOk result (λ fate. (cs : List Entry) (turn : ℕ) → HasCome first.now second.now order.now.pairs limit family.old family.new fate
+        (entry_of first.now (entries_held first.now family.old) new.origin ∷ cs) cs turn turn) }
+    ensures room { scratch.new ≡ second.now.states }
+{
+    let number = family.held.len() as u32;
+    family.enter(alloc, order, new)?;
+    if number == limit {
+        return Ok(Fate::Full);
+    }
+    Ok(first_failing(first, second, family, number, scratch))
+}
+
+/// A candidate comes: it is passed over if a live element subsumes it, and else admitted.
+fn consider(
+    alloc: Global,
+    first: &Auto,
+    second: &Auto,
+    order: &Rel,
+    limit: u32,
+    new: Held,
+    family: &mut Family,
+    scratch: &mut Scratch,
+) -> Result<Fate, Memory>
+    requires first_valid { IsAutomaton first.now }
+    requires second_valid { IsAutomaton second.now }
+    requires greatest { IsGreatestForward second.now 1 order.now.pairs }
+    requires order_size { order.now.size ≡ second.now.states }
+    requires whole { IsWhole first.now second.now order.now.pairs family.old }
+    requires candidate { IsCandidate first.now second.now order.now.pairs (entries_held first.now family.old) new }
+    requires few { length family.old.held.items ≤ limit }
+    requires room { scratch.old ≡ second.now.states }
+    ensures come { IfOk result (λ fate. (cs : List Entry) (turn : ℕ) → HasCome first.now second.now order.now.pairs limit family.old family.new fate
+        (entry_of first.now (entries_held first.now family.old) new.origin ∷ cs) cs turn turn) }
+    ensures room { scratch.new ≡ second.now.states }
+{
+    match family.least(order, &new.arc, &new.graph) {
+        Some(_number) => Ok(Fate::GoesOn),
+        None => admit(alloc, first, second, order, limit, new, family, scratch),
+    }
+}
+
+/// The candidates of the start, in order, until the search ends.
+fn try_starts(
+    alloc: Global,
+    first: &Auto,
+    second: &Auto,
+    order: &Rel,
+    limit: u32,
+    family: &mut Family,
+    scratch: &mut Scratch,
+) -> Result<Fate, Memory>
+    requires first_valid { IsAutomaton first.now }
+    requires second_valid { IsAutomaton second.now }
+    requires greatest { IsGreatestForward second.now 1 order.now.pairs }
+    requires order_size { order.now.size ≡ second.now.states }
+    requires whole { IsWhole first.now second.now order.now.pairs family.old }
+    requires none { family.old.held.items ≡ [] }
+    requires room { scratch.old ≡ second.now.states }
+    ensures come { IfOk result (λ fate. HasCome first.now second.now order.now.pairs limit family.old family.new fate
+        (supergraph_rules first.now second.now order.now.pairs).starts [] 0 0) }
+    ensures room { scratch.new ≡ second.now.states }
+{
+    for t in 0..first.transitions().len() as u32 {
+        let new = base_candidate(alloc, first, second, t)?;
+        let fate = consider(alloc, first, second, order, limit, new, family, scratch)?;
+        match fate {
+            Fate::GoesOn => {}
+            _ => return Ok(fate),
+        }
+    }
+    Ok(Fate::GoesOn)
+}
+
+/// The turn of the element: if it is live, its extensions come in order, until the search ends. They all come, even if one of them
+/// drops the element.
+fn try_turn(
+    alloc: Global,
+    first: &Auto,
+    second: &Auto,
+    order: &Rel,
+    limit: u32,
+    turn: u32,
+    family: &mut Family,
+    scratch: &mut Scratch,
+) -> Result<Fate, Memory>
+    requires first_valid { IsAutomaton first.now }
+    requires second_valid { IsAutomaton second.now }
+    requires greatest { IsGreatestForward second.now 1 order.now.pairs }
+    requires order_size { order.now.size ≡ second.now.states }
+    requires whole { IsWhole first.now second.now order.now.pairs family.old }
+    requires turn { turn < length family.old.held.items }
+    requires few { length family.old.held.items ≤ limit }
+    requires room { scratch.old ≡ second.now.states }
+    ensures come { IfOk result (λ fate. HasCome first.now second.now order.now.pairs limit family.old family.new fate [] [] turn (turn + 1)) }
+    ensures room { scratch.new ≡ second.now.states }
+{
+    if !family.live[turn as usize] {
+        return Ok(Fate::GoesOn);
+    }
+    let out = first.outgoing(family.held[turn as usize].arc.to);
+    for t in out.begin..out.end {
+        let from = &family.held[turn as usize];
+        let new = next_candidate(alloc, first, second, turn, from, t)?;
+        let fate = consider(alloc, first, second, order, limit, new, family, scratch)?;
+        match fate {
+            Fate::GoesOn => {}
+            _ => return Ok(fate),
+        }
+    }
+    Ok(Fate::GoesOn)
+}
+
+/// The whole search: the start, and then a turn for each element in order of its number.
+pub(crate) fn run(
+    alloc: Global,
+    first: &Auto,
+    second: &Auto,
+    order: &Rel,
+    limit: u32,
+    family: &mut Family,
+    scratch: &mut Scratch,
+) -> Result<Fate, Memory>
+    requires first_valid { IsAutomaton first.now }
+    requires second_valid { IsAutomaton second.now }
+    requires greatest { IsGreatestForward second.now 1 order.now.pairs }
+    requires order_size { order.now.size ≡ second.now.states }
+    requires whole { IsWhole first.now second.now order.now.pairs family.old }
+    requires none { family.old.held.items ≡ [] }
+    requires room { scratch.old ≡ second.now.states }
+    ensures whole { IfOk result (λ fate. IsWhole first.now second.now order.now.pairs family.new) }
+    ensures few { IfOk result (λ fate. fate ≡ Fate.GoesOn → length family.new.held.items ≤ limit) }
+    ensures ended { IfOk result (λ fate. HasEnded first.now second.now order.now.pairs limit fate (entries_held first.now family.new)) }
+{
+    let fate = try_starts(alloc, first, second, order, limit, family, scratch)?;
+    match fate {
+        Fate::GoesOn => {}
+        _ => return Ok(fate),
+    }
+    let mut turn = 0;
+    while (turn as usize) < family.held.len() {
+        let fate = try_turn(alloc, first, second, order, limit, turn, family, scratch)?;
+        match fate {
+            Fate::GoesOn => {}
+            _ => return Ok(fate),
+        }
+        turn += 1;
+    }
+    Ok(Fate::GoesOn)
+}
