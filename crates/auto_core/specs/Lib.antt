@@ -10,6 +10,7 @@ pub mod Rows
 pub mod Reach
 pub mod Graph
 pub mod Closed
+pub mod Outcome
 pub mod Members
 pub mod MembersStored
 pub mod Parts

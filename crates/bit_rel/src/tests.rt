@@ -82,6 +82,30 @@ fn rings_relate_all(rt: HostRuntime) -> Result<(), Fail> {
 }
 
 #[test]
+fn known_orders(rt: HostRuntime) -> Result<(), Fail> {
+    let alloc = rt.alloc();
+    for (n, pairs, both, strict) in [
+        (3, [(0, 0), (1, 1), (1, 2), (2, 2)], false, 1),
+        (2, [(0, 0), (0, 1), (1, 0), (1, 1)], true, 0),
+    ] {
+        let mut rel = Rel::empty(alloc, n)?;
+        for (p, q) in pairs {
+            if p < rel.size() && q < rel.size() {
+                rel.set(p, q);
+            }
+        }
+        assert_eq!(rt; held(&rel), 4);
+        rel.close();
+        assert_eq!(rt; held(&rel), 4);
+        assert_eq!(rt; held(&rel.strict(alloc)?), strict);
+        if 1 < rel.size() {
+            assert_eq!(rt; rel.both_ways(0, 1), both);
+        }
+    }
+    Ok(())
+}
+
+#[test]
 fn no_states(rt: HostRuntime) -> Result<(), Fail> {
     let mut rel = Rel::empty(rt.alloc(), 0)?;
     rel.close();

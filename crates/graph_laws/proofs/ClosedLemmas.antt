@@ -13,7 +13,8 @@ use Rattle.auto_core.proofs.MoveLemmas.{number_of}
 use Rattle.path_laws.proofs.PumpingLemmas.{reblock, repeated-add}
 use Rattle.path_laws.proofs.GameLemmas.{close_refl, close_trans, close_one}
 use Rattle.path_laws.proofs.AppliedLemmas.{closure_stays_stable}
-use Rattle.graph_laws.specs.Closed.{IsLive, ClosedSetIncludes, FailingPairsSeparate}
+use Rattle.auto_core.specs.Closed.{IsLive}
+use Rattle.graph_laws.specs.Closed.{ClosedSetIncludes, FailingPairsSeparate}
 use Rattle.graph_laws.proofs.GraphLemmas.{graph_of_more, same_sym, covers_same, subsumes_trans, subsumes_more, subsumes_extended}
 use Rattle.graph_laws.proofs.LassoLemmas.{lasso_to_words, lasso_is_accepted}
 

@@ -3,3 +3,4 @@ pub mod LassoLemmas
 pub mod AppliedLemmas
 pub mod ClosedLemmas
 pub mod OriginLemmas
+pub mod StandingLemmas

@@ -59,10 +59,14 @@ arc_same A all front e Start placed stays = refl
 arc_same A all front e (Base t) placed stays = refl
 arc_same A all front e (Next p t) placed stays = ap (λ x. extended_arc A x (trans_at A t)) (sym (stays p placed.0))
 
-pub arc_is : (A : Automaton) (origins : List Origin) → ArePlaced A origins → (e : ℕ) → e < length origins → arc_at A (arcs_of A origins) e ≡ arc_of A (arcs_of A origins) (slice_index_or origins e Start)
-arc_is A origins placed e lt =
+pub arc_is_here : (A : Automaton) (origins : List Origin) (e : ℕ) → e < length origins → IsPlacedAt A (arcs_of A origins) e (slice_index_or origins e Start) →
+    arc_at A (arcs_of A origins) e ≡ arc_of A (arcs_of A origins) (slice_index_or origins e Start)
+arc_is_here A origins e lt here =
     let r = arc_before A [] origins e e lt (omega arith) in
-    r.is ∙ arc_same A (arcs_of A origins) r.front e (slice_index_or origins e Start) (placed e lt) r.stays
+    r.is ∙ arc_same A (arcs_of A origins) r.front e (slice_index_or origins e Start) here r.stays
+
+pub arc_is : (A : Automaton) (origins : List Origin) → ArePlaced A origins → (e : ℕ) → e < length origins → arc_at A (arcs_of A origins) e ≡ arc_of A (arcs_of A origins) (slice_index_or origins e Start)
+arc_is A origins placed e lt = arc_is_here A origins e lt (placed e lt)
 
 pub arcs_more : (A : Automaton) (arcs : List WordArc) (origins : List Origin) (o : Origin) → arcs_after A arcs (origins ++ o ∷ []) ≡ arcs_after A arcs origins ++ arc_of A (arcs_after A arcs origins) o ∷ []
 arcs_more A arcs [] o = refl

@@ -1,3 +1,4 @@
 pub mod Graphs
 pub mod Lassos
 pub mod Closed
+pub mod Standing

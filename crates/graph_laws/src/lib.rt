@@ -5,6 +5,7 @@
 mod closed;
 mod graphs;
 mod lassos;
+mod standing;
 
 pub use closed::{
     closed_set_includes, failing_pairs_separate, origins_have_arcs, placed_arcs_are_real,
@@ -14,3 +15,4 @@ pub use lassos::{
     covered_lassos_are_accepted, lassos_are_accepted, lassos_are_cycles, lassos_are_reached,
     lassos_leave_words, lassos_reach_words,
 };
+pub use standing::tables_serve_as_graphs;

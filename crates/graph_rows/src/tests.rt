@@ -48,6 +48,56 @@ fn rows_of_three_words(rt: HostRuntime) -> Result<(), Fail> {
     Ok(())
 }
 
+/// The values of the pair in the graph of the first letter and in that of the word of both.
+fn values(
+    alloc: Global,
+    automaton: &Auto,
+    first: u32,
+    second: u32,
+    p: u32,
+    q: u32,
+) -> Result<(u8, u8), Memory> {
+    let states = automaton.states();
+    let mut one = vec![in alloc; 0; words_of(states)]?;
+    let mut two = vec![in alloc; 0; words_of(states)]?;
+    letter(automaton, first, &mut one);
+    extend(automaton, second, &one, &mut two);
+    if p < states && q < states {
+        return Ok((arc(states, &one, p, q), arc(states, &two, p, q)));
+    }
+    Ok((9, 9))
+}
+
+#[test]
+fn graphs_of_small_automata(rt: HostRuntime) -> Result<(), Fail> {
+    let alloc = rt.alloc();
+    let by = |source, label, target| Trans {
+        source,
+        label,
+        target,
+    };
+    // one state that does anything, and one that accepts by the first letter alone
+    let moves = [by(0, 0, 0), by(0, 1, 0), by(0, 0, 1), by(1, 0, 1)];
+    let guess = Auto::build(alloc, 2, 2, 0, &moves, &[1])?;
+    for (first, second, p, q, told) in [
+        (0, 1, 0, 0, (1, 1)),
+        (0, 1, 0, 1, (2, 0)),
+        (0, 0, 0, 1, (2, 2)),
+        (1, 0, 0, 1, (0, 2)),
+        (1, 0, 1, 1, (0, 0)),
+    ] {
+        assert_eq!(rt; values(alloc, &guess, first, second, p, q)?, told);
+    }
+    // a ring by two letters, whose states are all accepting, and one by one letter
+    let letters = Auto::build(alloc, 2, 2, 0, &[by(0, 0, 1), by(1, 1, 0)], &[0, 1])?;
+    assert_eq!(rt; values(alloc, &letters, 0, 1, 0, 0)?, (0, 2));
+    assert_eq!(rt; values(alloc, &letters, 0, 0, 0, 1)?, (2, 0));
+    let ring = Auto::build(alloc, 2, 1, 0, &[step(0, 1), step(1, 0)], &[0])?;
+    assert_eq!(rt; values(alloc, &ring, 0, 0, 0, 1)?, (1, 0));
+    assert_eq!(rt; values(alloc, &ring, 0, 0, 1, 1)?, (0, 2));
+    Ok(())
+}
+
 /// Whether the graph of letter 0 covers that of letter 1, by an order that holds one pair.
 fn covers_by(alloc: Global, automaton: &Auto, p: u32, q: u32) -> Result<bool, Memory> {
     let states = automaton.states();

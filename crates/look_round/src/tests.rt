@@ -97,37 +97,106 @@ fn looking_ahead_helps(rt: HostRuntime) -> Result<(), Fail> {
     Ok(())
 }
 
-/// A line of 130 states by one letter.
-fn line(alloc: Global) -> Result<List<Trans>, Memory> {
+#[test]
+fn words_of_one_letter(rt: HostRuntime) -> Result<(), Fail> {
+    let alloc = rt.alloc();
+    // a ring of two states, the first of them accepting
+    let ring = Auto::build(alloc, 2, 1, 0, &[trans(0, 0, 1), trans(1, 0, 0)], &[0])?;
+    let crossed = [(0, 1), (1, 0)];
+    assert_eq!(rt; round(alloc, &ring, &crossed, 1, 0, 1)?, Some(true));
+    assert_eq!(rt; round(alloc, &ring, &crossed, 1, 1, 0)?, Some(false));
+    assert_eq!(rt; round(alloc, &ring, &[(0, 1)], 2, 0, 1)?, Some(false));
+    // one state that does anything, and one that accepts by the first letter alone
+    let moves = [
+        trans(0, 0, 0),
+        trans(0, 1, 0),
+        trans(0, 0, 1),
+        trans(1, 0, 1),
+    ];
+    let guess = Auto::build(alloc, 2, 2, 0, &moves, &[1])?;
+    for (p, q, told) in [(0, 0, true), (1, 0, true), (0, 1, false), (1, 1, true)] {
+        assert_eq!(rt;
+            round(alloc, &guess, &[(0, 0), (1, 1)], 1, p, q)?,
+            Some(told)
+        );
+    }
+    Ok(())
+}
+
+#[test]
+fn a_choice_is_seen_at_two_moves(rt: HostRuntime) -> Result<(), Fail> {
+    let alloc = rt.alloc();
+    // 1 leads by the first letter to 3, 2 to 4 or 5; then all lead to 6
+    let moves = [
+        trans(1, 0, 3),
+        trans(2, 0, 4),
+        trans(2, 0, 5),
+        trans(3, 1, 6),
+        trans(3, 2, 6),
+        trans(4, 1, 6),
+        trans(5, 2, 6),
+        trans(6, 3, 6),
+    ];
+    let automaton = Auto::build(alloc, 7, 4, 0, &moves, &[0])?;
+    let pairs = [(4, 3), (5, 3), (6, 6)];
+    for (look, p, q, told) in [
+        (1, 1, 2, false),
+        (2, 1, 2, true),
+        (1, 2, 1, true),
+        (2, 4, 5, false),
+    ] {
+        assert_eq!(rt; round(alloc, &automaton, &pairs, look, p, q)?, Some(told));
+    }
+    Ok(())
+}
+
+#[test]
+fn a_ring_with_loops(rt: HostRuntime) -> Result<(), Fail> {
+    let alloc = rt.alloc();
     let mut moves = List::new(alloc);
-    for p in 0..129u32 {
-        moves.push(trans(p, 0, p + 1))?;
+    for p in 0..5u32 {
+        moves.push(trans(p, 0, (p + 1) % 5))?;
+        moves.push(trans(p, 1, p))?;
+    }
+    if moves.as_slice().len() < 1000 {
+        let automaton = Auto::build(alloc, 5, 2, 0, moves.as_slice(), &[0])?;
+        let pairs = [(1, 2), (2, 3)];
+        for (p, q, told) in [(1, 2, true), (2, 3, false), (0, 1, false)] {
+            assert_eq!(rt; round(alloc, &automaton, &pairs, 1, p, q)?, Some(told));
+        }
+    }
+    Ok(())
+}
+
+/// A line of so many states by one letter.
+fn line(alloc: Global, states: u32) -> Result<List<Trans>, Memory> {
+    let mut moves = List::new(alloc);
+    for p in 1..states {
+        moves.push(trans(p - 1, 0, p))?;
     }
     Ok(moves)
 }
 
 #[test]
-fn rows_of_three_words(rt: HostRuntime) -> Result<(), Fail> {
+fn rows_of_two_and_three_words(rt: HostRuntime) -> Result<(), Fail> {
     let alloc = rt.alloc();
-    let moves = line(alloc)?;
-    if moves.as_slice().len() < 1000 {
-        let automaton = Auto::build(alloc, 130, 1, 0, moves.as_slice(), &[])?;
-        // the sixth move from 60 leads to 66, and from 123 to the dead end
-        for (from, to) in [(60, 66), (123, 129)] {
+    // the sixth move leads past the end of a word, or to the dead end
+    for (states, from, to) in [(65, 58, 64), (130, 60, 66), (130, 123, 129)] {
+        let moves = line(alloc, states)?;
+        if moves.as_slice().len() < 1000 {
+            let automaton = Auto::build(alloc, states, 1, 0, moves.as_slice(), &[])?;
+            let pair = [(to, to)];
+            assert_eq!(rt; round(alloc, &automaton, &pair, 6, from, from)?, Some(true));
             assert_eq!(rt;
-                round(alloc, &automaton, &[(to, to)], 6, from, from)?,
-                Some(true)
-            );
-            assert_eq!(rt;
-                round(alloc, &automaton, &[(to, to)], 5, from, from)?,
+                round(alloc, &automaton, &pair, 5, from, from)?,
                 Some(false)
             );
+            assert_eq!(rt;
+                round(alloc, &automaton, &pair, 6, to - 2, to - 2)?,
+                Some(true)
+            );
+            assert_eq!(rt; Forward.moves(&automaton, from), 1);
         }
-        assert_eq!(rt;
-            round(alloc, &automaton, &[(129, 129)], 6, 127, 127)?,
-            Some(true)
-        );
-        assert_eq!(rt; Forward.moves(&automaton, 64), 1);
     }
     Ok(())
 }

@@ -99,3 +99,47 @@ fn smaller_graphs_subsume(rt: HostRuntime) -> Result<(), Fail> {
     }
     Ok(())
 }
+
+#[test]
+fn arcs_of_small_automata(rt: HostRuntime) -> Result<(), Fail> {
+    // a guess that only the first letter comes, and a ring by two letters
+    let guess = [step(0, 0, 0), step(0, 0, 1), step(0, 1, 0), step(1, 0, 1)];
+    let ring = [step(0, 0, 1), step(1, 1, 0)];
+    let guessing = Auto::build(rt.alloc(), 2, 2, 0, &guess, &[1])?;
+    let turning = Auto::build(rt.alloc(), 2, 2, 0, &ring, &[0])?;
+    for (first, second, to, accepting) in [(0, 2, 0, false), (2, 1, 1, true), (1, 3, 1, true)] {
+        assert_eq!(rt;
+            two_steps(&guessing, first, second),
+            Some(Arc {
+                from: 0,
+                to,
+                accepting
+            })
+        );
+    }
+    assert_eq!(rt;
+        two_steps(&turning, 0, 1),
+        Some(Arc {
+            from: 0,
+            to: 0,
+            accepting: true
+        })
+    );
+    assert_eq!(rt; two_steps(&turning, 0, 0), None);
+    Ok(())
+}
+
+#[test]
+fn graphs_of_small_automata_subsume(rt: HostRuntime) -> Result<(), Fail> {
+    // a letter without arcs has a graph that subsumes that of the other letter, and not the other way round
+    let empty = Auto::build(rt.alloc(), 1, 2, 0, &[step(0, 1, 0)], &[0])?;
+    let full = Auto::build(rt.alloc(), 1, 2, 0, &[step(0, 0, 0)], &[0])?;
+    let arc = Arc {
+        from: 0,
+        to: 0,
+        accepting: true,
+    };
+    assert!(rt; subsumes_by(rt.alloc(), &empty, &arc, &arc, 0, 0)?);
+    assert!(rt; !subsumes_by(rt.alloc(), &full, &arc, &arc, 0, 0)?);
+    Ok(())
+}

@@ -1,0 +1,10 @@
+//! Forward simulation with lookahead: the greatest relation, its closure, and what they say of paths.
+#![tactic(auto)]
+
+pub mod laws;
+mod simulation;
+
+pub use simulation::{preorder, relation};
+
+#[cfg(test)]
+mod tests;

@@ -1,0 +1,147 @@
+-- Taking pairs away.
+use Rattle.std.proofs.Common.{◌≡◌, ℕ, suc, ◌+◌, ◌<◌, ◌≤◌, ◌⊎◌, inl, inr, true, false, List, [], ◌∷◌, length, Contains, refl, sym, ap, ◌∙◌, subst, arith, le_refl}
+use Rattle.auto_core.proofs.PathLemmas.{Contains-here, Contains-later, Contains-cons_cases, none_in_nil}
+use Rattle.auto_core.specs.Run.{PathBy}
+use Rattle.auto_core.specs.Game.{MayShow, Answers, Round, Stable, Holds, IsWithin}
+use Rattle.bit_rel.specs.Relation.{Relation, IsRelation, IsBefore, ArePairsAscending, Removes}
+use Rattle.look_game.specs.Taking.{Takes, TakesSome}
+
+-- A round that ends in a relation ends in each greater one.
+answers_more :
+    (M : ℕ → ℕ → ℕ → Type 0) (ok V W : ℕ → ℕ → Type 0)
+    → ((p q : ℕ) → V p q → W p q)
+    → (q : ℕ) (w ps : List ℕ)
+    → Answers M ok V q w ps
+    → Answers M ok W q w ps
+answers_more M ok V W more q [] ps h = h
+answers_more M ok V W more q (a ∷ w) [] h = h
+answers_more M ok V W more q (a ∷ w) (p ∷ ps) (r, move, match, h) =
+    (r, move, match, elim h [ inl held ↦ inl (more p r held) | inr later ↦ inr (answers_more M ok V W more r w ps later) ])
+
+pub round_more :
+    (M : ℕ → ℕ → ℕ → Type 0) (ok V W : ℕ → ℕ → Type 0) (k p q : ℕ)
+    → ((r s : ℕ) → V r s → W r s)
+    → Round M M ok k V p q
+    → Round M M ok k W p q
+round_more M ok V W k p q more h w ps path may = answers_more M ok V W more q w ps (h w ps path may)
+
+-- An ascending list whose elements are all in another one is no longer.
+before_irrefl : (x y : ℕ × ℕ) → IsBefore x y → IsBefore y x → ⊥
+before_irrefl x y h k = omega arith
+
+not_itself : (x y : ℕ × ℕ) → IsBefore x y → x ≡ y → ⊥
+not_itself x y h e =
+    let P : ℕ × ℕ → Type 0 = λ z. IsBefore x z in
+    let loop : IsBefore x x = subst P (sym e) h in
+    before_irrefl x x loop loop
+
+-- what is in the longer list and behind its first element
+rest_has :
+    (x : ℕ × ℕ) (xs ys : List (ℕ × ℕ))
+    → ((z : ℕ × ℕ) → Contains ys z → Contains (x ∷ xs) z)
+    → ((z : ℕ × ℕ) → Contains ys z → IsBefore x z)
+    → (z : ℕ × ℕ)
+    → Contains ys z
+    → Contains xs z
+rest_has x xs ys inside before z h = elim (Contains-cons_cases x z xs (inside z h)) [
+  | inl e ↦ absurd (not_itself x z (before z h) e)
+  | inr later ↦ later
+]
+
+before_trans : (x y z : ℕ × ℕ) → IsBefore x y → IsBefore y z → IsBefore x z
+before_trans x y z h k = grind arith
+
+-- the first element of the shorter list is behind the first of the longer one, so all are
+all_behind :
+    (x y : ℕ × ℕ) (xs ys : List (ℕ × ℕ))
+    → ArePairsAscending (x ∷ xs)
+    → ArePairsAscending (y ∷ ys)
+    → Contains xs y
+    → (z : ℕ × ℕ)
+    → Contains (y ∷ ys) z
+    → IsBefore x z
+all_behind x y xs ys a b later z h =
+    let first : IsBefore x y = a.0 y later in
+    let P : ℕ × ℕ → Type 0 = λ u. IsBefore x u in
+    elim (Contains-cons_cases y z ys h) [
+      | inl e ↦ subst P e first
+      | inr behind ↦ before_trans x y z first (b.0 z behind)
+    ]
+
+pub no_longer :
+    (xs ys : List (ℕ × ℕ))
+    → ArePairsAscending xs
+    → ArePairsAscending ys
+    → ((z : ℕ × ℕ) → Contains ys z → Contains xs z)
+    → length ys ≤ length xs
+no_longer xs [] a b inside = omega arith
+no_longer [] (y ∷ ys) a b inside = absurd (none_in_nil y (inside y (Contains-here y y ys refl)))
+no_longer (x ∷ xs) (y ∷ ys) a b inside = elim (Contains-cons_cases x y xs (inside y (Contains-here y y ys refl))) [
+  | inl e ↦
+      let P : ℕ × ℕ → Type 0 = λ u. (z : ℕ × ℕ) → Contains ys z → IsBefore u z in
+      let rest = no_longer xs ys a.1 b.1 (rest_has x xs ys (λ z h. inside z (Contains-later y z ys h)) (subst P (sym e) b.0)) in
+      omega arith
+  | inr later ↦
+      let rest = no_longer xs (y ∷ ys) a.1 b (rest_has x xs (y ∷ ys) inside (all_behind x y xs ys a b later)) in
+      omega arith
+]
+
+-- it is shorter if it lacks one
+pub shorter :
+    (xs ys : List (ℕ × ℕ))
+    → ArePairsAscending xs
+    → ArePairsAscending ys
+    → ((z : ℕ × ℕ) → Contains ys z → Contains xs z)
+    → (w : ℕ × ℕ)
+    → Contains xs w
+    → (Contains ys w → ⊥)
+    → length ys < length xs
+shorter [] ys a b inside w has lacks = absurd (none_in_nil w has)
+shorter (x ∷ xs) [] a b inside w has lacks = omega arith
+shorter (x ∷ xs) (y ∷ ys) a b inside w has lacks = elim (Contains-cons_cases x y xs (inside y (Contains-here y y ys refl))) [
+  | inl e ↦
+      let P : ℕ × ℕ → Type 0 = λ u. (z : ℕ × ℕ) → Contains ys z → IsBefore u z in
+      let behind : Contains xs w = elim (Contains-cons_cases x w xs has) [ inl f ↦ absurd (lacks (Contains-here y w ys (sym e ∙ f))) | inr later ↦ later ] in
+      let rest = shorter xs ys a.1 b.1 (rest_has x xs ys (λ z h. inside z (Contains-later y z ys h)) (subst P (sym e) b.0)) w behind (λ h. lacks (Contains-later y w ys h)) in
+      omega arith
+  | inr later ↦
+      let rest = no_longer xs (y ∷ ys) a.1 b (rest_has x xs (y ∷ ys) inside (all_behind x y xs ys a b later)) in
+      omega arith
+]
+
+module _ (M : ℕ → ℕ → ℕ → Type 0) (ok : ℕ → ℕ → Type 0) (k : ℕ) where
+  pub takes_none : (R : Relation) → IsRelation R → Takes M ok k R R
+  takes_none R valid = record { size = refl; valid = valid; within = λ p q h. h; leaves = λ T stable inside. inside }
+
+  pub takes_then : (R S T : Relation) → Takes M ok k R S → Takes M ok k S T → Takes M ok k R T
+  takes_then R S T first second = record {
+    size = second.size ∙ first.size;
+    valid = second.valid;
+    within = λ p q h. first.within p q (second.within p q h);
+    leaves = λ X stable inside. second.leaves X stable (first.leaves X stable inside);
+  }
+
+  -- a pair that has no round
+  pub takes_one : (R S : Relation) (p q : ℕ) → IsRelation S → Removes R S p q → (Round M M ok k (Holds R.pairs) p q → ⊥) → Takes M ok k R S
+  takes_one R S p q valid removes none = record {
+    size = removes.size;
+    valid = valid;
+    within = λ r s h. ((removes.pairs r s).0 h).0;
+    leaves = λ T stable inside r s h.
+        (removes.pairs r s).1
+        ((
+          inside r s h,
+          λ same.
+              let round : Round M M ok k (Holds R.pairs) r s = round_more M ok (Holds T) (Holds R.pairs) k r s inside (stable r s h).1 in
+              let P : ℕ → Type 0 = λ x. Round M M ok k (Holds R.pairs) x s in
+              let Q : ℕ → Type 0 = λ y. Round M M ok k (Holds R.pairs) p y in
+              none (subst Q same.1 (subst P same.0 round)),
+        ));
+  }
+
+  pub takes_upto : (R S : Relation) → IsRelation R → Takes M ok k R S → length S.pairs ≤ length R.pairs
+  takes_upto R S valid takes = no_longer R.pairs S.pairs valid.in_order takes.valid.in_order (λ z h. takes.within z.0 z.1 h)
+
+pub takes_some : (R S : Relation) (p q : ℕ) → IsRelation R → IsRelation S → Removes R S p q → Holds R.pairs p q → TakesSome R S
+takes_some R S p q valid after removes held =
+    shorter R.pairs S.pairs valid.in_order after.in_order (λ z h. ((removes.pairs z.0 z.1).0 h).0) (p, q) held (λ h. ((removes.pairs p q).0 h).1 ((refl, refl)))

@@ -1,0 +1,8 @@
+//! The greatest relation that a game of looking ahead keeps.
+#![tactic(auto)]
+
+mod game;
+mod rounds;
+
+pub use game::greatest;
+pub use rounds::greatest_by_rounds;
