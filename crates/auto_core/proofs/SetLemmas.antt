@@ -1,7 +1,7 @@
 -- Sets of states, and automata that are determined by their members.
-use Rattle.std.proofs.Common.{◌≡◌, ℕ, ◌+◌, ◌<◌, ◌⊎◌, ◌↔◌, inl, inr, Bool, true, false, cond, List, [], ◌∷◌, length, get_or, set, replicate, filter, All, Contains, IsTrue, ◌==◌, refl, sym, ap, ◌∙◌, subst, arith}
+use Rattle.std.proofs.Common.{◌≡◌, ℕ, ◌<◌, ◌⊎◌, ◌↔◌, inl, inr, Bool, true, false, List, [], ◌∷◌, length, get_or, set, replicate, filter, Contains, IsTrue, ◌==◌, refl, sym, ap, ◌∙◌, subst, arith}
 use Rattle.std.specs.List.{list_any, range_with_len, AllPairs}
-use Rattle.std.proofs.lemmas.Bool.{cases_lt, cases_eq, false≢true}
+use Rattle.std.proofs.lemmas.Bool.{cases_lt, cases_eq}
 use Rattle.std.proofs.lemmas.List.{get_or_default, get_or-replicate, get_or_past, length-replicate, get_or-set_other}
 use Rattle.std.proofs.lemmas.List.Elements.{All-filter}
 use Rattle.std.proofs.lemmas.List.Kept.{IsStrictlyIncreasing-filter, AllPairs-from_increasing}
@@ -11,7 +11,7 @@ use Rattle.auto_core.specs.Automaton.{Automaton, IsAutomaton, Moves, IsAccepting
 use Rattle.auto_core.specs.Members.{Members, IsSet, Gains}
 use Rattle.auto_core.specs.declared.parts.Trans.{Trans}
 use Rattle.auto_core.proofs.PathLemmas.{Contains-from_test, test_from_Contains}
-use Rattle.auto_core.proofs.MemberLemmas.{filter_has, filter_from, range_has, range_from, range_rises, rises_from_pairs, same_members, same_bool}
+use Rattle.auto_core.proofs.MemberLemmas.{filter_has, filter_from, range_has, range_rises, rises_from_pairs, same_members, same_bool}
 
 -- the states whose flag is set
 abbrev pub flagged : List Bool → ℕ → List ℕ

@@ -1,5 +1,5 @@
 -- How `StateSet` holds its members.
-use Rattle.std.specs.Prelude.{◌≡◌, ℕ, false, filter, length, slice_index_or}
+use Rattle.std.specs.Prelude.{◌≡◌, false, filter, length, slice_index_or}
 use Rattle.std.specs.List.{range_with_len}
 use Rattle.auto_core.specs.Members.{Members}
 use Rattle.auto_core.specs.declared.state_set.StateSet.TheInside.{Inside}

@@ -1,12 +1,11 @@
 -- Runs of an automaton and of one that keeps some of its states.
-use Rattle.std.proofs.Common.{◌≡◌, ℕ, zero, suc, ◌+◌, ◌<◌, ◌≤◌, ◌⊎◌, ◌↔◌, inl, inr, Bool, true, false, cond, ◌||◌, ◌==◌, List, [], ◌∷◌, ◌++◌, length, Contains, refl, sym, ap, ◌∙◌, subst, arith, length-append}
+use Rattle.std.proofs.Common.{◌≡◌, ℕ, zero, suc, ◌+◌, ◌<◌, ◌≤◌, inl, inr, Bool, true, false, cond, ◌||◌, ◌==◌, List, [], ◌∷◌, ◌++◌, length, Contains, refl, sym, ap, ◌∙◌, subst, arith, length-append}
 use Rattle.std.specs.List.{list_any}
 use Rattle.std.proofs.lemmas.Bool.{cases_lt, cases_eq, false≢true, eq-eqb, or_left, or_right, cases_Bool}
-use Rattle.auto_core.specs.Automaton.{Automaton, IsAutomaton, Moves, IsAccepting, is_accepting}
+use Rattle.auto_core.specs.Automaton.{Automaton, Moves, IsAccepting, is_accepting}
 use Rattle.auto_core.specs.Run.{Run, repeated}
-use Rattle.auto_core.specs.Accept.{AcceptsLasso, AcceptsWord, Includes, Same}
-use Rattle.auto_core.specs.Useful.{Reaches, IsOnCycle, IsGoal, IsUseful, count_below, stays, new_number, IsKept, AreUseful, IsTrimmed}
-use Rattle.auto_core.specs.declared.parts.Mode.{Mode}
+use Rattle.auto_core.specs.Accept.{AcceptsLasso, AcceptsWord}
+use Rattle.auto_core.specs.Useful.{Reaches, IsGoal, IsUseful, count_below, stays, new_number, IsKept}
 use Rattle.auto_core.specs.declared.parts.Mode.TheVariants.{Buchi, Finite}
 use Rattle.auto_core.proofs.PathLemmas.{Contains-from_test, test_from_Contains, accepting_from_test, test_from_accepting, run_join}
 use Rattle.auto_core.proofs.MemberLemmas.{same_bool}

@@ -1,23 +1,22 @@
 -- The lists that make an automaton of some of the states, and the automaton that they make.
-use Rattle.std.proofs.Common.{◌≡◌, ℕ, zero, suc, ◌+◌, ◌<◌, ◌≤◌, ◌^◌, ◌⊎◌, ◌↔◌, inl, inr, Bool, true, false, cond, ◌&&◌, ◌==◌, List, [], ◌∷◌, ◌++◌, length, get_or, map, filter, take, All, Contains, refl, sym, ap, ◌∙◌, subst, arith}
-use Rattle.std.specs.List.{list_any, range_with_len, AllPairs}
-use Rattle.std.specs.List.Sorted.{IsPermutation, IsStrictlyIncreasing}
-use Rattle.std.proofs.lemmas.Bool.{cases_lt, cases_eq, false≢true, and_parts, and_from}
-use Rattle.std.proofs.lemmas.List.{length-map, map-append, take_all, get_or_default}
-use Rattle.std.proofs.lemmas.List.Elements.{All-map, All-filter, filter_passes, filter_more, All-contains}
+use Rattle.std.proofs.Common.{◌≡◌, ℕ, zero, suc, ◌+◌, ◌<◌, ◌≤◌, ◌^◌, inl, inr, Bool, true, false, cond, ◌&&◌, List, [], ◌∷◌, ◌++◌, length, get_or, map, filter, All, Contains, refl, sym, ap, ◌∙◌, subst, arith, add-zero, add-one, zero-add}
+use Rattle.std.specs.List.{range_with_len}
+use Rattle.std.proofs.lemmas.Bool.{and_parts, and_from}
+use Rattle.std.proofs.lemmas.List.{length-map, map-append, append-nil, get_or_default}
+use Rattle.std.proofs.lemmas.List.Elements.{All-map, All-filter, filter_passes, filter-append, All-contains}
 use Rattle.std.proofs.lemmas.List.Sums.{length-filter, count_by-le-length}
 use Rattle.std.proofs.lemmas.List.Sorted.{Contains-permutation, IsPermutation-sym}
 use Rattle.std.proofs.lemmas.List.Kept.{AllPairs-filter, AllPairs-from_increasing, IsStrictlyIncreasing-filter}
-use Rattle.auto_core.specs.Automaton.{Automaton, IsAutomaton, Moves, IsAccepting, is_accepting, IsBefore, HasRepeat, trans, trans_at}
-use Rattle.auto_core.specs.Build.{IsBuilt, HasStates, HasLabels}
+use Rattle.auto_core.specs.Automaton.{Automaton, IsAutomaton, Moves, IsAccepting, is_accepting, IsBefore, HasRepeat, trans}
+use Rattle.auto_core.specs.Build.{IsBuilt}
 use Rattle.auto_core.specs.Parts.{AreParts}
 use Rattle.auto_core.specs.Useful.{count_below, stays, new_number, IsKept}
 use Rattle.auto_core.specs.declared.parts.Trans.{Trans}
 use Rattle.auto_core.proofs.PathLemmas.{Contains-from_test, test_from_Contains, accepting_from_test, test_from_accepting}
-use Rattle.auto_core.proofs.MemberLemmas.{filter_has, filter_from, map_has, map_from, range_has, range_from, range_rises, no_repeat, pairs_mapped}
+use Rattle.auto_core.proofs.MemberLemmas.{filter_has, filter_from, map_has, map_from, range_has, range_rises, no_repeat, pairs_mapped}
 use Rattle.auto_core.proofs.SetLemmas.{transitions_rise}
-use Rattle.useful_states.specs.KeptParts.{has, joins, renumbered, kept_transitions, kept_accepting}
-use Rattle.useful_states.proofs.KeepLaws.{count_rises, count_within, kept_stays, initial_stays}
+use Rattle.useful_states.specs.KeptParts.{has, joins, renumbered, kept_transitions, kept_accepting, AreNumbers}
+use Rattle.useful_states.proofs.KeepLaws.{count_rises, kept_stays, initial_stays}
 
 never_before : (t : Trans) → IsBefore t t → ⊥
 never_before t h = never t.source t.label t.target h
@@ -127,8 +126,8 @@ module _ (A : Automaton) (kept : List ℕ) (valid : IsAutomaton A) where
         let made = Contains-permutation B.accepting (kept_accepting A kept) p (IsPermutation-sym (kept_accepting A kept) B.accepting b.accepting_given) h in
         let (r, there, is) = map_from (new_number A kept) (filter (λ q. has kept q && is_accepting A q) (range_with_len 0 A.states)) p made in
         let (near, passes) = filter_from (λ q. has kept q && is_accepting A q) (range_with_len 0 A.states) r there in
-        let (yes, acc) = and_parts (has kept r) (is_accepting A r) passes in
-        (r, Contains-from_test kept r yes, accepting_from_test A r acc, sym is)
+        let (stayed, acc) = and_parts (has kept r) (is_accepting A r) passes in
+        (r, Contains-from_test kept r stayed, accepting_from_test A r acc, sym is)
 
     accepting_from : (p r : ℕ) → Contains kept r → IsAccepting A r → p ≡ new_number A kept r → IsAccepting B p
     accepting_from p r r_kept acc is =
@@ -146,3 +145,45 @@ module _ (A : Automaton) (kept : List ℕ) (valid : IsAutomaton A) where
       moves = λ p a q. (moves_to p a q, λ (r, s, r_kept, s_kept, m, p_is, q_is). moves_from p a q r s r_kept s_kept m p_is q_is);
       accepting = λ p. (accepting_to p, λ (r, r_kept, acc, is). accepting_from p r r_kept acc is);
     }
+
+-- ---- loops
+
+range_more : (a n : ℕ) → range_with_len a (suc n) ≡ range_with_len a n ++ (a + n) ∷ []
+range_more a zero = rw (add-zero a) refl
+range_more a (suc n) =
+    let e : (a + 1) + n ≡ a + suc n = omega arith in
+    ap (λ l. a ∷ l) (range_more (a + 1) n ∙ ap (λ k. range_with_len (a + 1) n ++ k ∷ []) e)
+
+-- one accepting state more, if it is kept
+pub more_accepting :
+    (A : Automaton) (kept : List ℕ) (n : ℕ) (made new : List ℕ) (b : Bool)
+    → b ≡ (has kept n && is_accepting A n)
+    → made ≡ map (new_number A kept) (filter (λ q. has kept q && is_accepting A q) (range_with_len 0 n))
+    → new ≡ cond b (made ++ new_number A kept n ∷ []) made
+    → new ≡ map (new_number A kept) (filter (λ q. has kept q && is_accepting A q) (range_with_len 0 (n + 1)))
+more_accepting A kept n made new b is e more =
+    let both : ℕ → Bool = λ q. has kept q && is_accepting A q in
+    let N = new_number A kept in
+    let whole : map N (filter both (range_with_len 0 (n + 1))) ≡ map N (filter both (range_with_len 0 n)) ++ map N (cond (both n) (n ∷ []) []) =
+    ap (λ l. map N (filter both l)) (ap (λ k. range_with_len 0 k) (add-one n) ∙ range_more 0 n ∙ ap (λ k. range_with_len 0 n ++ k ∷ []) (zero-add n))
+    ∙ ap (λ l. map N l) (filter-append both (range_with_len 0 n) (n ∷ []))
+    ∙ map-append N (filter both (range_with_len 0 n)) (cond (both n) (n ∷ []) []) in
+    more ∙ step b ∙ ap (λ c. map N (filter both (range_with_len 0 n)) ++ map N (cond c (n ∷ []) [])) is ∙ sym whole
+  where
+    step : (b : Bool) → cond b (made ++ new_number A kept n ∷ []) made ≡ map (new_number A kept) (filter (λ q. has kept q && is_accepting A q) (range_with_len 0 n)) ++ map (new_number A kept) (cond b (n ∷ []) [])
+    step true = ap (λ l. l ++ new_number A kept n ∷ []) e
+    step false = e ∙ sym (append-nil (map (new_number A kept) (filter (λ q. has kept q && is_accepting A q) (range_with_len 0 n))))
+
+-- a number that was read
+pub number_read :
+    (A : Automaton) (kept numbers : List ℕ)
+    → AreNumbers A kept numbers
+    → (at q x : ℕ)
+    → at ≡ q
+    → q ≤ A.states
+    → x ≡ get_or numbers at x
+    → x ≡ new_number A kept q
+number_read A kept numbers are at q x is q_in read =
+    let len = are.len in
+    let at_in : at < length numbers = omega arith in
+    read ∙ get_or_default numbers at x 0 at_in ∙ ap (λ k. get_or numbers k 0) is ∙ are.each q q_in

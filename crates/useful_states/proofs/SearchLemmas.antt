@@ -1,13 +1,14 @@
 -- Tables of steps, what is reached along them, and goals.
-use Rattle.std.proofs.Common.{◌≡◌, ℕ, zero, suc, ◌+◌, ◌*◌, ◌<◌, ◌≤◌, ◌⊎◌, ◌↔◌, inl, inr, Bool, true, false, ◌||◌, List, [], ◌∷◌, length, IsTrue, refl, sym, ap, ◌∙◌, subst, arith}
-use Rattle.std.proofs.lemmas.Bool.{cases_lt, cases_eq, false≢true}
+use Rattle.std.proofs.Common.{◌≡◌, ℕ, zero, suc, ◌+◌, ◌*◌, ◌<◌, ◌≤◌, ◌⊎◌, ◌↔◌, inl, inr, Bool, true, false, ◌||◌, List, [], ◌∷◌, length, Contains, refl, sym, ap, ◌∙◌, subst, arith}
+use Rattle.std.proofs.lemmas.Bool.{cases_eq, false≢true}
 use Rattle.std.proofs.lemmas.List.Elements.{All-contains}
-use Rattle.auto_core.specs.Automaton.{Automaton, IsAutomaton, Moves, IsAccepting, is_accepting, trans, trans_at}
+use Rattle.auto_core.specs.Automaton.{Automaton, IsAutomaton, Moves, IsAccepting, is_accepting, trans_at}
 use Rattle.auto_core.specs.Run.{Run}
 use Rattle.auto_core.specs.Rows.{bit_of, cell_of, HasBit, HasCell}
-use Rattle.auto_core.specs.Reach.{IsTable, Arc, MarksBelow, AreReached, ReturnsTo}
+use Rattle.auto_core.specs.Reach.{Arc, MarksBelow, AreReached, ReturnsTo}
 use Rattle.auto_core.specs.Game.{Chain, Close}
-use Rattle.auto_core.specs.Useful.{Reaches, IsOnCycle, IsGoal, IsUseful}
+use Rattle.auto_core.specs.Members.{Members, Gains}
+use Rattle.auto_core.specs.Useful.{Reaches, IsOnCycle, IsGoal, AreUseful}
 use Rattle.auto_core.specs.declared.parts.Mode.{Mode}
 use Rattle.auto_core.specs.declared.parts.Mode.TheVariants.{Buchi, Finite}
 use Rattle.auto_core.specs.declared.parts.Trans.{Trans}
@@ -103,7 +104,7 @@ pub arcs_from_cells :
     → HoldsCells R table width
     → HoldsArcs S table n width
 arcs_from_cells R S table n width len room same below h = record {
-  table = record {
+  is_table = record {
     len = len;
     room = room;
     columns = λ p q p_in q_in c. (below p q ((same p q).0 ((h.cells p q q_in).0 c))).1;
@@ -129,7 +130,7 @@ module _ (A : Automaton) (table : List ℕ) (n width : ℕ) where
 
   chain_run : HoldsArcs (Steps A) table n width → (p : ℕ) (w : List ℕ) (q : ℕ) (flag : Bool) → Run A p w q flag → Close (Arc table n width) p q
   chain_run h p [] q flag (e, f) = (zero, e)
-  chain_run h p (a ∷ w) q flag (next, later, m, rest, is) = let (k, c) = chain_run h next w q later rest in (suc k, next, (h.arcs p next).1 (a, m), c)
+  chain_run h p (a ∷ w) q flag (next, later, m, rest, is) = let (k, c) = chain_run h next w q later rest in (suc k, (next, (h.arcs p next).1 (a, m), c))
 
   turned_chain : HoldsArcs (λ p q. Steps A q p) table n width → (k p q : ℕ) → Chain (Arc table n width) k p q → Reaches A q p
   turned_chain h zero p q e = subst (λ x. Reaches A x p) e (reach_itself A p)
@@ -183,12 +184,19 @@ module _ (A : Automaton) (table : List ℕ) (n width : ℕ) where
   reaching h P old new marks below new_below r = λ q. (
     λ marked.
         let (p, from, way) = r.each q marked in
-        (new_below q marked, p, turned_chain h way.0 p q way.1, ((marks p).0 from).1),
-    λ (q_in, g, (w, f, run), is). r.all g q ((marks g).1 (below g is, is)) (turned_run h q w g f run),
+        (new_below q marked, (p, turned_chain h way.0 p q way.1, ((marks p).0 from).1)),
+    λ (q_in, (g, (w, f, run), is)). r.all g q ((marks g).1 (below g is, is)) (turned_run h q w g f run),
   )
 
 accepting_below : (A : Automaton) → IsAutomaton A → (q : ℕ) → IsAccepting A q → q < A.states
 accepting_below A valid q h = All-contains (λ x. x < A.states) A.accepting q valid.accepting_in_range h
+
+run_stays : (A : Automaton) → IsAutomaton A → (p : ℕ) (w : List ℕ) (q : ℕ) (flag : Bool) → p < A.states → Run A p w q flag → q < A.states
+run_stays A valid p [] q flag p_in (e, f) = subst (λ x. x < A.states) e p_in
+run_stays A valid p (a ∷ w) q flag p_in (next, later, m, rest, is) = run_stays A valid next w q later (move_in_range A valid p a next m).1 rest
+
+reached_is_state : (A : Automaton) → IsAutomaton A → (q : ℕ) → Reaches A A.initial q → q < A.states
+reached_is_state A valid q (w, f, run) = run_stays A valid A.initial w q f valid.initial_is_state run
 
 pub goal_is_state : (A : Automaton) → IsAutomaton A → (mode : Mode) (g : ℕ) → IsGoal A mode g → g < A.states
 goal_is_state A valid Buchi g (acc, cycle) = accepting_below A valid g acc
@@ -228,3 +236,54 @@ marks_passed P old n not_here marks q = (
 pub goal_accepts : (A : Automaton) (mode : Mode) (g : ℕ) → IsGoal A mode g → IsAccepting A g
 goal_accepts A Buchi g (acc, cycle) = acc
 goal_accepts A Finite g acc = acc
+
+-- the set of what both rows mark, one state on
+pub both_more :
+    (row other : List ℕ) (old new : Members) (states n : ℕ)
+    → HasBit row n × HasBit other n
+    → (old.states ≡ states) × ((q : ℕ) → Contains old.members q ↔ ((q < n) × HasBit row q × HasBit other q))
+    → Gains old new n
+    → (new.states ≡ states) × ((q : ℕ) → Contains new.members q ↔ ((q < n + 1) × HasBit row q × HasBit other q))
+both_more row other old new states n here (same, are) g = (
+  g.states ∙ same,
+  λ q. (
+    λ h. elim ((g.members q).0 h) [
+      | inl was ↦ let (lt, a, b) = (are q).0 was in (omega arith, a, b)
+      | inr e ↦ (omega arith, subst (HasBit row) (sym e) here.0, subst (HasBit other) (sym e) here.1)
+    ],
+    λ (lt, a, b). (g.members q).1 (elim (cases_eq q n) [ inl e ↦ inr e | inr apart ↦ inl ((are q).1 (omega arith, a, b)) ]),
+  ),
+)
+
+pub both_passed :
+    (row other : List ℕ) (old : Members) (states n : ℕ)
+    → (HasBit row n × HasBit other n → ⊥)
+    → (old.states ≡ states) × ((q : ℕ) → Contains old.members q ↔ ((q < n) × HasBit row q × HasBit other q))
+    → (old.states ≡ states) × ((q : ℕ) → Contains old.members q ↔ ((q < n + 1) × HasBit row q × HasBit other q))
+both_passed row other old states n not_here (same, are) = (
+  same,
+  λ q. (
+    λ h. let (lt, a, b) = (are q).0 h in (omega arith, a, b),
+    λ (lt, a, b). elim (cases_eq q n) [
+      | inl e ↦ absurd (not_here (subst (HasBit row) e a, subst (HasBit other) e b))
+      | inr apart ↦ (are q).1 (omega arith, a, b)
+    ],
+  ),
+)
+
+-- what is reached and reaches a goal is useful
+pub useful_marked :
+    (A : Automaton) → IsAutomaton A → (mode : Mode) (reached goals members : List ℕ)
+    → Marks reached (Reaches A A.initial)
+    → Marks goals (λ q. (q < A.states) × ReachesGoal A mode q)
+    → ((q : ℕ) → Contains members q ↔ ((q < A.states) × HasBit reached q × HasBit goals q))
+    → AreUseful A mode members
+useful_marked A valid mode reached goals members from to both q = (
+  λ h.
+      let (lt, a, b) = (both q).0 h in
+      let (q_in, (g, way, is_goal)) = (to q).0 b in
+      record { reached = (from q).0 a; goal = g; reaches = way; is_goal = is_goal },
+  λ u.
+      let q_in = reached_is_state A valid q u.reached in
+      (both q).1 (q_in, (from q).1 u.reached, (to q).1 (q_in, (u.goal, u.reaches, u.is_goal))),
+)

@@ -1,6 +1,6 @@
 -- The laws of keeping states.
 use Rattle.std.specs.Prelude.{◌≡◌, ℕ, List, Contains}
-use Rattle.auto_core.specs.Automaton.{Automaton, IsAutomaton}
+use Rattle.auto_core.specs.Automaton.{Automaton}
 use Rattle.auto_core.specs.Accept.{Includes, Same}
 use Rattle.auto_core.specs.Useful.{IsUseful, IsKept, IsTrimmed}
 use Rattle.auto_core.specs.declared.parts.Mode.{Mode}

@@ -12,7 +12,7 @@ Steps A p q = (a : ℕ) × Moves A p a q
 
 -- The table of n rows has just the arcs of R.
 pub record HoldsArcs (R : ℕ → ℕ → Type 0) (table : List ℕ) (n width : ℕ) : Type 0 where
-  pub table : IsTable table n width
+  pub is_table : IsTable table n width
   pub arcs : (p q : ℕ) → Arc table n width p q ↔ R p q
 
 -- One of the first n transitions leads from p to q.

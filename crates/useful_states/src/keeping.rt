@@ -1,6 +1,6 @@
 //! Automata that keep some states.
 
-ghost use Rattle.std.specs.Prelude.{◌≡◌, ◌+◌, ◌<◌, ◌≤◌, ◌&&◌, IfOk, if◌then◌else◌};
+ghost use Rattle.std.specs.Prelude.{◌≡◌, ◌+◌, ◌^◌, ◌<◌, ◌≤◌, ◌&&◌, IfOk, if◌then◌else◌};
 ghost use Rattle.auto_core.specs.Automaton.{is_accepting};
 ghost use Rattle.auto_core.specs.Useful.{stays, IsKept, IsTrimmed};
 ghost use Rattle.useful_states.specs.KeptParts.{has, joins, AreNumbers, kept_transitions, kept_accepting};
@@ -13,6 +13,7 @@ use std::alloc::Global;
 fn counted(automaton: &Auto, kept: &StateSet, state: u32, count: u32) -> u32
     requires equal { kept.now.states ≡ automaton.now.states }
     requires is_state { state < automaton.now.states }
+    requires states_fit { automaton.now.states < 2 ^ 32 }
     requires few { count ≤ state }
     ensures { result ≡ count + (if stays automaton.now kept.now.members state then 1 else 0) }
 {

@@ -1,9 +1,7 @@
 //! The useful states: those that are reached from the initial state, among those that reach a goal.
 
 ghost use Rattle.std.specs.Prelude.{◌≡◌, ◌+◌, ◌*◌, ◌/◌, ◌^◌, ◌<◌, ◌≤◌, ◌↔◌, ℕ, length, IsTrue, IfOk, Contains, vec_len};
-ghost use Rattle.auto_core.specs.Automaton.{IsAutomaton};
 ghost use Rattle.auto_core.specs.Rows.{HasBit};
-ghost use Rattle.auto_core.specs.Reach.{MarksBelow};
 ghost use Rattle.auto_core.specs.Useful.{Reaches, IsGoal, AreUseful};
 ghost use Rattle.useful_states.specs.Search.{Steps, HoldsArcs, Marks, ReachesGoal};
 
@@ -148,6 +146,36 @@ fn marked_by_both(
     Ok(set)
 }
 
+/// The useful states. The slices are room: two tables of the steps, and four rows.
+fn search(
+    alloc: Global,
+    automaton: &Auto,
+    mode: Mode,
+    width: usize,
+    ahead: &mut [u64],
+    back: &mut [u64],
+    reached: &mut [u64],
+    goals: &mut [u64],
+    turn: &mut [u64],
+    done: &mut [u64],
+) -> Result<StateSet, Memory>
+    requires room { automaton.now.states ≤ width * 64 }
+    requires few { width < 2 ^ 32 }
+    requires ahead_len { length ahead.old ≡ automaton.now.states * width }
+    requires back_len { length back.old ≡ automaton.now.states * width }
+    requires reached_len { length reached.old ≡ width }
+    requires goals_len { length goals.old ≡ width }
+    requires turn_len { length turn.old ≡ width }
+    requires done_len { length done.old ≡ width }
+    ensures states { IfOk result (λ s. s.states ≡ automaton.now.states) }
+    ensures members { IfOk result (λ s. AreUseful automaton.now mode s.members) }
+{
+    mark(
+        automaton, mode, width, ahead, back, reached, goals, turn, done,
+    );
+    marked_by_both(alloc, automaton.states(), reached, goals)
+}
+
 fn room(alloc: Global, words: usize) -> Result<Vec<u64>, Memory>
     requires { words < 2 ^ 62 }
     ensures { IfOk result (λ v. vec_len v ≡ words) }
@@ -169,7 +197,8 @@ pub fn useful(alloc: Global, automaton: &Auto, mode: Mode) -> Result<StateSet, M
     let mut goals = room(alloc, width)?;
     let mut turn = room(alloc, width)?;
     let mut done = room(alloc, width)?;
-    mark(
+    search(
+        alloc,
         automaton,
         mode,
         width,
@@ -179,6 +208,5 @@ pub fn useful(alloc: Global, automaton: &Auto, mode: Mode) -> Result<StateSet, M
         &mut goals,
         &mut turn,
         &mut done,
-    );
-    marked_by_both(alloc, states, &reached, &goals)
+    )
 }

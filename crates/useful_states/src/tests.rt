@@ -26,6 +26,10 @@ fn counts(alloc: Global, automaton: &Auto, mode: Mode) -> Result<(u32, u32, usiz
     Ok((count, trimmed.states(), trimmed.transitions().len()))
 }
 
+fn first_accepts(automaton: &Auto) -> bool {
+    0 < automaton.states() && automaton.accepting(0)
+}
+
 #[test]
 fn small_automata_are_trimmed(rt: HostRuntime) -> Result<(), Fail> {
     let alloc = rt.alloc();
@@ -36,8 +40,8 @@ fn small_automata_are_trimmed(rt: HostRuntime) -> Result<(), Fail> {
     // no transition
     let still = Auto::build(alloc, 1, 0, 0, &[], &[0])?;
     assert_eq!(rt; counts(alloc, &still, Mode::Buchi)?, (0, 1, 0));
-    assert!(rt; !trim(alloc, &still, Mode::Buchi)?.accepting(0));
-    assert!(rt; trim(alloc, &still, Mode::Finite)?.accepting(0));
+    assert!(rt; !first_accepts(&trim(alloc, &still, Mode::Buchi)?));
+    assert!(rt; first_accepts(&trim(alloc, &still, Mode::Finite)?));
     // a ring, a state that is not reached, and one that reaches nothing
     let moves = [step(1, 0, 2), step(2, 0, 1), step(0, 0, 1), step(2, 0, 3)];
     let ring = Auto::build(alloc, 4, 1, 1, &moves, &[2])?;
@@ -74,6 +78,6 @@ fn chosen_states_are_kept(rt: HostRuntime) -> Result<(), Fail> {
     let rest = keep(alloc, &automaton, &kept)?;
     assert_eq!(rt; (rest.states(), rest.labels(), rest.initial()), (2, 2, 0));
     assert_eq!(rt; rest.transitions(), [step(1, 1, 1)].as_slice());
-    assert!(rt; !rest.accepting(0));
+    assert!(rt; !first_accepts(&rest));
     Ok(())
 }

@@ -1,6 +1,6 @@
-use Rattle.std.proofs.Common.{◌≡◌, ◌<◌, ℕ, true, sym, subst}
+use Rattle.std.proofs.Common.{◌<◌, ℕ, true, sym, subst}
 use Rattle.std.specs.Vec.{with_item}
-use Rattle.auto_core.specs.Members.{Members, IsSet, Gains}
+use Rattle.auto_core.specs.Members.{Members, Gains}
 use Rattle.auto_core.proofs.SetLemmas.{flagged, valid_set, flag_gained}
 use Rattle.auto_core.proofs.state_set.StateSet.add.Goals as goal
 
