@@ -15,3 +15,4 @@ pub mod Members
 pub mod MembersStored
 pub mod Parts
 pub mod Useful
+pub mod Quotient
