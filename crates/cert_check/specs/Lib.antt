@@ -1,2 +1,5 @@
 pub mod Checks
 pub mod Rules
+pub mod Inclusion
+pub mod Supers
+pub mod Stability

@@ -2,8 +2,14 @@
 #![tactic(auto)]
 
 mod checking;
+mod covers;
+mod elements;
 mod faults;
+mod inclusion;
 mod lassos;
+mod orders;
+mod pairs;
+mod steps;
 
 pub use checking::{can_check, check};
 pub use faults::{CheckFault, Refusal, Verdict};

@@ -66,7 +66,11 @@ fn reads_other_forms(rt: HostRuntime) {
         "rabit-cert 1 buchi yes\nsizes 2 1 2\nlog1 1\ntrim\nlog2 0\nrel 1\nrow 0 0\nelements 0\ncover\nend\n",
         "rabit-cert 1 buchi yes\nsizes 2 1 2\nlog1 1\nmerge\nclasses 0 0\nlog2 0\nrel 0\nelements 2\nlive base 0\nunder 0 base 1\ncover 0\nstep 0 999999999\nend\n",
     ] {
-        assert_eq!(rt; read_back(rt.alloc(), text.as_bytes()), Answer::Same, "{text:?}");
+        assert_eq!(rt;
+            read_back(rt.alloc(), text.as_bytes()),
+            Answer::Same,
+            "{text:?}"
+        );
     }
 }
 
@@ -89,10 +93,18 @@ fn header_faults(rt: HostRuntime) {
 #[test]
 fn size_faults(rt: HostRuntime) {
     for (text, line, kind) in [
-        ("rabit-cert 1 buchi yes\nsizes 02 2 2\n", 2, TextKind::Number),
+        (
+            "rabit-cert 1 buchi yes\nsizes 02 2 2\n",
+            2,
+            TextKind::Number,
+        ),
         ("rabit-cert 1 buchi yes\nsizes 2 2\n", 2, TextKind::Shape),
         ("rabit-cert 1 buchi yes\nsizes 2  2 2\n", 2, TextKind::Shape),
-        ("rabit-cert 1 buchi yes\nsizes 2 2 1000000000\n", 2, TextKind::Number),
+        (
+            "rabit-cert 1 buchi yes\nsizes 2 2 1000000000\n",
+            2,
+            TextKind::Number,
+        ),
     ] {
         assert_eq!(rt;
             read_back(rt.alloc(), text.as_bytes()),
@@ -105,12 +117,36 @@ fn size_faults(rt: HostRuntime) {
 #[test]
 fn log_faults(rt: HostRuntime) {
     for (text, line, kind) in [
-        ("rabit-cert 1 buchi yes\nsizes 2 2 2\nlog1 999999999\n", 4, TextKind::Truncated),
-        ("rabit-cert 1 buchi yes\nsizes 2 2 2\nlog1 1\ncut 5 3\n", 4, TextKind::Shape),
-        ("rabit-cert 1 buchi yes\nsizes 2 2 2\nlog1 1\ncut x 3\n", 4, TextKind::Number),
-        ("rabit-cert 1 buchi yes\nsizes 2 2 2\nlog1 1\nmerge 5\n", 4, TextKind::Shape),
-        ("rabit-cert 1 buchi yes\nsizes 2 2 2\nlog1 1\ntrim 2 2\n", 4, TextKind::Order),
-        ("rabit-cert 1 finite yes\nsizes 2 2 2\nlog1 0\nlog2 1\nmerge delayed\n", 5, TextKind::Shape),
+        (
+            "rabit-cert 1 buchi yes\nsizes 2 2 2\nlog1 999999999\n",
+            4,
+            TextKind::Truncated,
+        ),
+        (
+            "rabit-cert 1 buchi yes\nsizes 2 2 2\nlog1 1\ncut 5 3\n",
+            4,
+            TextKind::Shape,
+        ),
+        (
+            "rabit-cert 1 buchi yes\nsizes 2 2 2\nlog1 1\ncut x 3\n",
+            4,
+            TextKind::Number,
+        ),
+        (
+            "rabit-cert 1 buchi yes\nsizes 2 2 2\nlog1 1\nmerge 5\n",
+            4,
+            TextKind::Shape,
+        ),
+        (
+            "rabit-cert 1 buchi yes\nsizes 2 2 2\nlog1 1\ntrim 2 2\n",
+            4,
+            TextKind::Order,
+        ),
+        (
+            "rabit-cert 1 finite yes\nsizes 2 2 2\nlog1 0\nlog2 1\nmerge delayed\n",
+            5,
+            TextKind::Shape,
+        ),
     ] {
         assert_eq!(rt;
             read_back(rt.alloc(), text.as_bytes()),
@@ -123,12 +159,36 @@ fn log_faults(rt: HostRuntime) {
 #[test]
 fn element_faults(rt: HostRuntime) {
     for (text, line, kind) in [
-        ("rabit-cert 1 buchi yes\nsizes 2 2 2\nlog1 0\nlog2 0\nrel 0\nelements 4 x\n", 6, TextKind::Shape),
-        ("rabit-cert 1 buchi yes\nsizes 2 2 2\nlog1 0\nlog2 0\nrel 0\nelements x 4\n", 6, TextKind::Number),
-        ("rabit-cert 1 buchi yes\nsizes 2 2 2\nlog1 0\nlog2 0\nrel 0\nelements 1\nunder x\n", 7, TextKind::Number),
-        ("rabit-cert 1 buchi yes\nsizes 2 2 2\nlog1 0\nlog2 0\nrel 0\nelements 1\nunder base 1\n", 7, TextKind::Shape),
-        ("rabit-cert 1 buchi yes\nsizes 2 2 2\nlog1 0\nlog2 0\nrel 0\nelements 1\nunder 0 base 1\ncover\nstep 0\n", 9, TextKind::Shape),
-        ("rabit-cert 1 buchi yes\nsizes 2 2 2\nlog1 0\nlog2 0\nrel 0\nelements 1\nlive base 1\ncover\nstep 1\n", 9, TextKind::Order),
+        (
+            "rabit-cert 1 buchi yes\nsizes 2 2 2\nlog1 0\nlog2 0\nrel 0\nelements 4 x\n",
+            6,
+            TextKind::Shape,
+        ),
+        (
+            "rabit-cert 1 buchi yes\nsizes 2 2 2\nlog1 0\nlog2 0\nrel 0\nelements x 4\n",
+            6,
+            TextKind::Number,
+        ),
+        (
+            "rabit-cert 1 buchi yes\nsizes 2 2 2\nlog1 0\nlog2 0\nrel 0\nelements 1\nunder x\n",
+            7,
+            TextKind::Number,
+        ),
+        (
+            "rabit-cert 1 buchi yes\nsizes 2 2 2\nlog1 0\nlog2 0\nrel 0\nelements 1\nunder base 1\n",
+            7,
+            TextKind::Shape,
+        ),
+        (
+            "rabit-cert 1 buchi yes\nsizes 2 2 2\nlog1 0\nlog2 0\nrel 0\nelements 1\nunder 0 base 1\ncover\nstep 0\n",
+            9,
+            TextKind::Shape,
+        ),
+        (
+            "rabit-cert 1 buchi yes\nsizes 2 2 2\nlog1 0\nlog2 0\nrel 0\nelements 1\nlive base 1\ncover\nstep 1\n",
+            9,
+            TextKind::Order,
+        ),
     ] {
         assert_eq!(rt;
             read_back(rt.alloc(), text.as_bytes()),
@@ -141,10 +201,26 @@ fn element_faults(rt: HostRuntime) {
 #[test]
 fn faults_at_the_end(rt: HostRuntime) {
     for (text, line, kind) in [
-        ("rabit-cert 1 finite no\nsizes 1 2 0\nword\nend x\n", 4, TextKind::Shape),
-        ("rabit-cert 1 finite no\nsizes 1 2 0\nword\nend", 4, TextKind::Truncated),
-        ("rabit-cert 1 finite no\nsizes 1 2 0\nword\nend\n\n", 5, TextKind::Trailing),
-        ("rabit-cert 1 finite no\nsizes 1 2 0\nword\nend\nx", 5, TextKind::Trailing),
+        (
+            "rabit-cert 1 finite no\nsizes 1 2 0\nword\nend x\n",
+            4,
+            TextKind::Shape,
+        ),
+        (
+            "rabit-cert 1 finite no\nsizes 1 2 0\nword\nend",
+            4,
+            TextKind::Truncated,
+        ),
+        (
+            "rabit-cert 1 finite no\nsizes 1 2 0\nword\nend\n\n",
+            5,
+            TextKind::Trailing,
+        ),
+        (
+            "rabit-cert 1 finite no\nsizes 1 2 0\nword\nend\nx",
+            5,
+            TextKind::Trailing,
+        ),
     ] {
         assert_eq!(rt;
             read_back(rt.alloc(), text.as_bytes()),

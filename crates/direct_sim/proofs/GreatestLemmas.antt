@@ -1,14 +1,13 @@
 -- The greatest forward relation, and when it is a preorder.
-use Rattle.std.proofs.Common.{◌≡◌, ℕ, zero, suc, ◌+◌, ◌<◌, ◌≤◌, ◌↔◌, ◌⊎◌, inl, inr, Bool, true, false, cond, ◌==◌, List, [], ◌∷◌, ◌++◌, length, Contains, refl, sym, ap, ◌∙◌, subst, arith}
+use Rattle.std.proofs.Common.{◌≡◌, ℕ, zero, suc, ◌<◌, ◌≤◌, inl, inr, Bool, true, false, cond, ◌==◌, List, [], ◌∷◌, ◌++◌, refl, sym, ap, ◌∙◌, subst, arith}
 use Rattle.std.proofs.lemmas.Bool.{eqb-true, eq-eqb, cases_eq}
 use Rattle.std.proofs.lemmas.List.Elements.{Contains-append_left, Contains-append_right, Contains-append_cases}
 use Rattle.auto_core.proofs.PathLemmas.{Contains-here, Contains-later, Contains-cons_cases, none_in_nil}
 use Rattle.auto_core.proofs.MoveLemmas.{move_in_range}
 use Rattle.auto_core.specs.Automaton.{Automaton, IsAutomaton, Moves}
-use Rattle.auto_core.specs.Run.{PathBy, Path}
-use Rattle.auto_core.specs.Game.{MatchesForward, MayShow, Answers, Round, Stable, Holds, ArePairsBelow, IsWithin, Close, StableForward, IsGreatestForward}
+use Rattle.auto_core.specs.Run.{Path}
+use Rattle.auto_core.specs.Game.{MatchesForward, Answers, Round, Holds, ArePairsBelow, StableForward}
 use Rattle.bit_rel.specs.Relation.{Relation, IsClosed}
-use Rattle.path_laws.specs.Games.{IsFollowed, IsClosureOf}
 use Rattle.path_laws.proofs.AppliedLemmas.{followed_forward}
 use Rattle.path_laws.proofs.GameLemmas.{close_refl, close_trans}
 use Rattle.direct_sim.specs.Preorders.{IsPreorder, GreatestIsOne, GreatestIsFollowed, GreatestFollowsMoves, GreatestIsReflexive, GreatestIsPreorder}

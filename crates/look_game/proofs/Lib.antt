@@ -1,2 +1,4 @@
 pub mod TakingLemmas
 pub mod RowLemmas
+pub mod NearLemmas
+pub mod FirstLemmas

@@ -1,11 +1,12 @@
 -- What holds while the pairs of a row, and the rows one after another, are tried.
-use Rattle.std.proofs.Common.{◌≡◌, ℕ, ◌+◌, ◌<◌, ◌≤◌, ◌⊎◌, ◌↔◌, inl, inr, Bool, true, false, List, [], length, refl, sym, ap, ◌∙◌, subst, arith}
+use Rattle.std.proofs.Common.{◌≡◌, ℕ, ◌+◌, ◌<◌, ◌↔◌, inl, inr, Bool, true, false, [], refl, sym, ◌∙◌, subst, arith}
 use Rattle.std.proofs.lemmas.Bool.{cases_eq, false≢true}
 use Rattle.auto_core.proofs.PathLemmas.{none_in_nil}
 use Rattle.auto_core.specs.Game.{Round, Holds, IsGreatest}
 use Rattle.bit_rel.specs.Relation.{Relation, IsRelation, Adds, Removes}
-use Rattle.look_game.specs.Taking.{AddsMatching, IsMatching, Takes, TakesSome, HasRounds}
-use Rattle.look_game.proofs.TakingLemmas.{takes_none, takes_then, takes_one, takes_upto, takes_some}
+use Rattle.look_game.specs.Taking.{AddsMatching, IsMatching, Takes, TakesSome, KeepsOthers, HasRounds}
+use Rattle.look_game.specs.Near.{IsReachedWithin}
+use Rattle.look_game.proofs.TakingLemmas.{round_near, takes_none, takes_then, takes_one, takes_upto, takes_some}
 
 -- Pairs of one state are added as far as they match.
 pub add_none : (ok : ℕ → ℕ → Type 0) (p : ℕ) (R : Relation) → IsRelation R → AddsMatching ok 0 p R R
@@ -115,6 +116,8 @@ module _ (M : ℕ → ℕ → ℕ → Type 0) (ok : ℕ → ℕ → Type 0) (k :
     pub some : changed ≡ true → TakesSome old now
     pub same : changed ≡ false → now ≡ old
     pub rounds : changed ≡ false → (q : ℕ) → q < n → Holds now.pairs p q → Round M M ok k (Holds now.pairs) p q
+    pub others : KeepsOthers p old now
+    pub apart : (IsReachedWithin M k p p → ⊥) → (q : ℕ) → q < n → Holds now.pairs p q → Round M M ok k (Holds now.pairs) p q
 
   -- The rows below n were tried.
   pub record IsPassing (old now : Relation) (changed : Bool) (n : ℕ) : Type 0 where
@@ -129,6 +132,8 @@ module _ (M : ℕ → ℕ → ℕ → Type 0) (ok : ℕ → ℕ → Type 0) (k :
     some = λ e. absurd (false≢true e);
     same = λ e. refl;
     rounds = λ e q q_in. absurd (omega arith);
+    others = λ r s apart h. h;
+    apart = λ free q q_in. absurd (omega arith);
   }
 
   -- the pair has no round
@@ -151,6 +156,13 @@ module _ (M : ℕ → ℕ → ℕ → Type 0) (ok : ℕ → ℕ → Type 0) (k :
         some = λ e. omega arith;
         same = λ e. absurd (false≢true (sym e));
         rounds = λ e. absurd (false≢true (sym e));
+        others = λ r s apart was. (removes.pairs r s).1 (h.others r s apart was, λ is. apart is.0);
+        apart = λ free r r_in stays.
+            let was = (removes.pairs p r).0 stays in
+            let behind : r < q = elim (cases_eq r q) [ inl e ↦ absurd (was.1 ((refl, e))) | inr apart ↦ omega arith ] in
+            round_near M ok (Holds now.pairs) (Holds new.pairs) k p r
+            (λ u v reached is. (removes.pairs u v).1 (is, λ e. free (subst (λ x. IsReachedWithin M k p x) e.0 reached)))
+            (h.apart free r behind was.0);
       }
 
   -- it has one, or is not held
@@ -164,12 +176,18 @@ module _ (M : ℕ → ℕ → ℕ → Type 0) (ok : ℕ → ℕ → Type 0) (k :
     some = h.some;
     same = h.same;
     rounds = λ e r r_in held. elim (cases_eq r q) [
-      | inl f ↦
-          let P : ℕ → Type 0 = λ x. Holds now.pairs p x → Round M M ok k (Holds now.pairs) p x in
-          subst P (sym f) round held
+      | inl f ↦ here r f held
       | inr apart ↦ h.rounds e r (omega arith) held
     ];
+    others = h.others;
+    apart = λ free r r_in held. elim (cases_eq r q) [
+      | inl f ↦ here r f held
+      | inr apart ↦ h.apart free r (omega arith) held
+    ];
   }
+    where
+      here : (r : ℕ) → r ≡ q → Holds now.pairs p r → Round M M ok k (Holds now.pairs) p r
+      here r f = let P : ℕ → Type 0 = λ x. Holds now.pairs p x → Round M M ok k (Holds now.pairs) p x in subst P (sym f) round
 
   pub passing_begins : (R : Relation) → IsRelation R → IsPassing R R false 0
   passing_begins R valid = record {

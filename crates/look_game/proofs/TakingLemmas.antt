@@ -1,10 +1,11 @@
 -- Taking pairs away.
-use Rattle.std.proofs.Common.{◌≡◌, ℕ, suc, ◌+◌, ◌<◌, ◌≤◌, ◌⊎◌, inl, inr, true, false, List, [], ◌∷◌, length, Contains, refl, sym, ap, ◌∙◌, subst, arith, le_refl}
+use Rattle.std.proofs.Common.{◌≡◌, ℕ, zero, suc, ◌<◌, ◌≤◌, inl, inr, List, [], ◌∷◌, length, Contains, refl, sym, ◌∙◌, subst, arith}
 use Rattle.auto_core.proofs.PathLemmas.{Contains-here, Contains-later, Contains-cons_cases, none_in_nil}
 use Rattle.auto_core.specs.Run.{PathBy}
-use Rattle.auto_core.specs.Game.{MayShow, Answers, Round, Stable, Holds, IsWithin}
+use Rattle.auto_core.specs.Game.{Answers, Round, Holds}
 use Rattle.bit_rel.specs.Relation.{Relation, IsRelation, IsBefore, ArePairsAscending, Removes}
 use Rattle.look_game.specs.Taking.{Takes, TakesSome}
+use Rattle.look_game.specs.Near.{IsReachedWithin}
 
 -- A round that ends in a relation ends in each greater one.
 answers_more :
@@ -24,6 +25,36 @@ pub round_more :
     → Round M M ok k V p q
     → Round M M ok k W p q
 round_more M ok V W k p q more h w ps path may = answers_more M ok V W more q w ps (h w ps path may)
+
+-- A round from p looks at the relation only at states that are reached from p in as many moves as are looked ahead.
+answers_near :
+    (M : ℕ → ℕ → ℕ → Type 0) (ok V W : ℕ → ℕ → Type 0) (k p q : ℕ) (w ps : List ℕ)
+    → PathBy M p w ps
+    → length w ≤ k
+    → ((r s : ℕ) → IsReachedWithin M k p r → V r s → W r s)
+    → Answers M ok V q w ps
+    → Answers M ok W q w ps
+answers_near M ok V W k p q [] ps path few same h = h
+answers_near M ok V W k p q (a ∷ w) [] path few same h = h
+answers_near M ok V W zero p q (a ∷ w) (r ∷ ps) path few same h = absurd (omega arith)
+answers_near M ok V W (suc k) p q (a ∷ w) (r ∷ ps) (move, rest) few same (s, go, match, h) = (
+  s,
+  go,
+  match,
+  elim h [
+    | inl held ↦ inl (same r s (a, r, move, inl refl) held)
+    | inr later ↦ inr (answers_near M ok V W k r s w ps rest (omega arith) (λ u v is held. same u v (a, r, move, inr is) held) later)
+  ],
+)
+
+pub round_near :
+    (M : ℕ → ℕ → ℕ → Type 0) (ok V W : ℕ → ℕ → Type 0) (k p q : ℕ)
+    → ((r s : ℕ) → IsReachedWithin M k p r → V r s → W r s)
+    → Round M M ok k V p q
+    → Round M M ok k W p q
+round_near M ok V W k p q same h w ps path may =
+    let few : length w ≤ k = elim may [ inl e ↦ omega arith | inr short ↦ let lt = short.1 in omega arith ] in
+    answers_near M ok V W k p q w ps path few same (h w ps path may)
 
 -- An ascending list whose elements are all in another one is no longer.
 before_irrefl : (x y : ℕ × ℕ) → IsBefore x y → IsBefore y x → ⊥

@@ -1,6 +1,6 @@
 -- Taking pairs away until each that is left has its round.
 use Rattle.std.specs.Prelude.{◌≡◌, ℕ, ◌<◌, ◌↔◌, ◌⊎◌, List, length}
-use Rattle.auto_core.specs.Game.{Round, Stable, Holds, ArePairsBelow, IsWithin}
+use Rattle.auto_core.specs.Game.{Round, Stable, Holds, IsWithin}
 use Rattle.bit_rel.specs.Relation.{Relation, IsRelation}
 
 -- The new relation holds besides the old one's pairs those of p and a state below n that matches it.
@@ -22,7 +22,11 @@ pub record Takes (M : ℕ → ℕ → ℕ → Type 0) (ok : ℕ → ℕ → Type
   pub within : IsWithin new.pairs old.pairs
   pub leaves : (T : List (ℕ × ℕ)) → Stable M M ok k (Holds T) → IsWithin T old.pairs → IsWithin T new.pairs
 
--- Nothing was taken, or the new relation has fewer pairs.
+-- All pairs stay whose left state is not p.
+abbrev pub KeepsOthers : ℕ → Relation → Relation → Type 0
+KeepsOthers p old new = (r s : ℕ) → ¬ (r ≡ p) → Holds old.pairs r s → Holds new.pairs r s
+
+-- The new relation has fewer pairs.
 abbrev pub TakesSome : Relation → Relation → Type 0
 TakesSome old new = length new.pairs < length old.pairs
 

@@ -1,15 +1,121 @@
-//! The greatest relation.
+//! The greatest relation, by a list of rows that are still to be tried.
 
-ghost use Rattle.std.specs.Prelude.{◌≡◌, ◌≤◌, IfOk};
+ghost use Rattle.std.specs.Prelude.{◌≡◌, ◌+◌, ◌/◌, ◌<◌, ◌≤◌, ℕ, true, false, length, IfOk};
+ghost use Rattle.auto_core.specs.Automaton.{IsAutomaton};
 ghost use Rattle.auto_core.specs.Game.{IsGreatest};
+ghost use Rattle.look_game.specs.Taking.{IsMatching, Takes, TakesSome, KeepsOthers, HasRounds};
+ghost use Rattle.look_game.specs.Near.{IsReachedWithin, IsApart, HasOtherRounds};
 
-use crate::rounds;
-use auto_core::{Auto, Memory};
+use crate::{first, near, rounds};
+use auto_core::{Auto, Memory, rows};
 use bit_rel::Rel;
-use look_round::Side;
+use look_round::{Scratch, Side};
 use std::alloc::Global;
 
-/// The greatest relation on the automaton's states each of whose pairs matches and has its round at this lookahead.
+/// Takes away the pairs of `p` that do not have their round, and tells whether there were any.
+fn visit_row<S: Side>(
+    side: &S,
+    automaton: &Auto,
+    look: u32,
+    rel: &mut Rel,
+    scratch: &mut Scratch,
+    p: u32,
+) -> bool
+    requires look_from { 1 ≤ look }
+    requires look_upto { look ≤ 6 }
+    requires equal { rel.old.size ≡ automaton.now.states }
+    requires made { scratch.old ≡ record { states = automaton.now.states; look = look } }
+    requires state { p < automaton.now.states }
+    ensures takes { Takes (S.goes side.now automaton.now) (S.keeps side.now automaton.now) look rel.old rel.new }
+    ensures some { result ≡ true → TakesSome rel.old rel.new }
+    ensures same { result ≡ false → rel.new ≡ rel.old }
+    ensures rounds { result ≡ false → HasRounds (S.goes side.now automaton.now) (S.keeps side.now automaton.now) look rel.new p }
+    ensures others { KeepsOthers p rel.old rel.new }
+    ensures apart { (IsReachedWithin (S.goes side.now automaton.now) look p p → ⊥)
+        → HasRounds (S.goes side.now automaton.now) (S.keeps side.now automaton.now) look rel.new p }
+    ensures scratch { scratch.new ≡ scratch.old }
+{
+    let mut changed = false;
+    for q in 0..rel.size() {
+        if rel.get(p, q) {
+            if !first::holds(side, automaton, rel, look, p, q, scratch) {
+                rel.clear(p, q);
+                changed = true;
+            }
+        }
+    }
+    changed
+}
+
+/// Takes away pairs of the marked rows that do not have their round, each pair being tried once, and tells whether there were
+/// any. The last rows come first, since moves mostly lead on to later states. `changed` is made to mark the rows that lost pairs.
+fn pass<S: Side>(
+    side: &S,
+    automaton: &Auto,
+    look: u32,
+    marks: &[u64],
+    rel: &mut Rel,
+    scratch: &mut Scratch,
+    changed: &mut [u64],
+) -> bool
+    requires look_from { 1 ≤ look }
+    requires look_upto { look ≤ 6 }
+    requires equal { rel.old.size ≡ automaton.now.states }
+    requires made { scratch.old ≡ record { states = automaton.now.states; look = look } }
+    requires marks_len { length marks.now ≡ (automaton.now.states + 63) / 64 }
+    requires changed_len { length changed.old ≡ (automaton.now.states + 63) / 64 }
+    requires others { HasOtherRounds (S.goes side.now automaton.now) (S.keeps side.now automaton.now) look rel.old marks.now }
+    ensures takes { Takes (S.goes side.now automaton.now) (S.keeps side.now automaton.now) look rel.old rel.new }
+    ensures some { result ≡ true → TakesSome rel.old rel.new }
+    ensures none { result ≡ false → (p : ℕ) → HasRounds (S.goes side.now automaton.now) (S.keeps side.now automaton.now) look rel.new p }
+    ensures apart { (p : ℕ)
+        → IsApart (S.goes side.now automaton.now) look changed.new p
+        → HasRounds (S.goes side.now automaton.now) (S.keeps side.now automaton.now) look rel.new p }
+    ensures scratch { scratch.new ≡ scratch.old }
+{
+    rows::clear_row(changed);
+    let mut any = false;
+    for p in (0..rel.size()).rev() {
+        if rows::has_bit(marks, p as usize) {
+            if visit_row(side, automaton, look, rel, scratch, p) {
+                rows::set_bit(changed, p as usize);
+                any = true;
+            }
+        }
+    }
+    any
+}
+
+/// Takes pairs away until each that is left has its round. The three rows are room.
+fn settle<S: Side>(
+    side: &S,
+    automaton: &Auto,
+    look: u32,
+    rel: &mut Rel,
+    scratch: &mut Scratch,
+    marks: &mut [u64],
+    changed: &mut [u64],
+    spare: &mut [u64],
+)
+    requires valid { IsAutomaton automaton.now }
+    requires look_from { 1 ≤ look }
+    requires look_upto { look ≤ 6 }
+    requires equal { rel.old.size ≡ automaton.now.states }
+    requires made { scratch.old ≡ record { states = automaton.now.states; look = look } }
+    requires marks_len { length marks.old ≡ (automaton.now.states + 63) / 64 }
+    requires changed_len { length changed.old ≡ (automaton.now.states + 63) / 64 }
+    requires spare_len { length spare.old ≡ (automaton.now.states + 63) / 64 }
+    ensures takes { Takes (S.goes side.now automaton.now) (S.keeps side.now automaton.now) look rel.old rel.new }
+    ensures rounds { (p : ℕ) → HasRounds (S.goes side.now automaton.now) (S.keeps side.now automaton.now) look rel.new p }
+{
+    near::mark_all(marks, rel.size());
+    'passes: while pass(side, automaton, look, marks, rel, scratch, changed) {
+        near::mark_near(side, automaton, look, changed, marks, spare);
+    }
+}
+
+/// The greatest relation on the automaton's states each of whose pairs matches and has its round at this lookahead. A row is
+/// tried again only if one that is reached from it within the lookahead has lost a pair.
 pub fn greatest<S: Side>(
     alloc: Global,
     side: &S,
@@ -21,5 +127,21 @@ pub fn greatest<S: Side>(
     ensures size { IfOk result (λ r. r.size ≡ automaton.now.states) }
     ensures greatest { IfOk result (λ r. IsGreatest (S.goes side.now automaton.now) (S.goes side.now automaton.now) (S.keeps side.now automaton.now) look automaton.now.states automaton.now.states r.pairs) }
 {
-    rounds::greatest_by_rounds(alloc, side, automaton, look)
+    let mut rel = rounds::matching(alloc, side, automaton)?;
+    let mut scratch = Scratch::new(alloc, automaton, look)?;
+    let width = rows::words_for(automaton.states());
+    let mut marks = vec![in alloc; 0; width]?;
+    let mut changed = vec![in alloc; 0; width]?;
+    let mut spare = vec![in alloc; 0; width]?;
+    settle(
+        side,
+        automaton,
+        look,
+        &mut rel,
+        &mut scratch,
+        &mut marks,
+        &mut changed,
+        &mut spare,
+    );
+    Ok(rel)
 }

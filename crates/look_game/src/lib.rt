@@ -1,8 +1,13 @@
 //! The greatest relation that a game of looking ahead keeps.
 #![tactic(auto)]
 
+mod first;
 mod game;
+mod near;
 mod rounds;
 
 pub use game::greatest;
 pub use rounds::greatest_by_rounds;
+
+#[cfg(test)]
+mod tests;

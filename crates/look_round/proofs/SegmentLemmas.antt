@@ -33,7 +33,7 @@ filter_parts f front middle back a b c =
     ∙ append-nil middle
 
 -- the elements that pass stand together
-filter_segment :
+pub filter_segment :
     {X : Type 0} (f : X → Bool) (xs : List X) (d : X) (b e : ℕ)
     → b ≤ e
     → e ≤ length xs

@@ -137,7 +137,7 @@ module _ (number : ℕ) (files : FileMap) (name : List ℕ) where
       same_ok x y _ (subst P e read) read'
 
 one_verdict : (pair : Joined) (body : Body) (x y : Answer) → IsVerdictAnswer pair body x → IsVerdictAnswer pair body y → x ≡ y
-one_verdict pair (Yes b) x y p q = absurd p
+one_verdict pair (Yes b) x y p q = p ∙ sym q
 one_verdict pair (NoLasso l) x y p q = p ∙ sym q
 one_verdict pair (NoWord w) x y p q = absurd p
 one_verdict pair (Listing l) x y p q = absurd p

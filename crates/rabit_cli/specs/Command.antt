@@ -21,7 +21,7 @@ use Rattle.cert_check.specs.Checks.{AllHold, FirstBroken}
 use Rattle.cert_check.specs.Rules.{checks_of, has_checked_form}
 use Rattle.rabit_cli.specs.Question.{Question, Check}
 use Rattle.rabit_cli.specs.declared.answer.Answer.{Answer}
-use Rattle.rabit_cli.specs.declared.answer.Answer.TheVariants.{NotBuilt, BadFile, LongFile, BadText, LongCertificate, Refused, NotIncluded, ReadFault, OutOfMemory}
+use Rattle.rabit_cli.specs.declared.answer.Answer.TheVariants.{NotBuilt, BadFile, LongFile, BadText, LongCertificate, Refused, Included, NotIncluded, ReadFault, OutOfMemory}
 
 -- The most states, labels and transitions of each file of a check.
 abbrev pub check_limits : Limits
@@ -64,7 +64,7 @@ HoldsCertificate files name cert =
 
 -- The answer of a valid certificate with this body.
 abbrev pub IsVerdictAnswer : Joined → Body → Answer → Type 0
-IsVerdictAnswer pair (Yes body) answer = ⊥
+IsVerdictAnswer pair (Yes evidence) answer = answer ≡ Included
 IsVerdictAnswer pair (NoLasso lasso) answer = answer ≡ NotIncluded pair.labels lasso
 IsVerdictAnswer pair (NoWord word) answer = ⊥
 IsVerdictAnswer pair (Listing body) answer = ⊥

@@ -6,7 +6,7 @@ use Rattle.ba_format.specs.declared.parts.BaKind.TheVariants as kind
 use Rattle.cert_text.specs.declared.faults.TextKind.{TextKind}
 use Rattle.cert_text.specs.declared.faults.TextKind.TheVariants as text_kind
 use Rattle.rabit_cli.specs.declared.answer.Answer.{Answer}
-use Rattle.rabit_cli.specs.declared.answer.Answer.TheVariants.{NotBuilt, BadFile, LongFile, BadText, LongCertificate, Refused, NotIncluded, ReadFault, OutOfMemory}
+use Rattle.rabit_cli.specs.declared.answer.Answer.TheVariants.{NotBuilt, BadFile, LongFile, BadText, LongCertificate, Refused, Included, NotIncluded, ReadFault, OutOfMemory}
 
 -- The name of a fault of a `.ba` text.
 abbrev pub kind_name : BaKind → List ℕ
@@ -63,6 +63,7 @@ text_for (BadText fault) = certificate_line fault.line (text_kind_name fault.kin
 text_for LongCertificate = certificate_line 0 (codes "Long")
 text_for (Refused refusal) =
     codes "certificate item " ++ (decimal refusal.item ++ (codes ": rule " ++ (decimal refusal.rule ++ line_end)))
+text_for Included = codes "included" ++ line_end
 text_for (NotIncluded labels lasso) =
     codes "not included" ++ (line_end
     ++ (codes "prefix:" ++ (word_text labels lasso.prefix ++ (line_end
@@ -78,12 +79,14 @@ status_of (LongFile number) = 4
 status_of (BadText fault) = 5
 status_of LongCertificate = 5
 status_of (Refused refusal) = 5
+status_of Included = 0
 status_of (NotIncluded labels lasso) = 1
 status_of ReadFault = 6
 status_of OutOfMemory = 8
 
 -- The status of the answer where its text could not be sent: a verdict turns into a write fault.
 abbrev pub status_unsent : Answer → ℕ
+status_unsent Included = 7
 status_unsent (NotIncluded labels lasso) = 7
 status_unsent answer = status_of answer
 

@@ -4,16 +4,20 @@ use Rattle.std.specs.Io.KnownBytes.{append_known}
 use Rattle.shelf_io.specs.Counts.{Rose}
 use Rattle.shelf_io.specs.Shelf.{FileMap}
 use Rattle.auto_core.specs.declared.parts.Lasso.{Lasso}
-use Rattle.auto_core.specs.Accept.{SeparatesLasso}
+use Rattle.auto_core.specs.Accept.{Includes, SeparatesLasso}
+use Rattle.auto_core.specs.declared.parts.Mode.TheVariants.{Buchi}
 use Rattle.ba_format.specs.declared.parts.Named.{Named}
 use Rattle.ba_format.specs.declared.parts.Joined.{Joined}
 use Rattle.ba_format.specs.Joining.{IsJoined}
 use Rattle.cert_text.specs.declared.types.Cert.{Cert}
-use Rattle.cert_text.specs.declared.types.Body.TheVariants.{NoLasso}
+use Rattle.cert_text.specs.declared.types.YesBody.{YesBody}
+use Rattle.cert_text.specs.declared.types.Body.TheVariants.{Yes, NoLasso}
+use Rattle.cert_check.specs.Checks.{AllHold}
+use Rattle.cert_check.specs.Rules.{checks_of}
 use Rattle.rabit_cli.specs.Question.{Question, Check}
 use Rattle.rabit_cli.specs.Command.{IsAnswerTo, UnlessRefused, ReadsAs, HoldsCertificate}
 use Rattle.rabit_cli.specs.declared.answer.Answer.{Answer}
-use Rattle.rabit_cli.specs.declared.answer.Answer.TheVariants.{NotIncluded, ReadFault}
+use Rattle.rabit_cli.specs.declared.answer.Answer.TheVariants.{Included, NotIncluded, ReadFault}
 use Rattle.rabit_cli.specs.Printed.{text_for, status_of, status_unsent}
 
 -- The answer's whole text was sent, or the sink's count rose and a front of it was.
@@ -47,7 +51,29 @@ pub record IsApart (files : FileMap) (a b c : List ℕ) (sent sent' : Option (Li
   pub separates : SeparatesLasso pair.first pair.second lasso.prefix lasso.turn
   pub printed : sent' ≡ append_known sent (text_for (NotIncluded pair.labels lasso))
 
+-- The named files read as two automata, the certificate says yes and keeps all rules, the second automaton accepts each lasso
+-- that the first accepts, and that was printed.
+pub record IsIncluded (files : FileMap) (a b c : List ℕ) (sent sent' : Option (List ℕ)) : Type 0 where
+  pub one : Named
+  pub two : Named
+  pub pair : Joined
+  pub cert : Cert
+  pub evidence : YesBody
+  pub first : ReadsAs files a one
+  pub second : ReadsAs files b two
+  pub joined : IsJoined one two pair
+  pub certificate : HoldsCertificate files c cert
+  pub says_yes : cert.body ≡ Yes evidence
+  pub valid : AllHold (checks_of pair cert)
+  pub includes : Includes pair.first pair.second Buchi
+  pub printed : sent' ≡ append_known sent (text_for Included)
+
 -- The words ask for a check, and it shows that.
+abbrev pub ShowsIncluded : FileMap → Option Question → Option (List ℕ) → Option (List ℕ) → Type 0
+ShowsIncluded files None sent sent' = ⊥
+ShowsIncluded files (Some (Check a b c)) sent sent' = IsIncluded files a b c sent sent'
+
+-- The words ask for a check, and it shows that the lasso of the certificate separates the automata.
 abbrev pub ShowsApart : FileMap → Option Question → Option (List ℕ) → Option (List ℕ) → Type 0
 ShowsApart files None sent sent' = ⊥
 ShowsApart files (Some (Check a b c)) sent sent' = IsApart files a b c sent sent'

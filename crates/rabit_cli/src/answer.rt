@@ -31,6 +31,8 @@ pub enum Answer {
     LongCertificate,
     /// The certificate breaks a rule.
     Refused(Refusal),
+    /// The second automaton accepts each lasso that the first accepts.
+    Included,
     /// The first automaton accepts the lasso, and the second does not.
     NotIncluded {
         /// The texts of the labels.
@@ -50,6 +52,7 @@ impl Answer {
         ensures { result ≡ status_of self.now }
     {
         match self {
+            Answer::Included => 0,
             Answer::NotIncluded { .. } => 1,
             Answer::BadFile { .. } => 4,
             Answer::LongFile { .. } => 4,
@@ -67,6 +70,7 @@ impl Answer {
         ensures { result ≡ status_unsent self.now }
     {
         match self {
+            Answer::Included => 7,
             Answer::NotIncluded { .. } => 7,
             other => other.status(),
         }

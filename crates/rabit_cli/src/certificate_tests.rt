@@ -53,8 +53,8 @@ fn every_front_of_a_certificate_is_truncated(rt: HostRuntime) {
 fn a_changed_line_is_named(rt: HostRuntime) -> Result<(), Fail> {
     let alloc = rt.alloc();
     assert_eq!(rt;
-        check(alloc, PAIR, PAIR, PAIR_YES, "not built\n")?,
-        (9, true)
+        check(alloc, PAIR, PAIR, PAIR_YES, "included\n")?,
+        (0, true)
     );
     let changed = [
         (

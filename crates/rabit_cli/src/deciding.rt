@@ -4,6 +4,7 @@ ghost use Rattle.std.specs.Prelude.{◌≡◌, ◌≤◌, ◌^◌, ◌<◌, ◌�
 ghost use Rattle.std.specs.String.{string_bytes};
 ghost use Rattle.shelf_io.specs.Counts.{Rose};
 ghost use Rattle.rabit_cli.specs.Question.{Check, question_of};
+ghost use Rattle.cert_text.specs.WellFormed.{WellFormed};
 ghost use Rattle.rabit_cli.specs.Printed.{IsPrintable};
 ghost use Rattle.rabit_cli.specs.Command.{HasLabelTexts, Concludes, CountsInTurn, IsCheckAnswer, IsAnswerTo, UnlessRefused};
 
@@ -18,6 +19,7 @@ use std::alloc::Global;
 /// The answer for the joined automata and the certificate.
 fn conclusion(alloc: Global, pair: Joined, cert: &Cert) -> Answer
     requires labels { HasLabelTexts pair }
+    requires well_formed { WellFormed cert.now }
     ensures concludes { UnlessRefused result (Concludes pair cert.now result) }
     ensures printable { IsPrintable result }
     ensures no_read_fault { ¬ (result ≡ Answer.ReadFault) }
@@ -26,6 +28,7 @@ fn conclusion(alloc: Global, pair: Joined, cert: &Cert) -> Answer
         return Answer::NotBuilt;
     }
     match cert_check::check(alloc, &pair, cert) {
+        Ok(Verdict::Included) => Answer::Included,
         Ok(Verdict::Apart(lasso)) => Answer::NotIncluded {
             labels: pair.labels,
             lasso,

@@ -100,6 +100,7 @@ pub fn printed(alloc: Global, answer: &Answer) -> Result<Vec<u8>, Memory>
         Answer::LongCertificate => certificate_text(alloc, 0, "Long"),
         Answer::Refused(refusal) => refusal_text(alloc, refusal.item, refusal.rule),
         Answer::ReadFault => copied(alloc, "read fault\n"),
+        Answer::Included => copied(alloc, "included\n"),
         Answer::NotBuilt => copied(alloc, "not built\n"),
         Answer::OutOfMemory => copied(alloc, "out of memory\n"),
     }

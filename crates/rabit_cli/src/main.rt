@@ -32,4 +32,6 @@ mod certificate_tests;
 #[cfg(test)]
 mod fault_tests;
 #[cfg(test)]
+mod inclusion_tests;
+#[cfg(test)]
 mod tests;

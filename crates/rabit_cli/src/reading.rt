@@ -5,6 +5,7 @@ ghost use Rattle.shelf_io.specs.Counts.{Rose};
 ghost use Rattle.shelf_io.specs.Shelf.{CountsMissing};
 ghost use Rattle.ba_format.specs.Reading.{IsWithin};
 ghost use Rattle.ba_format.specs.Joining.{IsJoined};
+ghost use Rattle.cert_text.specs.WellFormed.{WellFormed};
 ghost use Rattle.rabit_cli.specs.Printed.{IsPrintable};
 ghost use Rattle.rabit_cli.specs.Command.{check_limits, HasLabelTexts, IsFileFault, ReadsAs, IsCertificateFault, HoldsCertificate, UnlessRefused};
 
@@ -73,6 +74,7 @@ pub fn joined(alloc: Global, one: &Named, two: &Named) -> Result<Joined, Memory>
 /// Loads and reads the certificate, or tells the answer that its file ends with.
 pub fn read_certificate<H: Shelf>(alloc: Global, shelf: &mut H, name: &str) -> Result<Cert, Answer>
     ensures read { IfOk result (λ cert. IfSome (H.held shelf.old) (λ files. HoldsCertificate files name.now cert)) }
+    ensures well_formed { IfOk result WellFormed }
     ensures printable { IfErr result IsPrintable }
     ensures fault { IfErr result (λ answer. IfSome (H.held shelf.old) (λ files. UnlessRefused answer (IsCertificateFault files name.now answer))) }
     ensures read_fault { result ≡ Err Answer.ReadFault → Rose (H.faults shelf.old) (H.faults shelf.new) }

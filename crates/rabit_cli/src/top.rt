@@ -6,7 +6,7 @@ ghost use Rattle.shelf_io.specs.Counts.{Rose};
 ghost use Rattle.rabit_cli.specs.Question.{question_of};
 ghost use Rattle.rabit_cli.specs.Printed.{IsPrintable, text_for};
 ghost use Rattle.rabit_cli.specs.Command.{CountsInTurn, IsAnswerTo, UnlessRefused};
-ghost use Rattle.rabit_cli.specs.Said.{WasSaid, IsAnswered, ShowsApart, SaysEachAnswer};
+ghost use Rattle.rabit_cli.specs.Said.{WasSaid, IsAnswered, ShowsIncluded, ShowsApart, SaysEachAnswer};
 
 use crate::answer::Answer;
 use crate::{deciding, lines};
@@ -49,6 +49,9 @@ pub fn run<H: Shelf, K: Sink>(alloc: Global, words: &[String], shelf: &mut H, ou
     ensures exact { IfSome (H.held shelf.old) (λ files.
         SaysEachAnswer files (question_of (map string_bytes words.now)) result
         (K.sent out.old) (K.sent out.new) (K.faults out.old) (K.faults out.new) (H.faults shelf.old) (H.faults shelf.new)) }
+
+    // Included: the certificate is valid for the two read automata, and then the second accepts each lasso that the first accepts.
+    ensures included { result ≡ 0 → IfSome (H.held shelf.old) (λ files. ShowsIncluded files (question_of (map string_bytes words.now)) (K.sent out.old) (K.sent out.new)) }
 
     // Not included: the certificate's lasso separates the two read automata, and it was printed.
     ensures not_included { result ≡ 1 → IfSome (H.held shelf.old) (λ files. ShowsApart files (question_of (map string_bytes words.now)) (K.sent out.old) (K.sent out.new)) }

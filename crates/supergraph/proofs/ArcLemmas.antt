@@ -1,5 +1,5 @@
 -- A real arc with a transition out of its end is real.
-use Rattle.std.proofs.Common.{◌≡◌, ℕ, ◌+◌, ◌<◌, ◌≤◌, Bool, true, false, ◌||◌, List, [], ◌∷◌, ◌++◌, length, refl, sym, subst, arith, length-append}
+use Rattle.std.proofs.Common.{◌≡◌, ℕ, ◌<◌, ◌≤◌, Bool, true, false, ◌||◌, List, [], ◌∷◌, ◌++◌, length, refl, sym, subst, arith, length-append}
 use Rattle.auto_core.specs.Automaton.{Automaton, Moves, is_accepting, trans_at}
 use Rattle.auto_core.specs.Run.{Run}
 use Rattle.auto_core.specs.Graph.{IsReal, extended_arc}

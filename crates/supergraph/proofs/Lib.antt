@@ -1,1 +1,2 @@
 pub mod ArcLemmas
+pub mod WordLemmas

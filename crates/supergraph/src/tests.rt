@@ -1,7 +1,10 @@
 //! Arcs of an automaton of 65 or 130 states, with its own graphs.
 
-use crate::{Arc, base, extend, subsumes};
-use auto_core::{Auto, Memory, Trans};
+ghost use Rattle.std.specs.Prelude.{IsTrue};
+ghost use Rattle.supergraph.specs.Words.{NamesWhatIsThere, NameWhatIsThere};
+
+use crate::{Arc, base, extend, subsumes, word_of};
+use auto_core::{Auto, Memory, Origin, Trans};
 use bit_rel::Rel;
 use graph_rows::{letter, words_of};
 use std::alloc::Global;
@@ -97,6 +100,64 @@ fn smaller_graphs_subsume(rt: HostRuntime) -> Result<(), Fail> {
         assert!(rt; !subsumes_by(rt.alloc(), &automaton, &plain, &marked, before, last)?);
         assert!(rt; !subsumes_by(rt.alloc(), &automaton, &marked, &plain, last, before)?);
     }
+    Ok(())
+}
+
+fn is_there(automaton: &Auto, at: usize, origin: Origin) -> bool
+    ensures { IsTrue result → NamesWhatIsThere automaton.now at origin }
+{
+    let count = automaton.transitions().len();
+    match origin {
+        Origin::Start => true,
+        Origin::Base(t) => (t as usize) < count,
+        Origin::Next(before, t) => (before as usize) < at && (t as usize) < count,
+    }
+}
+
+fn all_there(automaton: &Auto, origins: &[Origin]) -> bool
+    ensures { IsTrue result → NameWhatIsThere automaton.now origins.now }
+{
+    for at in 0..origins.len() {
+        if !is_there(automaton, at, origins[at]) {
+            return false;
+        }
+    }
+    true
+}
+
+/// Whether the element's word is this one.
+fn has_word(
+    alloc: Global,
+    automaton: &Auto,
+    origins: &[Origin],
+    element: u32,
+    letters: &[u32],
+) -> Result<bool, Memory> {
+    if element as usize >= origins.len() {
+        return Ok(false);
+    }
+    if !all_there(automaton, origins) {
+        return Ok(false);
+    }
+    let word = word_of(alloc, automaton, origins, element)?;
+    Ok(word.as_slice() == letters)
+}
+
+#[test]
+fn words_of_origins(rt: HostRuntime) -> Result<(), Fail> {
+    let steps = [step(0, 0, 1), step(1, 1, 2), step(2, 2, 0)];
+    let automaton = Auto::build(rt.alloc(), 3, 3, 0, &steps, &[2])?;
+    let origins = [
+        Origin::Base(1),
+        Origin::Next(0, 2),
+        Origin::Start,
+        Origin::Next(1, 0),
+        Origin::Next(2, 0),
+    ];
+    assert!(rt; has_word(rt.alloc(), &automaton, &origins, 0, &[1])?);
+    assert!(rt; has_word(rt.alloc(), &automaton, &origins, 2, &[])?);
+    assert!(rt; has_word(rt.alloc(), &automaton, &origins, 3, &[1, 2, 0])?);
+    assert!(rt; has_word(rt.alloc(), &automaton, &origins, 4, &[0])?);
     Ok(())
 }
 

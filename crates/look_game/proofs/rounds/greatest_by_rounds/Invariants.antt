@@ -1,5 +1,5 @@
 use Rattle.std.proofs.Common.{◌≡◌, length}
-use Rattle.look_game.specs.Taking.{IsMatching, Takes}
+use Rattle.look_game.specs.Taking.{Takes}
 use Rattle.look_game.proofs.rounds.greatest_by_rounds.Given as goal
 
 abbrev pub invariant-passes : goal.invariant-passes

@@ -1,5 +1,4 @@
-use Rattle.std.proofs.Common.{ℕ, ◌≡◌, ◌+◌, Bool, true, false, refl, sym, ◌∙◌, subst, arith}
-use Rattle.bit_rel.specs.Relation.{Relation}
+use Rattle.std.proofs.Common.{◌+◌, Bool, refl, sym, ◌∙◌, subst, arith}
 use Rattle.look_game.proofs.RowLemmas.{IsPassing, passing_begins, row_taken, row_stays}
 use Rattle.look_game.proofs.rounds.pass.Goals as goal
 use Rattle.look_game.proofs.rounds.pass.Goals.{then-visit_row, else-visit_row}

@@ -3,7 +3,7 @@ use Rattle.std.specs.String.{string_bytes}
 use Rattle.rabit_cli.specs.Question.{question_of}
 use Rattle.rabit_cli.specs.Command.{IsAnswerTo}
 use Rattle.rabit_cli.specs.declared.answer.Answer.TheVariants.{OutOfMemory}
-use Rattle.rabit_cli.proofs.RunLemmas.{shows_apart, says_each_answer, unless_memory}
+use Rattle.rabit_cli.proofs.RunLemmas.{shows_included, shows_apart, says_each_answer, unless_memory}
 use Rattle.rabit_cli.proofs.AnswerLemmas.{memory_not_fault}
 use Rattle.rabit_cli.proofs.top.run.Goals as goal
 
@@ -27,6 +27,10 @@ returns-clause-answered g c =
             no_read_fault = λ _. c.answer_to-answer.ensures.no_read_fault memory.0;
           }
     ]
+
+pub returns-clause-included : goal.returns-clause-included
+returns-clause-included g c = λ none.
+    shows_included (g.H.Shelf.held c.args.shelf.now) (question_of (map (string_bytes {Z = Global}) c.args.words.now)) _ _ _ _ _ _ _ (returns-clause-answered g c) none
 
 pub returns-clause-not_included : goal.returns-clause-not_included
 returns-clause-not_included g c = λ one.

@@ -1,8 +1,6 @@
-use Rattle.std.proofs.Common.{◌≡◌, ℕ, List, [], ◌∷◌, ◌++◌, slice_index_or, rules}
-use Rattle.auto_core.specs.Automaton.{trans, trans_at}
-use Rattle.auto_core.specs.Graph.{extended_arc}
+use Rattle.std.proofs.Common.{ℕ, slice_index_or, rules}
+use Rattle.auto_core.specs.Automaton.{trans}
 use Rattle.supergraph.specs.declared.arcs.Arc.{Arc}
-use Rattle.supergraph.specs.Stands.{with_word}
 use Rattle.supergraph.proofs.ArcLemmas.{extended_is_real}
 use Rattle.supergraph.proofs.arcs.extend.Goals as goal
 

@@ -1,0 +1,246 @@
+-- A certificate of inclusion that keeps all rules is a closed set, and so the second automaton accepts what the first does.
+use Rattle.std.proofs.Common.{◌≡◌, ℕ, zero, suc, ◌+◌, ◌^◌, ◌<◌, ◌≤◌, ◌==◌, ◌&&◌, Bool, true, false, cond, List, [], ◌∷◌, ◌++◌, length, map, slice_index, slice_index_or, refl, sym, ap, ◌∙◌, subst, arith}
+use Rattle.std.specs.List.{filter, list_all}
+use Rattle.std.proofs.lemmas.Bool.{and_parts, eq-eqb, false≢true, eqb-true}
+use Rattle.std.proofs.lemmas.List.{get_or-map, length-map}
+use Rattle.auto_core.specs.Automaton.{Automaton, IsAutomaton, trans, trans_at}
+use Rattle.auto_core.specs.Accept.{Includes}
+use Rattle.auto_core.specs.Graph.{WordArc, start_arc, arcs_of, arc_at, base_arc, extended_arc, ArePlaced, IsPlacedAt}
+use Rattle.auto_core.specs.Closed.{IsLive, ClosedSet, IsSubsumed}
+use Rattle.auto_core.specs.declared.parts.Mode.{Mode}
+use Rattle.auto_core.specs.declared.parts.Mode.TheVariants.{Buchi, Finite}
+use Rattle.auto_core.specs.declared.parts.Origin.{Origin}
+use Rattle.auto_core.specs.declared.parts.Origin.TheVariants.{Start, Base, Next}
+use Rattle.auto_core.specs.declared.parts.Trans.{Trans}
+use Rattle.graph_laws.proofs.ClosedLemmas.{closed_set_includes}
+use Rattle.graph_laws.proofs.OriginLemmas.{length-arcs_of, placed_arcs_are_real}
+use Rattle.cert_text.specs.declared.types.YesBody.{YesBody}
+use Rattle.cert_text.specs.declared.types.Element.{Element}
+use Rattle.cert_text.specs.declared.types.Mark.{Mark}
+use Rattle.cert_text.specs.declared.types.StepLine.{StepLine}
+use Rattle.cert_text.specs.WellFormed.{WellFormed, is_short, are_short, is_body, is_yes, is_block, are_logs, is_live, is_element, is_origin, is_mark, are_steps, is_step_of}
+use Rattle.ba_format.specs.declared.parts.Joined.{Joined}
+use Rattle.cert_text.specs.declared.types.Cert.{Cert}
+use Rattle.cert_text.specs.declared.types.Body.TheVariants.{Yes}
+use Rattle.cert_check.specs.Rules.{body_checks, checks_of, has_checked_body, has_checked_form}
+use Rattle.cert_check.specs.Checks.{Check, AllHold, checks_of_each}
+use Rattle.cert_check.specs.Inclusion.{pairs_of, origins_of, element_arcs, live_in, no_element, NamesOrigin, HasEarlierParent, GoesOn, AreOver, IsOver, starts_of, extensions_of, order_checks, element_checks, under_checks, cover_checks, step_checks, pair_checks, inclusion_checks}
+use Rattle.cert_check.proofs.CheckLemmas.{all_front, all_back, each_of}
+
+-- An element of a Büchi file does not come from the start.
+not_start : (o : Origin) → is_origin Buchi o ≡ true → ¬ (o ≡ Start)
+not_start Start h e = false≢true h
+not_start (Base t) h e = cc
+not_start (Next p t) h e = cc
+
+pub begun_at : (es : List Element) (e : ℕ) (d : Element) → list_all (is_element Buchi) es ≡ true → e < length es → ¬ ((slice_index_or es e d).origin ≡ Start)
+begun_at [] e d h lt = absurd (omega arith)
+begun_at (x ∷ es) zero d h lt = not_start x.origin (and_parts (is_mark x.mark) (is_origin Buchi x.origin) (and_parts (is_element Buchi x) (list_all (is_element Buchi) es) h).0).1
+begun_at (x ∷ es) (suc e) d h lt = begun_at es e d (and_parts (is_element Buchi x) (list_all (is_element Buchi) es) h).1 (omega arith)
+
+-- What a transition that passes a test stands at among those that do.
+kept_at : (p : Trans → Bool) (ts : List Trans) (t : ℕ) (d : Trans) → t < length ts → p (slice_index_or ts t d) ≡ true →
+    (i : ℕ) × (i < length (filter p ts)) × (slice_index_or (filter p ts) i d ≡ slice_index_or ts t d)
+kept_at p [] t d lt passes = absurd (omega arith)
+kept_at p (x ∷ ts) zero d lt passes = first (p x) passes
+  where
+    first : (b : Bool) → b ≡ true → (i : ℕ) × (i < length (cond b (x ∷ filter p ts) (filter p ts))) × (slice_index_or (cond b (x ∷ filter p ts) (filter p ts)) i d ≡ x)
+    first true e = (0, omega arith, refl)
+    first false e = absurd (false≢true e)
+kept_at p (x ∷ ts) (suc t) d lt passes = later (p x) (kept_at p ts t d (omega arith) passes)
+  where
+    later : (b : Bool) → ((i : ℕ) × (i < length (filter p ts)) × (slice_index_or (filter p ts) i d ≡ slice_index_or ts t d)) →
+        (i : ℕ) × (i < length (cond b (x ∷ filter p ts) (filter p ts))) × (slice_index_or (cond b (x ∷ filter p ts) (filter p ts)) i d ≡ slice_index_or ts t d)
+    later true (i, i_in, e) = (suc i, omega arith, e)
+    later false r = r
+
+-- Each live element has its step line.
+module _ (d : StepLine) where
+  abbrev HasLine : List StepLine → ℕ → Type 0
+  HasLine steps n = (k : ℕ) × (k < length steps) × ((slice_index_or steps k d).element ≡ n)
+
+  pub line_of_live : (n e : ℕ) (es : List Element) (steps : List StepLine) → are_steps n es steps ≡ true → e < length es →
+      is_live (slice_index_or es e no_element).mark ≡ true → HasLine steps (n + e)
+  line_of_live n e [] steps h lt live = absurd (omega arith)
+  line_of_live n zero (x ∷ es) [] h lt live = absurd (none (is_live x.mark) live h)
+    where
+      none : (b : Bool) → b ≡ true → cond b false (are_steps (n + 1) es []) ≡ true → ⊥
+      none true e g = false≢true g
+      none false e g = false≢true e
+  line_of_live n zero (x ∷ es) (step ∷ steps) h lt live = here (is_live x.mark) live h
+    where
+      here : (b : Bool) → b ≡ true → cond b (is_step_of n step && are_steps (n + 1) es steps) (are_steps (n + 1) es (step ∷ steps)) ≡ true → HasLine (step ∷ steps) (n + 0)
+      here true e g = (0, omega arith, omega (arith, numbered (and_parts (is_step_of n step) (are_steps (n + 1) es steps) g).0))
+        where
+          numbered : is_step_of n step ≡ true → step.element ≡ n
+          numbered f = eqb-true step.element n (and_parts (are_short step.by) (step.element == n) (and_parts (is_short step.element) (are_short step.by && (step.element == n)) f).1).1
+      here false e g = absurd (false≢true e)
+  line_of_live n (suc e) (x ∷ es) [] h lt live = later (is_live x.mark) h (λ g. line_of_live (n + 1) e es [] g (omega arith) live)
+    where
+      later : (b : Bool) → cond b false (are_steps (n + 1) es []) ≡ true → (are_steps (n + 1) es [] ≡ true → HasLine [] (n + 1 + e)) → HasLine [] (n + suc e)
+      later true g f = absurd (false≢true g)
+      later false g f = subst (HasLine []) (omega arith) (f g)
+  line_of_live n (suc e) (x ∷ es) (step ∷ steps) h lt live =
+      later (is_live x.mark) h (λ g. line_of_live (n + 1) e es steps g (omega arith) live) (λ g. line_of_live (n + 1) e es (step ∷ steps) g (omega arith) live)
+    where
+      later : (b : Bool) → cond b (is_step_of n step && are_steps (n + 1) es steps) (are_steps (n + 1) es (step ∷ steps)) ≡ true →
+          (are_steps (n + 1) es steps ≡ true → HasLine steps (n + 1 + e)) → (are_steps (n + 1) es (step ∷ steps) ≡ true → HasLine (step ∷ steps) (n + 1 + e)) → HasLine (step ∷ steps) (n + suc e)
+      later true g f k =
+          let (j, j_in, is) = f (and_parts (is_step_of n step) (are_steps (n + 1) es steps) g).1 in
+          (suc j, omega arith, is ∙ omega arith)
+      later false g f k = subst (HasLine (step ∷ steps)) (omega arith) (k g)
+
+  line_from_start : (e : ℕ) (es : List Element) (steps : List StepLine) → are_steps 0 es steps ≡ true → e < length es → is_live (slice_index_or es e no_element).mark ≡ true → HasLine steps e
+  line_from_start e es steps h lt live = let zero_on : 0 + e ≡ e = omega arith in subst (HasLine steps) zero_on (line_of_live 0 e es steps h lt live)
+
+pub placed_one : (A : Automaton) (arcs : List WordArc) (n e : ℕ) (o : Origin) → ¬ (o ≡ Start) → NamesOrigin A n o → HasEarlierParent e o → GoesOn A arcs o → IsPlacedAt A arcs e o
+placed_one A arcs n e Start some names earlier goes = absurd (some refl)
+placed_one A arcs n e (Base t) some names earlier goes = names
+placed_one A arcs n e (Next p t) some names earlier goes = (earlier, names.1, goes)
+
+-- One arc of a list that elements are over.
+subsumed_at : (A B : Automaton) (evidence : YesBody) (js : List ℕ) (xs : List WordArc) (i : ℕ) (x : WordArc) → AreOver A B evidence js xs → i < length xs → slice_index_or xs i (start_arc A) ≡ x →
+    IsSubsumed A B (pairs_of evidence.order) (element_arcs A evidence) (live_in evidence) x
+subsumed_at A B evidence js xs i x over lt is =
+    let one : IsOver A B evidence (slice_index js i) x = subst (IsOver A B evidence (slice_index js i)) is (over.each i lt) in
+    (slice_index js i, one.0, one.1)
+
+-- The five lists of checks after those of the relation.
+module _ (A B : Automaton) (evidence : YesBody) where
+  abbrev pub elements_part : List Check
+  elements_part = checks_of_each (element_checks A evidence 2) 0 evidence.elements
+
+  abbrev pub under_part : List Check
+  under_part = checks_of_each (under_checks A B evidence 2) 0 evidence.elements
+
+  abbrev pub cover_part : List Check
+  cover_part = cover_checks A B evidence (2 + length evidence.elements)
+
+  abbrev pub steps_part : List Check
+  steps_part = checks_of_each (step_checks A B evidence (3 + length evidence.elements)) 0 evidence.steps
+
+  abbrev pub pairs_part : List Check
+  pairs_part = checks_of_each (pair_checks A B evidence 2) 0 evidence.elements
+
+  record Parts : Type 0 where
+    order : AllHold (order_checks B evidence 1)
+    elements : AllHold elements_part
+    cover : AllHold cover_part
+    steps : AllHold steps_part
+    pairs : AllHold pairs_part
+
+  parts : AllHold (inclusion_checks A B evidence) → Parts
+  parts hold =
+      let a : AllHold (elements_part ++ (under_part ++ (cover_part ++ (steps_part ++ pairs_part)))) =
+      all_back (order_checks B evidence 1) (elements_part ++ (under_part ++ (cover_part ++ (steps_part ++ pairs_part)))) hold in
+      let b : AllHold (under_part ++ (cover_part ++ (steps_part ++ pairs_part))) = all_back elements_part (under_part ++ (cover_part ++ (steps_part ++ pairs_part))) a in
+      let c : AllHold (cover_part ++ (steps_part ++ pairs_part)) = all_back under_part (cover_part ++ (steps_part ++ pairs_part)) b in
+      let d : AllHold (steps_part ++ pairs_part) = all_back cover_part (steps_part ++ pairs_part) c in
+      record {
+        order = all_front (order_checks B evidence 1) (elements_part ++ (under_part ++ (cover_part ++ (steps_part ++ pairs_part)))) hold;
+        elements = all_front elements_part (under_part ++ (cover_part ++ (steps_part ++ pairs_part))) a;
+        cover = all_front cover_part (steps_part ++ pairs_part) c;
+        steps = all_front steps_part pairs_part d;
+        pairs = all_back steps_part pairs_part d;
+      }
+
+  -- Each element is placed, live or not.
+  placed : list_all (is_element Buchi) evidence.elements ≡ true → Parts → ArePlaced A (origins_of evidence)
+  placed begun p e lt =
+      let lt' : e < length evidence.elements = omega (arith, length-map evidence.elements (λ (x : Element). x.origin)) in
+      let h = each_of (element_checks A evidence 2) e evidence.elements no_element lt' p.elements in
+      let is : slice_index_or (origins_of evidence) e Start ≡ (slice_index_or evidence.elements e no_element).origin =
+      get_or-map (λ (x : Element). x.origin) evidence.elements e no_element Start lt' in
+      subst (IsPlacedAt A (element_arcs A evidence) e) (sym is)
+      (placed_one A (element_arcs A evidence) (length evidence.elements) e (slice_index_or evidence.elements e no_element).origin
+      (begun_at evidence.elements e no_element begun lt') h.0.0 h.1.0 h.1.1.0)
+
+  pub closed : list_all (is_element Buchi) evidence.elements ≡ true → are_steps 0 evidence.elements evidence.steps ≡ true → AllHold (inclusion_checks A B evidence) →
+      ClosedSet A B (pairs_of evidence.order) (element_arcs A evidence) (live_in evidence)
+  closed begun lined hold =
+      let p = parts hold in
+      let size : length (element_arcs A evidence) ≡ length evidence.elements = length-arcs_of A (origins_of evidence) ∙ length-map evidence.elements (λ (x : Element). x.origin) in
+      record {
+        stable = p.order.1.0;
+        real = λ e lt. placed_arcs_are_real A (origins_of evidence) (placed begun p) e (omega (arith, length-arcs_of A (origins_of evidence)));
+        starts = λ t lt.
+            subsumed_at A B evidence evidence.cover (starts_of A) t (base_arc A (trans_at A t)) p.cover.1.0
+            (omega (arith, length-map A.transitions (base_arc A)))
+            (get_or-map (base_arc A) A.transitions t (trans 0 0 0) (start_arc A) lt);
+        steps = λ e t live lt leaves.
+            let (k, k_in, is) = line_from_start no_line e evidence.elements evidence.steps lined (omega (arith, live.0, size)) live.1 in
+            let step : StepLine = slice_index_or evidence.steps k no_line in
+            let h = each_of (step_checks A B evidence (3 + length evidence.elements)) k evidence.steps no_line k_in p.steps in
+            let x : WordArc = arc_at A (element_arcs A evidence) e in
+            let over : AreOver A B evidence step.by (extensions_of A x) = subst (λ m. AreOver A B evidence step.by (extensions_of A (arc_at A (element_arcs A evidence) m))) is h.1.0 in
+            let (i, i_in, same) = kept_at (λ (u : Trans). u.source == x.to) A.transitions t (trans 0 0 0) lt (eq-eqb (trans_at A t).source x.to leaves) in
+            subsumed_at A B evidence step.by (extensions_of A x) i (extended_arc A x (trans_at A t)) over
+            (omega (arith, i_in, length-map (filter (λ (u : Trans). u.source == x.to) A.transitions) (extended_arc A x)))
+            (get_or-map (extended_arc A x) (filter (λ (u : Trans). u.source == x.to) A.transitions) i (trans 0 0 0) (start_arc A) i_in ∙ ap (extended_arc A x) same);
+        passes = λ e f live_e live_f.
+            (each_of (pair_checks A B evidence 2) e evidence.elements no_element (omega (arith, live_e.0, size)) p.pairs).0 live_e f live_f;
+      }
+    where
+      no_line : StepLine
+      no_line = record { element = 0; by = [] }
+
+-- So the second automaton accepts each lasso that the first accepts.
+pub included : (A B : Automaton) (evidence : YesBody) → IsAutomaton B → list_all (is_element Buchi) evidence.elements ≡ true → are_steps 0 evidence.elements evidence.steps ≡ true →
+    AllHold (inclusion_checks A B evidence) → Includes A B Buchi
+included A B evidence valid begun lined hold =
+    closed_set_includes A B (pairs_of evidence.order) (element_arcs A evidence) (live_in evidence) valid (closed A B evidence begun lined hold)
+
+-- The parts of a well-formed certificate of inclusion.
+yes_formed : (cert : Cert) (evidence : YesBody) → cert.body ≡ Yes evidence → WellFormed cert → is_yes cert.mode evidence ≡ true
+yes_formed cert evidence is formed =
+    let short : (is_short cert.second_states && (is_short cert.labels && is_body cert.mode cert.body)) ≡ true =
+    (and_parts (is_short cert.first_states) (is_short cert.second_states && (is_short cert.labels && is_body cert.mode cert.body)) formed).1 in
+    let labels : (is_short cert.labels && is_body cert.mode cert.body) ≡ true = (and_parts (is_short cert.second_states) (is_short cert.labels && is_body cert.mode cert.body) short).1 in
+    let fits : is_body cert.mode cert.body ≡ true = (and_parts (is_short cert.labels) (is_body cert.mode cert.body) labels).1 in
+    subst (λ b. is_body cert.mode b ≡ true) is fits
+
+pub record YesParts (evidence : YesBody) : Type 0 where
+  pub few : length evidence.elements < 10 ^ 9
+  pub elements : list_all (is_element Buchi) evidence.elements ≡ true
+  pub lined : are_steps 0 evidence.elements evidence.steps ≡ true
+
+pub yes_parts : (evidence : YesBody) → is_yes Buchi evidence ≡ true → YesParts evidence
+yes_parts evidence h =
+    let a = (and_parts (are_logs Buchi evidence.first evidence.second) (is_block evidence.order && (is_short (length evidence.elements) && (list_all (is_element Buchi) evidence.elements && (are_short evidence.cover && are_steps 0 evidence.elements evidence.steps)))) h).1 in
+    let b = (and_parts (is_block evidence.order) (is_short (length evidence.elements) && (list_all (is_element Buchi) evidence.elements && (are_short evidence.cover && are_steps 0 evidence.elements evidence.steps))) a).1 in
+    let c = and_parts (is_short (length evidence.elements)) (list_all (is_element Buchi) evidence.elements && (are_short evidence.cover && are_steps 0 evidence.elements evidence.steps)) b in
+    let d = and_parts (list_all (is_element Buchi) evidence.elements) (are_short evidence.cover && are_steps 0 evidence.elements evidence.steps) c.1 in
+    record {
+      few = grind (arith, c.0);
+      elements = d.0;
+      lined = (and_parts (are_short evidence.cover) (are_steps 0 evidence.elements evidence.steps) d.1).1;
+    }
+
+-- There are no more step lines than elements.
+pub lines_fit : (n : ℕ) (es : List Element) (steps : List StepLine) → are_steps n es steps ≡ true → length steps ≤ length es
+lines_fit n [] [] h = omega arith
+lines_fit n [] (step ∷ steps) h = absurd (false≢true h)
+lines_fit n (x ∷ es) [] h = omega arith
+lines_fit n (x ∷ es) (step ∷ steps) h = by (is_live x.mark) h (λ g. lines_fit (n + 1) es steps g) (λ g. lines_fit (n + 1) es (step ∷ steps) g)
+  where
+    by : (b : Bool) → cond b (is_step_of n step && are_steps (n + 1) es steps) (are_steps (n + 1) es (step ∷ steps)) ≡ true →
+        (are_steps (n + 1) es steps ≡ true → length steps ≤ length es) → (are_steps (n + 1) es (step ∷ steps) ≡ true → length (step ∷ steps) ≤ length es) → length (step ∷ steps) ≤ length (x ∷ es)
+    by true g f k = let r = f (and_parts (is_step_of n step) (are_steps (n + 1) es steps) g).1 in omega arith
+    by false g f k = let r = k g in omega arith
+
+-- A checked form that says yes is of Büchi mode.
+yes_is_buchi : (m : Mode) (evidence : YesBody) → has_checked_body m (Yes evidence) ≡ true → m ≡ Buchi
+yes_is_buchi Buchi evidence h = refl
+yes_is_buchi Finite evidence h = absurd (false≢true h)
+
+pub checked_yes_parts : (cert : Cert) (evidence : YesBody) → cert.body ≡ Yes evidence → WellFormed cert → has_checked_form cert ≡ true → YesParts evidence
+checked_yes_parts cert evidence is formed form =
+    let buchi : cert.mode ≡ Buchi = yes_is_buchi cert.mode evidence (subst (λ b. has_checked_body cert.mode b ≡ true) is form) in
+    yes_parts evidence (subst (λ m. is_yes m evidence ≡ true) buchi (yes_formed cert evidence is formed))
+
+-- A valid certificate that says yes shows an inclusion.
+pub valid_yes_includes : (pair : Joined) (cert : Cert) (evidence : YesBody) → cert.body ≡ Yes evidence → WellFormed cert → has_checked_form cert ≡ true → IsAutomaton pair.second →
+    AllHold (checks_of pair cert) → Includes pair.first pair.second Buchi
+valid_yes_includes pair cert evidence is formed form valid hold =
+    let p = checked_yes_parts cert evidence is formed form in
+    included pair.first pair.second evidence valid p.elements p.lined (subst (λ b. AllHold (body_checks pair b)) is hold.1)

@@ -1,0 +1,154 @@
+-- What the rules ask of a certificate of inclusion whose logs are empty: of its relation, its elements, the elements over
+-- others, and the pairs of elements.
+use Rattle.std.specs.Prelude.{◌≡◌, ℕ, ◌+◌, ◌<◌, ◌==◌, Bool, true, List, [], ◌∷◌, ◌++◌, length, map, All, slice_index, slice_index_or}
+use Rattle.std.specs.List.{filter, flat_map}
+use Rattle.auto_core.specs.Automaton.{Automaton, trans_at}
+use Rattle.auto_core.specs.Game.{StableForward}
+use Rattle.auto_core.specs.Graph.{Passes, WordArc, super_of, start_arc, base_arc, extended_arc, arc_at, arcs_of}
+use Rattle.auto_core.specs.Closed.{IsLive, SubsumesAt}
+use Rattle.auto_core.specs.declared.parts.Origin.{Origin}
+use Rattle.auto_core.specs.declared.parts.Origin.TheVariants.{Start, Base, Next}
+use Rattle.auto_core.specs.declared.parts.Trans.{Trans}
+use Rattle.cert_text.specs.declared.types.YesBody.{YesBody}
+use Rattle.cert_text.specs.declared.types.RelBlock.{RelBlock}
+use Rattle.cert_text.specs.declared.types.Row.{Row}
+use Rattle.cert_text.specs.declared.types.Element.{Element}
+use Rattle.cert_text.specs.declared.types.Mark.{Mark}
+use Rattle.cert_text.specs.declared.types.Mark.TheVariants.{Live, Under}
+use Rattle.cert_text.specs.declared.types.StepLine.{StepLine}
+use Rattle.cert_text.specs.WellFormed.{is_live}
+use Rattle.cert_check.specs.Checks.{Check, rule_at, checks_of_each}
+
+-- The pairs of a row.
+abbrev pub pairs_of_row : Row → List (ℕ × ℕ)
+pairs_of_row row = map (λ q. (row.left, q)) row.rights
+
+-- The pairs that the block lists.
+abbrev pub pairs_of : RelBlock → List (ℕ × ℕ)
+pairs_of block = flat_map pairs_of_row block.rows
+
+-- The numbers of the row are below n.
+abbrev pub IsRowBelow : ℕ → Row → Type 0
+IsRowBelow n row = (row.left < n) × All (λ q. q < n) row.rights
+
+-- The numbers of the block are below n.
+abbrev pub IsBlockBelow : ℕ → RelBlock → Type 0
+IsBlockBelow n block = All (IsRowBelow n) block.rows
+
+-- Where the elements come from.
+abbrev pub origins_of : YesBody → List Origin
+origins_of evidence = map (λ (e : Element). e.origin) evidence.elements
+
+-- The arcs of the elements, each with its word.
+abbrev pub element_arcs : Automaton → YesBody → List WordArc
+element_arcs A evidence = arcs_of A (origins_of evidence)
+
+-- Past the end there are no elements; what stands there is not live.
+abbrev pub no_element : Element
+no_element = record { mark = Under 0; origin = Start }
+
+-- Whether the element with this number is live.
+abbrev pub live_in : YesBody → ℕ → Bool
+live_in evidence e = is_live (slice_index_or evidence.elements e no_element).mark
+
+-- The origin names a transition of the automaton and, if it goes on from an element, one of the elements, of which there are n.
+abbrev pub NamesOrigin : Automaton → ℕ → Origin → Type 0
+NamesOrigin A n Start = Unit {0}
+NamesOrigin A n (Base t) = t < length A.transitions
+NamesOrigin A n (Next p t) = (p < n) × (t < length A.transitions)
+
+-- An element that is not live names one of the n elements.
+abbrev pub NamesElement : ℕ → Mark → Type 0
+NamesElement n Live = Unit {0}
+NamesElement n (Under j) = j < n
+
+-- The origin of the element e goes on from an earlier one.
+abbrev pub HasEarlierParent : ℕ → Origin → Type 0
+HasEarlierParent e Start = Unit {0}
+HasEarlierParent e (Base t) = Unit {0}
+HasEarlierParent e (Next p t) = p < e
+
+-- Its transition leaves the state that the parent leads to.
+abbrev pub GoesOn : Automaton → List WordArc → Origin → Type 0
+GoesOn A arcs Start = Unit {0}
+GoesOn A arcs (Base t) = Unit {0}
+GoesOn A arcs (Next p t) = (trans_at A t).source ≡ (arc_at A arcs p).to
+
+-- The element j is live, and its supergraph subsumes the one of x, by exactly the listed pairs.
+abbrev pub IsOver : Automaton → Automaton → YesBody → ℕ → WordArc → Type 0
+IsOver A B evidence j x = IsLive (element_arcs A evidence) (live_in evidence) j × SubsumesAt A B (pairs_of evidence.order) (element_arcs A evidence) j x
+
+-- An element that is not live is under the one that it names.
+abbrev pub IsUnder : Automaton → Automaton → YesBody → ℕ → Mark → Type 0
+IsUnder A B evidence e Live = Unit {0}
+IsUnder A B evidence e (Under j) = IsOver A B evidence j (arc_at A (element_arcs A evidence) e)
+
+-- There are as many elements named as there are arcs, each of them over the arc at its place.
+pub record AreOver (A B : Automaton) (evidence : YesBody) (js : List ℕ) (xs : List WordArc) : Type 0 where
+  pub count : length js ≡ length xs
+  pub each : (i : ℕ) → i < length xs → IsOver A B evidence (slice_index js i) (slice_index_or xs i (start_arc A))
+
+-- The arcs of one letter, in the order of the transitions.
+abbrev pub starts_of : Automaton → List WordArc
+starts_of A = map (base_arc A) A.transitions
+
+-- The arc's extensions by the transitions out of the state that it leads to, in their order.
+abbrev pub extensions_of : Automaton → WordArc → List WordArc
+extensions_of A x = map (extended_arc A x) (filter (λ (t : Trans). t.source == x.to) A.transitions)
+
+-- The element, if it is live, passes with each live one.
+abbrev pub PassesWithAll : Automaton → Automaton → YesBody → ℕ → Type 0
+PassesWithAll A B evidence e =
+    IsLive (element_arcs A evidence) (live_in evidence) e → (f : ℕ) → IsLive (element_arcs A evidence) (live_in evidence) f →
+    Passes A B (super_of B (arc_at A (element_arcs A evidence) e)) (super_of B (arc_at A (element_arcs A evidence) f))
+
+-- The numbers are those of elements.
+abbrev pub AreElements : YesBody → List ℕ → Type 0
+AreElements evidence js = All (λ j. j < length evidence.elements) js
+
+-- The relation names states of the second automaton, and is stable forward at lookahead 1.
+abbrev pub order_checks : Automaton → YesBody → ℕ → List Check
+order_checks B evidence item =
+    rule_at 1 item (IsBlockBelow B.states evidence.order)
+    ∷ rule_at 9 item (StableForward B 1 (pairs_of evidence.order))
+    ∷ []
+
+-- What an element names is there, its parent stands before it, and its transition goes on from the parent.
+abbrev pub element_checks : Automaton → YesBody → ℕ → ℕ → Element → List Check
+element_checks A evidence item e element =
+    rule_at 1 (item + e) (NamesOrigin A (length evidence.elements) element.origin × NamesElement (length evidence.elements) element.mark)
+    ∷ rule_at 10 (item + e) (HasEarlierParent e element.origin)
+    ∷ rule_at 11 (item + e) (GoesOn A (element_arcs A evidence) element.origin)
+    ∷ []
+
+-- It is under the element that it names.
+abbrev pub under_checks : Automaton → Automaton → YesBody → ℕ → ℕ → Element → List Check
+under_checks A B evidence item e element = rule_at 12 (item + e) (IsUnder A B evidence e element.mark) ∷ []
+
+-- The cover names elements, and these are over the arcs of one letter.
+abbrev pub cover_checks : Automaton → Automaton → YesBody → ℕ → List Check
+cover_checks A B evidence item =
+    rule_at 1 item (AreElements evidence evidence.cover)
+    ∷ rule_at 13 item (AreOver A B evidence evidence.cover (starts_of A))
+    ∷ []
+
+-- A step line names elements, and these are over the extensions of its element.
+abbrev pub step_checks : Automaton → Automaton → YesBody → ℕ → ℕ → StepLine → List Check
+step_checks A B evidence item k step =
+    rule_at 1 (item + k) ((step.element < length evidence.elements) × AreElements evidence step.by)
+    ∷ rule_at 14 (item + k) (AreOver A B evidence step.by (extensions_of A (arc_at A (element_arcs A evidence) step.element)))
+    ∷ []
+
+-- Its pairs pass.
+abbrev pub pair_checks : Automaton → Automaton → YesBody → ℕ → ℕ → Element → List Check
+pair_checks A B evidence item e element = rule_at 15 (item + e) (PassesWithAll A B evidence e) ∷ []
+
+-- The items: the relation, then each element, then the cover, then each step line.
+abbrev pub inclusion_checks : Automaton → Automaton → YesBody → List Check
+inclusion_checks A B evidence =
+    order_checks B evidence 1
+    ++ (checks_of_each (element_checks A evidence 2) 0 evidence.elements
+    ++ (checks_of_each (under_checks A B evidence 2) 0 evidence.elements
+    ++ (cover_checks A B evidence (2 + length evidence.elements)
+    ++ (checks_of_each (step_checks A B evidence (3 + length evidence.elements)) 0 evidence.steps
+    ++ checks_of_each (pair_checks A B evidence 2) 0 evidence.elements))))

@@ -1,0 +1,120 @@
+//! The step lines of a certificate of inclusion: the elements over the extensions of each live one.
+
+ghost use Rattle.std.specs.Prelude.{◌≡◌, ◌+◌, ◌^◌, ◌<◌, ◌↔◌, ℕ, length, IsTrue, MatchOption};
+ghost use Rattle.auto_core.specs.Graph.{arc_at};
+ghost use Rattle.cert_check.specs.Checks.{AllHold, FirstBroken, Tells, checks_of_each};
+ghost use Rattle.cert_check.specs.Inclusion.{element_arcs, AreOver, AreElements, extensions_of, step_checks};
+ghost use Rattle.cert_check.specs.Supers.{block_len, IsRelationOf, AreSupers};
+
+use crate::covers;
+use crate::elements::Supers;
+use crate::faults::{CheckFault, Refusal};
+use auto_core::Auto;
+use bit_rel::Rel;
+use cert_text::{StepLine, YesBody};
+
+/// Tells whether the elements that the line names are over the extensions of its element.
+fn covers_extensions(
+    first: &Auto,
+    second: &Auto,
+    evidence: &YesBody,
+    order: &Rel,
+    supers: &Supers,
+    step: &StepLine,
+    fresh: &mut [u64],
+) -> bool
+    requires supers { AreSupers first.now second.now evidence.now (length evidence.now.elements) supers.now }
+    requires order { IsRelationOf second.now.states evidence.now.order order.now }
+    requires element { step.now.element < length evidence.now.elements }
+    requires names { AreElements evidence.now step.now.by }
+    requires room { length fresh.old ≡ block_len second.now.states }
+    ensures told { IsTrue result ↔ AreOver first.now second.now evidence.now step.now.by (extensions_of first.now (arc_at first.now (element_arcs first.now evidence.now) step.now.element)) }
+    ensures room { length fresh.new ≡ length fresh.old }
+{
+    let by = step.by.as_slice();
+    let transitions = first.transitions();
+    let arc = &supers.arcs[step.element as usize];
+    let span = first.outgoing(arc.to);
+    if by.len() != (span.end - span.begin) as usize {
+        return false;
+    }
+    for i in 0..by.len() {
+        let t = span.begin as usize + i;
+        graph_rows::extend(
+            second,
+            transitions[t].label,
+            supers.block(step.element as usize),
+            fresh,
+        );
+        let longer = supergraph::extend(first, arc, t as u32);
+        if !covers::is_over(
+            first, second, evidence, order, supers, by[i], &longer, fresh,
+        ) {
+            return false;
+        }
+    }
+    true
+}
+
+/// The rule that the line breaks first, if it breaks one.
+fn broken_rule(
+    first: &Auto,
+    second: &Auto,
+    evidence: &YesBody,
+    order: &Rel,
+    supers: &Supers,
+    step: &StepLine,
+    fresh: &mut [u64],
+) -> Option<u32>
+    requires supers { AreSupers first.now second.now evidence.now (length evidence.now.elements) supers.now }
+    requires order { IsRelationOf second.now.states evidence.now.order order.now }
+    requires room { length fresh.old ≡ block_len second.now.states }
+    ensures told { (item k : ℕ) → MatchOption result
+        (AllHold (step_checks first.now second.now evidence.now item k step.now))
+        (λ rule. FirstBroken (step_checks first.now second.now evidence.now item k step.now) (record { rule = rule; item = item + k })) }
+    ensures room { length fresh.new ≡ length fresh.old }
+{
+    if (step.element as usize) >= evidence.elements.as_slice().len() {
+        return Some(1);
+    }
+    if !covers::are_elements(evidence, step.by.as_slice()) {
+        return Some(1);
+    }
+    if !covers_extensions(first, second, evidence, order, supers, step, fresh) {
+        return Some(14);
+    }
+    None
+}
+
+/// Tests the step lines, whose items are those after the cover's.
+pub fn check_steps(
+    first: &Auto,
+    second: &Auto,
+    evidence: &YesBody,
+    order: &Rel,
+    supers: &Supers,
+    fresh: &mut [u64],
+) -> Result<(), CheckFault>
+    requires supers { AreSupers first.now second.now evidence.now (length evidence.now.elements) supers.now }
+    requires order { IsRelationOf second.now.states evidence.now.order order.now }
+    requires few { length evidence.now.elements < 10 ^ 9 }
+    requires few_steps { length evidence.now.steps < 10 ^ 9 }
+    requires room { length fresh.old ≡ block_len second.now.states }
+    ensures tells { Tells (checks_of_each (step_checks first.now second.now evidence.now (3 + length evidence.now.elements)) 0 evidence.now.steps) result }
+    ensures room { length fresh.new ≡ length fresh.old }
+{
+    let item = 3 + evidence.elements.as_slice().len() as u32;
+    let lines = evidence.steps.as_slice();
+    for k in 0..lines.len() {
+        match broken_rule(first, second, evidence, order, supers, &lines[k], fresh) {
+            Some(rule) => {
+                return Err(CheckFault::Refused(Refusal {
+                    rule,
+                    item: item + k as u32,
+                }));
+            }
+            None => {}
+        }
+    }
+    Ok(())
+}

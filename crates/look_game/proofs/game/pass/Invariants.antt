@@ -1,0 +1,8 @@
+use Rattle.std.proofs.Common.{◌≡◌}
+use Rattle.look_game.proofs.NearLemmas.{IsTrying}
+use Rattle.look_game.proofs.game.pass.Given as goal
+
+abbrev pub invariant-loop-p : goal.invariant-loop-p
+invariant-loop-p g l =
+    (l.scratch ≡ l.fn.scratch)
+    × IsTrying (g.S.Side.goes l.side l.automaton) (g.S.Side.keeps l.side l.automaton) l.look l.marks l.fn.rel l.rel l.changed l.any l.p

@@ -1,0 +1,213 @@
+//! Certificates of inclusion: valid ones, and one line changed so that each rule in turn is the first that is broken.
+
+use crate::tests::check;
+use auto_core::Memory;
+use std::alloc::Global;
+use std::test::Fail;
+
+/// Both automata: two states, each left by a letter of its own, and all accepting.
+const PAIR: &str = "a,[5]->[7]\nb,[7]->[5]\n";
+
+/// The lines of a valid certificate for the pair and itself.
+const LINES: [&str; 18] = [
+    "rabit-cert 1 buchi yes\n",
+    "sizes 2 2 2\n",
+    "log1 0\n",
+    "log2 0\n",
+    "rel 2\n",
+    "row 0 0\n",
+    "row 1 1\n",
+    "elements 4\n",
+    "live base 0\n",
+    "live base 1\n",
+    "live next 0 1\n",
+    "live next 1 0\n",
+    "cover 0 1\n",
+    "step 0 2\n",
+    "step 1 3\n",
+    "step 2 0\n",
+    "step 3 1\n",
+    "end\n",
+];
+
+/// The certificate with these lines in place of those with the same numbers, which are counted from 0.
+fn with_lines(alloc: Global, changes: &[(usize, &str)]) -> Result<String, Memory> {
+    let mut text = String::new(alloc);
+    for place in 0..LINES.len() {
+        let mut line = LINES[place];
+        for (changed, new) in changes {
+            if *changed == place {
+                line = *new;
+            }
+        }
+        text.push_str(line)?;
+    }
+    Ok(text)
+}
+
+#[test]
+fn valid_certificates_show_inclusion(rt: HostRuntime) -> Result<(), Fail> {
+    let alloc = rt.alloc();
+    let text = with_lines(alloc, &[])?;
+    assert_eq!(rt;
+        check(alloc, PAIR, PAIR, text.as_str(), "included\n")?,
+        (0, true)
+    );
+    let loops = "[0]\na,[0]->[0]\n[0]\n";
+    let one =
+        "rabit-cert 1 buchi yes\nsizes 1 1 1\nlog1 0\nlog2 0\nrel 1\nrow 0 0\nelements 1\nlive base 0\ncover 0\nstep 0 0\nend\n";
+    assert_eq!(rt; check(alloc, loops, loops, one, "included\n")?, (0, true));
+    let two =
+        "rabit-cert 1 buchi yes\nsizes 1 1 1\nlog1 0\nlog2 0\nrel 1\nrow 0 0\nelements 2\nunder 1 base 0\nlive next 0 0\ncover 1\nstep 1 1\nend\n";
+    assert_eq!(rt; check(alloc, loops, loops, two, "included\n")?, (0, true));
+    Ok(())
+}
+
+#[test]
+fn each_rule_may_be_the_first_broken(rt: HostRuntime) -> Result<(), Fail> {
+    let alloc = rt.alloc();
+    let cases = [
+        (6, "row 1 2\n", 0, LINES[0], "certificate item 1: rule 1\n"),
+        (
+            6,
+            "row 1 0 1\n",
+            0,
+            LINES[0],
+            "certificate item 1: rule 9\n",
+        ),
+        (
+            8,
+            "live base 2\n",
+            0,
+            LINES[0],
+            "certificate item 2: rule 1\n",
+        ),
+        (
+            8,
+            "under 4 base 0\n",
+            13,
+            "",
+            "certificate item 2: rule 1\n",
+        ),
+        (
+            10,
+            "live next 2 1\n",
+            0,
+            LINES[0],
+            "certificate item 4: rule 10\n",
+        ),
+        (
+            10,
+            "live next 0 0\n",
+            0,
+            LINES[0],
+            "certificate item 4: rule 11\n",
+        ),
+        (
+            10,
+            "under 0 next 0 1\n",
+            15,
+            "",
+            "certificate item 4: rule 12\n",
+        ),
+        (
+            8,
+            "under 0 base 0\n",
+            13,
+            "",
+            "certificate item 2: rule 12\n",
+        ),
+        (
+            12,
+            "cover 0 4\n",
+            0,
+            LINES[0],
+            "certificate item 6: rule 1\n",
+        ),
+        (
+            12,
+            "cover 0\n",
+            0,
+            LINES[0],
+            "certificate item 6: rule 13\n",
+        ),
+        (
+            12,
+            "cover 1 0\n",
+            0,
+            LINES[0],
+            "certificate item 6: rule 13\n",
+        ),
+        (
+            14,
+            "step 1 4\n",
+            0,
+            LINES[0],
+            "certificate item 8: rule 1\n",
+        ),
+        (
+            15,
+            "step 2 1\n",
+            0,
+            LINES[0],
+            "certificate item 9: rule 14\n",
+        ),
+        (
+            13,
+            "step 0 2 2\n",
+            0,
+            LINES[0],
+            "certificate item 7: rule 14\n",
+        ),
+    ];
+    for (place, line, other, new, printed) in cases {
+        let text = with_lines(alloc, &[(place, line), (other, new)])?;
+        assert_eq!(rt;
+            check(alloc, PAIR, PAIR, text.as_str(), printed)?,
+            (5, true)
+        );
+    }
+    Ok(())
+}
+
+#[test]
+fn an_empty_relation_orders_nothing(rt: HostRuntime) -> Result<(), Fail> {
+    let alloc = rt.alloc();
+    let text = with_lines(alloc, &[(4, "rel 0\n"), (5, ""), (6, "")])?;
+    assert_eq!(rt;
+        check(
+            alloc,
+            PAIR,
+            PAIR,
+            text.as_str(),
+            "certificate item 6: rule 13\n"
+        )?,
+        (5, true)
+    );
+    Ok(())
+}
+
+#[test]
+fn pairs_without_a_lasso_are_named(rt: HostRuntime) -> Result<(), Fail> {
+    let alloc = rt.alloc();
+    let both = "[0]\na,[0]->[0]\nb,[0]->[0]\n[0]\n";
+    let one = "[0]\na,[0]->[0]\n[0]\n";
+    let text =
+        "rabit-cert 1 buchi yes\nsizes 1 1 2\nlog1 0\nlog2 0\nrel 1\nrow 0 0\nelements 1\nlive base 1\ncover 0 0\nstep 0 0 0\nend\n";
+    assert_eq!(rt;
+        check(alloc, both, one, text, "certificate item 2: rule 15\n")?,
+        (5, true)
+    );
+    Ok(())
+}
+
+#[test]
+fn logs_with_steps_are_not_checked(rt: HostRuntime) -> Result<(), Fail> {
+    let alloc = rt.alloc();
+    let text = with_lines(alloc, &[(2, "log1 1\ntrim 0 1\n")])?;
+    assert_eq!(rt;
+        check(alloc, PAIR, PAIR, text.as_str(), "not built\n")?,
+        (9, true)
+    );
+    Ok(())
+}
