@@ -9,3 +9,5 @@ pub mod ReachLemmas
 pub mod Marking
 pub mod CellLemmas
 pub mod MoveLemmas
+pub mod MemberLemmas
+pub mod SetLemmas

@@ -11,3 +11,8 @@ pub mod Reach
 pub mod Graph
 pub mod Closed
 pub mod Outcome
+pub mod Members
+pub mod MembersStored
+pub mod Parts
+pub mod Useful
+pub mod Quotient

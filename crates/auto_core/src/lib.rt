@@ -4,14 +4,18 @@
 mod automaton;
 pub mod laws;
 mod listing;
+mod making;
 mod parts;
 pub mod reach;
 pub mod rows;
+mod state_set;
 mod tables;
 
 pub use automaton::{Auto, BuildFault};
 pub use listing::List;
+pub use making::of_parts;
 pub use parts::{Lasso, Memory, Mode, Origin, Span, Trans, Word};
+pub use state_set::StateSet;
 
 #[cfg(test)]
 mod tests;

@@ -26,7 +26,7 @@ pub fn reach(table: &[u64], count: u32, width: usize, marks: &mut [u64], done: &
 
 /// Tells whether a flagged arc out of the place leads back to it, by any number of arcs. `back` and `done` are room for one
 /// row each.
-fn returns_to(
+pub fn returns_to(
     any: &[u64],
     flagged: &[u64],
     count: u32,

@@ -1,6 +1,6 @@
 //! What no clause says: that calls succeed where memory is ample.
 
-use crate::{Auto, BuildFault, List, Trans};
+use crate::{Auto, BuildFault, List, StateSet, Trans};
 use std::alloc::Global;
 use std::test::Fail;
 
@@ -68,4 +68,17 @@ fn numbers_out_of_range_are_refused(rt: HostRuntime) {
             Err(BuildFault::Repeat)
         )
     );
+}
+
+#[test]
+fn sets_hold_what_was_added(rt: HostRuntime) -> Result<(), Fail> {
+    for (states, member, other) in [(2, 1, 0), (65, 64, 0), (130, 129, 65)] {
+        let mut set = StateSet::new(rt.alloc(), states)?;
+        if member < states && other < states {
+            set.add(member);
+            assert!(rt; set.has(member));
+            assert!(rt; !set.has(other));
+        }
+    }
+    Ok(())
 }

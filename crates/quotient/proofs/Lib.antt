@@ -1,0 +1,4 @@
+pub mod MergeLaws
+pub mod CountLemmas
+pub mod DistinctLemmas
+pub mod MergedLemmas

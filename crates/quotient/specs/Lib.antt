@@ -1,0 +1,4 @@
+pub mod Laws
+pub mod Images
+pub mod Counting
+pub mod ClassesStored
