@@ -34,4 +34,6 @@ mod fault_tests;
 #[cfg(test)]
 mod inclusion_tests;
 #[cfg(test)]
+mod search_tests;
+#[cfg(test)]
 mod tests;

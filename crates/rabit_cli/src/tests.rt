@@ -34,7 +34,7 @@ fn numbers_of(alloc: Global, numbers: &[u64]) -> Result<List<u64>, Memory> {
     Ok(list)
 }
 
-fn shelf_of(alloc: Global, files: &[(&str, &str)], fails: &[u64]) -> Result<MemShelf, Memory> {
+pub fn shelf_of(alloc: Global, files: &[(&str, &str)], fails: &[u64]) -> Result<MemShelf, Memory> {
     let mut held = List::new(alloc);
     for (name, text) in files {
         let name = list_of(alloc, name.as_bytes())?;

@@ -1,0 +1,205 @@
+//! The search for a closed set, called on automata in files: each of its ends, with the evidence.
+
+ghost use Rattle.std.specs.Prelude.{◌≡◌, ◌≤◌, ◌<◌, length, IfOk};
+ghost use Rattle.rabit_cli.specs.Command.{HasLabelTexts};
+
+use crate::reading;
+use crate::tests::shelf_of;
+use auto_core::{Memory, Origin};
+use ba_format::Joined;
+use cert_text::{Element, Mark, StepLine};
+use ramsey_search::{Outcome, search};
+use std::alloc::Global;
+use std::test::Fail;
+
+const ONE_A: &str = "[0]\na,[0]->[0]\n[0]\n";
+
+const TWO_LETTERS: &str = "[0]\na,[0]->[0]\nb,[0]->[0]\n[0]\n";
+
+/// An `a` once, and then no more.
+const A_ONCE: &str = "[0]\na,[0]->[1]\n[1]\n";
+
+/// A `b`, and then `a` for ever.
+const B_THEN_A: &str = "[0]\nb,[0]->[1]\na,[1]->[1]\n[1]\n";
+
+/// Guesses that no further `b` comes.
+const GUESS: &str = "[0]\na,[0]->[0]\nb,[0]->[0]\na,[0]->[1]\na,[1]->[1]\n[1]\n";
+
+/// Any letters, and then `b` for ever.
+const THEN_B: &str = "[0]\na,[0]->[0]\nb,[0]->[0]\nb,[0]->[1]\nb,[1]->[1]\n[1]\n";
+
+/// Two states, each left by a letter of its own.
+const PAIR: &str = "a,[5]->[7]\nb,[7]->[5]\n";
+
+/// Both files' automata over their joined labels.
+fn pair_of(alloc: Global, first: &str, second: &str) -> Result<Joined, Memory>
+    ensures { IfOk result HasLabelTexts }
+{
+    let files = [("A", first), ("B", second)];
+    let mut shelf = shelf_of(alloc, &files, &[])?;
+    let Ok(one) = reading::read_automaton(alloc, &mut shelf, "A", 1) else {
+        return Err(Memory);
+    };
+    let Ok(two) = reading::read_automaton(alloc, &mut shelf, "B", 2) else {
+        return Err(Memory);
+    };
+    reading::joined(alloc, &one, &two)
+}
+
+/// The outcome of the search with the greatest relation of the second automaton.
+fn outcome_of(alloc: Global, first: &str, second: &str, limit: u32) -> Result<Outcome, Memory>
+    requires some { 1 ≤ limit }
+    requires few { limit ≤ 100000 }
+{
+    let pair = pair_of(alloc, first, second)?;
+    let order = direct_sim::relation(alloc, &pair.second, 1)?;
+    search(alloc, &pair.first, &pair.second, &order, limit)
+}
+
+/// Whether the step lines name just these elements, line after line.
+fn steps_name(steps: &[StepLine], numbers: &[u32]) -> bool {
+    let mut at: usize = 0;
+    for step in steps {
+        for number in step.by.as_slice() {
+            if numbers.get(at) != Some(number) {
+                return false;
+            }
+            at = at.wrapping_add(1);
+        }
+    }
+    at == numbers.len()
+}
+
+/// Whether the search closes with just this evidence.
+fn closes(
+    alloc: Global,
+    first: &str,
+    second: &str,
+    elements: &[Element],
+    cover: &[u32],
+    by: &[u32],
+) -> Result<bool, Memory> {
+    let Outcome::Closed(closure) = outcome_of(alloc, first, second, 20000)? else {
+        return Ok(false);
+    };
+    Ok(
+        closure.elements.as_slice() == elements
+            && closure.cover.as_slice() == cover
+            && steps_name(closure.steps.as_slice(), by),
+    )
+}
+
+fn live(origin: Origin) -> Element {
+    Element {
+        mark: Mark::Live,
+        origin,
+    }
+}
+
+fn under(element: u32, origin: Origin) -> Element {
+    Element {
+        mark: Mark::Under(element),
+        origin,
+    }
+}
+
+/// The lasso that the search tells the two apart by, prefix before loop; none where it ends otherwise.
+fn told_apart(
+    alloc: Global,
+    first: &str,
+    second: &str,
+    prefix: &[u32],
+    turn: &[u32],
+) -> Result<bool, Memory> {
+    let Outcome::Apart(lasso) = outcome_of(alloc, first, second, 20000)? else {
+        return Ok(false);
+    };
+    Ok(lasso.prefix.as_slice() == prefix && lasso.turn.as_slice() == turn)
+}
+
+#[test]
+fn closed_searches_have_their_evidence(rt: HostRuntime) -> Result<(), Fail> {
+    let alloc = rt.alloc();
+    let base = live(Origin::Base(0));
+    assert!(rt; closes(alloc, ONE_A, ONE_A, &[base], &[0], &[0])?);
+    let next = [live(Origin::Next(0, 1)), live(Origin::Next(1, 0))];
+    let four = [base, live(Origin::Base(1)), next[0], next[1]];
+    assert!(rt; closes(alloc, PAIR, PAIR, &four, &[0, 1], &[2, 3, 0, 1])?);
+    let dropped = under(3, Origin::Base(2));
+    let with_dropped = [
+        base,
+        dropped,
+        live(Origin::Base(3)),
+        live(Origin::Next(0, 2)),
+    ];
+    assert!(rt;
+        closes(
+            alloc,
+            THEN_B,
+            THEN_B,
+            &with_dropped,
+            &[0, 0, 3, 2],
+            &[0, 0, 3, 2, 3]
+        )?
+    );
+    Ok(())
+}
+
+#[test]
+fn searches_tell_apart(rt: HostRuntime) -> Result<(), Fail> {
+    let alloc = rt.alloc();
+    assert!(rt; told_apart(alloc, TWO_LETTERS, ONE_A, &[1], &[1])?);
+    assert!(rt; told_apart(alloc, GUESS, B_THEN_A, &[0], &[0])?);
+    assert!(rt; told_apart(alloc, ONE_A, A_ONCE, &[0], &[0])?);
+    Ok(())
+}
+
+/// How many elements the search lists past the limit.
+fn listed(alloc: Global, text: &str, limit: u32) -> Result<Option<usize>, Memory>
+    requires some { 1 ≤ limit }
+    requires few { limit ≤ 100000 }
+{
+    match outcome_of(alloc, text, text, limit)? {
+        Outcome::Limit(origins) => Ok(Some(origins.as_slice().len())),
+        _ => Ok(None),
+    }
+}
+
+#[test]
+fn limits_are_met_by_one_more(rt: HostRuntime) -> Result<(), Fail> {
+    let alloc = rt.alloc();
+    assert_eq!(rt; listed(alloc, PAIR, 1)?, Some(2));
+    assert_eq!(rt; listed(alloc, PAIR, 3)?, Some(4));
+    assert_eq!(rt; listed(alloc, PAIR, 4)?, None);
+    Ok(())
+}
+
+/// A ring of 30 states by one letter, where each state has a loop by another; only the first state is accepting.
+fn thirty(alloc: Global) -> Result<String, Memory> {
+    let mut text = String::new(alloc);
+    text.push_str("[0]\n")?;
+    for state in 0..30_u32 {
+        let next = if state == 29 { 0 } else { state + 1 };
+        let lines = format!(in alloc; "a0,[{state}]->[{next}]\na1,[{state}]->[{state}]\n")?;
+        text.push_str(lines.as_str())?;
+    }
+    text.push_str("[0]\n")?;
+    Ok(text)
+}
+
+/// Whether the search closes, with elements.
+fn includes(alloc: Global, first: &str, second: &str) -> Result<bool, Memory> {
+    match outcome_of(alloc, first, second, 20000)? {
+        Outcome::Closed(closure) => Ok(closure.elements.as_slice().len() > 0),
+        _ => Ok(false),
+    }
+}
+
+#[test]
+fn larger_searches_close(rt: HostRuntime) -> Result<(), Fail> {
+    let alloc = rt.alloc();
+    assert!(rt; includes(alloc, B_THEN_A, GUESS)?);
+    let text = thirty(alloc)?;
+    assert!(rt; includes(alloc, text.as_str(), text.as_str())?);
+    Ok(())
+}
