@@ -21,7 +21,8 @@ use Rattle.cert_text.specs.declared.types.StepLine.{StepLine}
 use Rattle.cert_text.specs.WellFormed.{WellFormed, is_short, are_short, is_body, is_yes, is_block, are_logs, is_live, is_element, is_origin, is_mark, are_steps, is_step_of}
 use Rattle.ba_format.specs.declared.parts.Joined.{Joined}
 use Rattle.cert_text.specs.declared.types.Cert.{Cert}
-use Rattle.cert_text.specs.declared.types.Body.TheVariants.{Yes}
+use Rattle.cert_text.specs.declared.types.Body.TheVariants.{Yes, NoLasso}
+use Rattle.cert_check.specs.Laws.{ValidYesIncludes, ValidNoSeparates}
 use Rattle.cert_check.specs.Rules.{body_checks, checks_of, has_checked_body, has_checked_form}
 use Rattle.cert_check.specs.Checks.{Check, AllHold, checks_of_each}
 use Rattle.cert_check.specs.Inclusion.{pairs_of, origins_of, element_arcs, live_in, no_element, NamesOrigin, HasEarlierParent, GoesOn, AreOver, IsOver, starts_of, extensions_of, order_checks, element_checks, under_checks, cover_checks, step_checks, pair_checks, inclusion_checks}
@@ -244,3 +245,11 @@ pub valid_yes_includes : (pair : Joined) (cert : Cert) (evidence : YesBody) → 
 valid_yes_includes pair cert evidence is formed form valid hold =
     let p = checked_yes_parts cert evidence is formed form in
     included pair.first pair.second evidence valid p.elements p.lined (subst (λ b. AllHold (body_checks pair b)) is hold.1)
+
+pub valid_yes : ValidYesIncludes
+valid_yes pair cert evidence valid is v = valid_yes_includes pair cert evidence is v.formed v.form valid v.keeps
+
+pub valid_no : ValidNoSeparates
+valid_no pair cert lasso is v =
+    let all : AllHold (body_checks pair (NoLasso lasso)) = subst (λ b. AllHold (body_checks pair b)) is v.keeps.1 in
+    (all.1.1.0, all.1.1.1.0)

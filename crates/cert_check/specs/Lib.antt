@@ -3,3 +3,4 @@ pub mod Rules
 pub mod Inclusion
 pub mod Supers
 pub mod Stability
+pub mod Laws

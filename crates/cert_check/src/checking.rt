@@ -38,7 +38,8 @@ fn has_sizes(pair: &Joined, cert: &Cert) -> bool
 }
 
 /// The verdict of a certificate that is valid for the two automata, which is true of them; otherwise the first broken rule,
-/// or want of memory. Both automata have as many labels as `pair.labels` has texts.
+/// or want of memory. The certificate is well-formed and of a form that `can_check` tells; both automata have as many labels as
+/// `pair.labels` has texts.
 pub fn check(alloc: Global, pair: &Joined, cert: &Cert) -> Result<Verdict, CheckFault>
     requires well_formed { WellFormed cert.now }
     requires form { has_checked_form cert.now ≡ true }

@@ -1,4 +1,4 @@
-//! The elements over others: those that are over dropped ones, over the arcs of one letter, and over the extensions.
+//! The elements over others: those that are over dropped ones, and those over the arcs of one letter.
 
 ghost use Rattle.std.specs.Prelude.{◌≡◌, ◌+◌, ◌^◌, ◌<◌, ◌↔◌, ℕ, length, slice_index_or, true, IsTrue};
 ghost use Rattle.auto_core.specs.Graph.{WordArc, arc_at};

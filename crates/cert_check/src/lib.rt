@@ -7,6 +7,7 @@ mod elements;
 mod faults;
 mod inclusion;
 mod lassos;
+pub mod laws;
 mod orders;
 mod pairs;
 mod steps;

@@ -115,6 +115,7 @@ apart_from_valid files a b c sent sent' labels lasso d (NoLasso l) is all says s
       joined = d.joined;
       certificate = d.certificate;
       says_no = is;
+      valid = record { formed = d.certificate.3; form = d.form; keeps = d.valid };
       separates = (all.1.1.0, all.1.1.1.0);
       printed = sends ∙ ap (λ w. append_known sent (text_for w)) says;
     }
@@ -145,7 +146,7 @@ included_from_valid files a b c sent sent' d (Yes evidence) is says sends =
       joined = d.joined;
       certificate = d.certificate;
       says_yes = is;
-      valid = d.valid;
+      valid = record { formed = d.certificate.3; form = d.form; keeps = d.valid };
       includes = valid_yes_includes d.pair d.cert evidence is d.certificate.3 d.form d.joined.second.valid d.valid;
       printed = sends;
     }

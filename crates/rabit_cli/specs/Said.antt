@@ -12,8 +12,7 @@ use Rattle.ba_format.specs.Joining.{IsJoined}
 use Rattle.cert_text.specs.declared.types.Cert.{Cert}
 use Rattle.cert_text.specs.declared.types.YesBody.{YesBody}
 use Rattle.cert_text.specs.declared.types.Body.TheVariants.{Yes, NoLasso}
-use Rattle.cert_check.specs.Checks.{AllHold}
-use Rattle.cert_check.specs.Rules.{checks_of}
+use Rattle.cert_check.specs.Laws.{IsValid}
 use Rattle.rabit_cli.specs.Question.{Question, Check}
 use Rattle.rabit_cli.specs.Command.{IsAnswerTo, UnlessRefused, ReadsAs, HoldsCertificate}
 use Rattle.rabit_cli.specs.declared.answer.Answer.{Answer}
@@ -35,8 +34,8 @@ pub record IsAnswered (held : Option FileMap) (question : Option Question) (stat
   pub read_fault : answer ≡ ReadFault → Rose faults faults'
   pub no_read_fault : ¬ (answer ≡ ReadFault) → faults' ≡ faults
 
--- The named files read as two automata, the certificate says no by a lasso, the first automaton accepts the lasso and the
--- second does not, and that was printed.
+-- The named files read as two automata, the certificate says no by a lasso and keeps all rules, the first automaton accepts the
+-- lasso and the second does not, and that was printed.
 pub record IsApart (files : FileMap) (a b c : List ℕ) (sent sent' : Option (List ℕ)) : Type 0 where
   pub one : Named
   pub two : Named
@@ -48,6 +47,7 @@ pub record IsApart (files : FileMap) (a b c : List ℕ) (sent sent' : Option (Li
   pub joined : IsJoined one two pair
   pub certificate : HoldsCertificate files c cert
   pub says_no : cert.body ≡ NoLasso lasso
+  pub valid : IsValid pair cert
   pub separates : SeparatesLasso pair.first pair.second lasso.prefix lasso.turn
   pub printed : sent' ≡ append_known sent (text_for (NotIncluded pair.labels lasso))
 
@@ -64,7 +64,7 @@ pub record IsIncluded (files : FileMap) (a b c : List ℕ) (sent sent' : Option 
   pub joined : IsJoined one two pair
   pub certificate : HoldsCertificate files c cert
   pub says_yes : cert.body ≡ Yes evidence
-  pub valid : AllHold (checks_of pair cert)
+  pub valid : IsValid pair cert
   pub includes : Includes pair.first pair.second Buchi
   pub printed : sent' ≡ append_known sent (text_for Included)
 

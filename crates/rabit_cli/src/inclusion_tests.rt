@@ -171,6 +171,70 @@ fn each_rule_may_be_the_first_broken(rt: HostRuntime) -> Result<(), Fail> {
 }
 
 #[test]
+fn other_files_are_told_too(rt: HostRuntime) -> Result<(), Fail> {
+    let alloc = rt.alloc();
+    let cases = [
+        (17, "", 17, "", "certificate line 18: Truncated\n"),
+        (
+            10,
+            "live next 4 1\n",
+            10,
+            "live next 4 1\n",
+            "certificate item 4: rule 1\n",
+        ),
+        (
+            12,
+            "cover 0 1 0\n",
+            12,
+            "cover 0 1 0\n",
+            "certificate item 6: rule 13\n",
+        ),
+        (
+            15,
+            "step 2 1\n",
+            6,
+            "row 1 0 1\n",
+            "certificate item 1: rule 9\n",
+        ),
+        (
+            8,
+            "under 2 base 0\n",
+            13,
+            "",
+            "certificate item 2: rule 12\n",
+        ),
+        (
+            15,
+            "step 2 1\n",
+            11,
+            "live next 1 1\n",
+            "certificate item 5: rule 11\n",
+        ),
+    ];
+    for (place, line, other, new, printed) in cases {
+        let text = with_lines(alloc, &[(place, line), (other, new)])?;
+        assert_eq!(rt;
+            check(alloc, PAIR, PAIR, text.as_str(), printed)?,
+            (5, true)
+        );
+    }
+    let loops = "[0]\na,[0]->[0]\n[0]\n";
+    let dropped =
+        "rabit-cert 1 buchi yes\nsizes 1 1 1\nlog1 0\nlog2 0\nrel 1\nrow 0 0\nelements 2\nunder 1 base 0\nlive next 0 0\ncover 0\nstep 1 1\nend\n";
+    assert_eq!(rt;
+        check(
+            alloc,
+            loops,
+            loops,
+            dropped,
+            "certificate item 4: rule 13\n"
+        )?,
+        (5, true)
+    );
+    Ok(())
+}
+
+#[test]
 fn an_empty_relation_orders_nothing(rt: HostRuntime) -> Result<(), Fail> {
     let alloc = rt.alloc();
     let text = with_lines(alloc, &[(4, "rel 0\n"), (5, ""), (6, "")])?;

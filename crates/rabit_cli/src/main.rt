@@ -32,6 +32,8 @@ mod certificate_tests;
 #[cfg(test)]
 mod fault_tests;
 #[cfg(test)]
+mod graph_tests;
+#[cfg(test)]
 mod inclusion_tests;
 #[cfg(test)]
 mod search_tests;

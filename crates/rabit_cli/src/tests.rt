@@ -34,7 +34,11 @@ fn numbers_of(alloc: Global, numbers: &[u64]) -> Result<List<u64>, Memory> {
     Ok(list)
 }
 
-pub fn shelf_of(alloc: Global, files: &[(&str, &str)], fails: &[u64]) -> Result<MemShelf, Memory> {
+pub(crate) fn shelf_of(
+    alloc: Global,
+    files: &[(&str, &str)],
+    fails: &[u64],
+) -> Result<MemShelf, Memory> {
     let mut held = List::new(alloc);
     for (name, text) in files {
         let name = list_of(alloc, name.as_bytes())?;
@@ -68,7 +72,7 @@ fn answers(
     Ok((status, out.contents() == printed.as_bytes()))
 }
 
-pub fn check(
+pub(crate) fn check(
     alloc: Global,
     first: &str,
     second: &str,
