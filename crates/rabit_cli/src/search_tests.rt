@@ -28,6 +28,11 @@ const GUESS: &str = "[0]\na,[0]->[0]\nb,[0]->[0]\na,[0]->[1]\na,[1]->[1]\n[1]\n"
 /// Any letters, and then `b` for ever.
 const THEN_B: &str = "[0]\na,[0]->[0]\nb,[0]->[0]\nb,[0]->[1]\nb,[1]->[1]\n[1]\n";
 
+/// Begins with c, a, a and goes on by c and b.
+const C_A_A: &str = "[0]\nc,[0]->[1]\na,[1]->[2]\na,[2]->[3]\nc,[3]->[3]\nb,[3]->[3]\n[3]\n";
+
+const NOTHING: &str = "[0]\n[1]\n";
+
 /// Two states, each left by a letter of its own.
 const PAIR: &str = "a,[5]->[7]\nb,[7]->[5]\n";
 
@@ -56,18 +61,24 @@ fn outcome_of(alloc: Global, first: &str, second: &str, limit: u32) -> Result<Ou
     search(alloc, &pair.first, &pair.second, &order, limit)
 }
 
-/// Whether the step lines name just these elements, line after line.
-fn steps_name(steps: &[StepLine], numbers: &[u32]) -> bool {
-    let mut at: usize = 0;
-    for step in steps {
-        for number in step.by.as_slice() {
-            if numbers.get(at) != Some(number) {
-                return false;
-            }
-            at = at.wrapping_add(1);
+/// The elements that a step line is to name, beside its own.
+#[derive(Clone, Copy)]
+struct Named<'a> {
+    element: u32,
+    by: &'a [u32],
+}
+
+/// Whether the step lines are just these.
+fn are_steps(steps: &[StepLine], wanted: &[Named]) -> bool {
+    for (step, line) in steps.iter().zip(wanted) {
+        if step.element != line.element {
+            return false;
+        }
+        if step.by.as_slice() != line.by {
+            return false;
         }
     }
-    at == numbers.len()
+    steps.len() == wanted.len()
 }
 
 /// Whether the search closes with just this evidence.
@@ -77,7 +88,7 @@ fn closes(
     second: &str,
     elements: &[Element],
     cover: &[u32],
-    by: &[u32],
+    steps: &[Named],
 ) -> Result<bool, Memory> {
     let Outcome::Closed(closure) = outcome_of(alloc, first, second, 20000)? else {
         return Ok(false);
@@ -85,7 +96,7 @@ fn closes(
     Ok(
         closure.elements.as_slice() == elements
             && closure.cover.as_slice() == cover
-            && steps_name(closure.steps.as_slice(), by),
+            && are_steps(closure.steps.as_slice(), steps),
     )
 }
 
@@ -117,31 +128,32 @@ fn told_apart(
     Ok(lasso.prefix.as_slice() == prefix && lasso.turn.as_slice() == turn)
 }
 
+fn line(element: u32, by: &[u32]) -> Named<'_> {
+    Named { element, by }
+}
+
 #[test]
 fn closed_searches_have_their_evidence(rt: HostRuntime) -> Result<(), Fail> {
     let alloc = rt.alloc();
     let base = live(Origin::Base(0));
-    assert!(rt; closes(alloc, ONE_A, ONE_A, &[base], &[0], &[0])?);
-    let next = [live(Origin::Next(0, 1)), live(Origin::Next(1, 0))];
-    let four = [base, live(Origin::Base(1)), next[0], next[1]];
-    assert!(rt; closes(alloc, PAIR, PAIR, &four, &[0, 1], &[2, 3, 0, 1])?);
-    let dropped = under(3, Origin::Base(2));
+    let own = [line(0, &[0])];
+    assert!(rt; closes(alloc, ONE_A, ONE_A, &[base], &[0], &own)?);
+    let four = [
+        base,
+        live(Origin::Base(1)),
+        live(Origin::Next(0, 1)),
+        live(Origin::Next(1, 0)),
+    ];
+    let turns = [line(0, &[2]), line(1, &[3]), line(2, &[0]), line(3, &[1])];
+    assert!(rt; closes(alloc, PAIR, PAIR, &four, &[0, 1], &turns)?);
     let with_dropped = [
         base,
-        dropped,
+        under(3, Origin::Base(2)),
         live(Origin::Base(3)),
         live(Origin::Next(0, 2)),
     ];
-    assert!(rt;
-        closes(
-            alloc,
-            THEN_B,
-            THEN_B,
-            &with_dropped,
-            &[0, 0, 3, 2],
-            &[0, 0, 3, 2, 3]
-        )?
-    );
+    let steps = [line(0, &[0, 0, 3]), line(2, &[2]), line(3, &[3])];
+    assert!(rt; closes(alloc, THEN_B, THEN_B, &with_dropped, &[0, 0, 3, 2], &steps)?);
     Ok(())
 }
 
@@ -151,26 +163,35 @@ fn searches_tell_apart(rt: HostRuntime) -> Result<(), Fail> {
     assert!(rt; told_apart(alloc, TWO_LETTERS, ONE_A, &[1], &[1])?);
     assert!(rt; told_apart(alloc, GUESS, B_THEN_A, &[0], &[0])?);
     assert!(rt; told_apart(alloc, ONE_A, A_ONCE, &[0], &[0])?);
+    assert!(rt; told_apart(alloc, C_A_A, NOTHING, &[0, 1, 1], &[0])?);
     Ok(())
 }
 
-/// How many elements the search lists past the limit.
-fn listed(alloc: Global, text: &str, limit: u32) -> Result<Option<usize>, Memory>
+/// Whether the search of the automaton in itself lists just these origins.
+fn lists(alloc: Global, text: &str, limit: u32, wanted: &[Origin]) -> Result<bool, Memory>
     requires some { 1 ≤ limit }
     requires few { limit ≤ 100000 }
 {
     match outcome_of(alloc, text, text, limit)? {
-        Outcome::Limit(origins) => Ok(Some(origins.as_slice().len())),
-        _ => Ok(None),
+        Outcome::Limit(origins) => Ok(origins.as_slice() == wanted),
+        _ => Ok(false),
     }
 }
 
 #[test]
 fn limits_are_met_by_one_more(rt: HostRuntime) -> Result<(), Fail> {
     let alloc = rt.alloc();
-    assert_eq!(rt; listed(alloc, PAIR, 1)?, Some(2));
-    assert_eq!(rt; listed(alloc, PAIR, 3)?, Some(4));
-    assert_eq!(rt; listed(alloc, PAIR, 4)?, None);
+    let (one, two) = (Origin::Base(0), Origin::Base(1));
+    assert!(rt; lists(alloc, PAIR, 1, &[one, two])?);
+    assert!(rt;
+        lists(
+            alloc,
+            PAIR,
+            3,
+            &[one, two, Origin::Next(0, 1), Origin::Next(1, 0)]
+        )?
+    );
+    assert!(rt; !lists(alloc, PAIR, 4, &[])?);
     Ok(())
 }
 
