@@ -1,5 +1,5 @@
 -- Checks that are joined, and checks of each thing of a list.
-use Rattle.std.proofs.Common.{◌≡◌, ℕ, zero, suc, ◌+◌, ◌<◌, ◌⊎◌, inl, inr, List, [], ◌∷◌, ◌++◌, length, take, slice_index_or, subst, sym, refl, arith, Result, Ok, Err, ◌≤◌, take_all}
+use Rattle.std.proofs.Common.{◌≡◌, ℕ, zero, suc, ◌+◌, ◌<◌, inl, inr, List, [], ◌∷◌, ◌++◌, length, take, slice_index_or, subst, arith, Result, Ok, Err, ◌≤◌, take_all}
 use Rattle.cert_check.specs.declared.faults.Refusal.{Refusal}
 use Rattle.cert_check.specs.declared.faults.CheckFault.{CheckFault}
 use Rattle.cert_check.specs.declared.faults.CheckFault.TheVariants.{Refused, Memory}

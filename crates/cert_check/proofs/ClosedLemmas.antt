@@ -1,12 +1,12 @@
 -- A certificate of inclusion that keeps all rules is a closed set, and so the second automaton accepts what the first does.
-use Rattle.std.proofs.Common.{◌≡◌, ℕ, zero, suc, ◌+◌, ◌^◌, ◌<◌, ◌≤◌, ◌==◌, ◌&&◌, Bool, true, false, cond, List, [], ◌∷◌, ◌++◌, length, map, slice_index, slice_index_or, refl, sym, ap, ◌∙◌, subst, arith}
+use Rattle.std.proofs.Common.{◌≡◌, ℕ, zero, suc, ◌+◌, ◌^◌, ◌<◌, ◌≤◌, ◌==◌, ◌&&◌, Bool, true, false, cond, List, [], ◌∷◌, ◌++◌, length, slice_index, slice_index_or, refl, sym, ap, ◌∙◌, subst, arith}
 use Rattle.std.specs.List.{filter, list_all}
 use Rattle.std.proofs.lemmas.Bool.{and_parts, eq-eqb, false≢true, eqb-true}
 use Rattle.std.proofs.lemmas.List.{get_or-map, length-map}
 use Rattle.auto_core.specs.Automaton.{Automaton, IsAutomaton, trans, trans_at}
 use Rattle.auto_core.specs.Accept.{Includes}
-use Rattle.auto_core.specs.Graph.{WordArc, start_arc, arcs_of, arc_at, base_arc, extended_arc, ArePlaced, IsPlacedAt}
-use Rattle.auto_core.specs.Closed.{IsLive, ClosedSet, IsSubsumed}
+use Rattle.auto_core.specs.Graph.{WordArc, start_arc, arc_at, base_arc, extended_arc, ArePlaced, IsPlacedAt}
+use Rattle.auto_core.specs.Closed.{ClosedSet, IsSubsumed}
 use Rattle.auto_core.specs.declared.parts.Mode.{Mode}
 use Rattle.auto_core.specs.declared.parts.Mode.TheVariants.{Buchi, Finite}
 use Rattle.auto_core.specs.declared.parts.Origin.{Origin}
@@ -16,7 +16,6 @@ use Rattle.graph_laws.proofs.ClosedLemmas.{closed_set_includes}
 use Rattle.graph_laws.proofs.OriginLemmas.{length-arcs_of, placed_arcs_are_real}
 use Rattle.cert_text.specs.declared.types.YesBody.{YesBody}
 use Rattle.cert_text.specs.declared.types.Element.{Element}
-use Rattle.cert_text.specs.declared.types.Mark.{Mark}
 use Rattle.cert_text.specs.declared.types.StepLine.{StepLine}
 use Rattle.cert_text.specs.WellFormed.{WellFormed, is_short, are_short, is_body, is_yes, is_block, are_logs, is_live, is_element, is_origin, is_mark, are_steps, is_step_of}
 use Rattle.ba_format.specs.declared.parts.Joined.{Joined}

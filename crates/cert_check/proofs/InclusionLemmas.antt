@@ -1,11 +1,11 @@
 -- The parts of what is asked of a certificate of inclusion, tested one after another.
-use Rattle.std.proofs.Common.{ℕ, ◌+◌, ◌<◌, List, ◌++◌, length, slice_index_or, Result, Err}
+use Rattle.std.proofs.Common.{List, ◌++◌, Result, Err}
 use Rattle.auto_core.specs.Automaton.{Automaton}
 use Rattle.cert_text.specs.declared.types.YesBody.{YesBody}
 use Rattle.cert_check.specs.declared.faults.CheckFault.{CheckFault}
-use Rattle.cert_check.specs.Checks.{Check, AllHold, Tells, checks_of_each}
-use Rattle.cert_check.specs.Inclusion.{no_element, NamesElement, order_checks, inclusion_checks}
-use Rattle.cert_check.proofs.CheckLemmas.{tells_fault, tells_after, each_of}
+use Rattle.cert_check.specs.Checks.{Check, AllHold, Tells}
+use Rattle.cert_check.specs.Inclusion.{order_checks, inclusion_checks}
+use Rattle.cert_check.proofs.CheckLemmas.{tells_fault, tells_after}
 use Rattle.cert_check.proofs.ClosedLemmas.{elements_part, under_part, cover_part, steps_part, pairs_part}
 
 module _ (A B : Automaton) (evidence : YesBody) (X : Type 0) (e : CheckFault) where

@@ -1,5 +1,5 @@
 -- The pairs of a block, row by row.
-use Rattle.std.proofs.Common.{◌≡◌, ◌↔◌, ◌⊎◌, ℕ, ◌+◌, ◌<◌, inl, inr, List, [], ◌∷◌, ◌++◌, length, map, take, slice_index_or, refl, sym, ap, ◌∙◌, subst, arith, append-nil, All, ◌≤◌, take_all}
+use Rattle.std.proofs.Common.{◌≡◌, ◌↔◌, ◌⊎◌, ℕ, ◌+◌, ◌<◌, inl, inr, List, [], ◌∷◌, ◌++◌, length, map, take, slice_index_or, sym, ap, ◌∙◌, subst, arith, append-nil, All, ◌≤◌, take_all}
 use Rattle.std.proofs.lemmas.Bool.{cases_lt}
 use Rattle.std.specs.List.{flat_map}
 use Rattle.std.proofs.lemmas.List.{map_more, take_more}
@@ -8,7 +8,7 @@ use Rattle.std.proofs.lemmas.List.Concat.{flat_map-append}
 use Rattle.auto_core.specs.Game.{Holds, Answers, Stable, ArePairsBelow}
 use Rattle.cert_text.specs.declared.types.Row.{Row}
 use Rattle.cert_check.specs.Inclusion.{pairs_of_row}
-use Rattle.cert_check.specs.Stability.{IsPairStable, IsRowStable}
+use Rattle.cert_check.specs.Stability.{IsRowStable}
 
 -- The relation holds what it held and these pairs.
 pub record HasMore (old now pairs : List (ℕ × ℕ)) : Type 0 where

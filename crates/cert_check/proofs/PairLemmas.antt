@@ -1,16 +1,15 @@
 -- Lists of numbers that are added to under a condition, and the pairs of elements.
-use Rattle.std.proofs.Common.{◌≡◌, ◌↔◌, ◌⊎◌, ℕ, ◌+◌, ◌<◌, ◌≤◌, inl, inr, Bool, true, List, [], ◌∷◌, ◌++◌, length, map, take, slice_index_or, refl, sym, ap, ◌∙◌, subst, arith, length-append, Contains}
+use Rattle.std.proofs.Common.{◌≡◌, ◌↔◌, ℕ, ◌+◌, ◌<◌, inl, inr, Bool, true, List, [], ◌∷◌, ◌++◌, length, take, slice_index_or, sym, ap, ◌∙◌, subst, arith, length-append, Contains}
 use Rattle.std.proofs.lemmas.Bool.{cases_lt}
-use Rattle.std.proofs.lemmas.List.{take_more, take_all, get_or_append_left, get_or_push}
+use Rattle.std.proofs.lemmas.List.{take_more, get_or_append_left, get_or_push}
 use Rattle.std.proofs.lemmas.List.Elements.{Contains-append_left, Contains-push_cases, Contains-push}
 use Rattle.auto_core.specs.Automaton.{Automaton}
 use Rattle.auto_core.specs.Graph.{WordArc, LassoIn, IsTested, super_of, graph_of, arc_at}
 use Rattle.auto_core.specs.Closed.{IsLive}
 use Rattle.graph_rows.specs.Block.{block_graph}
-use Rattle.supergraph.specs.declared.arcs.Arc.{Arc}
 use Rattle.cert_text.specs.declared.types.YesBody.{YesBody}
 use Rattle.cert_check.specs.Inclusion.{element_arcs, live_in, PassesWithAll}
-use Rattle.cert_check.specs.Supers.{StandFor, AreSupers, no_arc, block_at, held_arc, IsTurn, ListsJust, AddsIf, AreTurnsByState}
+use Rattle.cert_check.specs.Supers.{AreSupers, block_at, held_arc, IsTurn, ListsJust, AddsIf, AreTurnsByState}
 use Rattle.cert_check.specs.declared.elements.Supers.{Supers}
 use Rattle.cert_check.proofs.SuperLemmas.{arcs_count, lassos_alike}
 

@@ -1,5 +1,5 @@
 -- What stands for an element: its arc and its block, in a table of them, and what they are compared by.
-use Rattle.std.proofs.Common.{◌≡◌, ◌↔◌, ℕ, zero, suc, ◌+◌, ◌-◌, ◌*◌, ◌<◌, ◌≤◌, ◌==◌, map, Result, Ok, Err, IfOk, Bool, true, List, [], ◌∷◌, ◌++◌, length, take, drop, slice_index_or, refl, sym, ap, ◌∙◌, subst, arith, length-append, inl, inr}
+use Rattle.std.proofs.Common.{◌≡◌, ◌↔◌, ℕ, zero, suc, ◌+◌, ◌-◌, ◌*◌, ◌<◌, ◌≤◌, ◌==◌, map, Result, Ok, Err, IfOk, List, [], ◌∷◌, ◌++◌, length, take, drop, slice_index_or, sym, ap, ◌∙◌, subst, arith, length-append, inl, inr}
 use Rattle.std.specs.List.{filter}
 use Rattle.std.proofs.lemmas.Bool.{cases_lt, eq-eqb, ne_eqb}
 use Rattle.look_round.proofs.SegmentLemmas.{filter_segment}
@@ -9,12 +9,11 @@ use Rattle.auto_core.specs.Automaton.{Automaton, IsAutomaton, IsOutgoing, trans,
 use Rattle.auto_core.specs.Run.{Run}
 use Rattle.auto_core.proofs.MoveLemmas.{move_in_range}
 use Rattle.path_laws.proofs.PumpingLemmas.{run_in_range}
-use Rattle.graph_laws.proofs.OriginLemmas.{length-arcs_of, arc_is_here}
-use Rattle.auto_core.specs.Game.{Holds}
-use Rattle.auto_core.specs.Graph.{Graph, SameGraph, graph_of, letter_graph, extended, WordArc, IsReal, start_arc, arc_at, super_of, base_arc, extended_arc, Supergraph, Subsumes, LassoIn}
+use Rattle.graph_laws.proofs.OriginLemmas.{length-arcs_of}
+use Rattle.auto_core.specs.Graph.{SameGraph, graph_of, letter_graph, extended, WordArc, IsReal, start_arc, arc_at, super_of, base_arc, extended_arc, Subsumes, LassoIn}
 use Rattle.graph_laws.proofs.GraphLemmas.{covers_more, same_sym, same_trans, same_more, graph_of_letter}
 use Rattle.graph_laws.proofs.StandingLemmas.{covers_alike, lassos_both_ways}
-use Rattle.graph_rows.specs.Block.{width_of, block_graph, IsFormed}
+use Rattle.graph_rows.specs.Block.{block_graph, IsFormed}
 use Rattle.supergraph.specs.declared.arcs.Arc.{Arc}
 use Rattle.supergraph.specs.Stands.{with_word, with_graph}
 use Rattle.cert_text.specs.declared.types.YesBody.{YesBody}

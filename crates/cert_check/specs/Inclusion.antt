@@ -1,6 +1,6 @@
 -- What the rules ask of a certificate of inclusion whose logs are empty: of its relation, its elements, the elements over
 -- others, and the pairs of elements.
-use Rattle.std.specs.Prelude.{◌≡◌, ℕ, ◌+◌, ◌<◌, ◌==◌, Bool, true, List, [], ◌∷◌, ◌++◌, length, map, All, slice_index, slice_index_or}
+use Rattle.std.specs.Prelude.{◌≡◌, ℕ, ◌+◌, ◌<◌, ◌==◌, Bool, List, [], ◌∷◌, ◌++◌, length, map, All, slice_index, slice_index_or}
 use Rattle.std.specs.List.{filter, flat_map}
 use Rattle.auto_core.specs.Automaton.{Automaton, trans_at}
 use Rattle.auto_core.specs.Game.{StableForward}

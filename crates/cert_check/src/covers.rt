@@ -10,9 +10,8 @@ ghost use Rattle.cert_check.specs.Supers.{block_len, StandFor, IsRelationOf, Are
 use crate::elements::Supers;
 use crate::faults::{CheckFault, Refusal};
 use auto_core::Auto;
-use ba_format::Joined;
 use bit_rel::Rel;
-use cert_text::{Mark, StepLine, YesBody};
+use cert_text::{Mark, YesBody};
 use supergraph::Arc;
 
 /// Tells whether the element is live.

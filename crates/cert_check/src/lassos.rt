@@ -1,7 +1,6 @@
 //! Checks that a lasso separates two automata.
 
 ghost use Rattle.std.specs.Prelude.{◌≡◌, ◌<◌, ◌↔◌, All, IfOk, IsTrue, length, ◌^◌, Err};
-ghost use Rattle.auto_core.specs.Accept.{SeparatesLasso};
 ghost use Rattle.cert_check.specs.Checks.{AllHold, FirstBroken};
 ghost use Rattle.cert_check.specs.Rules.{AreLabels, lasso_checks};
 

@@ -1,9 +1,7 @@
-use Rattle.std.proofs.Common.{ℕ, ◌≡◌, ◌<◌, length, sym, subst, arith, rules}
-use Rattle.auto_core.specs.Automaton.{IsAutomaton}
+use Rattle.std.proofs.Common.{sym, subst, arith, rules}
 use Rattle.cert_text.specs.declared.types.Body.{Body}
 use Rattle.cert_check.specs.Checks.{AllHold}
-use Rattle.cert_check.specs.Rules.{HasSizes, body_checks, has_checked_form}
-use Rattle.cert_check.specs.Inclusion.{inclusion_checks}
+use Rattle.cert_check.specs.Rules.{HasSizes, body_checks}
 use Rattle.cert_check.proofs.ClosedLemmas.{checked_yes_parts, lines_fit, valid_yes_includes}
 use Rattle.cert_check.proofs.checking.check.Goals as goal
 

@@ -1,11 +1,11 @@
-use Rattle.std.proofs.Common.{ℕ, ◌≡◌, ◌<◌, ◌+◌, List, true, false, IsTrue, length, slice_index, slice_index_or, refl, sym, ap, ◌∙◌, subst, arith, rules}
+use Rattle.std.proofs.Common.{ℕ, ◌≡◌, ◌<◌, List, true, false, length, slice_index, slice_index_or, sym, ◌∙◌, subst, rules}
 use Rattle.std.proofs.lemmas.Bool.{false≢true}
-use Rattle.auto_core.specs.Automaton.{Automaton, trans, trans_at}
-use Rattle.auto_core.specs.Graph.{SameGraph, WordArc, letter_graph, base_arc, start_arc}
+use Rattle.auto_core.specs.Automaton.{trans, trans_at}
+use Rattle.auto_core.specs.Graph.{SameGraph, letter_graph, base_arc, start_arc}
 use Rattle.auto_core.specs.declared.parts.Trans.{Trans}
 use Rattle.graph_rows.specs.Block.{block_graph}
 use Rattle.cert_text.specs.declared.types.YesBody.{YesBody}
-use Rattle.cert_check.specs.Inclusion.{IsOver, AreOver, starts_of}
+use Rattle.cert_check.specs.Inclusion.{IsOver, starts_of}
 use Rattle.cert_check.specs.Supers.{StandFor}
 use Rattle.cert_check.proofs.OrderLemmas.{below_more}
 use Rattle.cert_check.proofs.SuperLemmas.{base_stands, start_at, starts_count}

@@ -1,4 +1,4 @@
-use Rattle.std.proofs.Common.{ℕ, ◌≡◌, ◌+◌, ◌++◌, [], ◌∷◌, List, length, map, slice_index_or, sym, ap, ◌∙◌, subst, arith, rules}
+use Rattle.std.proofs.Common.{ℕ, ◌≡◌, ◌+◌, ◌++◌, [], ◌∷◌, List, length, slice_index_or, sym, ap, ◌∙◌, subst, arith}
 use Rattle.std.proofs.lemmas.List.{get_or-map, length-map}
 use Rattle.auto_core.specs.Graph.{WordArc, arc_at, arc_of, IsPlacedAt}
 use Rattle.auto_core.specs.declared.parts.Origin.{Origin}

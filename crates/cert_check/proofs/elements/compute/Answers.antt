@@ -1,14 +1,12 @@
-use Rattle.std.proofs.Common.{ℕ, ◌≡◌, ◌<◌, List, slice_index_or, sym, ap, ◌∙◌, subst, arith, rules}
+use Rattle.std.proofs.Common.{ℕ, ◌≡◌, ◌<◌, List, slice_index_or, sym, ap, ◌∙◌, subst, arith}
 use Rattle.std.proofs.lemmas.List.{get_or_default}
 use Rattle.auto_core.specs.Automaton.{trans, trans_at}
-use Rattle.auto_core.specs.Graph.{SameGraph, WordArc, letter_graph, extended, arc_at, arc_of, base_arc, extended_arc, IsReal}
+use Rattle.auto_core.specs.Graph.{SameGraph, WordArc, letter_graph, extended, arc_at, arc_of}
 use Rattle.auto_core.specs.declared.parts.Trans.{Trans}
 use Rattle.auto_core.specs.declared.parts.Origin.{Origin}
-use Rattle.auto_core.specs.declared.parts.Origin.TheVariants.{Base, Next}
 use Rattle.graph_rows.specs.Block.{block_graph}
 use Rattle.supergraph.specs.declared.arcs.Arc.{Arc}
-use Rattle.supergraph.specs.Stands.{with_word}
-use Rattle.cert_check.specs.Inclusion.{element_arcs, NamesOrigin, HasEarlierParent}
+use Rattle.cert_check.specs.Inclusion.{element_arcs, HasEarlierParent}
 use Rattle.cert_check.specs.Supers.{StandFor, no_arc, block_at}
 use Rattle.cert_check.proofs.SuperLemmas.{base_stands, longer_stands}
 use Rattle.cert_check.proofs.elements.compute.Goals as goal

@@ -1,4 +1,4 @@
-use Rattle.std.proofs.Common.{ℕ, ◌≡◌, ◌<◌, ◌+◌, List, length, slice_index_or, sym, ap, ◌∙◌, subst, arith, rules}
+use Rattle.std.proofs.Common.{◌+◌, ◌∙◌}
 use Rattle.cert_check.specs.Inclusion.{element_checks}
 use Rattle.cert_check.proofs.CheckLemmas.{more_of, broken_of}
 use Rattle.cert_check.proofs.elements.fill.Goals as goal

@@ -1,4 +1,3 @@
-use Rattle.std.proofs.Common.{ℕ, ◌<◌, length, slice_index_or, rules}
 use Rattle.std.proofs.lemmas.Result.{err_from_is_err_and}
 use Rattle.cert_check.specs.Inclusion.{no_element, element_checks}
 use Rattle.auto_core.specs.Automaton.{IsAutomaton}

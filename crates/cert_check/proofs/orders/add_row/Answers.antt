@@ -1,5 +1,4 @@
-use Rattle.std.proofs.Common.{ℕ, ◌≡◌, ◌<◌, ◌≤◌, List, length, slice_index_or, refl, sym, ap, ◌∙◌, subst, arith}
-use Rattle.auto_core.specs.Game.{Holds}
+use Rattle.std.proofs.Common.{ℕ, ◌<◌, ◌≤◌, List, length, slice_index_or, ap, ◌∙◌, subst}
 use Rattle.cert_check.specs.Inclusion.{pairs_of_row}
 use Rattle.cert_check.proofs.OrderLemmas.{HasMore, one_more, whole_row}
 use Rattle.cert_check.proofs.orders.add_row.Goals as goal

@@ -1,6 +1,6 @@
-use Rattle.std.proofs.Common.{ℕ, ◌≡◌, ◌<◌, ◌≤◌, List, length, slice_index_or, true, IsTrue, All, refl, sym, ap, ◌∙◌, subst, arith, rules, take_all}
+use Rattle.std.proofs.Common.{ℕ, ◌≡◌, ◌<◌, ◌≤◌, List, length, slice_index_or, true, All, refl, ap, ◌∙◌, subst, rules, take_all}
 use Rattle.cert_text.specs.declared.types.Row.{Row}
-use Rattle.cert_check.specs.Inclusion.{IsRowBelow, IsBlockBelow}
+use Rattle.cert_check.specs.Inclusion.{IsRowBelow}
 use Rattle.cert_check.proofs.OrderLemmas.{all_more}
 use Rattle.cert_check.proofs.orders.is_block_below.Goals as goal
 

@@ -1,4 +1,4 @@
-use Rattle.std.proofs.Common.{ℕ, ◌≡◌, ◌<◌, true, IsTrue, refl, ◌∙◌, arith, rules}
+use Rattle.std.proofs.Common.{◌≡◌, true, refl, ◌∙◌, arith, rules}
 use Rattle.auto_core.specs.Game.{Holds}
 use Rattle.cert_check.specs.Stability.{IsPairStable}
 use Rattle.cert_check.proofs.OrderLemmas.{below_more}

@@ -1,4 +1,4 @@
-use Rattle.std.proofs.Common.{ℕ, ◌≡◌, ◌↔◌, ◌<◌, ◌≤◌, List, length, slice_index_or, refl, sym, ap, ◌∙◌, subst, arith}
+use Rattle.std.proofs.Common.{ℕ, ◌↔◌, ◌<◌, ◌≤◌, List, length, slice_index_or, ap, ◌∙◌, subst}
 use Rattle.auto_core.specs.Game.{Holds}
 use Rattle.cert_text.specs.declared.types.Row.{Row}
 use Rattle.cert_check.proofs.OrderLemmas.{rows_more, whole_rows}

@@ -1,4 +1,4 @@
-use Rattle.std.proofs.Common.{ℕ, ◌≡◌, ◌<◌, List, length, ap, ◌∙◌, arith}
+use Rattle.std.proofs.Common.{length, ap, arith}
 use Rattle.cert_check.specs.Supers.{IsTurn}
 use Rattle.cert_check.proofs.PairLemmas.{upto_more}
 use Rattle.cert_check.proofs.pairs.all_turns.Goals as goal

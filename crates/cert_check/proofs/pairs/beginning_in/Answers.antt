@@ -1,4 +1,4 @@
-use Rattle.std.proofs.Common.{ℕ, ◌≡◌, ◌↔◌, ◌<◌, List, length, slice_index_or, refl, Contains, take, subst, arith, take_all}
+use Rattle.std.proofs.Common.{ℕ, ◌≡◌, ◌↔◌, List, slice_index_or, refl, Contains, subst, take_all}
 use Rattle.cert_check.specs.Supers.{held_arc}
 use Rattle.cert_check.proofs.PairLemmas.{chosen_more}
 use Rattle.cert_check.proofs.pairs.beginning_in.Goals as goal

@@ -1,4 +1,4 @@
-use Rattle.std.proofs.Common.{ℕ, ◌≡◌, ◌↔◌, ◌<◌, ◌+◌, ◌++◌, [], ◌∷◌, List, length, take, slice_index_or, Contains, true, false, inl, inr, IsTrue, refl, sym, ap, ◌∙◌, subst, arith, rules, take_all}
+use Rattle.std.proofs.Common.{ℕ, ◌≡◌, List, take, slice_index_or, Contains, true, false, inl, inr, refl, sym, ap, ◌∙◌, subst, rules, take_all}
 use Rattle.std.proofs.lemmas.Bool.{false≢true}
 use Rattle.std.proofs.lemmas.List.{take_more}
 use Rattle.std.proofs.lemmas.List.Elements.{Contains-get_or, Contains-push_cases}

@@ -1,4 +1,4 @@
-use Rattle.std.proofs.Common.{ℕ, ◌≡◌, ◌<◌, ◌+◌, List, length, slice_index_or, sym, ap, ◌∙◌, subst, arith, rules}
+use Rattle.std.proofs.Common.{ℕ, ◌+◌, List, length, slice_index_or, sym, ◌∙◌, subst}
 use Rattle.cert_text.specs.declared.types.YesBody.{YesBody}
 use Rattle.cert_text.specs.declared.types.StepLine.{StepLine}
 use Rattle.cert_text.specs.declared.types.Element.{Element}

@@ -1,13 +1,13 @@
-use Rattle.std.proofs.Common.{ℕ, ◌≡◌, ◌<◌, ◌≤◌, ◌+◌, ◌-◌, List, true, false, IsTrue, length, slice_index, slice_index_or, refl, sym, ap, ◌∙◌, subst, arith, rules}
+use Rattle.std.proofs.Common.{ℕ, ◌≡◌, ◌<◌, ◌+◌, ◌-◌, List, true, false, length, slice_index, slice_index_or, refl, sym, ap, ◌∙◌, subst, arith, rules}
 use Rattle.std.proofs.lemmas.Bool.{false≢true}
 use Rattle.std.proofs.lemmas.List.{get_or_default}
-use Rattle.auto_core.specs.Automaton.{Automaton, IsOutgoing, trans, trans_at}
+use Rattle.auto_core.specs.Automaton.{IsOutgoing, trans, trans_at}
 use Rattle.auto_core.specs.Graph.{SameGraph, WordArc, extended, extended_arc, start_arc, arc_at}
 use Rattle.auto_core.specs.declared.parts.Trans.{Trans}
 use Rattle.graph_rows.specs.Block.{block_graph}
 use Rattle.supergraph.specs.declared.arcs.Arc.{Arc}
 use Rattle.cert_text.specs.declared.types.YesBody.{YesBody}
-use Rattle.cert_check.specs.Inclusion.{IsOver, AreOver, element_arcs, extensions_of}
+use Rattle.cert_check.specs.Inclusion.{IsOver, element_arcs, extensions_of}
 use Rattle.cert_check.specs.Supers.{StandFor, no_arc, block_at}
 use Rattle.cert_check.proofs.OrderLemmas.{below_more}
 use Rattle.cert_check.proofs.SuperLemmas.{longer_stands, held_ends, extensions_count, extension_at}
