@@ -16,3 +16,5 @@ pub mod MembersStored
 pub mod Parts
 pub mod Useful
 pub mod Quotient
+pub mod Delayed
+pub mod Pruning
