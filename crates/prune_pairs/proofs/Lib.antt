@@ -1,0 +1,3 @@
+pub mod FindLemmas
+pub mod CutLemmas
+pub mod RemoveLemmas
