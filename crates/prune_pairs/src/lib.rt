@@ -4,6 +4,7 @@
 mod comparing;
 mod cutting;
 mod finding;
+pub mod laws;
 mod removing;
 
 pub use comparing::better;
