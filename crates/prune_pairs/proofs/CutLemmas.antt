@@ -1,5 +1,5 @@
 -- The transitions that stay, and the automaton that they make.
-use Rattle.std.proofs.Common.{◌≡◌, ℕ, zero, suc, ◌+◌, ◌<◌, ◌≤◌, ◌^◌, ◌↔◌, ◌⊎◌, Result, Ok, Err, nat_cmp, inl, inr, Bool, true, false, not, cond, ◌==◌, List, [], ◌∷◌, ◌++◌, length, get_or, map, filter, All, Contains, refl, sym, ap, ◌∙◌, subst, arith, add-zero, add-one, zero-add}
+use Rattle.std.proofs.Common.{◌≡◌, ℕ, zero, suc, ◌+◌, ◌<◌, ◌≤◌, ◌⊎◌, Result, Ok, Err, nat_cmp, inl, inr, Bool, true, false, not, cond, ◌==◌, List, [], ◌∷◌, ◌++◌, length, get_or, map, filter, All, Contains, refl, sym, ap, ◌∙◌, subst, arith, add-zero, add-one, zero-add}
 use Rattle.std.specs.List.{list_any, range_with_len, AllPairs}
 use Rattle.std.specs.List.Sorted.{IsStrictlyIncreasing, IsBinarySearchResult}
 use Rattle.std.specs.Result.{is_ok}
@@ -10,7 +10,7 @@ use Rattle.std.proofs.lemmas.List.Sums.{length-filter, count_by-le-length}
 use Rattle.std.proofs.lemmas.List.FromFn.{length-range_with_len}
 use Rattle.std.proofs.lemmas.List.Sorted.{searched, Contains-permutation, IsPermutation-sym}
 use Rattle.std.proofs.lemmas.List.Kept.{AllPairs-from_increasing, IsStrictlyIncreasing-filter}
-use Rattle.auto_core.specs.Automaton.{Automaton, IsAutomaton, Moves, IsAccepting, is_accepting, IsBefore, IsInRange, HasRepeat, trans, trans_at}
+use Rattle.auto_core.specs.Automaton.{Automaton, IsAutomaton, is_accepting, IsBefore, IsInRange, trans, trans_at}
 use Rattle.auto_core.specs.Build.{IsBuilt}
 use Rattle.auto_core.specs.Parts.{AreParts}
 use Rattle.auto_core.specs.Pruning.{IsCut}

@@ -1,19 +1,13 @@
 -- The least better transition, found where the candidates stand.
-use Rattle.std.proofs.Common.{◌≡◌, Option, Some, None, IfNone, ℕ, ◌+◌, ◌<◌, ◌≤◌, ◌⊎◌, inl, inr, List, length, get_or, Contains, IsTrue, ◌↔◌, refl, sym, ap, ◌∙◌, subst, arith}
+use Rattle.std.proofs.Common.{◌≡◌, Option, Some, None, IfNone, ℕ, ◌<◌, ◌≤◌, inl, inr, List, length, get_or, Contains, sym, ap, ◌∙◌, subst, arith}
 use Rattle.std.proofs.lemmas.Bool.{cases_lt, cases_eq}
 use Rattle.std.proofs.lemmas.List.{get_or_default}
 use Rattle.std.proofs.lemmas.List.Kept.{AllPairs-from_increasing}
 use Rattle.std.specs.List.Sorted.{IsStrictlyIncreasing}
 use Rattle.auto_core.specs.Automaton.{Automaton, IsAutomaton, IsBefore, IsSuccessors, IsIncoming, IsBelowPair, IsAbovePair, trans, trans_at}
-use Rattle.auto_core.specs.Pruning.{AtSource, AtTarget, IsBetter, IsBetterAt, HasBetter}
+use Rattle.auto_core.specs.Pruning.{AtSource, AtTarget, IsBetterAt, HasBetter}
 use Rattle.auto_core.specs.declared.parts.Trans.{Trans}
 use Rattle.prune_pairs.specs.Least.{IsLeastOf, HasNone, IsLeastBetter}
-
--- both ends are better and the letters are the same
-pub better_ends : (A : Automaton) (n : ℕ) (back ahead : ℕ → ℕ → Type 0) (t u : ℕ) → t < length A.transitions → u < length A.transitions → (trans_at A t).label ≡ (trans_at A u).label
-    → AtSource n back (trans_at A t).source (trans_at A u).source × AtTarget n ahead (trans_at A t).target (trans_at A u).target
-    → IsBetterAt A n back ahead t u
-better_ends A n back ahead t u t_in u_in same ends = record { is = t_in; by = u_in; better = record { label = same; source = ends.0; target = ends.1 } }
 
 -- by pair 1 the sources are the same, by pair 2 the targets
 pub same_source : (back : ℕ → ℕ → Type 0) (p q : ℕ) → AtSource 1 back p q → p ≡ q
@@ -26,13 +20,6 @@ pub same_target : (ahead : ℕ → ℕ → Type 0) (p q : ℕ) → AtTarget 2 ah
 same_target ahead p q h = elim h [
   | inl e ↦ absurd (omega (arith, e.0))
   | inr h ↦ elim h [ inl e ↦ e.1 | inr h ↦ elim h [ inl e ↦ absurd (omega (arith, e.0)) | inr e ↦ absurd (omega (arith, e.0)) ] ]
-]
-
--- by pairs 3 and 4 the backward relation holds the sources
-pub related_source : (n : ℕ) (back : ℕ → ℕ → Type 0) (p q : ℕ) → 3 ≤ n → AtSource n back p q → back p q
-related_source n back p q from h = elim h [
-  | inl e ↦ absurd (omega (arith, e.0))
-  | inr h ↦ elim h [ inl e ↦ absurd (omega (arith, e.0)) | inr h ↦ elim h [ inl e ↦ e.1 | inr e ↦ e.1.0 ] ]
 ]
 
 -- a transition out of p with the letter a is in the range of its successors
@@ -63,10 +50,6 @@ module _ (A : Automaton) (n : ℕ) (back ahead : ℕ → ℕ → Type 0) (t : �
   pub none_out_of : (p a b e : ℕ) → a ≡ (trans_at A t).label → IsSuccessors A p a b e → HasNone (λ v. (b ≤ v) × (v < e)) IsGood → HasNone (λ v. (trans_at A v).source ≡ p) IsGood
   none_out_of p a b e letter s none v source good = none v (in_successors A p a b e s v good.by source (sym good.better.label ∙ sym letter)) good
 
-  -- a state to which the backward relation does not lead has none
-  pub none_out_of_apart : (p : ℕ) → 3 ≤ n → (back (trans_at A t).source p → ⊥) → HasNone (λ v. (trans_at A v).source ≡ p) IsGood
-  none_out_of_apart p from apart v source good = apart (subst (back (trans_at A t).source) source (related_source n back (trans_at A t).source (trans_at A v).source from good.better.source))
-
   -- transitions with greater sources have greater numbers
   source_order : IsAutomaton A → (u v : ℕ) → u < length A.transitions → (trans_at A u).source < (trans_at A v).source → u ≤ v
   source_order valid u v u_in less = elim (cases_lt v u) [
@@ -90,19 +73,6 @@ module _ (A : Automaton) (n : ℕ) (back ahead : ℕ → ℕ → Type 0) (t : �
     ];
   }
 
-  pub none_by_source : (s : ℕ) → ((v : ℕ) → (trans_at A v).source < s → IsGood v → ⊥) → HasNone (λ v. (trans_at A v).source ≡ s) IsGood → (v : ℕ) → (trans_at A v).source < s + 1 → IsGood v → ⊥
-  none_by_source s none here v lt good = elim (cases_eq (trans_at A v).source s) [ inl e ↦ here v e good | inr other ↦ none v (omega arith) good ]
-
-  pub none_at_all : IsAutomaton A → ((v : ℕ) → (trans_at A v).source < A.states → IsGood v → ⊥) → HasBetter A n back ahead t → ⊥
-  none_at_all valid none (v, good) = none v (valid.in_range v (trans 0 0 0) good.by).0 good
-
-  -- all candidates come out of one state
-  pub least_of_one : (s u : ℕ) → ((v : ℕ) → IsGood v → (trans_at A v).source ≡ s) → IsLeastOf (λ v. (trans_at A v).source ≡ s) IsGood u → IsLeastBetter A n back ahead t u
-  least_of_one s u one h = record { better = h.holds; least = λ v good. h.least v (one v good) good }
-
-  pub none_of_one : (s : ℕ) → ((v : ℕ) → IsGood v → (trans_at A v).source ≡ s) → HasNone (λ v. (trans_at A v).source ≡ s) IsGood → HasBetter A n back ahead t → ⊥
-  none_of_one s one none (v, good) = none v (one v good) good
-
   -- the numbers of a list that has all candidates, ascending
   pub least_listed : (numbers : List ℕ) → IsStrictlyIncreasing numbers → ((v : ℕ) → IsGood v → Contains numbers v) → (i u : ℕ) → u ≡ get_or numbers i 0 → i < length numbers
       → IsGood u → ((k : ℕ) → k < i → IsGood (get_or numbers k 0) → ⊥) → IsLeastBetter A n back ahead t u
@@ -125,10 +95,7 @@ module _ (A : Automaton) (n : ℕ) (back ahead : ℕ → ℕ → Type 0) (t : �
       let (k, k_in, is) = all v good in
       none k k_in (subst IsGood (sym (get_or_default numbers k 0 v k_in ∙ is)) good)
 
--- by pair 1 all candidates come out of the source of t, by pair 2 all lead to its target
-pub one_source : (A : Automaton) (back ahead : ℕ → ℕ → Type 0) (t v : ℕ) → IsBetterAt A 1 back ahead t v → (trans_at A v).source ≡ (trans_at A t).source
-one_source A back ahead t v good = sym (same_source back (trans_at A t).source (trans_at A v).source good.better.source)
-
+-- by pair 2 all candidates lead to the target of t
 pub all_into : (A : Automaton) (back ahead : ℕ → ℕ → Type 0) (t q : ℕ) (numbers : List ℕ) → q ≡ (trans_at A t).target → IsIncoming A q numbers → (v : ℕ) → IsBetterAt A 2 back ahead t v → Contains numbers v
 all_into A back ahead t q numbers at into v good = into.all v good.by (sym (same_target ahead (trans_at A t).target (trans_at A v).target good.better.target) ∙ sym at)
 
@@ -138,9 +105,6 @@ letter_read A ts t is = ap (λ l. (get_or l t (trans 0 0 0)).label) is
 
 pub target_read : (A : Automaton) (ts : List Trans) (t : ℕ) → ts ≡ A.transitions → (get_or ts t (trans 0 0 0)).target ≡ (trans_at A t).target
 target_read A ts t is = ap (λ l. (get_or l t (trans 0 0 0)).target) is
-
-pub source_read : (A : Automaton) (ts : List Trans) (t : ℕ) → ts ≡ A.transitions → (get_or ts t (trans 0 0 0)).source ≡ (trans_at A t).source
-source_read A ts t is = ap (λ l. (get_or l t (trans 0 0 0)).source) is
 
 -- what follows from what a clause says where there is no value
 pub if_none_then : {X P Q : Type 0} (r : Option X) → IfNone r P → (P → Q) → IfNone r Q

@@ -1,17 +1,17 @@
 -- What pruning makes is one automaton, and one with fewer transitions; which transitions are removed goes by the states alone.
-use Rattle.std.proofs.Common.{◌≡◌, ℕ, zero, suc, ◌<◌, ◌≤◌, ◌⊎◌, ◌↔◌, inl, inr, List, [], ◌∷◌, length, get_or, map, All, Contains, refl, sym, ap, ◌∙◌, subst, arith}
+use Rattle.std.proofs.Common.{◌≡◌, ℕ, ◌<◌, ◌≤◌, ◌⊎◌, ◌↔◌, inl, inr, List, [], ◌∷◌, length, Contains, refl, sym, ◌∙◌, subst, arith}
 use Rattle.std.specs.List.{AllPairs}
 use Rattle.std.proofs.lemmas.Bool.{cases_lt}
 use Rattle.std.proofs.lemmas.List.{length-map, get_or-map}
 use Rattle.std.proofs.lemmas.List.Elements.{All-contains}
 use Rattle.std.proofs.lemmas.List.Kept.{AllPairs-from_increasing}
 use Rattle.auto_core.specs.Automaton.{Automaton, IsAutomaton, Moves, IsBefore, trans, trans_at}
-use Rattle.auto_core.specs.Game.{Chain, Close, Holds, Stable, IsGreatest, IsWithin}
-use Rattle.auto_core.specs.Pruning.{AtSource, AtTarget, IsBetterAt, HasBetter, IsCut, IsPruned, IsGreatestBack, IsGreatestAhead}
+use Rattle.auto_core.specs.Game.{Close, Holds, IsGreatest, IsWithin}
+use Rattle.auto_core.specs.Pruning.{AtSource, AtTarget, IsBetterAt, HasBetter, IsCut}
 use Rattle.auto_core.specs.declared.parts.Trans.{Trans}
 use Rattle.auto_core.proofs.PathLemmas.{Contains-here, Contains-later, Contains-cons_cases, none_in_nil}
 use Rattle.auto_core.proofs.MoveLemmas.{number_of, move_at}
-use Rattle.auto_core.proofs.MemberLemmas.{Rises, rises_from_pairs, same_members, map_from, map_has}
+use Rattle.auto_core.proofs.MemberLemmas.{Rises, rises_from_pairs, same_members, map_from}
 use Rattle.auto_core.proofs.SetLemmas.{same_automaton, transitions_rise}
 use Rattle.path_laws.proofs.PumpingLemmas.{chain_weaker}
 use Rattle.prune_pairs.specs.Least.{IsLeastBetter, AreLeastBetter, numbers_of}

@@ -1,19 +1,17 @@
 -- Pruning changes nothing of what is accepted.
-use Rattle.std.proofs.Common.{◌≡◌, ◌==◌, ℕ, zero, suc, ◌<◌, ◌≤◌, ◌⊎◌, inl, inr, Bool, true, false, List, [], ◌∷◌, Contains, refl, sym, ap, ◌∙◌, subst, arith, reverse, length}
+use Rattle.std.proofs.Common.{◌≡◌, ◌==◌, ℕ, zero, suc, ◌≤◌, ◌⊎◌, inl, inr, List, [], ◌∷◌, Contains, refl, sym, ◌∙◌, subst, arith, reverse}
 use Rattle.std.specs.List.{list_any}
 use Rattle.std.proofs.lemmas.Bool.{cases_Bool, false≢true}
 use Rattle.std.proofs.lemmas.List.{reverse-reverse}
-use Rattle.auto_core.specs.Automaton.{Automaton, IsAutomaton, Moves, IsAccepting, trans, trans_at}
+use Rattle.auto_core.specs.Automaton.{Automaton, Moves, trans, trans_at}
 use Rattle.auto_core.specs.Run.{PathBy, Path, end_of}
-use Rattle.auto_core.specs.Accept.{Includes, Same}
 use Rattle.auto_core.specs.Game.{BackwardMoves, MatchesForward, MatchesBackward, AllMatched, Close, Strict, Holds, StableForward, StableBackward}
-use Rattle.auto_core.specs.Pruning.{AtSource, AtTarget, IsBetter, IsBetterAt, HasBetter, IsCut, IsPruned, IsStableBack, IsStableAhead}
+use Rattle.auto_core.specs.Pruning.{AtSource, AtTarget, IsBetter, HasBetter, IsCut, IsStableBack, IsStableAhead}
 use Rattle.auto_core.specs.declared.parts.Trans.{Trans}
 use Rattle.auto_core.specs.declared.parts.Mode.TheVariants.{Buchi, Finite}
 use Rattle.auto_core.proofs.PathLemmas.{Contains-from_test, test_from_Contains}
 use Rattle.auto_core.proofs.MoveLemmas.{number_of, move_at}
 use Rattle.path_laws.specs.Paths.{turned}
-use Rattle.path_laws.specs.Games.{IsFollowed}
 use Rattle.path_laws.specs.Transfer.{Follows}
 use Rattle.path_laws.proofs.MatchLemmas.{forward_refl, forward_trans, backward_trans, matched_refl, matched_weaker, matched_end}
 use Rattle.path_laws.proofs.TurnLemmas.{path_turned, end_of-turned, turned-turned, matched_turned}

@@ -2,7 +2,7 @@
 -- greater, each path is followed by moves that are left. A path is seen from one of its states: the part before it is read
 -- backward, the part after it forward. The part before is made good place by place, from its far end; what a repair does to the
 -- states after its place is to raise them.
-use Rattle.std.proofs.Common.{◌≡◌, ℕ, zero, suc, ◌+◌, ◌<◌, ◌⊎◌, inl, inr, List, [], ◌∷◌, refl, arith}
+use Rattle.std.proofs.Common.{◌≡◌, ℕ, zero, suc, ◌+◌, ◌<◌, ◌⊎◌, inl, inr, List, [], ◌∷◌, arith}
 use Rattle.auto_core.specs.Run.{PathBy, end_of}
 use Rattle.auto_core.specs.Game.{AllMatched, Strict}
 use Rattle.path_laws.specs.Games.{IsFollowed}

@@ -1,9 +1,8 @@
 -- Towers of strict steps below a number, and how high they can be.
-use Rattle.std.proofs.Common.{◌≡◌, ℕ, zero, suc, ◌+◌, ◌<◌, ◌≤◌, inl, inr, List, [], ◌∷◌, refl, sym, ap, subst, arith}
+use Rattle.std.proofs.Common.{◌≡◌, ℕ, zero, suc, ◌+◌, ◌<◌, inl, inr, List, [], ◌∷◌, refl, sym, ap, subst, arith}
 use Rattle.auto_core.specs.Game.{Chain, Close, Strict, Holds, ArePairsBelow}
 use Rattle.auto_core.proofs.PathLemmas.{Contains-cons_cases, none_in_nil}
 use Rattle.path_laws.proofs.PumpingLemmas.{chain_join}
-use Rattle.path_laws.proofs.GameLemmas.{close_refl}
 use Rattle.path_laws.proofs.AppliedLemmas.{strict_steps_are_few}
 
 -- c strict steps lead up to p

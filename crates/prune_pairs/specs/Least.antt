@@ -1,5 +1,5 @@
 -- The least better transition, and the lists of the transitions that have one.
-use Rattle.std.specs.Prelude.{◌≡◌, ℕ, ◌<◌, ◌≤◌, List, All, Contains, map}
+use Rattle.std.specs.Prelude.{ℕ, ◌≤◌, List, All, Contains, map}
 use Rattle.std.specs.List.Sorted.{IsStrictlyIncreasing}
 use Rattle.auto_core.specs.Automaton.{Automaton}
 use Rattle.auto_core.specs.Pruning.{IsBetterAt, HasBetter}

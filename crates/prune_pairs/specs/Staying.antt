@@ -1,5 +1,5 @@
 -- The transitions that a cut leaves.
-use Rattle.std.specs.Prelude.{◌≡◌, ℕ, Bool, List, length, map, filter, not, ◌==◌}
+use Rattle.std.specs.Prelude.{ℕ, Bool, List, length, map, filter, not, ◌==◌}
 use Rattle.std.specs.List.{list_any, range_with_len}
 use Rattle.auto_core.specs.Automaton.{Automaton, trans_at}
 use Rattle.auto_core.specs.declared.parts.Trans.{Trans}

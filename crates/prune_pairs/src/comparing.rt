@@ -17,7 +17,7 @@ fn strictly(rel: &Rel, p: u32, q: u32) -> bool
 }
 
 /// Tells whether the pair of relations with this number relates the source `p` to the source `q`.
-fn at_source(pair: u32, back: &Rel, p: u32, q: u32) -> bool
+pub fn at_source(pair: u32, back: &Rel, p: u32, q: u32) -> bool
     requires pair_from { 1 ≤ pair }
     requires pair_upto { pair ≤ 4 }
     requires left { ¬ (pair ≡ 1) → p < back.now.size }

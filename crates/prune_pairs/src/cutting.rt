@@ -1,6 +1,6 @@
 //! Automata without some of their transitions.
 
-ghost use Rattle.std.specs.Prelude.{◌≡◌, ◌<◌, ◌==◌, length, filter, All, IfOk};
+ghost use Rattle.std.specs.Prelude.{◌≡◌, ◌==◌, filter, IfOk};
 ghost use Rattle.std.specs.List.{list_any, range_with_len};
 ghost use Rattle.std.specs.List.Sorted.{IsStrictlyIncreasing};
 ghost use Rattle.auto_core.specs.Automaton.{is_accepting};
@@ -48,8 +48,7 @@ fn accepting_states(alloc: Global, automaton: &Auto) -> Result<Vec<u32>, Memory>
 
 /// The automaton without the transitions that have these numbers, which ascend.
 pub fn cut(alloc: Global, automaton: &Auto, gone: &[u32]) -> Result<Auto, Memory>
-    requires ascending { IsStrictlyIncreasing gone.now }
-    requires numbers { All (λ t. t < length automaton.now.transitions) gone.now }
+    requires { IsStrictlyIncreasing gone.now }
     ensures { IfOk result (IsCut automaton.now gone.now) }
 {
     let transitions = staying(alloc, automaton, gone)?;

@@ -6,7 +6,7 @@ ghost use Rattle.auto_core.specs.Game.{Holds};
 ghost use Rattle.auto_core.specs.Pruning.{IsBetterAt, HasBetter};
 ghost use Rattle.prune_pairs.specs.Least.{IsLeastOf, HasNone, IsLeastBetter};
 
-use crate::comparing::better;
+use crate::comparing::{at_source, better};
 use auto_core::{Auto, Span};
 use bit_rel::Rel;
 
@@ -59,7 +59,7 @@ fn first_out_of(
     first_within(automaton, pair, back, ahead, t, span)
 }
 
-/// The same for pairs 3 and 4, where a state that `back` does not relate to the source has no such transition.
+/// The same for pairs 3 and 4: only a state that the pair relates to the source of `t` has such transitions.
 fn first_out_of_related(
     automaton: &Auto,
     pair: u32,
@@ -78,7 +78,7 @@ fn first_out_of_related(
     ensures none { IfNone result (HasNone (λ u. (trans_at automaton.now u).source ≡ source) (IsBetterAt automaton.now pair (Holds back.now.pairs) (Holds ahead.now.pairs) t)) }
 {
     let from = automaton.transitions()[t as usize].source;
-    if back.get(from, source) {
+    if at_source(pair, back, from, source) {
         first_out_of(automaton, pair, back, ahead, t, source)
     } else {
         None

@@ -1,6 +1,5 @@
-use Rattle.std.proofs.Common.{arith}
 use Rattle.auto_core.specs.Game.{Holds}
-use Rattle.prune_pairs.proofs.FindLemmas.{least_by_source, none_by_source, none_at_all}
+use Rattle.prune_pairs.proofs.FindLemmas.{least_by_source}
 use Rattle.prune_pairs.proofs.finding.first_by_source.Goals as goal
 
 pub returns-in-Some-clause-some : goal.returns-in-Some-clause-some

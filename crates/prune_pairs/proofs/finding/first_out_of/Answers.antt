@@ -1,6 +1,4 @@
-use Rattle.std.proofs.Common.{◌≡◌, ap}
 use Rattle.std.proofs.lemmas.Option.{IfSome_then}
-use Rattle.auto_core.specs.Automaton.{trans_at}
 use Rattle.auto_core.specs.Game.{Holds}
 use Rattle.prune_pairs.proofs.FindLemmas.{letter_read, least_out_of, none_out_of, if_none_then}
 use Rattle.prune_pairs.proofs.finding.first_out_of.Goals as goal

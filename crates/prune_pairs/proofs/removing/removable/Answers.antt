@@ -1,4 +1,4 @@
-use Rattle.std.proofs.Common.{ℕ, ◌+◌, ◌++◌, ◌∷◌, [], List, refl, sym, ◌∙◌, subst}
+use Rattle.std.proofs.Common.{ℕ, ◌+◌, List, refl, sym, ◌∙◌, subst}
 use Rattle.auto_core.specs.Game.{Holds}
 use Rattle.prune_pairs.specs.declared.removing.Gone.{Gone}
 use Rattle.prune_pairs.proofs.RemoveLemmas.{AreFound, found_none, found_more}
