@@ -7,7 +7,7 @@ use Rattle.std.proofs.lemmas.List.Elements.{All-contains}
 use Rattle.std.proofs.lemmas.List.Kept.{AllPairs-from_increasing}
 use Rattle.auto_core.specs.Automaton.{Automaton, IsAutomaton, Moves, IsBefore, trans, trans_at}
 use Rattle.auto_core.specs.Game.{Close, Holds, IsGreatest, IsWithin}
-use Rattle.auto_core.specs.Pruning.{AtSource, AtTarget, IsBetterAt, HasBetter, IsCut}
+use Rattle.auto_core.specs.Pruning.{AtSource, AtTarget, IsBetterAt, HasBetter, IsCut, IsGreatestBack, IsGreatestAhead}
 use Rattle.auto_core.specs.declared.parts.Trans.{Trans}
 use Rattle.auto_core.proofs.PathLemmas.{Contains-here, Contains-later, Contains-cons_cases, none_in_nil}
 use Rattle.auto_core.proofs.MoveLemmas.{number_of, move_at}
@@ -15,7 +15,7 @@ use Rattle.auto_core.proofs.MemberLemmas.{Rises, rises_from_pairs, same_members,
 use Rattle.auto_core.proofs.SetLemmas.{same_automaton, transitions_rise}
 use Rattle.path_laws.proofs.PumpingLemmas.{chain_weaker}
 use Rattle.prune_pairs.specs.Least.{IsLeastBetter, AreLeastBetter, numbers_of}
-use Rattle.prune_pairs.specs.Laws.{CutIsOne, PrunedIsOne, CutOfNothing, CutIsShorter, AgreeOnStates, BetterGoesByStates, RemovableArePruned, RemovableIsOne}
+use Rattle.prune_pairs.specs.Laws.{CutIsOne, PrunedIsOne, CutOfNothing, CutIsShorter, PrunedIsShorter, PrunedIsItself, AgreeOnStates, BetterGoesByStates, RemovableArePruned, RemovableIsOne}
 use Rattle.prune_pairs.specs.declared.removing.Gone.{Gone}
 
 -- ---- relations that hold the same pairs of states
@@ -89,37 +89,40 @@ cut_same A B C gone other same k l =
 pub cut_one : CutIsOne
 cut_one A B C gone k l = cut_same A B C gone gone (λ t. (λ h. h, λ h. h)) k l
 
+-- greatest relations are one, and so is what has a better one by them
+better_over : (A : Automaton) (n k : ℕ) (back ahead other_back other_ahead : List (ℕ × ℕ)) → IsAutomaton A → IsGreatestBack A n k back → IsGreatestAhead A n k ahead
+    → IsGreatestBack A n k other_back → IsGreatestAhead A n k other_ahead → (t : ℕ)
+    → HasBetter A n (Close (Holds back)) (Close (Holds ahead)) t → HasBetter A n (Close (Holds other_back)) (Close (Holds other_ahead)) t
+better_over A n k back ahead other_back other_ahead valid b a other_b other_a t (u, better) = (
+  u,
+  carry A n (Close (Holds back)) (Close (Holds other_back)) (Close (Holds ahead)) (Close (Holds other_ahead)) valid
+      (λ e. close_agree A back other_back (greatest_within _ _ _ _ back other_back (b e) (other_b e)) (greatest_within _ _ _ _ other_back back (other_b e) (b e)))
+      (λ e. close_agree A ahead other_ahead (greatest_within _ _ _ _ ahead other_ahead (a e) (other_a e)) (greatest_within _ _ _ _ other_ahead ahead (other_a e) (a e))) t u better,
+)
+
 pub pruned_one : PrunedIsOne
-pruned_one A B C n k valid p q = cut_same A B C p.gone q.gone (λ t. (to t, from t)) p.cut q.cut
-  where
-    back : ¬ (n ≡ 1) → AgreeOnStates A (Close (Holds p.back)) (Close (Holds q.back))
-    back e = close_agree A p.back q.back (greatest_within _ _ _ _ p.back q.back (p.greatest_back e) (q.greatest_back e)) (greatest_within _ _ _ _ q.back p.back (q.greatest_back e) (p.greatest_back e))
+pruned_one A B C n k valid p q = cut_same A B C p.gone q.gone
+    (λ t. (
+      λ h. (q.removable t).1 (better_over A n k p.back p.ahead q.back q.ahead valid p.greatest_back p.greatest_ahead q.greatest_back q.greatest_ahead t ((p.removable t).0 h)),
+      λ h. (p.removable t).1 (better_over A n k q.back q.ahead p.back p.ahead valid q.greatest_back q.greatest_ahead p.greatest_back p.greatest_ahead t ((q.removable t).0 h)),
+    ))
+    p.cut q.cut
 
-    ahead : ¬ (n ≡ 2) → AgreeOnStates A (Close (Holds p.ahead)) (Close (Holds q.ahead))
-    ahead e = close_agree A p.ahead q.ahead (greatest_within _ _ _ _ p.ahead q.ahead (p.greatest_ahead e) (q.greatest_ahead e)) (greatest_within _ _ _ _ q.ahead p.ahead (q.greatest_ahead e) (p.greatest_ahead e))
-
-    to : (t : ℕ) → Contains p.gone t → Contains q.gone t
-    to t h =
-        let (u, better) = (p.removable t).0 h in
-        (q.removable t).1 (u, carry A n (Close (Holds p.back)) (Close (Holds q.back)) (Close (Holds p.ahead)) (Close (Holds q.ahead)) valid back ahead t u better)
-
-    from : (t : ℕ) → Contains q.gone t → Contains p.gone t
-    from t h =
-        let (u, better) = (q.removable t).0 h in
-        (p.removable t).1 (
-          u,
-          carry A n (Close (Holds q.back)) (Close (Holds p.back)) (Close (Holds q.ahead)) (Close (Holds p.ahead)) valid
-              (λ e. agree_back A (Close (Holds p.back)) (Close (Holds q.back)) (back e)) (λ e. agree_back A (Close (Holds p.ahead)) (Close (Holds q.ahead)) (ahead e)) t u better,
-        )
+cut_itself : (A : Automaton) → IsAutomaton A → IsCut A [] A
+cut_itself A valid = record {
+  valid = valid;
+  states = refl;
+  labels = refl;
+  initial = refl;
+  moves = λ p a q. (
+    λ m. let (t, t_in, is) = number_of A p a q m in (t, t_in, is, none_in_nil t),
+    λ (t, t_in, is, left). let P : Trans → Type 0 = λ x. Contains A.transitions x in subst P is (move_at A t t_in),
+  );
+  accepting = refl;
+}
 
 pub cut_nothing : CutOfNothing
-cut_nothing A B valid k =
-    same_automaton B A k.valid valid k.states k.labels k.initial
-    (λ p a q. (
-      λ m. let (t, t_in, is, left) = (k.moves p a q).0 m in let P : Trans → Type 0 = λ x. Contains A.transitions x in subst P is (move_at A t t_in),
-      λ m. let (t, t_in, is) = number_of A p a q m in (k.moves p a q).1 (t, t_in, is, none_in_nil t),
-    ))
-    (λ q. (λ h. subst (λ l. Contains l q) k.accepting h, λ h. subst (λ l. Contains l q) (sym k.accepting) h))
+cut_nothing A B valid = (λ k. cut_one A B A [] k (cut_itself A valid), λ e. subst (IsCut A []) (sym e) (cut_itself A valid))
 
 -- a list that rises is no longer than one that has all its elements, and shorter if the other has one more
 module _ {X : Type 0} (R : X → X → Type 0) (asymmetric : (x y : X) → R x y → R y x → ⊥) where
@@ -180,6 +183,34 @@ cut_shorter A B gone t valid k there t_in =
     (λ x m. let (u, u_in, is, left) = (k.moves x.source x.label x.target).0 m in let P : Trans → Type 0 = λ y. Contains A.transitions y in subst P is (move_at A u u_in))
     (move_at A t t_in)
     (λ m. let (u, u_in, is, left) = (k.moves (trans_at A t).source (trans_at A t).label (trans_at A t).target).0 m in left (subst (Contains gone) (same_number A valid t u t_in u_in (sym is)) there))
+
+pub pruned_shorter : PrunedIsShorter
+pruned_shorter A B n k valid p = of_list p.gone p.cut (λ t h. (p.removable t).0 h)
+  where
+    of_list : (gone : List ℕ) → IsCut A gone B → ((t : ℕ) → Contains gone t → HasBetter A n (Close (Holds p.back)) (Close (Holds p.ahead)) t) → (B ≡ A) ⊎ (length B.transitions < length A.transitions)
+    of_list [] cut have = inl ((cut_nothing A B valid).0 cut)
+    of_list (t ∷ gone) cut have =
+        let there : Contains (t ∷ gone) t = Contains-here t t gone refl in
+        let better = have t there in
+        inr (cut_shorter A B (t ∷ gone) t valid cut there (better.1).is)
+
+pub pruned_itself : PrunedIsItself
+pruned_itself A n k back ahead valid greatest_back greatest_ahead = (
+  λ p t h.
+      let there : Contains p.gone t = (p.removable t).1 (better_over A n k back ahead p.back p.ahead valid greatest_back greatest_ahead p.greatest_back p.greatest_ahead t h) in
+      let better = h.1 in
+      let less = cut_shorter A A p.gone t valid p.cut there better.is in
+      omega arith,
+  λ none. record {
+    back = back;
+    ahead = ahead;
+    gone = [];
+    greatest_back = greatest_back;
+    greatest_ahead = greatest_ahead;
+    removable = λ t. (λ h. absurd (none_in_nil t h), λ h. absurd (none t h));
+    cut = cut_itself A valid;
+  },
+)
 
 -- ---- removable transitions
 

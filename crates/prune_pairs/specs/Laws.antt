@@ -1,5 +1,5 @@
 -- The laws of pruning.
-use Rattle.std.specs.Prelude.{◌≡◌, ℕ, ◌<◌, ◌≤◌, ◌↔◌, List, [], length, Contains}
+use Rattle.std.specs.Prelude.{◌≡◌, ℕ, ◌<◌, ◌≤◌, ◌⊎◌, ◌↔◌, List, [], length, Contains}
 use Rattle.auto_core.specs.Automaton.{Automaton, IsAutomaton}
 use Rattle.auto_core.specs.Accept.{Same}
 use Rattle.auto_core.specs.Game.{Close, Holds}
@@ -29,11 +29,20 @@ PrunedIsOne = (A B C : Automaton) (n k : ℕ) → IsAutomaton A → IsPruned A n
 
 -- Cutting nothing leaves the automaton.
 abbrev pub CutOfNothing : Type 0
-CutOfNothing = (A B : Automaton) → IsAutomaton A → IsCut A [] B → B ≡ A
+CutOfNothing = (A B : Automaton) → IsAutomaton A → IsCut A [] B ↔ (B ≡ A)
 
 -- Cutting something leaves fewer transitions.
 abbrev pub CutIsShorter : Type 0
 CutIsShorter = (A B : Automaton) (gone : List ℕ) (t : ℕ) → IsAutomaton A → IsCut A gone B → Contains gone t → t < length A.transitions → length B.transitions < length A.transitions
+
+-- Pruning leaves the automaton or makes it shorter.
+abbrev pub PrunedIsShorter : Type 0
+PrunedIsShorter = (A B : Automaton) (n k : ℕ) → IsAutomaton A → IsPruned A n k B → (B ≡ A) ⊎ (length B.transitions < length A.transitions)
+
+-- It leaves the automaton just where no transition has a better one by the greatest relations.
+abbrev pub PrunedIsItself : Type 0
+PrunedIsItself = (A : Automaton) (n k : ℕ) (back ahead : List (ℕ × ℕ)) → IsAutomaton A → IsGreatestBack A n k back → IsGreatestAhead A n k ahead →
+    IsPruned A n k A ↔ ((t : ℕ) → HasBetter A n (Close (Holds back)) (Close (Holds ahead)) t → ⊥)
 
 -- The two relations hold the same pairs of states.
 abbrev pub AgreeOnStates : Automaton → (ℕ → ℕ → Type 0) → (ℕ → ℕ → Type 0) → Type 0

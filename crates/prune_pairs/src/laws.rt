@@ -1,6 +1,6 @@
 //! The laws of pruning: each is the contract of a function that does nothing.
 
-ghost use Rattle.prune_pairs.specs.Laws.{PruningIsSame, PrunedIsSame, CutIsOne, PrunedIsOne, CutOfNothing, CutIsShorter, BetterGoesByStates, RemovableArePruned, RemovableIsOne};
+ghost use Rattle.prune_pairs.specs.Laws.{PruningIsSame, PrunedIsSame, CutIsOne, PrunedIsOne, CutOfNothing, CutIsShorter, PrunedIsShorter, PrunedIsItself, BetterGoesByStates, RemovableArePruned, RemovableIsOne};
 
 /// Cutting any transitions that each have a better one, by one approved pair over the closures of stable relations, leaves what is
 /// accepted, in both modes.
@@ -31,6 +31,16 @@ pub fn cut_of_nothing()
 /// Cutting something leaves fewer transitions.
 pub fn cut_is_shorter()
     ensures { CutIsShorter }
+{}
+
+/// Pruning leaves the automaton or leaves fewer transitions.
+pub fn pruned_is_shorter()
+    ensures { PrunedIsShorter }
+{}
+
+/// Pruning leaves the automaton just where no transition has a better one.
+pub fn pruned_is_itself()
+    ensures { PrunedIsItself }
 {}
 
 /// Which transition is better goes by the pairs of states alone, so that closures on the states serve for closures.
