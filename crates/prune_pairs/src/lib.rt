@@ -1,0 +1,15 @@
+//! Pruning: transitions that have a better one, and automata without them.
+#![tactic(auto)]
+
+mod comparing;
+mod cutting;
+mod finding;
+pub mod laws;
+mod removing;
+
+pub use comparing::better;
+pub use cutting::cut;
+pub use removing::{Gone, removable};
+
+#[cfg(test)]
+mod tests;
