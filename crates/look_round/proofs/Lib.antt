@@ -3,3 +3,4 @@ pub mod ReplyLemmas
 pub mod StepLemmas
 pub mod RoundLemmas
 pub mod RoundLoop
+pub mod IncomingLemmas

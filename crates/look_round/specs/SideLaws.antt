@@ -1,14 +1,16 @@
 -- The moves of the lists are the transitions.
 use Rattle.std.specs.Prelude.{◌≡◌, ℕ, ◌<◌, ◌↔◌, List, [], ◌∷◌, map, ◌==◌, Bool, true, false, cond, Contains, refl}
 use Rattle.std.specs.List.{filter}
-use Rattle.std.proofs.Common.{◌⊎◌, inl, inr, sym, ap, ◌∙◌}
+use Rattle.std.proofs.Common.{◌⊎◌, inl, inr, sym, ap, ◌∙◌, subst}
 use Rattle.std.proofs.lemmas.Bool.{eqb-true, eq-eqb, false≢true}
 use Rattle.auto_core.specs.Automaton.{Automaton, IsAutomaton, Moves, trans}
 use Rattle.auto_core.proofs.MoveLemmas.{move_in_range}
 use Rattle.auto_core.specs.declared.parts.Trans.{Trans}
+use Rattle.auto_core.specs.Game.{BackwardMoves}
+use Rattle.auto_core.proofs.MemberLemmas.{map_has, map_from, filter_has, filter_from}
 use Rattle.auto_core.proofs.PathLemmas.{Contains-here, Contains-later, Contains-cons_cases, none_in_nil}
 use Rattle.look_round.specs.declared.moves.Move.{Move}
-use Rattle.look_round.specs.Sides.{move, move_of, forward_moves}
+use Rattle.look_round.specs.Sides.{move, move_of, forward_moves, turned_move, backward_moves}
 
 -- the transitions out of p as moves
 abbrev out_of : List Trans → ℕ → List Move
@@ -55,3 +57,17 @@ forward_lists A p a q = (from_list A.transitions p a q, to_list A.transitions p 
 -- moves forward lead to states
 pub forward_stays : (A : Automaton) → IsAutomaton A → (p a q : ℕ) → Moves A p a q → q < A.states
 forward_stays A valid p a q m = (move_in_range A valid p a q m).1
+
+-- p moves backward by a to q exactly where its list has this move.
+pub backward_lists : (A : Automaton) (p a q : ℕ) → Contains (backward_moves A p) (move a q) ↔ BackwardMoves A p a q
+backward_lists A p a q = (
+  λ h.
+      let (t, in_filter, is) = map_from turned_move (filter (λ (t : Trans). t.target == p) A.transitions) (move a q) h in
+      let (there, passes) = filter_from (λ (t : Trans). t.target == p) A.transitions t in_filter in
+      subst (Contains A.transitions) (whole t.source q t.label a t.target p (ap (λ (m : Move). m.to) is) (ap (λ (m : Move). m.label) is) (eqb-true t.target p passes)) there,
+  λ m. map_has turned_move (filter (λ (t : Trans). t.target == p) A.transitions) (trans q a p) (filter_has (λ (t : Trans). t.target == p) A.transitions (trans q a p) m (eq-eqb p p refl)),
+)
+
+-- moves backward lead to states
+pub backward_stays : (A : Automaton) → IsAutomaton A → (p a q : ℕ) → BackwardMoves A p a q → q < A.states
+backward_stays A valid p a q m = (move_in_range A valid q a p m).0

@@ -16,3 +16,11 @@ move_of t = move t.label t.target
 -- The moves forward out of p: the transitions whose source it is, in their order.
 abbrev pub forward_moves : Automaton → ℕ → List Move
 forward_moves A p = map move_of (filter (λ (t : Trans). t.source == p) A.transitions)
+
+-- The transition as a move from its target to its source.
+abbrev pub turned_move : Trans → Move
+turned_move t = move t.label t.source
+
+-- The moves backward out of p: the transitions whose target it is, in their order.
+abbrev pub backward_moves : Automaton → ℕ → List Move
+backward_moves A p = map turned_move (filter (λ (t : Trans). t.target == p) A.transitions)

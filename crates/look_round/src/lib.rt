@@ -10,7 +10,7 @@ mod sides;
 pub use moves::Move;
 pub use round::round_holds;
 pub use scratch::Scratch;
-pub use sides::{Forward, Side};
+pub use sides::{Backward, Forward, Side};
 
 #[cfg(test)]
 mod tests;

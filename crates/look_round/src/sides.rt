@@ -2,10 +2,10 @@
 
 ghost use Rattle.std.specs.Prelude.{◌≡◌, ◌<◌, ◌↔◌, ℕ, List, length, Contains, slice_index_or, IsTrue};
 ghost use Rattle.auto_core.specs.Automaton.{Automaton, IsAutomaton, Moves};
-ghost use Rattle.auto_core.specs.Game.{MatchesForward};
+ghost use Rattle.auto_core.specs.Game.{BackwardMoves, MatchesForward, MatchesBackward};
 ghost use Rattle.look_round.specs.declared.moves.Move.{Move};
-ghost use Rattle.look_round.specs.Sides.{move, forward_moves};
-ghost use Rattle.look_round.specs.SideLaws.{forward_lists, forward_stays};
+ghost use Rattle.look_round.specs.Sides.{move, forward_moves, backward_moves};
+ghost use Rattle.look_round.specs.SideLaws.{forward_lists, forward_stays, backward_lists, backward_stays};
 
 use crate::moves::Move;
 use auto_core::Auto;
@@ -41,6 +41,19 @@ pub trait Side {
     ghost lists: { (s : Self) (A : Automaton) (p a q : ℕ) → Contains (list s A p) (move a q) ↔ goes s A p a q };
 }
 
+/// Tells whether `q` is accepting if `p` is.
+fn accepting_if(automaton: &Auto, p: u32, q: u32) -> bool
+    requires left { p < automaton.now.states }
+    requires right { q < automaton.now.states }
+    ensures { IsTrue result ↔ MatchesForward automaton.now automaton.now p q }
+{
+    if automaton.accepting(p) {
+        automaton.accepting(q)
+    } else {
+        true
+    }
+}
+
 /// The side of the transitions as they are: moves go from source to target, and an accepting state asks for an accepting one.
 #[derive(Clone, Copy, Debug)]
 pub struct Forward;
@@ -70,10 +83,42 @@ impl Side for Forward {
     }
 
     fn matched(&self, automaton: &Auto, p: u32, q: u32) -> bool {
-        if automaton.accepting(p) {
-            automaton.accepting(q)
-        } else {
-            true
+        accepting_if(automaton, p, q)
+    }
+}
+
+/// The side of the transitions turned round: moves go from target to source, and an initial state asks for an initial one besides.
+#[derive(Clone, Copy, Debug)]
+pub struct Backward;
+
+impl Side for Backward {
+    ghost list = { λ _ A p. backward_moves A p };
+
+    ghost goes = { λ _ A. BackwardMoves A };
+
+    ghost keeps = { λ _ A. MatchesBackward A A };
+
+    ghost stays = { λ _ A valid p a q m. backward_stays A valid p a q m };
+
+    ghost lists = { λ _ A p a q. backward_lists A p a q };
+
+    fn moves(&self, automaton: &Auto, state: u32) -> u32 {
+        automaton.predecessors(state).len() as u32
+    }
+
+    fn nth(&self, automaton: &Auto, state: u32, at: u32) -> Move {
+        let number = automaton.predecessors(state)[at as usize];
+        let t = automaton.transitions()[number as usize];
+        Move {
+            label: t.label,
+            to: t.source,
         }
+    }
+
+    fn matched(&self, automaton: &Auto, p: u32, q: u32) -> bool {
+        if p == automaton.initial() && q != automaton.initial() {
+            return false;
+        }
+        accepting_if(automaton, p, q)
     }
 }

@@ -1,0 +1,79 @@
+-- The greatest backward relation: paths by it, and that it relates each state to itself.
+use Rattle.std.proofs.Common.{◌≡◌, ℕ, zero, suc, ◌<◌, ◌≤◌, inl, inr, Bool, true, false, cond, ◌==◌, List, [], ◌∷◌, ◌++◌, refl, sym, ap, ◌∙◌, subst, arith}
+use Rattle.std.proofs.lemmas.Bool.{eqb-true, eq-eqb, cases_eq}
+use Rattle.std.proofs.lemmas.List.Elements.{Contains-append_left, Contains-append_right, Contains-append_cases}
+use Rattle.auto_core.proofs.PathLemmas.{Contains-here, Contains-later, Contains-cons_cases, none_in_nil}
+use Rattle.auto_core.proofs.MoveLemmas.{move_in_range}
+use Rattle.auto_core.specs.Automaton.{Automaton, IsAutomaton}
+use Rattle.auto_core.specs.Run.{PathBy}
+use Rattle.auto_core.specs.Game.{BackwardMoves, MatchesBackward, Answers, Round, Holds, ArePairsBelow, StableBackward}
+use Rattle.bit_rel.specs.Relation.{Relation, IsClosed}
+use Rattle.path_laws.proofs.AppliedLemmas.{followed_backward, followed_to_the_end}
+use Rattle.path_laws.proofs.GameLemmas.{close_refl, close_trans}
+use Rattle.backward_sim.specs.Preorders.{IsPreorder, GreatestIsOne, GreatestIsFollowed, GreatestReachesTheEnd, GreatestIsReflexive}
+
+pub greatest_is_one : GreatestIsOne
+greatest_is_one A k S T s t p q = (λ h. t.has_each S s.in_range s.stable p q h, λ h. s.has_each T t.in_range t.stable p q h)
+
+pub greatest_is_followed : GreatestIsFollowed
+greatest_is_followed A k S some s p q close = followed_backward A k S some s.stable p q close
+
+pub greatest_reaches_the_end : GreatestReachesTheEnd
+greatest_reaches_the_end A k S some s p q close = followed_to_the_end A k S some s.stable p q close
+
+-- the pairs of equal numbers below n
+same_below : ℕ → List (ℕ × ℕ)
+same_below zero = []
+same_below (suc n) = (n, n) ∷ same_below n
+
+same_holds : (n p q : ℕ) → Holds (same_below n) p q → (p ≡ q) × (p < n)
+unfolding same_below
+same_holds zero p q h = absurd (none_in_nil (p, q) h)
+same_holds (suc n) p q h = elim (Contains-cons_cases (n, n) (p, q) (same_below n) h) [
+  | inl e ↦
+      let left : n ≡ p = ap (λ (x : ℕ × ℕ). x.0) e in
+      let right : n ≡ q = ap (λ (x : ℕ × ℕ). x.1) e in
+      (sym left ∙ right, omega arith)
+  | inr later ↦ let is = same_holds n p q later in let lt = is.1 in (is.0, omega arith)
+]
+
+same_has : (n p : ℕ) → p < n → Holds (same_below n) p p
+unfolding same_below
+same_has zero p lt = absurd (omega arith)
+same_has (suc n) p lt = elim (cases_eq p n) [
+  | inl e ↦ Contains-here (n, n) (p, p) (same_below n) (ap (λ x. (x, x)) (sym e))
+  | inr apart ↦ Contains-later (n, n) (p, p) (same_below n) (same_has n p (omega arith))
+]
+
+-- each path is answered by itself
+answered_by_itself :
+    (A : Automaton) → IsAutomaton A → (p a : ℕ) (w ps : List ℕ) → PathBy (BackwardMoves A) p (a ∷ w) ps → Answers (BackwardMoves A) (MatchesBackward A A) (Holds (same_below A.states)) p (a ∷ w) ps
+answered_by_itself A valid p a w [] path = absurd path
+answered_by_itself A valid p a w (r ∷ ps) (move, rest) = (r, move, (λ h. h, λ h. h), inl (same_has A.states r (move_in_range A valid r a p move).0))
+
+same_is_stable : (A : Automaton) (k : ℕ) → IsAutomaton A → 1 ≤ k → StableBackward A k (same_below A.states)
+same_is_stable A k valid some p q h =
+    let is = same_holds A.states p q h in
+    let P : ℕ → Type 0 = λ x. MatchesBackward A A p x × Round (BackwardMoves A) (BackwardMoves A) (MatchesBackward A A) k (Holds (same_below A.states)) p x in
+    subst P is.0 ((λ x. x, λ x. x), round)
+  where
+    round : Round (BackwardMoves A) (BackwardMoves A) (MatchesBackward A A) k (Holds (same_below A.states)) p p
+    round [] ps path may = absurd (elim may [ inl e ↦ omega arith | inr short ↦ let lt = short.0 in omega arith ])
+    round (a ∷ w) ps path may = answered_by_itself A valid p a w ps path
+
+pub greatest_is_reflexive : GreatestIsReflexive
+greatest_is_reflexive A k S valid some s p lt = s.has_each (same_below A.states) below (same_is_stable A k valid some) p p (same_has A.states p lt)
+  where
+    below : ArePairsBelow A.states A.states (same_below A.states)
+    below p q h = let is = same_holds A.states p q h in let lt = is.1 in let e = is.0 in (lt, omega arith)
+
+-- A closure is a preorder.
+pub closed_is_preorder : (n : ℕ) (G R : Relation) → G.size ≡ n → IsClosed G R → IsPreorder n R.pairs
+closed_is_preorder n G R size closed = record {
+  in_range = λ p q h. let is = (closed.pairs p q).0 h in let left = is.0 in let right = is.1 in (omega arith, omega arith);
+  reflexive = λ p lt. (closed.pairs p p).1 (omega arith, omega arith, close_refl (Holds G.pairs) p);
+  transitive = λ p q r h k.
+      let one = (closed.pairs p q).0 h in
+      let two = (closed.pairs q r).0 k in
+      (closed.pairs p r).1 (one.0, two.1, close_trans (Holds G.pairs) p q r one.2 two.2);
+}

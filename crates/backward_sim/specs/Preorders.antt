@@ -1,0 +1,40 @@
+-- The greatest backward relation and its closure.
+use Rattle.std.specs.Prelude.{◌≡◌, ℕ, ◌<◌, ◌≤◌, ◌↔◌, List, ◌∷◌}
+use Rattle.auto_core.specs.Automaton.{Automaton, IsAutomaton}
+use Rattle.auto_core.specs.Run.{Path, PathBy, end_of}
+use Rattle.auto_core.specs.Game.{BackwardMoves, MatchesBackward, AllMatched, Holds, ArePairsBelow, Close, IsGreatestBackward}
+use Rattle.bit_rel.specs.Relation.{Relation, IsClosed}
+use Rattle.path_laws.specs.Games.{IsFollowed}
+
+-- The list relates numbers below n, each to itself, and p to r if it relates p to q and q to r.
+pub record IsPreorder (n : ℕ) (S : List (ℕ × ℕ)) : Type 0 where
+  pub in_range : ArePairsBelow n n S
+  pub reflexive : (p : ℕ) → p < n → Holds S p p
+  pub transitive : (p q r : ℕ) → Holds S p q → Holds S q r → Holds S p r
+
+-- The relation is the closure of the greatest backward relation on the automaton's states.
+pub record IsGreatestClosed (A : Automaton) (k : ℕ) (R : Relation) : Type 0 where
+  pub greatest : Relation
+  pub on_states : greatest.size ≡ A.states
+  pub is_greatest : IsGreatestBackward A k greatest.pairs
+  pub closed : IsClosed greatest R
+
+-- Two greatest backward relations at one lookahead hold the same pairs.
+abbrev pub GreatestIsOne : Type 0
+GreatestIsOne = (A : Automaton) (k : ℕ) (S T : List (ℕ × ℕ)) → IsGreatestBackward A k S → IsGreatestBackward A k T → (p q : ℕ) → Holds S p q ↔ Holds T p q
+
+-- The closure of the greatest backward relation relates p to q only if q is accepting where p is and initial where p is, and each path
+-- of the moves backward from p is followed from q by one on the same word, accepting and initial wherever the first is.
+abbrev pub GreatestIsFollowed : Type 0
+GreatestIsFollowed = (A : Automaton) (k : ℕ) (S : List (ℕ × ℕ)) → 1 ≤ k → IsGreatestBackward A k S → (p q : ℕ) → Close (Holds S) p q →
+    MatchesBackward A A p q × ((w ps : List ℕ) → PathBy (BackwardMoves A) p w ps → IsFollowed (BackwardMoves A) (MatchesBackward A A) q w ps)
+
+-- So each path that ends in p has one on the same word that ends in q, accepting and initial wherever the first is, its first state too.
+abbrev pub GreatestReachesTheEnd : Type 0
+GreatestReachesTheEnd = (A : Automaton) (k : ℕ) (S : List (ℕ × ℕ)) → 1 ≤ k → IsGreatestBackward A k S → (p q : ℕ) → Close (Holds S) p q →
+    (s : ℕ) (w ps : List ℕ) → Path A s w ps → end_of s ps ≡ p →
+    (t : ℕ) × (qs : List ℕ) × Path A t w qs × (end_of t qs ≡ q) × AllMatched (MatchesBackward A A) (s ∷ ps) (t ∷ qs)
+
+-- The greatest backward relation relates each state to itself, at each lookahead.
+abbrev pub GreatestIsReflexive : Type 0
+GreatestIsReflexive = (A : Automaton) (k : ℕ) (S : List (ℕ × ℕ)) → IsAutomaton A → 1 ≤ k → IsGreatestBackward A k S → (p : ℕ) → p < A.states → Holds S p p
