@@ -2,13 +2,13 @@
 use Rattle.std.specs.Prelude.{◌≡◌, ℕ, zero, suc, ◌⊎◌, List, [], ◌∷◌, ◌++◌}
 use Rattle.std.specs.List.Sorted.{IsStrictlyIncreasing}
 use Rattle.auto_core.specs.Automaton.{Automaton}
-use Rattle.auto_core.specs.Game.{Close, Holds, IsGreatestForward}
+use Rattle.auto_core.specs.Game.{Close, Holds, IsGreatestForward, IsGreatestBackward}
 use Rattle.auto_core.specs.Useful.{AreUseful}
 use Rattle.auto_core.specs.Quotient.{AreClassesOf}
 use Rattle.auto_core.specs.declared.parts.Mode.{Mode}
 use Rattle.bit_rel.specs.Relation.{Relation, IsRelation}
 use Rattle.reduce_loop.specs.declared.steps.Kind.{Kind}
-use Rattle.reduce_loop.specs.declared.steps.Kind.TheVariants.{Trim, Forward}
+use Rattle.reduce_loop.specs.declared.steps.Kind.TheVariants.{Trim, Forward, Backward}
 use Rattle.reduce_loop.specs.declared.steps.Step.{Step}
 use Rattle.reduce_loop.specs.declared.steps.Step.TheVariants as step
 use Rattle.reduce_loop.specs.declared.steps.MergeBy.TheVariants as by
@@ -32,6 +32,8 @@ abbrev pub IsEntry : Automaton → Mode → ℕ → Kind → Step → Type 0
 IsEntry A mode k Trim entry = (kept : List ℕ) × (entry ≡ step.Trim kept) × IsUsefulList A mode kept
 IsEntry A mode k Forward entry =
     (rel : Relation) × (classes : List ℕ) × (entry ≡ step.Merge (by.Forward k rel) classes) × IsMergeOf A (IsGreatestForward A k) rel classes
+IsEntry A mode k Backward entry =
+    (rel : Relation) × (classes : List ℕ) × (entry ≡ step.Merge (by.Backward k rel) classes) × IsMergeOf A (IsGreatestBackward A k) rel classes
 
 -- What is logged of a step from A to B: nothing where it changed nothing, and else its entry alone.
 abbrev pub IsLogged : Automaton → Mode → ℕ → Kind → Automaton → List Step → Type 0

@@ -1,11 +1,11 @@
 -- Automata in which no step finds anything to do.
 use Rattle.std.specs.Prelude.{◌≡◌, ℕ, ◌<◌, List, Contains}
 use Rattle.auto_core.specs.Automaton.{Automaton}
-use Rattle.auto_core.specs.Game.{Close, Holds, IsGreatestForward}
+use Rattle.auto_core.specs.Game.{Close, Holds, IsGreatestForward, IsGreatestBackward}
 use Rattle.auto_core.specs.Useful.{IsTrimmed}
 use Rattle.auto_core.specs.declared.parts.Mode.{Mode}
 use Rattle.reduce_loop.specs.declared.steps.Kind.{Kind}
-use Rattle.reduce_loop.specs.declared.steps.Kind.TheVariants.{Trim, Forward}
+use Rattle.reduce_loop.specs.declared.steps.Kind.TheVariants.{Trim, Forward, Backward}
 use Rattle.reduce_loop.specs.Kinds.{kinds_of}
 
 -- No two different states of A are related both ways by R.
@@ -16,6 +16,7 @@ HasNoTwins A R = (p q : ℕ) → p < A.states → q < A.states → R p q → R q
 abbrev pub IsSettledAt : Automaton → Mode → ℕ → Kind → Type 0
 IsSettledAt A mode k Trim = IsTrimmed A mode A
 IsSettledAt A mode k Forward = (S : List (ℕ × ℕ)) → IsGreatestForward A k S → HasNoTwins A (Close (Holds S))
+IsSettledAt A mode k Backward = (S : List (ℕ × ℕ)) → IsGreatestBackward A k S → HasNoTwins A (Close (Holds S))
 
 -- No step of the mode has anything to do.
 abbrev pub IsSettled : Automaton → Mode → ℕ → Type 0

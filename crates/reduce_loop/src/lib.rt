@@ -2,6 +2,7 @@
 #![tactic(auto)]
 
 mod copying;
+mod joining;
 pub mod laws;
 mod making;
 mod reducing;

@@ -15,9 +15,9 @@ use crate::steps::{Kind, Reduced, Step};
 use auto_core::{Auto, List, Memory, Mode};
 use std::alloc::Global;
 
-static BUCHI_KINDS: [Kind; 2] = [Kind::Trim, Kind::Forward];
+static BUCHI_KINDS: [Kind; 3] = [Kind::Trim, Kind::Forward, Kind::Backward];
 
-static FINITE_KINDS: [Kind; 2] = [Kind::Trim, Kind::Forward];
+static FINITE_KINDS: [Kind; 3] = [Kind::Trim, Kind::Forward, Kind::Backward];
 
 /// The steps of one pass, in order.
 fn kinds(mode: Mode) -> &'static [Kind]

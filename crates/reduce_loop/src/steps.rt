@@ -10,6 +10,8 @@ pub enum Kind {
     Trim,
     /// States that the forward relation joins become one.
     Forward,
+    /// States that the backward relation joins become one.
+    Backward,
 }
 
 /// What joined the states that became one.
@@ -17,6 +19,13 @@ pub enum Kind {
 pub enum MergeBy {
     /// The greatest forward relation, which is not closed.
     Forward {
+        /// Its lookahead.
+        look: u32,
+        /// The relation.
+        rel: Rel,
+    },
+    /// The greatest backward relation, which is not closed.
+    Backward {
         /// Its lookahead.
         look: u32,
         /// The relation.

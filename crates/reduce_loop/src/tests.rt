@@ -48,6 +48,17 @@ fn small_automata_are_reduced(rt: HostRuntime) -> Result<(), Fail> {
     let fork = Auto::build(alloc, 4, 2, 0, &moves, &[1, 2])?;
     assert_eq!(rt; counts(alloc, &fork, Mode::Buchi, 1)?, (2, 2, 2));
     assert_eq!(rt; counts(alloc, &fork, Mode::Finite, 3)?, (2, 2, 2));
+    // two states that are reached alike, and lead on by different letters
+    let moves = [
+        step(0, 0, 1),
+        step(0, 0, 2),
+        step(1, 1, 3),
+        step(2, 2, 3),
+        step(3, 0, 3),
+    ];
+    let alike = Auto::build(alloc, 4, 3, 0, &moves, &[3])?;
+    assert_eq!(rt; counts(alloc, &alike, Mode::Buchi, 1)?, (3, 4, 1));
+    assert_eq!(rt; counts(alloc, &alike, Mode::Finite, 2)?, (3, 4, 1));
     // nothing to do
     let loops = Auto::build(alloc, 1, 1, 0, &[step(0, 0, 0)], &[0])?;
     assert_eq!(rt; counts(alloc, &loops, Mode::Buchi, 6)?, (1, 1, 0));

@@ -1,6 +1,6 @@
 use Rattle.std.proofs.Common.{◌≤◌, arith}
 use Rattle.reduce_loop.proofs.MakingLemmas.{row_more, closed_as}
-use Rattle.reduce_loop.proofs.making.closure.Goals as goal
+use Rattle.reduce_loop.proofs.joining.closure.Goals as goal
 
 pub loop-p-preserved : goal.loop-p-preserved
 loop-p-preserved c = row_more c.args.rel.now c.loop-p.made c.add_row.new.made c.loop-p.p c.loop-p.invariant c.add_row.ensures.size c.add_row.ensures.pairs

@@ -3,8 +3,8 @@ use Rattle.std.proofs.lemmas.Bool.{iff_false}
 use Rattle.auto_core.specs.Game.{Holds}
 use Rattle.bit_rel.specs.Relation.{Relation}
 use Rattle.reduce_loop.proofs.MakingLemmas.{HasUpto, pair_added, pair_passed, row_copied}
-use Rattle.reduce_loop.proofs.making.add_row.Goals as goal
-use Rattle.reduce_loop.proofs.making.add_row.Goals.{then-get, else-get}
+use Rattle.reduce_loop.proofs.joining.add_row.Goals as goal
+use Rattle.reduce_loop.proofs.joining.add_row.Goals.{then-get, else-get}
 
 pub loop-q-preserved : goal.loop-q-preserved
 loop-q-preserved c =

@@ -3,7 +3,7 @@ use Rattle.auto_core.specs.Game.{Holds, Close}
 use Rattle.auto_core.specs.Quotient.{AreClassesOf}
 use Rattle.quotient.proofs.CountLemmas.{closed_reflexive, closed_transitive}
 use Rattle.reduce_loop.proofs.MakingLemmas.{classes_as}
-use Rattle.reduce_loop.proofs.making.classes.Goals as goal
+use Rattle.reduce_loop.proofs.joining.classes.Goals as goal
 
 pub classes_of-requires-clause-reflexive : goal.classes_of-requires-clause-reflexive
 classes_of-requires-clause-reflexive c = closed_reflexive c.args.rel.now c.in_ok-closed.closed c.in_ok-closed.ensures.closed
