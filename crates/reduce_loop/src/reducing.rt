@@ -32,31 +32,31 @@ fn kinds(mode: Mode) -> &'static [Kind]
 /// Takes a step, and logs it if it changed something.
 fn take(alloc: Global, state: Reduced, kind: Kind, mode: Mode, look: u32) -> Result<Reduced, Memory>
     requires listed { Contains (kinds_of mode) kind }
-    requires few { state.automaton.states ≤ 65535 }
+    requires few { state.auto.states ≤ 65535 }
     requires look_from { 1 ≤ look }
     requires look_upto { look ≤ 6 }
-    ensures after { IfOk result (λ new. After state.automaton mode look kind new.automaton) }
-    ensures logged { IfOk result (λ new. (now : List Step) × IsLogged state.automaton mode look kind new.automaton now × (new.log ≡ state.log ++ now)) }
+    ensures after { IfOk result (λ new. After state.auto mode look kind new.auto) }
+    ensures logged { IfOk result (λ new. (now : List Step) × IsLogged state.auto mode look kind new.auto now × (new.log ≡ state.log ++ now)) }
 {
-    let made = make(alloc, &state.automaton, kind, mode, look)?;
-    if is_same(&made.automaton, &state.automaton) {
+    let made = make(alloc, &state.auto, kind, mode, look)?;
+    if is_same(&made.automaton, &state.auto) {
         return Ok(state);
     }
     let mut log = state.log;
     log.push(made.entry)?;
     Ok(Reduced {
-        automaton: made.automaton,
+        auto: made.automaton,
         log,
     })
 }
 
 /// Takes the steps of one pass.
 fn pass(alloc: Global, state: Reduced, mode: Mode, look: u32) -> Result<Reduced, Memory>
-    requires few { state.automaton.states ≤ 65535 }
+    requires few { state.auto.states ≤ 65535 }
     requires look_from { 1 ≤ look }
     requires look_upto { look ≤ 6 }
-    requires valid { IsAutomaton state.automaton }
-    ensures { IfOk result (λ new. LogsOn state.automaton mode look (kinds_of mode) state.log new.automaton new.log) }
+    requires valid { IsAutomaton state.auto }
+    ensures { IfOk result (λ new. LogsOn state.auto mode look (kinds_of mode) state.log new.auto new.log) }
 {
     let mut state = state;
     for kind in kinds(mode) {
@@ -71,13 +71,13 @@ pub fn reduce(alloc: Global, automaton: &Auto, mode: Mode, look: u32) -> Result<
     requires few { automaton.now.states ≤ 65535 }
     requires look_from { 1 ≤ look }
     requires look_upto { look ≤ 6 }
-    ensures reduced { IfOk result (λ r. IsReduced automaton.now mode look r.automaton) }
-    ensures log { IfOk result (λ r. IsLog automaton.now mode look r.automaton r.log) }
-    ensures same { IfOk result (λ r. Same automaton.now r.automaton mode) }
-    ensures settled { IfOk result (λ r. IsSettled r.automaton mode look) }
+    ensures reduced { IfOk result (λ r. IsReduced automaton.now mode look r.auto) }
+    ensures log { IfOk result (λ r. IsLog automaton.now mode look r.auto r.log) }
+    ensures same { IfOk result (λ r. Same automaton.now r.auto mode) }
+    ensures settled { IfOk result (λ r. IsSettled r.auto mode look) }
 {
     let mut state = Reduced {
-        automaton: copied(alloc, automaton)?,
+        auto: copied(alloc, automaton)?,
         log: List::new(alloc),
     };
     loop {

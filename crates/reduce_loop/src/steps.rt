@@ -54,7 +54,7 @@ pub enum Step {
 #[derive(Debug, Drop)]
 pub struct Reduced {
     /// What it became.
-    pub automaton: Auto,
+    pub auto: Auto,
     /// The steps that changed something, in order.
     pub log: List<Step>,
 }

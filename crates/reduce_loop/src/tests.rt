@@ -28,8 +28,8 @@ fn counts(
 {
     let reduced = reduce(alloc, automaton, mode, look)?;
     Ok((
-        reduced.automaton.states(),
-        reduced.automaton.transitions().len(),
+        reduced.auto.states(),
+        reduced.auto.transitions().len(),
         reduced.log.as_slice().len(),
     ))
 }

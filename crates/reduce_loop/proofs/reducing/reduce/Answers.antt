@@ -8,14 +8,14 @@ use Rattle.reduce_loop.proofs.reducing.reduce.Goals as goal
 use Rattle.reduce_loop.proofs.reducing.reduce.Goals.{Then-as_slice-before, Else-as_slice-before}
 
 -- the log where the passes end
-log_at_end : (c : goal.Then-as_slice-before) → IsLog c.args.automaton.now c.args.mode c.args.look c.in_ok-state.state.automaton c.in_ok-state.state.log
+log_at_end : (c : goal.Then-as_slice-before) → IsLog c.args.automaton.now c.args.mode c.args.look c.in_ok-state.state.auto c.in_ok-state.state.log
 log_at_end c =
     let len : length c.in_ok-state.state.log ≡ length c.loop-state.state.log = ap length (sym c.as_slice.ensures) ∙ c.if-as_slice-before.true ∙ ap length c.as_slice-before.ensures in
-    ends c.args.automaton.now c.loop-state.state.automaton c.in_ok-state.state.automaton c.args.mode c.args.look c.loop-state.state.log c.in_ok-state.state.log
+    ends c.args.automaton.now c.loop-state.state.auto c.in_ok-state.state.auto c.args.mode c.args.look c.loop-state.state.log c.in_ok-state.state.log
     c.loop-state.invariant.0 c.loop-state.invariant.2 c.in_ok-state.ensures len
 
-reduced_at_end : (c : goal.Then-as_slice-before) → IsReduced c.args.automaton.now c.args.mode c.args.look c.in_ok-state.state.automaton
-reduced_at_end c = log_of_reduced c.args.automaton.now c.in_ok-state.state.automaton c.args.mode c.args.look c.in_ok-state.state.log (log_at_end c)
+reduced_at_end : (c : goal.Then-as_slice-before) → IsReduced c.args.automaton.now c.args.mode c.args.look c.in_ok-state.state.auto
+reduced_at_end c = log_of_reduced c.args.automaton.now c.in_ok-state.state.auto c.args.mode c.args.look c.in_ok-state.state.log (log_at_end c)
 
 pub returns-then-as_slice-before-clause-reduced : goal.returns-then-as_slice-before-clause-reduced
 returns-then-as_slice-before-clause-reduced c = reduced_at_end c
@@ -24,13 +24,13 @@ pub returns-then-as_slice-before-clause-log : goal.returns-then-as_slice-before-
 returns-then-as_slice-before-clause-log c = log_at_end c
 
 pub returns-then-as_slice-before-clause-same : goal.returns-then-as_slice-before-clause-same
-returns-then-as_slice-before-clause-same c = reduced_same c.args.automaton.now c.in_ok-state.state.automaton c.args.mode c.args.look c.in_ok-copied.ensures.valid c.requires.look_from (reduced_at_end c)
+returns-then-as_slice-before-clause-same c = reduced_same c.args.automaton.now c.in_ok-state.state.auto c.args.mode c.args.look c.in_ok-copied.ensures.valid c.requires.look_from (reduced_at_end c)
 
 pub returns-then-as_slice-before-clause-settled : goal.returns-then-as_slice-before-clause-settled
-returns-then-as_slice-before-clause-settled c = reduced_settled c.args.automaton.now c.in_ok-state.state.automaton c.args.mode c.args.look c.in_ok-copied.ensures.valid c.requires.look_from (reduced_at_end c)
+returns-then-as_slice-before-clause-settled c = reduced_settled c.args.automaton.now c.in_ok-state.state.auto c.args.mode c.args.look c.in_ok-copied.ensures.valid c.requires.look_from (reduced_at_end c)
 
-further : (c : goal.Else-as_slice-before) → IsFurther c.args.automaton.now c.loop-state.state.automaton c.in_ok-state.state.automaton c.args.mode c.args.look c.in_ok-state.state.log
-further c = goes_on c.args.automaton.now c.loop-state.state.automaton c.in_ok-state.state.automaton c.args.mode c.args.look c.loop-state.state.log c.in_ok-state.state.log
+further : (c : goal.Else-as_slice-before) → IsFurther c.args.automaton.now c.loop-state.state.auto c.in_ok-state.state.auto c.args.mode c.args.look c.in_ok-state.state.log
+further c = goes_on c.args.automaton.now c.loop-state.state.auto c.in_ok-state.state.auto c.args.mode c.args.look c.loop-state.state.log c.in_ok-state.state.log
     c.loop-state.invariant.0 c.loop-state.invariant.2 c.in_ok-state.ensures
     (λ e. c.if-as_slice-before.false (ap length c.as_slice.ensures ∙ e ∙ sym (ap length c.as_slice-before.ensures)))
 
@@ -39,8 +39,8 @@ loop-state-smaller c = (further c).less
 
 pub loop-state-preserved : goal.loop-state-preserved
 loop-state-preserved c =
-    let B = c.loop-state.state.automaton in
-    let C = c.in_ok-state.state.automaton in
+    let B = c.loop-state.state.auto in
+    let C = c.in_ok-state.state.auto in
     let on : LogsOn B c.args.mode c.args.look (kinds_of c.args.mode) c.loop-state.state.log C c.in_ok-state.state.log = c.in_ok-state.ensures in
     let through = log_through c.args.mode c.args.look (kinds_of c.args.mode) B C on.0 on.1 in
     let le : C.states ≤ B.states = (through_smaller c.args.mode c.args.look (kinds_of c.args.mode) B C c.loop-state.invariant.0 through).states in
