@@ -6,3 +6,4 @@ pub mod PassLemmas
 pub mod MakingLemmas
 pub mod CopyLemmas
 pub mod LoopLemmas
+pub mod LogLemmas

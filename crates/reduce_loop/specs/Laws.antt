@@ -20,6 +20,10 @@ ReducedIsSettled = (A B : Automaton) (mode : Mode) (k : ℕ) → IsAutomaton A �
 abbrev pub ReducedIsOne : Type 0
 ReducedIsOne = (A B C : Automaton) (mode : Mode) (k : ℕ) → IsAutomaton A → 1 ≤ k → IsReduced A mode k B → IsReduced A mode k C → B ≡ C
 
+-- There is one log at most of the reduction of A.
+abbrev pub LogIsOne : Type 0
+LogIsOne = (A B C : Automaton) (mode : Mode) (k : ℕ) (log other : List Step) → IsAutomaton A → 1 ≤ k → IsLog A mode k B log → IsLog A mode k C other → log ≡ other
+
 -- Where a log leads from A to B, B is A reduced.
 abbrev pub LogIsOfReduced : Type 0
 LogIsOfReduced = (A B : Automaton) (mode : Mode) (k : ℕ) (log : List Step) → IsLog A mode k B log → IsReduced A mode k B

@@ -19,11 +19,15 @@ pub record IsUsefulList (A : Automaton) (mode : Mode) (kept : List ℕ) : Type 0
   pub ascending : IsStrictlyIncreasing kept
   pub useful : AreUseful A mode kept
 
--- The relation on the states of A has just the pairs of a greatest list, and the classes are those of its closure.
-pub record IsMergeOf (A : Automaton) (Greatest : List (ℕ × ℕ) → Type 0) (rel : Relation) (classes : List ℕ) : Type 0 where
+-- The relation is one on the states of A, and its pairs, ascending, are the greatest list of its sort.
+pub record IsRelationOf (A : Automaton) (Greatest : List (ℕ × ℕ) → Type 0) (rel : Relation) : Type 0 where
   pub valid : IsRelation rel
   pub on_states : rel.size ≡ A.states
   pub greatest : Greatest rel.pairs
+
+-- The classes are those of the closure of such a relation.
+pub record IsMergeOf (A : Automaton) (Greatest : List (ℕ × ℕ) → Type 0) (rel : Relation) (classes : List ℕ) : Type 0 where
+  pub relation : IsRelationOf A Greatest rel
   pub joined : AreClassesOf A.states (Close (Holds rel.pairs)) classes
 
 -- The entry tells of a step of this kind on A at lookahead k: which states stayed, all useful ones ascending; which relation, the

@@ -1,6 +1,6 @@
 //! The laws of reduced automata: each is the contract of a function that does nothing.
 
-ghost use Rattle.reduce_loop.specs.Laws.{ReducedAcceptsTheSame, ReducedIsSettled, ReducedIsOne, LogIsOfReduced};
+ghost use Rattle.reduce_loop.specs.Laws.{ReducedAcceptsTheSame, ReducedIsSettled, ReducedIsOne, LogIsOne, LogIsOfReduced};
 
 /// A reduced automaton accepts the same lassos, in finite mode the same words.
 pub fn reduced_accepts_the_same()
@@ -15,6 +15,11 @@ pub fn reduced_is_settled()
 /// The reduced automaton is one.
 pub fn reduced_is_one()
     ensures { ReducedIsOne }
+{}
+
+/// The log is one.
+pub fn log_is_one()
+    ensures { LogIsOne }
 {}
 
 /// A log leads to the reduced automaton.
