@@ -1,0 +1,105 @@
+-- There is one log.
+use Rattle.std.proofs.Common.{◌≡◌, ℕ, zero, suc, ◌<◌, ◌↔◌, inl, inr, List, [], ◌∷◌, ◌++◌, Contains, sym, ap, ◌∙◌, subst, arith}
+use Rattle.std.specs.List.Sorted.{IsStrictlyIncreasing}
+use Rattle.std.proofs.lemmas.List.Kept.{AllPairs-from_increasing}
+use Rattle.auto_core.specs.Automaton.{Automaton, IsAutomaton}
+use Rattle.auto_core.specs.Game.{Close, Holds, IsGreatestForward, IsGreatestBackward}
+use Rattle.auto_core.specs.declared.parts.Mode.{Mode}
+use Rattle.auto_core.proofs.MemberLemmas.{Rises, rises_from_pairs, same_members}
+use Rattle.backward_sim.proofs.GreatestLemmas.{greatest_is_one as backward_is_one}
+use Rattle.bit_rel.specs.Relation.{Relation, IsBefore, ArePairsAscending, IsRelation}
+use Rattle.direct_sim.proofs.GreatestLemmas.{greatest_is_one as forward_is_one}
+use Rattle.reduce_loop.specs.declared.steps.Kind.{Kind}
+use Rattle.reduce_loop.specs.declared.steps.Kind.TheVariants.{Trim, Forward, Backward}
+use Rattle.reduce_loop.specs.declared.steps.MergeBy.{MergeBy}
+use Rattle.reduce_loop.specs.declared.steps.MergeBy.TheVariants as by
+use Rattle.reduce_loop.specs.declared.steps.Step.{Step}
+use Rattle.reduce_loop.specs.declared.steps.Step.TheVariants as step
+use Rattle.reduce_loop.specs.Kinds.{kinds_of}
+use Rattle.reduce_loop.specs.Logs.{IsRelationOf, IsMergeOf, IsEntry, IsLogged, LogThrough, LogPasses}
+use Rattle.reduce_loop.specs.Laws.{LogIsOne}
+use Rattle.reduce_loop.proofs.MergeLemmas.{same_classes, same_closure}
+use Rattle.reduce_loop.proofs.StepLemmas.{after_valid, after_one}
+use Rattle.reduce_loop.proofs.PassLemmas.{log_through, through_valid, through_one}
+
+-- numbers that increase are one list if they have the same members
+same_numbers : (xs ys : List ℕ) → IsStrictlyIncreasing xs → IsStrictlyIncreasing ys → ((q : ℕ) → Contains xs q ↔ Contains ys q) → xs ≡ ys
+same_numbers xs ys up other same = same_members (λ x y. x < y) (λ x y h k. omega arith) xs ys
+    (rises_from_pairs (λ x y. x < y) xs (AllPairs-from_increasing xs up))
+    (rises_from_pairs (λ x y. x < y) ys (AllPairs-from_increasing ys other))
+    (λ q h. (same q).0 h) (λ q h. (same q).1 h)
+
+-- pairs that ascend are too
+pairs_rise : (xs : List (ℕ × ℕ)) → ArePairsAscending xs → Rises IsBefore xs
+pairs_rise [] up = tt
+pairs_rise (x ∷ xs) up = (up.0, pairs_rise xs up.1)
+
+pair_before : (x y : ℕ × ℕ) → IsBefore x y → IsBefore y x → ⊥
+pair_before x y h k = both x.0 x.1 y.0 y.1 h k
+  where
+    both : (a b c d : ℕ) → IsBefore (a, b) (c, d) → IsBefore (c, d) (a, b) → ⊥
+    both a b c d h k = omega arith
+
+same_relation : (rel other : Relation) → IsRelation rel → IsRelation other → rel.size ≡ other.size → ((p q : ℕ) → Holds rel.pairs p q ↔ Holds other.pairs p q) → rel ≡ other
+same_relation rel other valid also size same =
+    made rel.size other.size rel.pairs other.pairs size
+    (same_members IsBefore pair_before rel.pairs other.pairs (pairs_rise rel.pairs valid.in_order) (pairs_rise other.pairs also.in_order)
+    (λ x h. (same x.0 x.1).0 h) (λ x h. (same x.0 x.1).1 h))
+  where
+    made : (m n : ℕ) (xs ys : List (ℕ × ℕ)) → m ≡ n → xs ≡ ys → (let R : Relation = record { size = m; pairs = xs } in R ≡ record { size = n; pairs = ys })
+    made m n xs ys e f = λ i. record { size = e i; pairs = f i }
+
+-- ---- entries
+
+module _ (A : Automaton) (Greatest : List (ℕ × ℕ) → Type 0) (one : (S T : List (ℕ × ℕ)) → Greatest S → Greatest T → (p q : ℕ) → Holds S p q ↔ Holds T p q) where
+  relation_one : (rel other : Relation) → IsRelationOf A Greatest rel → IsRelationOf A Greatest other → rel ≡ other
+  relation_one rel other is also = same_relation rel other is.valid also.valid (is.on_states ∙ sym also.on_states) (one rel.pairs other.pairs is.greatest also.greatest)
+
+  merge_entry_one : (named : Relation → MergeBy) (rel other : Relation) (classes these : List ℕ) → IsMergeOf A Greatest rel classes → IsMergeOf A Greatest other these → step.Merge (named rel) classes ≡ step.Merge (named other) these
+  merge_entry_one named rel other classes these is also =
+      let same = relation_one rel other is.relation also.relation in
+      let equal = same_classes A.states (Close (Holds rel.pairs)) (Close (Holds other.pairs)) classes these is.joined also.joined
+      (same_closure (Holds rel.pairs) (Holds other.pairs) (one rel.pairs other.pairs is.relation.greatest also.relation.greatest)) in
+      λ i. step.Merge (named (same i)) (equal i)
+
+entry_one : (A : Automaton) (mode : Mode) (k : ℕ) (kind : Kind) (entry other : Step) → IsEntry A mode k kind entry → IsEntry A mode k kind other → entry ≡ other
+entry_one A mode k Trim entry other (kept, e, is) (these, f, also) =
+    e
+    ∙ ap step.Trim (same_numbers kept these is.ascending also.ascending (λ q. ((λ h. (also.useful q).1 ((is.useful q).0 h)), (λ h. (is.useful q).1 ((also.useful q).0 h)))))
+    ∙ sym f
+entry_one A mode k Forward entry other (rel, classes, e, is) (rel', classes', f, also) =
+    e ∙ merge_entry_one A (IsGreatestForward A k) (forward_is_one A k) (λ r. by.Forward k r) rel rel' classes classes' is also ∙ sym f
+entry_one A mode k Backward entry other (rel, classes, e, is) (rel', classes', f, also) =
+    e ∙ merge_entry_one A (IsGreatestBackward A k) (backward_is_one A k) (λ r. by.Backward k r) rel rel' classes classes' is also ∙ sym f
+
+-- ---- logs
+
+logged_one : (A B : Automaton) (mode : Mode) (k : ℕ) (kind : Kind) (log other : List Step) → IsLogged A mode k kind B log → IsLogged A mode k kind B other → log ≡ other
+logged_one A B mode k kind log other (inl is) (inl also) = is.1 ∙ sym also.1
+logged_one A B mode k kind log other (inl is) (inr also) = absurd (also.0 is.0)
+logged_one A B mode k kind log other (inr is) (inl also) = absurd (is.0 also.0)
+logged_one A B mode k kind log other (inr (changed, (entry, is, e))) (inr (differs, (entry', also, f))) = e ∙ ap (λ x. x ∷ []) (entry_one A mode k kind entry entry' is also) ∙ sym f
+
+through_log_one : (mode : Mode) (k : ℕ) (kinds : List Kind) (A B C : Automaton) (log other : List Step) → IsAutomaton A → LogThrough A mode k kinds B log → LogThrough A mode k kinds C other → log ≡ other
+through_log_one mode k [] A B C log other valid (e, none) (f, nothing) = none ∙ sym nothing
+through_log_one mode k (kind ∷ kinds) A B C log other valid (X, now, later, step, logged, rest, is) (Y, now', later', step', logged', rest', is') =
+    let same = after_one A X Y mode k kind valid step step' in
+    let first = logged_one A X mode k kind now now' logged (subst (λ Z. IsLogged A mode k kind Z now') (sym same) logged') in
+    let others = through_log_one mode k kinds X B C later later' (after_valid A X mode k kind step) rest (subst (λ Z. LogThrough Z mode k kinds C later') (sym same) rest') in
+    is ∙ (λ i. first i ++ others i) ∙ sym is'
+
+passes_log_one : (mode : Mode) (k n m : ℕ) (A B C : Automaton) (log other : List Step) → IsAutomaton A → LogPasses A mode k n B log → LogPasses A mode k m C other → log ≡ other
+passes_log_one mode k zero zero A B C log other valid (e, through) (f, also) = through_log_one mode k (kinds_of mode) A A A log other valid through also
+passes_log_one mode k zero (suc m) A B C log other valid (e, through) (Y, now', later', through', changed', rest', is') =
+    absurd (changed' (through_one mode k (kinds_of mode) A Y A valid (log_through mode k (kinds_of mode) A Y now' through') (log_through mode k (kinds_of mode) A A log through)))
+passes_log_one mode k (suc n) zero A B C log other valid (X, now, later, through, changed, rest, is) (e, also) =
+    absurd (changed (through_one mode k (kinds_of mode) A X A valid (log_through mode k (kinds_of mode) A X now through) (log_through mode k (kinds_of mode) A A other also)))
+passes_log_one mode k (suc n) (suc m) A B C log other valid (X, now, later, through, changed, rest, is) (Y, now', later', through', changed', rest', is') =
+    let path = log_through mode k (kinds_of mode) A X now through in
+    let same = through_one mode k (kinds_of mode) A X Y valid path (log_through mode k (kinds_of mode) A Y now' through') in
+    let first = through_log_one mode k (kinds_of mode) A X Y now now' valid through through' in
+    let others = passes_log_one mode k n m X B C later later' (through_valid mode k (kinds_of mode) A X valid path) rest (subst (λ Z. LogPasses Z mode k m C later') (sym same) rest') in
+    is ∙ (λ i. first i ++ others i) ∙ sym is'
+
+pub log_one : LogIsOne
+log_one A B C mode k log other valid some (n, passes) (m, also) = passes_log_one mode k n m A B C log other valid passes also

@@ -1,0 +1,70 @@
+-- The laws of each kind of step.
+use Rattle.std.proofs.Common.{◌≡◌, ℕ, ◌≤◌, ◌↔◌, List, Contains}
+use Rattle.auto_core.specs.Automaton.{Automaton, IsAutomaton}
+use Rattle.auto_core.specs.Accept.{Same}
+use Rattle.auto_core.specs.Game.{Close, Holds, IsGreatestForward, IsGreatestBackward}
+use Rattle.auto_core.specs.Quotient.{RelatesMembers}
+use Rattle.auto_core.specs.declared.parts.Mode.{Mode}
+use Rattle.backward_sim.proofs.GreatestLemmas.{greatest_is_one as backward_is_one}
+use Rattle.direct_sim.proofs.GreatestLemmas.{greatest_is_one as forward_is_one}
+use Rattle.quotient.proofs.MergeLaws.{forward_same, backward_same}
+use Rattle.useful_states.proofs.KeepLaws.{trimmed_the_same, trimmed_one}
+use Rattle.reduce_loop.specs.declared.steps.Kind.{Kind}
+use Rattle.reduce_loop.specs.declared.steps.Kind.TheVariants.{Trim, Forward, Backward}
+use Rattle.reduce_loop.specs.Kinds.{kinds_of, IsMerged, After}
+use Rattle.reduce_loop.specs.Settled.{HasNoTwins, IsSettledAt}
+use Rattle.reduce_loop.proofs.SizeLemmas.{IsSmaller, kept_smaller}
+use Rattle.reduce_loop.proofs.MergeLemmas.{merged_smaller, merged_one, no_twins, same_closure}
+
+-- ---- merges by a greatest list of pairs, of any sort of which there is one
+
+module _ (A : Automaton) (Greatest : List (ℕ × ℕ) → Type 0) where
+  merge_smaller : (B : Automaton) → IsAutomaton A → IsMerged A Greatest B → IsSmaller A B
+  merge_smaller B valid m = merged_smaller A B m.classes m.joined.valid m.joined.len m.quotient valid
+
+  members_related : (B : Automaton) → (m : IsMerged A Greatest B) → RelatesMembers A m.classes m.pairs
+  members_related B m p q p_in q_in e = ((m.joined.joins p q p_in q_in).0 e).0
+
+  module _ (one : (S T : List (ℕ × ℕ)) → Greatest S → Greatest T → (p q : ℕ) → Holds S p q ↔ Holds T p q) where
+    merge_one : (B C : Automaton) → IsMerged A Greatest B → IsMerged A Greatest C → B ≡ C
+    merge_one B C b c = merged_one A B C b.pairs c.pairs b.classes c.classes (one b.pairs c.pairs b.greatest c.greatest) b.joined c.joined b.quotient c.quotient
+
+    -- no two states are joined by one greatest list, so by none
+    merge_settled : IsMerged A Greatest A → (S : List (ℕ × ℕ)) → Greatest S → HasNoTwins A (Close (Holds S))
+    merge_settled m S is p q p_in q_in there back =
+        let same = same_closure (Holds m.pairs) (Holds S) (one m.pairs S m.greatest is) in
+        no_twins A (Close (Holds m.pairs)) m.classes m.joined m.quotient p q p_in q_in ((same p q).1 there) ((same q p).1 back)
+
+-- ---- the laws
+
+-- what a step makes is an automaton
+pub after_valid : (A B : Automaton) (mode : Mode) (k : ℕ) (kind : Kind) → After A mode k kind B → IsAutomaton B
+after_valid A B mode k Trim (kept, are, keeps) = keeps.valid
+after_valid A B mode k Forward m = m.quotient.valid
+after_valid A B mode k Backward m = m.quotient.valid
+
+-- it is the same automaton, or smaller
+pub after_smaller : (A B : Automaton) (mode : Mode) (k : ℕ) (kind : Kind) → IsAutomaton A → After A mode k kind B → IsSmaller A B
+after_smaller A B mode k Trim valid (kept, are, keeps) = kept_smaller A B kept valid keeps
+after_smaller A B mode k Forward valid m = merge_smaller A (IsGreatestForward A k) B valid m
+after_smaller A B mode k Backward valid m = merge_smaller A (IsGreatestBackward A k) B valid m
+
+-- a step makes one automaton
+pub after_one : (A B C : Automaton) (mode : Mode) (k : ℕ) (kind : Kind) → IsAutomaton A → After A mode k kind B → After A mode k kind C → B ≡ C
+after_one A B C mode k Trim valid b c = trimmed_one A B C mode b c
+after_one A B C mode k Forward valid b c = merge_one A (IsGreatestForward A k) (forward_is_one A k) B C b c
+after_one A B C mode k Backward valid b c = merge_one A (IsGreatestBackward A k) (backward_is_one A k) B C b c
+
+-- it accepts the same
+pub after_same : (A B : Automaton) (mode : Mode) (k : ℕ) (kind : Kind) → IsAutomaton A → 1 ≤ k → Contains (kinds_of mode) kind → After A mode k kind B → Same A B mode
+after_same A B mode k Trim valid some listed b = trimmed_the_same A B mode b
+after_same A B mode k Forward valid some listed m =
+    forward_same A B m.classes k m.pairs mode valid some m.greatest.stable (members_related A (IsGreatestForward A k) B m) m.quotient
+after_same A B mode k Backward valid some listed m =
+    backward_same A B m.classes k m.pairs mode valid some m.greatest.stable (members_related A (IsGreatestBackward A k) B m) m.quotient
+
+-- a step that changes nothing has nothing to do
+pub after_settled : (A : Automaton) (mode : Mode) (k : ℕ) (kind : Kind) → After A mode k kind A → IsSettledAt A mode k kind
+after_settled A mode k Trim b = b
+after_settled A mode k Forward m = merge_settled A (IsGreatestForward A k) (forward_is_one A k) m
+after_settled A mode k Backward m = merge_settled A (IsGreatestBackward A k) (backward_is_one A k) m

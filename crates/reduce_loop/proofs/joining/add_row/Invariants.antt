@@ -1,0 +1,6 @@
+use Rattle.auto_core.specs.Game.{Holds}
+use Rattle.reduce_loop.proofs.MakingLemmas.{HasUpto}
+use Rattle.reduce_loop.proofs.joining.add_row.Given as goal
+
+abbrev pub invariant-loop-q : goal.invariant-loop-q
+invariant-loop-q l = HasUpto (Holds l.rel.pairs) l.fn.made l.made l.p l.q

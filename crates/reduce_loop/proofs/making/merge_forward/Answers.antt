@@ -1,0 +1,13 @@
+use Rattle.std.proofs.Common.{refl}
+use Rattle.reduce_loop.proofs.making.merge_forward.Goals as goal
+
+pub returns-clause-entry : goal.returns-clause-entry
+returns-clause-entry c = (
+  c.in_ok-rel.rel,
+  c.in_ok-joined.joined.classes,
+  refl,
+  record {
+    relation = record { valid = c.in_ok-joined.ensures.valid; on_states = c.in_ok-rel.ensures.size; greatest = c.in_ok-rel.ensures.greatest };
+    joined = c.in_ok-joined.ensures.joined;
+  },
+)

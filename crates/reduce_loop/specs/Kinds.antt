@@ -1,0 +1,29 @@
+-- The kinds of steps, and what each makes of an automaton.
+use Rattle.std.specs.Prelude.{ℕ, List, [], ◌∷◌}
+use Rattle.auto_core.specs.Automaton.{Automaton}
+use Rattle.auto_core.specs.Game.{Close, Holds, IsGreatestForward, IsGreatestBackward}
+use Rattle.auto_core.specs.Useful.{IsTrimmed}
+use Rattle.auto_core.specs.Quotient.{AreClassesOf, IsQuotient}
+use Rattle.auto_core.specs.declared.parts.Mode.{Mode}
+use Rattle.auto_core.specs.declared.parts.Mode.TheVariants.{Buchi, Finite}
+use Rattle.reduce_loop.specs.declared.steps.Kind.{Kind}
+use Rattle.reduce_loop.specs.declared.steps.Kind.TheVariants.{Trim, Forward, Backward}
+
+-- The steps of one pass, in order.
+abbrev pub kinds_of : Mode → List Kind
+kinds_of Buchi = Trim ∷ Forward ∷ Backward ∷ []
+kinds_of Finite = Trim ∷ Forward ∷ Backward ∷ []
+
+-- B has for its states the classes of A that the closure of a list of pairs, one that is the greatest of its sort, relates both ways.
+pub record IsMerged (A : Automaton) (Greatest : List (ℕ × ℕ) → Type 0) (B : Automaton) : Type 0 where
+  pub pairs : List (ℕ × ℕ)
+  pub classes : List ℕ
+  pub greatest : Greatest pairs
+  pub joined : AreClassesOf A.states (Close (Holds pairs)) classes
+  pub quotient : IsQuotient A classes B
+
+-- B is A after a step of this kind at lookahead k, by the greatest relations of A as it is then.
+abbrev pub After : Automaton → Mode → ℕ → Kind → Automaton → Type 0
+After A mode k Trim B = IsTrimmed A mode B
+After A mode k Forward B = IsMerged A (IsGreatestForward A k) B
+After A mode k Backward B = IsMerged A (IsGreatestBackward A k) B

@@ -1,0 +1,76 @@
+-- The log of a reduction: the steps that changed something, in order, each with what it was done by.
+use Rattle.std.specs.Prelude.{◌≡◌, ℕ, zero, suc, ◌⊎◌, List, [], ◌∷◌, ◌++◌}
+use Rattle.std.specs.List.Sorted.{IsStrictlyIncreasing}
+use Rattle.auto_core.specs.Automaton.{Automaton}
+use Rattle.auto_core.specs.Game.{Close, Holds, IsGreatestForward, IsGreatestBackward}
+use Rattle.auto_core.specs.Useful.{AreUseful}
+use Rattle.auto_core.specs.Quotient.{AreClassesOf}
+use Rattle.auto_core.specs.declared.parts.Mode.{Mode}
+use Rattle.bit_rel.specs.Relation.{Relation, IsRelation}
+use Rattle.reduce_loop.specs.declared.steps.Kind.{Kind}
+use Rattle.reduce_loop.specs.declared.steps.Kind.TheVariants.{Trim, Forward, Backward}
+use Rattle.reduce_loop.specs.declared.steps.Step.{Step}
+use Rattle.reduce_loop.specs.declared.steps.Step.TheVariants as step
+use Rattle.reduce_loop.specs.declared.steps.MergeBy.TheVariants as by
+use Rattle.reduce_loop.specs.Kinds.{kinds_of, After}
+
+-- The list has just the useful states, ascending.
+pub record IsUsefulList (A : Automaton) (mode : Mode) (kept : List ℕ) : Type 0 where
+  pub ascending : IsStrictlyIncreasing kept
+  pub useful : AreUseful A mode kept
+
+-- The relation is one on the states of A, and its pairs, ascending, are the greatest list of its sort.
+pub record IsRelationOf (A : Automaton) (Greatest : List (ℕ × ℕ) → Type 0) (rel : Relation) : Type 0 where
+  pub valid : IsRelation rel
+  pub on_states : rel.size ≡ A.states
+  pub greatest : Greatest rel.pairs
+
+-- The classes are those of the closure of such a relation.
+pub record IsMergeOf (A : Automaton) (Greatest : List (ℕ × ℕ) → Type 0) (rel : Relation) (classes : List ℕ) : Type 0 where
+  pub relation : IsRelationOf A Greatest rel
+  pub joined : AreClassesOf A.states (Close (Holds rel.pairs)) classes
+
+-- The entry tells of a step of this kind on A at lookahead k: which states stayed, all useful ones ascending; which relation, the
+-- greatest and not closed, joined the states, with the class of each.
+abbrev pub IsEntry : Automaton → Mode → ℕ → Kind → Step → Type 0
+IsEntry A mode k Trim entry = (kept : List ℕ) × (entry ≡ step.Trim kept) × IsUsefulList A mode kept
+IsEntry A mode k Forward entry =
+    (rel : Relation) × (classes : List ℕ) × (entry ≡ step.Merge (by.Forward k rel) classes) × IsMergeOf A (IsGreatestForward A k) rel classes
+IsEntry A mode k Backward entry =
+    (rel : Relation) × (classes : List ℕ) × (entry ≡ step.Merge (by.Backward k rel) classes) × IsMergeOf A (IsGreatestBackward A k) rel classes
+
+-- What is logged of a step from A to B: nothing where it changed nothing, and else its entry alone.
+abbrev pub IsLogged : Automaton → Mode → ℕ → Kind → Automaton → List Step → Type 0
+IsLogged A mode k kind B log =
+    ((B ≡ A) × (log ≡ []))
+    ⊎ ((B ≡ A → ⊥) × ((entry : Step) × IsEntry A mode k kind entry × (log ≡ entry ∷ [])))
+
+-- Steps of these kinds lead from A to C, and this is logged of them.
+abbrev pub LogThrough : Automaton → Mode → ℕ → List Kind → Automaton → List Step → Type 0
+LogThrough A mode k [] C log = (C ≡ A) × (log ≡ [])
+LogThrough A mode k (kind ∷ kinds) C log =
+    (B : Automaton)
+    × (now later : List Step)
+    × After A mode k kind B
+    × IsLogged A mode k kind B now
+    × LogThrough B mode k kinds C later
+    × (log ≡ now ++ later)
+
+-- Steps of these kinds lead from A to C, and what is logged of them stands behind what was logged before.
+abbrev pub LogsOn : Automaton → Mode → ℕ → List Kind → List Step → Automaton → List Step → Type 0
+LogsOn A mode k kinds before C log = (now : List Step) × LogThrough A mode k kinds C now × (log ≡ before ++ now)
+
+-- n passes that each change the automaton lead from A to C, the next one leaves C as it is, and this is logged of them.
+abbrev pub LogPasses : Automaton → Mode → ℕ → ℕ → Automaton → List Step → Type 0
+LogPasses A mode k zero C log = (C ≡ A) × LogThrough A mode k (kinds_of mode) A log
+LogPasses A mode k (suc n) C log =
+    (B : Automaton)
+    × (now later : List Step)
+    × LogThrough A mode k (kinds_of mode) B now
+    × (B ≡ A → ⊥)
+    × LogPasses B mode k n C later
+    × (log ≡ now ++ later)
+
+-- The log of the reduction of A to C.
+abbrev pub IsLog : Automaton → Mode → ℕ → Automaton → List Step → Type 0
+IsLog A mode k C log = (n : ℕ) × LogPasses A mode k n C log

@@ -1,0 +1,24 @@
+-- Passes: all steps in order, again and again until a pass changes nothing.
+use Rattle.std.specs.Prelude.{◌≡◌, ℕ, zero, suc, List, [], ◌∷◌}
+use Rattle.auto_core.specs.Automaton.{Automaton}
+use Rattle.auto_core.specs.declared.parts.Mode.{Mode}
+use Rattle.reduce_loop.specs.declared.steps.Kind.{Kind}
+use Rattle.reduce_loop.specs.Kinds.{kinds_of, After}
+
+-- Steps of these kinds, one after the other, lead from A to C.
+abbrev pub Through : Automaton → Mode → ℕ → List Kind → Automaton → Type 0
+Through A mode k [] C = C ≡ A
+Through A mode k (kind ∷ kinds) C = (B : Automaton) × After A mode k kind B × Through B mode k kinds C
+
+-- B is A after one pass.
+abbrev pub IsPass : Automaton → Mode → ℕ → Automaton → Type 0
+IsPass A mode k B = Through A mode k (kinds_of mode) B
+
+-- n passes that each change the automaton lead from A to C, and the next pass leaves C as it is.
+abbrev pub Passes : Automaton → Mode → ℕ → ℕ → Automaton → Type 0
+Passes A mode k zero C = (C ≡ A) × IsPass A mode k A
+Passes A mode k (suc n) C = (B : Automaton) × IsPass A mode k B × (B ≡ A → ⊥) × Passes B mode k n C
+
+-- C is the first of A, A after one pass, A after two passes and so on that a further pass leaves as it is.
+abbrev pub IsReduced : Automaton → Mode → ℕ → Automaton → Type 0
+IsReduced A mode k C = (n : ℕ) × Passes A mode k n C

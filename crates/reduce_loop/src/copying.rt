@@ -1,0 +1,76 @@
+//! Copies of automata, and whether two are the same.
+
+ghost use Rattle.std.specs.Prelude.{◌≡◌, ◌<◌, ◌↔◌, ℕ, filter, IsTrue, IfOk};
+ghost use Rattle.std.specs.List.{range_with_len};
+ghost use Rattle.auto_core.specs.Automaton.{IsAutomaton, is_accepting};
+
+use auto_core::{Auto, List, Memory, Trans, of_parts};
+use std::alloc::Global;
+
+/// The accepting states, ascending.
+fn accepting_states(alloc: Global, automaton: &Auto) -> Result<Vec<u32>, Memory>
+    ensures { IfOk result (λ v. v.items ≡ filter (is_accepting automaton.now) (range_with_len 0 automaton.now.states)) }
+{
+    let mut made = Vec::new(alloc);
+    for state in 0..automaton.states() {
+        if automaton.accepting(state) {
+            made.push(state)?;
+        }
+    }
+    Ok(made)
+}
+
+/// The same automaton once more.
+pub(crate) fn copied(alloc: Global, automaton: &Auto) -> Result<Auto, Memory>
+    ensures same { IfOk result (λ made. made ≡ automaton.now) }
+    ensures valid { IfOk result (λ _. IsAutomaton automaton.now) }
+{
+    let accepting = accepting_states(alloc, automaton)?;
+    of_parts(
+        alloc,
+        automaton.states(),
+        automaton.labels(),
+        automaton.initial(),
+        automaton.transitions(),
+        &accepting,
+    )
+}
+
+/// Tells whether the first has just the transitions of the second.
+fn has_moves(one: &[Trans], other: &[Trans]) -> bool
+    ensures { IsTrue result ↔ one.now ≡ other.now }
+{
+    one == other
+}
+
+/// Tells whether the same states are accepting in both.
+fn has_accepting(one: &Auto, other: &Auto) -> bool
+    requires { one.now.states ≡ other.now.states }
+    ensures { IsTrue result ↔ ((q : ℕ) → q < one.now.states → is_accepting one.now q ≡ is_accepting other.now q) }
+{
+    for state in 0..one.states() {
+        if one.accepting(state) != other.accepting(state) {
+            return false;
+        }
+    }
+    true
+}
+
+/// Tells whether both are the same automaton.
+pub(crate) fn is_same(one: &Auto, other: &Auto) -> bool
+    ensures { IsTrue result ↔ one.now ≡ other.now }
+{
+    if one.states() != other.states() {
+        return false;
+    }
+    if one.labels() != other.labels() {
+        return false;
+    }
+    if one.initial() != other.initial() {
+        return false;
+    }
+    if !has_moves(one.transitions(), other.transitions()) {
+        return false;
+    }
+    has_accepting(one, other)
+}

@@ -1,0 +1,81 @@
+//! The states of an automaton joined by a relation.
+
+ghost use Rattle.std.specs.Prelude.{◌≡◌, ◌<◌, ◌≤◌, ◌↔◌, ◌⊎◌, ℕ, length, IfOk};
+ghost use Rattle.auto_core.specs.Game.{Holds, Close};
+ghost use Rattle.auto_core.specs.Quotient.{AreClassesOf, IsQuotient};
+ghost use Rattle.bit_rel.specs.Relation.{IsRelation, IsClosed};
+
+use auto_core::{Auto, List, Memory};
+use bit_rel::Rel;
+use quotient::{Classes, classes_of, merge};
+use std::alloc::Global;
+
+/// An automaton whose states were joined, with the class of each.
+#[derive(Debug, Drop)]
+pub(crate) struct Joined {
+    pub(crate) automaton: Auto,
+    pub(crate) classes: List<u32>,
+}
+
+/// The class of each state.
+fn class_list(alloc: Global, classes: &Classes, states: u32) -> Result<List<u32>, Memory>
+    requires { length classes.now ≡ states }
+    ensures { IfOk result (λ made. made ≡ classes.now) }
+{
+    let mut made = List::new(alloc);
+    for state in 0..states {
+        made.push(classes.class(state))?;
+    }
+    Ok(made)
+}
+
+/// Adds the pairs that the relation holds with this left state.
+fn add_row(rel: &Rel, made: &mut Rel, p: u32)
+    requires equal { made.old.size ≡ rel.now.size }
+    requires left { p < rel.now.size }
+    ensures size { made.new.size ≡ made.old.size }
+    ensures pairs { (r s : ℕ) → Holds made.new.pairs r s ↔ (Holds made.old.pairs r s ⊎ ((r ≡ p) × Holds rel.now.pairs r s)) }
+{
+    for q in 0..rel.size() {
+        if rel.get(p, q) {
+            made.set(p, q);
+        }
+    }
+}
+
+/// The closure of the relation, which stays as it is.
+fn closure(alloc: Global, rel: &Rel) -> Result<Rel, Memory>
+    ensures closed { IfOk result (IsClosed rel.now) }
+    ensures valid { IfOk result (λ _. IsRelation rel.now) }
+{
+    let mut made = Rel::empty(alloc, rel.size())?;
+    for p in 0..rel.size() {
+        add_row(rel, &mut made, p);
+    }
+    made.close();
+    Ok(made)
+}
+
+/// The classes that the closure of the relation joins.
+fn classes(alloc: Global, rel: &Rel) -> Result<Classes, Memory>
+    requires { 1 ≤ rel.now.size }
+    ensures joined { IfOk result (AreClassesOf rel.now.size (Close (Holds rel.now.pairs))) }
+    ensures valid { IfOk result (λ _. IsRelation rel.now) }
+{
+    let closed = closure(alloc, rel)?;
+    classes_of(alloc, &closed)
+}
+
+/// The automaton whose states are the classes that the closure of the relation joins.
+pub(crate) fn join_states(alloc: Global, automaton: &Auto, rel: &Rel) -> Result<Joined, Memory>
+    requires { rel.now.size ≡ automaton.now.states }
+    ensures joined { IfOk result (λ made. AreClassesOf automaton.now.states (Close (Holds rel.now.pairs)) made.classes) }
+    ensures quotient { IfOk result (λ made. IsQuotient automaton.now made.classes made.automaton) }
+    ensures valid { IfOk result (λ _. IsRelation rel.now) }
+{
+    let states = automaton.states();
+    let joined = classes(alloc, rel)?;
+    let classes = class_list(alloc, &joined, states)?;
+    let automaton = merge(alloc, automaton, &joined)?;
+    Ok(Joined { automaton, classes })
+}

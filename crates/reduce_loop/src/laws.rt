@@ -1,0 +1,28 @@
+//! The laws of reduced automata: each is the contract of a function that does nothing.
+
+ghost use Rattle.reduce_loop.specs.Laws.{ReducedAcceptsTheSame, ReducedIsSettled, ReducedIsOne, LogIsOne, LogIsOfReduced};
+
+/// A reduced automaton accepts the same lassos, in finite mode the same words.
+pub fn reduced_accepts_the_same()
+    ensures { ReducedAcceptsTheSame }
+{}
+
+/// In a reduced automaton no step has anything to do.
+pub fn reduced_is_settled()
+    ensures { ReducedIsSettled }
+{}
+
+/// The reduced automaton is one.
+pub fn reduced_is_one()
+    ensures { ReducedIsOne }
+{}
+
+/// The log is one.
+pub fn log_is_one()
+    ensures { LogIsOne }
+{}
+
+/// A log leads to the reduced automaton.
+pub fn log_is_of_reduced()
+    ensures { LogIsOfReduced }
+{}

@@ -1,0 +1,67 @@
+//! The kinds of steps, and what is told of the steps that were taken.
+
+use auto_core::{Auto, List};
+use bit_rel::Rel;
+
+/// A kind of step.
+#[derive(Clone, Copy, Debug, PartialEq, Eq)]
+pub enum Kind {
+    /// The useless states go.
+    Trim,
+    /// States that the forward relation joins become one.
+    Forward,
+    /// States that the backward relation joins become one.
+    Backward,
+}
+
+/// What joined the states that became one.
+#[derive(Debug, Drop)]
+pub enum MergeBy {
+    /// The greatest forward relation, which is not closed.
+    Forward {
+        /// Its lookahead.
+        look: u32,
+        /// The relation.
+        rel: Rel,
+    },
+    /// The greatest backward relation, which is not closed.
+    Backward {
+        /// Its lookahead.
+        look: u32,
+        /// The relation.
+        rel: Rel,
+    },
+}
+
+/// A step that changed the automaton.
+#[derive(Debug, Drop)]
+pub enum Step {
+    /// Only the useful states stayed.
+    Trim {
+        /// The useful states, ascending.
+        kept: List<u32>,
+    },
+    /// The states of each class became one.
+    Merge {
+        /// By what.
+        by: MergeBy,
+        /// The class of each state.
+        classes: List<u32>,
+    },
+}
+
+/// An automaton that was reduced.
+#[derive(Debug, Drop)]
+pub struct Reduced {
+    /// What it became.
+    pub auto: Auto,
+    /// The steps that changed something, in order.
+    pub log: List<Step>,
+}
+
+/// What a step makes, whether or not that is a change.
+#[derive(Debug, Drop)]
+pub(crate) struct Made {
+    pub(crate) automaton: Auto,
+    pub(crate) entry: Step,
+}
