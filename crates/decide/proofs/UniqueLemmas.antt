@@ -200,7 +200,7 @@ list_is k l a b c d =
     ∙ ap (λ x. record { first = l.first; second = l.second; limit = x; elements = k.elements }) c
     ∙ ap (λ x. record { first = l.first; second = l.second; limit = l.limit; elements = x }) d
 
-lasso_is : (k l : Lasso) → k.prefix ≡ l.prefix → k.turn ≡ l.turn → k ≡ l
+pub lasso_is : (k l : Lasso) → k.prefix ≡ l.prefix → k.turn ≡ l.turn → k ≡ l
 lasso_is k l a b = ap (λ x. record { prefix = x; turn = k.turn }) a ∙ ap (λ x. record { prefix = l.prefix; turn = x }) b
 
 one_body : (at : LogEnds) (S : List (ℕ × ℕ)) (limit : ℕ) (o : Outcome Entry) (b c : Body) → IsBodyOf at S limit o b → IsBodyOf at S limit o c → b ≡ c
