@@ -1,5 +1,9 @@
 pub mod WordLemmas
 pub mod AnswerLemmas
-pub mod RunLemmas
+pub mod WrittenLemmas
 pub mod OneAnswer
+pub mod RunLemmas
 pub mod TurnLemmas
+pub mod PairLemmas
+pub mod CheckLemmas
+pub mod DecidedLemmas

@@ -16,8 +16,12 @@ use Rattle.cert_text.proofs.Theorem.{reading_text}
 use Rattle.cert_check.specs.declared.faults.Refusal.{Refusal}
 use Rattle.cert_check.specs.Checks.{Check as Rule, AllHold, FirstBroken}
 use Rattle.cert_check.specs.Rules.{checks_of}
-use Rattle.rabit_cli.specs.Question.{Question, Check}
-use Rattle.rabit_cli.specs.Command.{Holds, ReadsAs, HoldsCertificate, Concludes, IsVerdictAnswer, IsAnswerTo, IsCheckAnswer, IsFileFault, IsCertificateFault, check_limits}
+use Rattle.auto_core.specs.Outcome.{Outcome, Entry}
+use Rattle.auto_core.specs.Outcome as end
+use Rattle.decide.specs.Answer.{unreduced}
+use Rattle.decide.proofs.UniqueLemmas.{one_outcome_decides}
+use Rattle.rabit_cli.specs.Question.{Question, Check, Include}
+use Rattle.rabit_cli.specs.Command.{Holds, ReadsAs, HoldsCertificate, Concludes, IsVerdictAnswer, IsAnswerTo, IsCheckAnswer, IsFileFault, IsCertificateFault, IsPairFault, ReadsPair, IsOutcomeAnswer, IsDecided, IsIncludeAnswer, search_limit, check_limits}
 use Rattle.rabit_cli.specs.declared.answer.Answer.{Answer}
 use Rattle.rabit_cli.specs.declared.answer.Answer.TheVariants.{BadFile, BadText, Refused}
 
@@ -140,7 +144,7 @@ one_verdict : (pair : Joined) (body : Body) (x y : Answer) → IsVerdictAnswer p
 one_verdict pair (Yes b) x y p q = p ∙ sym q
 one_verdict pair (NoLasso l) x y p q = p ∙ sym q
 one_verdict pair (NoWord w) x y p q = absurd p
-one_verdict pair (Listing l) x y p q = absurd p
+one_verdict pair (Listing l) x y p q = p ∙ sym q
 
 one_conclusion : (pair : Joined) (cert : Cert) (x y : Answer) → Concludes pair cert x → Concludes pair cert y → x ≡ y
 one_conclusion pair cert x y p q =
@@ -176,30 +180,58 @@ one_conclusion pair cert x y p q =
           ]
     ]
 
--- what is left of a check after both automata were read
-After : FileMap → List ℕ → Named → Named → Answer → Type 0
-After files c one two answer =
-    IsCertificateFault files c answer
-    ⊎ ((pair : Joined) × IsJoined one two pair × ((cert : Cert) × HoldsCertificate files c cert × Concludes pair cert answer))
+-- the two files read as one pair, and then neither has a fault
+module _ (files : FileMap) (a b : List ℕ) where
+  pub one_pair : (x y : Joined) → ReadsPair files a b x → ReadsPair files a b y → x ≡ y
+  one_pair x y (one, two, first, second, joined) (one', two', first', second', joined') =
+      let same_one = one_named 1 files a one one' first first' in
+      let same_two = one_named 2 files b two two' second second' in
+      let P : Named → Type 0 = λ z. IsJoined z two x in
+      let Q : Named → Type 0 = λ z. IsJoined one' z x in
+      joins_as_one one' two' x y (subst Q same_two (subst P same_one joined)) joined'
 
-one_after : (files : FileMap) (c : List ℕ) (one two : Named) (x y : Answer) → After files c one two x → After files c one two y → x ≡ y
+  one_pair_fault : (x y : Answer) → IsPairFault files a b x → IsPairFault files a b y → x ≡ y
+  one_pair_fault x y p q =
+      elim p [
+        | inl fault ↦
+            elim q [
+              | inl fault' ↦ one_file_fault 1 files a x y fault fault'
+              | inr (one, reads, later) ↦ absurd (fault_or_reads 1 files a x one fault reads)
+            ]
+        | inr (one, reads, later) ↦
+            elim q [
+              | inl fault ↦ absurd (fault_or_reads 1 files a y one fault reads)
+              | inr (one', reads', later') ↦ one_file_fault 2 files b x y later later'
+            ]
+      ]
+
+  pub fault_or_pair : (x : Answer) (pair : Joined) → IsPairFault files a b x → ReadsPair files a b pair → ⊥
+  fault_or_pair x pair p (one, two, first, second, joined) =
+      elim p [
+        | inl fault ↦ fault_or_reads 1 files a x one fault first
+        | inr (one', reads, later) ↦ fault_or_reads 2 files b x two later second
+      ]
+
+-- what is left of a check after both automata were read
+After : FileMap → List ℕ → Joined → Answer → Type 0
+After files c pair answer = IsCertificateFault files c answer ⊎ ((cert : Cert) × HoldsCertificate files c cert × Concludes pair cert answer)
+
+one_after : (files : FileMap) (c : List ℕ) (pair : Joined) (x y : Answer) → After files c pair x → After files c pair y → x ≡ y
 unfolding After
-one_after files c one two x y p q =
+one_after files c pair x y p q =
     elim p [
       | inl fault ↦
           elim q [
             | inl fault' ↦ one_certificate_fault 0 files c x y fault fault'
-            | inr (pair, joined, last) ↦ absurd (fault_or_certificate 0 files c x last.0 fault last.1)
+            | inr last ↦ absurd (fault_or_certificate 0 files c x last.0 fault last.1)
           ]
-      | inr (pair, joined, last) ↦
+      | inr last ↦
           elim q [
             | inl fault ↦ absurd (fault_or_certificate 0 files c y last.0 fault last.1)
-            | inr (pair', joined', last') ↦
-                let same_pair = joins_as_one one two pair pair' joined joined' in
+            | inr last' ↦
                 let same_cert = one_cert 0 files c last.0 last'.0 last.1 last'.1 in
-                let P : Joined → Type 0 = λ z. Concludes z last.0 x in
-                let Q : Cert → Type 0 = λ z. Concludes pair' z x in
-                one_conclusion pair' last'.0 x y (subst Q same_cert (subst P same_pair last.2)) last'.2
+                let Q : Cert → Type 0 = λ z. Concludes pair z x in
+                one_conclusion pair last'.0 x y (subst Q same_cert last.2) last'.2
           ]
     ]
 
@@ -209,33 +241,48 @@ one_check_answer files a b c x y p q =
     elim p [
       | inl fault ↦
           elim q [
-            | inl fault' ↦ one_file_fault 1 files a x y fault fault'
-            | inr (one, reads, more) ↦ absurd (fault_or_reads 1 files a x one fault reads)
+            | inl fault' ↦ one_pair_fault files a b x y fault fault'
+            | inr (pair, reads, more) ↦ absurd (fault_or_pair files a b x pair fault reads)
           ]
-      | inr (one, reads, more) ↦
+      | inr (pair, reads, more) ↦
           elim q [
-            | inl fault ↦ absurd (fault_or_reads 1 files a y one fault reads)
-            | inr (one', reads', more') ↦
-                elim more [
-                  | inl fault ↦
-                      elim more' [
-                        | inl fault' ↦ one_file_fault 2 files b x y fault fault'
-                        | inr (two, reads_two, rest) ↦ absurd (fault_or_reads 2 files b x two fault reads_two)
-                      ]
-                  | inr (two, reads_two, rest) ↦
-                      elim more' [
-                        | inl fault ↦ absurd (fault_or_reads 2 files b y two fault reads_two)
-                        | inr (two', reads_two', rest') ↦
-                            let same_one = one_named 1 files a one one' reads reads' in
-                            let same_two = one_named 2 files b two two' reads_two reads_two' in
-                            let P : Named → Type 0 = λ z. After files c z two x in
-                            let Q : Named → Type 0 = λ z. After files c one' z x in
-                            one_after files c one' two' x y (subst Q same_two (subst P same_one rest)) rest'
-                      ]
-                ]
+            | inl fault ↦ absurd (fault_or_pair files a b y pair fault reads)
+            | inr (pair', reads', more') ↦
+                let P : Joined → Type 0 = λ z. After files c z x in
+                one_after files c pair' x y (subst P (one_pair files a b pair pair' reads reads') more) more'
+          ]
+    ]
+
+-- a decision has one answer, since its search has one outcome
+one_outcome_answer : (pair : Joined) (o : Outcome Entry) (x y : Answer) → IsOutcomeAnswer pair o x → IsOutcomeAnswer pair o y → x ≡ y
+one_outcome_answer pair (end.Closed es) x y p q = p ∙ sym q
+one_outcome_answer pair (end.Apart e f) x y p q = p ∙ sym q
+one_outcome_answer pair (end.Limit es) x y p q = p ∙ sym q
+
+pub one_decided : (pair : Joined) (x y : Answer) → IsDecided pair x → IsDecided pair y → x ≡ y
+one_decided pair x y (order, outcome, decides, is) (order', outcome', decides', is') =
+    let same = one_outcome_decides (unreduced pair) search_limit order order' outcome outcome' decides decides' in
+    let P : Outcome Entry → Type 0 = λ o. IsOutcomeAnswer pair o x in
+    one_outcome_answer pair outcome' x y (subst P same.1 is) is'
+
+one_include_answer : (files : FileMap) (a b : List ℕ) (x y : Answer) → IsIncludeAnswer files a b x → IsIncludeAnswer files a b y → x ≡ y
+one_include_answer files a b x y p q =
+    elim p [
+      | inl fault ↦
+          elim q [
+            | inl fault' ↦ one_pair_fault files a b x y fault fault'
+            | inr (pair, reads, more) ↦ absurd (fault_or_pair files a b x pair fault reads)
+          ]
+      | inr (pair, reads, more) ↦
+          elim q [
+            | inl fault ↦ absurd (fault_or_pair files a b y pair fault reads)
+            | inr (pair', reads', more') ↦
+                let P : Joined → Type 0 = λ z. IsDecided z x in
+                one_decided pair' x y (subst P (one_pair files a b pair pair' reads reads') more) more'
           ]
     ]
 
 pub one_answer : (files : FileMap) (question : Option Question) (x y : Answer) → IsAnswerTo files question x → IsAnswerTo files question y → x ≡ y
 one_answer files None x y p q = p ∙ sym q
 one_answer files (Some (Check a b c)) x y p q = one_check_answer files a b c x y p q
+one_answer files (Some (Include a b c)) x y p q = one_include_answer files a b x y p q

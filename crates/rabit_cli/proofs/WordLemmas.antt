@@ -1,6 +1,6 @@
 -- Four words as a list.
 use Rattle.std.proofs.Common.{◌≡◌, ℕ, ◌<◌, ◌≤◌, List, [], ◌∷◌, length, get_or, map, refl, arith, Some}
-use Rattle.rabit_cli.specs.Question.{Check}
+use Rattle.rabit_cli.specs.Question.{Check, Include}
 
 pub four_items :
     {X : Type 0} (f : X → List ℕ) (ws : List X) (d : X)
@@ -14,5 +14,8 @@ four_items f (a ∷ b ∷ c ∷ []) d low high = absurd (omega arith)
 four_items f (a ∷ b ∷ c ∷ e ∷ []) d low high = refl
 four_items f (a ∷ b ∷ c ∷ e ∷ g ∷ ws) d low high = absurd (omega arith)
 
-pub three_files : (a b c x y z : List ℕ) → a ≡ x → b ≡ y → c ≡ z → Some (Check a b c) ≡ Some (Check x y z)
-three_files a b c x y z p q r = cc
+pub check_asked : (a b c x y z : List ℕ) → a ≡ x → b ≡ y → c ≡ z → Some (Check a b c) ≡ Some (Check x y z)
+check_asked a b c x y z p q r = cc
+
+pub include_asked : (a b c x y z : List ℕ) → a ≡ x → b ≡ y → c ≡ z → Some (Include a b c) ≡ Some (Include x y z)
+include_asked a b c x y z p q r = cc

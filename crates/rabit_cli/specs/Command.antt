@@ -19,11 +19,14 @@ use Rattle.cert_text.specs.WellFormed.{WellFormed}
 use Rattle.cert_check.specs.declared.faults.Refusal.{Refusal}
 use Rattle.cert_check.specs.Checks.{AllHold, FirstBroken}
 use Rattle.cert_check.specs.Rules.{checks_of, has_checked_form}
-use Rattle.rabit_cli.specs.Question.{Question, Check}
+use Rattle.auto_core.specs.Outcome.{Outcome, Entry}
+use Rattle.auto_core.specs.Outcome as end
+use Rattle.decide.specs.Answer.{Decides, unreduced}
+use Rattle.rabit_cli.specs.Question.{Question, Check, Include}
 use Rattle.rabit_cli.specs.declared.answer.Answer.{Answer}
-use Rattle.rabit_cli.specs.declared.answer.Answer.TheVariants.{NotBuilt, BadFile, LongFile, BadText, LongCertificate, Refused, Included, NotIncluded, ReadFault, OutOfMemory}
+use Rattle.rabit_cli.specs.declared.answer.Answer.TheVariants.{NotBuilt, BadFile, LongFile, BadText, LongCertificate, Refused, Included, NotIncluded, Limit, ReadFault, WriteFault, OutOfMemory}
 
--- The most states, labels and transitions of each file of a check.
+-- The most states, labels and transitions of each file of a check or a decision.
 abbrev pub check_limits : Limits
 check_limits = record { states = 512; labels = 256; transitions = 65536 }
 
@@ -67,7 +70,7 @@ abbrev pub IsVerdictAnswer : Joined → Body → Answer → Type 0
 IsVerdictAnswer pair (Yes evidence) answer = answer ≡ Included
 IsVerdictAnswer pair (NoLasso lasso) answer = answer ≡ NotIncluded pair.labels lasso
 IsVerdictAnswer pair (NoWord word) answer = ⊥
-IsVerdictAnswer pair (Listing body) answer = ⊥
+IsVerdictAnswer pair (Listing list) answer = answer ≡ Limit list.limit
 
 -- The answer for two joined automata and a certificate: its form is not built, or a rule is broken, the first being this one,
 -- or the certificate is valid.
@@ -77,38 +80,65 @@ Concludes pair cert answer =
     ⊎ ((has_checked_form cert ≡ true) × ((refusal : Refusal) × FirstBroken (checks_of pair cert) refusal × (answer ≡ Refused refusal)))
     ⊎ ((has_checked_form cert ≡ true) × AllHold (checks_of pair cert) × IsVerdictAnswer pair cert.body answer)
 
+-- Both files read as automata, and these are the two over their joined labels.
+abbrev pub ReadsPair : FileMap → List ℕ → List ℕ → Joined → Type 0
+ReadsPair files a b pair = (one two : Named) × ReadsAs files a one × ReadsAs files b two × IsJoined one two pair
+
+-- What is known where the two files were not both read: the first has a fault, or the first was read and the second has one.
+abbrev pub IsPairFault : FileMap → List ℕ → List ℕ → Answer → Type 0
+IsPairFault files a b answer = IsFileFault 1 files a answer ⊎ ((one : Named) × ReadsAs files a one × IsFileFault 2 files b answer)
+
 -- The answer of `check A B CERT`: the files are looked at in this order, and the first fault decides.
 abbrev pub IsCheckAnswer : FileMap → List ℕ → List ℕ → List ℕ → Answer → Type 0
 IsCheckAnswer files a b c answer =
-    IsFileFault 1 files a answer
-    ⊎ ((one : Named)
-    × ReadsAs files a one
-    × (IsFileFault 2 files b answer
-    ⊎ ((two : Named)
-    × ReadsAs files b two
-    × (IsCertificateFault files c answer
-    ⊎ ((pair : Joined) × IsJoined one two pair × ((cert : Cert) × HoldsCertificate files c cert × Concludes pair cert answer))))))
+    IsPairFault files a b answer
+    ⊎ ((pair : Joined)
+    × ReadsPair files a b pair
+    × (IsCertificateFault files c answer ⊎ ((cert : Cert) × HoldsCertificate files c cert × Concludes pair cert answer)))
+
+-- The most elements of the search of `include`.
+abbrev pub search_limit : ℕ
+search_limit = 20000
+
+-- The answer of a decision where its search ends so.
+abbrev pub IsOutcomeAnswer : Joined → Outcome Entry → Answer → Type 0
+IsOutcomeAnswer pair (end.Closed es) answer = answer ≡ Included
+IsOutcomeAnswer pair (end.Apart x y) answer = answer ≡ NotIncluded pair.labels (record { prefix = x.arc.word; turn = y.arc.word })
+IsOutcomeAnswer pair (end.Limit es) answer = answer ≡ Limit search_limit
+
+-- The answer for two joined automata: that of the outcome of the search on them.
+abbrev pub IsDecided : Joined → Answer → Type 0
+IsDecided pair answer =
+    (order : List (ℕ × ℕ)) × (outcome : Outcome Entry) × Decides (unreduced pair) search_limit order outcome × IsOutcomeAnswer pair outcome answer
+
+-- The answer of `include A B CERT`: the files are looked at in this order, the first fault decides, and else the search does.
+abbrev pub IsIncludeAnswer : FileMap → List ℕ → List ℕ → Answer → Type 0
+IsIncludeAnswer files a b answer = IsPairFault files a b answer ⊎ ((pair : Joined) × ReadsPair files a b pair × IsDecided pair answer)
 
 -- The shelf has no file of this name.
 abbrev pub Lacks : FileMap → List ℕ → Type 0
 Lacks files name = map.contains_key files name ≡ false
 
--- The count of missing names rises only for a name whose turn it is: the first file's; the second's, once the first was read;
--- the certificate's, once both were read.
+-- The count of missing names rises only for a name whose turn it is: the first file's, or, once the first was read, the second's.
+abbrev pub CountsForPair : FileMap → List ℕ → List ℕ → ℕ → ℕ → Type 0
+CountsForPair files a b before now = (now ≡ before) ⊎ Lacks files a ⊎ ((one : Named) × ReadsAs files a one × Lacks files b)
+
+-- The same for a command: a check goes on to the certificate's file, once both were read.
 abbrev pub CountsInTurn : FileMap → Option Question → ℕ → ℕ → Type 0
 CountsInTurn files None before now = now ≡ before
 CountsInTurn files (Some (Check a b c)) before now =
-    (now ≡ before)
-    ⊎ Lacks files a
-    ⊎ ((one : Named) × ReadsAs files a one × (Lacks files b ⊎ ((two : Named) × ReadsAs files b two × Lacks files c)))
+    CountsForPair files a b before now ⊎ ((pair : Joined) × ReadsPair files a b pair × Lacks files c)
+CountsInTurn files (Some (Include a b c)) before now = CountsForPair files a b before now
 
 -- The answer to what the words ask.
 abbrev pub IsAnswerTo : FileMap → Option Question → Answer → Type 0
 IsAnswerTo files None answer = answer ≡ NotBuilt
 IsAnswerTo files (Some (Check a b c)) answer = IsCheckAnswer files a b c answer
+IsAnswerTo files (Some (Include a b c)) answer = IsIncludeAnswer files a b answer
 
--- A fact about the answer, unless it is a read fault or want of memory, which have other causes.
+-- A fact about the answer, unless it is a read fault, a write fault or want of memory, which have other causes.
 abbrev pub UnlessRefused : Answer → Type 0 → Type 0
 UnlessRefused ReadFault P = Unit {0}
+UnlessRefused WriteFault P = Unit {0}
 UnlessRefused OutOfMemory P = Unit {0}
 UnlessRefused answer P = P

@@ -1,12 +1,12 @@
 -- What each answer prints, and its status.
-use Rattle.std.specs.Prelude.{ℕ, ◌<◌, List, [], ◌∷◌, ◌++◌, length, All, codes, decimal, slice_index_or}
+use Rattle.std.specs.Prelude.{ℕ, Bool, true, false, ◌<◌, List, [], ◌∷◌, ◌++◌, length, All, codes, decimal, slice_index_or}
 use Rattle.std.specs.List.{flat_map}
 use Rattle.ba_format.specs.declared.parts.BaKind.{BaKind}
 use Rattle.ba_format.specs.declared.parts.BaKind.TheVariants as kind
 use Rattle.cert_text.specs.declared.faults.TextKind.{TextKind}
 use Rattle.cert_text.specs.declared.faults.TextKind.TheVariants as text_kind
 use Rattle.rabit_cli.specs.declared.answer.Answer.{Answer}
-use Rattle.rabit_cli.specs.declared.answer.Answer.TheVariants.{NotBuilt, BadFile, LongFile, BadText, LongCertificate, Refused, Included, NotIncluded, ReadFault, OutOfMemory}
+use Rattle.rabit_cli.specs.declared.answer.Answer.TheVariants.{NotBuilt, BadFile, LongFile, BadText, LongCertificate, Refused, Included, NotIncluded, Limit, ReadFault, WriteFault, OutOfMemory}
 
 -- The name of a fault of a `.ba` text.
 abbrev pub kind_name : BaKind → List ℕ
@@ -68,7 +68,9 @@ text_for (NotIncluded labels lasso) =
     codes "not included" ++ (line_end
     ++ (codes "prefix:" ++ (word_text labels lasso.prefix ++ (line_end
     ++ (codes "loop:" ++ (word_text labels lasso.turn ++ line_end))))))
+text_for (Limit limit) = codes "limit " ++ (decimal limit ++ line_end)
 text_for ReadFault = codes "read fault" ++ line_end
+text_for WriteFault = codes "write fault" ++ line_end
 text_for OutOfMemory = codes "out of memory" ++ line_end
 
 -- The status of the answer, once its text was sent.
@@ -81,16 +83,27 @@ status_of LongCertificate = 5
 status_of (Refused refusal) = 5
 status_of Included = 0
 status_of (NotIncluded labels lasso) = 1
+status_of (Limit limit) = 2
 status_of ReadFault = 6
+status_of WriteFault = 7
 status_of OutOfMemory = 8
 
 -- The status of the answer where its text could not be sent: a verdict turns into a write fault.
 abbrev pub status_unsent : Answer → ℕ
 status_unsent Included = 7
 status_unsent (NotIncluded labels lasso) = 7
+status_unsent (Limit limit) = 7
 status_unsent answer = status_of answer
 
 -- Each letter that the answer prints has a text.
 abbrev pub IsPrintable : Answer → Type 0
 IsPrintable (NotIncluded labels lasso) = All (λ a. a < length labels) lasso.prefix × All (λ a. a < length labels) lasso.turn
 IsPrintable answer = Unit {0}
+
+-- The answer comes before anything is written: no verdict, and no fault of writing.
+abbrev pub is_early : Answer → Bool
+is_early Included = false
+is_early (NotIncluded labels lasso) = false
+is_early (Limit limit) = false
+is_early WriteFault = false
+is_early answer = true

@@ -40,8 +40,12 @@ pub enum Answer {
         /// The lasso.
         lasso: Lasso,
     },
+    /// The search met its limit, which is this one.
+    Limit(u32),
     /// A file could not be read.
     ReadFault,
+    /// The certificate could not be written.
+    WriteFault,
     /// The machine refused memory.
     OutOfMemory,
 }
@@ -54,12 +58,14 @@ impl Answer {
         match self {
             Answer::Included => 0,
             Answer::NotIncluded { .. } => 1,
+            Answer::Limit(_) => 2,
             Answer::BadFile { .. } => 4,
             Answer::LongFile { .. } => 4,
             Answer::BadText(_) => 5,
             Answer::LongCertificate => 5,
             Answer::Refused(_) => 5,
             Answer::ReadFault => 6,
+            Answer::WriteFault => 7,
             Answer::OutOfMemory => 8,
             Answer::NotBuilt => 9,
         }
@@ -72,7 +78,17 @@ impl Answer {
         match self {
             Answer::Included => 7,
             Answer::NotIncluded { .. } => 7,
+            Answer::Limit(_) => 7,
             other => other.status(),
         }
     }
+}
+
+/// An answer, and its text where that was made before.
+#[derive(Debug, Drop)]
+pub enum Reply {
+    /// The text is still to be made.
+    Plain(Answer),
+    /// The answer comes with its text.
+    Ready(Answer, Vec<u8>),
 }

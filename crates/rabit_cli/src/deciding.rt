@@ -4,12 +4,15 @@ ghost use Rattle.std.specs.Prelude.{◌≡◌, ◌≤◌, ◌^◌, ◌<◌, ◌�
 ghost use Rattle.std.specs.String.{string_bytes};
 ghost use Rattle.shelf_io.specs.Counts.{Rose};
 ghost use Rattle.rabit_cli.specs.Question.{Check, question_of};
+ghost use Rattle.rabit_cli.specs.Said.{answer_in, IsSayable, NeedsMemory};
+ghost use Rattle.rabit_cli.specs.Written.{OfBoth, LeavesFor};
 ghost use Rattle.cert_text.specs.WellFormed.{WellFormed};
 ghost use Rattle.rabit_cli.specs.Printed.{IsPrintable};
 ghost use Rattle.rabit_cli.specs.Command.{HasLabelTexts, Concludes, CountsInTurn, IsCheckAnswer, IsAnswerTo, UnlessRefused};
 
-use crate::answer::Answer;
-use crate::{question, reading};
+use crate::answer::{Answer, Reply};
+use crate::question::Task;
+use crate::{inclusion, question, reading};
 use ba_format::Joined;
 use cert_check::{CheckFault, Verdict};
 use cert_text::Cert;
@@ -23,6 +26,7 @@ fn conclusion(alloc: Global, pair: Joined, cert: &Cert) -> Answer
     ensures concludes { UnlessRefused result (Concludes pair cert.now result) }
     ensures printable { IsPrintable result }
     ensures no_read_fault { ¬ (result ≡ Answer.ReadFault) }
+    ensures no_write_fault { ¬ (result ≡ Answer.WriteFault) }
 {
     if !cert_check::can_check(cert) {
         return Answer::NotBuilt;
@@ -51,21 +55,14 @@ fn check_answer<H: Shelf>(
     ensures printable { IsPrintable result }
     ensures read_fault { result ≡ Answer.ReadFault → Rose (H.faults shelf.old) (H.faults shelf.new) }
     ensures no_read_fault { ¬ (result ≡ Answer.ReadFault) → H.faults shelf.new ≡ H.faults shelf.old }
+    ensures no_write_fault { ¬ (result ≡ Answer.WriteFault) }
     ensures files_stay { H.held shelf.new ≡ H.held shelf.old }
     ensures puts_stay { H.put_faults shelf.new ≡ H.put_faults shelf.old }
     ensures missing { IfSome (H.held shelf.old) (λ files. CountsInTurn files (Some (Check first.now second.now certificate.now)) (H.missed shelf.old) (H.missed shelf.new)) }
 {
-    let one = match reading::read_automaton(alloc, shelf, first, 1) {
-        Ok(one) => one,
-        Err(answer) => return answer,
-    };
-    let two = match reading::read_automaton(alloc, shelf, second, 2) {
-        Ok(two) => two,
-        Err(answer) => return answer,
-    };
-    let pair = match reading::joined(alloc, &one, &two) {
+    let pair = match reading::read_pair(alloc, shelf, first, second) {
         Ok(pair) => pair,
-        Err(_refused) => return Answer::OutOfMemory,
+        Err(answer) => return answer,
     };
     match reading::read_certificate(alloc, shelf, certificate) {
         Ok(cert) => conclusion(alloc, pair, &cert),
@@ -73,24 +70,29 @@ fn check_answer<H: Shelf>(
     }
 }
 
-/// The answer to what the words ask.
-pub fn answer_to<H: Shelf>(alloc: Global, words: &[String], shelf: &mut H) -> Answer
-    ensures answer { IfSome (H.held shelf.old) (λ files. UnlessRefused result (IsAnswerTo files (question_of (map string_bytes words.now)) result)) }
-    ensures printable { IsPrintable result }
-    ensures read_fault { result ≡ Answer.ReadFault → Rose (H.faults shelf.old) (H.faults shelf.new) }
-    ensures no_read_fault { ¬ (result ≡ Answer.ReadFault) → H.faults shelf.new ≡ H.faults shelf.old }
-    ensures files_stay { H.held shelf.new ≡ H.held shelf.old }
-    ensures puts_stay { H.put_faults shelf.new ≡ H.put_faults shelf.old }
+/// The reply to what the words ask.
+pub fn reply_to<H: Shelf>(alloc: Global, words: &[String], shelf: &mut H) -> Reply
+    ensures answer { IfSome (H.held shelf.old) (λ files. UnlessRefused (answer_in result) (IsAnswerTo files (question_of (map string_bytes words.now)) (answer_in result))) }
+    ensures sayable { IsSayable result }
+    ensures read_fault { answer_in result ≡ Answer.ReadFault → Rose (H.faults shelf.old) (H.faults shelf.new) }
+    ensures no_read_fault { ¬ (answer_in result ≡ Answer.ReadFault) → H.faults shelf.new ≡ H.faults shelf.old }
+    ensures write_fault { answer_in result ≡ Answer.WriteFault → Rose (H.put_faults shelf.old) (H.put_faults shelf.new) }
+    ensures no_write_fault { ¬ (answer_in result ≡ Answer.WriteFault) → H.put_faults shelf.new ≡ H.put_faults shelf.old }
+    ensures leaves { OfBoth (H.held shelf.old) (H.held shelf.new) (λ files files'. LeavesFor files (question_of (map string_bytes words.now)) (answer_in result) files') }
+    ensures early { NeedsMemory result → H.held shelf.new ≡ H.held shelf.old }
     ensures missing { IfSome (H.held shelf.old) (λ files. CountsInTurn files (question_of (map string_bytes words.now)) (H.missed shelf.old) (H.missed shelf.new)) }
 {
-    match question::files_to_check(words) {
-        Some((first, second, certificate)) => check_answer(
+    match question::asked(words) {
+        Some((Task::Check, first, second, certificate)) => Reply::Plain(
+            check_answer(alloc, shelf, first, second, certificate),
+        ),
+        Some((Task::Include, first, second, certificate)) => inclusion::decided(
             alloc,
             shelf,
             first,
             second,
             certificate,
         ),
-        None => Answer::NotBuilt,
+        None => Reply::Plain(Answer::NotBuilt),
     }
 }

@@ -72,6 +72,12 @@ fn not_included_text(alloc: Global, labels: &Texts, lasso: &Lasso) -> Result<Vec
     Ok(text)
 }
 
+fn limit_text(alloc: Global, limit: u32) -> Result<Vec<u8>, Memory>
+    ensures { IfOk result (λ text. text.items ≡ codes "limit " ++ (decimal limit ++ line_end)) }
+{
+    Ok(format!(in alloc; "limit {limit}\n")?.into_bytes())
+}
+
 fn copied(alloc: Global, text: &str) -> Result<Vec<u8>, Memory>
     ensures { IfOk result (λ copy. copy.items ≡ text.now) }
 {
@@ -99,7 +105,9 @@ pub fn printed(alloc: Global, answer: &Answer) -> Result<Vec<u8>, Memory>
         ),
         Answer::LongCertificate => certificate_text(alloc, 0, "Long"),
         Answer::Refused(refusal) => refusal_text(alloc, refusal.item, refusal.rule),
+        Answer::Limit(limit) => limit_text(alloc, *limit),
         Answer::ReadFault => copied(alloc, "read fault\n"),
+        Answer::WriteFault => copied(alloc, "write fault\n"),
         Answer::Included => copied(alloc, "included\n"),
         Answer::NotBuilt => copied(alloc, "not built\n"),
         Answer::OutOfMemory => copied(alloc, "out of memory\n"),

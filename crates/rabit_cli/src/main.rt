@@ -1,8 +1,10 @@
-//! The program `rabit`: checks certificates of Büchi inclusion over files.
+//! The program `rabit`: decides Büchi inclusion and checks certificates of it, over files.
 #![tactic(auto)]
 
 mod answer;
 mod deciding;
+mod inclusion;
+mod laws;
 mod letters;
 mod lines;
 mod question;
@@ -33,6 +35,8 @@ mod certificate_tests;
 mod fault_tests;
 #[cfg(test)]
 mod graph_tests;
+#[cfg(test)]
+mod include_tests;
 #[cfg(test)]
 mod inclusion_tests;
 #[cfg(test)]

@@ -1,13 +1,14 @@
 //! The files that a check reads.
 
-ghost use Rattle.std.specs.Prelude.{◌≡◌, ◌≤◌, ◌^◌, ◌<◌, List, ℕ, length, IfOk, IfErr, IfSome, Err};
+ghost use Rattle.std.specs.Prelude.{◌≡◌, ◌≤◌, ◌^◌, ◌<◌, List, ℕ, length, true, IfOk, IfErr, IfSome, Err};
 ghost use Rattle.shelf_io.specs.Counts.{Rose};
 ghost use Rattle.shelf_io.specs.Shelf.{CountsMissing};
 ghost use Rattle.ba_format.specs.Reading.{IsWithin};
 ghost use Rattle.ba_format.specs.Joining.{IsJoined};
 ghost use Rattle.cert_text.specs.WellFormed.{WellFormed};
-ghost use Rattle.rabit_cli.specs.Printed.{IsPrintable};
-ghost use Rattle.rabit_cli.specs.Command.{check_limits, HasLabelTexts, IsFileFault, ReadsAs, IsCertificateFault, HoldsCertificate, UnlessRefused};
+ghost use Rattle.rabit_cli.specs.Printed.{IsPrintable, is_early};
+ghost use Rattle.decide.specs.Laws.{CanDecide};
+ghost use Rattle.rabit_cli.specs.Command.{check_limits, HasLabelTexts, IsFileFault, ReadsAs, ReadsPair, IsPairFault, CountsForPair, IsCertificateFault, HoldsCertificate, UnlessRefused};
 
 use crate::answer::Answer;
 use auto_core::Memory;
@@ -39,6 +40,7 @@ pub fn read_automaton<H: Shelf>(
     ensures within { IfOk result (IsWithin check_limits) }
     ensures labels { IfOk result (λ named. named.auto.labels ≡ length named.labels) }
     ensures printable { IfErr result IsPrintable }
+    ensures early { IfErr result (λ answer. is_early answer ≡ true) }
     ensures fault { IfErr result (λ answer. IfSome (H.held shelf.old) (λ files. UnlessRefused answer (IsFileFault number files name.now answer))) }
     ensures read_fault { result ≡ Err Answer.ReadFault → Rose (H.faults shelf.old) (H.faults shelf.new) }
     ensures no_read_fault { ¬ (result ≡ Err Answer.ReadFault) → H.faults shelf.new ≡ H.faults shelf.old }
@@ -67,8 +69,42 @@ pub fn joined(alloc: Global, one: &Named, two: &Named) -> Result<Joined, Memory>
     requires two_labels { two.now.auto.labels ≡ length two.now.labels }
     ensures joined { IfOk result (IsJoined one.now two.now) }
     ensures labels { IfOk result HasLabelTexts }
+    ensures small { IfOk result CanDecide }
 {
     ba_format::join(alloc, one, two)
+}
+
+/// Loads and reads the two automata, the second after the first, and joins them; or tells the answer that a file ends with.
+pub fn read_pair<H: Shelf>(
+    alloc: Global,
+    shelf: &mut H,
+    first: &str,
+    second: &str,
+) -> Result<Joined, Answer>
+    ensures read { IfOk result (λ pair. IfSome (H.held shelf.old) (λ files. ReadsPair files first.now second.now pair)) }
+    ensures labels { IfOk result HasLabelTexts }
+    ensures small { IfOk result CanDecide }
+    ensures printable { IfErr result IsPrintable }
+    ensures early { IfErr result (λ answer. is_early answer ≡ true) }
+    ensures fault { IfErr result (λ answer. IfSome (H.held shelf.old) (λ files. UnlessRefused answer (IsPairFault files first.now second.now answer))) }
+    ensures read_fault { result ≡ Err Answer.ReadFault → Rose (H.faults shelf.old) (H.faults shelf.new) }
+    ensures no_read_fault { ¬ (result ≡ Err Answer.ReadFault) → H.faults shelf.new ≡ H.faults shelf.old }
+    ensures files_stay { H.held shelf.new ≡ H.held shelf.old }
+    ensures puts_stay { H.put_faults shelf.new ≡ H.put_faults shelf.old }
+    ensures missing { IfSome (H.held shelf.old) (λ files. CountsForPair files first.now second.now (H.missed shelf.old) (H.missed shelf.new)) }
+{
+    let one = match read_automaton(alloc, shelf, first, 1) {
+        Ok(one) => one,
+        Err(answer) => return Err(answer),
+    };
+    let two = match read_automaton(alloc, shelf, second, 2) {
+        Ok(two) => two,
+        Err(answer) => return Err(answer),
+    };
+    match joined(alloc, &one, &two) {
+        Ok(pair) => Ok(pair),
+        Err(_refused) => Err(Answer::OutOfMemory),
+    }
 }
 
 /// Loads and reads the certificate, or tells the answer that its file ends with.
@@ -76,6 +112,7 @@ pub fn read_certificate<H: Shelf>(alloc: Global, shelf: &mut H, name: &str) -> R
     ensures read { IfOk result (λ cert. IfSome (H.held shelf.old) (λ files. HoldsCertificate files name.now cert)) }
     ensures well_formed { IfOk result WellFormed }
     ensures printable { IfErr result IsPrintable }
+    ensures early { IfErr result (λ answer. is_early answer ≡ true) }
     ensures fault { IfErr result (λ answer. IfSome (H.held shelf.old) (λ files. UnlessRefused answer (IsCertificateFault files name.now answer))) }
     ensures read_fault { result ≡ Err Answer.ReadFault → Rose (H.faults shelf.old) (H.faults shelf.new) }
     ensures no_read_fault { ¬ (result ≡ Err Answer.ReadFault) → H.faults shelf.new ≡ H.faults shelf.old }

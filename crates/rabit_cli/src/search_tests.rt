@@ -196,7 +196,7 @@ fn limits_are_met_by_one_more(rt: HostRuntime) -> Result<(), Fail> {
 }
 
 /// A ring of 30 states by one letter, where each state has a loop by another; only the first state is accepting.
-fn thirty(alloc: Global) -> Result<String, Memory> {
+pub(crate) fn thirty(alloc: Global) -> Result<String, Memory> {
     let mut text = String::new(alloc);
     text.push_str("[0]\n")?;
     for state in 0..30_u32 {

@@ -18,7 +18,7 @@ const TWO_LETTERS: &str = "[0]\na,[0]->[0]\nb,[0]->[0]\n[0]\n";
 
 const LETTERS_NO: &str = "rabit-cert 1 buchi no\nsizes 1 1 2\nprefix 1\nloop 1\nend\n";
 
-fn list_of(alloc: Global, bytes: &[u8]) -> Result<List<u8>, Memory> {
+pub(crate) fn list_of(alloc: Global, bytes: &[u8]) -> Result<List<u8>, Memory> {
     let mut list = List::new(alloc);
     for byte in bytes {
         list.push(*byte)?;
@@ -26,7 +26,7 @@ fn list_of(alloc: Global, bytes: &[u8]) -> Result<List<u8>, Memory> {
     Ok(list)
 }
 
-fn numbers_of(alloc: Global, numbers: &[u64]) -> Result<List<u64>, Memory> {
+pub(crate) fn numbers_of(alloc: Global, numbers: &[u64]) -> Result<List<u64>, Memory> {
     let mut list = List::new(alloc);
     for number in numbers {
         list.push(*number)?;
@@ -48,7 +48,7 @@ pub(crate) fn shelf_of(
     MemShelf::new(alloc, held, 0, 65536, numbers_of(alloc, fails)?)
 }
 
-fn words_of(alloc: Global, words: &[&str]) -> Result<Vec<String>, Memory> {
+pub(crate) fn words_of(alloc: Global, words: &[&str]) -> Result<Vec<String>, Memory> {
     let mut list = Vec::new(alloc);
     for word in words {
         list.push(String::from_str(alloc, word)?)?;

@@ -5,10 +5,11 @@ ghost use Rattle.std.specs.String.{string_bytes};
 ghost use Rattle.shelf_io.specs.Counts.{Rose};
 ghost use Rattle.rabit_cli.specs.Question.{question_of};
 ghost use Rattle.rabit_cli.specs.Printed.{IsPrintable, text_for};
-ghost use Rattle.rabit_cli.specs.Command.{CountsInTurn, IsAnswerTo, UnlessRefused};
-ghost use Rattle.rabit_cli.specs.Said.{WasSaid, IsAnswered, ShowsIncluded, ShowsApart, SaysEachAnswer};
+ghost use Rattle.rabit_cli.specs.Command.{CountsInTurn};
+ghost use Rattle.rabit_cli.specs.Said.{WasSaid, IsAnswered, IsSayable, NeedsMemory, answer_in, ShowsIncluded, ShowsApart, ShowsListed, SaysEachAnswer};
+ghost use Rattle.rabit_cli.specs.Written.{OfBoth, LeavesFiles};
 
-use crate::answer::Answer;
+use crate::answer::{Answer, Reply};
 use crate::{deciding, lines};
 use shelf_io::{Shelf, Sink};
 use std::alloc::Global;
@@ -24,14 +25,16 @@ fn give_text<K: Sink>(answer: &Answer, text: &[u8], out: &mut K) -> u8
     }
 }
 
-/// Says the answer; where memory is refused for its text, that is said in its place. The text of a read fault needs none.
+/// Says the answer; where memory is refused for its text, that is said in its place. The text of a fault of the shelf needs none.
 fn say<K: Sink>(alloc: Global, answer: &Answer, out: &mut K) -> u8
     requires { IsPrintable answer.now }
     ensures { WasSaid answer.now result (K.sent out.old) (K.sent out.new) (K.faults out.old) (K.faults out.new)
-        ⊎ (¬ (answer.now ≡ Answer.ReadFault) × WasSaid Answer.OutOfMemory result (K.sent out.old) (K.sent out.new) (K.faults out.old) (K.faults out.new)) }
+        ⊎ (NeedsMemory (Reply.Plain answer.now) × WasSaid Answer.OutOfMemory result (K.sent out.old) (K.sent out.new) (K.faults out.old) (K.faults out.new)) }
 {
-    if let Answer::ReadFault = answer {
-        return give_text(answer, b"read fault\n", out);
+    match answer {
+        Answer::ReadFault => return give_text(answer, b"read fault\n", out),
+        Answer::WriteFault => return give_text(answer, b"write fault\n", out),
+        _ => {}
     }
     match lines::printed(alloc, answer) {
         Ok(text) => give_text(answer, &text, out),
@@ -39,34 +42,58 @@ fn say<K: Sink>(alloc: Global, answer: &Answer, out: &mut K) -> u8
     }
 }
 
+/// Says the reply: its own text, where that was made.
+fn say_reply<K: Sink>(alloc: Global, reply: &Reply, out: &mut K) -> u8
+    requires { IsSayable reply.now }
+    ensures { WasSaid (answer_in reply.now) result (K.sent out.old) (K.sent out.new) (K.faults out.old) (K.faults out.new)
+        ⊎ (NeedsMemory reply.now × WasSaid Answer.OutOfMemory result (K.sent out.old) (K.sent out.new) (K.faults out.old) (K.faults out.new)) }
+{
+    match reply {
+        Reply::Plain(answer) => say(alloc, answer, out),
+        Reply::Ready(answer, text) => give_text(answer, text, out),
+    }
+}
+
 /// Does what the words after the program's name ask, and answers the program's status.
 pub fn run<H: Shelf, K: Sink>(alloc: Global, words: &[String], shelf: &mut H, out: &mut K) -> u8
     // One answer was said, and where the shelf tells its files it is the right one.
     ensures answered { IsAnswered (H.held shelf.old) (question_of (map string_bytes words.now)) result
-        (K.sent out.old) (K.sent out.new) (K.faults out.old) (K.faults out.new) (H.faults shelf.old) (H.faults shelf.new) }
+        (K.sent out.old) (K.sent out.new) (K.faults out.old) (K.faults out.new)
+        (H.faults shelf.old) (H.faults shelf.new) (H.put_faults shelf.old) (H.put_faults shelf.new) }
 
     // The answer to the question, whatever it is, comes with its status and its whole text, but for these.
     ensures exact { IfSome (H.held shelf.old) (λ files.
         SaysEachAnswer files (question_of (map string_bytes words.now)) result
-        (K.sent out.old) (K.sent out.new) (K.faults out.old) (K.faults out.new) (H.faults shelf.old) (H.faults shelf.new)) }
+        (K.sent out.old) (K.sent out.new) (K.faults out.old) (K.faults out.new)
+        (H.faults shelf.old) (H.faults shelf.new) (H.put_faults shelf.old) (H.put_faults shelf.new)) }
 
     // Included: the certificate is valid for the two read automata, and then the second accepts each lasso that the first accepts.
-    ensures included { result ≡ 0 → IfSome (H.held shelf.old) (λ files. ShowsIncluded files (question_of (map string_bytes words.now)) (K.sent out.old) (K.sent out.new)) }
+    // A decision wrote it.
+    ensures included { result ≡ 0 → OfBoth (H.held shelf.old) (H.held shelf.new) (λ files files'.
+        ShowsIncluded files (question_of (map string_bytes words.now)) files' (K.sent out.old) (K.sent out.new)) }
 
-    // Not included: the certificate's lasso separates the two read automata, and it was printed.
-    ensures not_included { result ≡ 1 → IfSome (H.held shelf.old) (λ files. ShowsApart files (question_of (map string_bytes words.now)) (K.sent out.old) (K.sent out.new)) }
+    // Not included: the certificate's lasso separates the two read automata, and it was printed. A decision wrote the certificate.
+    ensures not_included { result ≡ 1 → OfBoth (H.held shelf.old) (H.held shelf.new) (λ files files'.
+        ShowsApart files (question_of (map string_bytes words.now)) files' (K.sent out.old) (K.sent out.new)) }
+
+    // The limit of a decision was met: its certificate lists one supergraph more, and was written.
+    ensures limit_met { result ≡ 2 → OfBoth (H.held shelf.old) (H.held shelf.new) (λ files files'.
+        ShowsListed files (question_of (map string_bytes words.now)) files' (K.sent out.old) (K.sent out.new)) }
+
+    // What the shelf holds afterwards: only a decision writes, and only the file of its certificate.
+    ensures files { OfBoth (H.held shelf.old) (H.held shelf.new) (λ files files'.
+        LeavesFiles files (question_of (map string_bytes words.now)) result (H.put_faults shelf.old) (H.put_faults shelf.new) files') }
 
     // Faults of the outside, each with its count, and what stays.
     ensures read_fault { result ≡ 6 → Rose (H.faults shelf.old) (H.faults shelf.new) }
     ensures no_read_fault { result ≢ 6 → H.faults shelf.new ≡ H.faults shelf.old }
-    ensures write_fault { result ≡ 7 → Rose (K.faults out.old) (K.faults out.new) }
-    ensures files_stay { H.held shelf.new ≡ H.held shelf.old }
-    ensures puts_stay { H.put_faults shelf.new ≡ H.put_faults shelf.old }
+    ensures write_fault { result ≡ 7 → Rose (K.faults out.old) (K.faults out.new) ⊎ Rose (H.put_faults shelf.old) (H.put_faults shelf.new) }
+    ensures no_write_fault { result ≢ 7 → H.put_faults shelf.new ≡ H.put_faults shelf.old }
 
     // Where the shelf tells its files, a missing one is counted only where the command reads it, after those before it.
     ensures missing { IfSome (H.held shelf.old) (λ files.
         CountsInTurn files (question_of (map string_bytes words.now)) (H.missed shelf.old) (H.missed shelf.new)) }
 {
-    let answer = deciding::answer_to(alloc, words, shelf);
-    say(alloc, &answer, out)
+    let reply = deciding::reply_to(alloc, words, shelf);
+    say_reply(alloc, &reply, out)
 }

@@ -1,0 +1,6 @@
+pub mod PlaceLemmas
+pub mod RowLemmas
+pub mod YesLemmas
+pub mod UniqueLemmas
+pub mod AnswerLemmas
+pub mod MadeLemmas

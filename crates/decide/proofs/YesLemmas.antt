@@ -1,0 +1,347 @@
+-- The evidence that a closed search gives: it keeps all rules of the check, it has a text, and what it says is so.
+use Rattle.std.proofs.Common.{◌≡◌, ℕ, zero, suc, ◌+◌, ◌<◌, ◌≤◌, ◌==◌, ◌&&◌, Bool, true, false, cond, List, [], ◌∷◌, ◌++◌, length, map, All, Contains, slice_index_or, refl, sym, ap, ◌∙◌, subst, arith}
+use Rattle.std.specs.Prelude.{filter}
+use Rattle.std.specs.List.{list_all, range_with_len}
+use Rattle.std.proofs.lemmas.Bool.{false≢true, and_from, and_parts, lt-ltb, eq-eqb}
+use Rattle.std.proofs.lemmas.List.{length-map}
+use Rattle.std.proofs.lemmas.Option.{same_Some, none-some, get_or_from_slice_get}
+use Rattle.auto_core.specs.Automaton.{Automaton, IsAutomaton, trans, trans_at}
+use Rattle.auto_core.specs.Accept.{Includes}
+use Rattle.auto_core.specs.Game.{Holds, IsGreatestForward, StableForward}
+use Rattle.auto_core.specs.Graph.{Subsumes, WordArc, super_of, arcs_of, arc_at, extended_arc, start_arc, ArePlaced, IsPlacedAt}
+use Rattle.auto_core.specs.Closed.{ClosedSet}
+use Rattle.auto_core.specs.Outcome.{At, Entry, Closed, StaysLive, IsDropped, TellsLive, LiveSubsumes, IsLeastSubsumer, base_entry, next_entry, steps_out, supergraph_rules, SearchEnds, arcs_in}
+use Rattle.auto_core.specs.declared.parts.Mode.TheVariants.{Buchi}
+use Rattle.auto_core.specs.declared.parts.Origin.{Origin}
+use Rattle.auto_core.specs.declared.parts.Origin.TheVariants.{Start, Base, Next}
+use Rattle.auto_core.specs.declared.parts.Trans.{Trans}
+use Rattle.search_laws.specs.Outcomes.{HaveOrigins}
+use Rattle.search_laws.proofs.PlaceLemmas.{at_within, at_some}
+use Rattle.search_laws.proofs.ListLemmas.{read_map, in_map}
+use Rattle.search_laws.proofs.EntryLemmas.{origins_size, arcs_size, arc_here}
+use Rattle.search_laws.proofs.OutcomeLemmas.{origins_fit, closed_end, closed_list_is_closed_set, closed_list_includes, live_ones_stand_apart}
+use Rattle.std.proofs.lemmas.List.Elements.{Contains-append_left, Contains-append_right}
+use Rattle.cert_text.specs.declared.types.YesBody.{YesBody}
+use Rattle.cert_text.specs.declared.types.Element.{Element}
+use Rattle.cert_text.specs.declared.types.Mark.{Mark}
+use Rattle.cert_text.specs.declared.types.Mark.TheVariants.{Live, Under}
+use Rattle.cert_text.specs.declared.types.Row.{Row}
+use Rattle.cert_text.specs.declared.types.StepLine.{StepLine}
+use Rattle.cert_text.specs.WellFormed.{is_live, is_short, are_short, is_element, is_mark, is_origin, is_step_of, are_steps, is_row, are_rows, is_block}
+use Rattle.cert_check.specs.Checks.{AllHold}
+use Rattle.cert_check.specs.Inclusion.{pairs_of, pairs_of_row, IsRowBelow, origins_of, element_arcs, no_element, live_in, NamesOrigin, NamesElement, HasEarlierParent, GoesOn, IsOver, IsUnder, AreOver, starts_of, extensions_of, order_checks, element_checks, under_checks, step_checks, pair_checks, inclusion_checks}
+use Rattle.cert_check.proofs.CheckLemmas.{all_join}
+use Rattle.cert_check.proofs.ClosedLemmas.{elements_part, under_part, cover_part, steps_part, pairs_part}
+use Rattle.cert_check.proofs.SuperLemmas.{start_at, starts_count}
+use Rattle.ramsey_search.specs.Ends.{is_live as is_live_mark, marked_live, IsMarked, IsStepOf, IsClosureOf, LiveStandApart}
+use Rattle.decide.specs.Answer.{closure_in}
+use Rattle.decide.proofs.RowLemmas.{row_parts}
+use Rattle.decide.proofs.PlaceLemmas.{all_from_places, pass_from_places, checks_from_places, filter_of_map, list_by_numbers}
+
+same_head : {X : Type 0} (x y : X) (xs ys : List X) → x ∷ xs ≡ y ∷ ys → x ≡ y
+same_head x y xs ys e = cc
+
+same_tail : {X : Type 0} (x y : X) (xs ys : List X) → x ∷ xs ≡ y ∷ ys → xs ≡ ys
+same_tail x y xs ys e = cc
+
+marks_alike : (m : Mark) → is_live m ≡ is_live_mark m
+marks_alike Live = refl
+marks_alike (Under j) = refl
+
+-- What a placed origin names.
+pub record PlacedParts (A : Automaton) (arcs : List WordArc) (n e : ℕ) (o : Origin) : Type 0 where
+  pub names : NamesOrigin A n o
+  pub earlier : HasEarlierParent e o
+  pub goes : GoesOn A arcs o
+  pub short : is_origin Buchi o ≡ true
+
+pub parts_of_placed : (A : Automaton) (arcs : List WordArc) (n e : ℕ) (o : Origin) → e < n → n ≤ 100001 → length A.transitions ≤ 65536 → IsPlacedAt A arcs e o → PlacedParts A arcs n e o
+parts_of_placed A arcs n e Start lt few small placed = absurd placed
+parts_of_placed A arcs n e (Base t) lt few small placed = record { names = placed; earlier = tt; goes = tt; short = lt-ltb t 1000000000 (omega arith) }
+parts_of_placed A arcs n e (Next p t) lt few small placed =
+    let before = placed.0 in
+    let there = placed.1 in
+    record {
+      names = (omega arith, there);
+      earlier = before;
+      goes = placed.2;
+      short = and_from (is_short p) (is_short t) (lt-ltb p 1000000000 (omega arith)) (lt-ltb t 1000000000 (omega arith));
+    }
+
+-- The extensions of an arc are those by the numbers of the transitions out of its end.
+extensions_are : (A : Automaton) (x : WordArc) → extensions_of A x ≡ map (λ t. extended_arc A x (trans_at A t)) (steps_out A x.to)
+extensions_are A x =
+    ap (λ l. map (extended_arc A x) (filter (λ (t : Trans). t.source == x.to) l)) (sym (list_by_numbers A.transitions (trans 0 0 0)))
+    ∙ ap (map (extended_arc A x)) (filter_of_map (λ (t : Trans). t.source == x.to) (trans_at A) (range_with_len 0 (length A.transitions)))
+    ∙ map_twice (trans_at A) (extended_arc A x) (steps_out A x.to)
+  where
+    map_twice : {X Y Z : Type 0} (f : X → Y) (g : Y → Z) (xs : List X) → map g (map f xs) ≡ map (λ x. g (f x)) xs
+    map_twice f g [] = refl
+    map_twice f g (x ∷ xs) = ap (λ l. g (f x) ∷ l) (map_twice f g xs)
+
+-- The rows of a block name states, where its pairs do.
+rows_below : (n bound : ℕ) (rows : List Row) → are_rows bound rows ≡ true → ((p q : ℕ) → Contains (pairs_of (record { rows = rows })) (p, q) → (p < n) × (q < n)) → All (IsRowBelow n) rows
+rows_below n bound rows formed range = all_from_places (IsRowBelow n) rows (each bound rows formed range)
+  where
+    each : (bound : ℕ) (rows : List Row) → are_rows bound rows ≡ true → ((p q : ℕ) → Contains (pairs_of (record { rows = rows })) (p, q) → (p < n) × (q < n)) → (k : ℕ) (row : Row) → At rows k row → IsRowBelow n row
+    each bound [] h range k row is = absurd (none-some row is)
+    each bound (first ∷ rows) h range zero row is =
+        let a = and_parts (is_row bound first) (are_rows (first.left + 1) rows) h in
+        let p = row_parts bound first a.0 in
+        let in_all = λ (r : ℕ) (r_in : Contains first.rights r). Contains-append_left (pairs_of_row first) (pairs_of (record { rows = rows })) (first.left, r) (in_map (λ r. (first.left, r)) first.rights r r_in) in
+        subst (IsRowBelow n) (same_Some first row is)
+        ((range first.left p.a_right (in_all p.a_right p.has_right)).0, all_from_places (λ r. r < n) first.rights (λ k r r_is. (range first.left r (in_all r (k, at_within first.rights k r r_is, get_or_from_slice_get first.rights k r r r_is))).1))
+    each bound (first ∷ rows) h range (suc k) row is =
+        let a = and_parts (is_row bound first) (are_rows (first.left + 1) rows) h in
+        each (first.left + 1) rows a.1 (λ p q has. range p q (Contains-append_right (pairs_of_row first) (pairs_of (record { rows = rows })) (p, q) has)) k row is
+
+-- The step lines of the live elements, in order: the line of the first element, where the others have theirs.
+abbrev AreShort : List StepLine → Type 0
+AreShort lines = (k : ℕ) (l : StepLine) → At lines k l → (is_short l.element ≡ true) × (are_short l.by ≡ true)
+
+module _ (live : ℕ → Bool) (n : ℕ) (m : Element) (xs : List Element) where
+  abbrev later : List ℕ
+  later = filter live (range_with_len (n + 1) (length xs))
+
+  first_line : ((more : List StepLine) → map (λ (l : StepLine). l.element) more ≡ later → AreShort more → are_steps (n + 1) xs more ≡ true) →
+      (b : Bool) → live n ≡ b → is_live m.mark ≡ b → (steps : List StepLine) → map (λ (l : StepLine). l.element) steps ≡ cond (live n) (n ∷ later) later → AreShort steps → are_steps n (m ∷ xs) steps ≡ true
+  first_line rest true live_is mark_is [] lines short = absurd (let e = ap length (lines ∙ ap (λ b. cond b (n ∷ later) later) live_is) in omega arith)
+  first_line rest true live_is mark_is (l ∷ ls) lines short =
+      let both : l.element ∷ map (λ (l : StepLine). l.element) ls ≡ n ∷ later = lines ∙ ap (λ b. cond b (n ∷ later) later) live_is in
+      let here = short 0 l refl in
+      subst (λ b. cond b (is_step_of n l && are_steps (n + 1) xs ls) (are_steps (n + 1) xs (l ∷ ls)) ≡ true) (sym mark_is)
+      (and_from (is_step_of n l) (are_steps (n + 1) xs ls)
+      (and_from (is_short l.element) (are_short l.by && (l.element == n)) here.0 (and_from (are_short l.by) (l.element == n) here.1 (eq-eqb l.element n (same_head l.element n (map (λ (l : StepLine). l.element) ls) later both))))
+      (rest ls (same_tail l.element n (map (λ (l : StepLine). l.element) ls) later both) (λ k x is. short (suc k) x is)))
+  first_line rest false live_is mark_is [] lines short =
+      subst (λ b. cond b false (are_steps (n + 1) xs []) ≡ true) (sym mark_is) (rest [] (lines ∙ ap (λ b. cond b (n ∷ later) later) live_is) short)
+  first_line rest false live_is mark_is (l ∷ ls) lines short =
+      subst (λ b. cond b (is_step_of n l && are_steps (n + 1) xs ls) (are_steps (n + 1) xs (l ∷ ls)) ≡ true) (sym mark_is)
+      (rest (l ∷ ls) (lines ∙ ap (λ b. cond b (n ∷ later) later) live_is) short)
+
+lines_are_steps : (live : ℕ → Bool) (n : ℕ) (xs : List Element) (steps : List StepLine) → ((k : ℕ) (m : Element) → At xs k m → live (n + k) ≡ is_live m.mark) →
+    map (λ (l : StepLine). l.element) steps ≡ filter live (range_with_len n (length xs)) → AreShort steps → are_steps n xs steps ≡ true
+lines_are_steps live n [] [] told lines short = refl
+lines_are_steps live n [] (l ∷ ls) told lines short = absurd (let e = ap length lines in omega arith)
+lines_are_steps live n (m ∷ xs) steps told lines short =
+    first_line live n m xs (λ more. lines_are_steps live (n + 1) xs more (λ k x is. let e : n + 1 + k ≡ n + suc k = omega arith in ap live e ∙ told (suc k) x is))
+    (is_live m.mark) (let e : n ≡ n + 0 = omega arith in ap live e ∙ told 0 m refl) refl steps lines short
+
+module _ (A B : Automaton) (S : List (ℕ × ℕ)) (limit : ℕ) (es : List Entry) (y : YesBody)
+    (valid_A : IsAutomaton A) (valid : IsAutomaton B) (few_transitions : length A.transitions ≤ 65536) (few : limit ≤ 100000)
+    (greatest : IsGreatestForward B 1 S) (ends : SearchEnds A B S limit (Closed es))
+    (closure : IsClosureOf A B S es (closure_in y)) (formed : is_block y.order ≡ true) (pairs : pairs_of y.order ≡ S)
+  where
+    origins : HaveOrigins A es
+    origins = (origins_fit A B S limit es).0 ends
+
+    arcs : element_arcs A y ≡ arcs_in es
+    arcs = ap (arcs_of A) closure.origins ∙ origins.arcs
+
+    size : length y.elements ≡ length es
+    size = sym (length-map y.elements (λ (x : Element). x.origin)) ∙ ap length closure.origins ∙ origins_size es
+
+    arcs_count : length (element_arcs A y) ≡ length y.elements
+    arcs_count = ap length arcs ∙ arcs_size es ∙ sym size
+
+    bounded : length y.elements ≤ 100000
+    bounded = let most = (closed_end A B S limit es ends).few in let n = size in omega arith
+
+    element_of : (i : ℕ) (x : Entry) → At es i x → (m : Element) × At y.elements i m
+    element_of i x is = let within = at_within es i x is in let n = size in at_some y.elements i (omega arith)
+
+    entry_of : (i : ℕ) (m : Element) → At y.elements i m → (x : Entry) × At es i x
+    entry_of i m is = let within = at_within y.elements i m is in let n = size in at_some es i (omega arith)
+
+    live_is : (i : ℕ) (m : Element) → At y.elements i m → live_in y i ≡ is_live m.mark
+    live_is i m is = ap (λ (e : Element). is_live e.mark) (get_or_from_slice_get y.elements i m no_element is)
+
+    marked_is : (i : ℕ) (m : Element) → At y.elements i m → marked_live y.elements i ≡ is_live m.mark
+    marked_is i m is = ap is_live_mark (read_map (λ (e : Element). e.mark) y.elements i m (Under 0) is) ∙ sym (marks_alike m.mark)
+
+    stays_of : (i : ℕ) (x : Entry) (mark : Mark) → IsMarked A B S es i x mark → is_live mark ≡ true → StaysLive (supergraph_rules A B S) es i
+    stays_of i x Live marked e = marked
+    stays_of i x (Under j) marked e = absurd (false≢true e)
+
+    drops_of : (i : ℕ) (x : Entry) (mark : Mark) → IsMarked A B S es i x mark → is_live mark ≡ false → IsDropped (supergraph_rules A B S) es i
+    drops_of i x Live marked e = absurd (false≢true (sym e))
+    drops_of i x (Under j) marked e = marked.0
+
+    live_of_stays : (i : ℕ) (x : Entry) (mark : Mark) → IsMarked A B S es i x mark → StaysLive (supergraph_rules A B S) es i → is_live mark ≡ true
+    live_of_stays i x Live marked stays = refl
+    live_of_stays i x (Under j) marked stays = let d = marked.0 in absurd (stays d.place d.element d.by d.later d.is d.by_is d.subsumes)
+
+    tells : TellsLive (supergraph_rules A B S) es (live_in y)
+    tells = record {
+      stays = λ i lt live.
+          let x = at_some es i lt in
+          let m = element_of i x.0 x.1 in
+          stays_of i x.0 m.0.mark (closure.marks i x.0 m.0 x.1 m.1) (sym (live_is i m.0 m.1) ∙ live);
+      drops = λ i lt gone.
+          let x = at_some es i lt in
+          let m = element_of i x.0 x.1 in
+          drops_of i x.0 m.0.mark (closure.marks i x.0 m.0 x.1 m.1) (sym (live_is i m.0 m.1) ∙ gone);
+    }
+
+    pub includes : Includes A B Buchi
+    includes = closed_list_includes A B S limit es (live_in y) valid greatest ends tells
+
+    closed : ClosedSet A B S (element_arcs A y) (live_in y)
+    closed = subst (λ l. ClosedSet A B S l (live_in y)) (sym arcs) (closed_list_is_closed_set A B S limit es (live_in y) valid greatest ends tells)
+
+    arc_is : (j : ℕ) (x : Entry) → At es j x → arc_at A (element_arcs A y) j ≡ x.arc
+    arc_is j x is = ap (λ l. arc_at A l j) arcs ∙ arc_here A es j x is
+
+    live_at : (j : ℕ) (x : Entry) → At es j x → StaysLive (supergraph_rules A B S) es j → live_in y j ≡ true
+    live_at j x is stays = let m = element_of j x is in live_is j m.0 m.1 ∙ live_of_stays j x m.0.mark (closure.marks j x m.0 is m.1) stays
+
+    -- A least subsumer is one that the check asks for.
+    least_within : (x : Entry) (j : ℕ) → IsLeastSubsumer (supergraph_rules A B S) es x j → j < length y.elements
+    least_within x j least = let within = at_within es j least.here.element least.here.is in let n = size in omega arith
+
+    over : (x : Entry) (j : ℕ) → IsLeastSubsumer (supergraph_rules A B S) es x j → IsOver A B y j x.arc
+    over x j least =
+        let here : LiveSubsumes (supergraph_rules A B S) es x j = least.here in
+        let within = least_within x j least in
+        let n = arcs_count in (
+          (omega arith, live_at j here.element here.is here.live),
+          subst (λ T. Subsumes (Holds T) (super_of B (arc_at A (element_arcs A y) j)) (super_of B x.arc)) (sym pairs)
+              (subst (λ a. Subsumes (Holds S) (super_of B a) (super_of B x.arc)) (sym (arc_is j here.element here.is)) here.subsumes),
+        )
+
+    placed : (e : ℕ) (m : Element) → At y.elements e m → PlacedParts A (element_arcs A y) (length y.elements) e m.origin
+    placed e m is =
+        let within = at_within y.elements e m is in
+        let all : ArePlaced A (origins_of y) = subst (ArePlaced A) (sym closure.origins) origins.placed in
+        let count = length-map y.elements (λ (x : Element). x.origin) in
+        let n = bounded in
+        parts_of_placed A (element_arcs A y) (length y.elements) e m.origin within (omega arith) few_transitions
+        (subst (IsPlacedAt A (element_arcs A y) e) (read_map (λ (x : Element). x.origin) y.elements e m Start is) (all e (omega arith)))
+
+    -- The order, the elements, and those under others.
+    order_holds : AllHold (order_checks B y 1)
+    order_holds = (
+      rows_below B.states 0 y.order.rows (and_parts (is_short (length y.order.rows)) (are_rows 0 y.order.rows) formed).1
+          (λ p q has. greatest.in_range p q (subst (λ l. Contains l (p, q)) pairs has)),
+      (subst (StableForward B 1) (sym pairs) greatest.stable, tt),
+    )
+
+    names_of : (i : ℕ) (x : Entry) (mark : Mark) → IsMarked A B S es i x mark → NamesElement (length y.elements) mark
+    names_of i x Live marked = tt
+    names_of i x (Under j) marked = least_within x j marked.1
+
+    elements_hold : AllHold (elements_part A B y)
+    elements_hold = checks_from_places (element_checks A y 2) y.elements (λ e m is.
+        let x = entry_of e m is in
+        let p = placed e m is in
+        ((p.names, names_of e x.0 m.mark (closure.marks e x.0 m x.1 is)), (p.earlier, (p.goes, tt))))
+
+    under_of : (i : ℕ) (x : Entry) → At es i x → (mark : Mark) → IsMarked A B S es i x mark → IsUnder A B y i mark
+    under_of i x is Live marked = tt
+    under_of i x is (Under j) marked = subst (IsOver A B y j) (sym (arc_is i x is)) (over x j marked.1)
+
+    under_hold : AllHold (under_part A B y)
+    under_hold = checks_from_places (under_checks A B y 2) y.elements (λ e m is. let x = entry_of e m is in (under_of e x.0 x.1 m.mark (closure.marks e x.0 m x.1 is), tt))
+
+    -- The cover and the step lines.
+    cover_within : (t j : ℕ) → At y.cover t j → j < length y.elements
+    cover_within t j is = least_within (base_entry A t) j (closure.cover t j is)
+
+    cover_holds : AllHold (cover_part A B y)
+    cover_holds = (
+      all_from_places (λ j. j < length y.elements) y.cover cover_within,
+      (
+        record {
+          count = closure.cover_size ∙ starts_count A;
+          each = λ t lt.
+              let there : t < length y.cover = let n = closure.cover_size in let c = starts_count A in omega arith in
+              let j = at_some y.cover t there in
+              let in_A : t < length A.transitions = let c = starts_count A in omega arith in
+              subst (λ k. IsOver A B y k (slice_index_or (starts_of A) t (start_arc A))) (sym (get_or_from_slice_get y.cover t j.0 0 j.1))
+              (subst (IsOver A B y j.0) (sym (start_at A t in_A)) (over (base_entry A t) j.0 (closure.cover t j.0 j.1)));
+        },
+        tt,
+      ),
+    )
+
+    by_within : (l : StepLine) → IsStepOf A B S es l → (k j : ℕ) → At l.by k j → j < length y.elements
+    by_within l step k j is =
+        let within = at_within l.by k j is in
+        let t = at_some (steps_out A step.element.arc.to) k (let n = step.size in omega arith) in
+        least_within (next_entry A l.element step.element t.0) j (step.each k t.0 j t.1 is)
+
+    element_within : (l : StepLine) → IsStepOf A B S es l → l.element < length y.elements
+    element_within l step = let within = at_within es l.element step.element step.is in let n = size in omega arith
+
+    step_over : (l : StepLine) (step : IsStepOf A B S es l) → AreOver A B y l.by (map (λ t. extended_arc A step.element.arc (trans_at A t)) (steps_out A step.element.arc.to))
+    step_over l step = record {
+      count = step.size ∙ sym (length-map (steps_out A step.element.arc.to) (λ t. extended_arc A step.element.arc (trans_at A t)));
+      each = λ k lt.
+          let n = step.size in
+          let c = length-map (steps_out A step.element.arc.to) (λ t. extended_arc A step.element.arc (trans_at A t)) in
+          let t = at_some (steps_out A step.element.arc.to) k (omega arith) in
+          let j = at_some l.by k (omega arith) in
+          subst (λ i. IsOver A B y i (slice_index_or (map (λ t. extended_arc A step.element.arc (trans_at A t)) (steps_out A step.element.arc.to)) k (start_arc A))) (sym (get_or_from_slice_get l.by k j.0 0 j.1))
+          (subst (IsOver A B y j.0) (sym (read_map (λ t. extended_arc A step.element.arc (trans_at A t)) (steps_out A step.element.arc.to) k t.0 (start_arc A) t.1))
+          (over (next_entry A l.element step.element t.0) j.0 (step.each k t.0 j.0 t.1 j.1)));
+    }
+
+    steps_hold : AllHold (steps_part A B y)
+    steps_hold = checks_from_places (step_checks A B y (3 + length y.elements)) y.steps (λ k l is.
+        let step : IsStepOf A B S es l = closure.steps k l is in (
+          (element_within l step, all_from_places (λ j. j < length y.elements) l.by (by_within l step)),
+          (
+            subst (λ a. AreOver A B y l.by (extensions_of A a)) (sym (arc_is l.element step.element step.is))
+                (subst (AreOver A B y l.by) (sym (extensions_are A step.element.arc)) (step_over l step)),
+            tt,
+          ),
+        ))
+
+    pairs_hold : AllHold (pairs_part A B y)
+    pairs_hold = checks_from_places (pair_checks A B y 2) y.elements (λ e m is. (λ live f live_f. closed.passes e f live live_f, tt))
+
+    pub rules_hold : AllHold (inclusion_checks A B y)
+    rules_hold =
+        all_join (order_checks B y 1) (elements_part A B y ++ (under_part A B y ++ (cover_part A B y ++ (steps_part A B y ++ pairs_part A B y)))) order_holds
+        (all_join (elements_part A B y) (under_part A B y ++ (cover_part A B y ++ (steps_part A B y ++ pairs_part A B y))) elements_hold
+        (all_join (under_part A B y) (cover_part A B y ++ (steps_part A B y ++ pairs_part A B y)) under_hold
+        (all_join (cover_part A B y) (steps_part A B y ++ pairs_part A B y) cover_holds
+        (all_join (steps_part A B y) (pairs_part A B y) steps_hold pairs_hold))))
+
+    -- It has a text.
+    short_number : (j : ℕ) → j < length y.elements → is_short j ≡ true
+    short_number j lt = let n = bounded in lt-ltb j 1000000000 (omega arith)
+
+    short_mark : (i : ℕ) (x : Entry) (mark : Mark) → IsMarked A B S es i x mark → is_mark mark ≡ true
+    short_mark i x Live marked = refl
+    short_mark i x (Under j) marked = short_number j (least_within x j marked.1)
+
+    pub elements_formed : list_all (is_element Buchi) y.elements ≡ true
+    elements_formed = pass_from_places (is_element Buchi) y.elements (λ e m is.
+        let x = entry_of e m is in
+        and_from (is_mark m.mark) (is_origin Buchi m.origin) (short_mark e x.0 m.mark (closure.marks e x.0 m x.1 is)) (placed e m is).short)
+
+    pub cover_formed : are_short y.cover ≡ true
+    cover_formed = pass_from_places is_short y.cover (λ t j is. short_number j (cover_within t j is))
+
+    pub count_formed : is_short (length y.elements) ≡ true
+    count_formed = let n = bounded in lt-ltb (length y.elements) 1000000000 (omega arith)
+
+    pub steps_formed : are_steps 0 y.elements y.steps ≡ true
+    steps_formed = lines_are_steps (marked_live y.elements) 0 y.elements y.steps
+        (λ k m is. let e : 0 + k ≡ k = omega arith in ap (marked_live y.elements) e ∙ marked_is k m is)
+        (closure.lines ∙ ap (λ n. filter (marked_live y.elements) (range_with_len 0 n)) (sym size))
+        (λ k l is.
+        let step : IsStepOf A B S es l = closure.steps k l is in
+        (short_number l.element (element_within l step), pass_from_places is_short l.by (λ i j j_is. short_number j (by_within l step i j j_is))))
+
+    -- No live element subsumes another.
+    pub stand_apart : LiveStandApart A B S (origins_of y) (live_in y)
+    stand_apart i j i_in j_in other i_live j_live subsumes =
+        let count = length-map y.elements (λ (x : Element). x.origin) in
+        let n = size in
+        let x = at_some es i (omega arith) in
+        let z = at_some es j (omega arith) in
+        live_ones_stand_apart A B S limit es ends i j x.0 z.0 other x.1 z.1 (tells.stays i (at_within es i x.0 x.1) i_live) (tells.stays j (at_within es j z.0 z.1) j_live)
+        (subst (λ a. Subsumes (Holds S) (super_of B a) (super_of B z.0.arc)) (arc_is i x.0 x.1)
+        (subst (λ b. Subsumes (Holds S) (super_of B (arc_at A (element_arcs A y) i)) (super_of B b)) (arc_is j z.0 z.1) subsumes))

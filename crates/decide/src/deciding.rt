@@ -1,0 +1,68 @@
+//! The decision of an inclusion.
+
+ghost use Rattle.std.specs.Prelude.{◌≡◌, ◌≤◌, IfOk, length};
+ghost use Rattle.auto_core.specs.Accept.{Includes, SeparatesLasso};
+ghost use Rattle.auto_core.specs.declared.parts.Lasso.{Lasso};
+ghost use Rattle.auto_core.specs.declared.parts.Mode.TheVariants.{Buchi};
+ghost use Rattle.cert_text.specs.WellFormed.{WellFormed};
+ghost use Rattle.cert_text.specs.declared.types.YesBody.{YesBody};
+ghost use Rattle.cert_text.specs.declared.types.ListBody.{ListBody};
+ghost use Rattle.cert_text.specs.declared.types.Body.TheVariants as body;
+ghost use Rattle.decide.specs.Answer.{IsAnswer, HasFewParts};
+ghost use Rattle.decide.specs.Laws.{IsValidVerdict, StandApart, ListsNew};
+
+use crate::bodies::body_of;
+use auto_core::{Memory, Mode};
+use ba_format::Joined;
+use cert_text::Cert;
+use ramsey_search::search;
+use std::alloc::Global;
+
+/// Decides whether the second automaton accepts each lasso that the first accepts. The certificate is the answer: a yes with the
+/// evidence of a closed set, a no with a lasso that separates the two, or the list of limit + 1 supergraphs where the limit was met.
+/// The lookahead is that of a reduction before the search; there is none yet, and both logs are empty.
+pub fn include(
+    alloc: Global,
+    pair: &Joined,
+    mode: Mode,
+    look: u32,
+    limit: u32,
+) -> Result<Cert, Memory>
+    requires first_labels { pair.now.first.labels ≡ length pair.now.labels }
+    requires second_labels { pair.now.second.labels ≡ length pair.now.labels }
+    requires few_labels { length pair.now.labels ≤ 512 }
+    requires first_parts { HasFewParts pair.now.first }
+    requires second_parts { HasFewParts pair.now.second }
+    requires buchi { mode ≡ Buchi }
+    requires look_from { 1 ≤ look }
+    requires look_upto { look ≤ 6 }
+    requires some { 1 ≤ limit }
+    requires few { limit ≤ 100000 }
+
+    // The certificate is the answer: what it has to hold for the outcome of the search.
+    ensures answer { IfOk result (IsAnswer pair.now limit) }
+
+    // It has a text, and a yes and a no keep all rules of the check.
+    ensures formed { IfOk result WellFormed }
+    ensures valid { IfOk result (IsValidVerdict pair.now) }
+
+    // A yes says an inclusion, and no live element of it subsumes another.
+    ensures included { IfOk result (λ cert. (evidence : YesBody) → cert.body ≡ body.Yes evidence → Includes pair.now.first pair.now.second Buchi) }
+    ensures apart_live { IfOk result (λ cert. (evidence : YesBody) → cert.body ≡ body.Yes evidence → StandApart pair.now evidence) }
+
+    // A no has a lasso that separates the two automata.
+    ensures apart { IfOk result (λ cert. (lasso : Lasso) → cert.body ≡ body.NoLasso lasso → SeparatesLasso pair.now.first pair.now.second lasso.prefix lasso.turn) }
+
+    // A list has limit + 1 different supergraphs, none subsumed by an earlier one.
+    ensures listed { IfOk result (λ cert. (list : ListBody) → cert.body ≡ body.Listing list → ListsNew pair.now limit list) }
+{
+    let order = direct_sim::relation(alloc, &pair.second, 1)?;
+    let outcome = search(alloc, &pair.first, &pair.second, &order, limit)?;
+    Ok(Cert {
+        mode,
+        first_states: pair.first.states(),
+        second_states: pair.second.states(),
+        labels: pair.labels.count(),
+        body: body_of(alloc, outcome, &order, limit)?,
+    })
+}

@@ -1,0 +1,9 @@
+//! Decides an inclusion, and makes the certificate that shows the answer.
+#![tactic(auto)]
+
+mod bodies;
+mod deciding;
+pub mod laws;
+mod rows;
+
+pub use deciding::include;

@@ -1,0 +1,167 @@
+//! The decision of an inclusion on files in memory: what it prints, the certificate that it leaves, and what a check says of that.
+
+ghost use Rattle.std.specs.Prelude.{◌≤◌};
+
+use crate::reading;
+use crate::search_tests::thirty;
+use crate::tests::{list_of, numbers_of, words_of};
+use crate::top::run;
+use auto_core::{List, Memory, Mode};
+use cert_text::write_cert;
+use shelf_io::{File, MemShelf, MemSink, load};
+use std::alloc::Global;
+use std::test::Fail;
+
+const ONE_A: &str = "[0]\na,[0]->[0]\n[0]\n";
+
+const TWO_LETTERS: &str = "[0]\na,[0]->[0]\nb,[0]->[0]\n[0]\n";
+
+/// A `b`, and then `a` for ever.
+const B_THEN_A: &str = "[0]\nb,[0]->[1]\na,[1]->[1]\n[1]\n";
+
+/// Guesses that no further `b` comes.
+const GUESS: &str = "[0]\na,[0]->[0]\nb,[0]->[0]\na,[0]->[1]\na,[1]->[1]\n[1]\n";
+
+/// An `a` once, and then no more.
+const A_ONCE: &str = "[0]\na,[0]->[1]\n[1]\n";
+
+/// Two states, each left by a letter of its own.
+const PAIR: &str = "a,[5]->[7]\nb,[7]->[5]\n";
+
+/// A shelf with the two files, with room for a certificate.
+fn shelf_of(alloc: Global, first: &str, second: &str, fails: &[u64]) -> Result<MemShelf, Memory> {
+    let mut held = List::new(alloc);
+    held.push(File {
+        name: list_of(alloc, b"A")?,
+        bytes: list_of(alloc, first.as_bytes())?,
+    })?;
+    held.push(File {
+        name: list_of(alloc, b"B")?,
+        bytes: list_of(alloc, second.as_bytes())?,
+    })?;
+    MemShelf::new(alloc, held, 1_000_000, 65536, numbers_of(alloc, fails)?)
+}
+
+/// The status of the command on the shelf's files, and whether just this text was sent.
+fn answers(
+    alloc: Global,
+    command: &str,
+    shelf: &mut MemShelf,
+    sink_fails: &[u64],
+    printed: &str,
+) -> Result<(u8, bool), Memory> {
+    let mut out = MemSink::new(alloc, 1000, numbers_of(alloc, sink_fails)?)?;
+    let words = words_of(alloc, &[command, "A", "B", "C"])?;
+    let status = run(alloc, &words, shelf, &mut out);
+    Ok((status, out.contents() == printed.as_bytes()))
+}
+
+/// Whether the shelf holds just this text under the certificate's name.
+fn holds(alloc: Global, shelf: &mut MemShelf, certificate: &str) -> bool {
+    match load(alloc, shelf, "C", 1_000_000) {
+        Ok(bytes) => bytes.as_slice() == certificate.as_bytes(),
+        Err(_) => false,
+    }
+}
+
+#[test]
+fn a_check_says_what_the_decision_said(rt: HostRuntime) -> Result<(), Fail> {
+    let alloc = rt.alloc();
+    let rows = [
+        (ONE_A, ONE_A, 0, "included\n"),
+        (TWO_LETTERS, ONE_A, 1, "not included\nprefix: b\nloop: b\n"),
+        (B_THEN_A, GUESS, 0, "included\n"),
+        (GUESS, B_THEN_A, 1, "not included\nprefix: a\nloop: a\n"),
+        (ONE_A, A_ONCE, 1, "not included\nprefix: a\nloop: a\n"),
+        (PAIR, PAIR, 0, "included\n"),
+    ];
+    for (first, second, status, printed) in rows {
+        let mut shelf = shelf_of(alloc, first, second, &[])?;
+        assert_eq!(rt;
+            answers(alloc, "include", &mut shelf, &[], printed)?,
+            (status, true)
+        );
+        assert_eq!(rt;
+            answers(alloc, "check", &mut shelf, &[], printed)?,
+            (status, true)
+        );
+    }
+    Ok(())
+}
+
+#[test]
+fn certificates_are_written_whole(rt: HostRuntime) -> Result<(), Fail> {
+    let alloc = rt.alloc();
+    let rows = [
+        (
+            ONE_A,
+            ONE_A,
+            "rabit-cert 1 buchi yes\nsizes 1 1 1\nlog1 0\nlog2 0\nrel 1\nrow 0 0\nelements 1\nlive base 0\ncover 0\nstep 0 0\nend\n",
+        ),
+        (
+            TWO_LETTERS,
+            ONE_A,
+            "rabit-cert 1 buchi no\nsizes 1 1 2\nprefix 1\nloop 1\nend\n",
+        ),
+        (
+            PAIR,
+            PAIR,
+            "rabit-cert 1 buchi yes\nsizes 2 2 2\nlog1 0\nlog2 0\nrel 2\nrow 0 0\nrow 1 1\nelements 4\nlive base 0\nlive base 1\nlive next 0 1\nlive next 1 0\ncover 0 1\nstep 0 2\nstep 1 3\nstep 2 0\nstep 3 1\nend\n",
+        ),
+    ];
+    for (first, second, certificate) in rows {
+        let mut shelf = shelf_of(alloc, first, second, &[])?;
+        answers(alloc, "include", &mut shelf, &[], "")?;
+        assert!(rt; holds(alloc, &mut shelf, certificate));
+    }
+    Ok(())
+}
+
+#[test]
+fn failing_calls_of_a_decision_are_told(rt: HostRuntime) -> Result<(), Fail> {
+    let alloc = rt.alloc();
+    let text = thirty(alloc)?;
+    let rows = [
+        (&[][..], &[][..], 0, "included\n"),
+        (&[2], &[], 6, "read fault\n"),
+        (&[6], &[], 7, "write fault\n"),
+        (&[6], &[0], 7, ""),
+        (&[], &[0], 7, ""),
+    ];
+    for (fails, sink_fails, status, printed) in rows {
+        let mut shelf = shelf_of(alloc, text.as_str(), text.as_str(), fails)?;
+        assert_eq!(rt;
+            answers(alloc, "include", &mut shelf, sink_fails, printed)?,
+            (status, true)
+        );
+    }
+    Ok(())
+}
+
+/// The text of the certificate for the file and itself at this limit; none where a file is not read.
+fn listed(alloc: Global, text: &str, limit: u32) -> Result<Option<List<u8>>, Memory>
+    requires some { 1 ≤ limit }
+    requires few { limit ≤ 100000 }
+{
+    let mut shelf = shelf_of(alloc, text, text, &[])?;
+    match reading::read_pair(alloc, &mut shelf, "A", "B") {
+        Ok(pair) => {
+            let cert = decide::include(alloc, &pair, Mode::Buchi, 3, limit)?;
+            Ok(Some(write_cert(alloc, &cert)?))
+        }
+        Err(_) => Ok(None),
+    }
+}
+
+#[test]
+fn a_limit_that_is_met_makes_a_list(rt: HostRuntime) -> Result<(), Fail> {
+    let alloc = rt.alloc();
+    let list =
+        "rabit-cert 1 buchi list\nsizes 2 2 2\nlog1 0\nlog2 0\nlimit 1\nelements 2\nbase 0\nbase 1\nend\n";
+    let told = match listed(alloc, PAIR, 1)? {
+        Some(bytes) => bytes.as_slice() == list.as_bytes(),
+        None => false,
+    };
+    assert!(rt; told);
+    Ok(())
+}

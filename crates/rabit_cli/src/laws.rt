@@ -1,0 +1,8 @@
+//! What the commands have to do with one another: each law is the contract of a function that does nothing.
+
+ghost use Rattle.rabit_cli.specs.Laws.{CheckAgrees};
+
+/// A check of what a decision wrote has the answer that the decision had.
+pub fn check_agrees()
+    ensures { CheckAgrees }
+{}
