@@ -1,0 +1,12 @@
+pub mod RankLemmas
+pub mod RowLemmas
+pub mod CountLemmas
+pub mod PairLengths
+pub mod TakingLemmas
+pub mod CanLemmas
+pub mod NoteLemmas
+pub mod LevelLemmas
+pub mod StartLemmas
+pub mod GreatestLemmas
+pub mod RightLemmas
+pub mod BuildLemmas

@@ -1,0 +1,33 @@
+use Rattle.std.proofs.Common.{ℕ, suc, ◌+◌, ◌*◌, ◌-◌, ◌<◌, ◌≤◌, ◌≡◌, ◌⊎◌, ◌↔◌, inl, inr, Bool, true, false, Option, Some, None, List, [], ◌∷◌, ◌++◌, length, get_or, set, take, refl, sym, ap, ◌∙◌, subst, arith}
+use Rattle.std.proofs.lemmas.Bool.{cases_eq, iff_false, false≢true}
+use Rattle.auto_core.proofs.MoveLemmas.{number_of, move_at, move_in_range, successor_moves, moves_in_successors, outgoing_moves, moves_in_outgoing, incoming_moves, moves_in_incoming}
+use Rattle.auto_core.specs.Automaton.{Automaton, Moves, IsAccepting, trans, trans_at}
+use Rattle.auto_core.specs.declared.parts.Trans.{Trans}
+use Rattle.auto_core.specs.Game.{Holds}
+use Rattle.auto_core.specs.Delayed.{HoldsPair, HasRank, IsAnswered, IsAnsweredBelow}
+use Rattle.delayed_sim.specs.Settling.{IsAnsweredIn}
+use Rattle.delayed_sim.proofs.settling.has_answers.Goals as goal
+
+pub loop-t-preserved : goal.loop-t-preserved
+loop-t-preserved c = λ v from lt.
+    let A = c.args.automaton.now in
+    let q = c.args.q in
+    elim (cases_eq v c.loop-t.t) [
+      | inl e ↦
+          let Q : List Trans → Type 0 = λ ts. IsAnsweredIn A (Holds c.args.rel.now.pairs) q (get_or ts c.loop-t.t (trans 0 0 0)).label (get_or ts c.loop-t.t (trans 0 0 0)).target in
+          let here : IsAnsweredIn A (Holds c.args.rel.now.pairs) q (trans_at A c.loop-t.t).label (trans_at A c.loop-t.t).target = subst Q c.transitions.ensures.list (c.is_answered.ensures.0 c.if-not-is_answered.false) in
+          subst (λ x. IsAnsweredIn A (Holds c.args.rel.now.pairs) q (trans_at A x).label (trans_at A x).target) (sym e) here
+      | inr apart ↦ c.loop-t.invariant v from (omega arith)
+    ]
+
+pub returns : goal.returns
+returns c =
+    let A = c.args.automaton.now in
+    let q = c.args.q in (
+      (λ t a p' move.
+          let (t, from, below, is) = moves_in_outgoing A c.args.p c.outgoing-span.result.begin c.outgoing-span.result.end c.outgoing-span.ensures.range a p' move in
+          let here = c.loop-t.invariant t from (omega (arith, below, c.loop-t-test.false)) in
+          let Q : Trans → Type 0 = λ u. IsAnsweredIn A (Holds c.args.rel.now.pairs) q u.label u.target in
+          subst Q is here),
+      λ h. refl,
+    )

@@ -1,0 +1,36 @@
+-- Relations some of whose pairs have a rank.
+use Rattle.std.specs.Prelude.{◌≡◌, ℕ, ◌<◌, ◌↔◌, Option, List, length, Contains, slice_index_or}
+use Rattle.auto_core.specs.Delayed.{RankedPairs, HoldsPair, AreRankedBelow, HasPairsOnce}
+use Rattle.delayed_sim.specs.declared.delayed.RankedPair.{RankedPair}
+
+-- A relation on the states below `size`: the list of its pairs, each with a rank or without one.
+pub record Ranking : Type 0 where
+  pub size : ℕ
+  pub pairs : RankedPairs
+
+-- A valid one: both states of each pair are below `size`, and no pair stands there twice.
+pub record IsRanking (R : Ranking) : Type 0 where
+  pub in_range : AreRankedBelow R.size R.pairs
+  pub once : HasPairsOnce R.pairs
+
+-- The pair with this rank or without one.
+abbrev pub ranked_pair : ℕ → ℕ → Option ℕ → RankedPair
+ranked_pair p q rank = record { left = p; right = q; rank = rank }
+
+-- Both states of each pair are below n.
+abbrev pub ArePairsOf : ℕ → List RankedPair → Type 0
+ArePairsOf n pairs = (p q : ℕ) (rank : Option ℕ) → Contains pairs (ranked_pair p q rank) → (p < n) × (q < n)
+
+-- No two of them have the same states.
+abbrev pub DifferInStates : List RankedPair → Type 0
+DifferInStates pairs =
+    (i j : ℕ) (d : RankedPair)
+    → i < length pairs
+    → j < length pairs
+    → (slice_index_or pairs i d).left ≡ (slice_index_or pairs j d).left
+    → (slice_index_or pairs i d).right ≡ (slice_index_or pairs j d).right
+    → i ≡ j
+
+-- The list has just these pairs, each with the rank that it has there.
+abbrev pub HasJust : RankedPairs → List RankedPair → Type 0
+HasJust X pairs = (p q : ℕ) (rank : Option ℕ) → Contains X (p, q, rank) ↔ Contains pairs (ranked_pair p q rank)

@@ -1,0 +1,16 @@
+//! Delayed simulation with ranks: the relation, the test whether one is right, and the greatest one.
+#![tactic(auto)]
+
+mod delayed;
+mod game;
+mod levels;
+mod pairs;
+mod right;
+mod settling;
+
+pub use delayed::{Delayed, RankedPair};
+pub use game::greatest;
+pub use right::holds;
+
+#[cfg(test)]
+mod tests;

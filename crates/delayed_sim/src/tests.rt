@@ -1,0 +1,84 @@
+//! What no clause says: that the calls succeed, and what known automata give.
+
+use crate::{Delayed, RankedPair, greatest, holds};
+use auto_core::{Auto, List, Memory, Trans};
+use std::alloc::Global;
+use std::test::Fail;
+
+/// A ring of so many states by one letter, with accepting states at 0.
+fn ring(alloc: Global, n: u32) -> Result<List<Trans>, Memory> {
+    let mut moves = List::new(alloc);
+    for i in 0..n {
+        let next = if i.wrapping_add(1) == n {
+            0
+        } else {
+            i.wrapping_add(1)
+        };
+        moves.push(Trans {
+            source: i,
+            label: 0,
+            target: next,
+        })?;
+    }
+    Ok(moves)
+}
+
+/// The rank of the pair; None where a number is out of range.
+fn rank(delayed: &Delayed, p: u32, q: u32) -> Option<Option<u32>> {
+    if p < delayed.states() && q < delayed.states() {
+        Some(delayed.rank(p, q))
+    } else {
+        None
+    }
+}
+
+#[test]
+fn a_ring_waits_for_its_accepting_state(rt: HostRuntime) -> Result<(), Fail> {
+    let alloc = rt.alloc();
+    let moves = ring(alloc, 60)?;
+    if moves.as_slice().len() < 100 {
+        let automaton = Auto::build(alloc, 60, 1, 0, moves.as_slice(), &[0])?;
+        let delayed = greatest(alloc, &automaton)?;
+        assert_eq!(rt; rank(&delayed, 5, 0), Some(Some(0)));
+        assert_eq!(rt; rank(&delayed, 0, 1), Some(Some(59)));
+        assert_eq!(rt; rank(&delayed, 7, 59), Some(Some(1)));
+        assert!(rt; holds(&automaton, &delayed));
+    }
+    Ok(())
+}
+
+#[test]
+fn a_rank_too_low_is_not_right(rt: HostRuntime) -> Result<(), Fail> {
+    let alloc = rt.alloc();
+    let moves = ring(alloc, 2)?;
+    if moves.as_slice().len() < 100 {
+        let automaton = Auto::build(alloc, 2, 1, 0, moves.as_slice(), &[0])?;
+        for (low, right) in [(1, true), (0, false)] {
+            let pairs = [
+                RankedPair {
+                    left: 0,
+                    right: 0,
+                    rank: Some(0),
+                },
+                RankedPair {
+                    left: 0,
+                    right: 1,
+                    rank: Some(1),
+                },
+                RankedPair {
+                    left: 1,
+                    right: 0,
+                    rank: Some(0),
+                },
+                RankedPair {
+                    left: 1,
+                    right: 1,
+                    rank: Some(low),
+                },
+            ];
+            let delayed = Delayed::build(alloc, 2, &pairs)?;
+            assert_eq!(rt; holds(&automaton, &delayed), right);
+        }
+    }
+    Ok(())
+}
