@@ -2,7 +2,7 @@
 use Rattle.std.proofs.Common.{◌≡◌, Option, Some, None, IfSome, Result, Ok, Err}
 use Rattle.shelf_io.specs.Shelf.{FileMap}
 use Rattle.rabit_cli.specs.declared.answer.Answer.{Answer}
-use Rattle.rabit_cli.specs.declared.answer.Answer.TheVariants.{NotBuilt, BadFile, LongFile, BadText, LongCertificate, Refused, Included, NotIncluded, Limit, ReadFault, WriteFault, OutOfMemory}
+use Rattle.rabit_cli.specs.declared.answer.Answer.TheVariants.{NotBuilt, BadFile, LongFile, BadText, LongCertificate, Refused, Included, NotIncluded, Limit, Reduced, ReadFault, WriteFault, OutOfMemory}
 use Rattle.rabit_cli.specs.Command.{UnlessRefused}
 
 pub unless_weaker : (answer : Answer) (P Q : Type 0) → (P → Q) → UnlessRefused answer P → UnlessRefused answer Q
@@ -15,6 +15,7 @@ unless_weaker (Refused r) P Q f h = f h
 unless_weaker Included P Q f h = f h
 unless_weaker (NotIncluded ls l) P Q f h = f h
 unless_weaker (Limit n) P Q f h = f h
+unless_weaker (Reduced text) P Q f h = f h
 unless_weaker ReadFault P Q f h = tt
 unless_weaker WriteFault P Q f h = tt
 unless_weaker OutOfMemory P Q f h = tt

@@ -20,7 +20,7 @@ use Rattle.rabit_cli.specs.Prepared.{HasVerdict, IsPreparedBy, IsPrepared, IsPre
 use Rattle.rabit_cli.specs.Printed.{text_for, is_early, IsPrintable}
 use Rattle.rabit_cli.specs.Written.{IsCertFor, HoldsFront, WritesVerdict, LeavesBehind, OfBoth}
 use Rattle.rabit_cli.specs.declared.answer.Answer.{Answer}
-use Rattle.rabit_cli.specs.declared.answer.Answer.TheVariants.{NotBuilt, BadFile, LongFile, BadText, LongCertificate, Refused, Included, NotIncluded, Limit, ReadFault, WriteFault, OutOfMemory}
+use Rattle.rabit_cli.specs.declared.answer.Answer.TheVariants.{NotBuilt, BadFile, LongFile, BadText, LongCertificate, Refused, Included, NotIncluded, Limit, Reduced, ReadFault, WriteFault, OutOfMemory}
 use Rattle.rabit_cli.specs.declared.inclusion.Prepared.{Prepared}
 use Rattle.std.proofs.lemmas.Bool.{false≢true}
 use Rattle.rabit_cli.proofs.AnswerLemmas.{unless_weaker}
@@ -98,6 +98,7 @@ ready_answers (Some files) a b ready (pair, read, made) = unless ready.verdict (
     unless Included h = h
     unless (NotIncluded labels lasso) h = h
     unless (Limit n) h = h
+    unless (Reduced text) h = h
     unless ReadFault h = tt
     unless WriteFault h = tt
     unless OutOfMemory h = tt
@@ -111,10 +112,18 @@ fault_answers (Some files) a b answer h = unless_weaker answer (IsPairFault file
 cert_for : (files : FileMap) (a b : List ℕ) (pair : Joined) (cert : Cert) (ready : Prepared) → ReadsPair files a b pair → IsPreparedBy pair cert ready → IsCertFor files a b pair cert
 cert_for files a b pair cert ready read is = record { read = read; answer = is.answer; formed = is.formed; valid = is.valid; truth = is.truth }
 
+-- no certificate's answer is a reduced automaton
+pub none_reduced : (pair : Joined) (body : Body) (text : List ℕ) → IsVerdictAnswer pair body (Reduced text) → ⊥
+none_reduced pair (Yes y) text says = let e = says in cc
+none_reduced pair (NoLasso l) text says = let e = says in cc
+none_reduced pair (NoWord w) text says = says
+none_reduced pair (Listing l) text says = let e = says in cc
+
 left_of_verdict : (files files' : FileMap) (a b c : List ℕ) (verdict : Answer) → is_early verdict ≡ false → ¬ (verdict ≡ WriteFault) → WritesVerdict files a b c verdict files' → LeavesBehind files a b c verdict files'
 left_of_verdict files files' a b c Included late other h = h
 left_of_verdict files files' a b c (NotIncluded labels lasso) late other h = h
 left_of_verdict files files' a b c (Limit n) late other h = h
+left_of_verdict files files' a b c (Reduced text) late other (pair, cert, is, verdict, held) = none_reduced pair cert.body text verdict
 left_of_verdict files files' a b c WriteFault late other h = absurd (other refl)
 left_of_verdict files files' a b c NotBuilt late other h = absurd (false≢true (sym late))
 left_of_verdict files files' a b c (BadFile n x) late other h = absurd (false≢true (sym late))
@@ -129,6 +138,7 @@ pub left_of_early : (files : FileMap) (a b c : List ℕ) (answer : Answer) → i
 left_of_early files a b c Included early = absurd (false≢true early)
 left_of_early files a b c (NotIncluded labels lasso) early = absurd (false≢true early)
 left_of_early files a b c (Limit n) early = absurd (false≢true early)
+left_of_early files a b c (Reduced text) early = absurd (false≢true early)
 left_of_early files a b c WriteFault early = absurd (false≢true early)
 left_of_early files a b c NotBuilt early = refl
 left_of_early files a b c (BadFile n x) early = refl

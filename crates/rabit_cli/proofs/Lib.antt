@@ -1,4 +1,5 @@
 pub mod WordLemmas
+pub mod LookLemmas
 pub mod AnswerLemmas
 pub mod WrittenLemmas
 pub mod OneAnswer

@@ -1,9 +1,15 @@
 -- A question has one answer for the files, at most.
-use Rattle.std.proofs.Common.{◌≡◌, ◌⊎◌, ℕ, List, [], ◌∷◌, length, Option, Some, None, Result, Ok, Err, inl, inr, sym, ◌∙◌, ap, subst, arith}
+use Rattle.std.proofs.Common.{◌≡◌, ◌⊎◌, ℕ, ◌≤◌, List, [], ◌∷◌, length, Option, Some, None, Result, Ok, Err, inl, inr, sym, ◌∙◌, ap, subst, arith}
 use Rattle.std.proofs.lemmas.Bool.{false≢true}
 use Rattle.shelf_io.specs.Shelf.{FileMap}
 use Rattle.ba_format.specs.declared.parts.Named.{Named}
 use Rattle.ba_format.specs.declared.parts.Joined.{Joined}
+use Rattle.ba_format.specs.declared.parts.Limits.{Limits}
+use Rattle.ba_format.specs.Writing.{written}
+use Rattle.auto_core.specs.Automaton.{Automaton, IsAutomaton}
+use Rattle.auto_core.specs.declared.parts.Mode.TheVariants.{Buchi}
+use Rattle.reduce_loop.specs.Passes.{IsReduced}
+use Rattle.reduce_loop.proofs.PassLemmas.{reduced_one}
 use Rattle.ba_format.specs.Faults.{fault_of}
 use Rattle.ba_format.specs.Reading.{Reads}
 use Rattle.ba_format.proofs.LawLemmas.{reads_as_one, joins_as_one}
@@ -20,10 +26,10 @@ use Rattle.auto_core.specs.Outcome.{Outcome, Entry}
 use Rattle.auto_core.specs.Outcome as end
 use Rattle.decide.specs.Answer.{unreduced}
 use Rattle.decide.proofs.UniqueLemmas.{one_outcome_decides}
-use Rattle.rabit_cli.specs.Question.{Question, Check, Include}
-use Rattle.rabit_cli.specs.Command.{Holds, ReadsAs, HoldsCertificate, Concludes, IsVerdictAnswer, IsAnswerTo, IsCheckAnswer, IsFileFault, IsCertificateFault, IsPairFault, ReadsPair, IsOutcomeAnswer, IsDecided, IsIncludeAnswer, search_limit, check_limits}
+use Rattle.rabit_cli.specs.Question.{Question, Check, Include, Reduce, HasLook}
+use Rattle.rabit_cli.specs.Command.{Holds, HoldsCertificate, Concludes, IsVerdictAnswer, IsAnswerTo, IsCheckAnswer, IsFileFaultWithin, ReadsWithin, IsReduceAnswer, reduce_limits, IsCertificateFault, IsPairFault, ReadsPair, IsOutcomeAnswer, IsDecided, IsIncludeAnswer, search_limit, check_limits}
 use Rattle.rabit_cli.specs.declared.answer.Answer.{Answer}
-use Rattle.rabit_cli.specs.declared.answer.Answer.TheVariants.{BadFile, BadText, Refused}
+use Rattle.rabit_cli.specs.declared.answer.Answer.TheVariants.{BadFile, BadText, Refused, Reduced}
 
 same_some : {X : Type 0} (a b : X) (o : Option X) → o ≡ Some a → o ≡ Some b → a ≡ b
 same_some a b o p q = cc
@@ -56,8 +62,8 @@ not_broken (c ∷ cs) r p q = elim p [ inl here ↦ here.0 q.0 | inr later ↦ n
 same_bytes : (files : FileMap) (name a b : List ℕ) → Holds files name a → Holds files name b → a ≡ b
 same_bytes files name a b p q = same_some a b _ p q
 
-module _ (number : ℕ) (files : FileMap) (name : List ℕ) where
-  one_file_fault : (x y : Answer) → IsFileFault number files name x → IsFileFault number files name y → x ≡ y
+module _ (limits : Limits) (number : ℕ) (files : FileMap) (name : List ℕ) where
+  one_file_fault : (x y : Answer) → IsFileFaultWithin limits number files name x → IsFileFaultWithin limits number files name y → x ≡ y
   one_file_fault x y (a, held, why) (b, held', why') =
       let e = same_bytes files name a b held held' in
       let len : length a ≡ length b = ap length e in
@@ -73,13 +79,13 @@ module _ (number : ℕ) (files : FileMap) (name : List ℕ) where
               | inr bad' ↦
                   let f = bad.1 in
                   let f' = bad'.1 in
-                  let P : List ℕ → Type 0 = λ t. fault_of t check_limits ≡ Some f.0 in
+                  let P : List ℕ → Type 0 = λ t. fault_of t limits ≡ Some f.0 in
                   let same = same_some f.0 f'.0 _ (subst P e f.1) f'.1 in
                   f.2 ∙ ap (λ z. BadFile number z) same ∙ sym f'.2
             ]
       ]
 
-  fault_or_reads : (x : Answer) (named : Named) → IsFileFault number files name x → ReadsAs files name named → ⊥
+  fault_or_reads : (x : Answer) (named : Named) → IsFileFaultWithin limits number files name x → ReadsWithin limits files name named → ⊥
   fault_or_reads x named (a, held, why) (b, held', few, reads) =
       let e = same_bytes files name a b held held' in
       let len : length a ≡ length b = ap length e in
@@ -87,16 +93,17 @@ module _ (number : ℕ) (files : FileMap) (name : List ℕ) where
         | inl long ↦ let p = long.0 in omega arith
         | inr bad ↦
             let f = bad.1 in
-            let P : List ℕ → Type 0 = λ t. fault_of t check_limits ≡ Some f.0 in
+            let P : List ℕ → Type 0 = λ t. fault_of t limits ≡ Some f.0 in
             none_some f.0 _ reads.no_fault (subst P e f.1)
       ]
 
-  one_named : (x y : Named) → ReadsAs files name x → ReadsAs files name y → x ≡ y
+  one_named : (x y : Named) → ReadsWithin limits files name x → ReadsWithin limits files name y → x ≡ y
   one_named x y (a, held, few, reads) (b, held', few', reads') =
       let e = same_bytes files name a b held held' in
-      let P : List ℕ → Type 0 = λ t. Reads t check_limits x in
-      reads_as_one b check_limits x y (subst P e reads) reads'
+      let P : List ℕ → Type 0 = λ t. Reads t limits x in
+      reads_as_one b limits x y (subst P e reads) reads'
 
+module _ (files : FileMap) (name : List ℕ) where
   one_certificate_fault : (x y : Answer) → IsCertificateFault files name x → IsCertificateFault files name y → x ≡ y
   one_certificate_fault x y (a, held, why) (b, held', why') =
       let e = same_bytes files name a b held held' in
@@ -184,8 +191,8 @@ one_conclusion pair cert x y p q =
 module _ (files : FileMap) (a b : List ℕ) where
   pub one_pair : (x y : Joined) → ReadsPair files a b x → ReadsPair files a b y → x ≡ y
   one_pair x y (one, two, first, second, joined) (one', two', first', second', joined') =
-      let same_one = one_named 1 files a one one' first first' in
-      let same_two = one_named 2 files b two two' second second' in
+      let same_one = one_named check_limits 1 files a one one' first first' in
+      let same_two = one_named check_limits 2 files b two two' second second' in
       let P : Named → Type 0 = λ z. IsJoined z two x in
       let Q : Named → Type 0 = λ z. IsJoined one' z x in
       joins_as_one one' two' x y (subst Q same_two (subst P same_one joined)) joined'
@@ -195,21 +202,21 @@ module _ (files : FileMap) (a b : List ℕ) where
       elim p [
         | inl fault ↦
             elim q [
-              | inl fault' ↦ one_file_fault 1 files a x y fault fault'
-              | inr (one, reads, later) ↦ absurd (fault_or_reads 1 files a x one fault reads)
+              | inl fault' ↦ one_file_fault check_limits 1 files a x y fault fault'
+              | inr (one, reads, later) ↦ absurd (fault_or_reads check_limits 1 files a x one fault reads)
             ]
         | inr (one, reads, later) ↦
             elim q [
-              | inl fault ↦ absurd (fault_or_reads 1 files a y one fault reads)
-              | inr (one', reads', later') ↦ one_file_fault 2 files b x y later later'
+              | inl fault ↦ absurd (fault_or_reads check_limits 1 files a y one fault reads)
+              | inr (one', reads', later') ↦ one_file_fault check_limits 2 files b x y later later'
             ]
       ]
 
   pub fault_or_pair : (x : Answer) (pair : Joined) → IsPairFault files a b x → ReadsPair files a b pair → ⊥
   fault_or_pair x pair p (one, two, first, second, joined) =
       elim p [
-        | inl fault ↦ fault_or_reads 1 files a x one fault first
-        | inr (one', reads, later) ↦ fault_or_reads 2 files b x two later second
+        | inl fault ↦ fault_or_reads check_limits 1 files a x one fault first
+        | inr (one', reads, later) ↦ fault_or_reads check_limits 2 files b x two later second
       ]
 
 -- what is left of a check after both automata were read
@@ -222,14 +229,14 @@ one_after files c pair x y p q =
     elim p [
       | inl fault ↦
           elim q [
-            | inl fault' ↦ one_certificate_fault 0 files c x y fault fault'
-            | inr last ↦ absurd (fault_or_certificate 0 files c x last.0 fault last.1)
+            | inl fault' ↦ one_certificate_fault files c x y fault fault'
+            | inr last ↦ absurd (fault_or_certificate files c x last.0 fault last.1)
           ]
       | inr last ↦
           elim q [
-            | inl fault ↦ absurd (fault_or_certificate 0 files c y last.0 fault last.1)
+            | inl fault ↦ absurd (fault_or_certificate files c y last.0 fault last.1)
             | inr last' ↦
-                let same_cert = one_cert 0 files c last.0 last'.0 last.1 last'.1 in
+                let same_cert = one_cert files c last.0 last'.0 last.1 last'.1 in
                 let Q : Cert → Type 0 = λ z. Concludes pair z x in
                 one_conclusion pair last'.0 x y (subst Q same_cert last.2) last'.2
           ]
@@ -282,7 +289,32 @@ one_include_answer files a b x y p q =
           ]
     ]
 
-pub one_answer : (files : FileMap) (question : Option Question) (x y : Answer) → IsAnswerTo files question x → IsAnswerTo files question y → x ≡ y
-one_answer files None x y p q = p ∙ sym q
-one_answer files (Some (Check a b c)) x y p q = one_check_answer files a b c x y p q
-one_answer files (Some (Include a b c)) x y p q = one_include_answer files a b x y p q
+-- a reduction has one answer, since there is one reduced automaton
+one_reduced : (named : Named) (look : ℕ) (x y : Answer) → IsAutomaton named.auto → 1 ≤ look → (A : Automaton) → IsReduced named.auto Buchi look A → x ≡ Reduced (written A named.labels) →
+    (B : Automaton) → IsReduced named.auto Buchi look B → y ≡ Reduced (written B named.labels) → x ≡ y
+one_reduced named look x y valid from A is e B is' e' = e ∙ ap (λ C. Reduced (written C named.labels)) (reduced_one named.auto A B Buchi look valid from is is') ∙ sym e'
+
+one_reduce_answer : (files : FileMap) (name : List ℕ) (look : ℕ) (x y : Answer) → 1 ≤ look → IsReduceAnswer files name look x → IsReduceAnswer files name look y → x ≡ y
+one_reduce_answer files name look x y from p q =
+    elim p [
+      | inl fault ↦
+          elim q [
+            | inl fault' ↦ one_file_fault reduce_limits 1 files name x y fault fault'
+            | inr (named, reads, more) ↦ absurd (fault_or_reads reduce_limits 1 files name x named fault reads)
+          ]
+      | inr (named, reads, (A, is, e)) ↦
+          elim q [
+            | inl fault ↦ absurd (fault_or_reads reduce_limits 1 files name y named fault reads)
+            | inr (named', reads', (B, is', e')) ↦
+                let P : Named → Type 0 = λ z. IsReduced z.auto Buchi look A in
+                let Q : Named → Type 0 = λ z. x ≡ Reduced (written A z.labels) in
+                let same = one_named reduce_limits 1 files name named named' reads reads' in
+                one_reduced named' look x y reads'.3.reading.auto.valid from A (subst P same is) (subst Q same e) B is' e'
+          ]
+    ]
+
+pub one_answer : (files : FileMap) (question : Option Question) (x y : Answer) → HasLook question → IsAnswerTo files question x → IsAnswerTo files question y → x ≡ y
+one_answer files None x y within p q = p ∙ sym q
+one_answer files (Some (Check a b c)) x y within p q = one_check_answer files a b c x y p q
+one_answer files (Some (Include a b c)) x y within p q = one_include_answer files a b x y p q
+one_answer files (Some (Reduce name look)) x y within p q = one_reduce_answer files name look x y within.0 p q

@@ -7,27 +7,34 @@ use Rattle.shelf_io.specs.Shelf.{FileMap}
 use Rattle.auto_core.specs.declared.parts.Lasso.{Lasso}
 use Rattle.ba_format.specs.declared.parts.Joined.{Joined}
 use Rattle.ba_format.specs.Joining.{IsJoined}
+use Rattle.ba_format.specs.declared.parts.Limits.{Limits}
+use Rattle.ba_format.specs.declared.parts.Named.{Named}
+use Rattle.ba_format.specs.Writing.{written}
+use Rattle.reduce_loop.specs.Passes.{IsReduced}
 use Rattle.cert_text.specs.declared.types.Cert.{Cert}
 use Rattle.cert_text.specs.declared.types.Body.{Body}
 use Rattle.cert_text.specs.declared.types.Body.TheVariants.{Yes, NoLasso, NoWord, Listing}
 use Rattle.cert_check.specs.Checks.{AllHold}
+use Rattle.auto_core.specs.Automaton.{Automaton, IsAutomaton}
 use Rattle.auto_core.specs.declared.parts.Mode.{Mode}
 use Rattle.auto_core.specs.declared.parts.Mode.TheVariants.{Buchi, Finite}
 use Rattle.cert_check.specs.Rules.{body_checks, checks_of, has_checked_body, has_checked_form}
 use Rattle.cert_check.proofs.ClosedLemmas.{valid_yes_includes}
-use Rattle.rabit_cli.specs.Question.{Question, Check, Include}
+use Rattle.rabit_cli.specs.Question.{Question, Check, Include, Reduce, HasLook}
 use Rattle.rabit_cli.specs.Printed.{text_for, status_of, status_unsent}
-use Rattle.rabit_cli.specs.Command.{ReadsPair, HoldsCertificate, IsVerdictAnswer, IsAnswerTo, IsCheckAnswer, IsFileFault, IsPairFault, IsCertificateFault, UnlessRefused}
+use Rattle.rabit_cli.specs.Command.{check_limits, reduce_limits, ReadsWithin, IsReduceAnswer, ReadsPair, HoldsCertificate, IsVerdictAnswer, IsAnswerTo, IsCheckAnswer, IsFileFaultWithin, IsPairFault, IsCertificateFault, UnlessRefused}
 use Rattle.rabit_cli.specs.Written.{OfBoth, LeavesFor, LeavesBehind, LeavesDecided, LeavesFiles}
 use Rattle.rabit_cli.specs.declared.answer.Reply.{Reply}
 use Rattle.rabit_cli.specs.declared.answer.Reply.TheVariants.{Plain, Ready}
-use Rattle.rabit_cli.specs.Said.{answer_in, NeedsMemory, WasSaid, IsAnswered, IsIncluded, ShowsIncluded, IsApart, ShowsApart, ShowsListed, SaysEachAnswer}
+use Rattle.rabit_cli.specs.Said.{answer_in, NeedsMemory, WasSaid, IsAnswered, IsIncluded, ShowsIncluded, IsApart, ShowsApart, ShowsListed, ShowsReduced, SaysEachAnswer}
 use Rattle.rabit_cli.proofs.OneAnswer.{one_answer}
+use Rattle.rabit_cli.proofs.DecidedLemmas.{none_reduced}
+use Rattle.reduce_loop.proofs.PassLemmas.{reduced_same, reduced_settled}
 use Rattle.rabit_cli.proofs.WrittenLemmas.{decided_included, decided_apart, decided_listed}
 use Rattle.rabit_cli.specs.declared.answer.Answer.{Answer}
-use Rattle.rabit_cli.specs.declared.answer.Answer.TheVariants.{NotBuilt, BadFile, LongFile, BadText, LongCertificate, Refused, Included, NotIncluded, Limit, ReadFault, WriteFault, OutOfMemory}
+use Rattle.rabit_cli.specs.declared.answer.Answer.TheVariants.{NotBuilt, BadFile, LongFile, BadText, LongCertificate, Refused, Included, NotIncluded, Limit, Reduced, ReadFault, WriteFault, OutOfMemory}
 
--- the answers of valid certificates
+-- the answers of valid certificates, and a reduced automaton
 is_verdict : Answer → Bool
 is_verdict NotBuilt = false
 is_verdict (BadFile n x) = false
@@ -38,6 +45,7 @@ is_verdict (Refused x) = false
 is_verdict Included = true
 is_verdict (NotIncluded labels lasso) = true
 is_verdict (Limit n) = true
+is_verdict (Reduced text) = true
 is_verdict ReadFault = false
 is_verdict WriteFault = false
 is_verdict OutOfMemory = false
@@ -52,18 +60,26 @@ record IsChecked (files : FileMap) (a b c : List ℕ) (answer : Answer) : Type 0
   valid : AllHold (checks_of pair cert)
   says : IsVerdictAnswer pair cert.body answer
 
-not_file_fault : (number : ℕ) (files : FileMap) (name : List ℕ) (answer : Answer) → is_verdict answer ≡ true → IsFileFault number files name answer → ⊥
+not_file_fault : (limits : Limits) (number : ℕ) (files : FileMap) (name : List ℕ) (answer : Answer) → is_verdict answer ≡ true → IsFileFaultWithin limits number files name answer → ⊥
 unfolding is_verdict
-not_file_fault number files name answer is (bytes, held, cause) =
+not_file_fault limits number files name answer is (bytes, held, cause) =
     elim cause [ inl long ↦ false≢true (sym (ap is_verdict long.1) ∙ is) | inr bad ↦ false≢true (sym (ap is_verdict bad.1.2) ∙ is) ]
 
 not_pair_fault : (files : FileMap) (a b : List ℕ) (answer : Answer) → is_verdict answer ≡ true → IsPairFault files a b answer → ⊥
-not_pair_fault files a b answer is h = elim h [ inl fault ↦ not_file_fault 1 files a answer is fault | inr later ↦ not_file_fault 2 files b answer is later.2 ]
+not_pair_fault files a b answer is h = elim h [ inl fault ↦ not_file_fault check_limits 1 files a answer is fault | inr later ↦ not_file_fault check_limits 2 files b answer is later.2 ]
 
 not_certificate_fault : (files : FileMap) (name : List ℕ) (answer : Answer) → is_verdict answer ≡ true → IsCertificateFault files name answer → ⊥
 unfolding is_verdict
 not_certificate_fault files name answer is (bytes, held, cause) =
     elim cause [ inl long ↦ false≢true (sym (ap is_verdict long.1) ∙ is) | inr bad ↦ false≢true (sym (ap is_verdict bad.1.2) ∙ is) ]
+
+-- a reduction that ends with no fault was made
+made : (files : FileMap) (name : List ℕ) (look : ℕ) (answer : Answer) → is_verdict answer ≡ true → IsReduceAnswer files name look answer →
+    (named : Named) × ReadsWithin reduce_limits files name named × ((B : Automaton) × IsReduced named.auto Buchi look B × (answer ≡ Reduced (written B named.labels)))
+made files name look answer is h = elim h [ inl fault ↦ absurd (not_file_fault reduce_limits 1 files name answer is fault) | inr reduced ↦ reduced ]
+
+same_reduced : (t u : List ℕ) → Reduced t ≡ Reduced u → t ≡ u
+same_reduced t u e = cc
 
 checked : (files : FileMap) (a b c : List ℕ) (answer : Answer) → is_verdict answer ≡ true → IsCheckAnswer files a b c answer → IsChecked files a b c answer
 unfolding is_verdict
@@ -143,6 +159,7 @@ included_from_answer files (Some (Check a b c)) files' sent sent' answer leaves 
     let d : IsChecked files a b c Included = checked files a b c Included refl answer in
     included_from_valid files a b c sent sent' d d.cert.body refl d.says sends
 included_from_answer files (Some (Include a b c)) files' sent sent' answer leaves sends = decided_included files a b c files' sent sent' leaves sends
+included_from_answer files (Some (Reduce name look)) files' sent sent' answer leaves sends = tt
 
 apart_from_answer : (files : FileMap) (question : Option Question) (files' : FileMap) (labels : List (List ℕ)) (lasso : Lasso) (sent sent' : Option (List ℕ)) →
     IsAnswerTo files question (NotIncluded labels lasso) → LeavesFor files question (NotIncluded labels lasso) files' → sent' ≡ append_known sent (text_for (NotIncluded labels lasso)) →
@@ -153,6 +170,9 @@ apart_from_answer files (Some (Check a b c)) files' labels lasso sent sent' answ
     let d : IsChecked files a b c (NotIncluded labels lasso) = checked files a b c (NotIncluded labels lasso) refl answer in
     apart_from_valid files a b c sent sent' labels lasso d d.cert.body refl d.valid.1 d.says sends
 apart_from_answer files (Some (Include a b c)) files' labels lasso sent sent' answer leaves sends = decided_apart files a b c files' sent sent' labels lasso leaves sends
+apart_from_answer files (Some (Reduce name look)) files' labels lasso sent sent' answer leaves sends =
+    let (named, read, (B, is, e)) = made files name look (NotIncluded labels lasso) refl answer in
+    cc
 
 listed_from_answer : (files : FileMap) (question : Option Question) (files' : FileMap) (n : ℕ) (sent sent' : Option (List ℕ)) →
     IsAnswerTo files question (Limit n) → LeavesFor files question (Limit n) files' → sent' ≡ append_known sent (text_for (Limit n)) → ShowsListed files question files' sent sent'
@@ -162,6 +182,51 @@ listed_from_answer files (Some (Check a b c)) files' n sent sent' answer leaves 
     let d : IsChecked files a b c (Limit n) = checked files a b c (Limit n) refl answer in
     none_listed files a b c n d d.cert.body refl d.says
 listed_from_answer files (Some (Include a b c)) files' n sent sent' answer leaves sends = decided_listed files a b c files' sent sent' n leaves sends
+listed_from_answer files (Some (Reduce name look)) files' n sent sent' answer leaves sends =
+    let (named, read, (B, is, e)) = made files name look (Limit n) refl answer in
+    cc
+
+-- where the words ask for no reduction, no answer is a reduced automaton, and where they ask for one, it is shown
+reduced_from_answer : (files : FileMap) (question : Option Question) (t : List ℕ) (sent sent' : Option (List ℕ)) → HasLook question →
+    IsAnswerTo files question (Reduced t) → sent' ≡ append_known sent t → ShowsReduced files question sent sent'
+unfolding is_verdict
+reduced_from_answer files None t sent sent' within answer sends = cc
+reduced_from_answer files (Some (Check a b c)) t sent sent' within answer sends = tt
+reduced_from_answer files (Some (Include a b c)) t sent sent' within answer sends = tt
+reduced_from_answer files (Some (Reduce name look)) t sent sent' within answer sends =
+    let (named, read, (B, is, e)) = made files name look (Reduced t) refl answer in
+    let valid : IsAutomaton named.auto = read.3.reading.auto.valid in
+    let same_text : t ≡ written B named.labels = same_reduced t (written B named.labels) e in
+    record {
+      named = named;
+      reduced = B;
+      read = read;
+      is_reduced = is;
+      same = reduced_same named.auto B Buchi look valid within.0 is;
+      settled = reduced_settled named.auto B Buchi look valid within.0 is;
+      printed = sends ∙ ap (append_known sent) same_text;
+    }
+
+-- a reduced automaton is the answer of no check and of no decision
+not_of_pair : (files : FileMap) (question : Option Question) (files' : FileMap) (t : List ℕ) (sent sent' : Option (List ℕ)) →
+    IsAnswerTo files question (Reduced t) → LeavesFor files question (Reduced t) files' → ShowsIncluded files question files' sent sent'
+unfolding is_verdict
+not_of_pair files None files' t sent sent' answer leaves = cc
+not_of_pair files (Some (Check a b c)) files' t sent sent' answer leaves =
+    let d : IsChecked files a b c (Reduced t) = checked files a b c (Reduced t) refl answer in
+    absurd (none_reduced d.pair d.cert.body t d.says)
+not_of_pair files (Some (Include a b c)) files' t sent sent' answer leaves = absurd leaves
+not_of_pair files (Some (Reduce name look)) files' t sent sent' answer leaves = tt
+
+-- an inclusion is the answer of no reduction
+not_of_reduction : (files : FileMap) (question : Option Question) (sent sent' : Option (List ℕ)) → IsAnswerTo files question Included → ShowsReduced files question sent sent'
+unfolding is_verdict
+not_of_reduction files None sent sent' answer = cc
+not_of_reduction files (Some (Check a b c)) sent sent' answer = tt
+not_of_reduction files (Some (Include a b c)) sent sent' answer = tt
+not_of_reduction files (Some (Reduce name look)) sent sent' answer =
+    let (named, read, (B, is, e)) = made files name look Included refl answer in
+    cc
 
 -- how an answer may have been said
 pub said_status :
@@ -174,9 +239,11 @@ module _ (status : ℕ) (sent sent' : Option (List ℕ)) (sink sink' : ℕ) wher
   abbrev pub SaidSo : Answer → Type 0
   SaidSo answer = ((status ≡ status_of answer) × (sent' ≡ append_known sent (text_for answer))) ⊎ ((status ≡ status_unsent answer) × Rose sink sink')
 
-  -- status 0 is that of an inclusion that was said whole, status 1 that of such a lasso, status 2 that of such a limit
-  pub status_zero : (answer : Answer) → SaidSo answer → status ≡ 0 → (answer ≡ Included) × (sent' ≡ append_known sent (text_for Included))
-  status_zero Included said is = elim said [ inl whole ↦ (refl, whole.1) | inr front ↦ let e = front.0 in absurd (omega arith) ]
+  -- status 0 is that of an inclusion or of a reduced automaton that was said whole, status 1 that of such a lasso, status 2 that of such a limit
+  pub status_zero : (answer : Answer) → SaidSo answer → status ≡ 0 →
+      ((answer ≡ Included) × (sent' ≡ append_known sent (text_for Included))) ⊎ ((t : List ℕ) × (answer ≡ Reduced t) × (sent' ≡ append_known sent t))
+  status_zero Included said is = elim said [ inl whole ↦ inl (refl, whole.1) | inr front ↦ let e = front.0 in absurd (omega arith) ]
+  status_zero (Reduced t) said is = elim said [ inl whole ↦ inr (t, refl, whole.1) | inr front ↦ let e = front.0 in absurd (omega arith) ]
   status_zero NotBuilt said is = elim said [ inl whole ↦ (let e = whole.0 in absurd (omega arith)) | inr front ↦ (let e = front.0 in absurd (omega arith)) ]
   status_zero (BadFile n x) said is = elim said [ inl whole ↦ (let e = whole.0 in absurd (omega arith)) | inr front ↦ (let e = front.0 in absurd (omega arith)) ]
   status_zero (LongFile n) said is = elim said [ inl whole ↦ (let e = whole.0 in absurd (omega arith)) | inr front ↦ (let e = front.0 in absurd (omega arith)) ]
@@ -191,6 +258,7 @@ module _ (status : ℕ) (sent sent' : Option (List ℕ)) (sink sink' : ℕ) wher
 
   pub status_one : (answer : Answer) → SaidSo answer → status ≡ 1 → (labels : List (List ℕ)) × (lasso : Lasso) × (answer ≡ NotIncluded labels lasso) × (sent' ≡ append_known sent (text_for (NotIncluded labels lasso)))
   status_one (NotIncluded labels lasso) said is = elim said [ inl whole ↦ (labels, lasso, refl, whole.1) | inr front ↦ let e = front.0 in absurd (omega arith) ]
+  status_one (Reduced t) said is = elim said [ inl whole ↦ (let e = whole.0 in absurd (omega arith)) | inr front ↦ (let e = front.0 in absurd (omega arith)) ]
   status_one NotBuilt said is = elim said [ inl whole ↦ (let e = whole.0 in absurd (omega arith)) | inr front ↦ (let e = front.0 in absurd (omega arith)) ]
   status_one (BadFile n x) said is = elim said [ inl whole ↦ (let e = whole.0 in absurd (omega arith)) | inr front ↦ (let e = front.0 in absurd (omega arith)) ]
   status_one (LongFile n) said is = elim said [ inl whole ↦ (let e = whole.0 in absurd (omega arith)) | inr front ↦ (let e = front.0 in absurd (omega arith)) ]
@@ -205,6 +273,7 @@ module _ (status : ℕ) (sent sent' : Option (List ℕ)) (sink sink' : ℕ) wher
 
   pub status_two : (answer : Answer) → SaidSo answer → status ≡ 2 → (n : ℕ) × (answer ≡ Limit n) × (sent' ≡ append_known sent (text_for (Limit n)))
   status_two (Limit n) said is = elim said [ inl whole ↦ (n, refl, whole.1) | inr front ↦ let e = front.0 in absurd (omega arith) ]
+  status_two (Reduced t) said is = elim said [ inl whole ↦ (let e = whole.0 in absurd (omega arith)) | inr front ↦ (let e = front.0 in absurd (omega arith)) ]
   status_two NotBuilt said is = elim said [ inl whole ↦ (let e = whole.0 in absurd (omega arith)) | inr front ↦ (let e = front.0 in absurd (omega arith)) ]
   status_two (BadFile n x) said is = elim said [ inl whole ↦ (let e = whole.0 in absurd (omega arith)) | inr front ↦ (let e = front.0 in absurd (omega arith)) ]
   status_two (LongFile n) said is = elim said [ inl whole ↦ (let e = whole.0 in absurd (omega arith)) | inr front ↦ (let e = front.0 in absurd (omega arith)) ]
@@ -220,6 +289,7 @@ module _ (status : ℕ) (sent sent' : Option (List ℕ)) (sink sink' : ℕ) wher
   -- status 6 is that of a read fault alone
   pub status_six : (answer : Answer) → SaidSo answer → status ≡ 6 → answer ≡ ReadFault
   status_six ReadFault said is = refl
+  status_six (Reduced t) said is = elim said [ inl whole ↦ (let e = whole.0 in absurd (omega arith)) | inr front ↦ (let e = front.0 in absurd (omega arith)) ]
   status_six NotBuilt said is = elim said [ inl whole ↦ (let e = whole.0 in absurd (omega arith)) | inr front ↦ (let e = front.0 in absurd (omega arith)) ]
   status_six (BadFile n x) said is = elim said [ inl whole ↦ (let e = whole.0 in absurd (omega arith)) | inr front ↦ (let e = front.0 in absurd (omega arith)) ]
   status_six (LongFile n) said is = elim said [ inl whole ↦ (let e = whole.0 in absurd (omega arith)) | inr front ↦ (let e = front.0 in absurd (omega arith)) ]
@@ -255,6 +325,7 @@ module _ (status : ℕ) (sent sent' : Option (List ℕ)) (sink sink' : ℕ) wher
   status_seven Included said is = elim said [ inl whole ↦ (let e = whole.0 in absurd (omega arith)) | inr front ↦ inl front.1 ]
   status_seven (NotIncluded labels lasso) said is = elim said [ inl whole ↦ (let e = whole.0 in absurd (omega arith)) | inr front ↦ inl front.1 ]
   status_seven (Limit n) said is = elim said [ inl whole ↦ (let e = whole.0 in absurd (omega arith)) | inr front ↦ inl front.1 ]
+  status_seven (Reduced t) said is = elim said [ inl whole ↦ (let e = whole.0 in absurd (omega arith)) | inr front ↦ inl front.1 ]
   status_seven ReadFault said is = elim said [ inl whole ↦ (let e = whole.0 in absurd (omega arith)) | inr front ↦ (let e = front.0 in absurd (omega arith)) ]
   status_seven OutOfMemory said is = elim said [ inl whole ↦ (let e = whole.0 in absurd (omega arith)) | inr front ↦ (let e = front.0 in absurd (omega arith)) ]
 
@@ -277,6 +348,10 @@ pub both_files : (held held' : Option FileMap) (P Q : FileMap → FileMap → Ty
 both_files None held' P Q R f r h = h
 both_files (Some files) held' P Q R f r (files', e, p) = (files', e, f files files' r p)
 
+pub each_files : (held : Option FileMap) (P Q : FileMap → Type 0) → ((files : FileMap) → P files → Q files) → IfSome held P → IfSome held Q
+each_files None P Q f h = tt
+each_files (Some files) P Q f h = f files h
+
 pub same_files : (held held' : Option FileMap) (P : FileMap → FileMap → Type 0) → ((files : FileMap) → P files files) → held' ≡ held → OfBoth held held' P
 same_files None held' P f e = e
 same_files (Some files) held' P f e = (files, e, f files)
@@ -290,6 +365,7 @@ memory_leaves : (files : FileMap) (question : Option Question) → LeavesFor fil
 memory_leaves files None = refl
 memory_leaves files (Some (Check a b c)) = refl
 memory_leaves files (Some (Include a b c)) = refl
+memory_leaves files (Some (Reduce name look)) = refl
 
 pub done_with :
     (held held' : Option FileMap) (question : Option Question) (status : ℕ) (sent sent' : Option (List ℕ)) (sink sink' faults faults' puts puts' : ℕ) (reply : Reply)
@@ -352,10 +428,22 @@ module _ (held held' : Option FileMap) (question : Option Question) (status : �
     leaves_at answer e = let P : Answer → Type 0 = λ x. OfBoth held held' (λ files files'. LeavesFor files question x files') in subst P e d.leaves
 
     pub shows_included : status ≡ 0 → OfBoth held held' (λ files files'. ShowsIncluded files question files' sent sent')
-    shows_included is =
-        let (e, sends) = status_zero status sent sent' sink sink' d.answer so is in
-        both_files held held' (λ files files'. LeavesFor files question Included files') (λ files files'. ShowsIncluded files question files' sent sent') (λ files. IsAnswerTo files question Included)
-        (λ files files' right leaves. included_from_answer files question files' sent sent' right leaves sends) (right_at Included e) (leaves_at Included e)
+    shows_included is = elim (status_zero status sent sent' sink sink' d.answer so is) [
+      | inl (e, sends) ↦
+          both_files held held' (λ files files'. LeavesFor files question Included files') (λ files files'. ShowsIncluded files question files' sent sent') (λ files. IsAnswerTo files question Included)
+          (λ files files' right leaves. included_from_answer files question files' sent sent' right leaves sends) (right_at Included e) (leaves_at Included e)
+      | inr (t, e, sends) ↦
+          both_files held held' (λ files files'. LeavesFor files question (Reduced t) files') (λ files files'. ShowsIncluded files question files' sent sent') (λ files. IsAnswerTo files question (Reduced t))
+          (λ files files' right leaves. not_of_pair files question files' t sent sent' right leaves) (right_at (Reduced t) e) (leaves_at (Reduced t) e)
+    ]
+
+    pub shows_reduced : HasLook question → status ≡ 0 → IfSome held (λ files. ShowsReduced files question sent sent')
+    shows_reduced within is = elim (status_zero status sent sent' sink sink' d.answer so is) [
+      | inl (e, sends) ↦ each_files held (λ files. IsAnswerTo files question Included) (λ files. ShowsReduced files question sent sent') (λ files right. not_of_reduction files question sent sent' right) (right_at Included e)
+      | inr (t, e, sends) ↦
+          each_files held (λ files. IsAnswerTo files question (Reduced t)) (λ files. ShowsReduced files question sent sent')
+          (λ files right. reduced_from_answer files question t sent sent' within right sends) (right_at (Reduced t) e)
+    ]
 
     pub shows_apart : status ≡ 1 → OfBoth held held' (λ files files'. ShowsApart files question files' sent sent')
     shows_apart is =
@@ -438,6 +526,7 @@ module _ (held held' : Option FileMap) (question : Option Question) (status : �
           write_fault = λ is. inl (leaves.0, leaves.1, leaves.2, leaves.4);
           other = λ high is. elim said [ inl whole ↦ (let e = whole.0 in absurd (omega arith)) | inr front ↦ absurd (is front.0) ];
         }
+    left_by files files' a b c (Reduced t) said rose leaves = absurd leaves
     left_by files files' a b c ReadFault said rose leaves =
         record {
           verdict = λ low. elim said [ inl whole ↦ (let e = whole.0 in absurd (omega arith)) | inr front ↦ (let e = front.0 in absurd (omega arith)) ];
@@ -460,6 +549,7 @@ module _ (held held' : Option FileMap) (question : Option Question) (status : �
     left_for : (files files' : FileMap) (question : Option Question) → LeavesFor files question d.answer files' → LeavesFiles files question status puts puts' files'
     left_for files files' None leaves = leaves
     left_for files files' (Some (Check a b c)) leaves = leaves
+    left_for files files' (Some (Reduce name look)) leaves = leaves
     left_for files files' (Some (Include a b c)) leaves = left_by files files' a b c d.answer so d.write_fault leaves
 
     any_files : (held : Option FileMap) → IfSome held (λ files. Unit {0})
@@ -472,7 +562,7 @@ module _ (held held' : Option FileMap) (question : Option Question) (status : �
         (λ files files' none leaves. left_for files files' question leaves) (any_files held) d.leaves
 
 -- whatever the answer is
-module _ (files : FileMap) (question : Option Question) (status : ℕ) (sent sent' : Option (List ℕ)) (sink sink' faults faults' puts puts' : ℕ) where
+module _ (files : FileMap) (question : Option Question) (within : HasLook question) (status : ℕ) (sent sent' : Option (List ℕ)) (sink sink' faults faults' puts puts' : ℕ) where
   Said : Answer → Type 0
   Said answer = ((status ≡ status_of answer) × (sent' ≡ append_known sent (text_for answer))) ⊎ Rose faults faults' ⊎ Rose sink sink' ⊎ Rose puts puts' ⊎ (status ≡ 8)
 
@@ -497,21 +587,22 @@ module _ (files : FileMap) (question : Option Question) (status : ℕ) (sent sen
   said_each ReadFault answer right said rose put is = inr (inl (rose refl))
   said_each WriteFault answer right said rose put is = inr (inr (inr (inl (put refl))))
   said_each OutOfMemory answer right said rose put is = inr (inr (inr (inr (elim said [ inl whole ↦ whole.0 | inr front ↦ front.0 ]))))
-  said_each NotBuilt answer right said rose put is = said_other NotBuilt answer (one_answer files question NotBuilt answer right is) said
-  said_each (BadFile n x) answer right said rose put is = said_other (BadFile n x) answer (one_answer files question (BadFile n x) answer right is) said
-  said_each (LongFile n) answer right said rose put is = said_other (LongFile n) answer (one_answer files question (LongFile n) answer right is) said
-  said_each (BadText x) answer right said rose put is = said_other (BadText x) answer (one_answer files question (BadText x) answer right is) said
-  said_each LongCertificate answer right said rose put is = said_other LongCertificate answer (one_answer files question LongCertificate answer right is) said
-  said_each (Refused x) answer right said rose put is = said_other (Refused x) answer (one_answer files question (Refused x) answer right is) said
-  said_each Included answer right said rose put is = said_other Included answer (one_answer files question Included answer right is) said
-  said_each (NotIncluded labels lasso) answer right said rose put is = said_other (NotIncluded labels lasso) answer (one_answer files question (NotIncluded labels lasso) answer right is) said
-  said_each (Limit n) answer right said rose put is = said_other (Limit n) answer (one_answer files question (Limit n) answer right is) said
+  said_each NotBuilt answer right said rose put is = said_other NotBuilt answer (one_answer files question NotBuilt answer within right is) said
+  said_each (BadFile n x) answer right said rose put is = said_other (BadFile n x) answer (one_answer files question (BadFile n x) answer within right is) said
+  said_each (LongFile n) answer right said rose put is = said_other (LongFile n) answer (one_answer files question (LongFile n) answer within right is) said
+  said_each (BadText x) answer right said rose put is = said_other (BadText x) answer (one_answer files question (BadText x) answer within right is) said
+  said_each LongCertificate answer right said rose put is = said_other LongCertificate answer (one_answer files question LongCertificate answer within right is) said
+  said_each (Refused x) answer right said rose put is = said_other (Refused x) answer (one_answer files question (Refused x) answer within right is) said
+  said_each Included answer right said rose put is = said_other Included answer (one_answer files question Included answer within right is) said
+  said_each (NotIncluded labels lasso) answer right said rose put is = said_other (NotIncluded labels lasso) answer (one_answer files question (NotIncluded labels lasso) answer within right is) said
+  said_each (Limit n) answer right said rose put is = said_other (Limit n) answer (one_answer files question (Limit n) answer within right is) said
+  said_each (Reduced t) answer right said rose put is = said_other (Reduced t) answer (one_answer files question (Reduced t) answer within right is) said
 
 pub says_each_answer :
-    (held : Option FileMap) (question : Option Question) (status : ℕ) (sent sent' : Option (List ℕ)) (sink sink' faults faults' puts puts' : ℕ)
+    (held : Option FileMap) (question : Option Question) (within : HasLook question) (status : ℕ) (sent sent' : Option (List ℕ)) (sink sink' faults faults' puts puts' : ℕ)
     → IsAnswered held question status sent sent' sink sink' faults faults' puts puts'
     → IfSome held (λ files. SaysEachAnswer files question status sent sent' sink sink' faults faults' puts puts')
 unfolding Said
-says_each_answer None question status sent sent' sink sink' faults faults' puts puts' a = a.right
-says_each_answer (Some files) question status sent sent' sink sink' faults faults' puts puts' a =
-    λ answer is. said_each files question status sent sent' sink sink' faults faults' puts puts' a.answer answer a.right a.said a.read_fault a.write_fault is
+says_each_answer None question within status sent sent' sink sink' faults faults' puts puts' a = a.right
+says_each_answer (Some files) question within status sent sent' sink sink' faults faults' puts puts' a =
+    λ answer is. said_each files question within status sent sent' sink sink' faults faults' puts puts' a.answer answer a.right a.said a.read_fault a.write_fault is

@@ -22,35 +22,51 @@ use Rattle.cert_check.specs.Rules.{checks_of, has_checked_form}
 use Rattle.auto_core.specs.Outcome.{Outcome, Entry}
 use Rattle.auto_core.specs.Outcome as end
 use Rattle.decide.specs.Answer.{Decides, unreduced}
-use Rattle.rabit_cli.specs.Question.{Question, Check, Include}
+use Rattle.ba_format.specs.Writing.{written}
+use Rattle.auto_core.specs.Automaton.{Automaton}
+use Rattle.auto_core.specs.declared.parts.Mode.TheVariants.{Buchi}
+use Rattle.reduce_loop.specs.Passes.{IsReduced}
+use Rattle.rabit_cli.specs.Question.{Question, Check, Include, Reduce}
 use Rattle.rabit_cli.specs.declared.answer.Answer.{Answer}
-use Rattle.rabit_cli.specs.declared.answer.Answer.TheVariants.{NotBuilt, BadFile, LongFile, BadText, LongCertificate, Refused, Included, NotIncluded, Limit, ReadFault, WriteFault, OutOfMemory}
+use Rattle.rabit_cli.specs.declared.answer.Answer.TheVariants.{NotBuilt, BadFile, LongFile, BadText, LongCertificate, Refused, Included, NotIncluded, Limit, Reduced, ReadFault, WriteFault, OutOfMemory}
 
 -- The most states, labels and transitions of each file of a check or a decision.
 abbrev pub check_limits : Limits
 check_limits = record { states = 512; labels = 256; transitions = 65536 }
+
+-- The most states, labels and transitions of the file of a reduction.
+abbrev pub reduce_limits : Limits
+reduce_limits = record { states = 2048; labels = 256; transitions = 65536 }
 
 -- The shelf holds these bytes under the name.
 abbrev pub Holds : FileMap → List ℕ → List ℕ → Type 0
 Holds files name bytes = map.get files name ≡ Some bytes
 
 -- What is known where the file with this number was not read as an automaton: it has more than 16 MiB, or it has a fault.
-abbrev pub IsFileFault : ℕ → FileMap → List ℕ → Answer → Type 0
-IsFileFault number files name answer =
+abbrev pub IsFileFaultWithin : Limits → ℕ → FileMap → List ℕ → Answer → Type 0
+IsFileFaultWithin limits number files name answer =
     (bytes : List ℕ)
     × Holds files name bytes
     × (((2 ^ 24 < length bytes) × (answer ≡ LongFile number))
-    ⊎ ((length bytes ≤ 2 ^ 24) × ((fault : BaFault) × (fault_of bytes check_limits ≡ Some fault) × (answer ≡ BadFile number fault))))
+    ⊎ ((length bytes ≤ 2 ^ 24) × ((fault : BaFault) × (fault_of bytes limits ≡ Some fault) × (answer ≡ BadFile number fault))))
+
+-- The same of a file of a check or a decision.
+abbrev pub IsFileFault : ℕ → FileMap → List ℕ → Answer → Type 0
+IsFileFault number files name answer = IsFileFaultWithin check_limits number files name answer
 
 -- Both automata have as many labels as there are texts of labels.
 pub record HasLabelTexts (pair : Joined) : Type 0 where
   pub first : pair.first.labels ≡ length pair.labels
   pub second : pair.second.labels ≡ length pair.labels
 
--- The file reads as this automaton.
+-- Within the limits the file reads as this automaton.
+abbrev pub ReadsWithin : Limits → FileMap → List ℕ → Named → Type 0
+ReadsWithin limits files name named =
+    (bytes : List ℕ) × Holds files name bytes × (length bytes ≤ 2 ^ 24) × Reads bytes limits named
+
+-- The same of a file of a check or a decision.
 abbrev pub ReadsAs : FileMap → List ℕ → Named → Type 0
-ReadsAs files name named =
-    (bytes : List ℕ) × Holds files name bytes × (length bytes ≤ 2 ^ 24) × Reads bytes check_limits named
+ReadsAs files name named = ReadsWithin check_limits files name named
 
 -- What is known where the certificate's file was not read: it has more than 1 GiB, or its text has a fault.
 abbrev pub IsCertificateFault : FileMap → List ℕ → Answer → Type 0
@@ -129,12 +145,28 @@ CountsInTurn files None before now = now ≡ before
 CountsInTurn files (Some (Check a b c)) before now =
     CountsForPair files a b before now ⊎ ((pair : Joined) × ReadsPair files a b pair × Lacks files c)
 CountsInTurn files (Some (Include a b c)) before now = CountsForPair files a b before now
+CountsInTurn files (Some (Reduce name look)) before now = (now ≡ before) ⊎ Lacks files name
+
+-- What stays: without a question no call of the shelf fails, and only a decision puts a file.
+abbrev pub FailsInTurn : Option Question → ℕ → ℕ → ℕ → ℕ → Type 0
+FailsInTurn None faults faults' puts puts' = (faults' ≡ faults) × (puts' ≡ puts)
+FailsInTurn (Some (Check a b c)) faults faults' puts puts' = puts' ≡ puts
+FailsInTurn (Some (Include a b c)) faults faults' puts puts' = Unit {0}
+FailsInTurn (Some (Reduce name look)) faults faults' puts puts' = puts' ≡ puts
+
+-- The answer of `reduce A`: the file has a fault, or it is read, and the text of its reduced automaton is the answer.
+abbrev pub IsReduceAnswer : FileMap → List ℕ → ℕ → Answer → Type 0
+IsReduceAnswer files name look answer =
+    IsFileFaultWithin reduce_limits 1 files name answer
+    ⊎ ((named : Named) × ReadsWithin reduce_limits files name named
+    × ((B : Automaton) × IsReduced named.auto Buchi look B × (answer ≡ Reduced (written B named.labels))))
 
 -- The answer to what the words ask.
 abbrev pub IsAnswerTo : FileMap → Option Question → Answer → Type 0
 IsAnswerTo files None answer = answer ≡ NotBuilt
 IsAnswerTo files (Some (Check a b c)) answer = IsCheckAnswer files a b c answer
 IsAnswerTo files (Some (Include a b c)) answer = IsIncludeAnswer files a b answer
+IsAnswerTo files (Some (Reduce name look)) answer = IsReduceAnswer files name look answer
 
 -- A fact about the answer, unless it is a read fault, a write fault or want of memory, which have other causes.
 abbrev pub UnlessRefused : Answer → Type 0 → Type 0

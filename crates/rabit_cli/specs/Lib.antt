@@ -5,3 +5,4 @@ pub mod Written
 pub mod Prepared
 pub mod Said
 pub mod Laws
+pub mod Reducing

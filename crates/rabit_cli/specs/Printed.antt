@@ -6,7 +6,7 @@ use Rattle.ba_format.specs.declared.parts.BaKind.TheVariants as kind
 use Rattle.cert_text.specs.declared.faults.TextKind.{TextKind}
 use Rattle.cert_text.specs.declared.faults.TextKind.TheVariants as text_kind
 use Rattle.rabit_cli.specs.declared.answer.Answer.{Answer}
-use Rattle.rabit_cli.specs.declared.answer.Answer.TheVariants.{NotBuilt, BadFile, LongFile, BadText, LongCertificate, Refused, Included, NotIncluded, Limit, ReadFault, WriteFault, OutOfMemory}
+use Rattle.rabit_cli.specs.declared.answer.Answer.TheVariants.{NotBuilt, BadFile, LongFile, BadText, LongCertificate, Refused, Included, NotIncluded, Limit, Reduced, ReadFault, WriteFault, OutOfMemory}
 
 -- The name of a fault of a `.ba` text.
 abbrev pub kind_name : BaKind → List ℕ
@@ -69,6 +69,7 @@ text_for (NotIncluded labels lasso) =
     ++ (codes "prefix:" ++ (word_text labels lasso.prefix ++ (line_end
     ++ (codes "loop:" ++ (word_text labels lasso.turn ++ line_end))))))
 text_for (Limit limit) = codes "limit " ++ (decimal limit ++ line_end)
+text_for (Reduced text) = text
 text_for ReadFault = codes "read fault" ++ line_end
 text_for WriteFault = codes "write fault" ++ line_end
 text_for OutOfMemory = codes "out of memory" ++ line_end
@@ -84,15 +85,17 @@ status_of (Refused refusal) = 5
 status_of Included = 0
 status_of (NotIncluded labels lasso) = 1
 status_of (Limit limit) = 2
+status_of (Reduced text) = 0
 status_of ReadFault = 6
 status_of WriteFault = 7
 status_of OutOfMemory = 8
 
--- The status of the answer where its text could not be sent: a verdict turns into a write fault.
+-- The status of the answer where its text could not be sent: a verdict and an automaton turn into a write fault.
 abbrev pub status_unsent : Answer → ℕ
 status_unsent Included = 7
 status_unsent (NotIncluded labels lasso) = 7
 status_unsent (Limit limit) = 7
+status_unsent (Reduced text) = 7
 status_unsent answer = status_of answer
 
 -- Each letter that the answer prints has a text.
@@ -105,5 +108,6 @@ abbrev pub is_early : Answer → Bool
 is_early Included = false
 is_early (NotIncluded labels lasso) = false
 is_early (Limit limit) = false
+is_early (Reduced text) = false
 is_early WriteFault = false
 is_early answer = true

@@ -16,8 +16,14 @@ use Rattle.cert_text.specs.declared.types.Body.TheVariants.{Yes, NoLasso, Listin
 use Rattle.cert_text.specs.Text.{text}
 use Rattle.cert_check.specs.Laws.{IsValid}
 use Rattle.decide.specs.Answer.{IsAnswer}
-use Rattle.rabit_cli.specs.Question.{Question, Check, Include}
-use Rattle.rabit_cli.specs.Command.{IsAnswerTo, UnlessRefused, ReadsPair, HoldsCertificate, search_limit}
+use Rattle.ba_format.specs.declared.parts.Named.{Named}
+use Rattle.ba_format.specs.Writing.{written}
+use Rattle.auto_core.specs.Automaton.{Automaton}
+use Rattle.auto_core.specs.Accept.{Same}
+use Rattle.reduce_loop.specs.Passes.{IsReduced}
+use Rattle.reduce_loop.specs.Settled.{IsSettled}
+use Rattle.rabit_cli.specs.Question.{Question, Check, Include, Reduce}
+use Rattle.rabit_cli.specs.Command.{IsAnswerTo, UnlessRefused, ReadsPair, ReadsWithin, HoldsCertificate, search_limit, reduce_limits}
 use Rattle.rabit_cli.specs.declared.answer.Answer.{Answer}
 use Rattle.rabit_cli.specs.declared.answer.Answer.TheVariants.{Included, NotIncluded, Limit, ReadFault, WriteFault}
 use Rattle.rabit_cli.specs.declared.answer.Reply.{Reply}
@@ -121,22 +127,43 @@ pub record IsDecidedListed (files : FileMap) (a b c : List ℕ) (files' : FileMa
   pub held : files' ≡ map.insert files c (text cert)
   pub printed : sent' ≡ append_known sent (text_for (Limit search_limit))
 
--- The words ask for a check or a decision, and it shows that.
+-- A reduction was printed: the named file reads as an automaton, and what was sent is the text of its reduced automaton, which accepts
+-- the same lassos and in which no step of the reduction has anything left to do.
+pub record IsReducedShown (files : FileMap) (name : List ℕ) (look : ℕ) (sent sent' : Option (List ℕ)) : Type 0 where
+  pub named : Named
+  pub reduced : Automaton
+  pub read : ReadsWithin reduce_limits files name named
+  pub is_reduced : IsReduced named.auto Buchi look reduced
+  pub same : Same named.auto reduced Buchi
+  pub settled : IsSettled reduced Buchi look
+  pub printed : sent' ≡ append_known sent (written reduced named.labels)
+
+-- If the words ask for a reduction, it was printed so.
+abbrev pub ShowsReduced : FileMap → Option Question → Option (List ℕ) → Option (List ℕ) → Type 0
+ShowsReduced files None sent sent' = ⊥
+ShowsReduced files (Some (Check a b c)) sent sent' = Unit {0}
+ShowsReduced files (Some (Include a b c)) sent sent' = Unit {0}
+ShowsReduced files (Some (Reduce name look)) sent sent' = IsReducedShown files name look sent sent'
+
+-- If the words ask for a check or a decision, it shows that.
 abbrev pub ShowsIncluded : FileMap → Option Question → FileMap → Option (List ℕ) → Option (List ℕ) → Type 0
 ShowsIncluded files None files' sent sent' = ⊥
 ShowsIncluded files (Some (Check a b c)) files' sent sent' = IsIncluded files a b c sent sent'
+ShowsIncluded files (Some (Reduce name look)) files' sent sent' = Unit {0}
 ShowsIncluded files (Some (Include a b c)) files' sent sent' = IsDecidedIncluded files a b c files' sent sent'
 
 -- The same of a lasso that separates the automata.
 abbrev pub ShowsApart : FileMap → Option Question → FileMap → Option (List ℕ) → Option (List ℕ) → Type 0
 ShowsApart files None files' sent sent' = ⊥
 ShowsApart files (Some (Check a b c)) files' sent sent' = IsApart files a b c sent sent'
+ShowsApart files (Some (Reduce name look)) files' sent sent' = ⊥
 ShowsApart files (Some (Include a b c)) files' sent sent' = IsDecidedApart files a b c files' sent sent'
 
 -- The words ask for a decision, and it lists more supergraphs than the limit.
 abbrev pub ShowsListed : FileMap → Option Question → FileMap → Option (List ℕ) → Option (List ℕ) → Type 0
 ShowsListed files None files' sent sent' = ⊥
 ShowsListed files (Some (Check a b c)) files' sent sent' = ⊥
+ShowsListed files (Some (Reduce name look)) files' sent sent' = ⊥
 ShowsListed files (Some (Include a b c)) files' sent sent' = IsDecidedListed files a b c files' sent sent'
 
 -- Whatever is the answer to the question: it was said whole, with its status, unless a count of the outside rose or memory was

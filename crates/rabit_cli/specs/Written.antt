@@ -9,10 +9,10 @@ use Rattle.cert_text.specs.Text.{text}
 use Rattle.cert_text.specs.WellFormed.{WellFormed}
 use Rattle.decide.specs.Answer.{IsAnswer}
 use Rattle.decide.specs.Laws.{IsValidVerdict, SaysTruth}
-use Rattle.rabit_cli.specs.Question.{Question, Check, Include}
+use Rattle.rabit_cli.specs.Question.{Question, Check, Include, Reduce}
 use Rattle.rabit_cli.specs.Command.{ReadsPair, IsVerdictAnswer, search_limit}
 use Rattle.rabit_cli.specs.declared.answer.Answer.{Answer}
-use Rattle.rabit_cli.specs.declared.answer.Answer.TheVariants.{Included, NotIncluded, Limit, WriteFault}
+use Rattle.rabit_cli.specs.declared.answer.Answer.TheVariants.{Included, NotIncluded, Limit, Reduced, WriteFault}
 
 -- The two files read as this pair of automata, and the certificate is the answer for them: it has a text, keeps all rules of the
 -- check where it says yes or no, and what it says is so.
@@ -44,6 +44,7 @@ pub record LeavesDecided (files : FileMap) (a b c : List ℕ) (status puts puts'
 abbrev pub LeavesFiles : FileMap → Option Question → ℕ → ℕ → ℕ → FileMap → Type 0
 LeavesFiles files None status puts puts' files' = files' ≡ files
 LeavesFiles files (Some (Check a b c)) status puts puts' files' = files' ≡ files
+LeavesFiles files (Some (Reduce name look)) status puts puts' files' = files' ≡ files
 LeavesFiles files (Some (Include a b c)) status puts puts' files' = LeavesDecided files a b c status puts puts' files'
 
 -- A shelf that tells its files tells them afterwards too, and then this holds of those before and those after.
@@ -56,11 +57,12 @@ abbrev pub WritesVerdict : FileMap → List ℕ → List ℕ → List ℕ → An
 WritesVerdict files a b c verdict files' =
     (pair : Joined) × (cert : Cert) × IsCertFor files a b pair cert × IsVerdictAnswer pair cert.body verdict × (files' ≡ map.insert files c (text cert))
 
--- What a decision leaves before its answer is said.
+-- What a decision leaves before its answer is said; none is a reduced automaton.
 abbrev pub LeavesBehind : FileMap → List ℕ → List ℕ → List ℕ → Answer → FileMap → Type 0
 LeavesBehind files a b c Included files' = WritesVerdict files a b c Included files'
 LeavesBehind files a b c (NotIncluded labels lasso) files' = WritesVerdict files a b c (NotIncluded labels lasso) files'
 LeavesBehind files a b c (Limit limit) files' = WritesVerdict files a b c (Limit limit) files'
+LeavesBehind files a b c (Reduced text) files' = ⊥
 LeavesBehind files a b c WriteFault files' = HoldsFront files a b c files'
 LeavesBehind files a b c answer files' = files' ≡ files
 
@@ -68,4 +70,5 @@ LeavesBehind files a b c answer files' = files' ≡ files
 abbrev pub LeavesFor : FileMap → Option Question → Answer → FileMap → Type 0
 LeavesFor files None answer files' = files' ≡ files
 LeavesFor files (Some (Check a b c)) answer files' = files' ≡ files
+LeavesFor files (Some (Reduce name look)) answer files' = files' ≡ files
 LeavesFor files (Some (Include a b c)) answer files' = LeavesBehind files a b c answer files'

@@ -3,7 +3,7 @@
 ghost use Rattle.std.specs.Prelude.{◌≡◌};
 ghost use Rattle.rabit_cli.specs.Printed.{status_of, status_unsent};
 
-use auto_core::Lasso;
+use auto_core::{Lasso, List};
 use ba_format::{BaFault, Texts};
 use cert_check::Refusal;
 use cert_text::TextFault;
@@ -42,6 +42,8 @@ pub enum Answer {
     },
     /// The search met its limit, which is this one.
     Limit(u32),
+    /// The automaton was reduced, and this is its text.
+    Reduced(List<u8>),
     /// A file could not be read.
     ReadFault,
     /// The certificate could not be written.
@@ -57,6 +59,7 @@ impl Answer {
     {
         match self {
             Answer::Included => 0,
+            Answer::Reduced(_) => 0,
             Answer::NotIncluded { .. } => 1,
             Answer::Limit(_) => 2,
             Answer::BadFile { .. } => 4,
@@ -77,6 +80,7 @@ impl Answer {
     {
         match self {
             Answer::Included => 7,
+            Answer::Reduced(_) => 7,
             Answer::NotIncluded { .. } => 7,
             Answer::Limit(_) => 7,
             other => other.status(),

@@ -8,11 +8,11 @@ ghost use Rattle.rabit_cli.specs.Said.{answer_in, IsSayable, NeedsMemory};
 ghost use Rattle.rabit_cli.specs.Written.{OfBoth, LeavesFor};
 ghost use Rattle.cert_text.specs.WellFormed.{WellFormed};
 ghost use Rattle.rabit_cli.specs.Printed.{IsPrintable};
-ghost use Rattle.rabit_cli.specs.Command.{HasLabelTexts, Concludes, CountsInTurn, IsCheckAnswer, IsAnswerTo, UnlessRefused};
+ghost use Rattle.rabit_cli.specs.Command.{HasLabelTexts, Concludes, CountsInTurn, FailsInTurn, IsCheckAnswer, IsAnswerTo, UnlessRefused};
 
 use crate::answer::{Answer, Reply};
 use crate::question::Task;
-use crate::{inclusion, question, reading};
+use crate::{inclusion, question, reading, reducing};
 use ba_format::Joined;
 use cert_check::{CheckFault, Verdict};
 use cert_text::Cert;
@@ -81,7 +81,14 @@ pub fn reply_to<H: Shelf>(alloc: Global, words: &[String], shelf: &mut H) -> Rep
     ensures leaves { OfBoth (H.held shelf.old) (H.held shelf.new) (λ files files'. LeavesFor files (question_of (map string_bytes words.now)) (answer_in result) files') }
     ensures early { NeedsMemory result → H.held shelf.new ≡ H.held shelf.old }
     ensures missing { IfSome (H.held shelf.old) (λ files. CountsInTurn files (question_of (map string_bytes words.now)) (H.missed shelf.old) (H.missed shelf.new)) }
+    ensures fails { FailsInTurn (question_of (map string_bytes words.now)) (H.faults shelf.old) (H.faults shelf.new) (H.put_faults shelf.old) (H.put_faults shelf.new) }
 {
+    match question::asked_reduction(words) {
+        Some((name, look)) => {
+            return Reply::Plain(reducing::reduce_answer(alloc, shelf, name, look));
+        },
+        None => {},
+    }
     match question::asked(words) {
         Some((Task::Check, first, second, certificate)) => Reply::Plain(check_answer(
             alloc,

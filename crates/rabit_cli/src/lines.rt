@@ -106,6 +106,7 @@ pub fn printed(alloc: Global, answer: &Answer) -> Result<Vec<u8>, Memory>
         Answer::LongCertificate => certificate_text(alloc, 0, "Long"),
         Answer::Refused(refusal) => refusal_text(alloc, refusal.item, refusal.rule),
         Answer::Limit(limit) => limit_text(alloc, *limit),
+        Answer::Reduced(text) => Ok(Vec::from_slice(alloc, text.as_slice())?),
         Answer::ReadFault => copied(alloc, "read fault\n"),
         Answer::WriteFault => copied(alloc, "write fault\n"),
         Answer::Included => copied(alloc, "included\n"),

@@ -9,6 +9,7 @@ mod letters;
 mod lines;
 mod question;
 mod reading;
+mod reducing;
 mod top;
 
 use shelf_io::{DiskShelf, OutSink};
@@ -39,6 +40,8 @@ mod graph_tests;
 mod include_tests;
 #[cfg(test)]
 mod inclusion_tests;
+#[cfg(test)]
+mod reduce_tests;
 #[cfg(test)]
 mod search_tests;
 #[cfg(test)]

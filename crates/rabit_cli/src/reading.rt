@@ -8,7 +8,7 @@ ghost use Rattle.ba_format.specs.Joining.{IsJoined};
 ghost use Rattle.cert_text.specs.WellFormed.{WellFormed};
 ghost use Rattle.rabit_cli.specs.Printed.{IsPrintable, is_early};
 ghost use Rattle.decide.specs.Laws.{CanDecide};
-ghost use Rattle.rabit_cli.specs.Command.{check_limits, HasLabelTexts, IsFileFault, ReadsAs, ReadsPair, IsPairFault, CountsForPair, IsCertificateFault, HoldsCertificate, UnlessRefused};
+ghost use Rattle.rabit_cli.specs.Command.{check_limits, HasLabelTexts, IsFileFault, IsFileFaultWithin, ReadsAs, ReadsWithin, ReadsPair, IsPairFault, CountsForPair, IsCertificateFault, HoldsCertificate, UnlessRefused};
 
 use crate::answer::Answer;
 use auto_core::Memory;
@@ -29,7 +29,40 @@ const LIMITS: Limits = Limits {
     transitions: 65_536,
 };
 
-/// Loads the file and reads its automaton, or tells the answer that it ends with.
+/// Loads the file and reads its automaton within the limits, or tells the answer that it ends with.
+pub fn read_within<H: Shelf>(
+    alloc: Global,
+    shelf: &mut H,
+    name: &str,
+    number: u32,
+    limits: &Limits,
+) -> Result<Named, Answer>
+    ensures read { IfOk result (λ named. IfSome (H.held shelf.old) (λ files. ReadsWithin limits.now files name.now named)) }
+    ensures within { IfOk result (IsWithin limits.now) }
+    ensures labels { IfOk result (λ named. named.auto.labels ≡ length named.labels) }
+    ensures printable { IfErr result IsPrintable }
+    ensures early { IfErr result (λ answer. is_early answer ≡ true) }
+    ensures fault { IfErr result (λ answer. IfSome (H.held shelf.old) (λ files. UnlessRefused answer (IsFileFaultWithin limits.now number files name.now answer))) }
+    ensures read_fault { result ≡ Err Answer.ReadFault → Rose (H.faults shelf.old) (H.faults shelf.new) }
+    ensures no_read_fault { ¬ (result ≡ Err Answer.ReadFault) → H.faults shelf.new ≡ H.faults shelf.old }
+    ensures files_stay { H.held shelf.new ≡ H.held shelf.old }
+    ensures puts_stay { H.put_faults shelf.new ≡ H.put_faults shelf.old }
+    ensures counts_missing { CountsMissing (H.held shelf.old) name.now (H.missed shelf.old) (H.missed shelf.new) }
+{
+    let bytes = match shelf_io::load(alloc, shelf, name, AUTOMATON_BYTES) {
+        Ok(bytes) => bytes,
+        Err(LoadFault::Failed) => return Err(Answer::ReadFault),
+        Err(LoadFault::Long) => return Err(Answer::LongFile { number }),
+        Err(LoadFault::Memory) => return Err(Answer::OutOfMemory),
+    };
+    match ba_format::read(alloc, bytes.as_slice(), limits) {
+        Ok(named) => Ok(named),
+        Err(ReadFault::Ba(fault)) => Err(Answer::BadFile { number, fault }),
+        Err(ReadFault::Memory) => Err(Answer::OutOfMemory),
+    }
+}
+
+/// Loads the file and reads its automaton within the limits of a check or a decision, or tells the answer that it ends with.
 pub fn read_automaton<H: Shelf>(
     alloc: Global,
     shelf: &mut H,
@@ -48,17 +81,7 @@ pub fn read_automaton<H: Shelf>(
     ensures puts_stay { H.put_faults shelf.new ≡ H.put_faults shelf.old }
     ensures counts_missing { CountsMissing (H.held shelf.old) name.now (H.missed shelf.old) (H.missed shelf.new) }
 {
-    let bytes = match shelf_io::load(alloc, shelf, name, AUTOMATON_BYTES) {
-        Ok(bytes) => bytes,
-        Err(LoadFault::Failed) => return Err(Answer::ReadFault),
-        Err(LoadFault::Long) => return Err(Answer::LongFile { number }),
-        Err(LoadFault::Memory) => return Err(Answer::OutOfMemory),
-    };
-    match ba_format::read(alloc, bytes.as_slice(), &LIMITS) {
-        Ok(named) => Ok(named),
-        Err(ReadFault::Ba(fault)) => Err(Answer::BadFile { number, fault }),
-        Err(ReadFault::Memory) => Err(Answer::OutOfMemory),
-    }
+    read_within(alloc, shelf, name, number, &LIMITS)
 }
 
 /// Joins the labels of the two automata.

@@ -57,7 +57,7 @@ pub(crate) fn words_of(alloc: Global, words: &[&str]) -> Result<Vec<String>, Mem
 }
 
 /// The status, and whether the sink holds just this text.
-fn answers(
+pub(crate) fn answers(
     alloc: Global,
     words: &[&str],
     files: &[(&str, &str)],

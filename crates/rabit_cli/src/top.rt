@@ -5,8 +5,8 @@ ghost use Rattle.std.specs.String.{string_bytes};
 ghost use Rattle.shelf_io.specs.Counts.{Rose};
 ghost use Rattle.rabit_cli.specs.Question.{question_of};
 ghost use Rattle.rabit_cli.specs.Printed.{IsPrintable, text_for};
-ghost use Rattle.rabit_cli.specs.Command.{CountsInTurn};
-ghost use Rattle.rabit_cli.specs.Said.{WasSaid, IsAnswered, IsSayable, NeedsMemory, answer_in, ShowsIncluded, ShowsApart, ShowsListed, SaysEachAnswer};
+ghost use Rattle.rabit_cli.specs.Command.{CountsInTurn, FailsInTurn};
+ghost use Rattle.rabit_cli.specs.Said.{WasSaid, IsAnswered, IsSayable, NeedsMemory, answer_in, ShowsIncluded, ShowsApart, ShowsListed, ShowsReduced, SaysEachAnswer};
 ghost use Rattle.rabit_cli.specs.Written.{OfBoth, LeavesFiles};
 
 use crate::answer::{Answer, Reply};
@@ -25,7 +25,8 @@ fn give_text<K: Sink>(answer: &Answer, text: &[u8], out: &mut K) -> u8
     }
 }
 
-/// Says the answer; where memory is refused for its text, that is said in its place. The text of a fault of the shelf needs none.
+/// Says the answer; where memory is refused for its text, that is said in its place. The text of a fault of the shelf needs none, and that of an automaton
+/// is made.
 fn say<K: Sink>(alloc: Global, answer: &Answer, out: &mut K) -> u8
     requires { IsPrintable answer.now }
     ensures { WasSaid answer.now result (K.sent out.old) (K.sent out.new) (K.faults out.old) (K.faults out.new)
@@ -34,6 +35,7 @@ fn say<K: Sink>(alloc: Global, answer: &Answer, out: &mut K) -> u8
     match answer {
         Answer::ReadFault => return give_text(answer, b"read fault\n", out),
         Answer::WriteFault => return give_text(answer, b"write fault\n", out),
+        Answer::Reduced(text) => return give_text(answer, text.as_slice(), out),
         _ => {}
     }
     match lines::printed(alloc, answer) {
@@ -80,6 +82,10 @@ pub fn run<H: Shelf, K: Sink>(alloc: Global, words: &[String], shelf: &mut H, ou
     ensures limit_met { result ≡ 2 → OfBoth (H.held shelf.old) (H.held shelf.new) (λ files files'.
         ShowsListed files (question_of (map string_bytes words.now)) files' (K.sent out.old) (K.sent out.new)) }
 
+    // Reduced: the text of the reduced automaton of the read one was printed; it accepts the same lassos and is settled.
+    ensures reduced { result ≡ 0 → IfSome (H.held shelf.old) (λ files.
+        ShowsReduced files (question_of (map string_bytes words.now)) (K.sent out.old) (K.sent out.new)) }
+
     // What the shelf holds afterwards: only a decision writes, and only the file of its certificate.
     ensures files { OfBoth (H.held shelf.old) (H.held shelf.new) (λ files files'.
         LeavesFiles files (question_of (map string_bytes words.now)) result (H.put_faults shelf.old) (H.put_faults shelf.new) files') }
@@ -89,6 +95,9 @@ pub fn run<H: Shelf, K: Sink>(alloc: Global, words: &[String], shelf: &mut H, ou
     ensures no_read_fault { result ≢ 6 → H.faults shelf.new ≡ H.faults shelf.old }
     ensures write_fault { result ≡ 7 → Rose (K.faults out.old) (K.faults out.new) ⊎ Rose (H.put_faults shelf.old) (H.put_faults shelf.new) }
     ensures no_write_fault { result ≢ 7 → H.put_faults shelf.new ≡ H.put_faults shelf.old }
+
+    // Without a question no call of the shelf fails, and only a decision puts a file.
+    ensures fails { FailsInTurn (question_of (map string_bytes words.now)) (H.faults shelf.old) (H.faults shelf.new) (H.put_faults shelf.old) (H.put_faults shelf.new) }
 
     // Where the shelf tells its files, a missing one is counted only where the command reads it, after those before it.
     ensures missing { IfSome (H.held shelf.old) (λ files.
