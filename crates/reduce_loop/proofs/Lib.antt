@@ -1,6 +1,8 @@
 pub mod ListLemmas
 pub mod SizeLemmas
+pub mod RelationLemmas
 pub mod MergeLemmas
+pub mod PruneLemmas
 pub mod StepLemmas
 pub mod PassLemmas
 pub mod MakingLemmas

@@ -1,24 +1,29 @@
 -- There is one log.
-use Rattle.std.proofs.Common.{◌≡◌, ℕ, zero, suc, ◌<◌, ◌↔◌, inl, inr, List, [], ◌∷◌, ◌++◌, Contains, sym, ap, ◌∙◌, subst, arith}
+use Rattle.std.proofs.Common.{◌≡◌, ℕ, zero, suc, ◌<◌, ◌↔◌, inl, inr, Option, None, Some, List, refl, [], ◌∷◌, ◌++◌, Contains, sym, ap, ◌∙◌, subst, arith}
 use Rattle.std.specs.List.Sorted.{IsStrictlyIncreasing}
 use Rattle.std.proofs.lemmas.List.Kept.{AllPairs-from_increasing}
 use Rattle.auto_core.specs.Automaton.{Automaton, IsAutomaton}
 use Rattle.auto_core.specs.Game.{Close, Holds, IsGreatestForward, IsGreatestBackward}
+use Rattle.auto_core.specs.Pruning.{look_back, look_ahead}
 use Rattle.auto_core.specs.declared.parts.Mode.{Mode}
-use Rattle.auto_core.proofs.MemberLemmas.{Rises, rises_from_pairs, same_members}
+use Rattle.auto_core.proofs.MemberLemmas.{rises_from_pairs, same_members}
 use Rattle.backward_sim.proofs.GreatestLemmas.{greatest_is_one as backward_is_one}
-use Rattle.bit_rel.specs.Relation.{Relation, IsBefore, ArePairsAscending, IsRelation}
+use Rattle.bit_rel.specs.Relation.{Relation}
 use Rattle.direct_sim.proofs.GreatestLemmas.{greatest_is_one as forward_is_one}
+use Rattle.prune_pairs.specs.Least.{AreLeastBetter}
+use Rattle.prune_pairs.specs.declared.removing.Gone.{Gone}
 use Rattle.reduce_loop.specs.declared.steps.Kind.{Kind}
-use Rattle.reduce_loop.specs.declared.steps.Kind.TheVariants.{Trim, Forward, Backward}
+use Rattle.reduce_loop.specs.declared.steps.Kind.TheVariants.{Trim, Forward, Backward, Prune}
 use Rattle.reduce_loop.specs.declared.steps.MergeBy.{MergeBy}
 use Rattle.reduce_loop.specs.declared.steps.MergeBy.TheVariants as by
 use Rattle.reduce_loop.specs.declared.steps.Step.{Step}
 use Rattle.reduce_loop.specs.declared.steps.Step.TheVariants as step
 use Rattle.reduce_loop.specs.Kinds.{kinds_of}
-use Rattle.reduce_loop.specs.Logs.{IsRelationOf, IsMergeOf, IsEntry, IsLogged, LogThrough, LogPasses}
+use Rattle.reduce_loop.specs.Logs.{IsRelationOf, IsMergeOf, IsGivenWhere, pairs_of, IsCutOf, IsEntry, IsLogged, LogThrough, LogPasses}
 use Rattle.reduce_loop.specs.Laws.{LogIsOne}
+use Rattle.reduce_loop.proofs.RelationLemmas.{same_relation}
 use Rattle.reduce_loop.proofs.MergeLemmas.{same_classes, same_closure}
+use Rattle.reduce_loop.proofs.PruneLemmas.{least_one}
 use Rattle.reduce_loop.proofs.StepLemmas.{after_valid, after_one}
 use Rattle.reduce_loop.proofs.PassLemmas.{log_through, through_valid, through_one}
 
@@ -28,26 +33,6 @@ same_numbers xs ys up other same = same_members (λ x y. x < y) (λ x y h k. ome
     (rises_from_pairs (λ x y. x < y) xs (AllPairs-from_increasing xs up))
     (rises_from_pairs (λ x y. x < y) ys (AllPairs-from_increasing ys other))
     (λ q h. (same q).0 h) (λ q h. (same q).1 h)
-
--- pairs that ascend are too
-pairs_rise : (xs : List (ℕ × ℕ)) → ArePairsAscending xs → Rises IsBefore xs
-pairs_rise [] up = tt
-pairs_rise (x ∷ xs) up = (up.0, pairs_rise xs up.1)
-
-pair_before : (x y : ℕ × ℕ) → IsBefore x y → IsBefore y x → ⊥
-pair_before x y h k = both x.0 x.1 y.0 y.1 h k
-  where
-    both : (a b c d : ℕ) → IsBefore (a, b) (c, d) → IsBefore (c, d) (a, b) → ⊥
-    both a b c d h k = omega arith
-
-same_relation : (rel other : Relation) → IsRelation rel → IsRelation other → rel.size ≡ other.size → ((p q : ℕ) → Holds rel.pairs p q ↔ Holds other.pairs p q) → rel ≡ other
-same_relation rel other valid also size same =
-    made rel.size other.size rel.pairs other.pairs size
-    (same_members IsBefore pair_before rel.pairs other.pairs (pairs_rise rel.pairs valid.in_order) (pairs_rise other.pairs also.in_order)
-    (λ x h. (same x.0 x.1).0 h) (λ x h. (same x.0 x.1).1 h))
-  where
-    made : (m n : ℕ) (xs ys : List (ℕ × ℕ)) → m ≡ n → xs ≡ ys → (let R : Relation = record { size = m; pairs = xs } in R ≡ record { size = n; pairs = ys })
-    made m n xs ys e f = λ i. record { size = e i; pairs = f i }
 
 -- ---- entries
 
@@ -62,6 +47,22 @@ module _ (A : Automaton) (Greatest : List (ℕ × ℕ) → Type 0) (one : (S T :
       (same_closure (Holds rel.pairs) (Holds other.pairs) (one rel.pairs other.pairs is.relation.greatest also.relation.greatest)) in
       λ i. step.Merge (named (same i)) (equal i)
 
+  given_one : (wanted : Type 0) (rel other : Option Relation) → IsGivenWhere wanted (IsRelationOf A Greatest) rel → IsGivenWhere wanted (IsRelationOf A Greatest) other → rel ≡ other
+  given_one wanted None None is also = refl
+  given_one wanted None (Some other) is also = absurd (is also.0)
+  given_one wanted (Some rel) None is also = absurd (also is.0)
+  given_one wanted (Some rel) (Some other) is also = ap Some (relation_one rel other is.1 also.1)
+
+cut_entry_one : (A : Automaton) (n k : ℕ) (gone these : List Gone) (back back' ahead ahead' : Option Relation) → IsCutOf A n k gone back ahead → IsCutOf A n k these back' ahead' → step.Cut n k gone back ahead ≡ step.Cut n k these back' ahead'
+cut_entry_one A n k gone these back back' ahead ahead' is also =
+    let same_back : back ≡ back' = given_one A (IsGreatestBackward A (look_back n k)) (backward_is_one A (look_back n k)) (¬ (n ≡ 1)) back back' is.is_back also.is_back in
+    let same_ahead : ahead ≡ ahead' = given_one A (IsGreatestForward A (look_ahead n k)) (forward_is_one A (look_ahead n k)) (¬ (n ≡ 2)) ahead ahead' is.is_ahead also.is_ahead in
+    let moved : AreLeastBetter A n (Close (Holds (pairs_of back'))) (Close (Holds (pairs_of ahead'))) gone =
+    subst (λ f. AreLeastBetter A n (Close (Holds (pairs_of back'))) (Close (Holds (pairs_of f))) gone) same_ahead
+    (subst (λ b. AreLeastBetter A n (Close (Holds (pairs_of b))) (Close (Holds (pairs_of ahead))) gone) same_back is.least) in
+    let same_gone : gone ≡ these = least_one A n (Close (Holds (pairs_of back'))) (Close (Holds (pairs_of ahead'))) gone these moved also.least in
+    λ i. step.Cut n k (same_gone i) (same_back i) (same_ahead i)
+
 entry_one : (A : Automaton) (mode : Mode) (k : ℕ) (kind : Kind) (entry other : Step) → IsEntry A mode k kind entry → IsEntry A mode k kind other → entry ≡ other
 entry_one A mode k Trim entry other (kept, e, is) (these, f, also) =
     e
@@ -71,6 +72,8 @@ entry_one A mode k Forward entry other (rel, classes, e, is) (rel', classes', f,
     e ∙ merge_entry_one A (IsGreatestForward A k) (forward_is_one A k) (λ r. by.Forward k r) rel rel' classes classes' is also ∙ sym f
 entry_one A mode k Backward entry other (rel, classes, e, is) (rel', classes', f, also) =
     e ∙ merge_entry_one A (IsGreatestBackward A k) (backward_is_one A k) (λ r. by.Backward k r) rel rel' classes classes' is also ∙ sym f
+entry_one A mode k (Prune n) entry other (gone, back, ahead, e, is) (gone', back', ahead', f, also) =
+    e ∙ cut_entry_one A n k gone gone' back back' ahead ahead' is also ∙ sym f
 
 -- ---- logs
 

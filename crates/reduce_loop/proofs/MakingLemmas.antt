@@ -14,8 +14,8 @@ use Rattle.auto_core.specs.Run.{Run}
 use Rattle.auto_core.specs.Useful.{AreUseful}
 use Rattle.auto_core.specs.declared.parts.Mode.{Mode}
 use Rattle.auto_core.proofs.MoveLemmas.{move_in_range}
-use Rattle.reduce_loop.proofs.MergeLemmas.{same_closure}
-use Rattle.auto_core.proofs.PathLemmas.{Contains-from_test, test_from_Contains}
+use Rattle.reduce_loop.proofs.RelationLemmas.{same_relation}
+use Rattle.auto_core.proofs.PathLemmas.{Contains-from_test, test_from_Contains, none_in_nil}
 use Rattle.auto_core.proofs.MemberLemmas.{filter_has, filter_from, range_has, range_rises}
 use Rattle.bit_rel.specs.Relation.{Relation, IsRelation, Adds, IsClosed}
 
@@ -156,26 +156,19 @@ row_more whole now new p (size, pairs) same added = (
   ),
 )
 
--- the closure of a copy is that of the relation
-pub closed_as :
-    (whole copy new : Relation) (n : ℕ)
-    → IsRelation whole
-    → whole.size ≤ n
-    → HasBelow whole copy n
-    → IsClosed copy new
-    → IsClosed whole new
-closed_as whole copy new n valid all (size, pairs) closed =
-    let same = same_closure (Holds copy.pairs) (Holds whole.pairs) (λ p q. (
-      λ h. ((pairs p q).0 h).1,
-      λ h. let lt = (valid.in_range p q h).0 in (pairs p q).1 (omega arith, h),
-    )) in
-    record {
-      size = closed.size ∙ size;
-      pairs = λ p q. (
-        λ h. let (p_in, q_in, c) = (closed.pairs p q).0 h in (omega (arith, size), omega (arith, size), (same p q).0 c),
-        λ (p_in, q_in, c). (closed.pairs p q).1 (omega (arith, size), omega (arith, size), (same p q).1 c),
-      );
-    }
+-- no pair is there of numbers below 0
+pub none_below : (whole now : Relation) (n : ℕ) → n ≡ whole.size → now ≡ (let R : Relation = record { size = n; pairs = [] } in R) → HasBelow whole now 0 × IsRelation now
+none_below whole now n same e = subst (λ R. HasBelow whole R 0 × IsRelation R) (sym e) (
+  (same, λ r s. (λ h. absurd (none_in_nil (r, s) h), λ (lt, is). absurd (omega arith))),
+  record { in_range = λ p q h. absurd (none_in_nil (p, q) h); in_order = tt },
+)
+
+-- what holds all pairs is the relation
+pub all_below : (whole now : Relation) (n : ℕ) → IsRelation whole → whole.size ≤ n → HasBelow whole now n × IsRelation now → now ≡ whole
+all_below whole now n valid all ((size, pairs), is) = same_relation now whole is valid size (λ p q. (
+  λ h. ((pairs p q).0 h).1,
+  λ h. let lt = (valid.in_range p q h).0 in (pairs p q).1 (omega arith, h),
+))
 
 -- the classes of the closed relation are those of the closure
 pub classes_as : (old new : Relation) → IsClosed old new → (classes : List ℕ) → AreClassesOf new.size (Holds new.pairs) classes → AreClassesOf old.size (Close (Holds old.pairs)) classes

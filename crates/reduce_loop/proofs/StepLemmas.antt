@@ -7,13 +7,16 @@ use Rattle.auto_core.specs.Quotient.{RelatesMembers}
 use Rattle.auto_core.specs.declared.parts.Mode.{Mode}
 use Rattle.backward_sim.proofs.GreatestLemmas.{greatest_is_one as backward_is_one}
 use Rattle.direct_sim.proofs.GreatestLemmas.{greatest_is_one as forward_is_one}
+use Rattle.prune_pairs.proofs.PruneLaws.{pruned_same}
+use Rattle.prune_pairs.proofs.OneLaws.{pruned_one, pruned_itself}
 use Rattle.quotient.proofs.MergeLaws.{forward_same, backward_same}
 use Rattle.useful_states.proofs.KeepLaws.{trimmed_the_same, trimmed_one}
 use Rattle.reduce_loop.specs.declared.steps.Kind.{Kind}
-use Rattle.reduce_loop.specs.declared.steps.Kind.TheVariants.{Trim, Forward, Backward}
+use Rattle.reduce_loop.specs.declared.steps.Kind.TheVariants.{Trim, Forward, Backward, Prune}
 use Rattle.reduce_loop.specs.Kinds.{kinds_of, IsMerged, After}
 use Rattle.reduce_loop.specs.Settled.{HasNoTwins, IsSettledAt}
 use Rattle.reduce_loop.proofs.SizeLemmas.{IsSmaller, kept_smaller}
+use Rattle.reduce_loop.proofs.PruneLemmas.{pruned_smaller}
 use Rattle.reduce_loop.proofs.MergeLemmas.{merged_smaller, merged_one, no_twins, same_closure}
 
 -- ---- merges by a greatest list of pairs, of any sort of which there is one
@@ -42,18 +45,21 @@ pub after_valid : (A B : Automaton) (mode : Mode) (k : ℕ) (kind : Kind) → Af
 after_valid A B mode k Trim (kept, are, keeps) = keeps.valid
 after_valid A B mode k Forward m = m.quotient.valid
 after_valid A B mode k Backward m = m.quotient.valid
+after_valid A B mode k (Prune n) p = p.cut.valid
 
 -- it is the same automaton, or smaller
 pub after_smaller : (A B : Automaton) (mode : Mode) (k : ℕ) (kind : Kind) → IsAutomaton A → After A mode k kind B → IsSmaller A B
 after_smaller A B mode k Trim valid (kept, are, keeps) = kept_smaller A B kept valid keeps
 after_smaller A B mode k Forward valid m = merge_smaller A (IsGreatestForward A k) B valid m
 after_smaller A B mode k Backward valid m = merge_smaller A (IsGreatestBackward A k) B valid m
+after_smaller A B mode k (Prune n) valid p = pruned_smaller A B n k valid p
 
 -- a step makes one automaton
 pub after_one : (A B C : Automaton) (mode : Mode) (k : ℕ) (kind : Kind) → IsAutomaton A → After A mode k kind B → After A mode k kind C → B ≡ C
 after_one A B C mode k Trim valid b c = trimmed_one A B C mode b c
 after_one A B C mode k Forward valid b c = merge_one A (IsGreatestForward A k) (forward_is_one A k) B C b c
 after_one A B C mode k Backward valid b c = merge_one A (IsGreatestBackward A k) (backward_is_one A k) B C b c
+after_one A B C mode k (Prune n) valid b c = pruned_one A B C n k valid b c
 
 -- it accepts the same
 pub after_same : (A B : Automaton) (mode : Mode) (k : ℕ) (kind : Kind) → IsAutomaton A → 1 ≤ k → Contains (kinds_of mode) kind → After A mode k kind B → Same A B mode
@@ -62,9 +68,11 @@ after_same A B mode k Forward valid some listed m =
     forward_same A B m.classes k m.pairs mode valid some m.greatest.stable (members_related A (IsGreatestForward A k) B m) m.quotient
 after_same A B mode k Backward valid some listed m =
     backward_same A B m.classes k m.pairs mode valid some m.greatest.stable (members_related A (IsGreatestBackward A k) B m) m.quotient
+after_same A B mode k (Prune n) valid some listed p = pruned_same A B n k mode valid some p
 
 -- a step that changes nothing has nothing to do
 pub after_settled : (A : Automaton) (mode : Mode) (k : ℕ) (kind : Kind) → After A mode k kind A → IsSettledAt A mode k kind
 after_settled A mode k Trim b = b
 after_settled A mode k Forward m = merge_settled A (IsGreatestForward A k) (forward_is_one A k) m
 after_settled A mode k Backward m = merge_settled A (IsGreatestBackward A k) (backward_is_one A k) m
+after_settled A mode k (Prune n) p = λ back ahead greatest_back greatest_ahead. (pruned_itself A n k back ahead p.cut.valid greatest_back greatest_ahead).0 p

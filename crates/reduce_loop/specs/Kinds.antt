@@ -2,17 +2,22 @@
 use Rattle.std.specs.Prelude.{ℕ, List, [], ◌∷◌}
 use Rattle.auto_core.specs.Automaton.{Automaton}
 use Rattle.auto_core.specs.Game.{Close, Holds, IsGreatestForward, IsGreatestBackward}
+use Rattle.auto_core.specs.Pruning.{IsPruned}
 use Rattle.auto_core.specs.Useful.{IsTrimmed}
 use Rattle.auto_core.specs.Quotient.{AreClassesOf, IsQuotient}
 use Rattle.auto_core.specs.declared.parts.Mode.{Mode}
 use Rattle.auto_core.specs.declared.parts.Mode.TheVariants.{Buchi, Finite}
 use Rattle.reduce_loop.specs.declared.steps.Kind.{Kind}
-use Rattle.reduce_loop.specs.declared.steps.Kind.TheVariants.{Trim, Forward, Backward}
+use Rattle.reduce_loop.specs.declared.steps.Kind.TheVariants.{Trim, Forward, Backward, Prune}
+
+-- The prunings by the four approved pairs, in order.
+abbrev pub prunings : List Kind
+prunings = Prune 1 ∷ Prune 2 ∷ Prune 3 ∷ Prune 4 ∷ []
 
 -- The steps of one pass, in order.
 abbrev pub kinds_of : Mode → List Kind
-kinds_of Buchi = Trim ∷ Forward ∷ Backward ∷ []
-kinds_of Finite = Trim ∷ Forward ∷ Backward ∷ []
+kinds_of Buchi = Trim ∷ Forward ∷ Backward ∷ prunings
+kinds_of Finite = Trim ∷ Forward ∷ Backward ∷ prunings
 
 -- B has for its states the classes of A that the closure of a list of pairs, one that is the greatest of its sort, relates both ways.
 pub record IsMerged (A : Automaton) (Greatest : List (ℕ × ℕ) → Type 0) (B : Automaton) : Type 0 where
@@ -27,3 +32,4 @@ abbrev pub After : Automaton → Mode → ℕ → Kind → Automaton → Type 0
 After A mode k Trim B = IsTrimmed A mode B
 After A mode k Forward B = IsMerged A (IsGreatestForward A k) B
 After A mode k Backward B = IsMerged A (IsGreatestBackward A k) B
+After A mode k (Prune n) B = IsPruned A n k B

@@ -1,14 +1,17 @@
 -- The log of a reduction: the steps that changed something, in order, each with what it was done by.
-use Rattle.std.specs.Prelude.{◌≡◌, ℕ, zero, suc, ◌⊎◌, List, [], ◌∷◌, ◌++◌}
+use Rattle.std.specs.Prelude.{◌≡◌, ℕ, zero, suc, ◌⊎◌, Option, None, Some, List, [], ◌∷◌, ◌++◌}
 use Rattle.std.specs.List.Sorted.{IsStrictlyIncreasing}
 use Rattle.auto_core.specs.Automaton.{Automaton}
 use Rattle.auto_core.specs.Game.{Close, Holds, IsGreatestForward, IsGreatestBackward}
+use Rattle.auto_core.specs.Pruning.{look_back, look_ahead}
 use Rattle.auto_core.specs.Useful.{AreUseful}
 use Rattle.auto_core.specs.Quotient.{AreClassesOf}
 use Rattle.auto_core.specs.declared.parts.Mode.{Mode}
 use Rattle.bit_rel.specs.Relation.{Relation, IsRelation}
+use Rattle.prune_pairs.specs.Least.{AreLeastBetter}
+use Rattle.prune_pairs.specs.declared.removing.Gone.{Gone}
 use Rattle.reduce_loop.specs.declared.steps.Kind.{Kind}
-use Rattle.reduce_loop.specs.declared.steps.Kind.TheVariants.{Trim, Forward, Backward}
+use Rattle.reduce_loop.specs.declared.steps.Kind.TheVariants.{Trim, Forward, Backward, Prune}
 use Rattle.reduce_loop.specs.declared.steps.Step.{Step}
 use Rattle.reduce_loop.specs.declared.steps.Step.TheVariants as step
 use Rattle.reduce_loop.specs.declared.steps.MergeBy.TheVariants as by
@@ -30,14 +33,41 @@ pub record IsMergeOf (A : Automaton) (Greatest : List (ℕ × ℕ) → Type 0) (
   pub relation : IsRelationOf A Greatest rel
   pub joined : AreClassesOf A.states (Close (Holds rel.pairs)) classes
 
+-- A relation is given just where there is a use for one, and is as it has to be.
+abbrev pub IsGivenWhere : Type 0 → (Relation → Type 0) → Option Relation → Type 0
+IsGivenWhere wanted is None = wanted → ⊥
+IsGivenWhere wanted is (Some rel) = wanted × is rel
+
+-- The pairs of the relation, none where no relation is given.
+abbrev pub pairs_of : Option Relation → List (ℕ × ℕ)
+pairs_of None = []
+pairs_of (Some rel) = rel.pairs
+
+-- Where pair n has a backward relation, it is given and the greatest of A at the pair's lookahead.
+abbrev pub IsBackOf : Automaton → ℕ → ℕ → Option Relation → Type 0
+IsBackOf A n k back = IsGivenWhere (¬ (n ≡ 1)) (IsRelationOf A (IsGreatestBackward A (look_back n k))) back
+
+-- The same of the forward relation.
+abbrev pub IsAheadOf : Automaton → ℕ → ℕ → Option Relation → Type 0
+IsAheadOf A n k ahead = IsGivenWhere (¬ (n ≡ 2)) (IsRelationOf A (IsGreatestForward A (look_ahead n k))) ahead
+
+-- Ascending and with the least better one each, these are just the transitions of A that have a better one by pair n over the
+-- closures of the greatest relations at lookahead k.
+pub record IsCutOf (A : Automaton) (n k : ℕ) (gone : List Gone) (back ahead : Option Relation) : Type 0 where
+  pub is_back : IsBackOf A n k back
+  pub is_ahead : IsAheadOf A n k ahead
+  pub least : AreLeastBetter A n (Close (Holds (pairs_of back))) (Close (Holds (pairs_of ahead))) gone
+
 -- The entry tells of a step of this kind on A at lookahead k: which states stayed, all useful ones ascending; which relation, the
--- greatest and not closed, joined the states, with the class of each.
+-- greatest and not closed, joined the states, with the class of each; which transitions are gone and by which relations.
 abbrev pub IsEntry : Automaton → Mode → ℕ → Kind → Step → Type 0
 IsEntry A mode k Trim entry = (kept : List ℕ) × (entry ≡ step.Trim kept) × IsUsefulList A mode kept
 IsEntry A mode k Forward entry =
     (rel : Relation) × (classes : List ℕ) × (entry ≡ step.Merge (by.Forward k rel) classes) × IsMergeOf A (IsGreatestForward A k) rel classes
 IsEntry A mode k Backward entry =
     (rel : Relation) × (classes : List ℕ) × (entry ≡ step.Merge (by.Backward k rel) classes) × IsMergeOf A (IsGreatestBackward A k) rel classes
+IsEntry A mode k (Prune n) entry =
+    (gone : List Gone) × (back ahead : Option Relation) × (entry ≡ step.Cut n k gone back ahead) × IsCutOf A n k gone back ahead
 
 -- What is logged of a step from A to B: nothing where it changed nothing, and else its entry alone.
 abbrev pub IsLogged : Automaton → Mode → ℕ → Kind → Automaton → List Step → Type 0

@@ -1,10 +1,13 @@
-//! Reduction of automata: useless states go and states that simulate one another become one, until nothing changes.
+//! Reduction of automata: useless states go, states that simulate one another become one and transitions that have a better one go, until
+//! nothing changes.
 #![tactic(auto)]
 
 mod copying;
 mod joining;
+mod knowing;
 pub mod laws;
 mod making;
+mod pruning;
 mod reducing;
 mod steps;
 

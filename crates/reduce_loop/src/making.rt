@@ -3,9 +3,12 @@
 ghost use Rattle.std.specs.Prelude.{◌≡◌, ◌<◌, ◌≤◌, ◌↔◌, ℕ, Contains, IfOk};
 ghost use Rattle.std.specs.List.Sorted.{IsStrictlyIncreasing};
 ghost use Rattle.reduce_loop.specs.Kinds.{After, kinds_of};
+ghost use Rattle.reduce_loop.specs.Known.{IsKnown};
 ghost use Rattle.reduce_loop.specs.Logs.{IsEntry};
 
 use crate::joining::join_states;
+use crate::knowing::{Known, backward, forward};
+use crate::pruning::prune;
 use crate::steps::{Kind, Made, MergeBy, Step};
 use auto_core::{Auto, List, Memory, Mode, StateSet};
 use std::alloc::Global;
@@ -43,13 +46,21 @@ fn trim(alloc: Global, automaton: &Auto, mode: Mode, look: u32) -> Result<Made, 
 }
 
 /// The states that the greatest forward relation joins become one.
-fn merge_forward(alloc: Global, automaton: &Auto, mode: Mode, look: u32) -> Result<Made, Memory>
+fn merge_forward(
+    alloc: Global,
+    automaton: &Auto,
+    known: &mut Known,
+    mode: Mode,
+    look: u32,
+) -> Result<Made, Memory>
     requires look_from { 1 ≤ look }
     requires look_upto { look ≤ 6 }
+    requires known { IsKnown automaton.now look known.old }
     ensures after { IfOk result (λ made. After automaton.now mode look Kind.Forward made.automaton) }
     ensures entry { IfOk result (λ made. IsEntry automaton.now mode look Kind.Forward made.entry) }
+    ensures known { IfOk result (λ _. IsKnown automaton.now look known.new) }
 {
-    let rel = direct_sim::relation(alloc, automaton, look)?;
+    let rel = forward(alloc, automaton, &mut known.forward, look)?;
     let joined = join_states(alloc, automaton, &rel)?;
     Ok(Made {
         automaton: joined.automaton,
@@ -61,13 +72,21 @@ fn merge_forward(alloc: Global, automaton: &Auto, mode: Mode, look: u32) -> Resu
 }
 
 /// The states that the greatest backward relation joins become one.
-fn merge_backward(alloc: Global, automaton: &Auto, mode: Mode, look: u32) -> Result<Made, Memory>
+fn merge_backward(
+    alloc: Global,
+    automaton: &Auto,
+    known: &mut Known,
+    mode: Mode,
+    look: u32,
+) -> Result<Made, Memory>
     requires look_from { 1 ≤ look }
     requires look_upto { look ≤ 6 }
+    requires known { IsKnown automaton.now look known.old }
     ensures after { IfOk result (λ made. After automaton.now mode look Kind.Backward made.automaton) }
     ensures entry { IfOk result (λ made. IsEntry automaton.now mode look Kind.Backward made.entry) }
+    ensures known { IfOk result (λ _. IsKnown automaton.now look known.new) }
 {
-    let rel = backward_sim::relation(alloc, automaton, look)?;
+    let rel = backward(alloc, automaton, &mut known.backward, look)?;
     let joined = join_states(alloc, automaton, &rel)?;
     Ok(Made {
         automaton: joined.automaton,
@@ -82,6 +101,7 @@ fn merge_backward(alloc: Global, automaton: &Auto, mode: Mode, look: u32) -> Res
 pub(crate) fn make(
     alloc: Global,
     automaton: &Auto,
+    known: &mut Known,
     kind: Kind,
     mode: Mode,
     look: u32,
@@ -90,12 +110,15 @@ pub(crate) fn make(
     requires few { automaton.now.states ≤ 65535 }
     requires look_from { 1 ≤ look }
     requires look_upto { look ≤ 6 }
+    requires known { IsKnown automaton.now look known.old }
     ensures after { IfOk result (λ made. After automaton.now mode look kind made.automaton) }
     ensures entry { IfOk result (λ made. IsEntry automaton.now mode look kind made.entry) }
+    ensures known { IfOk result (λ _. IsKnown automaton.now look known.new) }
 {
     match kind {
         Kind::Trim => trim(alloc, automaton, mode, look),
-        Kind::Forward => merge_forward(alloc, automaton, mode, look),
-        Kind::Backward => merge_backward(alloc, automaton, mode, look),
+        Kind::Forward => merge_forward(alloc, automaton, known, mode, look),
+        Kind::Backward => merge_backward(alloc, automaton, known, mode, look),
+        Kind::Prune { pair } => prune(alloc, automaton, known, pair, mode, look),
     }
 }

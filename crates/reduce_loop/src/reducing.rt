@@ -4,20 +4,38 @@ ghost use Rattle.std.specs.Prelude.{◌≡◌, ◌<◌, ◌≤◌, ℕ, List, []
 ghost use Rattle.auto_core.specs.Automaton.{IsAutomaton};
 ghost use Rattle.auto_core.specs.Accept.{Same};
 ghost use Rattle.reduce_loop.specs.Kinds.{After, kinds_of};
+ghost use Rattle.reduce_loop.specs.Known.{IsKnown};
 ghost use Rattle.reduce_loop.specs.Passes.{IsReduced};
 ghost use Rattle.reduce_loop.specs.Settled.{IsSettled};
 ghost use Rattle.reduce_loop.specs.Logs.{IsLogged, LogsOn, IsLog};
 ghost use Rattle.reduce_loop.specs.declared.steps.Step.{Step};
 
 use crate::copying::{copied, is_same};
+use crate::knowing::nothing_known;
 use crate::making::make;
-use crate::steps::{Kind, Reduced, Step};
+use crate::steps::{Going, Kind, Reduced, Step};
 use auto_core::{Auto, List, Memory, Mode};
 use std::alloc::Global;
 
-static BUCHI_KINDS: [Kind; 3] = [Kind::Trim, Kind::Forward, Kind::Backward];
+static BUCHI_KINDS: [Kind; 7] = [
+    Kind::Trim,
+    Kind::Forward,
+    Kind::Backward,
+    Kind::Prune { pair: 1 },
+    Kind::Prune { pair: 2 },
+    Kind::Prune { pair: 3 },
+    Kind::Prune { pair: 4 },
+];
 
-static FINITE_KINDS: [Kind; 3] = [Kind::Trim, Kind::Forward, Kind::Backward];
+static FINITE_KINDS: [Kind; 7] = [
+    Kind::Trim,
+    Kind::Forward,
+    Kind::Backward,
+    Kind::Prune { pair: 1 },
+    Kind::Prune { pair: 2 },
+    Kind::Prune { pair: 3 },
+    Kind::Prune { pair: 4 },
+];
 
 /// The steps of one pass, in order.
 fn kinds(mode: Mode) -> &'static [Kind]
@@ -29,40 +47,69 @@ fn kinds(mode: Mode) -> &'static [Kind]
     }
 }
 
-/// Takes a step, and logs it if it changed something.
-fn take(alloc: Global, state: Reduced, kind: Kind, mode: Mode, look: u32) -> Result<Reduced, Memory>
+/// An automaton of which nothing is known yet, with the log that leads to it.
+fn going(auto: Auto, log: List<Step>) -> Going
+    ensures automaton { result.auto ≡ auto }
+    ensures log { result.log ≡ log }
+    ensures known { (k : ℕ) → IsKnown result.auto k result.known }
+{
+    Going {
+        auto,
+        log,
+        known: nothing_known(),
+    }
+}
+
+/// Takes a step, and logs it if it changed something. What is known of the automaton is kept as long as nothing changes.
+fn take(alloc: Global, state: Going, kind: Kind, mode: Mode, look: u32) -> Result<Going, Memory>
     requires listed { Contains (kinds_of mode) kind }
     requires few { state.auto.states ≤ 65535 }
     requires look_from { 1 ≤ look }
     requires look_upto { look ≤ 6 }
+    requires known { IsKnown state.auto look state.known }
     ensures after { IfOk result (λ new. After state.auto mode look kind new.auto) }
     ensures logged { IfOk result (λ new. (now : List Step) × IsLogged state.auto mode look kind new.auto now × (new.log ≡ state.log ++ now)) }
+    ensures known { IfOk result (λ new. IsKnown new.auto look new.known) }
 {
-    let made = make(alloc, &state.auto, kind, mode, look)?;
+    let mut known = state.known;
+    let made = make(alloc, &state.auto, &mut known, kind, mode, look)?;
     if is_same(&made.automaton, &state.auto) {
-        return Ok(state);
+        return Ok(Going {
+            auto: state.auto,
+            log: state.log,
+            known,
+        });
     }
     let mut log = state.log;
     log.push(made.entry)?;
-    Ok(Reduced {
-        auto: made.automaton,
-        log,
-    })
+    Ok(going(made.automaton, log))
 }
 
 /// Takes the steps of one pass.
-fn pass(alloc: Global, state: Reduced, mode: Mode, look: u32) -> Result<Reduced, Memory>
+fn pass(alloc: Global, state: Going, mode: Mode, look: u32) -> Result<Going, Memory>
     requires few { state.auto.states ≤ 65535 }
     requires look_from { 1 ≤ look }
     requires look_upto { look ≤ 6 }
     requires valid { IsAutomaton state.auto }
-    ensures { IfOk result (λ new. LogsOn state.auto mode look (kinds_of mode) state.log new.auto new.log) }
+    requires known { IsKnown state.auto look state.known }
+    ensures logs { IfOk result (λ new. LogsOn state.auto mode look (kinds_of mode) state.log new.auto new.log) }
+    ensures known { IfOk result (λ new. IsKnown new.auto look new.known) }
 {
     let mut state = state;
     for kind in kinds(mode) {
         state = take(alloc, state, *kind, mode, look)?;
     }
     Ok(state)
+}
+
+/// The automaton and its log alone.
+fn finished(state: Going) -> Reduced
+    ensures { result ≡ record { auto = state.auto; log = state.log } }
+{
+    Reduced {
+        auto: state.auto,
+        log: state.log,
+    }
 }
 
 /// The reduced automaton: the steps are taken in order, each by the greatest relations of the automaton as it is then, in passes until
@@ -76,15 +123,12 @@ pub fn reduce(alloc: Global, automaton: &Auto, mode: Mode, look: u32) -> Result<
     ensures same { IfOk result (λ r. Same automaton.now r.auto mode) }
     ensures settled { IfOk result (λ r. IsSettled r.auto mode look) }
 {
-    let mut state = Reduced {
-        auto: copied(alloc, automaton)?,
-        log: List::new(alloc),
-    };
+    let mut state = going(copied(alloc, automaton)?, List::new(alloc));
     loop {
         let before = state.log.as_slice().len();
         state = pass(alloc, state, mode, look)?;
         if state.log.as_slice().len() == before {
-            return Ok(state);
+            return Ok(finished(state));
         }
     }
 }

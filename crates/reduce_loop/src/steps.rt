@@ -1,7 +1,9 @@
 //! The kinds of steps, and what is told of the steps that were taken.
 
+use crate::knowing::Known;
 use auto_core::{Auto, List};
 use bit_rel::Rel;
+use prune_pairs::Gone;
 
 /// A kind of step.
 #[derive(Clone, Copy, Debug, PartialEq, Eq)]
@@ -12,6 +14,11 @@ pub enum Kind {
     Forward,
     /// States that the backward relation joins become one.
     Backward,
+    /// Transitions that have a better one go.
+    Prune {
+        /// The approved pair of relations that says what is better, from 1 to 4.
+        pair: u32,
+    },
 }
 
 /// What joined the states that became one.
@@ -48,6 +55,19 @@ pub enum Step {
         /// The class of each state.
         classes: List<u32>,
     },
+    /// The transitions that have a better one are gone.
+    Cut {
+        /// The approved pair of relations, from 1 to 4.
+        pair: u32,
+        /// The lookahead of the reduction.
+        look: u32,
+        /// The transitions, ascending, each with the least better one.
+        gone: List<Gone>,
+        /// The greatest backward relation, which is not closed, if the pair has one.
+        back: Option<Rel>,
+        /// The greatest forward relation, which is not closed, if the pair has one.
+        ahead: Option<Rel>,
+    },
 }
 
 /// An automaton that was reduced.
@@ -57,6 +77,17 @@ pub struct Reduced {
     pub auto: Auto,
     /// The steps that changed something, in order.
     pub log: List<Step>,
+}
+
+/// An automaton on its way through the steps.
+#[derive(Debug, Drop)]
+pub(crate) struct Going {
+    /// What it is by now.
+    pub(crate) auto: Auto,
+    /// The steps that changed something, in order.
+    pub(crate) log: List<Step>,
+    /// Its greatest relations that were found.
+    pub(crate) known: Known,
 }
 
 /// What a step makes, whether or not that is a change.

@@ -59,6 +59,17 @@ fn small_automata_are_reduced(rt: HostRuntime) -> Result<(), Fail> {
     let alike = Auto::build(alloc, 4, 3, 0, &moves, &[3])?;
     assert_eq!(rt; counts(alloc, &alike, Mode::Buchi, 1)?, (3, 4, 1));
     assert_eq!(rt; counts(alloc, &alike, Mode::Finite, 2)?, (3, 4, 1));
+    // a transition with a better one, and the state that it led to
+    let moves = [
+        step(0, 0, 1),
+        step(0, 0, 2),
+        step(1, 1, 1),
+        step(2, 1, 2),
+        step(2, 2, 2),
+    ];
+    let better = Auto::build(alloc, 3, 3, 0, &moves, &[1, 2])?;
+    assert_eq!(rt; counts(alloc, &better, Mode::Buchi, 1)?, (2, 3, 3));
+    assert_eq!(rt; counts(alloc, &better, Mode::Finite, 2)?, (2, 3, 3));
     // nothing to do
     let loops = Auto::build(alloc, 1, 1, 0, &[step(0, 0, 0)], &[0])?;
     assert_eq!(rt; counts(alloc, &loops, Mode::Buchi, 6)?, (1, 1, 0));

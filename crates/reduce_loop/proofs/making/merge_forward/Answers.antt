@@ -7,7 +7,7 @@ returns-clause-entry c = (
   c.in_ok-joined.joined.classes,
   refl,
   record {
-    relation = record { valid = c.in_ok-joined.ensures.valid; on_states = c.in_ok-rel.ensures.size; greatest = c.in_ok-rel.ensures.greatest };
+    relation = c.in_ok-rel.ensures.greatest;
     joined = c.in_ok-joined.ensures.joined;
   },
 )

@@ -1,0 +1,131 @@
+-- The laws of prunings within the reduction: they are smaller, the list of what is gone is one, and closures of the relations find it.
+use Rattle.std.proofs.Common.{◌≡◌, ℕ, ◌<◌, ◌↔◌, inl, inr, Option, None, Some, IfSome, List, length, Contains, ap, subst, arith}
+use Rattle.std.specs.List.{AllPairs}
+use Rattle.std.proofs.lemmas.List.{length-map, get_or-map}
+use Rattle.std.proofs.lemmas.List.Elements.{All-contains, All-weaker}
+use Rattle.std.proofs.lemmas.List.Kept.{AllPairs-from_increasing}
+use Rattle.auto_core.specs.Automaton.{Automaton, IsAutomaton}
+use Rattle.auto_core.specs.Game.{Close, Holds}
+use Rattle.auto_core.specs.Pruning.{IsBetterAt, HasBetter, IsCut, IsPruned}
+use Rattle.auto_core.proofs.MemberLemmas.{rises_from_pairs, same_members, map_from}
+use Rattle.bit_rel.specs.Relation.{Relation, IsClosed}
+use Rattle.prune_pairs.specs.Laws.{AgreeOnStates}
+use Rattle.prune_pairs.specs.Least.{IsLeastBetter, AreLeastBetter, numbers_of}
+use Rattle.prune_pairs.specs.declared.removing.Gone.{Gone}
+use Rattle.prune_pairs.proofs.OneLaws.{pruned_shorter, better_goes}
+use Rattle.reduce_loop.specs.Logs.{IsRelationOf, IsGivenWhere, pairs_of, IsBackOf, IsAheadOf}
+use Rattle.reduce_loop.proofs.SizeLemmas.{IsSmaller}
+
+pub pruned_smaller : (A B : Automaton) (n k : ℕ) → IsAutomaton A → IsPruned A n k B → IsSmaller A B
+pruned_smaller A B n k valid p =
+    let states = p.cut.states in
+    let accepting = ap length p.cut.accepting in
+    record {
+      states = omega arith;
+      same_or_less = elim (pruned_shorter A B n k valid p) [ inl e ↦ inl e | inr less ↦ inr (omega arith) ];
+    }
+
+-- ---- the list of what is gone
+
+same_gone : (g h : Gone) → g.trans ≡ h.trans → g.by ≡ h.by → g ≡ h
+same_gone g h a b = λ k. record { trans = a k; by = b k }
+
+gone_rises : (gone : List Gone) → AllPairs (λ x y. x < y) (numbers_of gone) → AllPairs (λ (g h : Gone). g.trans < h.trans) gone
+gone_rises gone up i j d lt j_in =
+    let i_in : i < length gone = omega arith in
+    let len = length-map gone (λ (g : Gone). g.trans) in
+    let first = get_or-map (λ (g : Gone). g.trans) gone i d 0 i_in in
+    let second = get_or-map (λ (g : Gone). g.trans) gone j d 0 j_in in
+    let h = up i j 0 lt (omega arith) in
+    omega arith
+
+module _ (A : Automaton) (n : ℕ) (back ahead : ℕ → ℕ → Type 0) where
+  abbrev Least : Gone → Type 0
+  Least g = IsLeastBetter A n back ahead g.trans g.by
+
+  gone_within : (gone other : List Gone) → AreLeastBetter A n back ahead gone → AreLeastBetter A n back ahead other → (g : Gone) → Contains gone g → Contains other g
+  gone_within gone other are these g there =
+      let mine : IsLeastBetter A n back ahead g.trans g.by = All-contains Least gone g are.each there in
+      let (h, h_there, is) = map_from (λ (g : Gone). g.trans) other g.trans (these.all g.trans (g.by, mine.better)) in
+      let theirs : IsLeastBetter A n back ahead h.trans h.by = All-contains Least other h these.each h_there in
+      let moved : IsLeastBetter A n back ahead g.trans h.by = subst (λ t. IsLeastBetter A n back ahead t h.by) is theirs in
+      let low = mine.least h.by moved.better in
+      let high = moved.least g.by mine.better in
+      subst (Contains other) (same_gone h g is (omega arith)) h_there
+
+  pub least_one : (gone other : List Gone) → AreLeastBetter A n back ahead gone → AreLeastBetter A n back ahead other → gone ≡ other
+  least_one gone other are these =
+      same_members (λ (g h : Gone). g.trans < h.trans) (λ g h a b. omega arith) gone other
+      (rises_from_pairs _ gone (gone_rises gone (AllPairs-from_increasing (numbers_of gone) are.ascending)))
+      (rises_from_pairs _ other (gone_rises other (AllPairs-from_increasing (numbers_of other) these.ascending)))
+      (gone_within gone other are these) (gone_within other gone these are)
+
+  has_better : (gone : List Gone) → AreLeastBetter A n back ahead gone → (t : ℕ) → Contains (numbers_of gone) t → HasBetter A n back ahead t
+  has_better gone are t h =
+      let (g, there, is) = map_from (λ (g : Gone). g.trans) gone t h in
+      let least : IsLeastBetter A n back ahead g.trans g.by = All-contains Least gone g are.each there in
+      subst (HasBetter A n back ahead) is (g.by, least.better)
+
+-- relations by which the same ones are better give the same list
+pub least_as :
+    (A : Automaton) (n : ℕ) (back ahead other_back other_ahead : ℕ → ℕ → Type 0)
+    → ((t u : ℕ) → IsBetterAt A n back ahead t u → IsBetterAt A n other_back other_ahead t u)
+    → ((t u : ℕ) → IsBetterAt A n other_back other_ahead t u → IsBetterAt A n back ahead t u)
+    → (gone : List Gone)
+    → AreLeastBetter A n back ahead gone
+    → AreLeastBetter A n other_back other_ahead gone
+least_as A n back ahead other_back other_ahead to from gone are = record {
+  ascending = are.ascending;
+  each = All-weaker (Least A n back ahead) (Least A n other_back other_ahead)
+      (λ g least. record { better = to g.trans g.by least.better; least = λ v h. least.least v (from g.trans v h) }) gone are.each;
+  all = λ t (u, h). are.all t (u, from t u h);
+}
+
+-- ---- the relations of a pair
+
+module _ (A : Automaton) (Greatest : List (ℕ × ℕ) → Type 0) (wanted : Type 0) where
+  given_greatest : (rel : Option Relation) → IsGivenWhere wanted (IsRelationOf A Greatest) rel → wanted → Greatest (pairs_of rel)
+  given_greatest None is u = absurd (is u)
+  given_greatest (Some rel) is u = is.1.greatest
+
+  closed_size : (rel : Option Relation) (closed : Relation) → IsGivenWhere wanted (IsRelationOf A Greatest) rel → IfSome rel (λ given. IsClosed given closed) → wanted → closed.size ≡ A.states
+  closed_size None closed is c u = absurd (is u)
+  closed_size (Some rel) closed is c u = let size = c.size in let on = is.1.on_states in omega arith
+
+  closed_agrees : (rel : Option Relation) (closed : Relation) → IsGivenWhere wanted (IsRelationOf A Greatest) rel → IfSome rel (λ given. IsClosed given closed) → wanted → AgreeOnStates A (Holds closed.pairs) (Close (Holds (pairs_of rel)))
+  closed_agrees None closed is c u p q p_in q_in = absurd (is u)
+  closed_agrees (Some rel) closed is c u p q p_in q_in =
+      let on = is.1.on_states in
+      (λ h. ((c.pairs p q).0 h).2, λ h. (c.pairs p q).1 (omega arith, omega arith, h))
+
+module _ (A : Automaton) (n k : ℕ) (back ahead : Option Relation) (is_back : IsBackOf A n k back) (is_ahead : IsAheadOf A n k ahead) where
+  pub back_size : (closed : Relation) → IfSome back (λ given. IsClosed given closed) → ¬ (n ≡ 1) → closed.size ≡ A.states
+  back_size closed c = closed_size A _ (¬ (n ≡ 1)) back closed is_back c
+
+  pub ahead_size : (closed : Relation) → IfSome ahead (λ given. IsClosed given closed) → ¬ (n ≡ 2) → closed.size ≡ A.states
+  ahead_size closed c = closed_size A _ (¬ (n ≡ 2)) ahead closed is_ahead c
+
+  -- closures of the relations find what the closures of the lists say
+  pub least_closed :
+      (closed_back closed_ahead : Relation) (gone : List Gone)
+      → IsAutomaton A
+      → IfSome back (λ given. IsClosed given closed_back)
+      → IfSome ahead (λ given. IsClosed given closed_ahead)
+      → AreLeastBetter A n (Holds closed_back.pairs) (Holds closed_ahead.pairs) gone
+      → AreLeastBetter A n (Close (Holds (pairs_of back))) (Close (Holds (pairs_of ahead))) gone
+  least_closed closed_back closed_ahead gone valid cb ca are =
+      let goes : (t u : ℕ) → IsBetterAt A n (Holds closed_back.pairs) (Holds closed_ahead.pairs) t u ↔ IsBetterAt A n (Close (Holds (pairs_of back))) (Close (Holds (pairs_of ahead))) t u = λ t u. better_goes A n closed_back.pairs closed_ahead.pairs (pairs_of back) (pairs_of ahead) t u valid
+      (closed_agrees A _ (¬ (n ≡ 1)) back closed_back is_back cb) (closed_agrees A _ (¬ (n ≡ 2)) ahead closed_ahead is_ahead ca) in
+      least_as A n (Holds closed_back.pairs) (Holds closed_ahead.pairs) (Close (Holds (pairs_of back))) (Close (Holds (pairs_of ahead)))
+      (λ t u. (goes t u).0) (λ t u. (goes t u).1) gone are
+
+  pub pruned_by : (B : Automaton) (gone : List Gone) → AreLeastBetter A n (Close (Holds (pairs_of back))) (Close (Holds (pairs_of ahead))) gone → IsCut A (numbers_of gone) B → IsPruned A n k B
+  pruned_by B gone least cut = record {
+    back = pairs_of back;
+    ahead = pairs_of ahead;
+    gone = numbers_of gone;
+    greatest_back = given_greatest A _ (¬ (n ≡ 1)) back is_back;
+    greatest_ahead = given_greatest A _ (¬ (n ≡ 2)) ahead is_ahead;
+    removable = λ t. (has_better A n (Close (Holds (pairs_of back))) (Close (Holds (pairs_of ahead))) gone least t, least.all t);
+    cut = cut;
+  }

@@ -1,5 +1,0 @@
-use Rattle.reduce_loop.proofs.MakingLemmas.{HasBelow}
-use Rattle.reduce_loop.proofs.joining.closure.Given as goal
-
-abbrev pub invariant-loop-p : goal.invariant-loop-p
-invariant-loop-p l = HasBelow l.rel l.made l.p

@@ -1,0 +1,118 @@
+//! The greatest relations of an automaton, each found once.
+
+ghost use Rattle.std.specs.Prelude.{◌≡◌, ◌≤◌, None, IfOk, IfSome};
+ghost use Rattle.auto_core.specs.Game.{IsGreatestForward, IsGreatestBackward};
+ghost use Rattle.reduce_loop.specs.Known.{IsKnown};
+ghost use Rattle.reduce_loop.specs.Logs.{IsRelationOf, IsBackOf, IsAheadOf};
+
+use crate::joining::copy_of;
+use auto_core::{Auto, Memory};
+use bit_rel::Rel;
+use std::alloc::Global;
+
+/// The greatest relations of an automaton that were found so far, at the lookahead of the reduction and at lookahead 1.
+#[derive(Debug, Drop)]
+pub(crate) struct Known {
+    pub(crate) forward: Option<Rel>,
+    pub(crate) backward: Option<Rel>,
+    pub(crate) near_forward: Option<Rel>,
+    pub(crate) near_backward: Option<Rel>,
+}
+
+/// Nothing is known.
+pub(crate) fn nothing_known() -> Known
+    ensures { result ≡ record { forward = None; backward = None; near_forward = None; near_backward = None } }
+{
+    Known {
+        forward: None,
+        backward: None,
+        near_forward: None,
+        near_backward: None,
+    }
+}
+
+/// The greatest forward relation, which is kept.
+pub(crate) fn forward(
+    alloc: Global,
+    automaton: &Auto,
+    kept: &mut Option<Rel>,
+    look: u32,
+) -> Result<Rel, Memory>
+    requires look_from { 1 ≤ look }
+    requires look_upto { look ≤ 6 }
+    requires known { IfSome kept.old (IsRelationOf automaton.now (IsGreatestForward automaton.now look)) }
+    ensures greatest { IfOk result (IsRelationOf automaton.now (IsGreatestForward automaton.now look)) }
+    ensures known { IfOk result (λ _. IfSome kept.new (IsRelationOf automaton.now (IsGreatestForward automaton.now look))) }
+{
+    match kept {
+        Some(rel) => return copy_of(alloc, rel),
+        None => {}
+    }
+    let rel = direct_sim::relation(alloc, automaton, look)?;
+    *kept = Some(copy_of(alloc, &rel)?);
+    Ok(rel)
+}
+
+/// The greatest backward relation, which is kept.
+pub(crate) fn backward(
+    alloc: Global,
+    automaton: &Auto,
+    kept: &mut Option<Rel>,
+    look: u32,
+) -> Result<Rel, Memory>
+    requires look_from { 1 ≤ look }
+    requires look_upto { look ≤ 6 }
+    requires known { IfSome kept.old (IsRelationOf automaton.now (IsGreatestBackward automaton.now look)) }
+    ensures greatest { IfOk result (IsRelationOf automaton.now (IsGreatestBackward automaton.now look)) }
+    ensures known { IfOk result (λ _. IfSome kept.new (IsRelationOf automaton.now (IsGreatestBackward automaton.now look))) }
+{
+    match kept {
+        Some(rel) => return copy_of(alloc, rel),
+        None => {}
+    }
+    let rel = backward_sim::relation(alloc, automaton, look)?;
+    *kept = Some(copy_of(alloc, &rel)?);
+    Ok(rel)
+}
+
+/// The backward relation of the pair, if it has one.
+pub(crate) fn back_of(
+    alloc: Global,
+    automaton: &Auto,
+    known: &mut Known,
+    pair: u32,
+    look: u32,
+) -> Result<Option<Rel>, Memory>
+    requires look_from { 1 ≤ look }
+    requires look_upto { look ≤ 6 }
+    requires known { IsKnown automaton.now look known.old }
+    ensures back { IfOk result (IsBackOf automaton.now pair look) }
+    ensures known { IfOk result (λ _. IsKnown automaton.now look known.new) }
+{
+    match pair {
+        1 => Ok(None),
+        4 => Ok(Some(backward(alloc, automaton, &mut known.near_backward, 1)?)),
+        _ => Ok(Some(backward(alloc, automaton, &mut known.backward, look)?)),
+    }
+}
+
+/// The forward relation of the pair, if it has one.
+pub(crate) fn ahead_of(
+    alloc: Global,
+    automaton: &Auto,
+    known: &mut Known,
+    pair: u32,
+    look: u32,
+) -> Result<Option<Rel>, Memory>
+    requires look_from { 1 ≤ look }
+    requires look_upto { look ≤ 6 }
+    requires known { IsKnown automaton.now look known.old }
+    ensures ahead { IfOk result (IsAheadOf automaton.now pair look) }
+    ensures known { IfOk result (λ _. IsKnown automaton.now look known.new) }
+{
+    match pair {
+        2 => Ok(None),
+        3 => Ok(Some(forward(alloc, automaton, &mut known.near_forward, 1)?)),
+        _ => Ok(Some(forward(alloc, automaton, &mut known.forward, look)?)),
+    }
+}
