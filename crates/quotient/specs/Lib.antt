@@ -1,3 +1,4 @@
+pub mod Announced
 pub mod Laws
 pub mod Images
 pub mod Counting
