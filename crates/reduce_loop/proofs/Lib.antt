@@ -2,6 +2,7 @@ pub mod ListLemmas
 pub mod SizeLemmas
 pub mod RelationLemmas
 pub mod MergeLemmas
+pub mod DelayedLemmas
 pub mod PruneLemmas
 pub mod StepLemmas
 pub mod PassLemmas

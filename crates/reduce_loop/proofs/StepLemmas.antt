@@ -5,6 +5,7 @@ use Rattle.auto_core.specs.Accept.{Same}
 use Rattle.auto_core.specs.Game.{Close, Holds, IsGreatestForward, IsGreatestBackward}
 use Rattle.auto_core.specs.Quotient.{RelatesMembers}
 use Rattle.auto_core.specs.declared.parts.Mode.{Mode}
+use Rattle.auto_core.specs.declared.parts.Mode.TheVariants.{Buchi, Finite}
 use Rattle.backward_sim.proofs.GreatestLemmas.{greatest_is_one as backward_is_one}
 use Rattle.direct_sim.proofs.GreatestLemmas.{greatest_is_one as forward_is_one}
 use Rattle.prune_pairs.proofs.PruneLaws.{pruned_same}
@@ -12,10 +13,11 @@ use Rattle.prune_pairs.proofs.OneLaws.{pruned_one, pruned_itself}
 use Rattle.quotient.proofs.MergeLaws.{forward_same, backward_same}
 use Rattle.useful_states.proofs.KeepLaws.{trimmed_the_same, trimmed_one}
 use Rattle.reduce_loop.specs.declared.steps.Kind.{Kind}
-use Rattle.reduce_loop.specs.declared.steps.Kind.TheVariants.{Trim, Forward, Backward, Prune}
-use Rattle.reduce_loop.specs.Kinds.{kinds_of, IsMerged, After}
+use Rattle.reduce_loop.specs.declared.steps.Kind.TheVariants.{Trim, Forward, Backward, Delayed, Prune}
+use Rattle.reduce_loop.specs.Kinds.{kinds_of, AreDelayedPairs, IsMerged, After}
 use Rattle.reduce_loop.specs.Settled.{HasNoTwins, IsSettledAt}
 use Rattle.reduce_loop.proofs.SizeLemmas.{IsSmaller, kept_smaller}
+use Rattle.reduce_loop.proofs.DelayedLemmas.{delayed_is_one, merged_same, delayed_settled, none_in_finite}
 use Rattle.reduce_loop.proofs.PruneLemmas.{pruned_smaller}
 use Rattle.reduce_loop.proofs.MergeLemmas.{merged_smaller, merged_one, no_twins, same_closure}
 
@@ -45,6 +47,7 @@ pub after_valid : (A B : Automaton) (mode : Mode) (k : ℕ) (kind : Kind) → Af
 after_valid A B mode k Trim (kept, are, keeps) = keeps.valid
 after_valid A B mode k Forward m = m.quotient.valid
 after_valid A B mode k Backward m = m.quotient.valid
+after_valid A B mode k Delayed m = m.quotient.valid
 after_valid A B mode k (Prune n) p = p.cut.valid
 
 -- it is the same automaton, or smaller
@@ -52,6 +55,7 @@ pub after_smaller : (A B : Automaton) (mode : Mode) (k : ℕ) (kind : Kind) → 
 after_smaller A B mode k Trim valid (kept, are, keeps) = kept_smaller A B kept valid keeps
 after_smaller A B mode k Forward valid m = merge_smaller A (IsGreatestForward A k) B valid m
 after_smaller A B mode k Backward valid m = merge_smaller A (IsGreatestBackward A k) B valid m
+after_smaller A B mode k Delayed valid m = merge_smaller A (AreDelayedPairs A) B valid m
 after_smaller A B mode k (Prune n) valid p = pruned_smaller A B n k valid p
 
 -- a step makes one automaton
@@ -59,6 +63,7 @@ pub after_one : (A B C : Automaton) (mode : Mode) (k : ℕ) (kind : Kind) → Is
 after_one A B C mode k Trim valid b c = trimmed_one A B C mode b c
 after_one A B C mode k Forward valid b c = merge_one A (IsGreatestForward A k) (forward_is_one A k) B C b c
 after_one A B C mode k Backward valid b c = merge_one A (IsGreatestBackward A k) (backward_is_one A k) B C b c
+after_one A B C mode k Delayed valid b c = merge_one A (AreDelayedPairs A) (delayed_is_one A) B C b c
 after_one A B C mode k (Prune n) valid b c = pruned_one A B C n k valid b c
 
 -- it accepts the same
@@ -68,6 +73,8 @@ after_same A B mode k Forward valid some listed m =
     forward_same A B m.classes k m.pairs mode valid some m.greatest.stable (members_related A (IsGreatestForward A k) B m) m.quotient
 after_same A B mode k Backward valid some listed m =
     backward_same A B m.classes k m.pairs mode valid some m.greatest.stable (members_related A (IsGreatestBackward A k) B m) m.quotient
+after_same A B Buchi k Delayed valid some listed m = merged_same A B m valid
+after_same A B Finite k Delayed valid some listed m = absurd (none_in_finite listed)
 after_same A B mode k (Prune n) valid some listed p = pruned_same A B n k mode valid some p
 
 -- a step that changes nothing has nothing to do
@@ -75,4 +82,5 @@ pub after_settled : (A : Automaton) (mode : Mode) (k : ℕ) (kind : Kind) → Af
 after_settled A mode k Trim b = b
 after_settled A mode k Forward m = merge_settled A (IsGreatestForward A k) (forward_is_one A k) m
 after_settled A mode k Backward m = merge_settled A (IsGreatestBackward A k) (backward_is_one A k) m
+after_settled A mode k Delayed m = delayed_settled A m
 after_settled A mode k (Prune n) p = λ back ahead greatest_back greatest_ahead. (pruned_itself A n k back ahead p.cut.valid greatest_back greatest_ahead).0 p

@@ -1,6 +1,7 @@
 -- The kinds of steps, and what each makes of an automaton.
-use Rattle.std.specs.Prelude.{ℕ, List, [], ◌∷◌}
+use Rattle.std.specs.Prelude.{ℕ, ◌↔◌, List, [], ◌∷◌}
 use Rattle.auto_core.specs.Automaton.{Automaton}
+use Rattle.auto_core.specs.Delayed.{RankedPairs, HoldsPair, IsGreatestDelayed}
 use Rattle.auto_core.specs.Game.{Close, Holds, IsGreatestForward, IsGreatestBackward}
 use Rattle.auto_core.specs.Pruning.{IsPruned}
 use Rattle.auto_core.specs.Useful.{IsTrimmed}
@@ -8,7 +9,7 @@ use Rattle.auto_core.specs.Quotient.{AreClassesOf, IsQuotient}
 use Rattle.auto_core.specs.declared.parts.Mode.{Mode}
 use Rattle.auto_core.specs.declared.parts.Mode.TheVariants.{Buchi, Finite}
 use Rattle.reduce_loop.specs.declared.steps.Kind.{Kind}
-use Rattle.reduce_loop.specs.declared.steps.Kind.TheVariants.{Trim, Forward, Backward, Prune}
+use Rattle.reduce_loop.specs.declared.steps.Kind.TheVariants.{Trim, Forward, Backward, Delayed, Prune}
 
 -- The prunings by the four approved pairs, in order.
 abbrev pub prunings : List Kind
@@ -16,7 +17,7 @@ prunings = Prune 1 ∷ Prune 2 ∷ Prune 3 ∷ Prune 4 ∷ []
 
 -- The steps of one pass, in order.
 abbrev pub kinds_of : Mode → List Kind
-kinds_of Buchi = Trim ∷ Forward ∷ Backward ∷ prunings
+kinds_of Buchi = Trim ∷ Forward ∷ Backward ∷ Delayed ∷ prunings
 kinds_of Finite = Trim ∷ Forward ∷ Backward ∷ prunings
 
 -- B has for its states the classes of A that the closure of a list of pairs, one that is the greatest of its sort, relates both ways.
@@ -27,9 +28,14 @@ pub record IsMerged (A : Automaton) (Greatest : List (ℕ × ℕ) → Type 0) (B
   pub joined : AreClassesOf A.states (Close (Holds pairs)) classes
   pub quotient : IsQuotient A classes B
 
+-- The list has just the pairs of the greatest delayed relation, without their ranks.
+abbrev pub AreDelayedPairs : Automaton → List (ℕ × ℕ) → Type 0
+AreDelayedPairs A S = (X : RankedPairs) × IsGreatestDelayed A X × ((p q : ℕ) → Holds S p q ↔ HoldsPair X p q)
+
 -- B is A after a step of this kind at lookahead k, by the greatest relations of A as it is then.
 abbrev pub After : Automaton → Mode → ℕ → Kind → Automaton → Type 0
 After A mode k Trim B = IsTrimmed A mode B
 After A mode k Forward B = IsMerged A (IsGreatestForward A k) B
 After A mode k Backward B = IsMerged A (IsGreatestBackward A k) B
+After A mode k Delayed B = IsMerged A (AreDelayedPairs A) B
 After A mode k (Prune n) B = IsPruned A n k B

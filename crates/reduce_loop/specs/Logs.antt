@@ -1,17 +1,19 @@
 -- The log of a reduction: the steps that changed something, in order, each with what it was done by.
-use Rattle.std.specs.Prelude.{◌≡◌, ℕ, zero, suc, ◌⊎◌, Option, None, Some, List, [], ◌∷◌, ◌++◌}
+use Rattle.std.specs.Prelude.{◌≡◌, ℕ, zero, suc, ◌⊎◌, Option, None, Some, List, [], ◌∷◌, ◌++◌, Contains, ◌↔◌}
 use Rattle.std.specs.List.Sorted.{IsStrictlyIncreasing}
 use Rattle.auto_core.specs.Automaton.{Automaton}
+use Rattle.auto_core.specs.Delayed.{HoldsPair, IsGreatestDelayed}
 use Rattle.auto_core.specs.Game.{Close, Holds, IsGreatestForward, IsGreatestBackward}
 use Rattle.auto_core.specs.Pruning.{look_back, look_ahead}
 use Rattle.auto_core.specs.Useful.{AreUseful}
 use Rattle.auto_core.specs.Quotient.{AreClassesOf}
 use Rattle.auto_core.specs.declared.parts.Mode.{Mode}
 use Rattle.bit_rel.specs.Relation.{Relation, IsRelation}
+use Rattle.delayed_sim.specs.Rankings.{Ranking}
 use Rattle.prune_pairs.specs.Least.{AreLeastBetter}
 use Rattle.prune_pairs.specs.declared.removing.Gone.{Gone}
 use Rattle.reduce_loop.specs.declared.steps.Kind.{Kind}
-use Rattle.reduce_loop.specs.declared.steps.Kind.TheVariants.{Trim, Forward, Backward, Prune}
+use Rattle.reduce_loop.specs.declared.steps.Kind.TheVariants.{Trim, Forward, Backward, Delayed, Prune}
 use Rattle.reduce_loop.specs.declared.steps.Step.{Step}
 use Rattle.reduce_loop.specs.declared.steps.Step.TheVariants as step
 use Rattle.reduce_loop.specs.declared.steps.MergeBy.TheVariants as by
@@ -32,6 +34,12 @@ pub record IsRelationOf (A : Automaton) (Greatest : List (ℕ × ℕ) → Type 0
 pub record IsMergeOf (A : Automaton) (Greatest : List (ℕ × ℕ) → Type 0) (rel : Relation) (classes : List ℕ) : Type 0 where
   pub relation : IsRelationOf A Greatest rel
   pub joined : AreClassesOf A.states (Close (Holds rel.pairs)) classes
+
+-- The relation with ranks is the greatest delayed one on the states of A, and the classes are those of the closure of its pairs.
+pub record IsDelayedMergeOf (A : Automaton) (ranks : Ranking) (classes : List ℕ) : Type 0 where
+  pub on_states : ranks.size ≡ A.states
+  pub greatest : IsGreatestDelayed A ranks.pairs
+  pub joined : AreClassesOf A.states (Close (HoldsPair ranks.pairs)) classes
 
 -- A relation is given just where there is a use for one, and is as it has to be.
 abbrev pub IsGivenWhere : Type 0 → (Relation → Type 0) → Option Relation → Type 0
@@ -66,6 +74,8 @@ IsEntry A mode k Forward entry =
     (rel : Relation) × (classes : List ℕ) × (entry ≡ step.Merge (by.Forward k rel) classes) × IsMergeOf A (IsGreatestForward A k) rel classes
 IsEntry A mode k Backward entry =
     (rel : Relation) × (classes : List ℕ) × (entry ≡ step.Merge (by.Backward k rel) classes) × IsMergeOf A (IsGreatestBackward A k) rel classes
+IsEntry A mode k Delayed entry =
+    (ranks : Ranking) × (classes : List ℕ) × (entry ≡ step.Merge (by.Delayed ranks) classes) × IsDelayedMergeOf A ranks classes
 IsEntry A mode k (Prune n) entry =
     (gone : List Gone) × (back ahead : Option Relation) × (entry ≡ step.Cut n k gone back ahead) × IsCutOf A n k gone back ahead
 
@@ -104,3 +114,23 @@ LogPasses A mode k (suc n) C log =
 -- The log of the reduction of A to C.
 abbrev pub IsLog : Automaton → Mode → ℕ → Automaton → List Step → Type 0
 IsLog A mode k C log = (n : ℕ) × LogPasses A mode k n C log
+
+-- The relations have the same states, pairs and ranks, in whatever order.
+abbrev pub AreSameRankings : Ranking → Ranking → Type 0
+AreSameRankings X Y = (X.size ≡ Y.size) × ((p q : ℕ) (rank : Option ℕ) → Contains X.pairs (p, q, rank) ↔ Contains Y.pairs (p, q, rank))
+
+-- Both are merges by delayed relations, with the same classes and by the same pairs and ranks, in whatever order.
+abbrev pub AreSameDelayed : Step → Step → Type 0
+AreSameDelayed s t =
+    (X Y : Ranking)
+    × (classes : List ℕ)
+    × (s ≡ step.Merge (by.Delayed X) classes)
+    × (t ≡ step.Merge (by.Delayed Y) classes)
+    × AreSameRankings X Y
+
+-- The logs are one but for the order of the pairs of delayed relations.
+abbrev pub AreSameLogs : List Step → List Step → Type 0
+AreSameLogs [] [] = Unit {0}
+AreSameLogs [] (t ∷ ts) = ⊥
+AreSameLogs (s ∷ ss) [] = ⊥
+AreSameLogs (s ∷ ss) (t ∷ ts) = ((s ≡ t) ⊎ AreSameDelayed s t) × AreSameLogs ss ts

@@ -1,12 +1,13 @@
 -- Automata in which no step finds anything to do.
 use Rattle.std.specs.Prelude.{◌≡◌, ℕ, ◌<◌, List, Contains}
 use Rattle.auto_core.specs.Automaton.{Automaton}
+use Rattle.auto_core.specs.Delayed.{RankedPairs, HoldsPair, IsGreatestDelayed}
 use Rattle.auto_core.specs.Game.{Close, Holds, IsGreatestForward, IsGreatestBackward}
 use Rattle.auto_core.specs.Pruning.{HasBetter, IsGreatestBack, IsGreatestAhead}
 use Rattle.auto_core.specs.Useful.{IsTrimmed}
 use Rattle.auto_core.specs.declared.parts.Mode.{Mode}
 use Rattle.reduce_loop.specs.declared.steps.Kind.{Kind}
-use Rattle.reduce_loop.specs.declared.steps.Kind.TheVariants.{Trim, Forward, Backward, Prune}
+use Rattle.reduce_loop.specs.declared.steps.Kind.TheVariants.{Trim, Forward, Backward, Delayed, Prune}
 use Rattle.reduce_loop.specs.Kinds.{kinds_of}
 
 -- No two different states of A are related both ways by R.
@@ -29,6 +30,7 @@ abbrev pub IsSettledAt : Automaton → Mode → ℕ → Kind → Type 0
 IsSettledAt A mode k Trim = IsTrimmed A mode A
 IsSettledAt A mode k Forward = (S : List (ℕ × ℕ)) → IsGreatestForward A k S → HasNoTwins A (Close (Holds S))
 IsSettledAt A mode k Backward = (S : List (ℕ × ℕ)) → IsGreatestBackward A k S → HasNoTwins A (Close (Holds S))
+IsSettledAt A mode k Delayed = (X : RankedPairs) → IsGreatestDelayed A X → HasNoTwins A (Close (HoldsPair X))
 IsSettledAt A mode k (Prune n) = HasNoneBetter A n k
 
 -- No step of the mode has anything to do.

@@ -17,7 +17,7 @@ pub fn reduced_is_one()
     ensures { ReducedIsOne }
 {}
 
-/// The log is one.
+/// The log is one, but for the order of the pairs of delayed relations.
 pub fn log_is_one()
     ensures { LogIsOne }
 {}

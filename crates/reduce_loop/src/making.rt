@@ -97,6 +97,24 @@ fn merge_backward(
     })
 }
 
+/// The states that the greatest delayed relation joins become one.
+fn merge_delayed(alloc: Global, automaton: &Auto, mode: Mode, look: u32) -> Result<Made, Memory>
+    requires { automaton.now.states ≤ 65535 }
+    ensures after { IfOk result (λ made. After automaton.now mode look Kind.Delayed made.automaton) }
+    ensures entry { IfOk result (λ made. IsEntry automaton.now mode look Kind.Delayed made.entry) }
+{
+    let ranks = delayed_sim::greatest(alloc, automaton)?;
+    let rel = ranks.relation(alloc)?;
+    let joined = join_states(alloc, automaton, &rel)?;
+    Ok(Made {
+        automaton: joined.automaton,
+        entry: Step::Merge {
+            by: MergeBy::Delayed { ranks },
+            classes: joined.classes,
+        },
+    })
+}
+
 /// What a step of this kind makes, with the entry that tells of it.
 pub(crate) fn make(
     alloc: Global,
@@ -119,6 +137,7 @@ pub(crate) fn make(
         Kind::Trim => trim(alloc, automaton, mode, look),
         Kind::Forward => merge_forward(alloc, automaton, known, mode, look),
         Kind::Backward => merge_backward(alloc, automaton, known, mode, look),
+        Kind::Delayed => merge_delayed(alloc, automaton, mode, look),
         Kind::Prune { pair } => prune(alloc, automaton, known, pair, mode, look),
     }
 }

@@ -17,10 +17,11 @@ use crate::steps::{Going, Kind, Reduced, Step};
 use auto_core::{Auto, List, Memory, Mode};
 use std::alloc::Global;
 
-static BUCHI_KINDS: [Kind; 7] = [
+static BUCHI_KINDS: [Kind; 8] = [
     Kind::Trim,
     Kind::Forward,
     Kind::Backward,
+    Kind::Delayed,
     Kind::Prune { pair: 1 },
     Kind::Prune { pair: 2 },
     Kind::Prune { pair: 3 },

@@ -3,6 +3,7 @@
 use crate::knowing::Known;
 use auto_core::{Auto, List};
 use bit_rel::Rel;
+use delayed_sim::Delayed;
 use prune_pairs::Gone;
 
 /// A kind of step.
@@ -14,6 +15,8 @@ pub enum Kind {
     Forward,
     /// States that the backward relation joins become one.
     Backward,
+    /// States that the delayed relation joins become one.
+    Delayed,
     /// Transitions that have a better one go.
     Prune {
         /// The approved pair of relations that says what is better, from 1 to 4.
@@ -37,6 +40,11 @@ pub enum MergeBy {
         look: u32,
         /// The relation.
         rel: Rel,
+    },
+    /// The greatest delayed relation, which is not closed.
+    Delayed {
+        /// The relation, with the least ranks.
+        ranks: Delayed,
     },
 }
 

@@ -70,6 +70,10 @@ fn small_automata_are_reduced(rt: HostRuntime) -> Result<(), Fail> {
     let better = Auto::build(alloc, 3, 3, 0, &moves, &[1, 2])?;
     assert_eq!(rt; counts(alloc, &better, Mode::Buchi, 1)?, (2, 3, 3));
     assert_eq!(rt; counts(alloc, &better, Mode::Finite, 2)?, (2, 3, 3));
+    // two states in turn, one of them accepting: the delayed relation alone joins them
+    let turns = Auto::build(alloc, 2, 1, 0, &[step(0, 0, 1), step(1, 0, 0)], &[0])?;
+    assert_eq!(rt; counts(alloc, &turns, Mode::Buchi, 3)?, (1, 1, 1));
+    assert_eq!(rt; counts(alloc, &turns, Mode::Finite, 3)?, (2, 2, 0));
     // nothing to do
     let loops = Auto::build(alloc, 1, 1, 0, &[step(0, 0, 0)], &[0])?;
     assert_eq!(rt; counts(alloc, &loops, Mode::Buchi, 6)?, (1, 1, 0));
