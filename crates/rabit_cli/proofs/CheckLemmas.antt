@@ -17,9 +17,10 @@ use Rattle.cert_text.specs.declared.types.Body.{Body}
 use Rattle.cert_text.specs.declared.types.Body.TheVariants.{Yes, NoLasso, NoWord, Listing}
 use Rattle.cert_text.specs.Text.{text}
 use Rattle.decide.specs.Answer.{unreduced, IsBodyOf, IsAnswer}
+use Rattle.decide.proofs.AnswerLemmas.{answers_are_valid}
 use Rattle.decide.proofs.UniqueLemmas.{one_outcome_decides, lasso_is}
 use Rattle.rabit_cli.specs.Command.{ReadsAs, ReadsPair, IsVerdictAnswer, IsOutcomeAnswer, IsDecided, search_limit}
-use Rattle.rabit_cli.specs.Laws.{CheckAgrees}
+use Rattle.rabit_cli.specs.Laws.{CheckAgrees, AnswersAreAccepted}
 use Rattle.rabit_cli.specs.declared.answer.Answer.{Answer}
 use Rattle.rabit_cli.specs.declared.answer.Answer.TheVariants.{NotIncluded, Limit}
 use Rattle.rabit_cli.proofs.OneAnswer.{one_pair, fault_or_pair}
@@ -97,3 +98,8 @@ check_agrees files a b c pair cert answer not_a not_b is verdict few decided =
       | inl fault ↦ absurd (fault_or_pair files a b answer pair fault is.read)
       | inr (other, read, more) ↦ says_for other (one_pair files a b pair other is.read read) more
     ]
+
+pub answers_accepted : AnswersAreAccepted
+answers_accepted files a b c pair limit cert answer read can few is verdict held says =
+    let valid = answers_are_valid pair limit cert can few is verdict in
+    inr (pair, read, inr (cert, held, inr (inr (valid.form, valid.keeps, says))))

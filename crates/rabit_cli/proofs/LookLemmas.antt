@@ -7,7 +7,7 @@ use Rattle.auto_core.specs.declared.parts.Mode.{Mode}
 use Rattle.auto_core.specs.declared.parts.Mode.TheVariants.{Buchi, Finite}
 use Rattle.ba_format.specs.Sight.{same_text}
 use Rattle.reduce_loop.specs.declared.steps.Kind.{Kind}
-use Rattle.reduce_loop.specs.declared.steps.Kind.TheVariants.{Trim, Forward, Backward, Prune}
+use Rattle.reduce_loop.specs.declared.steps.Kind.TheVariants.{Trim, Forward, Backward, Delayed, Prune}
 use Rattle.reduce_loop.specs.Kinds.{kinds_of, After}
 use Rattle.reduce_loop.specs.Passes.{Through, Passes, IsReduced}
 use Rattle.rabit_cli.specs.declared.question.Task.{Task}
@@ -93,6 +93,7 @@ module _ (mode : Mode) (k : ℕ) where
   after_labels A B Trim (kept, useful, is) = is.labels
   after_labels A B Forward is = is.quotient.labels
   after_labels A B Backward is = is.quotient.labels
+  after_labels A B Delayed is = is.quotient.labels
   after_labels A B (Prune n) is = is.cut.labels
 
   through_labels : (kinds : List Kind) (A C : Automaton) → Through A mode k kinds C → C.labels ≡ A.labels

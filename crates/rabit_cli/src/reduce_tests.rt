@@ -15,10 +15,15 @@ const PAIR: &str = "a,[5]->[7]\nb,[7]->[5]\n";
 const ALIKE: &str = "[0]\na,[0]->[1]\na,[0]->[2]\nb,[1]->[1]\nb,[2]->[2]\n[1]\n[2]\n";
 
 /// States 1 and 2 are alike at lookahead 2 and not at 1; once they are one, two transitions have better ones.
-const FAR_ALIKE: &str = "[0]\nd,[0]->[1]\ne,[0]->[2]\nk,[0]->[3]\ng,[0]->[4]\nh,[0]->[5]\na,[1]->[3]\na,[2]->[4]\na,[2]->[5]\nb,[3]->[6]\nc,[3]->[6]\nb,[4]->[6]\nc,[5]->[6]\nf,[6]->[6]\n[6]\n";
+const FAR_ALIKE: &str =
+    "[0]\nd,[0]->[1]\ne,[0]->[2]\nk,[0]->[3]\ng,[0]->[4]\nh,[0]->[5]\na,[1]->[3]\na,[2]->[4]\na,[2]->[5]\nb,[3]->[6]\nc,[3]->[6]\nb,[4]->[6]\nc,[5]->[6]\nf,[6]->[6]\n[6]\n";
 
 /// What is left of it.
-const FAR_ALIKE_PRUNED: &str = "[0]\nd,[0]->[1]\ne,[0]->[1]\nk,[0]->[2]\ng,[0]->[3]\nh,[0]->[4]\na,[1]->[2]\nb,[2]->[5]\nc,[2]->[5]\nb,[3]->[5]\nc,[4]->[5]\nf,[5]->[5]\n[5]\n";
+const FAR_ALIKE_PRUNED: &str =
+    "[0]\nd,[0]->[1]\ne,[0]->[1]\nk,[0]->[2]\ng,[0]->[3]\nh,[0]->[4]\na,[1]->[2]\nb,[2]->[5]\nc,[2]->[5]\nb,[3]->[5]\nc,[4]->[5]\nf,[5]->[5]\n[5]\n";
+
+/// Two states in turn, one of them accepting: only a delayed relation joins them.
+const TURNS: &str = "[0]\na,[0]->[1]\na,[1]->[0]\n[0]\n";
 
 /// The status of `reduce A` with these further words, and whether just this text was sent.
 fn reduces(
@@ -29,7 +34,14 @@ fn reduces(
 ) -> Result<(u8, bool), Memory> {
     let files = [("A", text)];
     match option {
-        [name, value] => answers(alloc, &["reduce", "A", *name, *value], &files, &[], &[], printed),
+        [name, value] => answers(
+            alloc,
+            &["reduce", "A", *name, *value],
+            &files,
+            &[],
+            &[],
+            printed,
+        ),
         _ => answers(alloc, &["reduce", "A"], &files, &[], &[], printed),
     }
 }
@@ -40,8 +52,13 @@ fn the_reduced_automaton_is_printed(rt: HostRuntime) -> Result<(), Fail> {
     let rows = [
         (&[][..], PAIR, "[0]\na,[0]->[1]\nb,[1]->[0]\n[0]\n[1]\n"),
         (&[], "[0]\n", "[0]\n[1]\n"),
-        (&[], "[0]\r\na,[0]->[0]\r\n[0]\r\n", "[0]\na,[0]->[0]\n[0]\n"),
+        (
+            &[],
+            "[0]\r\na,[0]->[0]\r\n[0]\r\n",
+            "[0]\na,[0]->[0]\n[0]\n",
+        ),
         (&[], ALIKE, "[0]\na,[0]->[1]\nb,[1]->[1]\n[1]\n"),
+        (&[], TURNS, "[0]\na,[0]->[0]\n[0]\n"),
         (&["--look", "1"], FAR_ALIKE, FAR_ALIKE),
         (&["--look", "2"], FAR_ALIKE, FAR_ALIKE_PRUNED),
     ];
@@ -49,7 +66,10 @@ fn the_reduced_automaton_is_printed(rt: HostRuntime) -> Result<(), Fail> {
         assert_eq!(rt; reduces(alloc, option, text, printed)?, (0, true));
     }
     let ring = thirty(alloc)?;
-    assert_eq!(rt; reduces(alloc, &[], ring.as_str(), ring.as_str())?, (0, true));
+    assert_eq!(rt;
+        reduces(alloc, &[], ring.as_str(), ring.as_str())?,
+        (0, true)
+    );
     Ok(())
 }
 
@@ -76,7 +96,10 @@ fn loops(alloc: Global, count: u32) -> Result<String, Memory> {
 fn faults_and_limits_of_the_file_are_told(rt: HostRuntime) -> Result<(), Fail> {
     let alloc = rt.alloc();
     let most = states(alloc, 2048)?;
-    assert_eq!(rt; reduces(alloc, &[], most.as_str(), "[0]\n[1]\n")?, (0, true));
+    assert_eq!(rt;
+        reduces(alloc, &[], most.as_str(), "[0]\n[1]\n")?,
+        (0, true)
+    );
     let more = states(alloc, 2049)?;
     let letters = loops(alloc, 257)?;
     let rows = [
@@ -96,13 +119,28 @@ fn faults_and_limits_of_the_file_are_told(rt: HostRuntime) -> Result<(), Fail> {
 fn other_words_and_failing_calls_are_told(rt: HostRuntime) -> Result<(), Fail> {
     let alloc = rt.alloc();
     for look in ["0", "7", "", "10", "a"] {
-        assert_eq!(rt; reduces(alloc, &["--look", look], PAIR, "not built\n")?, (9, true));
+        assert_eq!(rt;
+            reduces(alloc, &["--look", look], PAIR, "not built\n")?,
+            (9, true)
+        );
     }
-    assert_eq!(rt; reduces(alloc, &["--deep", "1"], PAIR, "not built\n")?, (9, true));
+    assert_eq!(rt;
+        reduces(alloc, &["--deep", "1"], PAIR, "not built\n")?,
+        (9, true)
+    );
     let files = [("A", PAIR)];
-    assert_eq!(rt; answers(alloc, &["reduce", "X"], &files, &[], &[], "read fault\n")?, (6, true));
-    assert_eq!(rt; answers(alloc, &["reduce", "A"], &files, &[1], &[], "read fault\n")?, (6, true));
-    assert_eq!(rt; answers(alloc, &["reduce", "A"], &files, &[], &[0], "")?, (7, true));
+    assert_eq!(rt;
+        answers(alloc, &["reduce", "X"], &files, &[], &[], "read fault\n")?,
+        (6, true)
+    );
+    assert_eq!(rt;
+        answers(alloc, &["reduce", "A"], &files, &[1], &[], "read fault\n")?,
+        (6, true)
+    );
+    assert_eq!(rt;
+        answers(alloc, &["reduce", "A"], &files, &[], &[0], "")?,
+        (7, true)
+    );
     Ok(())
 }
 

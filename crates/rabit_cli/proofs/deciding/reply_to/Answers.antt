@@ -24,7 +24,7 @@ returns-in-Some-Check-default-default-default-clause-leaves g c =
     let words = map (string_bytes {Z = Global}) c.args.words.now in
     let question : Option Question = question_of words in
     let is : question ≡ Some (Check it.first.now it.second.now it.certificate.now) =
-        second_question words c.in-None.ensures.asked ∙ it.ensures ∙ ap (λ t. Some (question_for t it.first.now it.second.now it.certificate.now)) it.field-0-0-is in
+    second_question words c.in-None.ensures.asked ∙ it.ensures ∙ ap (λ t. Some (question_for t it.first.now it.second.now it.certificate.now)) it.field-0-0-is in
     let answer = c.check_answer.result in
     same_files (g.H.Shelf.held c.args.shelf.now) (g.H.Shelf.held c.check_answer.new.shelf) (λ files files'. LeavesFor files question answer files')
     (λ files. let P : Option Question → Type 0 = λ q. LeavesFor files q answer files in subst P (sym is) refl) c.check_answer.ensures.files_stay
@@ -36,7 +36,7 @@ returns-in-Some-Include-default-default-default-clause-leaves g c =
     let words = map (string_bytes {Z = Global}) c.args.words.now in
     let question : Option Question = question_of words in
     let is : question ≡ Some (Include it.first.now it.second.now it.certificate.now) =
-        second_question words c.in-None.ensures.asked ∙ it.ensures ∙ ap (λ t. Some (question_for t it.first.now it.second.now it.certificate.now)) it.field-0-0-is in
+    second_question words c.in-None.ensures.asked ∙ it.ensures ∙ ap (λ t. Some (question_for t it.first.now it.second.now it.certificate.now)) it.field-0-0-is in
     let P : Option Question → Type 0 = λ q. OfBoth (g.H.Shelf.held c.args.shelf.now) (g.H.Shelf.held c.decided.new.shelf) (λ files files'. LeavesFor files q (answer_in c.decided.result) files') in
     subst P (sym is) c.decided.ensures.leaves
 
