@@ -9,4 +9,5 @@ pub mod LevelLemmas
 pub mod StartLemmas
 pub mod GreatestLemmas
 pub mod RightLemmas
+pub mod OneLemmas
 pub mod BuildLemmas

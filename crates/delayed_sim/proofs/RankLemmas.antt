@@ -1,14 +1,14 @@
 -- The list of ranked pairs that a relation and a table of ranks stand for.
-use Rattle.std.proofs.Common.{◌≡◌, ℕ, ◌+◌, ◌*◌, ◌<◌, ◌↔◌, Bool, true, false, Option, None, Some, List, length, Contains, get_or, refl, sym, ap, ◌∙◌, subst, arith}
+use Rattle.std.proofs.Common.{◌≡◌, ℕ, ◌+◌, ◌*◌, ◌<◌, ◌↔◌, Bool, true, false, Option, None, Some, List, [], ◌∷◌, map, length, Contains, get_or, refl, sym, ap, ◌∙◌, subst, arith}
 use Rattle.std.specs.Prelude.{IfSome, IfNone}
 use Rattle.std.proofs.lemmas.Bool.{false≢true}
 use Rattle.std.proofs.lemmas.List.{get_or_default}
 use Rattle.auto_core.specs.Game.{Holds}
 use Rattle.auto_core.specs.Delayed.{RankedPairs, HoldsPair, HasRank, AreRankedBelow, HasPairsOnce}
 use Rattle.auto_core.proofs.MemberLemmas.{map_has, map_from}
-use Rattle.bit_rel.specs.Relation.{Relation, IsRelation}
+use Rattle.bit_rel.specs.Relation.{Relation, IsRelation, IsBefore, ArePairsAscending}
 use Rattle.delayed_sim.specs.Stored.{rank_at, with_ranks}
-use Rattle.delayed_sim.specs.Rankings.{Ranking, IsRanking}
+use Rattle.delayed_sim.specs.Rankings.{Ranking, IsRanking, AreRankedInOrder}
 
 abbrev with_rank : Relation → List (Option ℕ) → ℕ × ℕ → ℕ × ℕ × Option ℕ
 with_rank R ranks x = (x.0, x.1, rank_at ranks R.size x.0 x.1)
@@ -41,8 +41,19 @@ ranks_below R ranks valid p q h = valid.in_range p q (ranks_from R ranks p q h.0
 pub ranks_once : (R : Relation) (ranks : List (Option ℕ)) → HasPairsOnce (with_ranks R ranks)
 ranks_once R ranks p q o m first second = sym (ranks_from R ranks p q o first).1 ∙ (ranks_from R ranks p q m second).1
 
+-- the pairs ascend as those of the relation do
+ranks_ordered : (ranks : List (Option ℕ)) (n : ℕ) (xs : List (ℕ × ℕ)) → ArePairsAscending xs → AreRankedInOrder (map (λ (x : ℕ × ℕ). (x.0, x.1, rank_at ranks n x.0 x.1)) xs)
+ranks_ordered ranks n [] h = tt
+ranks_ordered ranks n (x ∷ xs) h = (
+  λ y has.
+      let (z, there, is) = map_from (λ (x : ℕ × ℕ). (x.0, x.1, rank_at ranks n x.0 x.1)) xs y has in
+      let P : ℕ × ℕ × Option ℕ → Type 0 = λ t. IsBefore (x.0, x.1) (t.0, t.1) in
+      subst P is (h.0 z there),
+  ranks_ordered ranks n xs h.1,
+)
+
 pub valid_ranking : (R : Relation) (ranks : List (Option ℕ)) → IsRelation R → IsRanking (record { size = R.size; pairs = with_ranks R ranks })
-valid_ranking R ranks valid = record { in_range = ranks_below R ranks valid; once = ranks_once R ranks }
+valid_ranking R ranks valid = record { in_range = ranks_below R ranks valid; once = ranks_once R ranks; in_order = ranks_ordered ranks R.size R.pairs valid.in_order }
 
 pub place_default : (ranks : List (Option ℕ)) (n p q at m : ℕ) (o : Option ℕ) → m ≡ n → at ≡ p * m + q → at < m * m → length ranks ≡ n * n → o ≡ get_or ranks at o → rank_at ranks n p q ≡ o
 place_default ranks n p q at m o same is inside len value =

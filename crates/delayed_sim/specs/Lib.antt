@@ -5,3 +5,4 @@ pub mod Settling
 pub mod Levels
 pub mod Boards
 pub mod Starts
+pub mod Laws

@@ -1,6 +1,7 @@
 -- Relations some of whose pairs have a rank.
-use Rattle.std.specs.Prelude.{◌≡◌, ℕ, ◌<◌, ◌↔◌, Option, List, length, Contains, slice_index_or}
+use Rattle.std.specs.Prelude.{◌≡◌, ℕ, ◌<◌, ◌↔◌, Option, List, [], ◌∷◌, length, Contains, slice_index_or}
 use Rattle.auto_core.specs.Delayed.{RankedPairs, HoldsPair, AreRankedBelow, HasPairsOnce}
+use Rattle.bit_rel.specs.Relation.{IsBefore}
 use Rattle.delayed_sim.specs.declared.delayed.RankedPair.{RankedPair}
 
 -- A relation on the states below `size`: the list of its pairs, each with a rank or without one.
@@ -8,10 +9,16 @@ pub record Ranking : Type 0 where
   pub size : ℕ
   pub pairs : RankedPairs
 
--- A valid one: both states of each pair are below `size`, and no pair stands there twice.
+-- Each pair stands before all later ones, as in a relation without ranks.
+abbrev pub AreRankedInOrder : RankedPairs → Type 0
+AreRankedInOrder [] = Unit {0}
+AreRankedInOrder (x ∷ xs) = ((y : ℕ × ℕ × Option ℕ) → Contains xs y → IsBefore (x.0, x.1) (y.0, y.1)) × AreRankedInOrder xs
+
+-- A valid one: both states of each pair are below `size`, each pair has one rank or none, and the pairs ascend.
 pub record IsRanking (R : Ranking) : Type 0 where
   pub in_range : AreRankedBelow R.size R.pairs
   pub once : HasPairsOnce R.pairs
+  pub in_order : AreRankedInOrder R.pairs
 
 -- The pair with this rank or without one.
 abbrev pub ranked_pair : ℕ → ℕ → Option ℕ → RankedPair

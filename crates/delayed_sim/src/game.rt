@@ -5,6 +5,7 @@ ghost use Rattle.auto_core.specs.Automaton.{IsAutomaton, IsAccepting};
 ghost use Rattle.auto_core.specs.Game.{Holds};
 ghost use Rattle.auto_core.specs.Delayed.{IsGreatestDelayed};
 ghost use Rattle.bit_rel.specs.Relation.{IsRelation};
+ghost use Rattle.delayed_sim.specs.Rankings.{IsRanking};
 ghost use Rattle.delayed_sim.specs.Stored.{rank_at};
 ghost use Rattle.delayed_sim.specs.Settling.{HasAnswers, IsKept, ArePairsIn, Drops, Shrinks};
 ghost use Rattle.delayed_sim.specs.Boards.{AreLeastRanks};
@@ -141,6 +142,7 @@ fn rank_or_drop(
 pub fn greatest(alloc: Global, automaton: &Auto) -> Result<Delayed, Memory>
     requires few { automaton.now.states ≤ 65535 }
     ensures size { IfOk result (λ d. d.size ≡ automaton.now.states) }
+    ensures valid { IfOk result IsRanking }
     ensures greatest { IfOk result (λ d. IsGreatestDelayed automaton.now d.pairs) }
 {
     let mut held = all_pairs(alloc, automaton.states())?;

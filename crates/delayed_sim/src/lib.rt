@@ -3,6 +3,7 @@
 
 mod delayed;
 mod game;
+pub mod laws;
 mod levels;
 mod pairs;
 mod right;

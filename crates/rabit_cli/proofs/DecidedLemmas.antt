@@ -58,16 +58,19 @@ verdict_is_right pair cert answer verdict says =
 -- both texts are made
 pub is_prepared : (pair : Joined) (cert : Cert) (ready : Prepared) → CanDecide pair → search_limit ≤ 100000 → IsAnswer pair search_limit cert → WellFormed cert → IsValidVerdict pair cert →
     IsVerdictAnswer pair cert.body ready.verdict → ready.text.items ≡ text_for ready.verdict → ready.certificate ≡ text cert → IsPrepared pair ready
-is_prepared pair cert ready can few answer formed valid verdict said certificate = (cert, record {
-  answer = answer;
-  formed = formed;
-  valid = valid;
-  truth = answers_are_true pair search_limit cert can few answer;
-  verdict = verdict;
-  right = verdict_is_right pair cert answer ready.verdict verdict;
-  said = said;
-  certificate = certificate;
-})
+is_prepared pair cert ready can few answer formed valid verdict said certificate = (
+  cert,
+  record {
+    answer = answer;
+    formed = formed;
+    valid = valid;
+    truth = answers_are_true pair search_limit cert can few answer;
+    verdict = verdict;
+    right = verdict_is_right pair cert answer ready.verdict verdict;
+    said = said;
+    certificate = certificate;
+  },
+)
 
 -- a verdict comes with nothing before it
 late_with : (pair : Joined) (body : Body) (verdict : Answer) → IsVerdictAnswer pair body verdict → (is_early verdict ≡ false) × ¬ (verdict ≡ WriteFault)

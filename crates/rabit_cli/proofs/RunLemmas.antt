@@ -515,4 +515,3 @@ unfolding Said
 says_each_answer None question status sent sent' sink sink' faults faults' puts puts' a = a.right
 says_each_answer (Some files) question status sent sent' sink sink' faults faults' puts puts' a =
     λ answer is. said_each files question status sent sent' sink sink' faults faults' puts puts' a.answer answer a.right a.said a.read_fault a.write_fault is
-

@@ -83,9 +83,13 @@ pub fn reply_to<H: Shelf>(alloc: Global, words: &[String], shelf: &mut H) -> Rep
     ensures missing { IfSome (H.held shelf.old) (λ files. CountsInTurn files (question_of (map string_bytes words.now)) (H.missed shelf.old) (H.missed shelf.new)) }
 {
     match question::asked(words) {
-        Some((Task::Check, first, second, certificate)) => Reply::Plain(
-            check_answer(alloc, shelf, first, second, certificate),
-        ),
+        Some((Task::Check, first, second, certificate)) => Reply::Plain(check_answer(
+            alloc,
+            shelf,
+            first,
+            second,
+            certificate,
+        )),
         Some((Task::Include, first, second, certificate)) => inclusion::decided(
             alloc,
             shelf,

@@ -4,6 +4,7 @@ use Rattle.delayed_sim.specs.Settling.{pair_of}
 use Rattle.delayed_sim.proofs.TakingLemmas.{taken_in, takes_shrinks, shrinks_then}
 use Rattle.auto_core.proofs.PathLemmas.{none_in_nil}
 use Rattle.delayed_sim.proofs.GreatestLemmas.{greatest_delayed}
+use Rattle.delayed_sim.proofs.RankLemmas.{valid_ranking}
 use Rattle.delayed_sim.proofs.game.greatest.Goals as goal
 
 pub rank_or_drop-requires-clause-gone : goal.rank_or_drop-requires-clause-gone
@@ -21,3 +22,6 @@ returns-clause-greatest c =
     (c.in_ok-held.ensures.size ∙ c.states.ensures.count)
     (shrinks_then A c.in_ok-held.held c.try_all.new.rel c.rank_or_drop.new.rel (takes_shrinks A c.in_ok-held.held c.try_all.new.rel c.new-gone.result.items c.try_all.new.gone.items c.in_ok-try_all.ensures.takes) e.shrinks)
     e.answered e.least e.ranked
+
+pub returns-clause-valid : goal.returns-clause-valid
+returns-clause-valid c = valid_ranking c.rank_or_drop.new.rel c.in_ok-ranks.ranks.items c.in_ok-ranks.ensures.shrinks.valid

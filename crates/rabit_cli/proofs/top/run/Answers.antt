@@ -61,4 +61,3 @@ returns-clause-no_write_fault g c =
     no_write_fault (g.H.Shelf.held c.args.shelf.now) (g.H.Shelf.held c.reply_to-reply.new.shelf) (question_of (map (string_bytes {Z = Global}) c.args.words.now)) _ _ _ _ _ _ _ _ _
     (done_with (g.H.Shelf.held c.args.shelf.now) (g.H.Shelf.held c.reply_to-reply.new.shelf) (question_of (map (string_bytes {Z = Global}) c.args.words.now)) _ _ _ _ _ _ _ _ _ c.reply_to-reply.result
     c.reply_to-reply.ensures.answer c.reply_to-reply.ensures.read_fault c.reply_to-reply.ensures.no_read_fault c.reply_to-reply.ensures.write_fault c.reply_to-reply.ensures.no_write_fault c.reply_to-reply.ensures.leaves c.reply_to-reply.ensures.early c.say_reply.ensures)
-

@@ -1,0 +1,16 @@
+-- The law of the greatest delayed relation.
+use Rattle.std.specs.Prelude.{◌≡◌}
+use Rattle.auto_core.specs.Automaton.{Automaton}
+use Rattle.auto_core.specs.Delayed.{IsGreatestDelayed}
+use Rattle.delayed_sim.specs.Rankings.{Ranking, IsRanking}
+
+-- There is one at most, ranks and all.
+abbrev pub GreatestIsOne : Type 0
+GreatestIsOne =
+    (A : Automaton) (R S : Ranking)
+    → IsRanking R
+    → IsRanking S
+    → R.size ≡ S.size
+    → IsGreatestDelayed A R.pairs
+    → IsGreatestDelayed A S.pairs
+    → R ≡ S
