@@ -1,8 +1,8 @@
 -- The greatest delayed relation is one, and so are the classes that it joins.
-use Rattle.std.proofs.Common.{◌≡◌, ℕ, ◌≤◌, ◌↔◌, inl, inr, Option, None, Some, List, [], ◌∷◌, Contains, sym, ap, subst, arith}
+use Rattle.std.proofs.Common.{ℕ, ◌↔◌, inl, inr, List, [], ◌∷◌, Contains, subst}
 use Rattle.auto_core.specs.Automaton.{Automaton, IsAutomaton}
 use Rattle.auto_core.specs.Accept.{Same}
-use Rattle.auto_core.specs.Delayed.{RankedPairs, HoldsPair, HasRank, IsGreatestDelayed}
+use Rattle.auto_core.specs.Delayed.{RankedPairs, HoldsPair, IsGreatestDelayed}
 use Rattle.auto_core.specs.Game.{Close, Holds}
 use Rattle.auto_core.specs.Quotient.{AreClassesOf}
 use Rattle.auto_core.specs.declared.parts.Mode.TheVariants.{Buchi, Finite}
@@ -14,48 +14,10 @@ use Rattle.reduce_loop.specs.Kinds.{kinds_of, AreDelayedPairs, IsMerged}
 use Rattle.reduce_loop.specs.Settled.{HasNoTwins}
 use Rattle.reduce_loop.proofs.MergeLemmas.{no_twins, same_closure}
 
-some_or_none : Option ℕ → Type 0
-some_or_none None = ⊥
-some_or_none (Some r) = Unit {0}
-
-not_none : (r : ℕ) → Some r ≡ None → ⊥
-unfolding some_or_none
-not_none r e = subst some_or_none e tt
-
-value_or_zero : Option ℕ → ℕ
-value_or_zero None = 0
-value_or_zero (Some r) = r
-
-same_value : (r s : ℕ) → Some r ≡ Some s → r ≡ s
-unfolding value_or_zero
-same_value r s e = ap value_or_zero e
-
 -- ---- the greatest relation is one
 
-module _ (A : Automaton) (X Y : RankedPairs) (x : IsGreatestDelayed A X) (y : IsGreatestDelayed A Y) where
-  pairs_within : (p q : ℕ) → HoldsPair X p q → HoldsPair Y p q
-  pairs_within p q h = y.has_each X x.in_range x.right p q h
-
-  pub ranks_within : (p q : ℕ) (rank : Option ℕ) → Contains X (p, q, rank) → Contains Y (p, q, rank)
-  ranks_within p q None h =
-      let (other, there) = pairs_within p q (None, h) in
-      unranked other there
-    where
-      unranked : (other : Option ℕ) → Contains Y (p, q, other) → Contains Y (p, q, None)
-      unranked None there = there
-      unranked (Some s) there = let (r, held, low) = x.least Y y.in_range y.right p q s there in absurd (not_none r (x.once p q (Some r) None held h))
-  ranks_within p q (Some r) h =
-      let (s, there, low) = y.least X x.in_range x.right p q r h in
-      let (t, held, lower) = x.least Y y.in_range y.right p q s there in
-      let same : r ≡ t = same_value r t (x.once p q (Some r) (Some t) h held) in
-      let equal : s ≡ r = omega arith in
-      subst (λ n. Contains Y (p, q, Some n)) equal there
-
 pub same_pairs : (A : Automaton) (X Y : RankedPairs) → IsGreatestDelayed A X → IsGreatestDelayed A Y → (p q : ℕ) → HoldsPair X p q ↔ HoldsPair Y p q
-same_pairs A X Y x y p q = (pairs_within A X Y x y p q, pairs_within A Y X y x p q)
-
-pub same_ranks : (A : Automaton) (X Y : RankedPairs) → IsGreatestDelayed A X → IsGreatestDelayed A Y → (p q : ℕ) (rank : Option ℕ) → Contains X (p, q, rank) ↔ Contains Y (p, q, rank)
-same_ranks A X Y x y p q rank = (ranks_within A X Y x y p q rank, ranks_within A Y X y x p q rank)
+same_pairs A X Y x y p q = (λ h. y.has_each X x.in_range x.right p q h, λ h. x.has_each Y y.in_range y.right p q h)
 
 pub delayed_is_one : (A : Automaton) (S T : List (ℕ × ℕ)) → AreDelayedPairs A S → AreDelayedPairs A T → (p q : ℕ) → Holds S p q ↔ Holds T p q
 delayed_is_one A S T (X, x, held) (Y, y, also) p q = (

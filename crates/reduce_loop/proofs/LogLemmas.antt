@@ -1,5 +1,5 @@
--- There is one log, but for the order of the pairs of delayed relations.
-use Rattle.std.proofs.Common.{◌≡◌, ℕ, zero, suc, ◌<◌, ◌↔◌, ◌⊎◌, inl, inr, Option, None, Some, List, refl, [], ◌∷◌, ◌++◌, Contains, sym, ap, ◌∙◌, subst, arith}
+-- There is one log.
+use Rattle.std.proofs.Common.{◌≡◌, ℕ, zero, suc, ◌<◌, ◌↔◌, inl, inr, Option, None, Some, List, refl, [], ◌∷◌, ◌++◌, Contains, sym, ap, ◌∙◌, subst, arith}
 use Rattle.std.specs.List.Sorted.{IsStrictlyIncreasing}
 use Rattle.std.proofs.lemmas.List.Kept.{AllPairs-from_increasing}
 use Rattle.auto_core.specs.Automaton.{Automaton, IsAutomaton}
@@ -10,6 +10,8 @@ use Rattle.auto_core.specs.declared.parts.Mode.{Mode}
 use Rattle.auto_core.proofs.MemberLemmas.{rises_from_pairs, same_members}
 use Rattle.backward_sim.proofs.GreatestLemmas.{greatest_is_one as backward_is_one}
 use Rattle.bit_rel.specs.Relation.{Relation}
+use Rattle.delayed_sim.specs.Rankings.{Ranking}
+use Rattle.delayed_sim.proofs.OneLemmas.{greatest_one}
 use Rattle.direct_sim.proofs.GreatestLemmas.{greatest_is_one as forward_is_one}
 use Rattle.prune_pairs.specs.Least.{AreLeastBetter}
 use Rattle.prune_pairs.specs.declared.removing.Gone.{Gone}
@@ -20,11 +22,11 @@ use Rattle.reduce_loop.specs.declared.steps.MergeBy.TheVariants as by
 use Rattle.reduce_loop.specs.declared.steps.Step.{Step}
 use Rattle.reduce_loop.specs.declared.steps.Step.TheVariants as step
 use Rattle.reduce_loop.specs.Kinds.{kinds_of}
-use Rattle.reduce_loop.specs.Logs.{AreSameDelayed, AreSameLogs, IsRelationOf, IsMergeOf, IsGivenWhere, pairs_of, IsCutOf, IsEntry, IsLogged, LogThrough, LogPasses}
+use Rattle.reduce_loop.specs.Logs.{IsRelationOf, IsMergeOf, IsDelayedMergeOf, IsGivenWhere, pairs_of, IsCutOf, IsEntry, IsLogged, LogThrough, LogPasses}
 use Rattle.reduce_loop.specs.Laws.{LogIsOne}
 use Rattle.reduce_loop.proofs.RelationLemmas.{same_relation}
 use Rattle.reduce_loop.proofs.MergeLemmas.{same_classes, same_closure}
-use Rattle.reduce_loop.proofs.DelayedLemmas.{same_pairs, same_ranks}
+use Rattle.reduce_loop.proofs.DelayedLemmas.{same_pairs}
 use Rattle.reduce_loop.proofs.PruneLemmas.{least_one}
 use Rattle.reduce_loop.proofs.StepLemmas.{after_valid, after_one}
 use Rattle.reduce_loop.proofs.PassLemmas.{log_through, through_valid, through_one}
@@ -55,6 +57,13 @@ module _ (A : Automaton) (Greatest : List (ℕ × ℕ) → Type 0) (one : (S T :
   given_one wanted (Some rel) None is also = absurd (also is.0)
   given_one wanted (Some rel) (Some other) is also = ap Some (relation_one rel other is.1 also.1)
 
+delayed_entry_one : (A : Automaton) (X Y : Ranking) (classes these : List ℕ) → IsDelayedMergeOf A X classes → IsDelayedMergeOf A Y these → step.Merge (by.Delayed X) classes ≡ step.Merge (by.Delayed Y) these
+delayed_entry_one A X Y classes these is also =
+    let same : X ≡ Y = greatest_one A X Y is.valid also.valid (is.on_states ∙ sym also.on_states) is.greatest also.greatest in
+    let equal : classes ≡ these = same_classes A.states (Close (HoldsPair X.pairs)) (Close (HoldsPair Y.pairs)) classes these is.joined also.joined
+    (same_closure (HoldsPair X.pairs) (HoldsPair Y.pairs) (same_pairs A X.pairs Y.pairs is.greatest also.greatest)) in
+    λ i. step.Merge (by.Delayed (same i)) (equal i)
+
 cut_entry_one : (A : Automaton) (n k : ℕ) (gone these : List Gone) (back back' ahead ahead' : Option Relation) → IsCutOf A n k gone back ahead → IsCutOf A n k these back' ahead' → step.Cut n k gone back ahead ≡ step.Cut n k these back' ahead'
 cut_entry_one A n k gone these back back' ahead ahead' is also =
     let same_back : back ≡ back' = given_one A (IsGreatestBackward A (look_back n k)) (backward_is_one A (look_back n k)) (¬ (n ≡ 1)) back back' is.is_back also.is_back in
@@ -65,66 +74,48 @@ cut_entry_one A n k gone these back back' ahead ahead' is also =
     let same_gone : gone ≡ these = least_one A n (Close (Holds (pairs_of back'))) (Close (Holds (pairs_of ahead'))) gone these moved also.least in
     λ i. step.Cut n k (same_gone i) (same_back i) (same_ahead i)
 
-entry_same : (A : Automaton) (mode : Mode) (k : ℕ) (kind : Kind) (entry other : Step) → IsEntry A mode k kind entry → IsEntry A mode k kind other → (entry ≡ other) ⊎ AreSameDelayed entry other
-entry_same A mode k Trim entry other (kept, e, is) (these, f, also) = inl (
+entry_one : (A : Automaton) (mode : Mode) (k : ℕ) (kind : Kind) (entry other : Step) → IsEntry A mode k kind entry → IsEntry A mode k kind other → entry ≡ other
+entry_one A mode k Trim entry other (kept, e, is) (these, f, also) =
     e
     ∙ ap step.Trim (same_numbers kept these is.ascending also.ascending (λ q. ((λ h. (also.useful q).1 ((is.useful q).0 h)), (λ h. (is.useful q).1 ((also.useful q).0 h)))))
     ∙ sym f
-    )
-entry_same A mode k Forward entry other (rel, classes, e, is) (rel', classes', f, also) =
-    inl (e ∙ merge_entry_one A (IsGreatestForward A k) (forward_is_one A k) (λ r. by.Forward k r) rel rel' classes classes' is also ∙ sym f)
-entry_same A mode k Backward entry other (rel, classes, e, is) (rel', classes', f, also) =
-    inl (e ∙ merge_entry_one A (IsGreatestBackward A k) (backward_is_one A k) (λ r. by.Backward k r) rel rel' classes classes' is also ∙ sym f)
-entry_same A mode k Delayed entry other (X, classes, e, is) (Y, classes', f, also) =
-    let pairs = same_pairs A X.pairs Y.pairs is.greatest also.greatest in
-    let equal : classes' ≡ classes = same_classes A.states (Close (HoldsPair Y.pairs)) (Close (HoldsPair X.pairs)) classes' classes also.joined is.joined
-    (same_closure (HoldsPair Y.pairs) (HoldsPair X.pairs) (same_pairs A Y.pairs X.pairs also.greatest is.greatest)) in
-    inr (X, Y, classes, e, f ∙ ap (λ c. step.Merge (by.Delayed Y) c) equal, (is.on_states ∙ sym also.on_states, same_ranks A X.pairs Y.pairs is.greatest also.greatest))
-entry_same A mode k (Prune n) entry other (gone, back, ahead, e, is) (gone', back', ahead', f, also) =
-    inl (e ∙ cut_entry_one A n k gone gone' back back' ahead ahead' is also ∙ sym f)
+entry_one A mode k Forward entry other (rel, classes, e, is) (rel', classes', f, also) =
+    e ∙ merge_entry_one A (IsGreatestForward A k) (forward_is_one A k) (λ r. by.Forward k r) rel rel' classes classes' is also ∙ sym f
+entry_one A mode k Backward entry other (rel, classes, e, is) (rel', classes', f, also) =
+    e ∙ merge_entry_one A (IsGreatestBackward A k) (backward_is_one A k) (λ r. by.Backward k r) rel rel' classes classes' is also ∙ sym f
+entry_one A mode k Delayed entry other (X, classes, e, is) (Y, classes', f, also) =
+    e ∙ delayed_entry_one A X Y classes classes' is also ∙ sym f
+entry_one A mode k (Prune n) entry other (gone, back, ahead, e, is) (gone', back', ahead', f, also) =
+    e ∙ cut_entry_one A n k gone gone' back back' ahead ahead' is also ∙ sym f
 
 -- ---- logs
 
-same_itself : (log : List Step) → AreSameLogs log log
-same_itself [] = tt
-same_itself (entry ∷ log) = (inl refl, same_itself log)
+logged_one : (A B : Automaton) (mode : Mode) (k : ℕ) (kind : Kind) (log other : List Step) → IsLogged A mode k kind B log → IsLogged A mode k kind B other → log ≡ other
+logged_one A B mode k kind log other (inl is) (inl also) = is.1 ∙ sym also.1
+logged_one A B mode k kind log other (inl is) (inr also) = absurd (also.0 is.0)
+logged_one A B mode k kind log other (inr is) (inl also) = absurd (is.0 also.0)
+logged_one A B mode k kind log other (inr (changed, (entry, is, e))) (inr (differs, (entry', also, f))) = e ∙ ap (λ x. x ∷ []) (entry_one A mode k kind entry entry' is also) ∙ sym f
 
-same_behind : (log other more these : List Step) → AreSameLogs log other → AreSameLogs more these → AreSameLogs (log ++ more) (other ++ these)
-same_behind [] [] more these same rest = rest
-same_behind [] (t ∷ other) more these same rest = absurd same
-same_behind (s ∷ log) [] more these same rest = absurd same
-same_behind (s ∷ log) (t ∷ other) more these same rest = (same.0, same_behind log other more these same.1 rest)
-
-same_as : (log other now these : List Step) → log ≡ now → other ≡ these → AreSameLogs now these → AreSameLogs log other
-same_as log other now these e f same = subst (λ l. AreSameLogs l other) (sym e) (subst (λ l. AreSameLogs now l) (sym f) same)
-
-logged_same : (A B : Automaton) (mode : Mode) (k : ℕ) (kind : Kind) (log other : List Step) → IsLogged A mode k kind B log → IsLogged A mode k kind B other → AreSameLogs log other
-logged_same A B mode k kind log other (inl is) (inl also) = same_as log other [] [] is.1 also.1 tt
-logged_same A B mode k kind log other (inl is) (inr also) = absurd (also.0 is.0)
-logged_same A B mode k kind log other (inr is) (inl also) = absurd (is.0 also.0)
-logged_same A B mode k kind log other (inr (changed, (entry, is, e))) (inr (differs, (entry', also, f))) =
-    same_as log other (entry ∷ []) (entry' ∷ []) e f (entry_same A mode k kind entry entry' is also, tt)
-
-through_log_same : (mode : Mode) (k : ℕ) (kinds : List Kind) (A B C : Automaton) (log other : List Step) → IsAutomaton A → LogThrough A mode k kinds B log → LogThrough A mode k kinds C other → AreSameLogs log other
-through_log_same mode k [] A B C log other valid (e, none) (f, nothing) = same_as log other [] [] none nothing tt
-through_log_same mode k (kind ∷ kinds) A B C log other valid (X, now, later, step, logged, rest, is) (Y, now', later', step', logged', rest', is') =
+through_log_one : (mode : Mode) (k : ℕ) (kinds : List Kind) (A B C : Automaton) (log other : List Step) → IsAutomaton A → LogThrough A mode k kinds B log → LogThrough A mode k kinds C other → log ≡ other
+through_log_one mode k [] A B C log other valid (e, none) (f, nothing) = none ∙ sym nothing
+through_log_one mode k (kind ∷ kinds) A B C log other valid (X, now, later, step, logged, rest, is) (Y, now', later', step', logged', rest', is') =
     let same = after_one A X Y mode k kind valid step step' in
-    let first = logged_same A X mode k kind now now' logged (subst (λ Z. IsLogged A mode k kind Z now') (sym same) logged') in
-    let others = through_log_same mode k kinds X B C later later' (after_valid A X mode k kind step) rest (subst (λ Z. LogThrough Z mode k kinds C later') (sym same) rest') in
-    same_as log other (now ++ later) (now' ++ later') is is' (same_behind now now' later later' first others)
+    let first = logged_one A X mode k kind now now' logged (subst (λ Z. IsLogged A mode k kind Z now') (sym same) logged') in
+    let others = through_log_one mode k kinds X B C later later' (after_valid A X mode k kind step) rest (subst (λ Z. LogThrough Z mode k kinds C later') (sym same) rest') in
+    is ∙ (λ i. first i ++ others i) ∙ sym is'
 
-passes_log_same : (mode : Mode) (k n m : ℕ) (A B C : Automaton) (log other : List Step) → IsAutomaton A → LogPasses A mode k n B log → LogPasses A mode k m C other → AreSameLogs log other
-passes_log_same mode k zero zero A B C log other valid (e, through) (f, also) = through_log_same mode k (kinds_of mode) A A A log other valid through also
-passes_log_same mode k zero (suc m) A B C log other valid (e, through) (Y, now', later', through', changed', rest', is') =
+passes_log_one : (mode : Mode) (k n m : ℕ) (A B C : Automaton) (log other : List Step) → IsAutomaton A → LogPasses A mode k n B log → LogPasses A mode k m C other → log ≡ other
+passes_log_one mode k zero zero A B C log other valid (e, through) (f, also) = through_log_one mode k (kinds_of mode) A A A log other valid through also
+passes_log_one mode k zero (suc m) A B C log other valid (e, through) (Y, now', later', through', changed', rest', is') =
     absurd (changed' (through_one mode k (kinds_of mode) A Y A valid (log_through mode k (kinds_of mode) A Y now' through') (log_through mode k (kinds_of mode) A A log through)))
-passes_log_same mode k (suc n) zero A B C log other valid (X, now, later, through, changed, rest, is) (e, also) =
+passes_log_one mode k (suc n) zero A B C log other valid (X, now, later, through, changed, rest, is) (e, also) =
     absurd (changed (through_one mode k (kinds_of mode) A X A valid (log_through mode k (kinds_of mode) A X now through) (log_through mode k (kinds_of mode) A A other also)))
-passes_log_same mode k (suc n) (suc m) A B C log other valid (X, now, later, through, changed, rest, is) (Y, now', later', through', changed', rest', is') =
+passes_log_one mode k (suc n) (suc m) A B C log other valid (X, now, later, through, changed, rest, is) (Y, now', later', through', changed', rest', is') =
     let path = log_through mode k (kinds_of mode) A X now through in
     let same = through_one mode k (kinds_of mode) A X Y valid path (log_through mode k (kinds_of mode) A Y now' through') in
-    let first = through_log_same mode k (kinds_of mode) A X Y now now' valid through through' in
-    let others = passes_log_same mode k n m X B C later later' (through_valid mode k (kinds_of mode) A X valid path) rest (subst (λ Z. LogPasses Z mode k m C later') (sym same) rest') in
-    same_as log other (now ++ later) (now' ++ later') is is' (same_behind now now' later later' first others)
+    let first = through_log_one mode k (kinds_of mode) A X Y now now' valid through through' in
+    let others = passes_log_one mode k n m X B C later later' (through_valid mode k (kinds_of mode) A X valid path) rest (subst (λ Z. LogPasses Z mode k m C later') (sym same) rest') in
+    is ∙ (λ i. first i ++ others i) ∙ sym is'
 
 pub log_one : LogIsOne
-log_one A B C mode k log other valid some (n, passes) (m, also) = passes_log_same mode k n m A B C log other valid passes also
+log_one A B C mode k log other valid some (n, passes) (m, also) = passes_log_one mode k n m A B C log other valid passes also

@@ -6,7 +6,7 @@ use Rattle.auto_core.specs.declared.parts.Mode.{Mode}
 use Rattle.reduce_loop.specs.declared.steps.Step.{Step}
 use Rattle.reduce_loop.specs.Passes.{IsReduced}
 use Rattle.reduce_loop.specs.Settled.{IsSettled}
-use Rattle.reduce_loop.specs.Logs.{IsLog, AreSameLogs}
+use Rattle.reduce_loop.specs.Logs.{IsLog}
 
 -- A reduced automaton accepts the same.
 abbrev pub ReducedAcceptsTheSame : Type 0
@@ -20,9 +20,9 @@ ReducedIsSettled = (A B : Automaton) (mode : Mode) (k : ℕ) → IsAutomaton A �
 abbrev pub ReducedIsOne : Type 0
 ReducedIsOne = (A B C : Automaton) (mode : Mode) (k : ℕ) → IsAutomaton A → 1 ≤ k → IsReduced A mode k B → IsReduced A mode k C → B ≡ C
 
--- There is one log at most of the reduction of A, but for the order in which the pairs of delayed relations stand.
+-- There is one log at most of the reduction of A.
 abbrev pub LogIsOne : Type 0
-LogIsOne = (A B C : Automaton) (mode : Mode) (k : ℕ) (log other : List Step) → IsAutomaton A → 1 ≤ k → IsLog A mode k B log → IsLog A mode k C other → AreSameLogs log other
+LogIsOne = (A B C : Automaton) (mode : Mode) (k : ℕ) (log other : List Step) → IsAutomaton A → 1 ≤ k → IsLog A mode k B log → IsLog A mode k C other → log ≡ other
 
 -- Where a log leads from A to B, B is A reduced.
 abbrev pub LogIsOfReduced : Type 0

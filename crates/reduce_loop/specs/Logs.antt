@@ -1,5 +1,5 @@
 -- The log of a reduction: the steps that changed something, in order, each with what it was done by.
-use Rattle.std.specs.Prelude.{◌≡◌, ℕ, zero, suc, ◌⊎◌, Option, None, Some, List, [], ◌∷◌, ◌++◌, Contains, ◌↔◌}
+use Rattle.std.specs.Prelude.{◌≡◌, ℕ, zero, suc, ◌⊎◌, Option, None, Some, List, [], ◌∷◌, ◌++◌}
 use Rattle.std.specs.List.Sorted.{IsStrictlyIncreasing}
 use Rattle.auto_core.specs.Automaton.{Automaton}
 use Rattle.auto_core.specs.Delayed.{HoldsPair, IsGreatestDelayed}
@@ -9,7 +9,7 @@ use Rattle.auto_core.specs.Useful.{AreUseful}
 use Rattle.auto_core.specs.Quotient.{AreClassesOf}
 use Rattle.auto_core.specs.declared.parts.Mode.{Mode}
 use Rattle.bit_rel.specs.Relation.{Relation, IsRelation}
-use Rattle.delayed_sim.specs.Rankings.{Ranking}
+use Rattle.delayed_sim.specs.Rankings.{Ranking, IsRanking}
 use Rattle.prune_pairs.specs.Least.{AreLeastBetter}
 use Rattle.prune_pairs.specs.declared.removing.Gone.{Gone}
 use Rattle.reduce_loop.specs.declared.steps.Kind.{Kind}
@@ -35,8 +35,9 @@ pub record IsMergeOf (A : Automaton) (Greatest : List (ℕ × ℕ) → Type 0) (
   pub relation : IsRelationOf A Greatest rel
   pub joined : AreClassesOf A.states (Close (Holds rel.pairs)) classes
 
--- The relation with ranks is the greatest delayed one on the states of A, and the classes are those of the closure of its pairs.
+-- The relation with ranks is the greatest delayed one on the states of A, its pairs ascend, and the classes are those of their closure.
 pub record IsDelayedMergeOf (A : Automaton) (ranks : Ranking) (classes : List ℕ) : Type 0 where
+  pub valid : IsRanking ranks
   pub on_states : ranks.size ≡ A.states
   pub greatest : IsGreatestDelayed A ranks.pairs
   pub joined : AreClassesOf A.states (Close (HoldsPair ranks.pairs)) classes
@@ -114,23 +115,3 @@ LogPasses A mode k (suc n) C log =
 -- The log of the reduction of A to C.
 abbrev pub IsLog : Automaton → Mode → ℕ → Automaton → List Step → Type 0
 IsLog A mode k C log = (n : ℕ) × LogPasses A mode k n C log
-
--- The relations have the same states, pairs and ranks, in whatever order.
-abbrev pub AreSameRankings : Ranking → Ranking → Type 0
-AreSameRankings X Y = (X.size ≡ Y.size) × ((p q : ℕ) (rank : Option ℕ) → Contains X.pairs (p, q, rank) ↔ Contains Y.pairs (p, q, rank))
-
--- Both are merges by delayed relations, with the same classes and by the same pairs and ranks, in whatever order.
-abbrev pub AreSameDelayed : Step → Step → Type 0
-AreSameDelayed s t =
-    (X Y : Ranking)
-    × (classes : List ℕ)
-    × (s ≡ step.Merge (by.Delayed X) classes)
-    × (t ≡ step.Merge (by.Delayed Y) classes)
-    × AreSameRankings X Y
-
--- The logs are one but for the order of the pairs of delayed relations.
-abbrev pub AreSameLogs : List Step → List Step → Type 0
-AreSameLogs [] [] = Unit {0}
-AreSameLogs [] (t ∷ ts) = ⊥
-AreSameLogs (s ∷ ss) [] = ⊥
-AreSameLogs (s ∷ ss) (t ∷ ts) = ((s ≡ t) ⊎ AreSameDelayed s t) × AreSameLogs ss ts

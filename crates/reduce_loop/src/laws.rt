@@ -17,7 +17,7 @@ pub fn reduced_is_one()
     ensures { ReducedIsOne }
 {}
 
-/// The log is one, but for the order of the pairs of delayed relations.
+/// The log is one.
 pub fn log_is_one()
     ensures { LogIsOne }
 {}

@@ -20,6 +20,7 @@ returns-clause-entry c =
       c.in_ok-joined.joined.classes,
       refl,
       record {
+        valid = c.in_ok-ranks.ensures.valid;
         on_states = c.in_ok-ranks.ensures.size;
         greatest = c.in_ok-ranks.ensures.greatest;
         joined = classes_over c.args.automaton.now.states (Holds c.in_ok-rel.rel.pairs) (HoldsPair ranks.pairs) c.in_ok-joined.joined.classes c.in_ok-rel.ensures.pairs c.in_ok-joined.ensures.joined;
