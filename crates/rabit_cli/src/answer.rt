@@ -11,7 +11,7 @@ use cert_text::TextFault;
 /// The answer to a command.
 #[derive(Debug, Drop)]
 pub enum Answer {
-    /// The words ask for what is not built.
+    /// The words, or the form of a certificate, ask for what is not built.
     NotBuilt,
     /// A file of an automaton has a fault; files are numbered from 1.
     BadFile {

@@ -1,4 +1,4 @@
-//! The files that a check reads.
+//! The files that a command reads.
 
 ghost use Rattle.std.specs.Prelude.{◌≡◌, ◌≤◌, ◌^◌, ◌<◌, List, ℕ, length, true, IfOk, IfErr, IfSome, Err};
 ghost use Rattle.shelf_io.specs.Counts.{Rose};
@@ -22,7 +22,7 @@ const AUTOMATON_BYTES: u64 = 16_777_216;
 /// The most bytes of a certificate's file.
 const CERTIFICATE_BYTES: u64 = 1_073_741_824;
 
-/// The most states, labels and transitions of each file of a check.
+/// The most states, labels and transitions of each file of a check or a decision.
 const LIMITS: Limits = Limits {
     states: 512,
     labels: 256,
