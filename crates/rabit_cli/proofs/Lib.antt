@@ -1,5 +1,6 @@
 pub mod WordLemmas
 pub mod LookLemmas
+pub mod BackLemmas
 pub mod AnswerLemmas
 pub mod WrittenLemmas
 pub mod OneAnswer

@@ -29,6 +29,7 @@ use Rattle.rabit_cli.specs.declared.answer.Reply.TheVariants.{Plain, Ready}
 use Rattle.rabit_cli.specs.Said.{answer_in, NeedsMemory, WasSaid, IsAnswered, IsIncluded, ShowsIncluded, IsApart, ShowsApart, ShowsListed, ShowsReduced, SaysEachAnswer}
 use Rattle.rabit_cli.proofs.OneAnswer.{one_answer}
 use Rattle.rabit_cli.proofs.DecidedLemmas.{none_reduced}
+use Rattle.rabit_cli.proofs.BackLemmas.{reads_back_same}
 use Rattle.reduce_loop.proofs.PassLemmas.{reduced_same, reduced_settled}
 use Rattle.rabit_cli.proofs.WrittenLemmas.{decided_included, decided_apart, decided_listed}
 use Rattle.rabit_cli.specs.declared.answer.Answer.{Answer}
@@ -197,13 +198,16 @@ reduced_from_answer files (Some (Reduce name look)) t sent sent' within answer s
     let (named, read, (B, is, e)) = made files name look (Reduced t) refl answer in
     let valid : IsAutomaton named.auto = read.3.reading.auto.valid in
     let same_text : t ≡ written B named.labels = same_reduced t (written B named.labels) e in
+    let same = reduced_same named.auto B Buchi look valid within.0 is in
+    let settled = reduced_settled named.auto B Buchi look valid within.0 is in
     record {
       named = named;
       reduced = B;
       read = read;
       is_reduced = is;
-      same = reduced_same named.auto B Buchi look valid within.0 is;
-      settled = reduced_settled named.auto B Buchi look valid within.0 is;
+      same = same;
+      reads_back = reads_back_same reduce_limits read.0 named B look read.3 is same settled;
+      settled = settled;
       printed = sends ∙ ap (append_known sent) same_text;
     }
 

@@ -23,6 +23,7 @@ use Rattle.auto_core.specs.Accept.{Same}
 use Rattle.reduce_loop.specs.Passes.{IsReduced}
 use Rattle.reduce_loop.specs.Settled.{IsSettled}
 use Rattle.rabit_cli.specs.Question.{Question, Check, Include, Reduce}
+use Rattle.rabit_cli.specs.Reducing.{ReadsBackSame}
 use Rattle.rabit_cli.specs.Command.{IsAnswerTo, UnlessRefused, ReadsPair, ReadsWithin, HoldsCertificate, search_limit, reduce_limits}
 use Rattle.rabit_cli.specs.declared.answer.Answer.{Answer}
 use Rattle.rabit_cli.specs.declared.answer.Answer.TheVariants.{Included, NotIncluded, Limit, ReadFault, WriteFault}
@@ -46,7 +47,7 @@ abbrev pub IsSayable : Reply → Type 0
 IsSayable (Plain answer) = IsPrintable answer
 IsSayable (Ready answer made) = made.items ≡ text_for answer
 
--- The text of the reply is still to be made, and takes memory.
+-- Want of memory may be said in place of the reply: its text was not made with it, and it is no fault of the shelf.
 abbrev pub NeedsMemory : Reply → Type 0
 NeedsMemory (Plain answer) = ¬ (answer ≡ ReadFault) × ¬ (answer ≡ WriteFault)
 NeedsMemory (Ready answer made) = ⊥
@@ -127,14 +128,15 @@ pub record IsDecidedListed (files : FileMap) (a b c : List ℕ) (files' : FileMa
   pub held : files' ≡ map.insert files c (text cert)
   pub printed : sent' ≡ append_known sent (text_for (Limit search_limit))
 
--- A reduction was printed: the named file reads as an automaton, and what was sent is the text of its reduced automaton, which accepts
--- the same lassos and in which no step of the reduction has anything left to do.
+-- A reduction was printed: the named file reads as an automaton, and what was sent is the text of its reduced automaton, in which no
+-- step of the reduction has anything left to do. The reduced automaton accepts the same lassos, and so does what its text reads as.
 pub record IsReducedShown (files : FileMap) (name : List ℕ) (look : ℕ) (sent sent' : Option (List ℕ)) : Type 0 where
   pub named : Named
   pub reduced : Automaton
   pub read : ReadsWithin reduce_limits files name named
   pub is_reduced : IsReduced named.auto Buchi look reduced
   pub same : Same named.auto reduced Buchi
+  pub reads_back : ReadsBackSame named (written reduced named.labels)
   pub settled : IsSettled reduced Buchi look
   pub printed : sent' ≡ append_known sent (written reduced named.labels)
 

@@ -91,7 +91,7 @@ impl Answer {
 /// An answer, and its text where that was made before.
 #[derive(Debug, Drop)]
 pub enum Reply {
-    /// The text is still to be made.
+    /// The text is still to be made, or it is that of an automaton.
     Plain(Answer),
     /// The answer comes with its text.
     Ready(Answer, Vec<u8>),

@@ -1,4 +1,4 @@
-//! The program `rabit`: decides Büchi inclusion and checks certificates of it, over files.
+//! The program `rabit`: decides Büchi inclusion, checks certificates of it and reduces automata, over files.
 #![tactic(auto)]
 
 mod answer;

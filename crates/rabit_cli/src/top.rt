@@ -58,12 +58,13 @@ fn say_reply<K: Sink>(alloc: Global, reply: &Reply, out: &mut K) -> u8
 
 /// Does what the words after the program's name ask, and answers the program's status.
 pub fn run<H: Shelf, K: Sink>(alloc: Global, words: &[String], shelf: &mut H, out: &mut K) -> u8
-    // One answer was said, and where the shelf tells its files it is the right one.
+    // One answer was said. Where the shelf tells its files it is the right one, or a fault of the shelf or want of memory.
     ensures answered { IsAnswered (H.held shelf.old) (question_of (map string_bytes words.now)) result
         (K.sent out.old) (K.sent out.new) (K.faults out.old) (K.faults out.new)
         (H.faults shelf.old) (H.faults shelf.new) (H.put_faults shelf.old) (H.put_faults shelf.new) }
 
-    // The answer to the question, whatever it is, comes with its status and its whole text, but for these.
+    // The answer to the question, whatever it is, comes with its status and its whole text, unless a count of the outside rose
+    // or memory was refused.
     ensures exact { IfSome (H.held shelf.old) (λ files.
         SaysEachAnswer files (question_of (map string_bytes words.now)) result
         (K.sent out.old) (K.sent out.new) (K.faults out.old) (K.faults out.new)
@@ -82,7 +83,8 @@ pub fn run<H: Shelf, K: Sink>(alloc: Global, words: &[String], shelf: &mut H, ou
     ensures limit_met { result ≡ 2 → OfBoth (H.held shelf.old) (H.held shelf.new) (λ files files'.
         ShowsListed files (question_of (map string_bytes words.now)) files' (K.sent out.old) (K.sent out.new)) }
 
-    // Reduced: the text of the reduced automaton of the read one was printed; it accepts the same lassos and is settled.
+    // Reduced: the text of the reduced automaton of the read one was printed; it is settled, and accepts the same lassos, as does
+    // what its text reads as.
     ensures reduced { result ≡ 0 → IfSome (H.held shelf.old) (λ files.
         ShowsReduced files (question_of (map string_bytes words.now)) (K.sent out.old) (K.sent out.new)) }
 

@@ -1,0 +1,171 @@
+-- What the printed text of a reduced automaton reads as accepts the lassos of the read automaton.
+use Rattle.std.proofs.Common.{◌≡◌, ℕ, zero, suc, ◌+◌, ◌^◌, ◌<◌, ◌≤◌, Bool, true, false, not, cond, List, [], ◌∷◌, ◌++◌, length, map, filter, get_or, All, Contains, refl, sym, ◌∙◌, ap, subst, arith}
+use Rattle.std.specs.List.{list_any, AllPairs}
+use Rattle.std.proofs.lemmas.List.{length-append}
+use Rattle.std.proofs.lemmas.List.Elements.{All-contains}
+use Rattle.std.specs.List.Sorted.{IsPermutation}
+use Rattle.std.proofs.lemmas.List.Sorted.{IsPermutation-refl}
+use Rattle.auto_core.specs.declared.parts.Trans.{Trans}
+use Rattle.auto_core.specs.Automaton.{Automaton, IsAutomaton, IsInRange, trans}
+use Rattle.auto_core.specs.Accept.{AcceptsLasso, Same}
+use Rattle.auto_core.specs.Build.{IsBuilt}
+use Rattle.auto_core.specs.declared.parts.Mode.TheVariants.{Buchi}
+use Rattle.ba_format.specs.declared.parts.Limits.{Limits}
+use Rattle.ba_format.specs.declared.parts.Named.{Named}
+use Rattle.ba_format.specs.declared.parts.Joined.{Joined}
+use Rattle.ba_format.specs.Joining.{joined_labels, relabelled, IsRelabelled, IsJoined}
+use Rattle.ba_format.specs.Laws.{IsWritable}
+use Rattle.ba_format.specs.Reading.{Reads}
+use Rattle.ba_format.specs.Sight.{same_text, number_in, AreDifferent}
+use Rattle.ba_format.specs.Writing.{written}
+use Rattle.ba_format.proofs.BackLemmas.{written_reads_back}
+use Rattle.ba_format.proofs.LabelLemmas.{labels_fit}
+use Rattle.ba_format.proofs.LawLemmas.{built_once, contains_first, contains_later}
+use Rattle.ba_format.proofs.RenameLemmas.{IsRenaming, renamed_same}
+use Rattle.ba_format.proofs.SightLemmas.{same_text-refl, same_text-equal}
+use Rattle.reduce_loop.specs.declared.steps.Kind.TheVariants.{Trim, Forward, Backward, Delayed}
+use Rattle.reduce_loop.specs.Kinds.{prunings}
+use Rattle.reduce_loop.specs.Passes.{IsReduced}
+use Rattle.reduce_loop.specs.Settled.{IsSettled}
+use Rattle.rabit_cli.specs.Reducing.{ReadsBackSame}
+use Rattle.rabit_cli.proofs.LookLemmas.{reduced_labels}
+
+-- ---- the first labels keep their numbers
+
+differs : (text other : List ℕ) → (other ≡ text → ⊥) → same_text text other ≡ false
+differs text other h = by (same_text text other) refl
+  where
+    by : (b : Bool) → same_text text other ≡ b → b ≡ false
+    by true e = absurd (h (sym (same_text-equal text other e)))
+    by false e = refl
+
+number_here : (labels more : List (List ℕ)) (a : ℕ) → AreDifferent labels → a < length labels → number_in same_text (labels ++ more) (get_or labels a []) ≡ a
+number_here [] more a different lt = absurd (omega arith)
+number_here (x ∷ xs) more zero different lt = ap (λ b. cond (not b) (1 + number_in same_text (xs ++ more) x) 0) (same_text-refl x)
+number_here (x ∷ xs) more (suc k) different lt =
+    let text = get_or xs k [] in
+    let other : same_text text x ≡ false = differs text x (different zero (suc k) [] (omega arith) lt) in
+    let rest = number_here xs more k (λ i j d short within. different (suc i) (suc j) d (omega arith) (omega arith)) (omega arith) in
+    let step = ap (λ b. cond (not b) (1 + number_in same_text (xs ++ more) text) 0) other in
+    let sum : 1 + number_in same_text (xs ++ more) text ≡ suc k = omega (arith, rest) in
+    step ∙ sum
+
+map_itself : (f : Trans → Trans) (ts : List Trans) → ((t : Trans) → Contains ts t → f t ≡ t) → map f ts ≡ ts
+map_itself f [] h = refl
+map_itself f (t ∷ ts) h = λ i. h t (contains_first t ts) i ∷ map_itself f ts (λ u c. h u (contains_later t ts u c)) i
+
+-- ---- an automaton with more labels
+
+abbrev with_labels : Automaton → ℕ → Automaton
+with_labels A n = record { states = A.states; labels = n; initial = A.initial; transitions = A.transitions; accepting = A.accepting }
+
+valid_with : (A : Automaton) (n : ℕ) → IsAutomaton A → A.labels ≤ n → n < 2 ^ 32 → IsAutomaton (with_labels A n)
+valid_with A n valid more few = record {
+  states_fit = valid.states_fit;
+  labels_fit = few;
+  initial_is_state = valid.initial_is_state;
+  in_range = λ k d lt. let r = valid.in_range k d lt in (r.0, r.1, omega (arith, r.2));
+  in_order = valid.in_order;
+  few = valid.few;
+  accepting_in_range = valid.accepting_in_range;
+  accepting_in_order = valid.accepting_in_order;
+}
+
+same_with : (A : Automaton) (n : ℕ) → Same A (with_labels A n) Buchi
+same_with A n = renamed_same A (with_labels A n) (λ q. q) (λ q. Unit {0}) renaming Buchi
+  where
+    renaming : IsRenaming A (with_labels A n) (λ q. q) (λ q. Unit {0})
+    renaming = record {
+      first = tt;
+      initial = refl;
+      stays = λ p a q h m. tt;
+      there = λ p a q h m. m;
+      back = λ p a z h m. (z, refl, m);
+      accepts = λ q h. refl;
+      tells = λ p q hp hq e. e;
+    }
+
+-- over labels that begin with its own it is that automaton
+module _ (A : Automaton) (labels more : List (List ℕ)) (valid : IsAutomaton A) (few : A.labels ≤ length labels) (different : AreDifferent labels) where
+  relabelled_itself : (t : Trans) → Contains A.transitions t → relabelled labels (labels ++ more) t ≡ t
+  relabelled_itself t c =
+      let range = All-contains (IsInRange A.states A.labels) A.transitions t valid.in_range c in
+      let label = number_here labels more t.label different (omega (arith, range.2)) in
+      λ i. trans t.source (label i) t.target
+
+  built_with : (n : ℕ) → n ≡ length (labels ++ more) → A.labels ≤ n → n < 2 ^ 32 → IsRelabelled A labels (labels ++ more) (with_labels A n)
+  built_with n is within fits = record {
+    valid = valid_with A n valid within fits;
+    states_given = refl;
+    labels_given = is;
+    initial_given = refl;
+    transitions_given =
+        let same = map_itself (relabelled labels (labels ++ more)) A.transitions relabelled_itself in
+        subst (λ ts. IsPermutation ts A.transitions) (sym same) (IsPermutation-refl A.transitions);
+    accepting_given = IsPermutation-refl A.accepting;
+  }
+
+-- ---- the text of the reduced automaton
+
+module _ (file_limits : Limits) (bytes : List ℕ) (named : Named) (B : Automaton) (look : ℕ) (reads : Reads bytes file_limits named) (reduced : IsReduced named.auto Buchi look B)
+    (same : Same named.auto B Buchi) (settled : IsSettled B Buchi look)
+  where
+    named_count : named.auto.labels ≡ length named.labels
+    named_count = reads.reading.auto.labels_given ∙ ap length (sym reads.reading.labels)
+
+    labels_stay : B.labels ≡ named.auto.labels
+    labels_stay = reduced_labels Buchi look named.auto B reduced
+
+    fit : IsWritable B named.labels
+    fit =
+        let labels = labels_fit bytes file_limits named reads in
+        let trimmed = settled Trim (contains_first Trim (Forward ∷ Backward ∷ Delayed ∷ prunings)) in
+        record { valid = trimmed.2.valid; all_named = omega (arith, labels_stay, named_count); different = labels.1; fit = labels.0 }
+
+    module _ (limits : Limits) (again : Named) (joined : Joined) (back : Reads (written B named.labels) limits again) (j : IsJoined named again joined) where
+      abbrev more : List (List ℕ)
+      more = filter (λ label. not (list_any (same_text label) named.labels)) again.labels
+
+      joined_count : length joined.labels ≡ length (named.labels ++ more)
+      joined_count = ap length j.labels
+
+      few : length joined.labels < 2 ^ 32
+      few = omega (arith, j.first.valid.labels_fit, j.first.labels_given)
+
+      own_within : named.auto.labels ≤ length joined.labels
+      own_within = omega (arith, named_count, joined_count, length-append named.labels more)
+
+      reduced_within : B.labels ≤ length joined.labels
+      reduced_within = omega (arith, own_within, labels_stay)
+
+      first_is : joined.first ≡ with_labels named.auto (length joined.labels)
+      first_is =
+          built_once named.auto.states (length (named.labels ++ more)) named.auto.initial (map (relabelled named.labels (named.labels ++ more)) named.auto.transitions) named.auto.accepting
+          joined.first (with_labels named.auto (length joined.labels)) (subst (λ l. IsRelabelled named.auto named.labels l joined.first) j.labels j.first)
+          (built_with named.auto named.labels more reads.reading.auto.valid (omega (arith, named_count)) fit.different (length joined.labels) joined_count own_within few)
+
+      abbrev other : Joined
+      other = record { first = with_labels B (length joined.labels); second = joined.second; labels = joined.labels }
+
+      other_joined : IsJoined (record { auto = B; names = []; labels = named.labels }) again other
+      other_joined = record {
+        labels = j.labels;
+        first =
+            subst (λ l. IsRelabelled B named.labels l (with_labels B (length joined.labels))) (sym j.labels)
+            (built_with B named.labels more fit.valid fit.all_named fit.different (length joined.labels) joined_count reduced_within few);
+        second = j.second;
+      }
+
+      last : Same (with_labels B (length joined.labels)) joined.second Buchi
+      last = written_reads_back B named.labels [] limits again other Buchi fit back other_joined
+
+      joined_same : Same joined.first joined.second Buchi
+      joined_same =
+          let n = length joined.labels in
+          subst (λ A. Same A joined.second Buchi) (sym first_is) (
+            λ u v h. last.0 u v ((same_with B n).0 u v (same.0 u v ((same_with named.auto n).1 u v h))),
+            λ u v h. (same_with named.auto n).0 u v (same.1 u v ((same_with B n).1 u v (last.1 u v h))),
+          )
+
+    pub reads_back_same : ReadsBackSame named (written B named.labels)
+    reads_back_same limits again joined back j = joined_same limits again joined back j
