@@ -59,8 +59,14 @@ fn the_reduced_automaton_is_printed(rt: HostRuntime) -> Result<(), Fail> {
     for (text, printed) in rows {
         assert_eq!(rt; reduces(alloc, &[], text, printed)?, (0, true));
     }
-    assert_eq!(rt; reduces(alloc, &["--look", "1"], FAR_ALIKE, FAR_ALIKE)?, (0, true));
-    assert_eq!(rt; reduces(alloc, &["--look", "2"], FAR_ALIKE, FAR_ALIKE_PRUNED)?, (0, true));
+    assert_eq!(rt;
+        reduces(alloc, &["--look", "1"], FAR_ALIKE, FAR_ALIKE)?,
+        (0, true)
+    );
+    assert_eq!(rt;
+        reduces(alloc, &["--look", "2"], FAR_ALIKE, FAR_ALIKE_PRUNED)?,
+        (0, true)
+    );
     let ring = thirty(alloc)?;
     assert_eq!(rt;
         reduces(alloc, &[], ring.as_str(), ring.as_str())?,
