@@ -35,7 +35,7 @@ pub record IsRight (A : Automaton) (X : RankedPairs) : Type 0 where
 abbrev pub AreRankedBelow : ℕ → RankedPairs → Type 0
 AreRankedBelow n X = (p q : ℕ) → HoldsPair X p q → (p < n) × (q < n)
 
--- No pair stands there twice, as with two ranks or with one and without.
+-- No pair stands there in two ways, with two ranks or with one and without.
 abbrev pub HasPairsOnce : RankedPairs → Type 0
 HasPairsOnce X = (p q : ℕ) (o m : Option ℕ) → Contains X (p, q, o) → Contains X (p, q, m) → o ≡ m
 

@@ -53,6 +53,6 @@ pub record IsKept (A : Automaton) (kept : List ℕ) (B : Automaton) : Type 0 whe
 abbrev pub AreUseful : Automaton → Mode → List ℕ → Type 0
 AreUseful A mode states = (q : ℕ) → Contains states q ↔ IsUseful A mode q
 
--- B keeps just the useful states of A.
+-- B keeps just the useful states of A, and the initial one in any case.
 abbrev pub IsTrimmed : Automaton → Mode → Automaton → Type 0
 IsTrimmed A mode B = (kept : List ℕ) × AreUseful A mode kept × IsKept A kept B

@@ -1,16 +1,13 @@
 -- The greatest backward relation: paths by it, and that it relates each state to itself.
-use Rattle.std.proofs.Common.{◌≡◌, ℕ, zero, suc, ◌<◌, ◌≤◌, inl, inr, Bool, true, false, cond, ◌==◌, List, [], ◌∷◌, ◌++◌, refl, sym, ap, ◌∙◌, subst, arith}
-use Rattle.std.proofs.lemmas.Bool.{eqb-true, eq-eqb, cases_eq}
-use Rattle.std.proofs.lemmas.List.Elements.{Contains-append_left, Contains-append_right, Contains-append_cases}
+use Rattle.std.proofs.Common.{◌≡◌, ℕ, zero, suc, ◌<◌, ◌≤◌, inl, inr, List, [], ◌∷◌, sym, ap, ◌∙◌, subst, arith}
+use Rattle.std.proofs.lemmas.Bool.{cases_eq}
 use Rattle.auto_core.proofs.PathLemmas.{Contains-here, Contains-later, Contains-cons_cases, none_in_nil}
 use Rattle.auto_core.proofs.MoveLemmas.{move_in_range}
 use Rattle.auto_core.specs.Automaton.{Automaton, IsAutomaton}
 use Rattle.auto_core.specs.Run.{PathBy}
 use Rattle.auto_core.specs.Game.{BackwardMoves, MatchesBackward, Answers, Round, Holds, ArePairsBelow, StableBackward}
-use Rattle.bit_rel.specs.Relation.{Relation, IsClosed}
 use Rattle.path_laws.proofs.AppliedLemmas.{followed_backward, followed_to_the_end}
-use Rattle.path_laws.proofs.GameLemmas.{close_refl, close_trans}
-use Rattle.backward_sim.specs.Preorders.{IsPreorder, GreatestIsOne, GreatestIsFollowed, GreatestReachesTheEnd, GreatestIsReflexive}
+use Rattle.backward_sim.specs.Preorders.{GreatestIsOne, GreatestIsFollowed, GreatestReachesTheEnd, GreatestIsReflexive}
 
 pub greatest_is_one : GreatestIsOne
 greatest_is_one A k S T s t p q = (λ h. t.has_each S s.in_range s.stable p q h, λ h. s.has_each T t.in_range t.stable p q h)
@@ -66,14 +63,3 @@ greatest_is_reflexive A k S valid some s p lt = s.has_each (same_below A.states)
   where
     below : ArePairsBelow A.states A.states (same_below A.states)
     below p q h = let is = same_holds A.states p q h in let lt = is.1 in let e = is.0 in (lt, omega arith)
-
--- A closure is a preorder.
-pub closed_is_preorder : (n : ℕ) (G R : Relation) → G.size ≡ n → IsClosed G R → IsPreorder n R.pairs
-closed_is_preorder n G R size closed = record {
-  in_range = λ p q h. let is = (closed.pairs p q).0 h in let left = is.0 in let right = is.1 in (omega arith, omega arith);
-  reflexive = λ p lt. (closed.pairs p p).1 (omega arith, omega arith, close_refl (Holds G.pairs) p);
-  transitive = λ p q r h k.
-      let one = (closed.pairs p q).0 h in
-      let two = (closed.pairs q r).0 k in
-      (closed.pairs p r).1 (one.0, two.1, close_trans (Holds G.pairs) p q r one.2 two.2);
-}

@@ -2,7 +2,8 @@
 
 ghost use Rattle.std.specs.Prelude.{◌≡◌, ◌≤◌, IfOk};
 ghost use Rattle.auto_core.specs.Game.{IsGreatestBackward};
-ghost use Rattle.backward_sim.specs.Preorders.{IsPreorder, IsGreatestClosed};
+ghost use Rattle.bit_rel.specs.Relation.{IsPreorder};
+ghost use Rattle.backward_sim.specs.Preorders.{IsGreatestClosed};
 
 use auto_core::{Auto, Memory};
 use bit_rel::Rel;

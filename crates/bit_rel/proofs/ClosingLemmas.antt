@@ -9,7 +9,8 @@ use Rattle.auto_core.proofs.CellLemmas.{cell_at}
 use Rattle.auto_core.proofs.ReachLemmas.{close_trans, close_one, close_refl}
 use Rattle.auto_core.specs.Rows.{cell_of, HasCell}
 use Rattle.auto_core.specs.Reach.{IsTable, Arc}
-use Rattle.auto_core.specs.Game.{Chain, Close}
+use Rattle.auto_core.specs.Game.{Chain, Close, Holds}
+use Rattle.bit_rel.specs.Relation.{Relation, IsClosed, IsPreorder}
 
 -- The table holds the old arcs and each place with itself, only pairs of the closure, and it is closed by way of the places
 -- below `via`.
@@ -244,3 +245,14 @@ pub all_selves :
     → q < w * 64
     → cell_of now w p q ≡ (cell_of old w p q || p == q)
 all_selves old now w n each p q p_in q_near = each p q q_near ∙ ap (λ b. cell_of old w p q || (b && p == q)) (lt-ltb p n p_in)
+
+-- A closure is a preorder.
+pub closed_is_preorder : (n : ℕ) (G R : Relation) → G.size ≡ n → IsClosed G R → IsPreorder n R.pairs
+closed_is_preorder n G R size closed = record {
+  in_range = λ p q h. let is = (closed.pairs p q).0 h in let left = is.0 in let right = is.1 in (omega arith, omega arith);
+  reflexive = λ p lt. (closed.pairs p p).1 (omega arith, omega arith, close_refl (Holds G.pairs) p);
+  transitive = λ p q r h k.
+      let one = (closed.pairs p q).0 h in
+      let two = (closed.pairs q r).0 k in
+      (closed.pairs p r).1 (one.0, two.1, close_trans (Holds G.pairs) p q r one.2 two.2);
+}

@@ -2,3 +2,4 @@ pub mod PairLemmas
 pub mod TableLemmas
 pub mod ClosingLemmas
 pub mod StrictLemmas
+pub mod LengthLemmas

@@ -40,3 +40,9 @@ pub record IsClosed (old new : Relation) : Type 0 where
 pub record IsStrictPart (whole part : Relation) : Type 0 where
   pub size : part.size ≡ whole.size
   pub pairs : (p q : ℕ) → Holds part.pairs p q ↔ Strict (Holds whole.pairs) p q
+
+-- The list relates numbers below n, each to itself, and p to r if it relates p to q and q to r.
+pub record IsPreorder (n : ℕ) (S : List (ℕ × ℕ)) : Type 0 where
+  pub in_range : ArePairsBelow n n S
+  pub reflexive : (p : ℕ) → p < n → Holds S p p
+  pub transitive : (p q r : ℕ) → Holds S p q → Holds S q r → Holds S p r

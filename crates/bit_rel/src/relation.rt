@@ -44,6 +44,18 @@ impl Rel {
         })
     }
 
+    /// The same relation once more.
+    pub fn copied(&self, alloc: Global) -> Result<Rel, Memory>
+        ensures same { IfOk result (λ r. r ≡ self.now) }
+        ensures valid { IfOk result (λ _. IsRelation self.now) }
+    {
+        Ok(Rel {
+            count: self.count,
+            width: self.width,
+            table: self.table.to_vec(alloc)?,
+        })
+    }
+
     /// The number of states.
     pub fn size(&self) -> u32
         ensures count { result ≡ self.now.size }

@@ -7,10 +7,8 @@ use Rattle.auto_core.proofs.MoveLemmas.{move_in_range}
 use Rattle.auto_core.specs.Automaton.{Automaton, IsAutomaton, Moves}
 use Rattle.auto_core.specs.Run.{Path}
 use Rattle.auto_core.specs.Game.{MatchesForward, Answers, Round, Holds, ArePairsBelow, StableForward}
-use Rattle.bit_rel.specs.Relation.{Relation, IsClosed}
 use Rattle.path_laws.proofs.AppliedLemmas.{followed_forward}
-use Rattle.path_laws.proofs.GameLemmas.{close_refl, close_trans}
-use Rattle.direct_sim.specs.Preorders.{IsPreorder, GreatestIsOne, GreatestIsFollowed, GreatestFollowsMoves, GreatestIsReflexive, GreatestIsPreorder}
+use Rattle.direct_sim.specs.Preorders.{GreatestIsOne, GreatestIsFollowed, GreatestFollowsMoves, GreatestIsReflexive, GreatestIsPreorder}
 
 pub greatest_is_one : GreatestIsOne
 greatest_is_one A k S T s t p q = (λ h. t.has_each S s.in_range s.stable p q h, λ h. s.has_each T t.in_range t.stable p q h)
@@ -163,14 +161,3 @@ greatest_follows_moves A S s p q held (a ∷ w) (r ∷ ps) path =
     let here : Holds S r answer.0 = elim answer.3 [ inl is ↦ is | inr more ↦ absurd more ] in
     let rest = greatest_follows_moves A S s r answer.0 here w ps path.1 in
     (answer.0 ∷ rest.0, (answer.1, rest.1), (here, rest.2))
-
--- A closure is a preorder.
-pub closed_is_preorder : (n : ℕ) (G R : Relation) → G.size ≡ n → IsClosed G R → IsPreorder n R.pairs
-closed_is_preorder n G R size closed = record {
-  in_range = λ p q h. let is = (closed.pairs p q).0 h in let left = is.0 in let right = is.1 in (omega arith, omega arith);
-  reflexive = λ p lt. (closed.pairs p p).1 (omega arith, omega arith, close_refl (Holds G.pairs) p);
-  transitive = λ p q r h k.
-      let one = (closed.pairs p q).0 h in
-      let two = (closed.pairs q r).0 k in
-      (closed.pairs p r).1 (one.0, two.1, close_trans (Holds G.pairs) p q r one.2 two.2);
-}

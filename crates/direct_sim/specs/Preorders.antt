@@ -2,15 +2,9 @@
 use Rattle.std.specs.Prelude.{◌≡◌, ℕ, ◌<◌, ◌≤◌, ◌↔◌, List}
 use Rattle.auto_core.specs.Automaton.{Automaton, IsAutomaton, Moves}
 use Rattle.auto_core.specs.Run.{Path}
-use Rattle.auto_core.specs.Game.{MatchesForward, Holds, ArePairsBelow, Close, IsGreatestForward}
-use Rattle.bit_rel.specs.Relation.{Relation, IsClosed}
+use Rattle.auto_core.specs.Game.{MatchesForward, Holds, Close, IsGreatestForward}
+use Rattle.bit_rel.specs.Relation.{Relation, IsClosed, IsPreorder}
 use Rattle.path_laws.specs.Games.{IsFollowed}
-
--- The list relates numbers below n, each to itself, and p to r if it relates p to q and q to r.
-pub record IsPreorder (n : ℕ) (S : List (ℕ × ℕ)) : Type 0 where
-  pub in_range : ArePairsBelow n n S
-  pub reflexive : (p : ℕ) → p < n → Holds S p p
-  pub transitive : (p q r : ℕ) → Holds S p q → Holds S q r → Holds S p r
 
 -- The relation is the closure of the greatest forward relation on the automaton's states.
 pub record IsGreatestClosed (A : Automaton) (k : ℕ) (R : Relation) : Type 0 where

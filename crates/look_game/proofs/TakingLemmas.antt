@@ -1,9 +1,9 @@
 -- Taking pairs away.
-use Rattle.std.proofs.Common.{◌≡◌, ℕ, zero, suc, ◌<◌, ◌≤◌, inl, inr, List, [], ◌∷◌, length, Contains, refl, sym, ◌∙◌, subst, arith}
-use Rattle.auto_core.proofs.PathLemmas.{Contains-here, Contains-later, Contains-cons_cases, none_in_nil}
+use Rattle.std.proofs.Common.{ℕ, zero, suc, ◌≤◌, inl, inr, List, [], ◌∷◌, length, refl, ◌∙◌, subst, arith}
 use Rattle.auto_core.specs.Run.{PathBy}
 use Rattle.auto_core.specs.Game.{Answers, Round, Holds}
-use Rattle.bit_rel.specs.Relation.{Relation, IsRelation, IsBefore, ArePairsAscending, Removes}
+use Rattle.bit_rel.specs.Relation.{Relation, IsRelation, Removes}
+use Rattle.bit_rel.proofs.LengthLemmas.{no_more, fewer}
 use Rattle.look_game.specs.Taking.{Takes, TakesSome}
 use Rattle.look_game.specs.Near.{IsReachedWithin}
 
@@ -56,90 +56,6 @@ round_near M ok V W k p q same h w ps path may =
     let few : length w ≤ k = elim may [ inl e ↦ omega arith | inr short ↦ let lt = short.1 in omega arith ] in
     answers_near M ok V W k p q w ps path few same (h w ps path may)
 
--- An ascending list whose elements are all in another one is no longer.
-before_irrefl : (x y : ℕ × ℕ) → IsBefore x y → IsBefore y x → ⊥
-before_irrefl x y h k = omega arith
-
-not_itself : (x y : ℕ × ℕ) → IsBefore x y → x ≡ y → ⊥
-not_itself x y h e =
-    let P : ℕ × ℕ → Type 0 = λ z. IsBefore x z in
-    let loop : IsBefore x x = subst P (sym e) h in
-    before_irrefl x x loop loop
-
--- what is in the longer list and behind its first element
-rest_has :
-    (x : ℕ × ℕ) (xs ys : List (ℕ × ℕ))
-    → ((z : ℕ × ℕ) → Contains ys z → Contains (x ∷ xs) z)
-    → ((z : ℕ × ℕ) → Contains ys z → IsBefore x z)
-    → (z : ℕ × ℕ)
-    → Contains ys z
-    → Contains xs z
-rest_has x xs ys inside before z h = elim (Contains-cons_cases x z xs (inside z h)) [
-  | inl e ↦ absurd (not_itself x z (before z h) e)
-  | inr later ↦ later
-]
-
-before_trans : (x y z : ℕ × ℕ) → IsBefore x y → IsBefore y z → IsBefore x z
-before_trans x y z h k = grind arith
-
--- the first element of the shorter list is behind the first of the longer one, so all are
-all_behind :
-    (x y : ℕ × ℕ) (xs ys : List (ℕ × ℕ))
-    → ArePairsAscending (x ∷ xs)
-    → ArePairsAscending (y ∷ ys)
-    → Contains xs y
-    → (z : ℕ × ℕ)
-    → Contains (y ∷ ys) z
-    → IsBefore x z
-all_behind x y xs ys a b later z h =
-    let first : IsBefore x y = a.0 y later in
-    let P : ℕ × ℕ → Type 0 = λ u. IsBefore x u in
-    elim (Contains-cons_cases y z ys h) [
-      | inl e ↦ subst P e first
-      | inr behind ↦ before_trans x y z first (b.0 z behind)
-    ]
-
-pub no_longer :
-    (xs ys : List (ℕ × ℕ))
-    → ArePairsAscending xs
-    → ArePairsAscending ys
-    → ((z : ℕ × ℕ) → Contains ys z → Contains xs z)
-    → length ys ≤ length xs
-no_longer xs [] a b inside = omega arith
-no_longer [] (y ∷ ys) a b inside = absurd (none_in_nil y (inside y (Contains-here y y ys refl)))
-no_longer (x ∷ xs) (y ∷ ys) a b inside = elim (Contains-cons_cases x y xs (inside y (Contains-here y y ys refl))) [
-  | inl e ↦
-      let P : ℕ × ℕ → Type 0 = λ u. (z : ℕ × ℕ) → Contains ys z → IsBefore u z in
-      let rest = no_longer xs ys a.1 b.1 (rest_has x xs ys (λ z h. inside z (Contains-later y z ys h)) (subst P (sym e) b.0)) in
-      omega arith
-  | inr later ↦
-      let rest = no_longer xs (y ∷ ys) a.1 b (rest_has x xs (y ∷ ys) inside (all_behind x y xs ys a b later)) in
-      omega arith
-]
-
--- it is shorter if it lacks one
-pub shorter :
-    (xs ys : List (ℕ × ℕ))
-    → ArePairsAscending xs
-    → ArePairsAscending ys
-    → ((z : ℕ × ℕ) → Contains ys z → Contains xs z)
-    → (w : ℕ × ℕ)
-    → Contains xs w
-    → (Contains ys w → ⊥)
-    → length ys < length xs
-shorter [] ys a b inside w has lacks = absurd (none_in_nil w has)
-shorter (x ∷ xs) [] a b inside w has lacks = omega arith
-shorter (x ∷ xs) (y ∷ ys) a b inside w has lacks = elim (Contains-cons_cases x y xs (inside y (Contains-here y y ys refl))) [
-  | inl e ↦
-      let P : ℕ × ℕ → Type 0 = λ u. (z : ℕ × ℕ) → Contains ys z → IsBefore u z in
-      let behind : Contains xs w = elim (Contains-cons_cases x w xs has) [ inl f ↦ absurd (lacks (Contains-here y w ys (sym e ∙ f))) | inr later ↦ later ] in
-      let rest = shorter xs ys a.1 b.1 (rest_has x xs ys (λ z h. inside z (Contains-later y z ys h)) (subst P (sym e) b.0)) w behind (λ h. lacks (Contains-later y w ys h)) in
-      omega arith
-  | inr later ↦
-      let rest = no_longer xs (y ∷ ys) a.1 b (rest_has x xs (y ∷ ys) inside (all_behind x y xs ys a b later)) in
-      omega arith
-]
-
 module _ (M : ℕ → ℕ → ℕ → Type 0) (ok : ℕ → ℕ → Type 0) (k : ℕ) where
   pub takes_none : (R : Relation) → IsRelation R → Takes M ok k R R
   takes_none R valid = record { size = refl; valid = valid; within = λ p q h. h; leaves = λ T stable inside. inside }
@@ -171,8 +87,8 @@ module _ (M : ℕ → ℕ → ℕ → Type 0) (ok : ℕ → ℕ → Type 0) (k :
   }
 
   pub takes_upto : (R S : Relation) → IsRelation R → Takes M ok k R S → length S.pairs ≤ length R.pairs
-  takes_upto R S valid takes = no_longer R.pairs S.pairs valid.in_order takes.valid.in_order (λ z h. takes.within z.0 z.1 h)
+  takes_upto R S valid takes = no_more R S valid takes.valid takes.within
 
 pub takes_some : (R S : Relation) (p q : ℕ) → IsRelation R → IsRelation S → Removes R S p q → Holds R.pairs p q → TakesSome R S
 takes_some R S p q valid after removes held =
-    shorter R.pairs S.pairs valid.in_order after.in_order (λ z h. ((removes.pairs z.0 z.1).0 h).0) (p, q) held (λ h. ((removes.pairs p q).0 h).1 ((refl, refl)))
+    fewer R S p q valid after (λ r s h. ((removes.pairs r s).0 h).0) held (λ h. ((removes.pairs p q).0 h).1 ((refl, refl)))

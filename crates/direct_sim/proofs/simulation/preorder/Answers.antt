@@ -1,4 +1,4 @@
-use Rattle.direct_sim.proofs.GreatestLemmas.{closed_is_preorder}
+use Rattle.bit_rel.proofs.ClosingLemmas.{closed_is_preorder}
 use Rattle.direct_sim.proofs.simulation.preorder.Goals as goal
 
 pub returns-clause-preorder : goal.returns-clause-preorder
