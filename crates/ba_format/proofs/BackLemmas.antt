@@ -150,18 +150,18 @@ only_state_lines [] = refl
 only_state_lines (q ∷ qs) = ap (λ l. name_text q ∷ l) (only_state_lines qs)
 
 -- the names and labels that are read
-abbrev NS : Automaton → List (List ℕ) → List (List ℕ)
+abbrev pub NS : Automaton → List (List ℕ) → List (List ℕ)
 NS A labels = names_of (written_entries A labels)
 
-abbrev LS : Automaton → List (List ℕ) → List (List ℕ)
+abbrev pub LS : Automaton → List (List ℕ) → List (List ℕ)
 LS A labels = labels_of (written_entries A labels)
 
 -- the number that a state has where it is read
-abbrev renamed : Automaton → List (List ℕ) → ℕ → ℕ
+abbrev pub renamed : Automaton → List (List ℕ) → ℕ → ℕ
 renamed A labels q = number_in same_text (NS A labels) (name_text q)
 
 -- a transition in the numbers of what is read
-abbrev renumbered : Automaton → List (List ℕ) → Trans → Trans
+abbrev pub renumbered : Automaton → List (List ℕ) → Trans → Trans
 renumbered A labels t = trans (renamed A labels t.source) (number_in same_text (LS A labels) (get_or labels t.label [])) (renamed A labels t.target)
 
 -- a state that stands in the text
@@ -216,7 +216,7 @@ module _ (A : Automaton) (labels : List (List ℕ)) (w : IsWritable A labels) wh
   tells p q bp bq hp hq e = name_tells p q (omega arith) (omega arith) (number_tells (NS A labels) (name_text p) (name_text q) hp hq e)
 
   -- the transitions of the lines
-  transitions_listed : flat_map (transitions_in (NS A labels) (LS A labels)) (written_entries A labels) ≡ map (renumbered A labels) A.transitions
+  pub transitions_listed : flat_map (transitions_in (NS A labels) (LS A labels)) (written_entries A labels) ≡ map (renumbered A labels) A.transitions
   transitions_listed =
       let T = transitions_in (NS A labels) (LS A labels) in
       flat_map-append T (map (transition_entry_of labels) A.transitions) (map (λ q. StateLine (name_text q)) (accepting_written A))

@@ -99,7 +99,7 @@ trimmed_ends xs h =
 
 -- ---- the label of a line without a fault of its own
 
-if_none : (b : Bool) (kind : BaKind) (rest : Option BaKind) → (if b then Some kind else rest) ≡ None → (b ≡ false) × (rest ≡ None)
+pub if_none : (b : Bool) (kind : BaKind) (rest : Option BaKind) → (if b then Some kind else rest) ≡ None → (b ≡ false) × (rest ≡ None)
 if_none true kind rest h = cc
 if_none false kind rest h = (refl, h)
 
@@ -170,7 +170,7 @@ or_none : (own later : Option BaKind) → option_or own later ≡ None → own �
 or_none None later h = refl
 or_none (Some kind) later h = h
 
-later_none : (n : ℕ) (kind : Option BaKind) (rest : Option BaFault) → or_later n kind rest ≡ None → (kind ≡ None) × (rest ≡ None)
+pub later_none : (n : ℕ) (kind : Option BaKind) (rest : Option BaFault) → or_later n kind rest ≡ None → (kind ≡ None) × (rest ≡ None)
 later_none n None rest h = (refl, h)
 later_none n (Some kind) rest h = cc
 

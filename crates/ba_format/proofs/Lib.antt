@@ -10,3 +10,5 @@ pub mod RenameLemmas
 pub mod WrittenLemmas
 pub mod BackLemmas
 pub mod LabelLemmas
+pub mod CountLemmas
+pub mod FaultlessLemmas

@@ -193,7 +193,7 @@ noted-most same seen x = by (list_any (same x) seen)
     by true = omega arith
     by false = omega (arith, length-append seen (x ∷ []))
 
-seen-most : {X : Type 0} (same : X → X → Bool) (seen xs : List X) → length (fold (noted same) seen xs) ≤ length seen + length xs
+pub seen-most : {X : Type 0} (same : X → X → Bool) (seen xs : List X) → length (fold (noted same) seen xs) ≤ length seen + length xs
 seen-most same seen [] = omega arith
 seen-most same seen (x ∷ xs) = omega (arith, noted-most same seen x, seen-most same (noted same seen x) xs)
 

@@ -1,5 +1,5 @@
 -- Laws of reading, joining and writing.
-use Rattle.std.specs.Prelude.{◌≡◌, ℕ, ◌-◌, ◌<◌, ◌≤◌, false, List, length, All, slice_index, None}
+use Rattle.std.specs.Prelude.{◌≡◌, ℕ, ◌+◌, ◌-◌, ◌^◌, ◌<◌, ◌≤◌, false, List, length, All, slice_index, None}
 use Rattle.std.specs.List.{list_any}
 use Rattle.auto_core.specs.Automaton.{Automaton, IsAutomaton}
 use Rattle.auto_core.specs.Accept.{Same}
@@ -10,13 +10,27 @@ use Rattle.ba_format.specs.declared.parts.Joined.{Joined}
 use Rattle.ba_format.specs.Sight.{AreDifferent}
 use Rattle.ba_format.specs.Grammar.{is_bad, is_blank, is_comma, arrows}
 use Rattle.ba_format.specs.Faults.{fault_of, entries_of, names_of, labels_of, transitions_of}
-use Rattle.ba_format.specs.Reading.{Reads}
+use Rattle.ba_format.specs.Reading.{Reads, IsWithin}
 use Rattle.ba_format.specs.Joining.{IsJoined}
 use Rattle.ba_format.specs.Writing.{written}
 
 -- A text reads as one automaton with names and labels at most.
 abbrev pub ReadsAsOne : Type 0
 ReadsAsOne = (text : List ℕ) (limits : Limits) (one two : Named) → Reads text limits one → Reads text limits two → one ≡ two
+
+-- A text without a fault reads as some automaton with names and labels, if a u32 holds each of the limits.
+abbrev pub FaultlessReads : Type 0
+FaultlessReads =
+    (text : List ℕ) (limits : Limits)
+    → limits.states < 2 ^ 32
+    → limits.labels < 2 ^ 32
+    → limits.transitions < 2 ^ 32
+    → fault_of text limits ≡ None
+    → (read : Named) × Reads text limits read
+
+-- What a text reads as stays within the limits.
+abbrev pub ReadIsWithin : Type 0
+ReadIsWithin = (text : List ℕ) (limits : Limits) (named : Named) → Reads text limits named → IsWithin limits named
 
 -- Two read automata are joined in one way.
 abbrev pub JoinsAsOne : Type 0
@@ -53,6 +67,24 @@ pub record CountsFit (text : List ℕ) (limits : Limits) : Type 0 where
 -- A written text whose counts stay within the limits has no fault.
 abbrev pub WrittenReads : Type 0
 WrittenReads = (A : Automaton) (labels : List (List ℕ)) (limits : Limits) → IsWritable A labels → CountsFit (written A labels) limits → fault_of (written A labels) limits ≡ None
+
+-- A written text brings no more labels and transitions than the automaton has, and at most one state more: that of the extra
+-- accepting line.
+abbrev pub WrittenCounts : Type 0
+WrittenCounts =
+    (A : Automaton) (labels : List (List ℕ))
+    → IsWritable A labels
+    → CountsFit (written A labels) (record { states = A.states + 1; labels = A.labels; transitions = length A.transitions })
+
+-- So it has no fault within limits that leave room for the automaton and for one state more.
+abbrev pub WrittenIsRead : Type 0
+WrittenIsRead =
+    (A : Automaton) (labels : List (List ℕ)) (limits : Limits)
+    → IsWritable A labels
+    → A.states + 1 ≤ limits.states
+    → A.labels ≤ limits.labels
+    → length A.transitions ≤ limits.transitions
+    → fault_of (written A labels) limits ≡ None
 
 -- What it reads as and the written automaton, joined by their labels' texts, accept the same lassos and the same words.
 abbrev pub WrittenReadsBack : Type 0
