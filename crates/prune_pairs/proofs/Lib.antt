@@ -1,4 +1,5 @@
 pub mod FindLemmas
+pub mod TargetLemmas
 pub mod CutLemmas
 pub mod RemoveLemmas
 pub mod TowerLemmas

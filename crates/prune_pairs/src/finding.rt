@@ -1,10 +1,10 @@
 //! The least transition that is better than a given one.
 
-ghost use Rattle.std.specs.Prelude.{◌≡◌, ◌<◌, ◌≤◌, ℕ, length, IfSome, IfNone};
-ghost use Rattle.auto_core.specs.Automaton.{trans_at};
+ghost use Rattle.std.specs.Prelude.{◌≡◌, ◌+◌, ◌*◌, ◌<◌, ◌≤◌, ◌⊎◌, ℕ, length, IfSome, IfNone};
+ghost use Rattle.auto_core.specs.Automaton.{IsAutomaton, trans_at};
 ghost use Rattle.auto_core.specs.Game.{Holds};
 ghost use Rattle.auto_core.specs.Pruning.{IsBetterAt, HasBetter};
-ghost use Rattle.prune_pairs.specs.Least.{IsLeastOf, HasNone, IsLeastBetter};
+ghost use Rattle.prune_pairs.specs.Least.{IsLeastOf, HasNone, IsTransition, HasNoTransition, AreSuccessorsFrom, IsLeastBetter};
 
 use crate::comparing::{at_source, better};
 use auto_core::{Auto, Span};
@@ -36,8 +36,66 @@ fn first_within(
     None
 }
 
-/// The least transition out of the state that is better than `t`.
-fn first_out_of(
+/// The range of the transitions out of the state with the label whose targets are `target` or more: among the successors by a label the
+/// targets ascend.
+fn successors_from(automaton: &Auto, source: u32, label: u32, target: u32) -> Span
+    requires { source < automaton.now.states }
+    ensures range { AreSuccessorsFrom automaton.now source label target result.begin result.end }
+    ensures valid { IsAutomaton automaton.now }
+{
+    let span = automaton.successors(source, label);
+    let moves = &automaton.transitions()[span.begin as usize..span.end as usize];
+    let below = moves.partition_point(|t| t.target < target) as u32;
+    Span {
+        begin: span.begin + below,
+        end: span.end,
+    }
+}
+
+/// The transition with these three parts.
+fn transition_of(automaton: &Auto, source: u32, label: u32, target: u32) -> Option<u32>
+    requires { source < automaton.now.states }
+    ensures some { IfSome result (IsTransition automaton.now source label target) }
+    ensures none { IfNone result (HasNoTransition automaton.now source label target) }
+{
+    let span = successors_from(automaton, source, label, target);
+    if span.begin == span.end {
+        return None;
+    }
+    if automaton.transitions()[span.begin as usize].target == target {
+        Some(span.begin)
+    } else {
+        None
+    }
+}
+
+/// The transition out of the state that is better than `t` by pair 2. There is at most one: it has the label and the target of `t`.
+fn first_to_same_target(
+    automaton: &Auto,
+    back: &Rel,
+    ahead: &Rel,
+    t: u32,
+    source: u32,
+) -> Option<u32>
+    requires back { back.now.size ≡ automaton.now.states }
+    requires t { t < length automaton.now.transitions }
+    requires source { source < automaton.now.states }
+    ensures some { IfSome result (IsLeastOf (λ u. (trans_at automaton.now u).source ≡ source) (IsBetterAt automaton.now 2 (Holds back.now.pairs) (Holds ahead.now.pairs) t)) }
+    ensures none { IfNone result (HasNone (λ u. (trans_at automaton.now u).source ≡ source) (IsBetterAt automaton.now 2 (Holds back.now.pairs) (Holds ahead.now.pairs) t)) }
+{
+    let step = automaton.transitions()[t as usize];
+    let Some(by) = transition_of(automaton, source, step.label, step.target) else {
+        return None;
+    };
+    if better(automaton, 2, back, ahead, t, by) {
+        Some(by)
+    } else {
+        None
+    }
+}
+
+/// The least transition out of the state that is better than `t`: among those with the label of `t`.
+fn first_successor(
     automaton: &Auto,
     pair: u32,
     back: &Rel,
@@ -59,7 +117,31 @@ fn first_out_of(
     first_within(automaton, pair, back, ahead, t, span)
 }
 
-/// The same for pairs 3 and 4: only a state that the pair relates to the source of `t` has such transitions.
+/// The least transition out of the state that is better than `t`.
+fn first_out_of(
+    automaton: &Auto,
+    pair: u32,
+    back: &Rel,
+    ahead: &Rel,
+    t: u32,
+    source: u32,
+) -> Option<u32>
+    requires pair_from { 1 ≤ pair }
+    requires pair_upto { pair ≤ 4 }
+    requires back { ¬ (pair ≡ 1) → back.now.size ≡ automaton.now.states }
+    requires ahead { ¬ (pair ≡ 2) → ahead.now.size ≡ automaton.now.states }
+    requires t { t < length automaton.now.transitions }
+    requires source { source < automaton.now.states }
+    ensures some { IfSome result (IsLeastOf (λ u. (trans_at automaton.now u).source ≡ source) (IsBetterAt automaton.now pair (Holds back.now.pairs) (Holds ahead.now.pairs) t)) }
+    ensures none { IfNone result (HasNone (λ u. (trans_at automaton.now u).source ≡ source) (IsBetterAt automaton.now pair (Holds back.now.pairs) (Holds ahead.now.pairs) t)) }
+{
+    match pair {
+        2 => first_to_same_target(automaton, back, ahead, t, source),
+        _ => first_successor(automaton, pair, back, ahead, t, source),
+    }
+}
+
+/// The same for pairs 2 to 4: only a state that the pair relates to the source of `t` has such transitions.
 fn first_out_of_related(
     automaton: &Auto,
     pair: u32,
@@ -68,10 +150,10 @@ fn first_out_of_related(
     t: u32,
     source: u32,
 ) -> Option<u32>
-    requires pair_from { 3 ≤ pair }
+    requires pair_from { 2 ≤ pair }
     requires pair_upto { pair ≤ 4 }
     requires back { back.now.size ≡ automaton.now.states }
-    requires ahead { ahead.now.size ≡ automaton.now.states }
+    requires ahead { ¬ (pair ≡ 2) → ahead.now.size ≡ automaton.now.states }
     requires t { t < length automaton.now.transitions }
     requires source { source < automaton.now.states }
     ensures some { IfSome result (IsLeastOf (λ u. (trans_at automaton.now u).source ≡ source) (IsBetterAt automaton.now pair (Holds back.now.pairs) (Holds ahead.now.pairs) t)) }
@@ -85,17 +167,27 @@ fn first_out_of_related(
     }
 }
 
-/// The least transition that is better than `t`, for pairs 3 and 4: the states in order, since transitions are sorted by source.
-fn first_by_source(automaton: &Auto, pair: u32, back: &Rel, ahead: &Rel, t: u32) -> Option<u32>
-    requires pair_from { 3 ≤ pair }
+/// The same for the states from `begin` up to `end`: in order, since transitions are sorted by source.
+fn first_out_of_range(
+    automaton: &Auto,
+    pair: u32,
+    back: &Rel,
+    ahead: &Rel,
+    t: u32,
+    begin: u32,
+    end: u32,
+) -> Option<u32>
+    requires sound { IsAutomaton automaton.now }
+    requires pair_from { 2 ≤ pair }
     requires pair_upto { pair ≤ 4 }
     requires back { back.now.size ≡ automaton.now.states }
-    requires ahead { ahead.now.size ≡ automaton.now.states }
+    requires ahead { ¬ (pair ≡ 2) → ahead.now.size ≡ automaton.now.states }
     requires t { t < length automaton.now.transitions }
-    ensures some { IfSome result (IsLeastBetter automaton.now pair (Holds back.now.pairs) (Holds ahead.now.pairs) t) }
-    ensures none { IfNone result (HasBetter automaton.now pair (Holds back.now.pairs) (Holds ahead.now.pairs) t → ⊥) }
+    requires within { end ≤ automaton.now.states }
+    ensures some { IfSome result (IsLeastOf (λ u. (begin ≤ (trans_at automaton.now u).source) × ((trans_at automaton.now u).source < end)) (IsBetterAt automaton.now pair (Holds back.now.pairs) (Holds ahead.now.pairs) t)) }
+    ensures none { IfNone result (HasNone (λ u. (begin ≤ (trans_at automaton.now u).source) × ((trans_at automaton.now u).source < end)) (IsBetterAt automaton.now pair (Holds back.now.pairs) (Holds ahead.now.pairs) t)) }
 {
-    for source in 0..automaton.states() {
+    for source in begin..end {
         match first_out_of_related(automaton, pair, back, ahead, t, source) {
             Some(by) => return Some(by),
             None => {}
@@ -104,19 +196,41 @@ fn first_by_source(automaton: &Auto, pair: u32, back: &Rel, ahead: &Rel, t: u32)
     None
 }
 
-/// The least transition that is better than `t`, for pair 2: among the transitions into the same state.
-fn first_into(automaton: &Auto, back: &Rel, ahead: &Rel, t: u32) -> Option<u32>
-    requires back { back.now.size ≡ automaton.now.states }
-    requires t { t < length automaton.now.transitions }
-    ensures some { IfSome result (IsLeastBetter automaton.now 2 (Holds back.now.pairs) (Holds ahead.now.pairs) t) }
-    ensures none { IfNone result (HasBetter automaton.now 2 (Holds back.now.pairs) (Holds ahead.now.pairs) t → ⊥) }
+/// The first number past the bits of the word, and at most the number of states.
+fn end_of_word(states: u32, word: usize) -> u32
+    requires { word * 64 < states }
+    ensures end { (result ≡ states) ⊎ (result ≡ word * 64 + 64) }
+    ensures within { result ≤ states }
+    ensures upto { result ≤ word * 64 + 64 }
 {
-    let target = automaton.transitions()[t as usize].target;
-    let into = automaton.predecessors(target);
-    for at in 0..into.len() {
-        let by = into[at];
-        if better(automaton, 2, back, ahead, t, by) {
-            return Some(by);
+    let end = word * 64 + 64;
+    if end < states as usize {
+        end as u32
+    } else {
+        states
+    }
+}
+
+/// The least transition that is better than `t`, for pairs 2 to 4: the states that the row of the source of `t` holds, word by word.
+fn first_by_source(automaton: &Auto, pair: u32, back: &Rel, ahead: &Rel, t: u32) -> Option<u32>
+    requires pair_from { 2 ≤ pair }
+    requires pair_upto { pair ≤ 4 }
+    requires back { back.now.size ≡ automaton.now.states }
+    requires ahead { ¬ (pair ≡ 2) → ahead.now.size ≡ automaton.now.states }
+    requires t { t < length automaton.now.transitions }
+    ensures some { IfSome result (IsLeastBetter automaton.now pair (Holds back.now.pairs) (Holds ahead.now.pairs) t) }
+    ensures none { IfNone result (HasBetter automaton.now pair (Holds back.now.pairs) (Holds ahead.now.pairs) t → ⊥) }
+{
+    let states = automaton.states();
+    let row = back.row(automaton.transitions()[t as usize].source);
+    for word in 0..row.len() {
+        if row[word] != 0 {
+            let begin = (word * 64) as u32;
+            let end = end_of_word(states, word);
+            match first_out_of_range(automaton, pair, back, ahead, t, begin, end) {
+                Some(by) => return Some(by),
+                None => {}
+            }
         }
     }
     None
@@ -145,7 +259,6 @@ pub fn first_better(automaton: &Auto, pair: u32, back: &Rel, ahead: &Rel, t: u32
 {
     match pair {
         1 => first_beside(automaton, back, ahead, t),
-        2 => first_into(automaton, back, ahead, t),
         _ => first_by_source(automaton, pair, back, ahead, t),
     }
 }

@@ -1,7 +1,7 @@
 use Rattle.std.proofs.lemmas.Option.{IfSome_then}
 use Rattle.auto_core.specs.Game.{Holds}
 use Rattle.prune_pairs.proofs.FindLemmas.{letter_read, least_out_of, none_out_of, if_none_then}
-use Rattle.prune_pairs.proofs.finding.first_out_of.Goals as goal
+use Rattle.prune_pairs.proofs.finding.first_successor.Goals as goal
 
 pub returns-clause-some : goal.returns-clause-some
 returns-clause-some c =
