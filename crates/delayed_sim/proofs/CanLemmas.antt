@@ -1,9 +1,9 @@
 -- The ranks that pairs can have.
-use Rattle.std.proofs.Common.{◌≡◌, ℕ, zero, suc, ◌<◌, ◌≤◌, ◌⊎◌, inl, inr, Some, List, refl, sym, subst, arith}
+use Rattle.std.proofs.Common.{◌≡◌, ℕ, zero, suc, ◌≤◌, inl, inr, Some, subst, arith}
 use Rattle.std.proofs.lemmas.Bool.{cases_eq}
-use Rattle.auto_core.specs.Automaton.{Automaton, Moves, IsAccepting}
+use Rattle.auto_core.specs.Automaton.{Automaton, IsAccepting}
 use Rattle.auto_core.specs.Delayed.{RankedPairs, HoldsPair, HasRank, IsRight}
-use Rattle.delayed_sim.specs.Levels.{CanHave, IsLeastRank}
+use Rattle.delayed_sim.specs.Levels.{CanHave}
 
 module _ (A : Automaton) (R : ℕ → ℕ → Type 0) where
   pub can_holds : (r p q : ℕ) → CanHave A R r p q → R p q

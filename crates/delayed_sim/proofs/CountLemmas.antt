@@ -1,11 +1,11 @@
 -- Counting the transitions that wait.
 use Rattle.std.specs.Prelude.{if◌then◌else◌}
-use Rattle.std.proofs.Common.{◌≡◌, ℕ, zero, suc, ◌+◌, ◌<◌, ◌≤◌, Bool, true, false, ◌&&◌, not, ◌==◌, length, List, inl, inr, refl, sym, ap, ◌∙◌, subst, arith}
-use Rattle.std.proofs.lemmas.Bool.{cases_eq, eq-eqb, ne_eqb, eqb-true, false≢true}
+use Rattle.std.proofs.Common.{◌≡◌, ℕ, zero, suc, ◌+◌, ◌<◌, Bool, true, false, ◌&&◌, not, ◌==◌, length, List, inl, inr, refl, sym, ap, ◌∙◌, subst, arith}
+use Rattle.std.proofs.lemmas.Bool.{cases_eq, eq-eqb, eqb-true, false≢true}
 use Rattle.auto_core.specs.Automaton.{Automaton, trans_at}
 use Rattle.auto_core.specs.Rows.{cell_of}
 use Rattle.auto_core.specs.Useful.{count_below}
-use Rattle.delayed_sim.specs.Boards.{width_of, is_waiting, waiting, IsNoted}
+use Rattle.delayed_sim.specs.Boards.{width_of, is_waiting, waiting}
 
 -- what a test adds to the count
 abbrev adds : Bool → ℕ

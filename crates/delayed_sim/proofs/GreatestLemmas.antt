@@ -1,9 +1,9 @@
 -- The greatest delayed relation.
 use Rattle.std.specs.Prelude.{if◌then◌else◌}
-use Rattle.std.proofs.Common.{◌≡◌, ℕ, zero, suc, ◌+◌, ◌*◌, ◌<◌, ◌≤◌, ◌⊎◌, ◌↔◌, inl, inr, ◌==◌, Bool, Option, None, Some, List, [], ◌∷◌, length, Contains, refl, sym, ap, ◌∙◌, subst, arith}
-use Rattle.std.proofs.lemmas.Bool.{cases_eq, ne_eqb}
-use Rattle.auto_core.specs.Automaton.{Automaton, IsAutomaton, Moves, IsAccepting}
-use Rattle.auto_core.specs.Game.{Holds, IsWithin}
+use Rattle.std.proofs.Common.{◌≡◌, ℕ, zero, suc, ◌+◌, ◌<◌, ◌≤◌, inl, inr, ◌==◌, Bool, Option, None, Some, List, [], ◌∷◌, length, refl, sym, ap, ◌∙◌, subst, arith}
+use Rattle.std.proofs.lemmas.Bool.{ne_eqb}
+use Rattle.auto_core.specs.Automaton.{Automaton, Moves, IsAccepting}
+use Rattle.auto_core.specs.Game.{Holds}
 use Rattle.auto_core.specs.Delayed.{RankedPairs, HoldsPair, HasRank, IsRight, IsGreatestDelayed, AreRankedBelow}
 use Rattle.auto_core.proofs.PathLemmas.{none_in_nil}
 use Rattle.bit_rel.specs.Relation.{Relation, IsRelation}
@@ -16,7 +16,7 @@ use Rattle.delayed_sim.proofs.RankLemmas.{ranks_from, rank_tells, ranked_tells, 
 use Rattle.delayed_sim.proofs.CanLemmas.{right_can, can_same, can_accepting}
 use Rattle.delayed_sim.proofs.NoteLemmas.{none_is_some}
 use Rattle.delayed_sim.proofs.TakingLemmas.{answers_more, shrinks_then}
-use Rattle.delayed_sim.proofs.PairLengths.{fewer, no_more}
+use Rattle.bit_rel.proofs.LengthLemmas.{fewer, no_more}
 
 -- pairs that were dropped are in no right relation
 pub drops_shrinks : (A : Automaton) (ranks : List (Option ℕ)) (R S : Relation) (gone : List Pair) → R.size ≡ A.states → IsRelation R → AreLeastRanks A (Holds R.pairs) ranks → Drops A ranks R [] S gone → Shrinks A R S

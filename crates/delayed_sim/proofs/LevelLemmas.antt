@@ -1,22 +1,20 @@
 -- From one level of ranks to the next, and the last one.
-use Rattle.std.proofs.Common.{◌≡◌, ℕ, zero, suc, ◌+◌, ◌*◌, ◌<◌, ◌≤◌, ◌⊎◌, ◌↔◌, inl, inr, Bool, true, false, Option, None, Some, List, [], ◌∷◌, length, Contains, refl, sym, ap, ◌∙◌, subst, arith}
+use Rattle.std.proofs.Common.{◌≡◌, ℕ, zero, suc, ◌<◌, ◌≤◌, ◌↔◌, inl, inr, List, [], ◌∷◌, length, Contains, refl, sym, ap, subst, arith}
 use Rattle.std.proofs.lemmas.Bool.{cases_eq, cases_lt}
-use Rattle.auto_core.specs.Automaton.{Automaton, IsAutomaton, Moves, IsAccepting, trans, trans_at}
+use Rattle.auto_core.specs.Automaton.{Automaton, IsAutomaton, Moves, IsAccepting, trans_at}
 use Rattle.auto_core.specs.declared.parts.Trans.{Trans}
 use Rattle.auto_core.specs.Game.{Holds}
 use Rattle.auto_core.proofs.PathLemmas.{none_in_nil}
 use Rattle.auto_core.proofs.MoveLemmas.{number_of, move_at, move_in_range}
-use Rattle.bit_rel.specs.Relation.{Relation, IsRelation}
-use Rattle.delayed_sim.specs.Stored.{rank_at}
 use Rattle.delayed_sim.specs.Settling.{pair_of}
-use Rattle.delayed_sim.specs.Levels.{CanHave, IsLeastRank}
-use Rattle.delayed_sim.specs.Boards.{width_of, IsNoted, waiting, rank_on, IsRanked, IsOnBoard, IsCounted, HasRanked, IsFit, Notes, IsAnswerBy, IsLevel, AreLeastRanks}
+use Rattle.delayed_sim.specs.Levels.{CanHave}
+use Rattle.delayed_sim.specs.Boards.{IsNoted, waiting, rank_on, IsRanked, IsOnBoard, IsFit, Notes, IsAnswerBy, IsLevel, AreLeastRanks}
 use Rattle.delayed_sim.specs.declared.pairs.Pair.{Pair}
 use Rattle.delayed_sim.specs.declared.levels.Board.{Board}
 use Rattle.delayed_sim.proofs.CountLemmas.{all_noted, none_waits}
-use Rattle.delayed_sim.proofs.CanLemmas.{can_holds, can_upto, can_accepting}
+use Rattle.delayed_sim.proofs.CanLemmas.{can_upto, can_accepting}
 use Rattle.delayed_sim.proofs.NoteLemmas.{none_is_some, some_is}
-use Rattle.delayed_sim.proofs.PairLengths.{no_more, fewer}
+use Rattle.bit_rel.proofs.LengthLemmas.{no_more, fewer}
 
 -- a transition with this number, as a move
 move_of_number : (A : Automaton) (t p : ℕ) → t < length A.transitions → (trans_at A t).source ≡ p → Moves A p (trans_at A t).label (trans_at A t).target

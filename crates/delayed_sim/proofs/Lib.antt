@@ -1,7 +1,6 @@
 pub mod RankLemmas
 pub mod RowLemmas
 pub mod CountLemmas
-pub mod PairLengths
 pub mod TakingLemmas
 pub mod CanLemmas
 pub mod NoteLemmas

@@ -5,13 +5,13 @@ use Rattle.std.proofs.lemmas.Nat.{same_from_place, mul-add-lt}
 use Rattle.std.proofs.lemmas.List.{get_or-set_same, get_or-set_other, length-set, get_or_default, take_more, take_all}
 use Rattle.std.proofs.lemmas.List.Elements.{Contains-append_left, Contains-append_right, Contains-append_cases}
 use Rattle.auto_core.proofs.MoveLemmas.{move_at, move_in_range}
-use Rattle.auto_core.specs.Automaton.{Automaton, IsAutomaton, Moves, IsAccepting, trans_at}
+use Rattle.auto_core.specs.Automaton.{Automaton, IsAutomaton, trans_at}
 use Rattle.auto_core.specs.Game.{Holds}
 use Rattle.auto_core.specs.Rows.{cell_of, HasCell}
 use Rattle.bit_rel.specs.Relation.{Relation, IsRelation}
 use Rattle.delayed_sim.specs.Stored.{rank_at}
 use Rattle.delayed_sim.specs.Settling.{pair_of}
-use Rattle.delayed_sim.specs.Boards.{width_of, IsNoted, is_waiting, waiting, rank_on, IsRanked, IsOnBoard, IsCounted, HasRanked, IsFit, Notes, SetsCell, Lowers, place_of_answer}
+use Rattle.delayed_sim.specs.Boards.{width_of, IsNoted, is_waiting, waiting, rank_on, IsRanked, IsOnBoard, IsCounted, IsFit, Notes, SetsCell, Lowers, place_of_answer}
 use Rattle.delayed_sim.specs.Starts.{AreThese, GivesRank}
 use Rattle.delayed_sim.specs.declared.pairs.Pair.{Pair}
 use Rattle.delayed_sim.specs.declared.levels.Board.{Board}

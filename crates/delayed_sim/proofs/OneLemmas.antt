@@ -1,9 +1,9 @@
 -- The greatest delayed relation is one.
-use Rattle.std.proofs.Common.{◌≡◌, ℕ, zero, suc, ◌<◌, ◌≤◌, ◌⊎◌, Option, Some, None, List, [], ◌∷◌, length, Contains, inl, inr, refl, sym, ◌∙◌, ap, subst, arith}
+use Rattle.std.proofs.Common.{◌≡◌, ℕ, zero, suc, ◌⊎◌, Option, Some, None, List, [], ◌∷◌, Contains, inl, inr, refl, sym, ◌∙◌, subst, arith}
 use Rattle.auto_core.specs.Automaton.{Automaton}
 use Rattle.auto_core.specs.Delayed.{RankedPairs, HoldsPair, HasRank, IsGreatestDelayed}
 use Rattle.bit_rel.specs.Relation.{IsBefore}
-use Rattle.delayed_sim.specs.Rankings.{Ranking, IsRanking, AreRankedInOrder}
+use Rattle.delayed_sim.specs.Rankings.{AreRankedInOrder}
 use Rattle.delayed_sim.specs.Laws.{GreatestIsOne}
 
 abbrev Ranked : Type 0

@@ -1,14 +1,14 @@
 -- The list of ranked pairs that a relation and a table of ranks stand for.
-use Rattle.std.proofs.Common.{◌≡◌, ℕ, ◌+◌, ◌*◌, ◌<◌, ◌↔◌, Bool, true, false, Option, None, Some, List, [], ◌∷◌, map, length, Contains, get_or, refl, sym, ap, ◌∙◌, subst, arith}
+use Rattle.std.proofs.Common.{◌≡◌, ℕ, ◌+◌, ◌*◌, ◌<◌, ◌↔◌, Bool, true, false, Option, None, Some, List, [], ◌∷◌, map, length, Contains, get_or, sym, ap, ◌∙◌, subst, arith}
 use Rattle.std.specs.Prelude.{IfSome, IfNone}
 use Rattle.std.proofs.lemmas.Bool.{false≢true}
 use Rattle.std.proofs.lemmas.List.{get_or_default}
 use Rattle.auto_core.specs.Game.{Holds}
-use Rattle.auto_core.specs.Delayed.{RankedPairs, HoldsPair, HasRank, AreRankedBelow, HasPairsOnce}
+use Rattle.auto_core.specs.Delayed.{HoldsPair, HasRank, AreRankedBelow, HasPairsOnce}
 use Rattle.auto_core.proofs.MemberLemmas.{map_has, map_from}
 use Rattle.bit_rel.specs.Relation.{Relation, IsRelation, IsBefore, ArePairsAscending}
 use Rattle.delayed_sim.specs.Stored.{rank_at, with_ranks}
-use Rattle.delayed_sim.specs.Rankings.{Ranking, IsRanking, AreRankedInOrder}
+use Rattle.delayed_sim.specs.Rankings.{IsRanking, AreRankedInOrder}
 
 abbrev with_rank : Relation → List (Option ℕ) → ℕ × ℕ → ℕ × ℕ × Option ℕ
 with_rank R ranks x = (x.0, x.1, rank_at ranks R.size x.0 x.1)

@@ -1,9 +1,9 @@
 -- When a relation with ranks is right, pair by pair.
-use Rattle.std.proofs.Common.{◌≡◌, ℕ, zero, suc, ◌<◌, ◌≤◌, ◌⊎◌, ◌↔◌, inl, inr, Bool, true, false, not, Option, None, Some, List, Contains, refl, sym, ap, ◌∙◌, subst, arith}
+use Rattle.std.proofs.Common.{◌≡◌, ℕ, ◌↔◌, Bool, true, false, not, Some, refl, subst, arith}
 use Rattle.std.specs.Prelude.{IsTrue}
-use Rattle.std.proofs.lemmas.Bool.{cases_eq, iff_false, false≢true}
-use Rattle.auto_core.specs.Automaton.{Automaton, Moves, IsAccepting}
-use Rattle.auto_core.specs.Delayed.{RankedPairs, HoldsPair, HasRank, HasPairsOnce, IsRight}
+use Rattle.std.proofs.lemmas.Bool.{false≢true}
+use Rattle.auto_core.specs.Automaton.{Automaton, IsAccepting}
+use Rattle.auto_core.specs.Delayed.{RankedPairs, HasRank, HasPairsOnce, IsRight}
 use Rattle.delayed_sim.specs.Right.{HasAnswersBelow, IsRankRight, IsPairRight}
 use Rattle.delayed_sim.proofs.NoteLemmas.{some_is}
 

@@ -1,18 +1,18 @@
 -- The first ranks.
 use Rattle.std.specs.Prelude.{if◌then◌else◌}
-use Rattle.std.proofs.Common.{◌≡◌, ℕ, zero, suc, ◌+◌, ◌-◌, ◌*◌, ◌<◌, ◌≤◌, ◌⊎◌, ◌↔◌, inl, inr, Bool, true, false, ◌&&◌, not, ◌==◌, Option, None, Some, List, [], ◌∷◌, length, get_or, Contains, refl, sym, ap, ◌∙◌, subst, arith}
+use Rattle.std.proofs.Common.{◌≡◌, ℕ, zero, suc, ◌+◌, ◌-◌, ◌*◌, ◌<◌, ◌≤◌, ◌⊎◌, ◌↔◌, inl, inr, Bool, true, false, ◌&&◌, not, ◌==◌, Some, List, [], length, get_or, Contains, refl, sym, ap, ◌∙◌, subst, arith}
 use Rattle.std.proofs.lemmas.Bool.{cases_eq, eq-eqb, ne_eqb, false≢true}
 use Rattle.auto_core.specs.Automaton.{Automaton, IsAutomaton, IsOutgoing, Moves, IsAccepting, trans_at}
 use Rattle.auto_core.specs.Game.{Holds}
 use Rattle.auto_core.specs.Rows.{cell_of, HasCell}
 use Rattle.auto_core.specs.Useful.{count_below}
 use Rattle.auto_core.proofs.PathLemmas.{none_in_nil}
-use Rattle.auto_core.proofs.MoveLemmas.{number_of, move_in_range}
-use Rattle.bit_rel.specs.Relation.{Relation, IsRelation}
+use Rattle.auto_core.proofs.MoveLemmas.{number_of}
+use Rattle.bit_rel.specs.Relation.{IsRelation}
 use Rattle.delayed_sim.specs.Stored.{rank_at}
 use Rattle.delayed_sim.specs.Settling.{pair_of}
 use Rattle.delayed_sim.specs.Levels.{CanHave}
-use Rattle.delayed_sim.specs.Boards.{width_of, is_waiting, IsNoted, waiting, rank_on, IsRanked, IsOnBoard, IsCounted, HasRanked, IsFit, IsLevel}
+use Rattle.delayed_sim.specs.Boards.{width_of, is_waiting, IsNoted, waiting, rank_on, IsRanked, IsOnBoard, IsCounted, IsFit, IsLevel}
 use Rattle.delayed_sim.specs.Starts.{AreThese, GivesRank, IsMoveCount, IsEmptyBoard, RestsOnNone, Starts}
 use Rattle.delayed_sim.specs.declared.pairs.Pair.{Pair}
 use Rattle.delayed_sim.specs.declared.levels.Board.{Board}

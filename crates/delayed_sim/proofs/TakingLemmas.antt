@@ -1,16 +1,16 @@
 -- Taking pairs away, one after another.
-use Rattle.std.proofs.Common.{◌≡◌, ℕ, zero, suc, ◌+◌, ◌*◌, ◌<◌, ◌≤◌, ◌⊎◌, ◌↔◌, inl, inr, Option, None, Some, List, [], ◌∷◌, ◌++◌, length, Contains, refl, sym, ap, ◌∙◌, subst, arith, length-append}
+use Rattle.std.proofs.Common.{◌≡◌, ℕ, ◌+◌, ◌<◌, ◌⊎◌, ◌↔◌, inl, inr, Option, None, List, [], ◌∷◌, ◌++◌, length, Contains, refl, sym, ap, ◌∙◌, subst, arith, length-append}
 use Rattle.std.proofs.lemmas.Bool.{cases_eq}
 use Rattle.std.proofs.lemmas.List.Elements.{Contains-append_left, Contains-append_right, Contains-append_cases}
-use Rattle.auto_core.proofs.PathLemmas.{Contains-here, Contains-later, Contains-cons_cases, none_in_nil}
+use Rattle.auto_core.proofs.PathLemmas.{Contains-here, Contains-cons_cases, none_in_nil}
 use Rattle.auto_core.specs.Automaton.{Automaton, Moves, IsAccepting}
-use Rattle.auto_core.specs.Game.{Holds, IsWithin}
-use Rattle.auto_core.specs.Delayed.{RankedPairs, HoldsPair, IsRight, IsAnswered}
+use Rattle.auto_core.specs.Game.{Holds}
+use Rattle.auto_core.specs.Delayed.{RankedPairs, HoldsPair, IsRight}
 use Rattle.bit_rel.specs.Relation.{Relation, IsRelation, Removes}
 use Rattle.delayed_sim.specs.Stored.{rank_at}
-use Rattle.delayed_sim.specs.Settling.{pair_of, IsAnsweredIn, HasAnswers, IsKept, LeavesRight, Takes, Drops, ArePairsIn, Shrinks}
+use Rattle.delayed_sim.specs.Settling.{pair_of, IsAnsweredIn, HasAnswers, IsKept, Takes, Drops, ArePairsIn, Shrinks}
 use Rattle.delayed_sim.specs.declared.pairs.Pair.{Pair}
-use Rattle.delayed_sim.proofs.PairLengths.{no_more, fewer}
+use Rattle.bit_rel.proofs.LengthLemmas.{fewer}
 
 -- one more pair in the list
 pub put_last : (gone gone' : List Pair) (p q : ℕ) → gone' ≡ gone ++ pair_of p q ∷ [] → (r s : ℕ) → Contains gone' (pair_of r s) ↔ (Contains gone (pair_of r s) ⊎ ((r ≡ p) × (s ≡ q)))

@@ -1,6 +1,6 @@
 -- What is known on the way to the least ranks.
 use Rattle.std.specs.Prelude.{◌≡◌, ℕ, suc, ◌+◌, ◌*◌, ◌/◌, ◌<◌, ◌≤◌, ◌⊎◌, ◌↔◌, Bool, ◌&&◌, not, Option, None, Some, List, length, Contains, slice_index, ◌==◌}
-use Rattle.auto_core.specs.Automaton.{Automaton, Moves, IsAccepting, trans_at}
+use Rattle.auto_core.specs.Automaton.{Automaton, Moves, trans_at}
 use Rattle.auto_core.specs.Game.{Holds}
 use Rattle.auto_core.specs.Rows.{cell_of, HasCell}
 use Rattle.auto_core.specs.Useful.{count_below}
@@ -53,7 +53,8 @@ pub record IsCounted (A : Automaton) (b : Board) : Type 0 where
 abbrev pub HasRanked : Automaton → Board → ℕ → List Pair → Type 0
 HasRanked A b r pairs = (p q : ℕ) → Contains pairs (pair_of p q) ↔ IsRanked A b p q r
 
--- Just the pairs without a rank wait for an answer, and those of the rank that is being given do not; they stand in the list.
+-- The tables fit the automaton. Each pair without a rank waits for an answer; the pairs of the rank that is being given do not, and
+-- the list has just these.
 pub record IsFit (A : Automaton) (b : Board) (rank : ℕ) (ranked : List Pair) : Type 0 where
   pub counted : IsCounted A b
   pub waits : (p q : ℕ) → Holds b.unranked.pairs p q → 1 ≤ waiting A b.answered.items p q
@@ -88,7 +89,7 @@ pub record Notes (A : Automaton) (rank : ℕ) (old new : Board) (ranked' : List 
   pub within : (p q : ℕ) → Holds new.unranked.pairs p q → Holds old.unranked.pairs p q
   pub board : (p q : ℕ) → IsOnBoard A new p q ↔ IsOnBoard A old p q
 
--- The transition t waits for an answer that leads to a pair of the list: q moves by its letter to the right state.
+-- Some pair of the list answers the transition t for q: t leads to its left state, and q moves by the letter of t to its right state.
 abbrev pub IsAnswerBy : Automaton → List Pair → ℕ → ℕ → Type 0
 IsAnswerBy A pairs t q = (p' q' : ℕ) × Contains pairs (pair_of p' q') × ((trans_at A t).target ≡ p') × Moves A q (trans_at A t).label q'
 

@@ -1,6 +1,6 @@
 -- Relations some of whose pairs have a rank.
 use Rattle.std.specs.Prelude.{◌≡◌, ℕ, ◌<◌, ◌↔◌, Option, List, [], ◌∷◌, length, Contains, slice_index_or}
-use Rattle.auto_core.specs.Delayed.{RankedPairs, HoldsPair, AreRankedBelow, HasPairsOnce}
+use Rattle.auto_core.specs.Delayed.{RankedPairs, AreRankedBelow, HasPairsOnce}
 use Rattle.bit_rel.specs.Relation.{IsBefore}
 use Rattle.delayed_sim.specs.declared.delayed.RankedPair.{RankedPair}
 

@@ -1,5 +1,5 @@
 -- When a pair of a relation with ranks is right.
-use Rattle.std.specs.Prelude.{◌≡◌, ℕ, ◌<◌}
+use Rattle.std.specs.Prelude.{ℕ, ◌<◌}
 use Rattle.auto_core.specs.Automaton.{Automaton, Moves, IsAccepting}
 use Rattle.auto_core.specs.Delayed.{RankedPairs, HoldsPair, HasRank, IsAnswered, IsAnsweredBelow}
 

@@ -1,5 +1,5 @@
 -- Taking pairs away that can be in no right relation.
-use Rattle.std.specs.Prelude.{◌≡◌, ℕ, ◌+◌, ◌*◌, ◌<◌, ◌≤◌, ◌⊎◌, List, length, Contains, Option, None, Some}
+use Rattle.std.specs.Prelude.{◌≡◌, ℕ, ◌+◌, ◌*◌, ◌<◌, ◌≤◌, ◌⊎◌, List, length, Contains, Option, None}
 use Rattle.auto_core.specs.Automaton.{Automaton, Moves, IsAccepting}
 use Rattle.auto_core.specs.Game.{Holds, IsWithin}
 use Rattle.auto_core.specs.Delayed.{RankedPairs, HoldsPair, IsRight}

@@ -1,5 +1,5 @@
 -- The first ranks: those that rest on no others.
-use Rattle.std.specs.Prelude.{◌≡◌, ℕ, ◌+◌, ◌*◌, ◌<◌, ◌⊎◌, ◌↔◌, Option, None, Some, List, length, Contains, slice_index, ◌==◌}
+use Rattle.std.specs.Prelude.{◌≡◌, ℕ, ◌+◌, ◌*◌, ◌<◌, ◌⊎◌, ◌↔◌, None, Some, List, length, Contains, slice_index, ◌==◌}
 use Rattle.auto_core.specs.Automaton.{Automaton, IsAccepting, trans_at}
 use Rattle.auto_core.specs.Game.{Holds}
 use Rattle.auto_core.specs.Useful.{count_below}

@@ -99,7 +99,7 @@ impl Delayed {
         ensures size { IfOk result (λ r. r.size ≡ self.now.size) }
         ensures pairs { IfOk result (λ r. (p q : ℕ) → Holds r.pairs p q ↔ HoldsPair self.now.pairs p q) }
     {
-        copied(alloc, &self.held)
+        self.held.copied(alloc)
     }
 }
 
@@ -114,33 +114,4 @@ pub(crate) fn no_ranks(alloc: Global, n: u32) -> Result<Vec<Option<u32>>, Memory
         ranks.push(None)?;
     }
     Ok(ranks)
-}
-
-/// Adds the pairs of the left state.
-fn copy_row(from: &Rel, into: &mut Rel, p: u32)
-    requires equal { into.old.size ≡ from.now.size }
-    requires left { p < from.now.size }
-    requires valid { IsRelation into.old }
-    ensures size { into.new.size ≡ into.old.size }
-    ensures valid { IsRelation into.new }
-    ensures pairs { (r s : ℕ) → Holds into.new.pairs r s ↔ (Holds into.old.pairs r s ⊎ ((r ≡ p) × Holds from.now.pairs r s)) }
-{
-    for q in 0..from.size() {
-        if from.get(p, q) {
-            into.set(p, q);
-        }
-    }
-}
-
-/// A relation of the same pairs.
-pub(crate) fn copied(alloc: Global, rel: &Rel) -> Result<Rel, Memory>
-    ensures size { IfOk result (λ r. r.size ≡ rel.now.size) }
-    ensures valid { IfOk result IsRelation }
-    ensures pairs { IfOk result (λ r. (p q : ℕ) → Holds r.pairs p q ↔ Holds rel.now.pairs p q) }
-{
-    let mut copy = Rel::empty(alloc, rel.size())?;
-    for p in 0..rel.size() {
-        copy_row(rel, &mut copy, p);
-    }
-    Ok(copy)
 }

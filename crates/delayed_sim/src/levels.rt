@@ -9,7 +9,7 @@ ghost use Rattle.delayed_sim.specs.Settling.{pair_of, ArePairsIn};
 ghost use Rattle.delayed_sim.specs.Boards.{IsCounted, IsFit, IsRanked, IsOnBoard, IsAnswerBy, IsNoted, Notes, Lowers, place_of_answer, IsLevel, AreLeastRanks};
 ghost use Rattle.delayed_sim.specs.Starts.{GivesRank, IsMoveCount, IsEmptyBoard, Starts};
 
-use crate::delayed::{copied, no_ranks};
+use crate::delayed::no_ranks;
 use crate::pairs::{Pair, place};
 use auto_core::{Auto, Memory, Trans, rows};
 use bit_rel::Rel;
@@ -197,7 +197,7 @@ fn empty_board(alloc: Global, automaton: &Auto, rel: &Rel) -> Result<Board, Memo
     ensures { IfOk result (IsEmptyBoard automaton.now (Holds rel.now.pairs)) }
 {
     let n = automaton.states();
-    let unranked = copied(alloc, rel)?;
+    let unranked = rel.copied(alloc)?;
     let ranks = no_ranks(alloc, n)?;
     let unanswered = counts_of(alloc, automaton)?;
     let answered = vec![in alloc; 0; automaton.transitions().len() * rows::words_for(n)]?;

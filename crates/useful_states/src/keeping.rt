@@ -123,7 +123,8 @@ pub fn keep(alloc: Global, automaton: &Auto, kept: &StateSet) -> Result<Auto, Me
     )
 }
 
-/// The automaton of the useful states alone.
+/// The automaton of the useful states and the initial one, which stays even where it is useless: the transitions between useful
+/// states, and the useful accepting states.
 pub fn trim(alloc: Global, automaton: &Auto, mode: Mode) -> Result<Auto, Memory>
     ensures { IfOk result (IsTrimmed automaton.now mode) }
 {

@@ -1,6 +1,5 @@
-use Rattle.std.proofs.Common.{ℕ, ◌+◌, ◌<◌, ◌≡◌, inl, inr, sym, ap, ◌∙◌, subst, arith}
+use Rattle.std.proofs.Common.{◌<◌, inl, inr, ap, ◌∙◌, arith}
 use Rattle.bit_rel.specs.Relation.{Relation}
-use Rattle.auto_core.specs.Game.{Holds}
 use Rattle.delayed_sim.proofs.RowLemmas.{rows_next, rows_none, empty_valid}
 use Rattle.delayed_sim.proofs.game.all_pairs.Goals as goal
 

@@ -1,6 +1,5 @@
-use Rattle.std.proofs.Common.{ℕ, ◌+◌, ◌*◌, ◌≡◌, ◌↔◌, ◌∷◌, ◌++◌, [], Some, None, Bool, true, false, get_or, refl, sym, ap, ◌∙◌, subst}
+use Rattle.std.proofs.Common.{ℕ, ◌+◌, ◌*◌, ◌≡◌, ◌∷◌, ◌++◌, [], Some, None, true, false, get_or, refl, sym, ap, ◌∙◌, subst}
 use Rattle.std.specs.Option.{is_some}
-use Rattle.std.proofs.lemmas.Bool.{iff_false}
 use Rattle.auto_core.specs.Game.{Holds}
 use Rattle.bit_rel.specs.Relation.{IsRelation, Removes}
 use Rattle.delayed_sim.specs.Stored.{rank_at}

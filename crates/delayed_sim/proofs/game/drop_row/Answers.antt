@@ -1,8 +1,8 @@
-use Rattle.std.proofs.Common.{ℕ, ◌+◌, ◌<◌, ◌≡◌, inl, inr, Some, sym, ◌∙◌, subst, arith}
+use Rattle.std.proofs.Common.{ℕ, ◌≡◌, inl, inr, Some, sym, subst, arith}
 use Rattle.std.proofs.lemmas.Bool.{cases_eq}
 use Rattle.auto_core.specs.Game.{Holds}
 use Rattle.delayed_sim.specs.Stored.{rank_at}
-use Rattle.delayed_sim.proofs.TakingLemmas.{drops_none, drops_then}
+use Rattle.delayed_sim.proofs.TakingLemmas.{drops_then}
 use Rattle.delayed_sim.proofs.game.drop_row.Goals as goal
 
 pub loop-q-preserved : goal.loop-q-preserved

@@ -1,6 +1,6 @@
-use Rattle.std.proofs.Common.{ℕ, ◌+◌, ◌<◌, ◌≡◌, inl, inr, sym, ◌∙◌, subst, arith}
+use Rattle.std.proofs.Common.{inl, inr, ◌∙◌, arith}
 use Rattle.auto_core.specs.Game.{Holds}
-use Rattle.delayed_sim.proofs.RowLemmas.{row_add, row_none}
+use Rattle.delayed_sim.proofs.RowLemmas.{row_add}
 use Rattle.delayed_sim.proofs.game.fill_row.Goals as goal
 
 pub loop-q-preserved : goal.loop-q-preserved

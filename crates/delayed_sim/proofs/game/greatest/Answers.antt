@@ -1,5 +1,4 @@
-use Rattle.std.proofs.Common.{rules, ℕ, suc, ◌+◌, ◌*◌, ◌-◌, ◌/◌, ◌<◌, ◌≤◌, ◌≡◌, ◌⊎◌, ◌↔◌, inl, inr, Bool, true, false, Option, Some, None, List, [], ◌∷◌, ◌++◌, length, vec_len, get_or, set, take, Contains, ◌==◌, refl, sym, ap, ◌∙◌, subst, arith}
-use Rattle.auto_core.specs.Game.{Holds}
+use Rattle.std.proofs.Common.{Contains, ◌∙◌, subst, arith}
 use Rattle.delayed_sim.specs.Settling.{pair_of}
 use Rattle.delayed_sim.proofs.TakingLemmas.{taken_in, takes_shrinks, shrinks_then}
 use Rattle.auto_core.proofs.PathLemmas.{none_in_nil}

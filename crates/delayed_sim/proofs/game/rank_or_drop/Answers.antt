@@ -1,14 +1,7 @@
-use Rattle.std.proofs.Common.{rules, ℕ, suc, ◌+◌, ◌*◌, ◌-◌, ◌/◌, ◌<◌, ◌≤◌, ◌≡◌, ◌⊎◌, ◌↔◌, inl, inr, Bool, true, false, Option, Some, None, List, [], ◌∷◌, ◌++◌, length, vec_len, get_or, set, take, Contains, ◌==◌, refl, sym, ap, ◌∙◌, subst, arith}
-use Rattle.std.proofs.lemmas.Bool.{cases_eq, iff_false, false≢true, eqb-true, eq-eqb}
-use Rattle.auto_core.specs.Game.{Holds}
-use Rattle.auto_core.specs.Automaton.{IsAccepting}
-use Rattle.bit_rel.specs.Relation.{Relation}
-use Rattle.delayed_sim.specs.Stored.{rank_at}
-use Rattle.delayed_sim.specs.Settling.{pair_of, HasAnswers, Drops}
-use Rattle.delayed_sim.specs.Boards.{AreLeastRanks}
-use Rattle.delayed_sim.specs.declared.pairs.Pair.{Pair}
-use Rattle.delayed_sim.proofs.TakingLemmas.{shrinks_then, answers_more}
-use Rattle.delayed_sim.proofs.GreatestLemmas.{IsTurn, turn_made, turn_in, turn_noted, turn_fewer, turn_shrinks, turn_answered, turn_least, measure_falls}
+use Rattle.std.proofs.Common.{rules, ◌≡◌, length, vec_len, sym, ◌∙◌}
+use Rattle.std.proofs.lemmas.Bool.{false≢true, eqb-true, eq-eqb}
+use Rattle.delayed_sim.proofs.TakingLemmas.{shrinks_then}
+use Rattle.delayed_sim.proofs.GreatestLemmas.{turn_made, turn_in, turn_noted, turn_fewer, turn_shrinks, turn_answered, turn_least}
 use Rattle.delayed_sim.proofs.game.rank_or_drop.Goals as goal
 
 pub turns-init : goal.turns-init

@@ -1,5 +1,5 @@
 use Rattle.std.specs.Prelude.{if◌then◌else◌}
-use Rattle.std.proofs.Common.{ℕ, ◌≡◌, ◌<◌, ◌+◌, ◌==◌, [], length, Some}
+use Rattle.std.proofs.Common.{◌+◌, ◌==◌, length}
 use Rattle.delayed_sim.proofs.GreatestLemmas.{IsTurn}
 use Rattle.delayed_sim.proofs.game.rank_or_drop.Given as goal
 

@@ -1,11 +1,7 @@
-use Rattle.std.proofs.Common.{ℕ, suc, ◌+◌, ◌*◌, ◌-◌, ◌/◌, ◌<◌, ◌≤◌, ◌≡◌, ◌⊎◌, ◌↔◌, inl, inr, Bool, true, false, Option, Some, None, List, [], ◌∷◌, ◌++◌, length, get_or, set, take, Contains, refl, sym, ap, ◌∙◌, subst, arith}
-use Rattle.std.proofs.lemmas.Bool.{cases_eq, iff_false, false≢true}
-use Rattle.std.proofs.lemmas.List.{take_more, take_all}
-use Rattle.std.proofs.lemmas.List.Elements.{Contains-append_left, Contains-append_right, Contains-append_cases}
+use Rattle.std.proofs.Common.{◌+◌, ◌≡◌, ◌⊎◌, inl, inr, [], ◌∷◌, get_or, take, subst, arith}
 use Rattle.auto_core.proofs.PathLemmas.{none_in_nil}
 use Rattle.delayed_sim.specs.Settling.{pair_of}
 use Rattle.delayed_sim.specs.Boards.{Notes, IsAnswerBy}
-use Rattle.delayed_sim.specs.declared.pairs.Pair.{Pair}
 use Rattle.delayed_sim.proofs.NoteLemmas.{notes_none, notes_same, notes_then, item_there, taken_more, taken_all}
 use Rattle.delayed_sim.proofs.levels.advance.Goals as goal
 

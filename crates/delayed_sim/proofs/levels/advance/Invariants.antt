@@ -1,4 +1,4 @@
-use Rattle.std.proofs.Common.{ℕ, take}
+use Rattle.std.proofs.Common.{take}
 use Rattle.delayed_sim.specs.Boards.{Notes, IsAnswerBy}
 use Rattle.delayed_sim.proofs.levels.advance.Given as goal
 

@@ -1,10 +1,9 @@
-use Rattle.std.proofs.Common.{ℕ, suc, ◌+◌, ◌*◌, ◌-◌, ◌/◌, ◌<◌, ◌≤◌, ◌≡◌, ◌⊎◌, ◌↔◌, inl, inr, Bool, true, false, Option, Some, None, List, [], ◌∷◌, ◌++◌, length, get_or, set, take, Contains, refl, sym, ap, ◌∙◌, subst, arith}
-use Rattle.std.proofs.lemmas.Bool.{cases_eq, iff_false, false≢true}
-use Rattle.auto_core.specs.Automaton.{Automaton, Moves, IsAccepting, trans, trans_at}
-use Rattle.auto_core.specs.declared.parts.Trans.{Trans}
+use Rattle.std.proofs.Common.{ℕ, ◌+◌, ◌/◌, ◌≡◌, false, get_or, sym, ap, ◌∙◌, subst}
+use Rattle.std.proofs.lemmas.Bool.{iff_false}
+use Rattle.auto_core.specs.Automaton.{trans, trans_at}
 use Rattle.auto_core.proofs.MoveLemmas.{move_at, move_in_range}
 use Rattle.auto_core.specs.Rows.{cell_of, HasCell}
-use Rattle.delayed_sim.specs.Boards.{width_of, IsNoted, Notes, place_of_answer}
+use Rattle.delayed_sim.specs.Boards.{width_of, IsNoted, Notes}
 use Rattle.delayed_sim.specs.Starts.{GivesRank}
 use Rattle.delayed_sim.proofs.RowLemmas.{if_ok}
 use Rattle.delayed_sim.proofs.NoteLemmas.{notes_again, still_waits, last_answer}

@@ -1,6 +1,6 @@
-use Rattle.std.proofs.Common.{ℕ, ◌+◌, ◌<◌, ◌≡◌, ◌⊎◌, inl, inr, List, length, get_or, refl, sym, ap, ◌∙◌, subst, arith}
+use Rattle.std.proofs.Common.{ℕ, ◌+◌, ◌<◌, ◌≡◌, ◌⊎◌, inl, inr, List, length, get_or, sym, ap, ◌∙◌, subst, arith}
 use Rattle.std.proofs.lemmas.Bool.{cases_eq}
-use Rattle.auto_core.specs.Automaton.{Automaton, Moves, trans, trans_at}
+use Rattle.auto_core.specs.Automaton.{Moves, trans, trans_at}
 use Rattle.auto_core.specs.declared.parts.Trans.{Trans}
 use Rattle.auto_core.proofs.MoveLemmas.{incoming_moves, moves_in_incoming}
 use Rattle.delayed_sim.specs.Boards.{Notes}

@@ -1,11 +1,10 @@
-use Rattle.std.proofs.Common.{rules, ℕ, suc, ◌+◌, ◌*◌, ◌-◌, ◌/◌, ◌<◌, ◌≤◌, ◌≡◌, ◌⊎◌, ◌↔◌, inl, inr, Bool, true, false, Option, Some, None, List, [], ◌∷◌, ◌++◌, length, vec_len, get_or, set, take, Contains, ◌==◌, refl, sym, ap, ◌∙◌, subst, arith}
-use Rattle.std.proofs.lemmas.Bool.{cases_eq, iff_false, false≢true, eqb-true, eq-eqb}
+use Rattle.std.proofs.Common.{rules, ℕ, suc, ◌+◌, ◌*◌, ◌≡◌, List, [], length, vec_len, sym, ap, ◌∙◌, subst, arith}
+use Rattle.std.proofs.lemmas.Bool.{false≢true, eqb-true, eq-eqb}
 use Rattle.auto_core.specs.Game.{Holds}
-use Rattle.delayed_sim.specs.Settling.{pair_of}
 use Rattle.delayed_sim.specs.Boards.{IsFit, IsLevel, Notes, IsAnswerBy}
 use Rattle.delayed_sim.specs.declared.pairs.Pair.{Pair}
 use Rattle.delayed_sim.proofs.LevelLemmas.{level_next, fit_next, all_ranked, fewer_unranked, no_more_unranked, level_in, nothing}
-use Rattle.delayed_sim.proofs.PairLengths.{pairs_few}
+use Rattle.bit_rel.proofs.LengthLemmas.{pairs_few}
 use Rattle.delayed_sim.proofs.GreatestLemmas.{measure_falls}
 use Rattle.delayed_sim.proofs.levels.climb.Goals as goal
 

@@ -1,5 +1,5 @@
 use Rattle.std.specs.Prelude.{if◌then◌else◌}
-use Rattle.std.proofs.Common.{ℕ, suc, ◌≡◌, ◌≤◌, ◌+◌, ◌*◌, ◌==◌, [], length}
+use Rattle.std.proofs.Common.{suc, ◌≡◌, ◌≤◌, ◌+◌, ◌*◌, ◌==◌, [], length}
 use Rattle.auto_core.specs.Game.{Holds}
 use Rattle.delayed_sim.specs.Boards.{IsFit, IsLevel}
 use Rattle.delayed_sim.proofs.levels.climb.Given as goal

@@ -1,8 +1,8 @@
-use Rattle.std.proofs.Common.{ℕ, ◌≡◌, ◌<◌, [], List, subst}
+use Rattle.std.proofs.Common.{◌<◌, [], List, subst}
 use Rattle.auto_core.specs.Game.{Holds}
 use Rattle.delayed_sim.specs.Starts.{Starts}
 use Rattle.delayed_sim.specs.declared.pairs.Pair.{Pair}
-use Rattle.delayed_sim.proofs.StartLemmas.{start_level, start_fit, empty_counted}
+use Rattle.delayed_sim.proofs.StartLemmas.{start_level, start_fit}
 use Rattle.delayed_sim.proofs.levels.least_ranks.Goals as goal
 
 pub start-requires-clause-size : goal.start-requires-clause-size

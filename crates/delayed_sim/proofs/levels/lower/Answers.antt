@@ -1,13 +1,9 @@
-use Rattle.std.proofs.Common.{rules, ℕ, suc, ◌+◌, ◌*◌, ◌-◌, ◌/◌, ◌<◌, ◌≤◌, ◌≡◌, ◌⊎◌, ◌↔◌, inl, inr, Bool, true, false, Option, Some, None, List, [], ◌∷◌, ◌++◌, length, get_or, set, take, Contains, refl, sym, ap, ◌∙◌, subst, arith}
-use Rattle.std.proofs.lemmas.Bool.{cases_eq, iff_false, false≢true, eqb-true, eq-eqb}
-use Rattle.auto_core.specs.Automaton.{Automaton, Moves, IsAccepting, trans, trans_at}
-use Rattle.auto_core.specs.declared.parts.Trans.{Trans}
-use Rattle.std.proofs.lemmas.Nat.{mul-add-lt}
-use Rattle.std.proofs.lemmas.List.{get_or-set_same, get_or-set_other, length-set, get_or_default, with_items_is}
-use Rattle.auto_core.proofs.MoveLemmas.{move_at, move_in_range}
+use Rattle.std.proofs.Common.{rules, ℕ, ◌+◌, ◌*◌, ◌-◌, ◌/◌, ◌<◌, ◌≤◌, ◌≡◌, List, length, get_or, set, refl, sym, ap, ◌∙◌, subst, arith}
+use Rattle.std.proofs.lemmas.Bool.{eqb-true, eq-eqb}
+use Rattle.auto_core.specs.Automaton.{trans, trans_at}
+use Rattle.std.proofs.lemmas.List.{get_or-set_same, with_items_is}
 use Rattle.auto_core.specs.Rows.{cell_of, HasCell}
-use Rattle.delayed_sim.specs.Boards.{width_of, IsNoted, waiting, place_of_answer, SetsCell, Lowers}
-use Rattle.delayed_sim.proofs.CountLemmas.{all_noted}
+use Rattle.delayed_sim.specs.Boards.{width_of, place_of_answer}
 use Rattle.delayed_sim.proofs.NoteLemmas.{place_inside, some_waits, lowers_board, less_one, words_enough}
 use Rattle.std.specs.Vec.{with_item, with_items}
 use Rattle.delayed_sim.proofs.levels.lower.Goals as goal

@@ -1,12 +1,9 @@
-use Rattle.std.proofs.Common.{ℕ, suc, ◌+◌, ◌*◌, ◌-◌, ◌/◌, ◌<◌, ◌≤◌, ◌≡◌, ◌⊎◌, ◌↔◌, inl, inr, Bool, true, false, Option, Some, None, List, [], ◌∷◌, ◌++◌, length, get_or, set, take, Contains, refl, sym, ap, ◌∙◌, subst, arith}
-use Rattle.std.proofs.lemmas.Bool.{cases_eq, iff_false, false≢true}
+use Rattle.std.proofs.Common.{ℕ, ◌+◌, ◌*◌, ◌<◌, ◌≡◌, inl, inr, Option, Some, None, List, length, set, refl, sym, ap, ◌∙◌, subst, arith}
+use Rattle.std.proofs.lemmas.Bool.{cases_eq}
 use Rattle.std.proofs.lemmas.Nat.{same_from_place, mul-add-lt}
 use Rattle.std.proofs.lemmas.List.{get_or-set_same, get_or-set_other, length-set}
 use Rattle.auto_core.specs.Game.{Holds}
-use Rattle.bit_rel.specs.Relation.{Relation}
 use Rattle.delayed_sim.specs.Stored.{rank_at}
-use Rattle.delayed_sim.specs.Settling.{pair_of}
-use Rattle.delayed_sim.specs.Starts.{AreThese, GivesRank}
 use Rattle.delayed_sim.proofs.TakingLemmas.{put_last}
 use Rattle.delayed_sim.proofs.levels.rank_pair.Goals as goal
 

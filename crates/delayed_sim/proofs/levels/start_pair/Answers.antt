@@ -1,4 +1,4 @@
-use Rattle.std.proofs.Common.{ℕ, ◌≡◌, sym, ◌∙◌, refl}
+use Rattle.std.proofs.Common.{◌≡◌, sym, ◌∙◌}
 use Rattle.std.proofs.lemmas.Bool.{iff_false}
 use Rattle.delayed_sim.specs.Starts.{GivesRank, Starts, IsMoveCount}
 use Rattle.delayed_sim.proofs.RowLemmas.{if_ok}

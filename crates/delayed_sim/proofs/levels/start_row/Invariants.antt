@@ -1,4 +1,4 @@
-use Rattle.std.proofs.Common.{ℕ, ◌≡◌, ◌<◌}
+use Rattle.std.proofs.Common.{◌≡◌, ◌<◌}
 use Rattle.delayed_sim.specs.Starts.{Starts}
 use Rattle.delayed_sim.proofs.levels.start_row.Given as goal
 

@@ -1,11 +1,9 @@
-use Rattle.std.proofs.Common.{ℕ, suc, ◌+◌, ◌*◌, ◌-◌, ◌<◌, ◌≤◌, ◌≡◌, ◌⊎◌, ◌↔◌, inl, inr, Bool, true, false, Option, Some, None, List, [], ◌∷◌, ◌++◌, length, get_or, set, take, refl, sym, ap, ◌∙◌, subst, arith}
-use Rattle.std.proofs.lemmas.Bool.{cases_eq, iff_false, false≢true}
-use Rattle.auto_core.proofs.MoveLemmas.{number_of, move_at, move_in_range, successor_moves, moves_in_successors, outgoing_moves, moves_in_outgoing, incoming_moves, moves_in_incoming}
-use Rattle.auto_core.specs.Automaton.{Automaton, Moves, IsAccepting, trans, trans_at}
-use Rattle.auto_core.specs.declared.parts.Trans.{Trans}
+use Rattle.std.proofs.Common.{ℕ, ◌+◌, ◌<◌, ◌≡◌, ◌⊎◌, inl, inr, [], ◌∷◌, length, get_or, refl, sym, ap, ◌∙◌, subst, arith}
+use Rattle.std.proofs.lemmas.Bool.{cases_eq}
+use Rattle.auto_core.specs.Automaton.{Moves, trans_at}
 use Rattle.std.proofs.lemmas.List.{get_or_default}
 use Rattle.delayed_sim.specs.Settling.{pair_of}
-use Rattle.delayed_sim.specs.Boards.{Notes, IsAnswerBy}
+use Rattle.delayed_sim.specs.Boards.{IsAnswerBy}
 use Rattle.delayed_sim.specs.declared.pairs.Pair.{Pair}
 use Rattle.auto_core.proofs.PathLemmas.{Contains-here, Contains-cons_cases, none_in_nil}
 use Rattle.delayed_sim.proofs.NoteLemmas.{notes_none, notes_same, notes_then}

@@ -1,10 +1,6 @@
-use Rattle.std.proofs.Common.{ℕ, suc, ◌+◌, ◌*◌, ◌-◌, ◌<◌, ◌≤◌, ◌≡◌, ◌⊎◌, ◌↔◌, inl, inr, Bool, true, false, Option, Some, None, List, [], ◌∷◌, ◌++◌, length, get_or, set, take, refl, sym, ap, ◌∙◌, subst, arith}
-use Rattle.std.proofs.lemmas.Bool.{cases_eq, iff_false, false≢true}
-use Rattle.auto_core.specs.Automaton.{Automaton, Moves, IsAccepting, trans, trans_at}
-use Rattle.auto_core.specs.declared.parts.Trans.{Trans}
-use Rattle.auto_core.specs.Delayed.{HoldsPair, HasRank, IsAnswered, IsAnsweredBelow}
-use Rattle.delayed_sim.specs.Right.{HasAnswersBelow, IsRankRight}
-use Rattle.delayed_sim.proofs.RightLemmas.{one_rank, unranked_right, zero_right, ranked_right}
+use Rattle.std.proofs.Common.{subst}
+use Rattle.auto_core.specs.Delayed.{HasRank}
+use Rattle.delayed_sim.proofs.RightLemmas.{unranked_right, zero_right, ranked_right}
 use Rattle.delayed_sim.proofs.right.has_right_rank.Goals as goal
 
 pub returns-in-None : goal.returns-in-None

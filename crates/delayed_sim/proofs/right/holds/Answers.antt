@@ -1,6 +1,5 @@
-use Rattle.std.proofs.Common.{ℕ, suc, ◌+◌, ◌*◌, ◌-◌, ◌<◌, ◌≤◌, ◌≡◌, ◌⊎◌, ◌↔◌, inl, inr, Bool, true, false, Option, Some, None, List, [], ◌∷◌, ◌++◌, length, get_or, set, take, refl, sym, ap, ◌∙◌, subst, arith}
+use Rattle.std.proofs.Common.{inl, inr, refl, sym, subst, arith}
 use Rattle.std.proofs.lemmas.Bool.{cases_eq, iff_false, false≢true}
-use Rattle.auto_core.specs.Delayed.{IsRight, HoldsPair}
 use Rattle.delayed_sim.specs.Right.{IsPairRight}
 use Rattle.delayed_sim.proofs.RightLemmas.{right_of_pairs, pairs_of_right}
 use Rattle.delayed_sim.proofs.right.holds.Goals as goal

@@ -1,10 +1,9 @@
-use Rattle.std.proofs.Common.{ℕ, suc, ◌+◌, ◌*◌, ◌-◌, ◌<◌, ◌≤◌, ◌≡◌, ◌⊎◌, ◌↔◌, inl, inr, Bool, true, false, Option, Some, None, List, [], ◌∷◌, ◌++◌, length, get_or, set, take, refl, sym, ap, ◌∙◌, subst, arith}
+use Rattle.std.proofs.Common.{inl, inr, List, get_or, sym, subst, arith}
 use Rattle.std.proofs.lemmas.Bool.{cases_eq, iff_false, false≢true}
-use Rattle.auto_core.proofs.MoveLemmas.{number_of, move_at, move_in_range, successor_moves, moves_in_successors, outgoing_moves, moves_in_outgoing, incoming_moves, moves_in_incoming}
-use Rattle.auto_core.specs.Automaton.{Automaton, Moves, IsAccepting, trans, trans_at}
+use Rattle.auto_core.proofs.MoveLemmas.{moves_in_successors}
+use Rattle.auto_core.specs.Automaton.{trans, trans_at}
 use Rattle.auto_core.specs.declared.parts.Trans.{Trans}
-use Rattle.auto_core.specs.Game.{Holds}
-use Rattle.auto_core.specs.Delayed.{HoldsPair, HasRank, IsAnswered, IsAnsweredBelow}
+use Rattle.auto_core.specs.Delayed.{HoldsPair}
 use Rattle.delayed_sim.proofs.right.is_answered.Goals as goal
 
 pub loop-u-preserved : goal.loop-u-preserved

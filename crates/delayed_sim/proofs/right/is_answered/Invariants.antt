@@ -1,6 +1,6 @@
 use Rattle.std.proofs.Common.{ℕ, ◌<◌, ◌≤◌}
 use Rattle.auto_core.specs.Automaton.{trans_at}
-use Rattle.auto_core.specs.Delayed.{HoldsPair, HasRank}
+use Rattle.auto_core.specs.Delayed.{HoldsPair}
 use Rattle.delayed_sim.proofs.right.is_answered.Given as goal
 
 abbrev pub invariant-loop-u : goal.invariant-loop-u

@@ -1,7 +1,5 @@
-use Rattle.std.proofs.Common.{ℕ, suc, ◌+◌, ◌*◌, ◌-◌, ◌<◌, ◌≤◌, ◌≡◌, ◌⊎◌, ◌↔◌, inl, inr, Bool, true, false, Option, Some, None, List, [], ◌∷◌, ◌++◌, length, get_or, set, take, refl, sym, ap, ◌∙◌, subst, arith}
-use Rattle.std.proofs.lemmas.Bool.{cases_eq, iff_false, false≢true, ltb-true, lt-ltb}
-use Rattle.auto_core.specs.Delayed.{HoldsPair, HasRank, IsAnswered, IsAnsweredBelow}
-use Rattle.std.specs.Prelude.{nat_lt}
+use Rattle.std.proofs.Common.{◌≡◌, arith}
+use Rattle.std.proofs.lemmas.Bool.{false≢true, ltb-true, lt-ltb}
 use Rattle.delayed_sim.proofs.RightLemmas.{one_rank}
 use Rattle.delayed_sim.proofs.right.is_below.Goals as goal
 

@@ -1,14 +1,7 @@
-use Rattle.std.proofs.Common.{rules, ℕ, suc, ◌+◌, ◌*◌, ◌-◌, ◌<◌, ◌≤◌, ◌≡◌, ◌⊎◌, ◌↔◌, inl, inr, Bool, true, false, Option, Some, None, List, [], ◌∷◌, ◌++◌, length, get_or, set, take, Contains, refl, sym, ap, ◌∙◌, subst, arith}
-use Rattle.std.proofs.lemmas.Bool.{cases_eq, iff_false, false≢true}
-use Rattle.auto_core.specs.Automaton.{Automaton, Moves, IsAccepting, trans, trans_at}
-use Rattle.auto_core.specs.declared.parts.Trans.{Trans}
-use Rattle.auto_core.specs.Game.{Holds}
+use Rattle.std.proofs.Common.{rules, ◌≡◌, inl, inr, [], ◌++◌, Contains, ap, ◌∙◌, subst}
 use Rattle.auto_core.proofs.PathLemmas.{none_in_nil}
-use Rattle.bit_rel.specs.Relation.{Relation, IsRelation, Removes}
-use Rattle.delayed_sim.specs.Settling.{pair_of, IsAnsweredIn, HasAnswers, IsKept, Takes, ArePairsIn, Shrinks}
-use Rattle.delayed_sim.specs.declared.pairs.Pair.{Pair}
-use Rattle.delayed_sim.proofs.RowLemmas.{if_ok, if_ok_two, if_ok_three}
-use Rattle.delayed_sim.proofs.TakingLemmas.{takes_none, takes_then, takes_one, unanswered_out, answers_lack_out, tried_stays, move_stays, kept_held, kept_more, answered_more, after_one, shrinks_none, shrinks_then, takes_shrinks, taken_in, pairs_before}
+use Rattle.delayed_sim.specs.Settling.{pair_of}
+use Rattle.delayed_sim.proofs.TakingLemmas.{after_one, shrinks_none, shrinks_then, takes_shrinks, taken_in, pairs_before}
 use Rattle.delayed_sim.proofs.settling.settle.Goals as goal
 
 pub pairs-init : goal.pairs-init

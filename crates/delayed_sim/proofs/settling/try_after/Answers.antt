@@ -1,13 +1,11 @@
-use Rattle.std.proofs.Common.{rules, ℕ, suc, ◌+◌, ◌*◌, ◌-◌, ◌/◌, ◌<◌, ◌≤◌, ◌≡◌, ◌⊎◌, ◌↔◌, inl, inr, Bool, true, false, Option, Some, None, List, [], ◌∷◌, ◌++◌, length, vec_len, get_or, set, take, Contains, ◌==◌, refl, sym, ap, ◌∙◌, subst, arith}
-use Rattle.std.proofs.lemmas.Bool.{cases_eq, iff_false, false≢true, eqb-true, eq-eqb}
-use Rattle.auto_core.specs.Automaton.{Automaton, Moves, IsAccepting, trans, trans_at}
+use Rattle.std.proofs.Common.{ℕ, ◌≡◌, inl, inr, get_or, sym, ap, ◌∙◌, subst, arith}
+use Rattle.std.proofs.lemmas.Bool.{cases_eq}
+use Rattle.auto_core.specs.Automaton.{Moves, trans, trans_at}
 use Rattle.auto_core.specs.declared.parts.Trans.{Trans}
 use Rattle.auto_core.specs.Game.{Holds}
-use Rattle.bit_rel.specs.Relation.{Relation, IsRelation, Removes}
-use Rattle.delayed_sim.specs.Settling.{pair_of, IsAnsweredIn, HasAnswers, IsKept, Takes, ArePairsIn, Shrinks}
-use Rattle.delayed_sim.specs.declared.pairs.Pair.{Pair}
-use Rattle.delayed_sim.proofs.TakingLemmas.{takes_none, takes_then, takes_one, unanswered_out, answers_lack_out, tried_stays, move_stays, kept_held, kept_more, answered_more, answers_more, after_one, shrinks_none, shrinks_then, takes_shrinks, taken_in, pairs_before}
-use Rattle.auto_core.proofs.MoveLemmas.{move_at, incoming_moves, moves_in_incoming}
+use Rattle.delayed_sim.specs.Settling.{IsAnsweredIn, IsKept}
+use Rattle.delayed_sim.proofs.TakingLemmas.{takes_none, takes_then, move_stays}
+use Rattle.auto_core.proofs.MoveLemmas.{move_at, moves_in_incoming}
 use Rattle.delayed_sim.proofs.settling.try_after.Goals as goal
 
 pub loop-i-init : goal.loop-i-init

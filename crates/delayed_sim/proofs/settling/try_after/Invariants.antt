@@ -1,4 +1,4 @@
-use Rattle.std.proofs.Common.{ℕ, ◌<◌, ◌≡◌, slice_index}
+use Rattle.std.proofs.Common.{ℕ, ◌<◌, slice_index}
 use Rattle.auto_core.specs.Automaton.{Moves, trans_at}
 use Rattle.auto_core.specs.Game.{Holds}
 use Rattle.delayed_sim.specs.Settling.{IsAnsweredIn, IsKept, Takes}

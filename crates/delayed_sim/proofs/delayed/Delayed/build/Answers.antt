@@ -1,5 +1,4 @@
-use Rattle.std.proofs.Common.{ℕ, suc, ◌+◌, ◌*◌, ◌-◌, ◌/◌, ◌<◌, ◌≤◌, ◌≡◌, ◌⊎◌, ◌↔◌, inl, inr, Bool, true, false, Option, Some, None, List, [], ◌∷◌, ◌++◌, length, get_or, set, take, Contains, refl, sym, ap, ◌∙◌, subst, arith}
-use Rattle.delayed_sim.specs.Rankings.{ranked_pair}
+use Rattle.std.proofs.Common.{◌+◌, set, sym, subst, arith}
 use Rattle.delayed_sim.proofs.BuildLemmas.{IsFilled, item, filled_none, filled_more, filled_all, pair_in}
 use Rattle.delayed_sim.proofs.delayed.Delayed.build.Goals as goal
 

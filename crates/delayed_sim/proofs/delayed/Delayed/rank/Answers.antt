@@ -1,10 +1,10 @@
-use Rattle.std.proofs.Common.{ℕ, suc, ◌+◌, ◌*◌, ◌-◌, ◌/◌, ◌<◌, ◌≤◌, ◌≡◌, ◌⊎◌, ◌↔◌, inl, inr, Bool, true, false, Option, Some, None, List, [], ◌∷◌, ◌++◌, length, get_or, set, take, Contains, refl, sym, ap, ◌∙◌, subst, arith}
-use Rattle.std.proofs.lemmas.Bool.{cases_eq, iff_false, false≢true}
+use Rattle.std.proofs.Common.{ℕ, ◌≡◌, Some, subst}
+use Rattle.std.proofs.lemmas.Bool.{iff_false}
 use Rattle.std.specs.Prelude.{IfSome, IfNone}
-use Rattle.auto_core.specs.Delayed.{RankedPairs, HasRank}
+use Rattle.auto_core.specs.Delayed.{HasRank}
 use Rattle.delayed_sim.specs.Rankings.{Ranking, IsRanking}
-use Rattle.delayed_sim.specs.Stored.{rank_at, with_ranks}
-use Rattle.delayed_sim.proofs.RankLemmas.{ranks_from, rank_tells, valid_ranking, none_told, some_told, place_default}
+use Rattle.delayed_sim.specs.Stored.{rank_at}
+use Rattle.delayed_sim.proofs.RankLemmas.{ranks_from, valid_ranking, none_told, some_told, place_default}
 use Rattle.delayed_sim.proofs.delayed.Delayed.rank.Goals as goal
 
 pub returns-then-get-clause-some : goal.returns-then-get-clause-some

@@ -1,5 +1,5 @@
 use Rattle.std.proofs.Common.{subst}
-use Rattle.delayed_sim.specs.Rankings.{Ranking, IsRanking}
+use Rattle.delayed_sim.specs.Rankings.{IsRanking}
 use Rattle.delayed_sim.proofs.RankLemmas.{valid_ranking}
 use Rattle.delayed_sim.proofs.delayed.Delayed.states.Goals as goal
 
