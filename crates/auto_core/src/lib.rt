@@ -16,6 +16,3 @@ pub use listing::List;
 pub use making::of_parts;
 pub use parts::{Lasso, Memory, Mode, Origin, Span, Trans, Word};
 pub use state_set::StateSet;
-
-#[cfg(test)]
-mod tests;

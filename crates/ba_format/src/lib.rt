@@ -16,6 +16,3 @@ pub use parts::{BaFault, BaKind, Joined, Limits, Named, ReadFault};
 pub use reading::read;
 pub use texts::Texts;
 pub use writing::write;
-
-#[cfg(test)]
-mod tests;

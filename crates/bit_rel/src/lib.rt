@@ -5,6 +5,3 @@ mod closing;
 mod relation;
 
 pub use relation::Rel;
-
-#[cfg(test)]
-mod tests;

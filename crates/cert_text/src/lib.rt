@@ -18,8 +18,6 @@ mod printed_parts;
 mod printing;
 mod read;
 mod second_log;
-#[cfg(test)]
-mod tests;
 mod tokens;
 mod types;
 mod write;

@@ -12,6 +12,3 @@ mod settling;
 pub use delayed::{Delayed, RankedPair};
 pub use game::greatest;
 pub use right::holds;
-
-#[cfg(test)]
-mod tests;

@@ -5,6 +5,3 @@ pub mod laws;
 mod simulation;
 
 pub use simulation::{preorder, relation};
-
-#[cfg(test)]
-mod tests;

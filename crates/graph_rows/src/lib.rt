@@ -10,6 +10,3 @@ mod letters;
 pub use block::{arc, joined, past, same, words_of};
 pub use covering::covers;
 pub use letters::{extend, letter};
-
-#[cfg(test)]
-mod tests;

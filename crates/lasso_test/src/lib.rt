@@ -5,6 +5,3 @@
 mod passing;
 
 pub use passing::{Scratch, passes};
-
-#[cfg(test)]
-mod tests;

@@ -8,6 +8,3 @@ mod rounds;
 
 pub use game::greatest;
 pub use rounds::greatest_by_rounds;
-
-#[cfg(test)]
-mod tests;

@@ -11,6 +11,3 @@ pub use moves::Move;
 pub use round::round_holds;
 pub use scratch::Scratch;
 pub use sides::{Backward, Forward, Side};
-
-#[cfg(test)]
-mod tests;

@@ -10,6 +10,3 @@ mod removing;
 pub use comparing::better;
 pub use cutting::cut;
 pub use removing::{Gone, removable};
-
-#[cfg(test)]
-mod tests;

@@ -4,12 +4,12 @@ use Rattle.std.proofs.Common.{◌≡◌, ℕ, zero, suc, ◌+◌, ◌*◌, ◌<�
 use Rattle.std.proofs.lemmas.Bool.{cases_eq, false≢true}
 use Rattle.std.proofs.lemmas.List.{take_more, length-replicate, length-take-le}
 use Rattle.std.proofs.Math.Nat.{mul-le-mul_right}
-use Rattle.std.proofs.lemmas.List.Elements.{All-contains, All-head, All-tail, Contains-append_cases}
+use Rattle.std.proofs.lemmas.List.Elements.{All-contains, All-head, All-tail}
 use Rattle.auto_core.specs.Automaton.{Automaton, IsAutomaton, Moves, IsAccepting, is_accepting}
-use Rattle.auto_core.specs.Run.{PathBy, Path}
+use Rattle.auto_core.specs.Run.{Path}
 use Rattle.auto_core.specs.Game.{Chain, Close}
 use Rattle.auto_core.specs.Quotient.{class_of, IsQuotient}
-use Rattle.auto_core.specs.Delayed.{RankedPairs, HoldsPair, HasRank, IsRight}
+use Rattle.auto_core.specs.Delayed.{RankedPairs, HoldsPair, IsRight}
 use Rattle.auto_core.specs.declared.parts.Mode.TheVariants.{Buchi}
 use Rattle.auto_core.proofs.PathLemmas.{accepting_from_test, test_from_accepting, none_in_nil, Contains-cons_cases}
 use Rattle.auto_core.proofs.MoveLemmas.{move_in_range}

@@ -1,10 +1,9 @@
 -- Delayed simulation where Duplicator knows the next letters of the word: a triple has two states and the letters that are announced
 -- between them. With no letter announced it is a relation of pairs.
-use Rattle.std.specs.Prelude.{◌≡◌, ℕ, suc, ◌<◌, ◌≤◌, Option, None, Some, List, [], ◌∷◌, ◌++◌, length, map, All, Contains}
+use Rattle.std.specs.Prelude.{◌≡◌, ℕ, ◌<◌, Option, Some, List, [], ◌∷◌, ◌++◌, length, All, Contains}
 use Rattle.auto_core.specs.Automaton.{Automaton, Moves, IsAccepting}
 use Rattle.auto_core.specs.Quotient.{class_of}
 use Rattle.auto_core.specs.Game.{Close}
-use Rattle.auto_core.specs.Delayed.{RankedPairs, HoldsPair}
 
 -- Triples of a left state, announced letters and a right state, each with a rank or without one.
 abbrev pub RankedTriples : Type 0

@@ -9,6 +9,3 @@ mod merging;
 pub use classes::{ClassFault, Classes};
 pub use classing::classes_of;
 pub use merging::merge;
-
-#[cfg(test)]
-mod tests;

@@ -1,24 +1,25 @@
 -- What the printed text of a reduced automaton reads as accepts the lassos of the read automaton.
-use Rattle.std.proofs.Common.{◌≡◌, ℕ, zero, suc, ◌+◌, ◌^◌, ◌<◌, ◌≤◌, Bool, true, false, not, cond, List, [], ◌∷◌, ◌++◌, length, map, filter, get_or, All, Contains, refl, sym, ◌∙◌, ap, subst, arith}
-use Rattle.std.specs.List.{list_any, AllPairs}
+use Rattle.std.proofs.Common.{◌≡◌, ℕ, zero, suc, ◌+◌, ◌^◌, ◌<◌, ◌≤◌, Bool, true, false, not, cond, List, [], ◌∷◌, ◌++◌, length, map, filter, get_or, Contains, refl, sym, ◌∙◌, ap, subst, arith}
+use Rattle.std.specs.List.{list_any}
 use Rattle.std.proofs.lemmas.List.{length-append}
 use Rattle.std.proofs.lemmas.List.Elements.{All-contains}
 use Rattle.std.specs.List.Sorted.{IsPermutation}
 use Rattle.std.proofs.lemmas.List.Sorted.{IsPermutation-refl}
 use Rattle.auto_core.specs.declared.parts.Trans.{Trans}
 use Rattle.auto_core.specs.Automaton.{Automaton, IsAutomaton, IsInRange, trans}
-use Rattle.auto_core.specs.Accept.{AcceptsLasso, Same}
-use Rattle.auto_core.specs.Build.{IsBuilt}
+use Rattle.auto_core.specs.Accept.{Same}
 use Rattle.auto_core.specs.declared.parts.Mode.TheVariants.{Buchi}
 use Rattle.ba_format.specs.declared.parts.Limits.{Limits}
 use Rattle.ba_format.specs.declared.parts.Named.{Named}
 use Rattle.ba_format.specs.declared.parts.Joined.{Joined}
-use Rattle.ba_format.specs.Joining.{joined_labels, relabelled, IsRelabelled, IsJoined}
+use Rattle.ba_format.specs.Joining.{relabelled, IsRelabelled, IsJoined}
 use Rattle.ba_format.specs.Laws.{IsWritable}
 use Rattle.ba_format.specs.Reading.{Reads}
 use Rattle.ba_format.specs.Sight.{same_text, number_in, AreDifferent}
 use Rattle.ba_format.specs.Writing.{written}
 use Rattle.ba_format.proofs.BackLemmas.{written_reads_back}
+use Rattle.ba_format.proofs.CountLemmas.{written_is_read}
+use Rattle.ba_format.proofs.FaultlessLemmas.{faultless_reads, read_is_within}
 use Rattle.ba_format.proofs.LabelLemmas.{labels_fit}
 use Rattle.ba_format.proofs.LawLemmas.{built_once, contains_first, contains_later}
 use Rattle.ba_format.proofs.RenameLemmas.{IsRenaming, renamed_same}
@@ -27,7 +28,9 @@ use Rattle.reduce_loop.specs.declared.steps.Kind.TheVariants.{Trim, Forward, Bac
 use Rattle.reduce_loop.specs.Kinds.{prunings}
 use Rattle.reduce_loop.specs.Passes.{IsReduced}
 use Rattle.reduce_loop.specs.Settled.{IsSettled}
-use Rattle.rabit_cli.specs.Reducing.{ReadsBackSame}
+use Rattle.reduce_loop.proofs.PassLemmas.{reduced_no_larger}
+use Rattle.rabit_cli.specs.Command.{reduce_limits}
+use Rattle.rabit_cli.specs.Reducing.{printed_limits, ReadsBackSame}
 use Rattle.rabit_cli.proofs.LookLemmas.{reduced_labels}
 
 -- ---- the first labels keep their numbers
@@ -167,5 +170,22 @@ module _ (file_limits : Limits) (bytes : List ℕ) (named : Named) (B : Automato
             λ u v h. (same_with named.auto n).0 u v (same.1 u v ((same_with B n).1 u v (last.1 u v h))),
           )
 
+-- the text reads within limits of one state more than those of the file
+module _ (bytes : List ℕ) (named : Named) (B : Automaton) (look : ℕ) (from : 1 ≤ look) (reads : Reads bytes reduce_limits named) (reduced : IsReduced named.auto Buchi look B)
+    (same : Same named.auto B Buchi) (settled : IsSettled B Buchi look)
+  where
+    reads_again : (again : Named) × Reads (written B named.labels) printed_limits again
+    reads_again =
+        let within = read_is_within bytes reduce_limits named reads in
+        let small = reduced_no_larger named.auto B Buchi look reads.reading.auto.valid from reduced in
+        let writable = fit reduce_limits bytes named B look reads reduced same settled in
+        let states : B.states + 1 ≤ printed_limits.states = omega (arith, within.states, small.states) in
+        let labels : B.labels ≤ printed_limits.labels = omega (arith, within.labels, small.labels) in
+        let transitions : length B.transitions ≤ printed_limits.transitions = omega (arith, within.transitions, small.transitions) in
+        faultless_reads (written B named.labels) printed_limits (omega arith) (omega arith) (omega arith) (written_is_read B named.labels printed_limits writable states labels transitions)
+
     pub reads_back_same : ReadsBackSame named (written B named.labels)
-    reads_back_same limits again joined back j = joined_same limits again joined back j
+    reads_back_same = record {
+      reads = reads_again;
+      same = joined_same reduce_limits bytes named B look reads reduced same settled;
+    }

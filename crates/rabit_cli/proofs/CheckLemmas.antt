@@ -1,5 +1,5 @@
 -- What a check says of what a decision wrote.
-use Rattle.std.proofs.Common.{◌≡◌, ℕ, List, cond, Option, Some, inl, inr, refl, sym, ◌∙◌, ap, subst}
+use Rattle.std.proofs.Common.{◌≡◌, ℕ, List, cond, Some, inl, inr, refl, sym, ◌∙◌, ap, subst}
 use Rattle.std.proofs.lemmas.Bool.{false_from_ne_true}
 use Rattle.std.proofs.lemmas.Cmp.{nat_list_cmp_total}
 use Rattle.std.proofs.lemmas.Map.Text.{is_eq-slice_cmp}
@@ -16,8 +16,7 @@ use Rattle.ba_format.specs.declared.parts.Joined.{Joined}
 use Rattle.cert_text.specs.declared.types.Body.{Body}
 use Rattle.cert_text.specs.declared.types.Body.TheVariants.{Yes, NoLasso, NoWord, Listing}
 use Rattle.cert_text.specs.Text.{text}
-use Rattle.decide.specs.Answer.{unreduced, IsBodyOf, IsAnswer}
-use Rattle.decide.proofs.AnswerLemmas.{answers_are_valid}
+use Rattle.decide.specs.Answer.{unreduced, IsBodyOf}
 use Rattle.decide.proofs.UniqueLemmas.{one_outcome_decides, lasso_is}
 use Rattle.rabit_cli.specs.Command.{ReadsAs, ReadsPair, IsVerdictAnswer, IsOutcomeAnswer, IsDecided, search_limit}
 use Rattle.rabit_cli.specs.Laws.{CheckAgrees, AnswersAreAccepted}
@@ -100,6 +99,6 @@ check_agrees files a b c pair cert answer not_a not_b is verdict few decided =
     ]
 
 pub answers_accepted : AnswersAreAccepted
-answers_accepted files a b c pair limit cert answer read can few is verdict held says =
-    let valid = answers_are_valid pair limit cert can few is verdict in
+answers_accepted files files' a b a' b' c pair cert answer is verdict read held says =
+    let valid = is.valid verdict in
     inr (pair, read, inr (cert, held, inr (inr (valid.form, valid.keeps, says))))

@@ -1,5 +1,5 @@
 -- From the certificate to the texts that are made for it, and to what is left on the shelf.
-use Rattle.std.proofs.Common.{◌≡◌, ◌⊎◌, ℕ, ◌≤◌, Bool, true, false, List, take, All, length, Option, Some, None, IfSome, Result, Ok, Err, inl, inr, refl, sym, ◌∙◌, ap, subst}
+use Rattle.std.proofs.Common.{◌≡◌, ℕ, ◌≤◌, true, false, List, take, Option, Some, None, IfSome, Result, Ok, Err, inl, inr, refl, sym, ◌∙◌, ap, subst}
 use Rattle.std.specs.FinMap as map
 use Rattle.shelf_io.specs.Shelf.{FileMap, Puts}
 use Rattle.auto_core.specs.Outcome.{Entry, Outcome}
@@ -13,12 +13,12 @@ use Rattle.cert_text.specs.WellFormed.{WellFormed}
 use Rattle.cert_check.specs.Checks.{AllHold}
 use Rattle.cert_check.specs.Rules.{body_checks}
 use Rattle.decide.specs.Answer.{unreduced, IsBodyOf, IsAnswer}
-use Rattle.decide.specs.Laws.{CanDecide, IsVerdict, IsValidVerdict, SaysTruth}
+use Rattle.decide.specs.Laws.{CanDecide, IsVerdict, IsValidVerdict}
 use Rattle.decide.proofs.AnswerLemmas.{answers_are_true}
 use Rattle.rabit_cli.specs.Command.{ReadsPair, IsPairFault, IsVerdictAnswer, IsDecided, IsIncludeAnswer, UnlessRefused, search_limit}
 use Rattle.rabit_cli.specs.Prepared.{HasVerdict, IsPreparedBy, IsPrepared, IsPreparedFor}
 use Rattle.rabit_cli.specs.Printed.{text_for, is_early, IsPrintable}
-use Rattle.rabit_cli.specs.Written.{IsCertFor, HoldsFront, WritesVerdict, LeavesBehind, OfBoth}
+use Rattle.rabit_cli.specs.Written.{IsCertFor, WritesVerdict, LeavesBehind, OfBoth}
 use Rattle.rabit_cli.specs.declared.answer.Answer.{Answer}
 use Rattle.rabit_cli.specs.declared.answer.Answer.TheVariants.{NotBuilt, BadFile, LongFile, BadText, LongCertificate, Refused, Included, NotIncluded, Limit, Reduced, ReadFault, WriteFault, OutOfMemory}
 use Rattle.rabit_cli.specs.declared.inclusion.Prepared.{Prepared}
@@ -169,11 +169,13 @@ module _ (held held' : Option FileMap) (a b c : List ℕ) (ready : Prepared) whe
     where
       go : (held : Option FileMap) → IfSome held (λ files. IsPreparedFor files a b ready) → Puts {T = T} {E = E} held c bytes (Err e) held' → OfBoth held held' (λ files files'. LeavesBehind files a b c WriteFault files')
       go None h puts = puts
-      go (Some files) (pair, read, made) puts = elim puts [
-        | inl stays ↦ (files, stays, inl refl)
-        | inr (n, front) ↦ (
-          map.insert files c (take n bytes),
-          front,
-          inr (pair, made.0, cert_for files a b pair made.0 ready read made.1, (n, ap (λ l. map.insert files c (take n l)) (same ∙ made.1.certificate))),
-        )
-      ]
+      go (Some files) (pair, read, made) puts =
+          let is = cert_for files a b pair made.0 ready read made.1 in
+          elim puts [
+            | inl stays ↦ (files, stays, (pair, made.0, is, inl refl))
+            | inr (n, front) ↦ (
+              map.insert files c (take n bytes),
+              front,
+              (pair, made.0, is, inr (n, ap (λ l. map.insert files c (take n l)) (same ∙ made.1.certificate))),
+            )
+          ]

@@ -4,7 +4,6 @@ use Rattle.std.specs.List.{list_any}
 use Rattle.std.proofs.lemmas.Bool.Decides.{nat_tests}
 use Rattle.auto_core.specs.Automaton.{Automaton}
 use Rattle.auto_core.specs.declared.parts.Mode.{Mode}
-use Rattle.auto_core.specs.declared.parts.Mode.TheVariants.{Buchi, Finite}
 use Rattle.ba_format.specs.Sight.{same_text}
 use Rattle.reduce_loop.specs.declared.steps.Kind.{Kind}
 use Rattle.reduce_loop.specs.declared.steps.Kind.TheVariants.{Trim, Forward, Backward, Delayed, Prune}
@@ -12,7 +11,7 @@ use Rattle.reduce_loop.specs.Kinds.{kinds_of, After}
 use Rattle.reduce_loop.specs.Passes.{Through, Passes, IsReduced}
 use Rattle.rabit_cli.specs.declared.question.Task.{Task}
 use Rattle.rabit_cli.specs.declared.question.Task.TheVariants as task
-use Rattle.rabit_cli.specs.Question.{Question, Check, Include, Reduce, HasLook, or_else, look_named, look_without, look_with, question_for, task_named, question_on_one, question_on_three, question_of}
+use Rattle.rabit_cli.specs.Question.{Question, Reduce, HasLook, or_else, look_named, look_without, look_with, question_for, task_named, question_on_one_file, question_on_three_files, question_of}
 
 -- ---- the lookahead
 
@@ -62,7 +61,7 @@ chosen_has false k h = tt
 pub with_within : (command option word : List ℕ) → IfSome (look_with command option word) IsLook
 with_within command option word = chosen_has (same_text command (codes "reduce") && same_text option (codes "--look")) (look_named word) (named_within word)
 
-one_has : (words : List (List ℕ)) → HasLook (question_on_one words)
+one_has : (words : List (List ℕ)) → HasLook (question_on_one_file words)
 one_has [] = tt
 one_has (command ∷ []) = tt
 one_has (command ∷ a ∷ []) = given_has a (look_without command) (without_within command)
@@ -75,7 +74,7 @@ task_has None a b c = tt
 task_has (Some (task.Check)) a b c = tt
 task_has (Some (task.Include)) a b c = tt
 
-three_has : (words : List (List ℕ)) → HasLook (question_on_three words)
+three_has : (words : List (List ℕ)) → HasLook (question_on_three_files words)
 three_has [] = tt
 three_has (command ∷ []) = tt
 three_has (command ∷ a ∷ []) = tt
@@ -84,7 +83,7 @@ three_has (command ∷ a ∷ b ∷ c ∷ []) = task_has (task_named command) a b
 three_has (command ∷ a ∷ b ∷ c ∷ d ∷ more) = tt
 
 pub has_look : (words : List (List ℕ)) → HasLook (question_of words)
-has_look words = first_has (question_on_one words) (question_on_three words) (one_has words) (three_has words)
+has_look words = first_has (question_on_one_file words) (question_on_three_files words) (one_has words) (three_has words)
 
 -- ---- the labels
 

@@ -1,5 +1,5 @@
 -- The joined automata of two files are small enough for a decision.
-use Rattle.std.proofs.Common.{◌≡◌, ℕ, ◌+◌, ◌≤◌, Bool, true, false, cond, List, [], ◌∷◌, ◌++◌, length, map, filter, sym, ap, ◌∙◌, arith, length-append}
+use Rattle.std.proofs.Common.{ℕ, ◌≤◌, Bool, true, false, cond, List, [], ◌∷◌, length, map, filter, ap, ◌∙◌, arith, length-append}
 use Rattle.std.proofs.lemmas.List.{length-map}
 use Rattle.std.proofs.lemmas.List.Sorted.{length_permutation}
 use Rattle.std.specs.Prelude.{not, Result, Ok, Err, IfOk}
@@ -8,7 +8,7 @@ use Rattle.auto_core.specs.Automaton.{Automaton}
 use Rattle.ba_format.specs.declared.parts.Named.{Named}
 use Rattle.ba_format.specs.declared.parts.Joined.{Joined}
 use Rattle.ba_format.specs.Reading.{IsWithin}
-use Rattle.ba_format.specs.Joining.{IsJoined, IsRelabelled, relabelled, joined_labels}
+use Rattle.ba_format.specs.Joining.{IsJoined, IsRelabelled, relabelled}
 use Rattle.ba_format.specs.Sight.{same_text}
 use Rattle.decide.specs.Answer.{HasFewParts}
 use Rattle.decide.specs.Laws.{CanDecide}

@@ -1,12 +1,11 @@
 -- From the answer that was said to its status and what it shows.
-use Rattle.std.proofs.Common.{◌≡◌, ◌⊎◌, ℕ, ◌<◌, ◌≤◌, Bool, true, false, List, Option, Some, None, IfSome, inl, inr, refl, sym, ◌∙◌, ap, subst, arith}
+use Rattle.std.proofs.Common.{◌≡◌, ◌⊎◌, ℕ, Bool, true, false, List, Option, Some, None, IfSome, inl, inr, refl, sym, ◌∙◌, ap, subst, arith}
 use Rattle.std.proofs.lemmas.Bool.{false≢true}
 use Rattle.std.specs.Io.KnownBytes.{append_known}
 use Rattle.shelf_io.specs.Counts.{Rose}
 use Rattle.shelf_io.specs.Shelf.{FileMap}
 use Rattle.auto_core.specs.declared.parts.Lasso.{Lasso}
 use Rattle.ba_format.specs.declared.parts.Joined.{Joined}
-use Rattle.ba_format.specs.Joining.{IsJoined}
 use Rattle.ba_format.specs.declared.parts.Limits.{Limits}
 use Rattle.ba_format.specs.declared.parts.Named.{Named}
 use Rattle.ba_format.specs.Writing.{written}
@@ -26,7 +25,7 @@ use Rattle.rabit_cli.specs.Command.{check_limits, reduce_limits, ReadsWithin, Is
 use Rattle.rabit_cli.specs.Written.{OfBoth, LeavesFor, LeavesBehind, LeavesDecided, LeavesFiles}
 use Rattle.rabit_cli.specs.declared.answer.Reply.{Reply}
 use Rattle.rabit_cli.specs.declared.answer.Reply.TheVariants.{Plain, Ready}
-use Rattle.rabit_cli.specs.Said.{answer_in, NeedsMemory, WasSaid, IsAnswered, IsIncluded, ShowsIncluded, IsApart, ShowsApart, ShowsListed, ShowsReduced, SaysEachAnswer}
+use Rattle.rabit_cli.specs.Said.{answer_in, NeedsMemory, WasSaid, IsAnswered, IsIncluded, ShowsIncluded, IsApart, ShowsApart, ShowsListed, ShowsReduced, SaysNotBuilt, SaysEachAnswer}
 use Rattle.rabit_cli.proofs.OneAnswer.{one_answer}
 use Rattle.rabit_cli.proofs.DecidedLemmas.{none_reduced}
 use Rattle.rabit_cli.proofs.BackLemmas.{reads_back_same}
@@ -206,7 +205,7 @@ reduced_from_answer files (Some (Reduce name look)) t sent sent' within answer s
       read = read;
       is_reduced = is;
       same = same;
-      reads_back = reads_back_same reduce_limits read.0 named B look read.3 is same settled;
+      reads_back = reads_back_same read.0 named B look within.0 read.3 is same settled;
       settled = settled;
       printed = sends ∙ ap (append_known sent) same_text;
     }
@@ -362,7 +361,7 @@ same_files (Some files) held' P f e = (files, e, f files)
 
 -- the reply was said, or want of memory in its place
 needs_no_fault : (reply : Reply) → NeedsMemory reply → ¬ (answer_in reply ≡ ReadFault) × ¬ (answer_in reply ≡ WriteFault)
-needs_no_fault (Plain answer) h = h
+needs_no_fault (Plain answer) h = (h.0, h.1)
 needs_no_fault (Ready answer made) h = absurd h
 
 memory_leaves : (files : FileMap) (question : Option Question) → LeavesFor files question OutOfMemory files
@@ -610,3 +609,15 @@ unfolding Said
 says_each_answer None question within status sent sent' sink sink' faults faults' puts puts' a = a.right
 says_each_answer (Some files) question within status sent sent' sink sink' faults faults' puts puts' a =
     λ answer is. said_each files question within status sent sent' sink sink' faults faults' puts puts' a.answer answer a.right a.said a.read_fault a.write_fault is
+
+-- nothing was asked, and that was said or want of memory
+pub says_not_built :
+    (question : Option Question) (status : ℕ) (sent sent' : Option (List ℕ)) (sink sink' : ℕ) (reply : Reply)
+    → (question ≡ None → answer_in reply ≡ NotBuilt)
+    → WasSaid (answer_in reply) status sent sent' sink sink' ⊎ (NeedsMemory reply × WasSaid OutOfMemory status sent sent' sink sink')
+    → question ≡ None
+    → SaysNotBuilt status sent sent' sink sink'
+says_not_built question status sent sent' sink sink' reply unasked said none = elim said [
+  | inl whole ↦ inl (let P : Answer → Type 0 = λ answer. WasSaid answer status sent sent' sink sink' in subst P (unasked none) whole)
+  | inr memory ↦ inr memory.1
+]

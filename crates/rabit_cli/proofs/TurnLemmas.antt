@@ -5,8 +5,8 @@ use Rattle.shelf_io.specs.Counts.{counted}
 use Rattle.shelf_io.specs.Shelf.{FileMap, CountsMissing}
 use Rattle.ba_format.specs.declared.parts.Named.{Named}
 use Rattle.ba_format.specs.declared.parts.Joined.{Joined}
-use Rattle.rabit_cli.specs.Question.{Question, Check}
-use Rattle.rabit_cli.specs.Command.{ReadsAs, ReadsPair, Lacks, CountsForPair, CountsInTurn}
+use Rattle.rabit_cli.specs.Question.{Check}
+use Rattle.rabit_cli.specs.Command.{ReadsAs, ReadsPair, CountsForPair, CountsInTurn}
 
 counts : (found : Bool) (before now : ℕ) → now ≡ (if found then before else counted before) → (now ≡ before) ⊎ (found ≡ false)
 counts true before now h = inl h

@@ -1,6 +1,6 @@
 -- Four words as a list.
-use Rattle.std.proofs.Common.{◌≡◌, ℕ, ◌<◌, ◌≤◌, List, [], ◌∷◌, length, get_or, map, refl, ap, arith, Some, None, Option}
-use Rattle.rabit_cli.specs.Question.{Question, Check, Include, or_else, question_on_one, question_on_three, question_of}
+use Rattle.std.proofs.Common.{◌≡◌, ℕ, ◌<◌, ◌≤◌, List, [], ◌∷◌, length, get_or, map, refl, ap, arith, Some, None}
+use Rattle.rabit_cli.specs.Question.{Question, Check, Include, or_else, question_on_one_file, question_on_three_files, question_of}
 
 pub four_items :
     {X : Type 0} (f : X → List ℕ) (ws : List X) (d : X)
@@ -21,8 +21,8 @@ pub include_asked : (a b c x y z : List ℕ) → a ≡ x → b ≡ y → c ≡ z
 include_asked a b c x y z p q r = cc
 
 -- a question is that of the shapes with one name, or else that of those with three
-pub first_question : (words : List (List ℕ)) (q : Question) → question_on_one words ≡ Some q → question_of words ≡ Some q
-first_question words q is = ap (λ x. or_else x (question_on_three words)) is
+pub first_question : (words : List (List ℕ)) (q : Question) → question_on_one_file words ≡ Some q → question_of words ≡ Some q
+first_question words q is = ap (λ x. or_else x (question_on_three_files words)) is
 
-pub second_question : (words : List (List ℕ)) → question_on_one words ≡ None → question_of words ≡ question_on_three words
-second_question words is = ap (λ x. or_else x (question_on_three words)) is
+pub second_question : (words : List (List ℕ)) → question_on_one_file words ≡ None → question_of words ≡ question_on_three_files words
+second_question words is = ap (λ x. or_else x (question_on_three_files words)) is

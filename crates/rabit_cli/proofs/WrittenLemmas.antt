@@ -18,7 +18,6 @@ use Rattle.rabit_cli.specs.Command.{IsVerdictAnswer, search_limit}
 use Rattle.rabit_cli.specs.Written.{IsCertFor, WritesVerdict}
 use Rattle.rabit_cli.specs.Said.{IsDecidedIncluded, IsDecidedApart, IsDecidedListed}
 use Rattle.rabit_cli.specs.Printed.{text_for}
-use Rattle.rabit_cli.specs.declared.answer.Answer.{Answer}
 use Rattle.rabit_cli.specs.declared.answer.Answer.TheVariants.{Included, NotIncluded, Limit}
 
 module _ (files : FileMap) (a b c : List ℕ) (files' : FileMap) (sent sent' : Option (List ℕ)) where

@@ -1,5 +1,5 @@
 -- Which answer a command has, by the files that it names.
-use Rattle.std.specs.Prelude.{◌≡◌, ℕ, ◌<◌, ◌≤◌, ◌^◌, ◌⊎◌, List, length, Option, Some, None, Ok, Err, true, false}
+use Rattle.std.specs.Prelude.{◌≡◌, ℕ, ◌<◌, ◌≤◌, ◌^◌, ◌⊎◌, List, length, Option, Some, None, true, false}
 use Rattle.std.specs.FinMap as map
 use Rattle.shelf_io.specs.Shelf.{FileMap}
 use Rattle.ba_format.specs.declared.parts.BaFault.{BaFault}
@@ -81,7 +81,7 @@ abbrev pub HoldsCertificate : FileMap → List ℕ → Cert → Type 0
 HoldsCertificate files name cert =
     (bytes : List ℕ) × Holds files name bytes × (length bytes ≤ 2 ^ 30) × WellFormed cert × (bytes ≡ text cert)
 
--- The answer of a valid certificate with this body.
+-- The answer that a certificate with this body gives, where it is accepted.
 abbrev pub IsVerdictAnswer : Joined → Body → Answer → Type 0
 IsVerdictAnswer pair (Yes evidence) answer = answer ≡ Included
 IsVerdictAnswer pair (NoLasso lasso) answer = answer ≡ NotIncluded pair.labels lasso
@@ -147,7 +147,7 @@ CountsInTurn files (Some (Check a b c)) before now =
 CountsInTurn files (Some (Include a b c)) before now = CountsForPair files a b before now
 CountsInTurn files (Some (Reduce name look)) before now = (now ≡ before) ⊎ Lacks files name
 
--- What stays: without a question no call of the shelf fails, and only a decision puts a file.
+-- What stays: without a question no call of the shelf fails, and only in a decision a put may fail.
 abbrev pub FailsInTurn : Option Question → ℕ → ℕ → ℕ → ℕ → Type 0
 FailsInTurn None faults faults' puts puts' = (faults' ≡ faults) × (puts' ≡ puts)
 FailsInTurn (Some (Check a b c)) faults faults' puts puts' = puts' ≡ puts

@@ -3,16 +3,14 @@ use Rattle.std.specs.Prelude.{◌≡◌, ℕ, List}
 use Rattle.shelf_io.specs.Shelf.{FileMap}
 use Rattle.ba_format.specs.declared.parts.Joined.{Joined}
 use Rattle.cert_text.specs.declared.types.Body.{Body}
-use Rattle.cert_text.specs.declared.types.Body.TheVariants.{Yes, NoLasso, NoWord, Listing}
+use Rattle.cert_text.specs.declared.types.Body.TheVariants.{NoWord}
 use Rattle.cert_text.specs.declared.types.Cert.{Cert}
 use Rattle.cert_text.specs.Text.{text}
 use Rattle.cert_text.specs.WellFormed.{WellFormed}
 use Rattle.decide.specs.Answer.{IsAnswer}
 use Rattle.decide.specs.Laws.{IsValidVerdict, SaysTruth}
 use Rattle.rabit_cli.specs.Command.{IsVerdictAnswer, IsDecided, ReadsPair, search_limit}
-use Rattle.rabit_cli.specs.Written.{IsCertFor}
 use Rattle.rabit_cli.specs.Printed.{text_for}
-use Rattle.rabit_cli.specs.declared.answer.Answer.{Answer}
 use Rattle.rabit_cli.specs.declared.inclusion.Prepared.{Prepared}
 
 -- The body is of a verdict on lassos, or of a list.

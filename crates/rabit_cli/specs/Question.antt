@@ -22,13 +22,13 @@ task_named word =
     if same_text word (codes "check") then Some task.Check else (if same_text word (codes "include") then Some task.Include else None)
 
 -- `check A B CERT` asks for a check and `include A B CERT` for a decision.
-abbrev pub question_on_three : List (List ℕ) → Option Question
-question_on_three [] = None
-question_on_three (command ∷ []) = None
-question_on_three (command ∷ a ∷ []) = None
-question_on_three (command ∷ a ∷ b ∷ []) = None
-question_on_three (command ∷ a ∷ b ∷ c ∷ []) = option_map (λ t. question_for t a b c) (task_named command)
-question_on_three (command ∷ a ∷ b ∷ c ∷ d ∷ more) = None
+abbrev pub question_on_three_files : List (List ℕ) → Option Question
+question_on_three_files [] = None
+question_on_three_files (command ∷ []) = None
+question_on_three_files (command ∷ a ∷ []) = None
+question_on_three_files (command ∷ a ∷ b ∷ []) = None
+question_on_three_files (command ∷ a ∷ b ∷ c ∷ []) = option_map (λ t. question_for t a b c) (task_named command)
+question_on_three_files (command ∷ a ∷ b ∷ c ∷ d ∷ more) = None
 
 -- The lookahead where none is named.
 abbrev pub default_look : ℕ
@@ -49,13 +49,13 @@ abbrev pub look_with : List ℕ → List ℕ → List ℕ → Option ℕ
 look_with command option word = if same_text command (codes "reduce") && same_text option (codes "--look") then look_named word else None
 
 -- `reduce A` and `reduce A --look K` ask for a reduction.
-abbrev pub question_on_one : List (List ℕ) → Option Question
-question_on_one [] = None
-question_on_one (command ∷ []) = None
-question_on_one (command ∷ a ∷ []) = option_map (λ look. Reduce a look) (look_without command)
-question_on_one (command ∷ a ∷ option ∷ []) = None
-question_on_one (command ∷ a ∷ option ∷ k ∷ []) = option_map (λ look. Reduce a look) (look_with command option k)
-question_on_one (command ∷ a ∷ option ∷ k ∷ d ∷ more) = None
+abbrev pub question_on_one_file : List (List ℕ) → Option Question
+question_on_one_file [] = None
+question_on_one_file (command ∷ []) = None
+question_on_one_file (command ∷ a ∷ []) = option_map (λ look. Reduce a look) (look_without command)
+question_on_one_file (command ∷ a ∷ option ∷ []) = None
+question_on_one_file (command ∷ a ∷ option ∷ k ∷ []) = option_map (λ look. Reduce a look) (look_with command option k)
+question_on_one_file (command ∷ a ∷ option ∷ k ∷ d ∷ more) = None
 
 -- The first of the two questions, if there is one.
 abbrev pub or_else : Option Question → Option Question → Option Question
@@ -64,7 +64,7 @@ or_else None other = other
 
 -- What the words ask: a check, a decision or a reduction; no other words ask anything yet.
 abbrev pub question_of : List (List ℕ) → Option Question
-question_of words = or_else (question_on_one words) (question_on_three words)
+question_of words = or_else (question_on_one_file words) (question_on_three_files words)
 
 -- The lookahead of a reduction is one of 1 to 6.
 abbrev pub HasLook : Option Question → Type 0

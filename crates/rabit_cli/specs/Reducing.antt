@@ -15,7 +15,13 @@ use Rattle.reduce_loop.specs.Passes.{IsReduced}
 abbrev pub IsReducedText : Named → ℕ → List ℕ → Type 0
 IsReducedText named look text = (B : Automaton) × IsReduced named.auto Buchi look B × (text ≡ written B named.labels)
 
--- Whatever the text reads as, and the read automaton, joined by their labels' texts, accept the same lassos.
-abbrev pub ReadsBackSame : Named → List ℕ → Type 0
-ReadsBackSame named text =
-    (limits : Limits) (again : Named) (joined : Joined) → Reads text limits again → IsJoined named again joined → Same joined.first joined.second Buchi
+-- The most states, labels and transitions of a printed automaton: one state more than the file may have, for the line that keeps an
+-- automaton without accepting states from reading as one whose states all are.
+abbrev pub printed_limits : Limits
+printed_limits = record { states = 2049; labels = 256; transitions = 65536 }
+
+-- The text reads as an automaton within these limits, and whatever it reads as and the read automaton, joined by their labels' texts,
+-- accept the same lassos.
+pub record ReadsBackSame (named : Named) (text : List ℕ) : Type 0 where
+  pub reads : (again : Named) × Reads text printed_limits again
+  pub same : (limits : Limits) (again : Named) (joined : Joined) → Reads text limits again → IsJoined named again joined → Same joined.first joined.second Buchi

@@ -1,5 +1,5 @@
 -- What was said of an answer, and what that shows.
-use Rattle.std.specs.Prelude.{◌≡◌, ◌+◌, ◌⊎◌, ℕ, List, take, length, Option, None, Some, IfSome}
+use Rattle.std.specs.Prelude.{◌≡◌, ◌+◌, ◌⊎◌, ℕ, List, take, Option, None, Some, IfSome}
 use Rattle.std.specs.FinMap as map
 use Rattle.std.specs.Io.KnownBytes.{append_known}
 use Rattle.shelf_io.specs.Counts.{Rose}
@@ -26,7 +26,7 @@ use Rattle.rabit_cli.specs.Question.{Question, Check, Include, Reduce}
 use Rattle.rabit_cli.specs.Reducing.{ReadsBackSame}
 use Rattle.rabit_cli.specs.Command.{IsAnswerTo, UnlessRefused, ReadsPair, ReadsWithin, HoldsCertificate, search_limit, reduce_limits}
 use Rattle.rabit_cli.specs.declared.answer.Answer.{Answer}
-use Rattle.rabit_cli.specs.declared.answer.Answer.TheVariants.{Included, NotIncluded, Limit, ReadFault, WriteFault}
+use Rattle.rabit_cli.specs.declared.answer.Answer.TheVariants.{NotBuilt, Included, NotIncluded, Limit, Reduced, ReadFault, WriteFault, OutOfMemory}
 use Rattle.rabit_cli.specs.declared.answer.Reply.{Reply}
 use Rattle.rabit_cli.specs.declared.answer.Reply.TheVariants.{Plain, Ready}
 use Rattle.rabit_cli.specs.Printed.{text_for, status_of, status_unsent, IsPrintable}
@@ -47,9 +47,9 @@ abbrev pub IsSayable : Reply → Type 0
 IsSayable (Plain answer) = IsPrintable answer
 IsSayable (Ready answer made) = made.items ≡ text_for answer
 
--- Want of memory may be said in place of the reply: its text was not made with it, and it is no fault of the shelf.
+-- Want of memory may be said in place of the reply: its text is still to be made, and it is no fault of the shelf.
 abbrev pub NeedsMemory : Reply → Type 0
-NeedsMemory (Plain answer) = ¬ (answer ≡ ReadFault) × ¬ (answer ≡ WriteFault)
+NeedsMemory (Plain answer) = ¬ (answer ≡ ReadFault) × ¬ (answer ≡ WriteFault) × ((made : List ℕ) → ¬ (answer ≡ Reduced made))
 NeedsMemory (Ready answer made) = ⊥
 
 -- An answer was said: where the shelf tells its files, the right one for the question. It is a read fault exactly where the
@@ -167,6 +167,10 @@ ShowsListed files None files' sent sent' = ⊥
 ShowsListed files (Some (Check a b c)) files' sent sent' = ⊥
 ShowsListed files (Some (Reduce name look)) files' sent sent' = ⊥
 ShowsListed files (Some (Include a b c)) files' sent sent' = IsDecidedListed files a b c files' sent sent'
+
+-- The words ask nothing, and that was said, or want of memory.
+abbrev pub SaysNotBuilt : ℕ → Option (List ℕ) → Option (List ℕ) → ℕ → ℕ → Type 0
+SaysNotBuilt status sent sent' faults faults' = WasSaid NotBuilt status sent sent' faults faults' ⊎ WasSaid OutOfMemory status sent sent' faults faults'
 
 -- Whatever is the answer to the question: it was said whole, with its status, unless a count of the outside rose or memory was
 -- refused.

@@ -1,5 +1,5 @@
 -- What `include` leaves on the shelf.
-use Rattle.std.specs.Prelude.{◌≡◌, ℕ, ◌<◌, ◌≤◌, ◌⊎◌, List, take, Option, Some, None}
+use Rattle.std.specs.Prelude.{◌≡◌, ℕ, ◌≤◌, ◌⊎◌, List, take, Option, Some, None}
 use Rattle.std.specs.FinMap as map
 use Rattle.shelf_io.specs.Counts.{Rose}
 use Rattle.shelf_io.specs.Shelf.{FileMap}
@@ -30,8 +30,10 @@ HoldsAnswer files a b c files' = (pair : Joined) × (cert : Cert) × IsCertFor f
 -- The name holds a front of that text, or what it held before, and all other files are as before.
 abbrev pub HoldsFront : FileMap → List ℕ → List ℕ → List ℕ → FileMap → Type 0
 HoldsFront files a b c files' =
-    (files' ≡ files)
-    ⊎ ((pair : Joined) × (cert : Cert) × IsCertFor files a b pair cert × ((n : ℕ) × (files' ≡ map.insert files c (take n (text cert)))))
+    (pair : Joined)
+    × (cert : Cert)
+    × IsCertFor files a b pair cert
+    × ((files' ≡ files) ⊎ ((n : ℕ) × (files' ≡ map.insert files c (take n (text cert)))))
 
 -- What a decision leaves, by its status: a verdict comes with the certificate's whole text. A write fault leaves that too where the
 -- verdict could not be sent, and where the shelf's count rose a front of it or what was there before. Nothing else writes a file.

@@ -3,7 +3,7 @@
 ghost use Rattle.std.specs.Prelude.{◌≤◌};
 
 use crate::reading;
-use crate::search_tests::thirty;
+use crate::search_tests::looped_ring;
 use crate::tests::{list_of, numbers_of, words_of};
 use crate::top::run;
 use auto_core::{List, Memory, Mode};
@@ -42,7 +42,21 @@ fn shelf_of(alloc: Global, first: &str, second: &str, fails: &[u64]) -> Result<M
     MemShelf::new(alloc, held, 1_000_000, 65536, numbers_of(alloc, fails)?)
 }
 
-/// The status of the command on the shelf's files, and whether just this text was sent.
+/// The status of the words on the shelf's files, and whether just this text was sent.
+fn says(
+    alloc: Global,
+    words: &[&str],
+    shelf: &mut MemShelf,
+    sink_fails: &[u64],
+    printed: &str,
+) -> Result<(u8, bool), Memory> {
+    let mut out = MemSink::new(alloc, 1000, numbers_of(alloc, sink_fails)?)?;
+    let words = words_of(alloc, words)?;
+    let status = run(alloc, &words, shelf, &mut out);
+    Ok((status, out.contents() == printed.as_bytes()))
+}
+
+/// The same of the command with the names of the two files and of the certificate.
 fn answers(
     alloc: Global,
     command: &str,
@@ -50,10 +64,7 @@ fn answers(
     sink_fails: &[u64],
     printed: &str,
 ) -> Result<(u8, bool), Memory> {
-    let mut out = MemSink::new(alloc, 1000, numbers_of(alloc, sink_fails)?)?;
-    let words = words_of(alloc, &[command, "A", "B", "C"])?;
-    let status = run(alloc, &words, shelf, &mut out);
-    Ok((status, out.contents() == printed.as_bytes()))
+    says(alloc, &[command, "A", "B", "C"], shelf, sink_fails, printed)
 }
 
 /// Whether the shelf holds just this text under the certificate's name.
@@ -120,13 +131,15 @@ fn certificates_are_written_whole(rt: HostRuntime) -> Result<(), Fail> {
 #[test]
 fn failing_calls_of_a_decision_are_told(rt: HostRuntime) -> Result<(), Fail> {
     let alloc = rt.alloc();
-    let text = thirty(alloc)?;
+    let text = looped_ring(alloc, 30)?;
     let rows = [
         (&[][..], &[][..], 0, "included\n"),
         (&[2], &[], 6, "read fault\n"),
         (&[6], &[], 7, "write fault\n"),
         (&[6], &[0], 7, ""),
         (&[], &[0], 7, ""),
+        // the text is given at once, so a second call that would fail is none
+        (&[], &[1], 0, "included\n"),
     ];
     for (fails, sink_fails, status, printed) in rows {
         let mut shelf = shelf_of(alloc, text.as_str(), text.as_str(), fails)?;
@@ -134,7 +147,56 @@ fn failing_calls_of_a_decision_are_told(rt: HostRuntime) -> Result<(), Fail> {
             answers(alloc, "include", &mut shelf, sink_fails, printed)?,
             (status, true)
         );
+        if status == 0 {
+            assert_eq!(rt;
+                answers(alloc, "check", &mut shelf, &[], "included\n")?,
+                (0, true)
+            );
+        }
     }
+    Ok(())
+}
+
+#[test]
+fn names_may_be_the_same_and_files_faulty(rt: HostRuntime) -> Result<(), Fail> {
+    let alloc = rt.alloc();
+    let rows = [
+        ("A", "A", 0, "included\n"),
+        ("A", "B", 4, "file 2 line 1: Shape\n"),
+        ("B", "A", 4, "file 1 line 1: Shape\n"),
+        ("B", "X", 4, "file 1 line 1: Shape\n"),
+        ("A", "X", 6, "read fault\n"),
+        ("X", "B", 6, "read fault\n"),
+    ];
+    for (first, second, status, printed) in rows {
+        let mut shelf = shelf_of(alloc, ONE_A, "a,[0]-[1]\n", &[])?;
+        let words = ["include", first, second, "C"];
+        assert_eq!(rt;
+            says(alloc, &words, &mut shelf, &[], printed)?,
+            (status, true)
+        );
+        assert_eq!(rt; load(alloc, &mut shelf, "C", 1000).is_ok(), status == 0);
+    }
+    Ok(())
+}
+
+/// One state with a loop by each letter of the rings.
+const ANY: &str = "[0]\na0,[0]->[0]\na1,[0]->[0]\n[0]\n";
+
+#[test]
+fn a_decision_meets_its_limit(rt: HostRuntime) -> Result<(), Fail> {
+    let alloc = rt.alloc();
+    // paths lead from each of the 142 states to each, which makes 20164 supergraphs or more
+    let text = looped_ring(alloc, 142)?;
+    let mut shelf = shelf_of(alloc, text.as_str(), ANY, &[])?;
+    assert_eq!(rt;
+        answers(alloc, "include", &mut shelf, &[], "limit 20000\n")?,
+        (2, true)
+    );
+    let bytes = load(alloc, &mut shelf, "C", 1_000_000)?;
+    let front =
+        b"rabit-cert 1 buchi list\nsizes 142 1 2\nlog1 0\nlog2 0\nlimit 20000\nelements 20001\n";
+    assert!(rt; bytes.as_slice().starts_with(front));
     Ok(())
 }
 

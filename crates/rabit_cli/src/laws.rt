@@ -2,12 +2,13 @@
 
 ghost use Rattle.rabit_cli.specs.Laws.{CheckAgrees, AnswersAreAccepted};
 
-/// A check of what a decision wrote has the answer that the decision had.
+/// A check of what a decision wrote under a name of its own has the answer that the decision had, where that is yes or no and the file has
+/// at most 1 GiB.
 pub fn check_agrees()
     ensures { CheckAgrees }
 {}
 
-/// A check accepts each answer that says yes or no, at whatever limit it was found and whatever its file is called.
+/// A check accepts what a decision wrote that says yes or no, wherever a file holds it.
 pub fn answers_are_accepted()
     ensures { AnswersAreAccepted }
 {}

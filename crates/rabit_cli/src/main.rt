@@ -2,7 +2,6 @@
 #![tactic(auto)]
 
 mod answer;
-mod deciding;
 mod inclusion;
 mod laws;
 mod letters;
@@ -10,6 +9,7 @@ mod lines;
 mod question;
 mod reading;
 mod reducing;
+mod replying;
 mod top;
 
 use shelf_io::{DiskShelf, OutSink};
@@ -31,7 +31,13 @@ fn main(rt: HostRuntime) -> ExitCode {
 }
 
 #[cfg(test)]
+mod automaton_tests;
+#[cfg(test)]
+mod automaton_text_tests;
+#[cfg(test)]
 mod certificate_tests;
+#[cfg(test)]
+mod certificate_text_tests;
 #[cfg(test)]
 mod fault_tests;
 #[cfg(test)]
@@ -39,10 +45,18 @@ mod graph_tests;
 #[cfg(test)]
 mod include_tests;
 #[cfg(test)]
-mod inclusion_tests;
+mod lasso_tests;
 #[cfg(test)]
 mod reduce_tests;
 #[cfg(test)]
 mod search_tests;
 #[cfg(test)]
+mod shelf_tests;
+#[cfg(test)]
+mod supergraph_tests;
+#[cfg(test)]
 mod tests;
+#[cfg(test)]
+mod word_graph_tests;
+#[cfg(test)]
+mod yes_tests;

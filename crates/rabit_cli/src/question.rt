@@ -2,7 +2,7 @@
 
 ghost use Rattle.std.specs.Prelude.{◌≡◌, ◌≤◌, map, None, Some, MatchOption, IfSome};
 ghost use Rattle.std.specs.String.{string_bytes};
-ghost use Rattle.rabit_cli.specs.Question.{Reduce, question_for, question_on_three, question_on_one, look_named, look_without, look_with, task_named};
+ghost use Rattle.rabit_cli.specs.Question.{Reduce, question_for, question_on_three_files, question_on_one_file, look_named, look_without, look_with, task_named};
 
 /// What is done with the files that a command names.
 #[derive(Clone, Copy, Debug, PartialEq, Eq)]
@@ -29,8 +29,8 @@ fn task_of(word: &str) -> Option<Task>
 /// The task of `check A B CERT` or `include A B CERT` with the three names, if the words are such.
 pub fn asked(words: &[String]) -> Option<(Task, &str, &str, &str)>
     ensures { MatchOption result
-        (question_on_three (map string_bytes words.now) ≡ None)
-        (λ it. question_on_three (map string_bytes words.now) ≡ Some (question_for it.0 it.1.now it.2.now it.3.now)) }
+        (question_on_three_files (map string_bytes words.now) ≡ None)
+        (λ it. question_on_three_files (map string_bytes words.now) ≡ Some (question_for it.0 it.1.now it.2.now it.3.now)) }
 {
     match words {
         [command, first, second, certificate] => match task_of(command.as_str()) {
@@ -77,8 +77,8 @@ fn look_with(command: &str, option: &str, word: &str) -> Option<u32>
 /// The name and the lookahead of `reduce A` or `reduce A --look K`, if the words are such.
 pub fn asked_reduction(words: &[String]) -> Option<(&str, u32)>
     ensures asked { MatchOption result
-        (question_on_one (map string_bytes words.now) ≡ None)
-        (λ it. question_on_one (map string_bytes words.now) ≡ Some (Reduce it.0.now it.1)) }
+        (question_on_one_file (map string_bytes words.now) ≡ None)
+        (λ it. question_on_one_file (map string_bytes words.now) ≡ Some (Reduce it.0.now it.1)) }
     ensures within { IfSome result (λ it. (1 ≤ it.1) × (it.1 ≤ 6)) }
 {
     match words {

@@ -1,6 +1,6 @@
 //! The reduction of an automaton in a file in memory: what it prints, and what it leaves.
 
-use crate::search_tests::thirty;
+use crate::search_tests::looped_ring;
 use crate::tests::{answers, numbers_of, shelf_of, words_of};
 use crate::top::run;
 use auto_core::Memory;
@@ -67,7 +67,7 @@ fn the_reduced_automaton_is_printed(rt: HostRuntime) -> Result<(), Fail> {
         reduces(alloc, &["--look", "2"], FAR_ALIKE, FAR_ALIKE_PRUNED)?,
         (0, true)
     );
-    let ring = thirty(alloc)?;
+    let ring = looped_ring(alloc, 30)?;
     assert_eq!(rt;
         reduces(alloc, &[], ring.as_str(), ring.as_str())?,
         (0, true)

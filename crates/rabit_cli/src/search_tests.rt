@@ -195,12 +195,12 @@ fn limits_are_met_by_one_more(rt: HostRuntime) -> Result<(), Fail> {
     Ok(())
 }
 
-/// A ring of 30 states by one letter, where each state has a loop by another; only the first state is accepting.
-pub(crate) fn thirty(alloc: Global) -> Result<String, Memory> {
+/// A ring of so many states by one letter, where each state has a loop by another; only the first state is accepting.
+pub(crate) fn looped_ring(alloc: Global, states: u32) -> Result<String, Memory> {
     let mut text = String::new(alloc);
     text.push_str("[0]\n")?;
-    for state in 0..30_u32 {
-        let next = if state == 29 { 0 } else { state + 1 };
+    for state in 0..states {
+        let next = if state + 1 == states { 0 } else { state + 1 };
         let lines = format!(in alloc; "a0,[{state}]->[{next}]\na1,[{state}]->[{state}]\n")?;
         text.push_str(lines.as_str())?;
     }
@@ -220,7 +220,7 @@ fn includes(alloc: Global, first: &str, second: &str) -> Result<bool, Memory> {
 fn larger_searches_close(rt: HostRuntime) -> Result<(), Fail> {
     let alloc = rt.alloc();
     assert!(rt; includes(alloc, B_THEN_A, GUESS)?);
-    let text = thirty(alloc)?;
+    let text = looped_ring(alloc, 30)?;
     assert!(rt; includes(alloc, text.as_str(), text.as_str())?);
     Ok(())
 }

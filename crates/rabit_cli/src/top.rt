@@ -1,16 +1,16 @@
 //! The top call: what the words ask is answered, and the answer is said.
 
-ghost use Rattle.std.specs.Prelude.{◌≡◌, ◌≢◌, ◌⊎◌, ℕ, map, IfSome};
+ghost use Rattle.std.specs.Prelude.{◌≡◌, ◌≢◌, ◌⊎◌, ℕ, map, None, IfSome};
 ghost use Rattle.std.specs.String.{string_bytes};
 ghost use Rattle.shelf_io.specs.Counts.{Rose};
 ghost use Rattle.rabit_cli.specs.Question.{question_of};
 ghost use Rattle.rabit_cli.specs.Printed.{IsPrintable, text_for};
 ghost use Rattle.rabit_cli.specs.Command.{CountsInTurn, FailsInTurn};
-ghost use Rattle.rabit_cli.specs.Said.{WasSaid, IsAnswered, IsSayable, NeedsMemory, answer_in, ShowsIncluded, ShowsApart, ShowsListed, ShowsReduced, SaysEachAnswer};
+ghost use Rattle.rabit_cli.specs.Said.{WasSaid, IsAnswered, IsSayable, NeedsMemory, answer_in, ShowsIncluded, ShowsApart, ShowsListed, ShowsReduced, SaysNotBuilt, SaysEachAnswer};
 ghost use Rattle.rabit_cli.specs.Written.{OfBoth, LeavesFiles};
 
 use crate::answer::{Answer, Reply};
-use crate::{deciding, lines};
+use crate::{lines, replying};
 use shelf_io::{Shelf, Sink};
 use std::alloc::Global;
 
@@ -70,8 +70,12 @@ pub fn run<H: Shelf, K: Sink>(alloc: Global, words: &[String], shelf: &mut H, ou
         (K.sent out.old) (K.sent out.new) (K.faults out.old) (K.faults out.new)
         (H.faults shelf.old) (H.faults shelf.new) (H.put_faults shelf.old) (H.put_faults shelf.new)) }
 
-    // Included: the certificate is valid for the two read automata, and then the second accepts each lasso that the first accepts.
-    // A decision wrote it.
+    // Without a question that is said, or want of memory, whatever the shelf tells.
+    ensures unasked { question_of (map string_bytes words.now) ≡ None →
+        SaysNotBuilt result (K.sent out.old) (K.sent out.new) (K.faults out.old) (K.faults out.new) }
+
+    // Included, by a check or a decision: the certificate is valid for the two read automata, and then the second accepts each lasso
+    // that the first accepts. A decision wrote it.
     ensures included { result ≡ 0 → OfBoth (H.held shelf.old) (H.held shelf.new) (λ files files'.
         ShowsIncluded files (question_of (map string_bytes words.now)) files' (K.sent out.old) (K.sent out.new)) }
 
@@ -98,13 +102,13 @@ pub fn run<H: Shelf, K: Sink>(alloc: Global, words: &[String], shelf: &mut H, ou
     ensures write_fault { result ≡ 7 → Rose (K.faults out.old) (K.faults out.new) ⊎ Rose (H.put_faults shelf.old) (H.put_faults shelf.new) }
     ensures no_write_fault { result ≢ 7 → H.put_faults shelf.new ≡ H.put_faults shelf.old }
 
-    // Without a question no call of the shelf fails, and only a decision puts a file.
+    // Without a question no call of the shelf fails, and only a decision may have a failing put.
     ensures fails { FailsInTurn (question_of (map string_bytes words.now)) (H.faults shelf.old) (H.faults shelf.new) (H.put_faults shelf.old) (H.put_faults shelf.new) }
 
     // Where the shelf tells its files, a missing one is counted only where the command reads it, after those before it.
     ensures missing { IfSome (H.held shelf.old) (λ files.
         CountsInTurn files (question_of (map string_bytes words.now)) (H.missed shelf.old) (H.missed shelf.new)) }
 {
-    let reply = deciding::reply_to(alloc, words, shelf);
+    let reply = replying::reply_to(alloc, words, shelf);
     say_reply(alloc, &reply, out)
 }

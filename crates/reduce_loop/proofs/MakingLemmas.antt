@@ -1,8 +1,7 @@
--- Lists and relations copied one state after another, and automata from the parts of one.
-use Rattle.std.proofs.Common.{◌≡◌, ℕ, zero, suc, ◌+◌, ◌<◌, ◌≤◌, ◌⊎◌, ◌↔◌, inl, inr, Bool, true, false, cond, ◌==◌, List, [], ◌∷◌, ◌++◌, filter, Contains, refl, sym, ap, ◌∙◌, subst, arith, add-zero, add-one, zero-add}
+-- Lists of the numbers that pass a test, useful states, and the classes of a closed relation.
+use Rattle.std.proofs.Common.{◌≡◌, ℕ, zero, suc, ◌+◌, ◌<◌, ◌↔◌, Bool, true, false, cond, ◌==◌, List, [], ◌∷◌, ◌++◌, filter, Contains, refl, sym, ap, ◌∙◌, subst, arith, add-zero, add-one, zero-add}
 use Rattle.std.specs.List.{list_any, range_with_len}
 use Rattle.std.specs.List.Sorted.{IsStrictlyIncreasing}
-use Rattle.std.proofs.lemmas.Bool.{cases_eq}
 use Rattle.std.proofs.lemmas.List.{append-nil}
 use Rattle.std.proofs.lemmas.List.Elements.{filter-append}
 use Rattle.std.proofs.lemmas.List.Kept.{IsStrictlyIncreasing-filter}
@@ -14,10 +13,9 @@ use Rattle.auto_core.specs.Run.{Run}
 use Rattle.auto_core.specs.Useful.{AreUseful}
 use Rattle.auto_core.specs.declared.parts.Mode.{Mode}
 use Rattle.auto_core.proofs.MoveLemmas.{move_in_range}
-use Rattle.reduce_loop.proofs.RelationLemmas.{same_relation}
-use Rattle.auto_core.proofs.PathLemmas.{Contains-from_test, test_from_Contains, none_in_nil}
+use Rattle.auto_core.proofs.PathLemmas.{Contains-from_test, test_from_Contains}
 use Rattle.auto_core.proofs.MemberLemmas.{filter_has, filter_from, range_has, range_rises}
-use Rattle.bit_rel.specs.Relation.{Relation, IsRelation, Adds, IsClosed}
+use Rattle.bit_rel.specs.Relation.{Relation, IsClosed}
 
 -- ---- lists
 
@@ -69,106 +67,6 @@ useful_below A mode states valid are q h =
     run_below A valid A.initial w q flag valid.initial_is_state run
 
 -- ---- relations
-
--- The relation holds what the old one held and the pairs of p with numbers below n that P holds.
-abbrev pub HasUpto : (ℕ → ℕ → Type 0) → Relation → Relation → ℕ → ℕ → Type 0
-HasUpto P old now p n =
-    (now.size ≡ old.size)
-    × ((r s : ℕ) → Holds now.pairs r s ↔ (Holds old.pairs r s ⊎ ((r ≡ p) × (s < n) × P r s)))
-
-pub pair_added : (P : ℕ → ℕ → Type 0) (old now new : Relation) (p n : ℕ) → HasUpto P old now p n → P p n → Adds now new p n → HasUpto P old new p (n + 1)
-pair_added P old now new p n (size, pairs) is adds = (
-  let same = adds.size in omega (arith, size, same),
-  λ r s. (
-    λ h. elim ((adds.pairs r s).0 h) [
-      | inl was ↦ elim ((pairs r s).0 was) [ inl first ↦ inl first | inr here ↦ let lt = here.1 in inr (here.0, omega arith, here.2) ]
-      | inr same ↦
-          let Q : ℕ → Type 0 = λ x. P x s in
-          let R : ℕ → Type 0 = λ x. P p x in
-          inr (same.0, omega (arith, same.1), subst Q (sym same.0) (subst R (sym same.1) is))
-    ],
-    λ h. elim h [
-      | inl first ↦ (adds.pairs r s).1 (inl ((pairs r s).1 (inl first)))
-      | inr here ↦ elim (cases_eq s n) [
-        | inl e ↦ (adds.pairs r s).1 (inr (here.0, e))
-        | inr apart ↦ let lt = here.1 in (adds.pairs r s).1 (inl ((pairs r s).1 (inr (here.0, omega arith, here.2))))
-      ]
-    ],
-  ),
-)
-
-pub pair_passed : (P : ℕ → ℕ → Type 0) (old now : Relation) (p n : ℕ) → HasUpto P old now p n → (P p n → ⊥) → HasUpto P old now p (n + 1)
-pair_passed P old now p n (size, pairs) not = (
-  size,
-  λ r s. (
-    λ h. elim ((pairs r s).0 h) [ inl first ↦ inl first | inr here ↦ let lt = here.1 in inr (here.0, omega arith, here.2) ],
-    λ h. elim h [
-      | inl first ↦ (pairs r s).1 (inl first)
-      | inr here ↦ elim (cases_eq s n) [
-        | inl e ↦
-            let Q : ℕ → Type 0 = λ x. P x s in
-            let R : ℕ → Type 0 = λ x. P p x in
-            absurd (not (subst R e (subst Q here.0 here.2)))
-        | inr apart ↦ let lt = here.1 in (pairs r s).1 (inr (here.0, omega arith, here.2))
-      ]
-    ],
-  ),
-)
-
-pub row_copied :
-    (whole old now : Relation) (p n : ℕ)
-    → IsRelation whole
-    → whole.size ≤ n
-    → HasUpto (Holds whole.pairs) old now p n
-    → (r s : ℕ)
-    → Holds now.pairs r s ↔ (Holds old.pairs r s ⊎ ((r ≡ p) × Holds whole.pairs r s))
-row_copied whole old now p n valid all (size, pairs) r s = (
-  λ h. elim ((pairs r s).0 h) [ inl first ↦ inl first | inr here ↦ inr (here.0, here.2) ],
-  λ h. elim h [
-    | inl first ↦ (pairs r s).1 (inl first)
-    | inr here ↦ let below = valid.in_range r s here.1 in let lt = below.1 in (pairs r s).1 (inr (here.0, omega arith, here.1))
-  ],
-)
-
--- The relation holds the pairs of the numbers below n.
-abbrev pub HasBelow : Relation → Relation → ℕ → Type 0
-HasBelow whole now n =
-    (now.size ≡ whole.size)
-    × ((r s : ℕ) → Holds now.pairs r s ↔ ((r < n) × Holds whole.pairs r s))
-
-pub row_more :
-    (whole now new : Relation) (p : ℕ)
-    → HasBelow whole now p
-    → new.size ≡ now.size
-    → ((r s : ℕ) → Holds new.pairs r s ↔ (Holds now.pairs r s ⊎ ((r ≡ p) × Holds whole.pairs r s)))
-    → HasBelow whole new (p + 1)
-row_more whole now new p (size, pairs) same added = (
-  omega (arith, size, same),
-  λ r s. (
-    λ h. elim ((added r s).0 h) [
-      | inl was ↦ let before = (pairs r s).0 was in let lt = before.0 in (omega arith, before.1)
-      | inr here ↦ (omega (arith, here.0), here.1)
-    ],
-    λ (lt, is). elim (cases_eq r p) [
-      | inl e ↦ (added r s).1 (inr (e, is))
-      | inr apart ↦ (added r s).1 (inl ((pairs r s).1 (omega arith, is)))
-    ],
-  ),
-)
-
--- no pair is there of numbers below 0
-pub none_below : (whole now : Relation) (n : ℕ) → n ≡ whole.size → now ≡ (let R : Relation = record { size = n; pairs = [] } in R) → HasBelow whole now 0 × IsRelation now
-none_below whole now n same e = subst (λ R. HasBelow whole R 0 × IsRelation R) (sym e) (
-  (same, λ r s. (λ h. absurd (none_in_nil (r, s) h), λ (lt, is). absurd (omega arith))),
-  record { in_range = λ p q h. absurd (none_in_nil (p, q) h); in_order = tt },
-)
-
--- what holds all pairs is the relation
-pub all_below : (whole now : Relation) (n : ℕ) → IsRelation whole → whole.size ≤ n → HasBelow whole now n × IsRelation now → now ≡ whole
-all_below whole now n valid all ((size, pairs), is) = same_relation now whole is valid size (λ p q. (
-  λ h. ((pairs p q).0 h).1,
-  λ h. let lt = (valid.in_range p q h).0 in (pairs p q).1 (omega arith, h),
-))
 
 -- the classes of the closed relation are those of the closure
 pub classes_as : (old new : Relation) → IsClosed old new → (classes : List ℕ) → AreClassesOf new.size (Holds new.pairs) classes → AreClassesOf old.size (Close (Holds old.pairs)) classes

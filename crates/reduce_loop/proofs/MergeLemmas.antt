@@ -64,7 +64,7 @@ module _ (A B : Automaton) (classes : List ℕ) (are : AreClasses classes) (len 
         subst (λ x. IsAccepting A x) (sym (c_is ∙ own all q (accepting_below A valid q acc))) acc)
     | inr apart ↦
         let few = few_classes in
-        smaller_image A B (image classes) (class_of classes) k.valid (omega arith)
+        smaller_image A B (image classes) (class_of classes) k.valid k.labels (omega arith)
         (λ t h.
         let (p, q, move, c_is, d_is) = (k.moves t.source t.label t.target).0 h in
         (trans p t.label q, move, λ i. trans (sym c_is i) t.label (sym d_is i)))

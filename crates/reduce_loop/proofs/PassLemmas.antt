@@ -12,8 +12,8 @@ use Rattle.reduce_loop.specs.Kinds.{kinds_of, After}
 use Rattle.reduce_loop.specs.Passes.{Through, Passes, IsReduced}
 use Rattle.reduce_loop.specs.Settled.{IsSettled}
 use Rattle.reduce_loop.specs.Logs.{IsLogged, LogThrough, LogPasses, IsLog}
-use Rattle.reduce_loop.specs.Size.{size_of}
-use Rattle.reduce_loop.specs.Laws.{ReducedAcceptsTheSame, ReducedIsSettled, ReducedIsOne, LogIsOfReduced}
+use Rattle.reduce_loop.specs.Size.{size_of, IsNoLarger}
+use Rattle.reduce_loop.specs.Laws.{ReducedAcceptsTheSame, ReducedIsNoLarger, ReducedIsSettled, ReducedIsOne, LogIsOfReduced}
 use Rattle.reduce_loop.proofs.SizeLemmas.{IsSmaller}
 use Rattle.reduce_loop.proofs.StepLemmas.{after_valid, after_smaller, after_one, after_same, after_settled}
 
@@ -30,6 +30,23 @@ includes_on A B C Finite first second = λ w h. second w (first w h)
 same_on : (A B C : Automaton) (mode : Mode) → Same A B mode → Same B C mode → Same A C mode
 same_on A B C mode first second = (includes_on A B C mode first.0 second.0, includes_on C B A mode second.1 first.1)
 
+-- ---- sizes
+
+no_larger_itself : (A B : Automaton) → B ≡ A → IsNoLarger A B
+no_larger_itself A B e = record {
+  labels = ap (λ (X : Automaton). X.labels) e;
+  states = let same = ap (λ (X : Automaton). X.states) e in omega arith;
+  transitions = let same = ap (λ (X : Automaton). length X.transitions) e in omega arith;
+}
+
+no_larger_on : (A B C : Automaton) → IsNoLarger A B → IsNoLarger B C → IsNoLarger A C
+no_larger_on A B C first second =
+    let first_states = first.states in
+    let second_states = second.states in
+    let first_transitions = first.transitions in
+    let second_transitions = second.transitions in
+    record { labels = second.labels ∙ first.labels; states = omega arith; transitions = omega arith }
+
 -- ---- steps one after the other
 
 module _ (mode : Mode) (k : ℕ) where
@@ -38,25 +55,22 @@ module _ (mode : Mode) (k : ℕ) where
   through_valid (kind ∷ kinds) A C valid (B, step, rest) = through_valid kinds B C (after_valid A B mode k kind step) rest
 
   smaller_on : (A B C : Automaton) → IsSmaller A B → IsSmaller B C → IsSmaller A C
-  smaller_on A B C first second =
-      let first_states = first.states in
-      let second_states = second.states in
-      record {
-        states = omega arith;
-        same_or_less = elim first.same_or_less [
-          | inl e ↦ elim second.same_or_less [
-            | inl f ↦ inl (f ∙ e)
-            | inr less ↦ inr (subst (λ X. size_of C < size_of X) e less)
-          ]
-          | inr less ↦ elim second.same_or_less [
-            | inl f ↦ inr (subst (λ X. size_of X < size_of A) (sym f) less)
-            | inr lesser ↦ inr (omega arith)
-          ]
-        ];
-      }
+  smaller_on A B C first second = record {
+    no_larger = no_larger_on A B C first.no_larger second.no_larger;
+    same_or_less = elim first.same_or_less [
+      | inl e ↦ elim second.same_or_less [
+        | inl f ↦ inl (f ∙ e)
+        | inr less ↦ inr (subst (λ X. size_of C < size_of X) e less)
+      ]
+      | inr less ↦ elim second.same_or_less [
+        | inl f ↦ inr (subst (λ X. size_of X < size_of A) (sym f) less)
+        | inr lesser ↦ inr (omega arith)
+      ]
+    ];
+  }
 
   pub through_smaller : (kinds : List Kind) (A C : Automaton) → IsAutomaton A → Through A mode k kinds C → IsSmaller A C
-  through_smaller [] A C valid e = record { states = let f = ap (λ (X : Automaton). X.states) e in omega arith; same_or_less = inl e }
+  through_smaller [] A C valid e = record { no_larger = no_larger_itself A C e; same_or_less = inl e }
   through_smaller (kind ∷ kinds) A C valid (B, step, rest) =
       smaller_on A B C (after_smaller A B mode k kind valid step) (through_smaller kinds B C (after_valid A B mode k kind step) rest)
 
@@ -105,6 +119,11 @@ module _ (mode : Mode) (k : ℕ) where
   passes_same some zero A C valid (e, settled) = subst (λ X. Same A X mode) (sym e) (same_itself A mode)
   passes_same some (suc n) A C valid (B, pass, changed, rest) =
       same_on A B C mode (through_same some (kinds_of mode) (λ x h. h) A B valid pass) (passes_same some n B C (through_valid (kinds_of mode) A B valid pass) rest)
+
+  passes_no_larger : (n : ℕ) (A C : Automaton) → IsAutomaton A → Passes A mode k n C → IsNoLarger A C
+  passes_no_larger zero A C valid (e, settled) = no_larger_itself A C e
+  passes_no_larger (suc n) A C valid (B, pass, changed, rest) =
+      no_larger_on A B C (through_smaller (kinds_of mode) A B valid pass).no_larger (passes_no_larger n B C (through_valid (kinds_of mode) A B valid pass) rest)
 
   passes_settled : (n : ℕ) (A C : Automaton) → IsAutomaton A → Passes A mode k n C → IsSettled C mode k
   passes_settled zero A C valid (e, settled) =
@@ -180,6 +199,9 @@ module _ (mode : Mode) (k : ℕ) where
 
 pub reduced_same : ReducedAcceptsTheSame
 reduced_same A B mode k valid some (n, passes) = passes_same mode k some n A B valid passes
+
+pub reduced_no_larger : ReducedIsNoLarger
+reduced_no_larger A B mode k valid some (n, passes) = passes_no_larger mode k n A B valid passes
 
 pub reduced_settled : ReducedIsSettled
 reduced_settled A B mode k valid some (n, passes) = passes_settled mode k n A B valid passes

@@ -20,9 +20,14 @@ pub pruned_smaller : (A B : Automaton) (n k : ℕ) → IsAutomaton A → IsPrune
 pruned_smaller A B n k valid p =
     let states = p.cut.states in
     let accepting = ap length p.cut.accepting in
+    let shorter = pruned_shorter A B n k valid p in
     record {
-      states = omega arith;
-      same_or_less = elim (pruned_shorter A B n k valid p) [ inl e ↦ inl e | inr less ↦ inr (omega arith) ];
+      no_larger = record {
+        labels = p.cut.labels;
+        states = omega arith;
+        transitions = elim shorter [ inl e ↦ let same = ap (λ (X : Automaton). length X.transitions) e in omega arith | inr less ↦ omega arith ];
+      };
+      same_or_less = elim shorter [ inl e ↦ inl e | inr less ↦ inr (omega arith) ];
     }
 
 -- ---- the list of what is gone

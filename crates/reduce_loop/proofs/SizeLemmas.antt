@@ -12,7 +12,7 @@ use Rattle.auto_core.proofs.SetLemmas.{transitions_rise, same_automaton}
 use Rattle.quotient.proofs.MergeLaws.{accepting_below}
 use Rattle.useful_states.specs.KeptParts.{renumbered}
 use Rattle.useful_states.proofs.KeepLaws.{count_within}
-use Rattle.reduce_loop.specs.Size.{size_of}
+use Rattle.reduce_loop.specs.Size.{size_of, IsNoLarger}
 use Rattle.reduce_loop.proofs.ListLemmas.{few_rises, same_or_fewer, trans_cases, number_cases}
 
 pub before_and_after : (t u : Trans) → IsBefore t u → IsBefore u t → ⊥
@@ -27,9 +27,9 @@ moves_rise A valid = rises_from_pairs IsBefore A.transitions (transitions_rise A
 accepting_rise : (A : Automaton) → IsAutomaton A → Rises (λ x y. x < y) A.accepting
 accepting_rise A valid = rises_from_pairs (λ x y. x < y) A.accepting (AllPairs-from_increasing A.accepting valid.accepting_in_order)
 
--- What is made of A: no more states, and A itself or something smaller.
+-- What is made of A: nothing larger, and A itself or something smaller.
 pub record IsSmaller (A B : Automaton) : Type 0 where
-  pub states : B.states ≤ A.states
+  pub no_larger : IsNoLarger A B
   pub same_or_less : (B ≡ A) ⊎ (size_of B < size_of A)
 
 -- B has the states of A, and some of its moves and accepting states
@@ -44,7 +44,11 @@ pub smaller_part :
     → ((q : ℕ) → IsAccepting B q → IsAccepting A q)
     → IsSmaller A B
 smaller_part A B valid other states labels initial moves accepting = record {
-  states = omega arith;
+  no_larger = record {
+    labels = labels;
+    states = omega arith;
+    transitions = few_rises IsBefore (λ t h. before_and_after t t h h) B.transitions A.transitions (moves_rise B other) (λ t h. moves t.source t.label t.target h);
+  };
   same_or_less = elim (same_or_fewer IsBefore before_and_after trans_cases B.transitions A.transitions (moves_rise B other) (moves_rise A valid) (λ t h. moves t.source t.label t.target h)) [
     | inl ts ↦ elim rest [
       | inl qs ↦
@@ -64,18 +68,19 @@ smaller_part A B valid other states labels initial moves accepting = record {
 pub smaller_image :
     (A B : Automaton) (image : Trans → Trans) (number : ℕ → ℕ)
     → IsAutomaton B
+    → B.labels ≡ A.labels
     → B.states < A.states
     → ((t : Trans) → Contains B.transitions t → (u : Trans) × Contains A.transitions u × (image u ≡ t))
     → ((c : ℕ) → IsAccepting B c → (q : ℕ) × IsAccepting A q × (number q ≡ c))
     → IsSmaller A B
-smaller_image A B image number valid fewer moves accepting =
+smaller_image A B image number valid labels fewer moves accepting =
     let ts : length B.transitions ≤ length (map image A.transitions) = few_rises IsBefore (λ t h. before_and_after t t h h) B.transitions (map image A.transitions) (moves_rise B valid)
     (λ t h. let (u, there, is) = moves t h in subst (λ x. Contains (map image A.transitions) x) is (map_has image A.transitions u there)) in
     let qs : length B.accepting ≤ length (map number A.accepting) = few_rises (λ x y. x < y) (λ x h. omega arith) B.accepting (map number A.accepting) (accepting_rise B valid)
     (λ c h. let (q, there, is) = accepting c h in subst (λ x. Contains (map number A.accepting) x) is (map_has number A.accepting q there)) in
     let t_len = length-map A.transitions image in
     let q_len = length-map A.accepting number in
-    record { states = omega arith; same_or_less = inr (omega arith) }
+    record { no_larger = record { labels = labels; states = omega arith; transitions = omega arith }; same_or_less = inr (omega arith) }
 
 -- ---- automata that keep some states
 
@@ -106,7 +111,7 @@ kept_smaller A B kept valid k = elim (cases_eq (count_below (stays A kept) A.sta
   | inr apart ↦
       let few = count_within (stays A kept) A.states in
       let is = k.states in
-      smaller_image A B (renumbered A kept) (new_number A kept) k.valid (omega arith)
+      smaller_image A B (renumbered A kept) (new_number A kept) k.valid k.labels (omega arith)
       (λ t h.
       let (r, s, r_kept, s_kept, move, p_is, q_is) = (k.moves t.source t.label t.target).0 h in
       (trans r t.label s, move, λ i. trans (sym p_is i) t.label (sym q_is i)))

@@ -7,10 +7,15 @@ use Rattle.reduce_loop.specs.declared.steps.Step.{Step}
 use Rattle.reduce_loop.specs.Passes.{IsReduced}
 use Rattle.reduce_loop.specs.Settled.{IsSettled}
 use Rattle.reduce_loop.specs.Logs.{IsLog}
+use Rattle.reduce_loop.specs.Size.{IsNoLarger}
 
 -- A reduced automaton accepts the same.
 abbrev pub ReducedAcceptsTheSame : Type 0
 ReducedAcceptsTheSame = (A B : Automaton) (mode : Mode) (k : ℕ) → IsAutomaton A → 1 ≤ k → IsReduced A mode k B → Same A B mode
+
+-- The reduced automaton has the same labels, and no more states and transitions than the automaton.
+abbrev pub ReducedIsNoLarger : Type 0
+ReducedIsNoLarger = (A B : Automaton) (mode : Mode) (k : ℕ) → IsAutomaton A → 1 ≤ k → IsReduced A mode k B → IsNoLarger A B
 
 -- In it no step has anything to do.
 abbrev pub ReducedIsSettled : Type 0

@@ -67,8 +67,8 @@ pub record IsCutOf (A : Automaton) (n k : ℕ) (gone : List Gone) (back ahead : 
   pub is_ahead : IsAheadOf A n k ahead
   pub least : AreLeastBetter A n (Close (Holds (pairs_of back))) (Close (Holds (pairs_of ahead))) gone
 
--- The entry tells of a step of this kind on A at lookahead k: which states stayed, all useful ones ascending; which relation, the
--- greatest and not closed, joined the states, with the class of each; which transitions are gone and by which relations.
+-- The entry tells of a step of this kind on A at lookahead k: the useful states, ascending; which relation, the greatest as it is,
+-- without being closed, joined the states by its closure, with the class of each; which transitions are gone and by which relations.
 abbrev pub IsEntry : Automaton → Mode → ℕ → Kind → Step → Type 0
 IsEntry A mode k Trim entry = (kept : List ℕ) × (entry ≡ step.Trim kept) × IsUsefulList A mode kept
 IsEntry A mode k Forward entry =

@@ -29,40 +29,12 @@ fn class_list(alloc: Global, classes: &Classes, states: u32) -> Result<List<u32>
     Ok(made)
 }
 
-/// Adds the pairs that the relation holds with this left state.
-fn add_row(rel: &Rel, made: &mut Rel, p: u32)
-    requires equal { made.old.size ≡ rel.now.size }
-    requires left { p < rel.now.size }
-    requires valid { IsRelation made.old }
-    ensures size { made.new.size ≡ made.old.size }
-    ensures pairs { (r s : ℕ) → Holds made.new.pairs r s ↔ (Holds made.old.pairs r s ⊎ ((r ≡ p) × Holds rel.now.pairs r s)) }
-    ensures valid { IsRelation made.new }
-{
-    for q in 0..rel.size() {
-        if rel.get(p, q) {
-            made.set(p, q);
-        }
-    }
-}
-
-/// The same relation once more.
-pub(crate) fn copy_of(alloc: Global, rel: &Rel) -> Result<Rel, Memory>
-    ensures same { IfOk result (λ made. made ≡ rel.now) }
-    ensures valid { IfOk result (λ _. IsRelation rel.now) }
-{
-    let mut made = Rel::empty(alloc, rel.size())?;
-    for p in 0..rel.size() {
-        add_row(rel, &mut made, p);
-    }
-    Ok(made)
-}
-
 /// The closure of the relation, which stays as it is.
 pub(crate) fn closure(alloc: Global, rel: &Rel) -> Result<Rel, Memory>
     ensures closed { IfOk result (IsClosed rel.now) }
     ensures valid { IfOk result (λ _. IsRelation rel.now) }
 {
-    let mut made = copy_of(alloc, rel)?;
+    let mut made = rel.copied(alloc)?;
     made.close();
     Ok(made)
 }

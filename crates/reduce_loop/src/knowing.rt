@@ -5,7 +5,6 @@ ghost use Rattle.auto_core.specs.Game.{IsGreatestForward, IsGreatestBackward};
 ghost use Rattle.reduce_loop.specs.Known.{IsKnown};
 ghost use Rattle.reduce_loop.specs.Logs.{IsRelationOf, IsBackOf, IsAheadOf};
 
-use crate::joining::copy_of;
 use auto_core::{Auto, Memory};
 use bit_rel::Rel;
 use std::alloc::Global;
@@ -45,11 +44,11 @@ pub(crate) fn forward(
     ensures known { IfOk result (λ _. IfSome kept.new (IsRelationOf automaton.now (IsGreatestForward automaton.now look))) }
 {
     match kept {
-        Some(rel) => return copy_of(alloc, rel),
+        Some(rel) => return rel.copied(alloc),
         None => {}
     }
     let rel = direct_sim::relation(alloc, automaton, look)?;
-    *kept = Some(copy_of(alloc, &rel)?);
+    *kept = Some(rel.copied(alloc)?);
     Ok(rel)
 }
 
@@ -67,11 +66,11 @@ pub(crate) fn backward(
     ensures known { IfOk result (λ _. IfSome kept.new (IsRelationOf automaton.now (IsGreatestBackward automaton.now look))) }
 {
     match kept {
-        Some(rel) => return copy_of(alloc, rel),
+        Some(rel) => return rel.copied(alloc),
         None => {}
     }
     let rel = backward_sim::relation(alloc, automaton, look)?;
-    *kept = Some(copy_of(alloc, &rel)?);
+    *kept = Some(rel.copied(alloc)?);
     Ok(rel)
 }
 

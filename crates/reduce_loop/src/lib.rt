@@ -15,4 +15,22 @@ pub use reducing::reduce;
 pub use steps::{Kind, MergeBy, Reduced, Step};
 
 #[cfg(test)]
+mod backward_tests;
+#[cfg(test)]
+mod delayed_tests;
+#[cfg(test)]
+mod forward_tests;
+#[cfg(test)]
+mod game_tests;
+#[cfg(test)]
+mod pruning_tests;
+#[cfg(test)]
+mod quotient_tests;
+#[cfg(test)]
+mod relation_tests;
+#[cfg(test)]
+mod round_tests;
+#[cfg(test)]
 mod tests;
+#[cfg(test)]
+mod useful_tests;

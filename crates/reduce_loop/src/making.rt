@@ -30,7 +30,7 @@ fn members(alloc: Global, set: &StateSet, states: u32) -> Result<List<u32>, Memo
     Ok(made)
 }
 
-/// The useful states alone.
+/// The useful states and the initial one.
 fn trim(alloc: Global, automaton: &Auto, mode: Mode, look: u32) -> Result<Made, Memory>
     ensures after { IfOk result (λ made. After automaton.now mode look Kind.Trim made.automaton) }
     ensures entry { IfOk result (λ made. IsEntry automaton.now mode look Kind.Trim made.entry) }

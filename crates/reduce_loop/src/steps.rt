@@ -9,7 +9,7 @@ use prune_pairs::Gone;
 /// A kind of step.
 #[derive(Clone, Copy, Debug, PartialEq, Eq)]
 pub enum Kind {
-    /// The useless states go.
+    /// The useless states go, but the initial state stays even where it is useless.
     Trim,
     /// States that the forward relation joins become one.
     Forward,
@@ -27,21 +27,21 @@ pub enum Kind {
 /// What joined the states that became one.
 #[derive(Debug, Drop)]
 pub enum MergeBy {
-    /// The greatest forward relation, which is not closed.
+    /// The greatest forward relation, given as it is, without being closed.
     Forward {
         /// Its lookahead.
         look: u32,
         /// The relation.
         rel: Rel,
     },
-    /// The greatest backward relation, which is not closed.
+    /// The greatest backward relation, given as it is, without being closed.
     Backward {
         /// Its lookahead.
         look: u32,
         /// The relation.
         rel: Rel,
     },
-    /// The greatest delayed relation, which is not closed.
+    /// The greatest delayed relation, given as it is, without being closed.
     Delayed {
         /// The relation, with the least ranks.
         ranks: Delayed,
@@ -51,9 +51,9 @@ pub enum MergeBy {
 /// A step that changed the automaton.
 #[derive(Debug, Drop)]
 pub enum Step {
-    /// Only the useful states stayed.
+    /// Only the useful states stayed, and the initial state, even where it is useless.
     Trim {
-        /// The useful states, ascending.
+        /// The useful states, ascending; the initial state is among them only where it is useful.
         kept: List<u32>,
     },
     /// The states of each class became one.
@@ -71,9 +71,9 @@ pub enum Step {
         look: u32,
         /// The transitions, ascending, each with the least better one.
         gone: List<Gone>,
-        /// The greatest backward relation, which is not closed, if the pair has one.
+        /// The greatest backward relation, given as it is, without being closed, if the pair has one.
         back: Option<Rel>,
-        /// The greatest forward relation, which is not closed, if the pair has one.
+        /// The greatest forward relation, given as it is, without being closed, if the pair has one.
         ahead: Option<Rel>,
     },
 }

@@ -7,7 +7,8 @@ use auto_core::{Auto, Memory, Mode, Trans};
 use std::alloc::Global;
 use std::test::Fail;
 
-fn step(source: u32, label: u32, target: u32) -> Trans {
+/// A transition.
+pub(crate) fn step(source: u32, label: u32, target: u32) -> Trans {
     Trans {
         source,
         label,

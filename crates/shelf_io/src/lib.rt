@@ -20,6 +20,3 @@ pub use memory_sink::MemSink;
 pub use output::OutSink;
 pub use outside::{Shelf, Sink};
 pub use parts::{Failed, File, LoadFault};
-
-#[cfg(test)]
-mod tests;

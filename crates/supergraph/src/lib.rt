@@ -7,6 +7,3 @@ mod words;
 
 pub use arcs::{Arc, base, extend, subsumes};
 pub use words::word_of;
-
-#[cfg(test)]
-mod tests;

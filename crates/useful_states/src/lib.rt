@@ -7,6 +7,3 @@ mod searching;
 
 pub use keeping::{keep, trim};
 pub use searching::useful;
-
-#[cfg(test)]
-mod tests;

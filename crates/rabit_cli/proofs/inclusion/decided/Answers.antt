@@ -1,4 +1,4 @@
-use Rattle.std.proofs.Common.{◌≡◌, List, ℕ, Option, subst}
+use Rattle.std.proofs.Common.{List, ℕ, Option, subst}
 use Rattle.shelf_io.specs.Shelf.{FileMap, Puts}
 use Rattle.rabit_cli.specs.Written.{LeavesBehind}
 use Rattle.rabit_cli.proofs.RunLemmas.{same_files}

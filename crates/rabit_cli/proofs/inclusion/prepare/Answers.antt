@@ -1,4 +1,4 @@
-use Rattle.std.proofs.Common.{◌≡◌, arith}
+use Rattle.std.proofs.Common.{arith}
 use Rattle.rabit_cli.proofs.DecidedLemmas.{is_prepared}
 use Rattle.rabit_cli.proofs.inclusion.prepare.Goals as goal
 

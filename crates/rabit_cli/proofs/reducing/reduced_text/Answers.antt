@@ -1,4 +1,4 @@
-use Rattle.std.proofs.Common.{◌≡◌, ◌≤◌, length, ◌∙◌, arith}
+use Rattle.std.proofs.Common.{◌∙◌, arith}
 use Rattle.auto_core.specs.declared.parts.Mode.TheVariants.{Buchi}
 use Rattle.rabit_cli.proofs.LookLemmas.{reduced_labels}
 use Rattle.rabit_cli.proofs.reducing.reduced_text.Goals as goal

@@ -1,7 +1,7 @@
 use Rattle.std.proofs.Common.{map, Global}
 use Rattle.std.specs.String.{string_bytes}
 use Rattle.rabit_cli.specs.Question.{question_of}
-use Rattle.rabit_cli.proofs.RunLemmas.{done_with, answered, shows_included, shows_apart, shows_listed, shows_reduced, leaves_files, read_fault, no_read_fault, write_fault, no_write_fault, says_each_answer}
+use Rattle.rabit_cli.proofs.RunLemmas.{done_with, answered, shows_included, shows_apart, shows_listed, shows_reduced, leaves_files, read_fault, no_read_fault, write_fault, no_write_fault, says_not_built, says_each_answer}
 use Rattle.rabit_cli.proofs.LookLemmas.{has_look}
 use Rattle.rabit_cli.proofs.top.run.Goals as goal
 
@@ -69,3 +69,7 @@ returns-clause-no_write_fault g c =
     no_write_fault (g.H.Shelf.held c.args.shelf.now) (g.H.Shelf.held c.reply_to-reply.new.shelf) (question_of (map (string_bytes {Z = Global}) c.args.words.now)) _ _ _ _ _ _ _ _ _
     (done_with (g.H.Shelf.held c.args.shelf.now) (g.H.Shelf.held c.reply_to-reply.new.shelf) (question_of (map (string_bytes {Z = Global}) c.args.words.now)) _ _ _ _ _ _ _ _ _ c.reply_to-reply.result
     c.reply_to-reply.ensures.answer c.reply_to-reply.ensures.read_fault c.reply_to-reply.ensures.no_read_fault c.reply_to-reply.ensures.write_fault c.reply_to-reply.ensures.no_write_fault c.reply_to-reply.ensures.leaves c.reply_to-reply.ensures.early c.say_reply.ensures)
+
+pub returns-clause-unasked : goal.returns-clause-unasked
+returns-clause-unasked g c =
+    says_not_built (question_of (map (string_bytes {Z = Global}) c.args.words.now)) _ _ _ _ _ c.reply_to-reply.result c.reply_to-reply.ensures.unasked c.say_reply.ensures

@@ -11,7 +11,7 @@ take-requires-clause-few c =
     let kinds = take c.loop-kind.kind-index (kinds_of c.args.mode) in
     let on : LogsOn c.args.state.auto c.args.mode c.args.look kinds c.args.state.log c.loop-kind.state.auto c.loop-kind.state.log = c.loop-kind.invariant.0 in
     let le = (through_smaller c.args.mode c.args.look kinds c.args.state.auto c.loop-kind.state.auto c.requires.valid
-    (log_through c.args.mode c.args.look kinds c.args.state.auto c.loop-kind.state.auto on.0 on.1)).states in
+    (log_through c.args.mode c.args.look kinds c.args.state.auto c.loop-kind.state.auto on.0 on.1)).no_larger.states in
     let few = c.requires.few in
     omega arith
 

@@ -52,7 +52,7 @@ loop-state-preserved c =
     let C = c.in_ok-state.state.auto in
     let on : LogsOn B c.args.mode c.args.look (kinds_of c.args.mode) c.loop-state.state.log C c.in_ok-state.state.log = c.in_ok-state.ensures.logs in
     let through = log_through c.args.mode c.args.look (kinds_of c.args.mode) B C on.0 on.1 in
-    let le : C.states ≤ B.states = (through_smaller c.args.mode c.args.look (kinds_of c.args.mode) B C c.loop-state.invariant.0 through).states in
+    let le : C.states ≤ B.states = (through_smaller c.args.mode c.args.look (kinds_of c.args.mode) B C c.loop-state.invariant.0 through).no_larger.states in
     let few : B.states ≤ 65535 = c.loop-state.invariant.1 in (
       through_valid c.args.mode c.args.look (kinds_of c.args.mode) B C c.loop-state.invariant.0 through,
       omega arith,
