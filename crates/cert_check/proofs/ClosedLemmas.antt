@@ -17,15 +17,18 @@ use Rattle.graph_laws.proofs.OriginLemmas.{length-arcs_of, placed_arcs_are_real}
 use Rattle.cert_text.specs.declared.types.YesBody.{YesBody}
 use Rattle.cert_text.specs.declared.types.Element.{Element}
 use Rattle.cert_text.specs.declared.types.StepLine.{StepLine}
-use Rattle.cert_text.specs.WellFormed.{WellFormed, is_short, are_short, is_body, is_yes, is_block, are_logs, is_live, is_element, is_origin, is_mark, are_steps, is_step_of}
+use Rattle.cert_text.specs.WellFormed.{WellFormed, is_short, are_short, is_body, is_yes, is_block, are_logs, is_live, is_element, is_origin, is_mark, are_steps, is_step_of, is_first_step, is_second_step}
 use Rattle.ba_format.specs.declared.parts.Joined.{Joined}
 use Rattle.cert_text.specs.declared.types.Cert.{Cert}
 use Rattle.cert_text.specs.declared.types.Body.TheVariants.{Yes, NoLasso}
 use Rattle.cert_check.specs.Laws.{ValidYesIncludes, ValidNoSeparates}
-use Rattle.cert_check.specs.Rules.{body_checks, checks_of, has_checked_body, has_checked_form}
-use Rattle.cert_check.specs.Checks.{Check, AllHold, checks_of_each}
-use Rattle.cert_check.specs.Inclusion.{pairs_of, origins_of, element_arcs, live_in, no_element, NamesOrigin, HasEarlierParent, GoesOn, AreOver, IsOver, starts_of, extensions_of, order_checks, element_checks, under_checks, cover_checks, step_checks, pair_checks, inclusion_checks}
-use Rattle.cert_check.proofs.CheckLemmas.{all_front, all_back, each_of}
+use Rattle.cert_check.specs.Rules.{lasso_checks, YesHolds, BodyHolds, KeepsRules, has_checked_body, has_checked_form}
+use Rattle.log_check.specs.Ends.{item_after}
+use Rattle.log_check.proofs.LawLemmas.{first_log_grows, second_log_shrinks}
+use Rattle.log_check.specs.Checks.{Check, AllHold, checks_of_each}
+use Rattle.log_check.specs.Blocks.{pairs_of}
+use Rattle.cert_check.specs.Inclusion.{origins_of, element_arcs, live_in, no_element, NamesOrigin, HasEarlierParent, GoesOn, AreOver, IsOver, starts_of, extensions_of, order_checks, element_checks, under_checks, cover_checks, step_checks, pair_checks, inclusion_checks}
+use Rattle.log_check.proofs.CheckLemmas.{all_front, all_back, each_of}
 
 -- An element of a Büchi file does not come from the start.
 not_start : (o : Origin) → is_origin Buchi o ≡ true → ¬ (o ≡ Start)
@@ -106,38 +109,38 @@ subsumed_at A B evidence js xs i x over lt is =
     (slice_index js i, one.0, one.1)
 
 -- The five lists of checks after those of the relation.
-module _ (A B : Automaton) (evidence : YesBody) where
+module _ (n : ℕ) (A B : Automaton) (evidence : YesBody) where
   abbrev pub elements_part : List Check
-  elements_part = checks_of_each (element_checks A evidence 2) 0 evidence.elements
+  elements_part = checks_of_each (element_checks A evidence (n + 1)) 0 evidence.elements
 
   abbrev pub under_part : List Check
-  under_part = checks_of_each (under_checks A B evidence 2) 0 evidence.elements
+  under_part = checks_of_each (under_checks A B evidence (n + 1)) 0 evidence.elements
 
   abbrev pub cover_part : List Check
-  cover_part = cover_checks A B evidence (2 + length evidence.elements)
+  cover_part = cover_checks A B evidence (n + 1 + length evidence.elements)
 
   abbrev pub steps_part : List Check
-  steps_part = checks_of_each (step_checks A B evidence (3 + length evidence.elements)) 0 evidence.steps
+  steps_part = checks_of_each (step_checks A B evidence (n + 2 + length evidence.elements)) 0 evidence.steps
 
   abbrev pub pairs_part : List Check
-  pairs_part = checks_of_each (pair_checks A B evidence 2) 0 evidence.elements
+  pairs_part = checks_of_each (pair_checks A B evidence (n + 1)) 0 evidence.elements
 
   record Parts : Type 0 where
-    order : AllHold (order_checks B evidence 1)
+    order : AllHold (order_checks B evidence n)
     elements : AllHold elements_part
     cover : AllHold cover_part
     steps : AllHold steps_part
     pairs : AllHold pairs_part
 
-  parts : AllHold (inclusion_checks A B evidence) → Parts
+  parts : AllHold (inclusion_checks n A B evidence) → Parts
   parts hold =
       let a : AllHold (elements_part ++ (under_part ++ (cover_part ++ (steps_part ++ pairs_part)))) =
-      all_back (order_checks B evidence 1) (elements_part ++ (under_part ++ (cover_part ++ (steps_part ++ pairs_part)))) hold in
+      all_back (order_checks B evidence n) (elements_part ++ (under_part ++ (cover_part ++ (steps_part ++ pairs_part)))) hold in
       let b : AllHold (under_part ++ (cover_part ++ (steps_part ++ pairs_part))) = all_back elements_part (under_part ++ (cover_part ++ (steps_part ++ pairs_part))) a in
       let c : AllHold (cover_part ++ (steps_part ++ pairs_part)) = all_back under_part (cover_part ++ (steps_part ++ pairs_part)) b in
       let d : AllHold (steps_part ++ pairs_part) = all_back cover_part (steps_part ++ pairs_part) c in
       record {
-        order = all_front (order_checks B evidence 1) (elements_part ++ (under_part ++ (cover_part ++ (steps_part ++ pairs_part)))) hold;
+        order = all_front (order_checks B evidence n) (elements_part ++ (under_part ++ (cover_part ++ (steps_part ++ pairs_part)))) hold;
         elements = all_front elements_part (under_part ++ (cover_part ++ (steps_part ++ pairs_part))) a;
         cover = all_front cover_part (steps_part ++ pairs_part) c;
         steps = all_front steps_part pairs_part d;
@@ -148,14 +151,14 @@ module _ (A B : Automaton) (evidence : YesBody) where
   placed : list_all (is_element Buchi) evidence.elements ≡ true → Parts → ArePlaced A (origins_of evidence)
   placed begun p e lt =
       let lt' : e < length evidence.elements = omega (arith, length-map evidence.elements (λ (x : Element). x.origin)) in
-      let h = each_of (element_checks A evidence 2) e evidence.elements no_element lt' p.elements in
+      let h = each_of (element_checks A evidence (n + 1)) e evidence.elements no_element lt' p.elements in
       let is : slice_index_or (origins_of evidence) e Start ≡ (slice_index_or evidence.elements e no_element).origin =
       get_or-map (λ (x : Element). x.origin) evidence.elements e no_element Start lt' in
       subst (IsPlacedAt A (element_arcs A evidence) e) (sym is)
       (placed_one A (element_arcs A evidence) (length evidence.elements) e (slice_index_or evidence.elements e no_element).origin
       (begun_at evidence.elements e no_element begun lt') h.0.0 h.1.0 h.1.1.0)
 
-  pub closed : list_all (is_element Buchi) evidence.elements ≡ true → are_steps 0 evidence.elements evidence.steps ≡ true → AllHold (inclusion_checks A B evidence) →
+  pub closed : list_all (is_element Buchi) evidence.elements ≡ true → are_steps 0 evidence.elements evidence.steps ≡ true → AllHold (inclusion_checks n A B evidence) →
       ClosedSet A B (pairs_of evidence.order) (element_arcs A evidence) (live_in evidence)
   closed begun lined hold =
       let p = parts hold in
@@ -170,7 +173,7 @@ module _ (A B : Automaton) (evidence : YesBody) where
         steps = λ e t live lt leaves.
             let (k, k_in, is) = line_from_start no_line e evidence.elements evidence.steps lined (omega (arith, live.0, size)) live.1 in
             let step : StepLine = slice_index_or evidence.steps k no_line in
-            let h = each_of (step_checks A B evidence (3 + length evidence.elements)) k evidence.steps no_line k_in p.steps in
+            let h = each_of (step_checks A B evidence (n + 2 + length evidence.elements)) k evidence.steps no_line k_in p.steps in
             let x : WordArc = arc_at A (element_arcs A evidence) e in
             let over : AreOver A B evidence step.by (extensions_of A x) = subst (λ m. AreOver A B evidence step.by (extensions_of A (arc_at A (element_arcs A evidence) m))) is h.1.0 in
             let (i, i_in, same) = kept_at (λ (u : Trans). u.source == x.to) A.transitions t (trans 0 0 0) lt (eq-eqb (trans_at A t).source x.to leaves) in
@@ -178,17 +181,17 @@ module _ (A B : Automaton) (evidence : YesBody) where
             (omega (arith, i_in, length-map (filter (λ (u : Trans). u.source == x.to) A.transitions) (extended_arc A x)))
             (get_or-map (extended_arc A x) (filter (λ (u : Trans). u.source == x.to) A.transitions) i (trans 0 0 0) (start_arc A) i_in ∙ ap (extended_arc A x) same);
         passes = λ e f live_e live_f.
-            (each_of (pair_checks A B evidence 2) e evidence.elements no_element (omega (arith, live_e.0, size)) p.pairs).0 live_e f live_f;
+            (each_of (pair_checks A B evidence (n + 1)) e evidence.elements no_element (omega (arith, live_e.0, size)) p.pairs).0 live_e f live_f;
       }
     where
       no_line : StepLine
       no_line = record { element = 0; by = [] }
 
 -- So the second automaton accepts each lasso that the first accepts.
-pub included : (A B : Automaton) (evidence : YesBody) → IsAutomaton B → list_all (is_element Buchi) evidence.elements ≡ true → are_steps 0 evidence.elements evidence.steps ≡ true →
-    AllHold (inclusion_checks A B evidence) → Includes A B Buchi
-included A B evidence valid begun lined hold =
-    closed_set_includes A B (pairs_of evidence.order) (element_arcs A evidence) (live_in evidence) valid (closed A B evidence begun lined hold)
+pub included : (n : ℕ) (A B : Automaton) (evidence : YesBody) → IsAutomaton B → list_all (is_element Buchi) evidence.elements ≡ true → are_steps 0 evidence.elements evidence.steps ≡ true →
+    AllHold (inclusion_checks n A B evidence) → Includes A B Buchi
+included n A B evidence valid begun lined hold =
+    closed_set_includes A B (pairs_of evidence.order) (element_arcs A evidence) (live_in evidence) valid (closed n A B evidence begun lined hold)
 
 -- The parts of a well-formed certificate of inclusion.
 yes_formed : (cert : Cert) (evidence : YesBody) → cert.body ≡ Yes evidence → WellFormed cert → is_yes cert.mode evidence ≡ true
@@ -216,6 +219,21 @@ yes_parts evidence h =
       lined = (and_parts (are_short evidence.cover) (are_steps 0 evidence.elements evidence.steps) d.1).1;
     }
 
+-- The steps of its logs.
+pub record LogParts (m : Mode) (evidence : YesBody) : Type 0 where
+  pub few_first : length evidence.first < 10 ^ 9
+  pub firsts : list_all is_first_step evidence.first ≡ true
+  pub few_second : length evidence.second < 10 ^ 9
+  pub seconds : list_all (is_second_step m) evidence.second ≡ true
+
+pub log_parts : (m : Mode) (evidence : YesBody) → is_yes m evidence ≡ true → LogParts m evidence
+log_parts m evidence h =
+    let logs = (and_parts (are_logs m evidence.first evidence.second) (is_block evidence.order && (is_short (length evidence.elements) && (list_all (is_element m) evidence.elements && (are_short evidence.cover && are_steps 0 evidence.elements evidence.steps)))) h).0 in
+    let a = and_parts (is_short (length evidence.first)) (list_all is_first_step evidence.first && (is_short (length evidence.second) && list_all (is_second_step m) evidence.second)) logs in
+    let b = and_parts (list_all is_first_step evidence.first) (is_short (length evidence.second) && list_all (is_second_step m) evidence.second) a.1 in
+    let c = and_parts (is_short (length evidence.second)) (list_all (is_second_step m) evidence.second) b.1 in
+    record { few_first = grind (arith, a.0); firsts = b.0; few_second = grind (arith, c.0); seconds = c.1 }
+
 -- There are no more step lines than elements.
 pub lines_fit : (n : ℕ) (es : List Element) (steps : List StepLine) → are_steps n es steps ≡ true → length steps ≤ length es
 lines_fit n [] [] h = omega arith
@@ -238,17 +256,29 @@ checked_yes_parts cert evidence is formed form =
     let buchi : cert.mode ≡ Buchi = yes_is_buchi cert.mode evidence (subst (λ b. has_checked_body cert.mode b ≡ true) is form) in
     yes_parts evidence (subst (λ m. is_yes m evidence ≡ true) buchi (yes_formed cert evidence is formed))
 
+-- What the evidence shows of the automata that the logs lead to, it shows of those that they begin with.
+pub through_logs : (pair : Joined) (evidence : YesBody) → IsAutomaton pair.first → IsAutomaton pair.second → is_yes Buchi evidence ≡ true → YesHolds Buchi pair evidence →
+    Includes pair.first pair.second Buchi
+through_logs pair evidence valid valid' formed h =
+    let p = yes_parts evidence formed in
+    let logs = log_parts Buchi evidence formed in
+    let grows = first_log_grows Buchi pair.first h.ends.first 1 evidence.first valid logs.firsts h.logs.first in
+    let shrinks = second_log_shrinks Buchi pair.second h.ends.second (1 + length evidence.first) evidence.second valid' logs.seconds h.logs.second in
+    let middle = included (item_after evidence.first evidence.second) h.ends.first h.ends.second evidence shrinks.1.valid p.elements p.lined h.closed in
+    λ u v accepted. shrinks.0 u v (middle u v (grows.0 u v accepted))
+
 -- A valid certificate that says yes shows an inclusion.
-pub valid_yes_includes : (pair : Joined) (cert : Cert) (evidence : YesBody) → cert.body ≡ Yes evidence → WellFormed cert → has_checked_form cert ≡ true → IsAutomaton pair.second →
-    AllHold (checks_of pair cert) → Includes pair.first pair.second Buchi
-valid_yes_includes pair cert evidence is formed form valid hold =
-    let p = checked_yes_parts cert evidence is formed form in
-    included pair.first pair.second evidence valid p.elements p.lined (subst (λ b. AllHold (body_checks pair b)) is hold.1)
+pub valid_yes_includes : (pair : Joined) (cert : Cert) (evidence : YesBody) → cert.body ≡ Yes evidence → WellFormed cert → has_checked_form cert ≡ true → IsAutomaton pair.first → IsAutomaton pair.second →
+    KeepsRules pair cert → Includes pair.first pair.second Buchi
+valid_yes_includes pair cert evidence is formed form valid valid' hold =
+    let buchi : cert.mode ≡ Buchi = yes_is_buchi cert.mode evidence (subst (λ b. has_checked_body cert.mode b ≡ true) is form) in
+    let yes : is_yes Buchi evidence ≡ true = subst (λ m. is_yes m evidence ≡ true) buchi (yes_formed cert evidence is formed) in
+    through_logs pair evidence valid valid' yes (subst (λ m. YesHolds m pair evidence) buchi (subst (λ b. BodyHolds cert.mode pair b) is hold.1))
 
 pub valid_yes : ValidYesIncludes
-valid_yes pair cert evidence valid is v = valid_yes_includes pair cert evidence is v.formed v.form valid v.keeps
+valid_yes pair cert evidence valid valid' is v = valid_yes_includes pair cert evidence is v.formed v.form valid valid' v.keeps
 
 pub valid_no : ValidNoSeparates
 valid_no pair cert lasso is v =
-    let all : AllHold (body_checks pair (NoLasso lasso)) = subst (λ b. AllHold (body_checks pair b)) is v.keeps.1 in
+    let all : AllHold (lasso_checks pair lasso) = subst (λ b. BodyHolds cert.mode pair b) is v.keeps.1 in
     (all.1.1.0, all.1.1.1.0)

@@ -1,60 +1,78 @@
 -- The parts of what is asked of a certificate of inclusion, tested one after another.
-use Rattle.std.proofs.Common.{List, ◌++◌, Result, Err}
+use Rattle.std.proofs.Common.{ℕ, List, ◌++◌, Result, Ok, Err, inl, inr}
 use Rattle.auto_core.specs.Automaton.{Automaton}
 use Rattle.cert_text.specs.declared.types.YesBody.{YesBody}
-use Rattle.cert_check.specs.declared.faults.CheckFault.{CheckFault}
-use Rattle.cert_check.specs.Checks.{Check, AllHold, Tells}
+use Rattle.auto_core.specs.declared.parts.Mode.{Mode}
+use Rattle.ba_format.specs.declared.parts.Joined.{Joined}
+use Rattle.log_check.specs.declared.faults.CheckFault.{CheckFault}
+use Rattle.log_check.specs.declared.faults.CheckFault.TheVariants.{Refused, Memory}
+use Rattle.log_check.specs.declared.ends.Ends.{Ends}
+use Rattle.log_check.specs.Ends.{TellsBothLogs, item_after}
+use Rattle.cert_check.specs.Rules.{TellsYes}
+use Rattle.log_check.specs.Checks.{Check, AllHold, Tells}
 use Rattle.cert_check.specs.Inclusion.{order_checks, inclusion_checks}
-use Rattle.cert_check.proofs.CheckLemmas.{tells_fault, tells_after}
+use Rattle.log_check.proofs.CheckLemmas.{tells_fault, tells_after}
 use Rattle.cert_check.proofs.ClosedLemmas.{elements_part, under_part, cover_part, steps_part, pairs_part}
 
-module _ (A B : Automaton) (evidence : YesBody) (X : Type 0) (e : CheckFault) where
+module _ (n : ℕ) (A B : Automaton) (evidence : YesBody) (X : Type 0) (e : CheckFault) where
   abbrev E : List Check
-  E = elements_part A B evidence
+  E = elements_part n A B evidence
 
   abbrev U : List Check
-  U = under_part A B evidence
+  U = under_part n A B evidence
 
   abbrev C : List Check
-  C = cover_part A B evidence
+  C = cover_part n A B evidence
 
   abbrev S : List Check
-  S = steps_part A B evidence
+  S = steps_part n A B evidence
 
   abbrev P : List Check
-  P = pairs_part A B evidence
+  P = pairs_part n A B evidence
 
-  pub fault_in_elements : AllHold (order_checks B evidence 1) → Tells {X = X} E (Err e) → Tells {X = Unit {0}} (inclusion_checks A B evidence) (Err e)
-  fault_in_elements order h = tells_after (Unit {0}) (order_checks B evidence 1) (E ++ (U ++ (C ++ (S ++ P)))) (Err e) order (tells_fault X (Unit {0}) E (U ++ (C ++ (S ++ P))) e h)
+  pub fault_in_elements : AllHold (order_checks B evidence n) → Tells {X = X} E (Err e) → Tells {X = Unit {0}} (inclusion_checks n A B evidence) (Err e)
+  fault_in_elements order h = tells_after (Unit {0}) (order_checks B evidence n) (E ++ (U ++ (C ++ (S ++ P)))) (Err e) order (tells_fault X (Unit {0}) E (U ++ (C ++ (S ++ P))) e h)
 
-  pub fault_in_under : AllHold (order_checks B evidence 1) → AllHold E → Tells {X = X} U (Err e) → Tells {X = Unit {0}} (inclusion_checks A B evidence) (Err e)
+  pub fault_in_under : AllHold (order_checks B evidence n) → AllHold E → Tells {X = X} U (Err e) → Tells {X = Unit {0}} (inclusion_checks n A B evidence) (Err e)
   fault_in_under order elements h =
-      tells_after (Unit {0}) (order_checks B evidence 1) (E ++ (U ++ (C ++ (S ++ P)))) (Err e) order
+      tells_after (Unit {0}) (order_checks B evidence n) (E ++ (U ++ (C ++ (S ++ P)))) (Err e) order
       (tells_after (Unit {0}) E (U ++ (C ++ (S ++ P))) (Err e) elements (tells_fault X (Unit {0}) U (C ++ (S ++ P)) e h))
 
-  pub fault_in_cover : AllHold (order_checks B evidence 1) → AllHold E → AllHold U → Tells {X = X} C (Err e) → Tells {X = Unit {0}} (inclusion_checks A B evidence) (Err e)
+  pub fault_in_cover : AllHold (order_checks B evidence n) → AllHold E → AllHold U → Tells {X = X} C (Err e) → Tells {X = Unit {0}} (inclusion_checks n A B evidence) (Err e)
   fault_in_cover order elements under h =
-      tells_after (Unit {0}) (order_checks B evidence 1) (E ++ (U ++ (C ++ (S ++ P)))) (Err e) order
+      tells_after (Unit {0}) (order_checks B evidence n) (E ++ (U ++ (C ++ (S ++ P)))) (Err e) order
       (tells_after (Unit {0}) E (U ++ (C ++ (S ++ P))) (Err e) elements
       (tells_after (Unit {0}) U (C ++ (S ++ P)) (Err e) under (tells_fault X (Unit {0}) C (S ++ P) e h)))
 
-  pub fault_in_steps : AllHold (order_checks B evidence 1) → AllHold E → AllHold U → AllHold C → Tells {X = X} S (Err e) → Tells {X = Unit {0}} (inclusion_checks A B evidence) (Err e)
+  pub fault_in_steps : AllHold (order_checks B evidence n) → AllHold E → AllHold U → AllHold C → Tells {X = X} S (Err e) → Tells {X = Unit {0}} (inclusion_checks n A B evidence) (Err e)
   fault_in_steps order elements under cover h =
-      tells_after (Unit {0}) (order_checks B evidence 1) (E ++ (U ++ (C ++ (S ++ P)))) (Err e) order
+      tells_after (Unit {0}) (order_checks B evidence n) (E ++ (U ++ (C ++ (S ++ P)))) (Err e) order
       (tells_after (Unit {0}) E (U ++ (C ++ (S ++ P))) (Err e) elements
       (tells_after (Unit {0}) U (C ++ (S ++ P)) (Err e) under
       (tells_after (Unit {0}) C (S ++ P) (Err e) cover (tells_fault X (Unit {0}) S P e h))))
 
 -- The last part.
-pub pairs_last : (A B : Automaton) (evidence : YesBody) (r : Result (Unit {0}) CheckFault) → AllHold (order_checks B evidence 1) → AllHold (elements_part A B evidence) → AllHold (under_part A B evidence) →
-    AllHold (cover_part A B evidence) → AllHold (steps_part A B evidence) → Tells (pairs_part A B evidence) r → Tells (inclusion_checks A B evidence) r
-pairs_last A B evidence r order elements under cover steps h =
-    let E : List Check = elements_part A B evidence in
-    let U : List Check = under_part A B evidence in
-    let C : List Check = cover_part A B evidence in
-    let S : List Check = steps_part A B evidence in
-    let P : List Check = pairs_part A B evidence in
-    tells_after (Unit {0}) (order_checks B evidence 1) (E ++ (U ++ (C ++ (S ++ P)))) r order
+pub pairs_last : (n : ℕ) (A B : Automaton) (evidence : YesBody) (r : Result (Unit {0}) CheckFault) → AllHold (order_checks B evidence n) → AllHold (elements_part n A B evidence) → AllHold (under_part n A B evidence) →
+    AllHold (cover_part n A B evidence) → AllHold (steps_part n A B evidence) → Tells (pairs_part n A B evidence) r → Tells (inclusion_checks n A B evidence) r
+pairs_last n A B evidence r order elements under cover steps h =
+    let E : List Check = elements_part n A B evidence in
+    let U : List Check = under_part n A B evidence in
+    let C : List Check = cover_part n A B evidence in
+    let S : List Check = steps_part n A B evidence in
+    let P : List Check = pairs_part n A B evidence in
+    tells_after (Unit {0}) (order_checks B evidence n) (E ++ (U ++ (C ++ (S ++ P)))) r order
     (tells_after (Unit {0}) E (U ++ (C ++ (S ++ P))) r elements
     (tells_after (Unit {0}) U (C ++ (S ++ P)) r under
     (tells_after (Unit {0}) C (S ++ P) r cover (tells_after (Unit {0}) S P r steps h))))
+
+-- A yes whose logs are refused.
+pub fault_in_logs : (mode : Mode) (pair : Joined) (evidence : YesBody) (e : CheckFault) → TellsBothLogs mode pair.first pair.second evidence.first evidence.second (Err e) → TellsYes mode pair evidence (Err e)
+fault_in_logs mode pair evidence (Refused refusal) h = inl h
+fault_in_logs mode pair evidence Memory h = tt
+
+-- A yes whose logs lead to two automata.
+pub after_logs : (mode : Mode) (pair : Joined) (evidence : YesBody) (ends : Ends) (r : Result (Unit {0}) CheckFault) → TellsBothLogs mode pair.first pair.second evidence.first evidence.second (Ok ends) →
+    Tells (inclusion_checks (item_after evidence.first evidence.second) ends.first ends.second evidence) r → TellsYes mode pair evidence r
+after_logs mode pair evidence ends (Ok x) lead h = record { ends = ends; logs = lead; closed = h }
+after_logs mode pair evidence ends (Err (Refused refusal)) lead h = inr (ends, lead, h)
+after_logs mode pair evidence ends (Err Memory) lead h = tt

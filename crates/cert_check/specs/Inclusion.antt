@@ -1,7 +1,7 @@
--- What the rules ask of a certificate of inclusion whose logs are empty: of its relation, its elements, the elements over
--- others, and the pairs of elements.
+-- What the rules ask of a certificate of inclusion after its logs, on the automata that these lead to: of its relation, its elements, the
+-- elements over others, and the pairs of elements.
 use Rattle.std.specs.Prelude.{◌≡◌, ℕ, ◌+◌, ◌<◌, ◌==◌, Bool, List, [], ◌∷◌, ◌++◌, length, map, All, slice_index, slice_index_or}
-use Rattle.std.specs.List.{filter, flat_map}
+use Rattle.std.specs.List.{filter}
 use Rattle.auto_core.specs.Automaton.{Automaton, trans_at}
 use Rattle.auto_core.specs.Game.{StableForward}
 use Rattle.auto_core.specs.Graph.{Passes, WordArc, super_of, start_arc, base_arc, extended_arc, arc_at, arcs_of}
@@ -10,30 +10,13 @@ use Rattle.auto_core.specs.declared.parts.Origin.{Origin}
 use Rattle.auto_core.specs.declared.parts.Origin.TheVariants.{Start, Base, Next}
 use Rattle.auto_core.specs.declared.parts.Trans.{Trans}
 use Rattle.cert_text.specs.declared.types.YesBody.{YesBody}
-use Rattle.cert_text.specs.declared.types.RelBlock.{RelBlock}
-use Rattle.cert_text.specs.declared.types.Row.{Row}
 use Rattle.cert_text.specs.declared.types.Element.{Element}
 use Rattle.cert_text.specs.declared.types.Mark.{Mark}
 use Rattle.cert_text.specs.declared.types.Mark.TheVariants.{Live, Under}
 use Rattle.cert_text.specs.declared.types.StepLine.{StepLine}
 use Rattle.cert_text.specs.WellFormed.{is_live}
-use Rattle.cert_check.specs.Checks.{Check, rule_at, checks_of_each}
-
--- The pairs of a row.
-abbrev pub pairs_of_row : Row → List (ℕ × ℕ)
-pairs_of_row row = map (λ q. (row.left, q)) row.rights
-
--- The pairs that the block lists.
-abbrev pub pairs_of : RelBlock → List (ℕ × ℕ)
-pairs_of block = flat_map pairs_of_row block.rows
-
--- The numbers of the row are below n.
-abbrev pub IsRowBelow : ℕ → Row → Type 0
-IsRowBelow n row = (row.left < n) × All (λ q. q < n) row.rights
-
--- The numbers of the block are below n.
-abbrev pub IsBlockBelow : ℕ → RelBlock → Type 0
-IsBlockBelow n block = All (IsRowBelow n) block.rows
+use Rattle.log_check.specs.Checks.{Check, rule_at, checks_of_each}
+use Rattle.log_check.specs.Blocks.{pairs_of, IsBlockBelow}
 
 -- Where the elements come from.
 abbrev pub origins_of : YesBody → List Origin
@@ -143,12 +126,12 @@ step_checks A B evidence item k step =
 abbrev pub pair_checks : Automaton → Automaton → YesBody → ℕ → ℕ → Element → List Check
 pair_checks A B evidence item e element = rule_at 15 (item + e) (PassesWithAll A B evidence e) ∷ []
 
--- The items: the relation, then each element, then the cover, then each step line.
-abbrev pub inclusion_checks : Automaton → Automaton → YesBody → List Check
-inclusion_checks A B evidence =
-    order_checks B evidence 1
-    ++ (checks_of_each (element_checks A evidence 2) 0 evidence.elements
-    ++ (checks_of_each (under_checks A B evidence 2) 0 evidence.elements
-    ++ (cover_checks A B evidence (2 + length evidence.elements)
-    ++ (checks_of_each (step_checks A B evidence (3 + length evidence.elements)) 0 evidence.steps
-    ++ checks_of_each (pair_checks A B evidence 2) 0 evidence.elements))))
+-- The items, from this number on: the relation, then each element, then the cover, then each step line.
+abbrev pub inclusion_checks : ℕ → Automaton → Automaton → YesBody → List Check
+inclusion_checks item A B evidence =
+    order_checks B evidence item
+    ++ (checks_of_each (element_checks A evidence (item + 1)) 0 evidence.elements
+    ++ (checks_of_each (under_checks A B evidence (item + 1)) 0 evidence.elements
+    ++ (cover_checks A B evidence (item + 1 + length evidence.elements)
+    ++ (checks_of_each (step_checks A B evidence (item + 2 + length evidence.elements)) 0 evidence.steps
+    ++ checks_of_each (pair_checks A B evidence (item + 1)) 0 evidence.elements))))

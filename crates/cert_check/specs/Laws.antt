@@ -9,19 +9,27 @@ use Rattle.cert_text.specs.declared.types.Cert.{Cert}
 use Rattle.cert_text.specs.declared.types.YesBody.{YesBody}
 use Rattle.cert_text.specs.declared.types.Body.TheVariants.{Yes, NoLasso}
 use Rattle.cert_text.specs.WellFormed.{WellFormed}
-use Rattle.cert_check.specs.Checks.{AllHold}
-use Rattle.cert_check.specs.Rules.{checks_of, has_checked_form}
+use Rattle.log_check.specs.declared.faults.Refusal.{Refusal}
+use Rattle.cert_check.specs.Rules.{KeepsRules, BreaksRule, has_checked_form}
 
 -- The certificate is valid for the two automata: it is well-formed, of a form whose rules are tested, and keeps all of them.
 pub record IsValid (pair : Joined) (cert : Cert) : Type 0 where
   pub formed : WellFormed cert
   pub form : has_checked_form cert ≡ true
-  pub keeps : AllHold (checks_of pair cert)
+  pub keeps : KeepsRules pair cert
 
 -- If a valid certificate says yes, the second automaton accepts each lasso that the first accepts.
 abbrev pub ValidYesIncludes : Type 0
-ValidYesIncludes = (pair : Joined) (cert : Cert) (evidence : YesBody) → IsAutomaton pair.second → cert.body ≡ Yes evidence → IsValid pair cert → Includes pair.first pair.second Buchi
+ValidYesIncludes = (pair : Joined) (cert : Cert) (evidence : YesBody) → IsAutomaton pair.first → IsAutomaton pair.second → cert.body ≡ Yes evidence → IsValid pair cert → Includes pair.first pair.second Buchi
 
 -- If a valid certificate says no by a lasso, the first automaton accepts it and the second does not.
 abbrev pub ValidNoSeparates : Type 0
 ValidNoSeparates = (pair : Joined) (cert : Cert) (lasso : Lasso) → cert.body ≡ NoLasso lasso → IsValid pair cert → SeparatesLasso pair.first pair.second lasso.prefix lasso.turn
+
+-- A certificate breaks one rule first, at most.
+abbrev pub OneRuleBreaks : Type 0
+OneRuleBreaks = (pair : Joined) (cert : Cert) (refusal other : Refusal) → BreaksRule pair cert refusal → BreaksRule pair cert other → refusal ≡ other
+
+-- A certificate that keeps its rules breaks none.
+abbrev pub NoneBreaksWhereKept : Type 0
+NoneBreaksWhereKept = (pair : Joined) (cert : Cert) (refusal : Refusal) → BreaksRule pair cert refusal → KeepsRules pair cert → ⊥

@@ -1,5 +1,5 @@
 -- What each rule asks of a certificate, in the order in which the rules are tested.
-use Rattle.std.specs.Prelude.{◌≡◌, ℕ, ◌<◌, ◌==◌, ◌&&◌, Bool, true, false, List, [], ◌∷◌, length, All}
+use Rattle.std.specs.Prelude.{◌≡◌, ◌⊎◌, ℕ, ◌<◌, Bool, true, false, List, [], ◌∷◌, length, All, Result, Ok, Err}
 use Rattle.auto_core.specs.Automaton.{Automaton}
 use Rattle.auto_core.specs.Accept.{AcceptsLasso, SeparatesLasso, Includes}
 use Rattle.auto_core.specs.declared.parts.Lasso.{Lasso}
@@ -12,7 +12,12 @@ use Rattle.cert_text.specs.declared.types.YesBody.{YesBody}
 use Rattle.cert_text.specs.declared.types.Body.TheVariants.{Yes, NoLasso, NoWord, Listing}
 use Rattle.cert_check.specs.declared.faults.Verdict.{Verdict}
 use Rattle.cert_check.specs.declared.faults.Verdict.TheVariants.{Included, Apart, ApartWord, Listed}
-use Rattle.cert_check.specs.Checks.{Check, rule_at}
+use Rattle.log_check.specs.declared.faults.Refusal.{Refusal}
+use Rattle.log_check.specs.declared.faults.CheckFault.{CheckFault}
+use Rattle.log_check.specs.declared.faults.CheckFault.TheVariants.{Refused, Memory}
+use Rattle.log_check.specs.declared.ends.Ends.{Ends}
+use Rattle.log_check.specs.Checks.{Check, AllHold, FirstBroken, rule_at}
+use Rattle.log_check.specs.Ends.{AreEnds, LogsBreak, item_after}
 use Rattle.cert_check.specs.Inclusion.{inclusion_checks}
 
 -- Each letter of the word is a label.
@@ -33,13 +38,29 @@ lasso_checks pair lasso =
     ∷ rule_at 17 2 (AcceptsLasso pair.second lasso.prefix lasso.turn → ⊥)
     ∷ []
 
--- No automaton was reduced: both logs have no steps.
-abbrev pub has_empty_logs : YesBody → Bool
-has_empty_logs evidence = (length evidence.first == 0) && (length evidence.second == 0)
+-- A yes keeps its rules: the steps of both logs keep theirs, and then the evidence keeps those on the two automata that the logs lead to.
+pub record YesHolds (mode : Mode) (pair : Joined) (evidence : YesBody) : Type 0 where
+  pub ends : Ends
+  pub logs : AreEnds mode pair.first pair.second evidence.first evidence.second ends
+  pub closed : AllHold (inclusion_checks (item_after evidence.first evidence.second) ends.first ends.second evidence)
+
+-- The refusal is the first rule that a yes breaks.
+abbrev pub YesBreaks : Mode → Joined → YesBody → Refusal → Type 0
+YesBreaks mode pair evidence refusal =
+    LogsBreak mode pair.first pair.second evidence.first evidence.second refusal
+    ⊎ ((ends : Ends)
+    × AreEnds mode pair.first pair.second evidence.first evidence.second ends
+    × FirstBroken (inclusion_checks (item_after evidence.first evidence.second) ends.first ends.second evidence) refusal)
+
+-- A test of a yes: it keeps its rules, or the refusal is the first that it breaks. Memory may be refused.
+abbrev pub TellsYes : Mode → Joined → YesBody → Result (Unit {0}) CheckFault → Type 0
+TellsYes mode pair evidence (Ok x) = YesHolds mode pair evidence
+TellsYes mode pair evidence (Err (Refused refusal)) = YesBreaks mode pair evidence refusal
+TellsYes mode pair evidence (Err Memory) = Unit {0}
 
 -- The body, in this mode, is of a form whose rules are tested.
 abbrev pub has_checked_body : Mode → Body → Bool
-has_checked_body Buchi (Yes evidence) = has_empty_logs evidence
+has_checked_body Buchi (Yes evidence) = true
 has_checked_body Finite (Yes evidence) = false
 has_checked_body Buchi (NoLasso lasso) = true
 has_checked_body Finite (NoLasso lasso) = false
@@ -50,16 +71,29 @@ has_checked_body mode (Listing body) = false
 abbrev pub has_checked_form : Cert → Bool
 has_checked_form cert = has_checked_body cert.mode cert.body
 
--- What is asked of a certificate's body.
-abbrev pub body_checks : Joined → Body → List Check
-body_checks pair (Yes evidence) = inclusion_checks pair.first pair.second evidence
-body_checks pair (NoLasso lasso) = lasso_checks pair lasso
-body_checks pair (NoWord word) = []
-body_checks pair (Listing body) = []
+-- The body keeps its rules.
+abbrev pub BodyHolds : Mode → Joined → Body → Type 0
+BodyHolds mode pair (Yes evidence) = YesHolds mode pair evidence
+BodyHolds mode pair (NoLasso lasso) = AllHold (lasso_checks pair lasso)
+BodyHolds mode pair (NoWord word) = Unit {0}
+BodyHolds mode pair (Listing body) = Unit {0}
 
--- All that is asked of a certificate for these automata.
-abbrev pub checks_of : Joined → Cert → List Check
-checks_of pair cert = rule_at 1 0 (HasSizes pair cert) ∷ body_checks pair cert.body
+-- The refusal is the first rule that the body breaks.
+abbrev pub BodyBreaks : Mode → Joined → Body → Refusal → Type 0
+BodyBreaks mode pair (Yes evidence) refusal = YesBreaks mode pair evidence refusal
+BodyBreaks mode pair (NoLasso lasso) refusal = FirstBroken (lasso_checks pair lasso) refusal
+BodyBreaks mode pair (NoWord word) refusal = ⊥
+BodyBreaks mode pair (Listing body) refusal = ⊥
+
+-- A certificate keeps all its rules for these automata.
+abbrev pub KeepsRules : Joined → Cert → Type 0
+KeepsRules pair cert = HasSizes pair cert × BodyHolds cert.mode pair cert.body
+
+-- The refusal is the first rule that it breaks; the sizes are looked at first.
+abbrev pub BreaksRule : Joined → Cert → Refusal → Type 0
+BreaksRule pair cert refusal =
+    FirstBroken (rule_at 1 0 (HasSizes pair cert) ∷ []) refusal
+    ⊎ (HasSizes pair cert × BodyBreaks cert.mode pair cert.body refusal)
 
 -- The verdict that a certificate with this body gives.
 abbrev pub IsVerdictOf : Body → Verdict → Type 0

@@ -9,13 +9,9 @@ use Rattle.supergraph.specs.declared.arcs.Arc.{Arc}
 use Rattle.supergraph.specs.Stands.{with_word}
 use Rattle.cert_text.specs.declared.types.RelBlock.{RelBlock}
 use Rattle.cert_text.specs.declared.types.YesBody.{YesBody}
-use Rattle.cert_check.specs.Inclusion.{pairs_of, element_arcs, live_in}
+use Rattle.log_check.specs.Blocks.{pairs_of}
+use Rattle.cert_check.specs.Inclusion.{element_arcs, live_in}
 use Rattle.cert_check.specs.declared.elements.Supers.{Supers}
-
--- The relation on n states holds just the pairs that the block lists.
-pub record IsRelationOf (n : ℕ) (block : RelBlock) (rel : Relation) : Type 0 where
-  pub size : rel.size ≡ n
-  pub pairs : (p q : ℕ) → Holds rel.pairs p q ↔ Holds (pairs_of block) p q
 
 -- The words of a block for a graph of n states.
 abbrev pub block_len : ℕ → ℕ

@@ -3,15 +3,16 @@
 ghost use Rattle.std.specs.Prelude.{◌≡◌, ◌+◌, ◌^◌, ◌<◌, ◌↔◌, ℕ, length, slice_index_or, true, IsTrue};
 ghost use Rattle.auto_core.specs.Graph.{WordArc, arc_at};
 ghost use Rattle.graph_rows.specs.Block.{IsFormed};
-ghost use Rattle.cert_check.specs.Checks.{Tells, checks_of_each};
+ghost use Rattle.log_check.specs.Checks.{Tells, checks_of_each};
 ghost use Rattle.cert_check.specs.Inclusion.{element_arcs, live_in, IsOver, IsUnder, AreOver, AreElements, NamesElement, starts_of, extensions_of, under_checks, cover_checks, step_checks, no_element};
-ghost use Rattle.cert_check.specs.Supers.{block_len, StandFor, IsRelationOf, AreSupers};
+ghost use Rattle.log_check.specs.Blocks.{IsRelationOf};
+ghost use Rattle.cert_check.specs.Supers.{block_len, StandFor, AreSupers};
 
 use crate::elements::Supers;
-use crate::faults::{CheckFault, Refusal};
 use auto_core::Auto;
 use bit_rel::Rel;
 use cert_text::{Mark, YesBody};
+use log_check::{CheckFault, Refusal};
 use supergraph::Arc;
 
 /// Tells whether the element is live.
@@ -88,26 +89,28 @@ fn is_under(
     }
 }
 
-/// Tests that each element that is not live is under the one that it names. Their items are numbered from 2.
+/// Tests that each element that is not live is under the one that it names. `item` is the number of the first one's item.
 pub fn check_under(
     first: &Auto,
     second: &Auto,
     evidence: &YesBody,
+    item: u32,
     order: &Rel,
     supers: &Supers,
 ) -> Result<(), CheckFault>
     requires supers { AreSupers first.now second.now evidence.now (length evidence.now.elements) supers.now }
     requires order { IsRelationOf second.now.states evidence.now.order order.now }
     requires few { length evidence.now.elements < 10 ^ 9 }
+    requires few_items { item + length evidence.now.elements < 2 ^ 32 }
     requires names { (e : ℕ) → e < length evidence.now.elements → NamesElement (length evidence.now.elements) (slice_index_or evidence.now.elements e no_element).mark }
-    ensures { Tells (checks_of_each (under_checks first.now second.now evidence.now 2) 0 evidence.now.elements) result }
+    ensures { Tells (checks_of_each (under_checks first.now second.now evidence.now item) 0 evidence.now.elements) result }
 {
     let elements = evidence.elements.as_slice();
     for e in 0..elements.len() {
         if !is_under(first, second, evidence, order, supers, e, &elements[e].mark) {
             return Err(CheckFault::Refused(Refusal {
                 rule: 12,
-                item: 2 + e as u32,
+                item: item + e as u32,
             }));
         }
     }
@@ -147,23 +150,22 @@ fn covers_starts(
     true
 }
 
-/// Tests the cover, whose item is the one after the elements.
+/// Tests the cover, which is this item.
 pub fn check_cover(
     first: &Auto,
     second: &Auto,
     evidence: &YesBody,
+    item: u32,
     order: &Rel,
     supers: &Supers,
     fresh: &mut [u64],
 ) -> Result<(), CheckFault>
     requires supers { AreSupers first.now second.now evidence.now (length evidence.now.elements) supers.now }
     requires order { IsRelationOf second.now.states evidence.now.order order.now }
-    requires few { length evidence.now.elements < 10 ^ 9 }
     requires room { length fresh.old ≡ block_len second.now.states }
-    ensures tells { Tells (cover_checks first.now second.now evidence.now (2 + length evidence.now.elements)) result }
+    ensures tells { Tells (cover_checks first.now second.now evidence.now item) result }
     ensures room { length fresh.new ≡ length fresh.old }
 {
-    let item = 2 + evidence.elements.as_slice().len() as u32;
     if !are_elements(evidence, evidence.cover.as_slice()) {
         return Err(CheckFault::Refused(Refusal { rule: 1, item }));
     }

@@ -3,13 +3,13 @@
 ghost use Rattle.std.specs.Prelude.{◌≡◌, ◌+◌, ◌++◌, [], ◌∷◌, ◌*◌, ◌^◌, ◌<◌, ◌≤◌, ◌↔◌, ℕ, All, length, slice_index_or, vec_len, IfOk, IsTrue, MatchOption};
 ghost use Rattle.auto_core.specs.Graph.{arc_at, arc_of};
 ghost use Rattle.auto_core.specs.declared.parts.Origin.TheVariants.{Start};
-ghost use Rattle.cert_check.specs.Checks.{AllHold, FirstBroken, Tells, checks_of_each};
+ghost use Rattle.log_check.specs.Checks.{AllHold, FirstBroken, Tells, checks_of_each};
 ghost use Rattle.cert_check.specs.Inclusion.{element_arcs, NamesOrigin, NamesElement, HasEarlierParent, GoesOn, no_element, element_checks};
 ghost use Rattle.cert_check.specs.Supers.{block_at, block_len, no_arc, StandFor, AreSupers};
 
-use crate::faults::{CheckFault, Refusal};
 use auto_core::{Auto, Memory, Origin};
 use cert_text::{Element, Mark, YesBody};
+use log_check::{CheckFault, Refusal};
 use std::alloc::Global;
 use supergraph::Arc;
 
@@ -103,9 +103,9 @@ fn broken_rule(
     element: &Element,
 ) -> Option<u32>
     requires supers { AreSupers first.now second.now evidence.now e supers.now }
-    ensures { MatchOption result
-        (AllHold (element_checks first.now evidence.now 2 e element.now))
-        (λ rule. FirstBroken (element_checks first.now evidence.now 2 e element.now) (record { rule = rule; item = 2 + e })) }
+    ensures { (item : ℕ) → MatchOption result
+        (AllHold (element_checks first.now evidence.now item e element.now))
+        (λ rule. FirstBroken (element_checks first.now evidence.now item e element.now) (record { rule = rule; item = item + e })) }
 {
     let count = evidence.elements.as_slice().len();
     if !names_origin(first, count, &element.origin) {
@@ -197,14 +197,16 @@ fn fill(
     first: &Auto,
     second: &Auto,
     evidence: &YesBody,
+    item: u32,
     supers: &mut Supers,
     fresh: &mut [u64],
 ) -> Result<(), CheckFault>
     requires few { length evidence.now.elements < 10 ^ 9 }
+    requires few_items { item + length evidence.now.elements < 2 ^ 32 }
     requires begun { All (λ element. ¬ (element.origin ≡ Start)) evidence.now.elements }
     requires none { AreSupers first.now second.now evidence.now 0 supers.old }
     requires room { length fresh.old ≡ block_len second.now.states }
-    ensures tells { Tells (checks_of_each (element_checks first.now evidence.now 2) 0 evidence.now.elements) result }
+    ensures tells { Tells (checks_of_each (element_checks first.now evidence.now item) 0 evidence.now.elements) result }
     ensures supers { IfOk result (λ _. AreSupers first.now second.now evidence.now (length evidence.now.elements) supers.new) }
 {
     let elements = evidence.elements.as_slice();
@@ -213,7 +215,7 @@ fn fill(
             Some(rule) => {
                 return Err(CheckFault::Refused(Refusal {
                     rule,
-                    item: 2 + e as u32,
+                    item: item + e as u32,
                 }));
             }
             None => {}
@@ -231,16 +233,19 @@ fn fill(
     Ok(())
 }
 
-/// The arcs and graphs of all elements, if each names what is there and goes on from an earlier one. Their items are numbered from 2.
+/// The arcs and graphs of all elements, if each names what is there and goes on from an earlier one. `item` is the number of the first
+/// one's item.
 pub fn checked_elements(
     alloc: Global,
     first: &Auto,
     second: &Auto,
     evidence: &YesBody,
+    item: u32,
 ) -> Result<Supers, CheckFault>
     requires few { length evidence.now.elements < 10 ^ 9 }
+    requires few_items { item + length evidence.now.elements < 2 ^ 32 }
     requires begun { All (λ element. ¬ (element.origin ≡ Start)) evidence.now.elements }
-    ensures tells { Tells (checks_of_each (element_checks first.now evidence.now 2) 0 evidence.now.elements) result }
+    ensures tells { Tells (checks_of_each (element_checks first.now evidence.now item) 0 evidence.now.elements) result }
     ensures supers { IfOk result (AreSupers first.now second.now evidence.now (length evidence.now.elements)) }
 {
     let states = second.states();
@@ -250,6 +255,6 @@ pub fn checked_elements(
         blocks: Vec::new(alloc),
     };
     let mut fresh = empty_block(alloc, states)?;
-    fill(first, second, evidence, &mut supers, &mut fresh)?;
+    fill(first, second, evidence, item, &mut supers, &mut fresh)?;
     Ok(supers)
 }

@@ -1,13 +1,14 @@
 //! Checks that a lasso separates two automata.
 
 ghost use Rattle.std.specs.Prelude.{◌≡◌, ◌<◌, ◌↔◌, All, IfOk, IsTrue, length, ◌^◌, Err};
-ghost use Rattle.cert_check.specs.Checks.{AllHold, FirstBroken};
+ghost use Rattle.log_check.specs.Checks.{AllHold, FirstBroken};
 ghost use Rattle.cert_check.specs.Rules.{AreLabels, lasso_checks};
 
-use crate::faults::{CheckFault, Refusal, Verdict};
+use crate::faults::Verdict;
 use auto_core::{Lasso, List, Memory, Word};
 use ba_format::Joined;
 use lasso_accept::accepts_lasso;
+use log_check::{CheckFault, Refusal};
 use std::alloc::Global;
 
 /// Tells whether each letter of the word is a label.

@@ -1,6 +1,6 @@
-//! What valid certificates show: each law is the contract of a function that does nothing.
+//! What valid certificates show, and which rule others break first: each law is the contract of a function that does nothing.
 
-ghost use Rattle.cert_check.specs.Laws.{ValidYesIncludes, ValidNoSeparates};
+ghost use Rattle.cert_check.specs.Laws.{ValidYesIncludes, ValidNoSeparates, OneRuleBreaks, NoneBreaksWhereKept};
 
 /// A valid certificate that says yes shows an inclusion.
 pub fn valid_yes_includes()
@@ -10,4 +10,14 @@ pub fn valid_yes_includes()
 /// A valid certificate that says no by a lasso shows that it separates the two automata.
 pub fn valid_no_separates()
     ensures { ValidNoSeparates }
+{}
+
+/// A certificate breaks one rule first, at most.
+pub fn one_rule_breaks()
+    ensures { OneRuleBreaks }
+{}
+
+/// A certificate that keeps its rules breaks none.
+pub fn none_breaks_where_kept()
+    ensures { NoneBreaksWhereKept }
 {}

@@ -13,4 +13,5 @@ mod pairs;
 mod steps;
 
 pub use checking::{can_check, check};
-pub use faults::{CheckFault, Refusal, Verdict};
+pub use faults::Verdict;
+pub use log_check::{CheckFault, Refusal};

@@ -3,16 +3,16 @@
 ghost use Rattle.std.specs.Prelude.{◌≡◌, ◌+◌, ◌^◌, ◌<◌, ◌↔◌, ℕ, map, All, length, Contains, IfOk, IsTrue};
 ghost use Rattle.auto_core.specs.Graph.{LassoIn};
 ghost use Rattle.graph_rows.specs.Block.{block_graph};
-ghost use Rattle.cert_check.specs.Checks.{Tells, checks_of_each};
+ghost use Rattle.log_check.specs.Checks.{Tells, checks_of_each};
 ghost use Rattle.cert_check.specs.Inclusion.{PassesWithAll, pair_checks};
 ghost use Rattle.cert_check.specs.Supers.{block_at, held_arc, IsTurn, ListsJust, AddsIf, AreTurnsByState, AreSupers};
 
 use crate::covers;
 use crate::elements::Supers;
-use crate::faults::{CheckFault, Refusal};
 use auto_core::{Auto, Memory};
 use cert_text::YesBody;
 use lasso_test::Scratch;
+use log_check::{CheckFault, Refusal};
 use std::alloc::Global;
 
 /// Tells whether the element is live and leads from its state back to it, past an accepting state.
@@ -168,17 +168,19 @@ fn passes_with_all(
     )
 }
 
-/// Tests the pairs of each element, in order. Their items are numbered from 2.
+/// Tests the pairs of each element, in order. `item` is the number of the first one's item.
 pub fn check_pairs(
     alloc: Global,
     first: &Auto,
     second: &Auto,
     evidence: &YesBody,
+    item: u32,
     supers: &Supers,
 ) -> Result<(), CheckFault>
     requires supers { AreSupers first.now second.now evidence.now (length evidence.now.elements) supers.now }
     requires few { length evidence.now.elements < 10 ^ 9 }
-    ensures { Tells (checks_of_each (pair_checks first.now second.now evidence.now 2) 0 evidence.now.elements) result }
+    requires few_items { item + length evidence.now.elements < 2 ^ 32 }
+    ensures { Tells (checks_of_each (pair_checks first.now second.now evidence.now item) 0 evidence.now.elements) result }
 {
     let turns = turns_by_state(alloc, first, evidence, supers)?;
     let mut scratch = Scratch::new(alloc, second.states())?;
@@ -186,7 +188,7 @@ pub fn check_pairs(
         if !passes_with_all(first, second, evidence, supers, &turns, e, &mut scratch) {
             return Err(CheckFault::Refused(Refusal {
                 rule: 15,
-                item: 2 + e as u32,
+                item: item + e as u32,
             }));
         }
     }

@@ -2,16 +2,17 @@
 
 ghost use Rattle.std.specs.Prelude.{◌≡◌, ◌+◌, ◌^◌, ◌<◌, ◌↔◌, ℕ, length, IsTrue, MatchOption};
 ghost use Rattle.auto_core.specs.Graph.{arc_at};
-ghost use Rattle.cert_check.specs.Checks.{AllHold, FirstBroken, Tells, checks_of_each};
+ghost use Rattle.log_check.specs.Checks.{AllHold, FirstBroken, Tells, checks_of_each};
 ghost use Rattle.cert_check.specs.Inclusion.{element_arcs, AreOver, AreElements, extensions_of, step_checks};
-ghost use Rattle.cert_check.specs.Supers.{block_len, IsRelationOf, AreSupers};
+ghost use Rattle.log_check.specs.Blocks.{IsRelationOf};
+ghost use Rattle.cert_check.specs.Supers.{block_len, AreSupers};
 
 use crate::covers;
 use crate::elements::Supers;
-use crate::faults::{CheckFault, Refusal};
 use auto_core::Auto;
 use bit_rel::Rel;
 use cert_text::{StepLine, YesBody};
+use log_check::{CheckFault, Refusal};
 
 /// Tells whether the elements that the line names are over the extensions of its element.
 fn covers_extensions(
@@ -86,24 +87,24 @@ fn broken_rule(
     None
 }
 
-/// Tests the step lines, whose items are those after the cover's.
+/// Tests the step lines. `item` is the number of the first one's item.
 pub fn check_steps(
     first: &Auto,
     second: &Auto,
     evidence: &YesBody,
+    item: u32,
     order: &Rel,
     supers: &Supers,
     fresh: &mut [u64],
 ) -> Result<(), CheckFault>
     requires supers { AreSupers first.now second.now evidence.now (length evidence.now.elements) supers.now }
     requires order { IsRelationOf second.now.states evidence.now.order order.now }
-    requires few { length evidence.now.elements < 10 ^ 9 }
     requires few_steps { length evidence.now.steps < 10 ^ 9 }
+    requires few_items { item + length evidence.now.steps < 2 ^ 32 }
     requires room { length fresh.old ≡ block_len second.now.states }
-    ensures tells { Tells (checks_of_each (step_checks first.now second.now evidence.now (3 + length evidence.now.elements)) 0 evidence.now.steps) result }
+    ensures tells { Tells (checks_of_each (step_checks first.now second.now evidence.now item) 0 evidence.now.steps) result }
     ensures room { length fresh.new ≡ length fresh.old }
 {
-    let item = 3 + evidence.elements.as_slice().len() as u32;
     let lines = evidence.steps.as_slice();
     for k in 0..lines.len() {
         match broken_rule(first, second, evidence, order, supers, &lines[k], fresh) {

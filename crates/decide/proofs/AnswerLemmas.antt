@@ -1,5 +1,5 @@
 -- What answers are: each has a text, a yes and a no keep all rules of the check, and what an answer says is so.
-use Rattle.std.proofs.Common.{◌≡◌, ℕ, ◌+◌, ◌<◌, ◌≤◌, ◌==◌, ◌&&◌, Bool, true, List, [], ◌∷◌, length, Contains, refl, sym, ap, ◌∙◌, subst, inl, inr, arith}
+use Rattle.std.proofs.Common.{◌≡◌, ℕ, ◌+◌, ◌<◌, ◌≤◌, ◌&&◌, Bool, true, List, [], ◌∷◌, length, Contains, refl, sym, subst, inl, inr, arith}
 use Rattle.std.specs.List.{list_all}
 use Rattle.std.proofs.lemmas.Bool.{and_from, lt-ltb}
 use Rattle.std.proofs.lemmas.List.Elements.{All-contains}
@@ -25,12 +25,13 @@ use Rattle.cert_text.specs.declared.types.ListBody.{ListBody}
 use Rattle.cert_text.specs.declared.types.FirstStep.{FirstStep}
 use Rattle.cert_text.specs.declared.types.SecondStep.{SecondStep}
 use Rattle.cert_text.specs.WellFormed.{WellFormed, is_short, are_short, is_body, is_block, are_logs, are_steps, is_element, is_origin, has_some}
-use Rattle.cert_check.specs.Checks.{AllHold}
 use Rattle.cert_check.specs.Inclusion.{origins_of, live_in}
 use Rattle.ramsey_search.specs.Ends.{LiveStandApart}
-use Rattle.cert_check.specs.Rules.{AreLabels, body_checks, has_empty_logs, has_checked_body}
-use Rattle.decide.specs.Answer.{IsOrder, unreduced, IsYesOf, IsListOf, IsBodyOf, IsAnswer}
-use Rattle.decide.specs.Laws.{CanDecide, IsVerdict, IsValidVerdict, StandApart, ListsNew, SaysTruth, AnswersAreFormed, AnswersAreValid, AnswersAreTrue}
+use Rattle.log_check.specs.Ends.{item_after}
+use Rattle.cert_check.specs.Rules.{AreLabels, BodyHolds, has_checked_body}
+use Rattle.decide.specs.Answer.{IsOrder, Reductions, IsYesOf, IsListOf, IsBodyOf, IsAnswer, IsAnswerBy}
+use Rattle.decide.specs.Laws.{CanDecide, SaysYesOrNo, IsValidVerdict, AreSettledEnds, StandApart, ListsNew, SaysTruth, AreBounds, AnswersAreFormed, AnswersAreValid, AnswersAreTrue}
+use Rattle.decide.proofs.EndLemmas.{AreGoodEnds, ends_in, good_ends}
 use Rattle.decide.proofs.PlaceLemmas.{all_from_places, pass_from_places}
 use Rattle.decide.proofs.RowLemmas.{all_short}
 use Rattle.decide.proofs.YesLemmas.{rules_hold, elements_formed, cover_formed, count_formed, steps_formed, includes, stand_apart, parts_of_placed}
@@ -58,58 +59,74 @@ short_word labels w few good = all_short w (λ a has. let lt = good.letters a ha
 labels_of : (labels : ℕ) (w : List ℕ) → GoodWord labels w → AreLabels labels w
 labels_of labels w good = all_from_places (λ a. a < labels) w (λ k a is. good.letters a (k, at_within w k a is, get_or_from_slice_get w k a a is))
 
--- Empty logs have a text, and are those of a form that is checked.
-logs_formed : (firsts : List FirstStep) (seconds : List SecondStep) → firsts ≡ [] → seconds ≡ [] → are_logs Buchi firsts seconds ≡ true
-logs_formed firsts seconds a b = ap (λ l. are_logs Buchi l seconds) a ∙ ap (λ l. are_logs Buchi [] l) b
+-- Logs that are those of the log ends.
+logs_are : (P : List FirstStep → List SecondStep → Type 0) (at : Reductions) (firsts : List FirstStep) (seconds : List SecondStep) → firsts ≡ at.first_log → seconds ≡ at.second_log → P at.first_log at.second_log → P firsts seconds
+logs_are P at firsts seconds a b holds = subst (λ l. P l seconds) (sym a) (subst (P at.first_log) (sym b) holds)
 
-empty_logs : (y : YesBody) → y.first ≡ [] → y.second ≡ [] → has_empty_logs y ≡ true
-empty_logs y a b = ap (λ (l : List FirstStep). (length l == 0) && (length y.second == 0)) a ∙ ap (λ (l : List SecondStep). length l == 0) b
-
-module _ (pair : Joined) (limit : ℕ) (can : CanDecide pair) (few : limit ≤ 100000) (S : List (ℕ × ℕ)) where
+module _ (pair : Joined) (k limit : ℕ) (can : CanDecide pair) (few : limit ≤ 100000) (at : Reductions) (good : AreGoodEnds pair k at) (S : List (ℕ × ℕ)) where
   abbrev A : Automaton
-  A = pair.first
+  A = at.first
 
   abbrev B : Automaton
-  B = pair.second
+  B = at.second
 
   -- What is shown of a body: it has a text, it keeps the rules where it says yes or no, and it says what is so.
   record Shown (body : Body) : Type 0 where
     formed : is_body Buchi body ≡ true
-    checked : IsVerdict body → (has_checked_body Buchi body ≡ true) × AllHold (body_checks pair body)
-    truth : SaysTruth pair limit body
+    checked : SaysYesOrNo body → (has_checked_body Buchi body ≡ true) × BodyHolds Buchi pair body
+    truth : SaysTruth pair k limit body
 
-  shown_yes : (es : List Entry) → IsOrder B S → SearchEnds A B S limit (Closed es) → (y : YesBody) → IsYesOf (unreduced pair) S es y → Shown (Yes y)
+  logs_formed : (firsts : List FirstStep) (seconds : List SecondStep) → firsts ≡ at.first_log → seconds ≡ at.second_log → are_logs Buchi firsts seconds ≡ true
+  logs_formed firsts seconds a b = logs_are (λ l m. are_logs Buchi l m ≡ true) at firsts seconds a b good.formed
+
+  logs_settled : (firsts : List FirstStep) (seconds : List SecondStep) → firsts ≡ at.first_log → seconds ≡ at.second_log → AreSettledEnds pair k firsts seconds (ends_in at)
+  logs_settled firsts seconds a b = logs_are (λ l m. AreSettledEnds pair k l m (ends_in at)) at firsts seconds a b good.settled
+
+  shown_yes : (es : List Entry) → IsOrder B S → SearchEnds A B S limit (Closed es) → (y : YesBody) → IsYesOf at S es y → Shown (Yes y)
   shown_yes es order ends y is = record {
     formed =
         and_from (are_logs Buchi y.first y.second) (is_block y.order && (is_short (length y.elements) && (list_all (is_element Buchi) y.elements && (are_short y.cover && are_steps 0 y.elements y.steps))))
         (logs_formed y.first y.second is.first_log is.second_log)
         (and_from (is_block y.order) (is_short (length y.elements) && (list_all (is_element Buchi) y.elements && (are_short y.cover && are_steps 0 y.elements y.steps))) is.order.formed
         (and_from (is_short (length y.elements)) (list_all (is_element Buchi) y.elements && (are_short y.cover && are_steps 0 y.elements y.steps))
-        (count_formed A B S limit es y can.first can.second can.first_parts.transitions few order.greatest ends is.closure is.order.formed is.order.pairs)
+        (count_formed A B S limit es y good.first good.second good.few_transitions few order.greatest ends is.closure is.order.formed is.order.pairs)
         (and_from (list_all (is_element Buchi) y.elements) (are_short y.cover && are_steps 0 y.elements y.steps)
-        (elements_formed A B S limit es y can.first can.second can.first_parts.transitions few order.greatest ends is.closure is.order.formed is.order.pairs)
+        (elements_formed A B S limit es y good.first good.second good.few_transitions few order.greatest ends is.closure is.order.formed is.order.pairs)
         (and_from (are_short y.cover) (are_steps 0 y.elements y.steps)
-        (cover_formed A B S limit es y can.first can.second can.first_parts.transitions few order.greatest ends is.closure is.order.formed is.order.pairs)
-        (steps_formed A B S limit es y can.first can.second can.first_parts.transitions few order.greatest ends is.closure is.order.formed is.order.pairs)))));
+        (cover_formed A B S limit es y good.first good.second good.few_transitions few order.greatest ends is.closure is.order.formed is.order.pairs)
+        (steps_formed A B S limit es y good.first good.second good.few_transitions few order.greatest ends is.closure is.order.formed is.order.pairs)))));
     checked = λ _. (
-      empty_logs y is.first_log is.second_log,
-      rules_hold A B S limit es y can.first can.second can.first_parts.transitions few order.greatest ends is.closure is.order.formed is.order.pairs,
+      refl,
+      record {
+        ends = ends_in at;
+        logs = (logs_settled y.first y.second is.first_log is.second_log).lead;
+        closed = rules_hold A B S limit es y good.first good.second good.few_transitions few order.greatest ends is.closure is.order.formed is.order.pairs (item_after y.first y.second);
+      },
     );
     truth = (
-      includes A B S limit es y can.first can.second can.first_parts.transitions few order.greatest ends is.closure is.order.formed is.order.pairs,
-      λ T other. subst (λ U. LiveStandApart A B U (origins_of y) (live_in y)) (one_order B S T order other)
-          (stand_apart A B S limit es y can.first can.second can.first_parts.transitions few order.greatest ends is.closure is.order.formed is.order.pairs),
+      λ u v accepts. good.second_same.1 u v (includes A B S limit es y good.first good.second good.few_transitions few order.greatest ends is.closure is.order.formed is.order.pairs u v (good.first_same.0 u v accepts)),
+      record {
+        ends = ends_in at;
+        settled = logs_settled y.first y.second is.first_log is.second_log;
+        apart = λ T other. subst (λ U. LiveStandApart A B U (origins_of y) (live_in y)) (one_order B S T order other)
+            (stand_apart A B S limit es y good.first good.second good.few_transitions few order.greatest ends is.closure is.order.formed is.order.pairs);
+      },
     );
   }
+
+  -- What separates the reduced automata separates the read ones.
+  separates : (u v : List ℕ) → SeparatesLasso A B u v → SeparatesLasso pair.first pair.second u v
+  separates u v apart = (good.first_same.1 u v apart.0, λ accepts. apart.1 (good.second_same.0 u v accepts))
 
   shown_no : (x z : Entry) → SearchEnds A B S limit (Apart x z) → (lasso : Lasso) → lasso.prefix ≡ x.arc.word → lasso.turn ≡ z.arc.word → Shown (NoLasso lasso)
   shown_no x z ends lasso prefix_is turn_is =
       let has = apart_end A B S limit x z ends in
-      let prefix : GoodWord A.labels lasso.prefix = subst (GoodWord A.labels) (sym prefix_is) (real_word A can.first x.arc (entry_is_real A has.among has.grown.sound has.first x has.first_is)) in
-      let turn : GoodWord A.labels lasso.turn = subst (GoodWord A.labels) (sym turn_is) (real_word A can.first z.arc (entry_is_real A has.among has.grown.sound has.second z has.second_is)) in
-      let few_labels : A.labels ≤ 512 = (let e = can.first_labels in let n = can.few_labels in omega arith) in
-      let apart : SeparatesLasso A B lasso.prefix lasso.turn =
-      subst (λ u. SeparatesLasso A B u lasso.turn) (sym prefix_is) (subst (λ v. SeparatesLasso A B x.arc.word v) (sym turn_is) (apart_separates A B S limit x z ends)) in
+      let prefix : GoodWord A.labels lasso.prefix = subst (GoodWord A.labels) (sym prefix_is) (real_word A good.first x.arc (entry_is_real A has.among has.grown.sound has.first x has.first_is)) in
+      let turn : GoodWord A.labels lasso.turn = subst (GoodWord A.labels) (sym turn_is) (real_word A good.first z.arc (entry_is_real A has.among has.grown.sound has.second z has.second_is)) in
+      let few_labels : A.labels ≤ 512 = (let e = good.first_labels in let n = can.few_labels in omega arith) in
+      let apart : SeparatesLasso pair.first pair.second lasso.prefix lasso.turn =
+      separates lasso.prefix lasso.turn
+      (subst (λ u. SeparatesLasso A B u lasso.turn) (sym prefix_is) (subst (λ v. SeparatesLasso A B x.arc.word v) (sym turn_is) (apart_separates A B S limit x z ends))) in
       record {
         formed =
             and_from (are_short lasso.prefix) (are_short lasso.turn && has_some lasso.turn) (short_word A.labels lasso.prefix few_labels prefix)
@@ -117,16 +134,16 @@ module _ (pair : Joined) (limit : ℕ) (can : CanDecide pair) (few : limit ≤ 1
         checked = λ _. (
           refl,
           (
-            subst (λ n. AreLabels n lasso.prefix) can.first_labels (labels_of A.labels lasso.prefix prefix),
-            (subst (λ n. AreLabels n lasso.turn) can.first_labels (labels_of A.labels lasso.turn turn), (apart.0, (apart.1, tt))),
+            subst (λ n. AreLabels n lasso.prefix) good.first_labels (labels_of A.labels lasso.prefix prefix),
+            (subst (λ n. AreLabels n lasso.turn) good.first_labels (labels_of A.labels lasso.turn turn), (apart.0, (apart.1, tt))),
           ),
         );
         truth = apart;
       }
 
-  shown_list : (es : List Entry) → IsOrder B S → SearchEnds A B S limit (Limit es) → (l : ListBody) → IsListOf (unreduced pair) limit es l → Shown (Listing l)
+  shown_list : (es : List Entry) → IsOrder B S → SearchEnds A B S limit (Limit es) → (l : ListBody) → IsListOf at limit es l → Shown (Listing l)
   shown_list es order ends l is =
-      let lists = limit_lists A B S limit es can.second order.greatest ends in
+      let lists = limit_lists A B S limit es good.second order.greatest ends in
       let listed : AreListed A B (limit + 1) l.elements = subst (AreListed A B (limit + 1)) (sym is.origins) lists.0 in
       let count = listed.size in
       let limit_is = is.limit_is in
@@ -138,15 +155,17 @@ module _ (pair : Joined) (limit : ℕ) (can : CanDecide pair) (few : limit ≤ 1
             (pass_from_places (is_origin Buchi) l.elements (λ e o o_is.
             let within = at_within l.elements e o o_is in
             let here : IsPlacedAt A (arcs_of A l.elements) e o = subst (IsPlacedAt A (arcs_of A l.elements) e) (get_or_from_slice_get l.elements e o Start o_is) (listed.placed e within) in
-            (parts_of_placed A (arcs_of A l.elements) (length l.elements) e o within (omega arith) can.first_parts.transitions here).short))));
+            (parts_of_placed A (arcs_of A l.elements) (length l.elements) e o within (omega arith) good.few_transitions here).short))));
         checked = λ none. absurd none;
         truth = record {
+          ends = ends_in at;
+          settled = logs_settled l.first l.second is.first_log is.second_log;
           listed = listed;
           fresh = λ T other. subst (λ U. NoneSubsumedBefore A B U l.elements) (one_order B S T order other) (subst (NoneSubsumedBefore A B S) (sym is.origins) lists.1);
         };
       }
 
-  shown : (outcome : Outcome Entry) → IsOrder B S → SearchEnds A B S limit outcome → (body : Body) → IsBodyOf (unreduced pair) S limit outcome body → Shown body
+  shown : (outcome : Outcome Entry) → IsOrder B S → SearchEnds A B S limit outcome → (body : Body) → IsBodyOf at S limit outcome body → Shown body
   shown (Closed es) order ends (Yes y) is = shown_yes es order ends y is
   shown (Closed es) order ends (NoLasso l) is = absurd is
   shown (Closed es) order ends (NoWord w) is = absurd is
@@ -160,9 +179,9 @@ module _ (pair : Joined) (limit : ℕ) (can : CanDecide pair) (few : limit ≤ 1
   shown (Limit es) order ends (NoWord w) is = absurd is
   shown (Limit es) order ends (Listing l) is = shown_list es order ends l is
 
-module _ (pair : Joined) (limit : ℕ) (cert : Cert) (can : CanDecide pair) (few : limit ≤ 100000) (answer : IsAnswer pair limit cert) where
-  body_shown : Shown pair limit can few answer.pairs cert.body
-  body_shown = shown pair limit can few answer.pairs answer.outcome answer.decides.order answer.decides.ends cert.body answer.body
+module _ (pair : Joined) (k limit : ℕ) (cert : Cert) (can : CanDecide pair) (few : limit ≤ 100000) (at : Reductions) (good : AreGoodEnds pair k at) (answer : IsAnswerBy at pair limit cert) where
+  body_shown : Shown pair k limit can few at good answer.pairs cert.body
+  body_shown = shown pair k limit can few at good answer.pairs answer.outcome answer.decides.order answer.decides.ends cert.body answer.body
 
   is_formed : WellFormed cert
   is_formed =
@@ -184,34 +203,34 @@ module _ (pair : Joined) (limit : ℕ) (cert : Cert) (can : CanDecide pair) (few
       record {
         formed = is_formed;
         form = subst (λ m. has_checked_body m cert.body ≡ true) (sym answer.mode) checked.0;
-        keeps = (answer.sizes, checked.1);
+        keeps = (answer.sizes, subst (λ m. BodyHolds m pair cert.body) (sym answer.mode) checked.1);
       }
 
-  is_true : SaysTruth pair limit cert.body
+  is_true : SaysTruth pair k limit cert.body
   is_true = body_shown.truth
 
 pub answers_are_formed : AnswersAreFormed
-answers_are_formed pair limit cert can few answer = is_formed pair limit cert can few answer
+answers_are_formed pair k limit cert can bounds (at, ends, answer) = is_formed pair k limit cert can bounds.2 at (good_ends pair k at can bounds.0 bounds.1 ends) answer
 
 pub answers_are_valid : AnswersAreValid
-answers_are_valid pair limit cert can few answer = is_valid pair limit cert can few answer
+answers_are_valid pair k limit cert can bounds (at, ends, answer) = is_valid pair k limit cert can bounds.2 at (good_ends pair k at can bounds.0 bounds.1 ends) answer
 
 pub answers_are_true : AnswersAreTrue
-answers_are_true pair limit cert can few answer = is_true pair limit cert can few answer
+answers_are_true pair k limit cert can bounds (at, ends, answer) = is_true pair k limit cert can bounds.2 at (good_ends pair k at can bounds.0 bounds.1 ends) answer
 
 -- The same, body by body.
-module _ (pair : Joined) (limit : ℕ) (cert : Cert) (can : CanDecide pair) (few : limit ≤ 100000) (answer : IsAnswer pair limit cert) where
-  says : (body : Body) → cert.body ≡ body → SaysTruth pair limit body
-  says body is = subst (SaysTruth pair limit) is (is_true pair limit cert can few answer)
+module _ (pair : Joined) (k limit : ℕ) (cert : Cert) (can : CanDecide pair) (bounds : AreBounds k limit) (answer : IsAnswer pair k limit cert) where
+  says : (body : Body) → cert.body ≡ body → SaysTruth pair k limit body
+  says body is = subst (SaysTruth pair k limit) is (answers_are_true pair k limit cert can bounds answer)
 
   pub yes_includes : (y : YesBody) → cert.body ≡ Yes y → Includes pair.first pair.second Buchi
   yes_includes y is = (says (Yes y) is).0
 
-  pub yes_stands_apart : (y : YesBody) → cert.body ≡ Yes y → StandApart pair y
+  pub yes_stands_apart : (y : YesBody) → cert.body ≡ Yes y → StandApart pair k y
   yes_stands_apart y is = (says (Yes y) is).1
 
   pub no_separates : (lasso : Lasso) → cert.body ≡ NoLasso lasso → SeparatesLasso pair.first pair.second lasso.prefix lasso.turn
   no_separates lasso is = says (NoLasso lasso) is
 
-  pub list_is_new : (l : ListBody) → cert.body ≡ Listing l → ListsNew pair limit l
+  pub list_is_new : (l : ListBody) → cert.body ≡ Listing l → ListsNew pair k limit l
   list_is_new l is = says (Listing l) is

@@ -1,6 +1,16 @@
 pub mod PlaceLemmas
 pub mod RowLemmas
-pub mod YesLemmas
+pub mod RankRowLemmas
+pub mod WrittenLemmas
+pub mod BlockUniqueLemmas
+pub mod EndUniqueLemmas
 pub mod UniqueLemmas
+pub mod YesLemmas
+pub mod FollowLemmas
+pub mod FollowFirstLemmas
+pub mod FollowSecondLemmas
+pub mod RankLemmas
+pub mod ShortLemmas
+pub mod EndLemmas
 pub mod AnswerLemmas
 pub mod MadeLemmas

@@ -6,8 +6,8 @@ use Rattle.std.proofs.lemmas.Bool.{and_from}
 use Rattle.std.proofs.lemmas.Option.{get_or_from_slice_get}
 use Rattle.auto_core.specs.Outcome.{At}
 use Rattle.search_laws.proofs.PlaceLemmas.{at_some}
-use Rattle.cert_check.specs.Checks.{Check, AllHold, checks_of_each}
-use Rattle.cert_check.proofs.CheckLemmas.{all_join}
+use Rattle.log_check.specs.Checks.{Check, AllHold, checks_of_each}
+use Rattle.log_check.proofs.CheckLemmas.{all_join}
 
 pub all_from_places : {X : Type 0} (P : X → Type 0) (xs : List X) → ((k : ℕ) (x : X) → At xs k x → P x) → All P xs
 all_from_places P xs each k d lt = let (x, is) = at_some xs k lt in subst P (sym (get_or_from_slice_get xs k x d is)) (each k x is)

@@ -13,8 +13,8 @@ use Rattle.bit_rel.specs.Relation.{IsBefore, ArePairsAscending}
 use Rattle.bit_rel.proofs.PairLemmas.{same_pairs}
 use Rattle.cert_text.specs.declared.types.Row.{Row}
 use Rattle.cert_text.specs.WellFormed.{is_short, are_short, has_some, ascend, ascend_from, is_row, are_rows}
-use Rattle.cert_check.specs.Inclusion.{pairs_of_row}
-use Rattle.decide.specs.Answer.{IsBlockOf}
+use Rattle.log_check.specs.Blocks.{pairs_of_row}
+use Rattle.decide.specs.Written.{IsBlockOf}
 use Rattle.decide.specs.Rows.{AreRights, AreRows}
 
 -- Numbers below a bound have few digits.
@@ -24,7 +24,7 @@ all_short (n ∷ ns) below =
     and_from (nat_lt n 1000000000) (list_all is_short ns) (lt-ltb n 1000000000 (below n (Contains-here n n ns refl))) (all_short ns (λ m has. below m (Contains-later n m ns has)))
 
 -- A greater number goes behind ascending ones.
-ascend_behind : (bound : ℕ) (ns : List ℕ) (n : ℕ) → ascend_from bound ns ≡ true → bound ≤ n → ((m : ℕ) → Contains ns m → m < n) → ascend_from bound (ns ++ n ∷ []) ≡ true
+pub ascend_behind : (bound : ℕ) (ns : List ℕ) (n : ℕ) → ascend_from bound ns ≡ true → bound ≤ n → ((m : ℕ) → Contains ns m → m < n) → ascend_from bound (ns ++ n ∷ []) ≡ true
 ascend_behind bound [] n h low below = and_from (nat_le bound n) true (le-leb bound n low) refl
 ascend_behind bound (m ∷ ns) n h low below =
     let parts = and_parts (nat_le bound m) (ascend_from (m + 1) ns) h in

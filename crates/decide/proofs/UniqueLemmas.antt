@@ -1,37 +1,33 @@
 -- There is one order, one outcome and one answer.
-use Rattle.std.proofs.Common.{◌≡◌, ℕ, ◌+◌, ◌≤◌, true, List, [], ◌∷◌, ◌++◌, length, map, Contains, refl, sym, ap, ◌∙◌, subst, inl, inr, arith}
-use Rattle.std.specs.Prelude.{nat_le, filter}
-use Rattle.std.specs.List.{flat_map, range_with_len}
-use Rattle.std.proofs.lemmas.Bool.{and_parts, cases_lt}
-use Rattle.std.proofs.lemmas.List.{length-map, append_cancel_left}
-use Rattle.std.proofs.lemmas.List.Elements.{Contains-append_cases, Contains-append_left}
+use Rattle.std.proofs.Common.{◌≡◌, ℕ, List, length, map, refl, sym, ap, ◌∙◌, subst, inl, inr, arith}
+use Rattle.std.specs.Prelude.{filter}
+use Rattle.std.specs.List.{range_with_len}
+use Rattle.std.proofs.lemmas.Bool.{cases_lt}
+use Rattle.std.proofs.lemmas.List.{length-map}
 use Rattle.auto_core.specs.Automaton.{Automaton}
 use Rattle.auto_core.specs.Outcome.{At, Entry, Outcome, Closed, Apart, Limit, IsLeastSubsumer, SearchEnds, base_entry, next_entry, steps_out, supergraph_rules, origins_in}
 use Rattle.auto_core.specs.declared.parts.Lasso.{Lasso}
-use Rattle.auto_core.proofs.PathLemmas.{Contains-cons_cases, Contains-here, Contains-later, none_in_nil}
 use Rattle.bit_rel.proofs.PairLemmas.{same_pairs}
 use Rattle.search_laws.proofs.PlaceLemmas.{at_same, at_within, at_some}
 use Rattle.search_laws.proofs.ListLemmas.{at_map}
 use Rattle.search_laws.proofs.OutcomeLemmas.{one_outcome}
 use Rattle.search_laws.proofs.EntryLemmas.{origins_size}
+use Rattle.ba_format.specs.declared.parts.Joined.{Joined}
 use Rattle.cert_text.specs.declared.types.Cert.{Cert}
 use Rattle.cert_text.specs.declared.types.Body.{Body}
 use Rattle.cert_text.specs.declared.types.Body.TheVariants.{Yes, NoLasso, NoWord, Listing}
 use Rattle.cert_text.specs.declared.types.YesBody.{YesBody}
 use Rattle.cert_text.specs.declared.types.ListBody.{ListBody}
-use Rattle.cert_text.specs.declared.types.RelBlock.{RelBlock}
-use Rattle.cert_text.specs.declared.types.Row.{Row}
 use Rattle.cert_text.specs.declared.types.Element.{Element}
 use Rattle.cert_text.specs.declared.types.Mark.{Mark}
 use Rattle.cert_text.specs.declared.types.Mark.TheVariants.{Live, Under}
 use Rattle.cert_text.specs.declared.types.StepLine.{StepLine}
-use Rattle.cert_text.specs.WellFormed.{is_short, ascend_from, is_row, are_rows}
-use Rattle.cert_check.specs.Inclusion.{pairs_of_row}
 use Rattle.ramsey_search.specs.Ends.{IsMarked, IsStepOf, IsClosureOf, marked_live}
-use Rattle.decide.specs.Answer.{IsOrder, LogEnds, unreduced, IsBlockOf, closure_in, IsBodyOf}
+use Rattle.decide.specs.Answer.{IsOrder, Reductions, closure_in, IsBodyOf, IsAnswerBy}
 use Rattle.decide.specs.Laws.{OneAnswer, OneOutcomeDecides}
 use Rattle.decide.proofs.PlaceLemmas.{same_by_places}
-use Rattle.decide.proofs.RowLemmas.{in_row, of_row, ascend_above, rows_above, row_parts}
+use Rattle.decide.proofs.BlockUniqueLemmas.{one_block}
+use Rattle.decide.proofs.EndUniqueLemmas.{reductions_are_one}
 
 pub one_order : (B : Automaton) (S T : List (ℕ × ℕ)) → IsOrder B S → IsOrder B T → S ≡ T
 one_order B S T a b =
@@ -43,84 +39,6 @@ pub one_outcome_decides : OneOutcomeDecides
 one_outcome_decides at limit S T o p a b =
     let same = one_order at.second S T a.order b.order in
     (same, one_outcome at.first at.second T limit o p (subst (λ U. SearchEnds at.first at.second U limit o) same a.ends) b.ends)
-
--- Ascending lists of the same numbers are one.
-same_numbers : (bound bound' : ℕ) (xs ys : List ℕ) → ascend_from bound xs ≡ true → ascend_from bound' ys ≡ true → ((n : ℕ) → Contains xs n → Contains ys n) → ((n : ℕ) → Contains ys n → Contains xs n) → xs ≡ ys
-same_numbers bound bound' [] [] a b to from = refl
-same_numbers bound bound' [] (y ∷ ys) a b to from = absurd (none_in_nil y (from y (Contains-here y y ys refl)))
-same_numbers bound bound' (x ∷ xs) [] a b to from = absurd (none_in_nil x (to x (Contains-here x x xs refl)))
-same_numbers bound bound' (x ∷ xs) (y ∷ ys) a b to from =
-    ap (λ z. z ∷ xs) heads ∙ ap (λ l. y ∷ l) (same_numbers (x + 1) (y + 1) xs ys rest_a rest_b to_rest from_rest)
-  where
-    rest_a : ascend_from (x + 1) xs ≡ true
-    rest_a = (and_parts (nat_le bound x) (ascend_from (x + 1) xs) a).1
-
-    rest_b : ascend_from (y + 1) ys ≡ true
-    rest_b = (and_parts (nat_le bound' y) (ascend_from (y + 1) ys) b).1
-
-    heads : x ≡ y
-    heads = elim (Contains-cons_cases y x ys (to x (Contains-here x x xs refl))) [
-      | inl e ↦ sym e
-      | inr later ↦ elim (Contains-cons_cases x y xs (from y (Contains-here y y ys refl))) [
-        | inl e ↦ e
-        | inr further ↦ let p = ascend_above (y + 1) ys rest_b x later in let q = ascend_above (x + 1) xs rest_a y further in absurd (omega arith)
-      ]
-    ]
-
-    to_rest : (n : ℕ) → Contains xs n → Contains ys n
-    to_rest n has = elim (Contains-cons_cases y n ys (to n (Contains-later x n xs has))) [
-      | inl e ↦ let p = ascend_above (x + 1) xs rest_a n has in let h = heads in absurd (omega arith)
-      | inr later ↦ later
-    ]
-
-    from_rest : (n : ℕ) → Contains ys n → Contains xs n
-    from_rest n has = elim (Contains-cons_cases x n xs (from n (Contains-later y n ys has))) [
-      | inl e ↦ let p = ascend_above (y + 1) ys rest_b n has in let h = heads in absurd (omega arith)
-      | inr later ↦ later
-    ]
-
-row_is : (r s : Row) → r.left ≡ s.left → r.rights ≡ s.rights → r ≡ s
-row_is r s e f = ap (λ l. record { left = l; rights = r.rights }) e ∙ ap (λ l. record { left = s.left; rights = l }) f
-
--- Rows that list the same pairs are the same.
-same_rows : (bound bound' : ℕ) (rows others : List Row) → are_rows bound rows ≡ true → are_rows bound' others ≡ true → flat_map pairs_of_row rows ≡ flat_map pairs_of_row others → rows ≡ others
-same_rows bound bound' [] [] a b same = refl
-same_rows bound bound' [] (s ∷ ss) a b same =
-    let p = row_parts bound' s (and_parts (is_row bound' s) (are_rows (s.left + 1) ss) b).0 in
-    absurd (none_in_nil (s.left, p.a_right) (subst (λ l. Contains l (s.left, p.a_right)) (sym same) (Contains-append_left (pairs_of_row s) (flat_map pairs_of_row ss) (s.left, p.a_right) (of_row s s.left p.a_right refl p.has_right))))
-same_rows bound bound' (r ∷ rs) [] a b same =
-    let p = row_parts bound r (and_parts (is_row bound r) (are_rows (r.left + 1) rs) a).0 in
-    absurd (none_in_nil (r.left, p.a_right) (subst (λ l. Contains l (r.left, p.a_right)) same (Contains-append_left (pairs_of_row r) (flat_map pairs_of_row rs) (r.left, p.a_right) (of_row r r.left p.a_right refl p.has_right))))
-same_rows bound bound' (r ∷ rs) (s ∷ ss) a b same =
-    let pa = and_parts (is_row bound r) (are_rows (r.left + 1) rs) a in
-    let pb = and_parts (is_row bound' s) (are_rows (s.left + 1) ss) b in
-    let p = row_parts bound r pa.0 in
-    let q = row_parts bound' s pb.0 in
-    let to = crosses r s rs ss pb.1 same in
-    let from = crosses s r ss rs pa.1 (sym same) in
-    let low = (to r.left p.a_right p.has_right refl).0 in
-    let high = (from s.left q.a_right q.has_right refl).0 in
-    let lefts : r.left ≡ s.left = (omega arith) in
-    let rights : r.rights ≡ s.rights = same_numbers 0 0 r.rights s.rights p.ascending q.ascending
-    (λ n has. (to r.left n has refl).1 lefts) (λ n has. (from s.left n has refl).1 (sym lefts)) in
-    let heads : r ≡ s = row_is r s lefts rights in
-    let rests = append_cancel_left (pairs_of_row s) (flat_map pairs_of_row rs) (flat_map pairs_of_row ss) (subst (λ z. pairs_of_row z ++ flat_map pairs_of_row rs ≡ pairs_of_row s ++ flat_map pairs_of_row ss) heads same) in
-    ap (λ z. z ∷ rs) heads ∙ ap (λ l. s ∷ l) (same_rows (r.left + 1) (s.left + 1) rs ss pa.1 pb.1 rests)
-  where
-    -- A pair of the first row stands in the other list: in its first row, or behind it.
-    crosses : (r s : Row) (rs ss : List Row) → are_rows (s.left + 1) ss ≡ true → flat_map pairs_of_row (r ∷ rs) ≡ flat_map pairs_of_row (s ∷ ss) → (left n : ℕ) → Contains r.rights n → left ≡ r.left →
-        (s.left ≤ left) × (left ≡ s.left → Contains s.rights n)
-    crosses r s rs ss behind same left n has e =
-        let here : Contains (flat_map pairs_of_row (s ∷ ss)) (left, n) = subst (λ l. Contains l (left, n)) same (Contains-append_left (pairs_of_row r) (flat_map pairs_of_row rs) (left, n) (of_row r left n e has)) in
-        elim (Contains-append_cases (pairs_of_row s) (flat_map pairs_of_row ss) (left, n) here) [
-          | inl first ↦ let at = in_row s left n first in let l = at.0 in (omega arith, λ _. at.1)
-          | inr later ↦ let above = rows_above (s.left + 1) ss behind (left, n) later in (omega arith, λ f. absurd (omega arith))
-        ]
-
-one_block : (S : List (ℕ × ℕ)) (b c : RelBlock) → IsBlockOf S b → IsBlockOf S c → b ≡ c
-one_block S b c p q =
-    ap (λ rows. record { rows = rows })
-    (same_rows 0 0 b.rows c.rows (and_parts (is_short (length b.rows)) (are_rows 0 b.rows) p.formed).1 (and_parts (is_short (length c.rows)) (are_rows 0 c.rows) q.formed).1 (p.pairs ∙ sym q.pairs))
 
 -- There is one least subsumer.
 module _ (A B : Automaton) (S : List (ℕ × ℕ)) (es : List Entry) where
@@ -203,7 +121,7 @@ list_is k l a b c d =
 pub lasso_is : (k l : Lasso) → k.prefix ≡ l.prefix → k.turn ≡ l.turn → k ≡ l
 lasso_is k l a b = ap (λ x. record { prefix = x; turn = k.turn }) a ∙ ap (λ x. record { prefix = l.prefix; turn = x }) b
 
-one_body : (at : LogEnds) (S : List (ℕ × ℕ)) (limit : ℕ) (o : Outcome Entry) (b c : Body) → IsBodyOf at S limit o b → IsBodyOf at S limit o c → b ≡ c
+one_body : (at : Reductions) (S : List (ℕ × ℕ)) (limit : ℕ) (o : Outcome Entry) (b c : Body) → IsBodyOf at S limit o b → IsBodyOf at S limit o c → b ≡ c
 one_body at S limit (Closed es) (Yes y) (Yes z) p q =
     ap Yes (yes_is y z (p.first_log ∙ sym q.first_log) (p.second_log ∙ sym q.second_log) (one_block S y.order z.order p.order q.order)
     (same_elements at.first at.second S es y z p.closure q.closure) (same_cover at.first at.second S es y z p.closure q.closure) (same_steps at.first at.second S es y z p.closure q.closure))
@@ -237,9 +155,14 @@ cert_is c d p q r s t =
     ∙ ap (λ x. record { mode = d.mode; first_states = d.first_states; second_states = d.second_states; labels = x; body = c.body }) s
     ∙ ap (λ x. record { mode = d.mode; first_states = d.first_states; second_states = d.second_states; labels = d.labels; body = x }) t
 
+-- By one pair of log ends there is one answer.
+one_answer_by : (at : Reductions) (pair : Joined) (limit : ℕ) (c d : Cert) → IsAnswerBy at pair limit c → IsAnswerBy at pair limit d → c ≡ d
+one_answer_by at pair limit c d p q =
+    let same = one_outcome_decides at limit p.pairs q.pairs p.outcome q.outcome p.decides q.decides in
+    let body : IsBodyOf at q.pairs limit q.outcome c.body =
+    subst (λ S. IsBodyOf at S limit q.outcome c.body) same.0 (subst (λ o. IsBodyOf at p.pairs limit o c.body) same.1 p.body) in
+    cert_is c d (p.mode ∙ sym q.mode) (p.sizes.0 ∙ sym q.sizes.0) (p.sizes.1 ∙ sym q.sizes.1) (p.sizes.2 ∙ sym q.sizes.2) (one_body at q.pairs limit q.outcome c.body d.body body q.body)
+
 pub one_answer : OneAnswer
-one_answer pair limit c d p q =
-    let same = one_outcome_decides (unreduced pair) limit p.pairs q.pairs p.outcome q.outcome p.decides q.decides in
-    let body : IsBodyOf (unreduced pair) q.pairs limit q.outcome c.body =
-    subst (λ S. IsBodyOf (unreduced pair) S limit q.outcome c.body) same.0 (subst (λ o. IsBodyOf (unreduced pair) p.pairs limit o c.body) same.1 p.body) in
-    cert_is c d (p.mode ∙ sym q.mode) (p.sizes.0 ∙ sym q.sizes.0) (p.sizes.1 ∙ sym q.sizes.1) (p.sizes.2 ∙ sym q.sizes.2) (one_body (unreduced pair) q.pairs limit q.outcome c.body d.body body q.body)
+one_answer pair k limit c d one two some (at, ends, p) (other, others, q) =
+    one_answer_by at pair limit c d p (subst (λ e. IsAnswerBy e pair limit d) (reductions_are_one pair k other at one two some others ends) q)

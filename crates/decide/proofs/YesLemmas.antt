@@ -28,9 +28,10 @@ use Rattle.cert_text.specs.declared.types.Mark.TheVariants.{Live, Under}
 use Rattle.cert_text.specs.declared.types.Row.{Row}
 use Rattle.cert_text.specs.declared.types.StepLine.{StepLine}
 use Rattle.cert_text.specs.WellFormed.{is_live, is_short, are_short, is_element, is_mark, is_origin, is_step_of, are_steps, is_row, are_rows, is_block}
-use Rattle.cert_check.specs.Checks.{AllHold}
-use Rattle.cert_check.specs.Inclusion.{pairs_of, pairs_of_row, IsRowBelow, origins_of, element_arcs, no_element, live_in, NamesOrigin, NamesElement, HasEarlierParent, GoesOn, IsOver, IsUnder, AreOver, starts_of, extensions_of, order_checks, element_checks, under_checks, step_checks, pair_checks, inclusion_checks}
-use Rattle.cert_check.proofs.CheckLemmas.{all_join}
+use Rattle.log_check.specs.Checks.{AllHold}
+use Rattle.log_check.specs.Blocks.{pairs_of, pairs_of_row, IsRowBelow}
+use Rattle.cert_check.specs.Inclusion.{origins_of, element_arcs, no_element, live_in, NamesOrigin, NamesElement, HasEarlierParent, GoesOn, IsOver, IsUnder, AreOver, starts_of, extensions_of, order_checks, element_checks, under_checks, step_checks, pair_checks, inclusion_checks}
+use Rattle.log_check.proofs.CheckLemmas.{all_join}
 use Rattle.cert_check.proofs.ClosedLemmas.{elements_part, under_part, cover_part, steps_part, pairs_part}
 use Rattle.cert_check.proofs.SuperLemmas.{start_at, starts_count}
 use Rattle.ramsey_search.specs.Ends.{is_live as is_live_mark, marked_live, IsMarked, IsStepOf, IsClosureOf, LiveStandApart}
@@ -219,8 +220,8 @@ module _ (A B : Automaton) (S : List (ℕ × ℕ)) (limit : ℕ) (es : List Entr
         (subst (IsPlacedAt A (element_arcs A y) e) (read_map (λ (x : Element). x.origin) y.elements e m Start is) (all e (omega arith)))
 
     -- The order, the elements, and those under others.
-    order_holds : AllHold (order_checks B y 1)
-    order_holds = (
+    order_holds : (n : ℕ) → AllHold (order_checks B y n)
+    order_holds n = (
       rows_below B.states 0 y.order.rows (and_parts (is_short (length y.order.rows)) (are_rows 0 y.order.rows) formed).1
           (λ p q has. greatest.in_range p q (subst (λ l. Contains l (p, q)) pairs has)),
       (subst (StableForward B 1) (sym pairs) greatest.stable, tt),
@@ -230,8 +231,8 @@ module _ (A B : Automaton) (S : List (ℕ × ℕ)) (limit : ℕ) (es : List Entr
     names_of i x Live marked = tt
     names_of i x (Under j) marked = least_within x j marked.1
 
-    elements_hold : AllHold (elements_part A B y)
-    elements_hold = checks_from_places (element_checks A y 2) y.elements (λ e m is.
+    elements_hold : (n : ℕ) → AllHold (elements_part n A B y)
+    elements_hold n = checks_from_places (element_checks A y (n + 1)) y.elements (λ e m is.
         let x = entry_of e m is in
         let p = placed e m is in
         ((p.names, names_of e x.0 m.mark (closure.marks e x.0 m x.1 is)), (p.earlier, (p.goes, tt))))
@@ -240,15 +241,15 @@ module _ (A B : Automaton) (S : List (ℕ × ℕ)) (limit : ℕ) (es : List Entr
     under_of i x is Live marked = tt
     under_of i x is (Under j) marked = subst (IsOver A B y j) (sym (arc_is i x is)) (over x j marked.1)
 
-    under_hold : AllHold (under_part A B y)
-    under_hold = checks_from_places (under_checks A B y 2) y.elements (λ e m is. let x = entry_of e m is in (under_of e x.0 x.1 m.mark (closure.marks e x.0 m x.1 is), tt))
+    under_hold : (n : ℕ) → AllHold (under_part n A B y)
+    under_hold n = checks_from_places (under_checks A B y (n + 1)) y.elements (λ e m is. let x = entry_of e m is in (under_of e x.0 x.1 m.mark (closure.marks e x.0 m x.1 is), tt))
 
     -- The cover and the step lines.
     cover_within : (t j : ℕ) → At y.cover t j → j < length y.elements
     cover_within t j is = least_within (base_entry A t) j (closure.cover t j is)
 
-    cover_holds : AllHold (cover_part A B y)
-    cover_holds = (
+    cover_holds : (n : ℕ) → AllHold (cover_part n A B y)
+    cover_holds n = (
       all_from_places (λ j. j < length y.elements) y.cover cover_within,
       (
         record {
@@ -286,8 +287,8 @@ module _ (A B : Automaton) (S : List (ℕ × ℕ)) (limit : ℕ) (es : List Entr
           (over (next_entry A l.element step.element t.0) j.0 (step.each k t.0 j.0 t.1 j.1)));
     }
 
-    steps_hold : AllHold (steps_part A B y)
-    steps_hold = checks_from_places (step_checks A B y (3 + length y.elements)) y.steps (λ k l is.
+    steps_hold : (n : ℕ) → AllHold (steps_part n A B y)
+    steps_hold n = checks_from_places (step_checks A B y (n + 2 + length y.elements)) y.steps (λ k l is.
         let step : IsStepOf A B S es l = closure.steps k l is in (
           (element_within l step, all_from_places (λ j. j < length y.elements) l.by (by_within l step)),
           (
@@ -297,16 +298,16 @@ module _ (A B : Automaton) (S : List (ℕ × ℕ)) (limit : ℕ) (es : List Entr
           ),
         ))
 
-    pairs_hold : AllHold (pairs_part A B y)
-    pairs_hold = checks_from_places (pair_checks A B y 2) y.elements (λ e m is. (λ live f live_f. closed.passes e f live live_f, tt))
+    pairs_hold : (n : ℕ) → AllHold (pairs_part n A B y)
+    pairs_hold n = checks_from_places (pair_checks A B y (n + 1)) y.elements (λ e m is. (λ live f live_f. closed.passes e f live live_f, tt))
 
-    pub rules_hold : AllHold (inclusion_checks A B y)
-    rules_hold =
-        all_join (order_checks B y 1) (elements_part A B y ++ (under_part A B y ++ (cover_part A B y ++ (steps_part A B y ++ pairs_part A B y)))) order_holds
-        (all_join (elements_part A B y) (under_part A B y ++ (cover_part A B y ++ (steps_part A B y ++ pairs_part A B y))) elements_hold
-        (all_join (under_part A B y) (cover_part A B y ++ (steps_part A B y ++ pairs_part A B y)) under_hold
-        (all_join (cover_part A B y) (steps_part A B y ++ pairs_part A B y) cover_holds
-        (all_join (steps_part A B y) (pairs_part A B y) steps_hold pairs_hold))))
+    pub rules_hold : (n : ℕ) → AllHold (inclusion_checks n A B y)
+    rules_hold n =
+        all_join (order_checks B y n) (elements_part n A B y ++ (under_part n A B y ++ (cover_part n A B y ++ (steps_part n A B y ++ pairs_part n A B y)))) (order_holds n)
+        (all_join (elements_part n A B y) (under_part n A B y ++ (cover_part n A B y ++ (steps_part n A B y ++ pairs_part n A B y))) (elements_hold n)
+        (all_join (under_part n A B y) (cover_part n A B y ++ (steps_part n A B y ++ pairs_part n A B y)) (under_hold n)
+        (all_join (cover_part n A B y) (steps_part n A B y ++ pairs_part n A B y) (cover_holds n)
+        (all_join (steps_part n A B y) (pairs_part n A B y) (steps_hold n) (pairs_hold n)))))
 
     -- It has a text.
     short_number : (j : ℕ) → j < length y.elements → is_short j ≡ true

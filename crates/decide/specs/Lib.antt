@@ -1,4 +1,6 @@
+pub mod Written
 pub mod Answer
 pub mod Laws
 pub mod Rows
+pub mod Logs
 pub mod Bodies

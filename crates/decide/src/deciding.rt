@@ -12,15 +12,17 @@ ghost use Rattle.decide.specs.Answer.{IsAnswer, HasFewParts};
 ghost use Rattle.decide.specs.Laws.{IsValidVerdict, StandApart, ListsNew};
 
 use crate::bodies::body_of;
+use crate::logs::logs_of;
 use auto_core::{Memory, Mode};
 use ba_format::Joined;
 use cert_text::Cert;
 use ramsey_search::search;
+use reduce_loop::reduce;
 use std::alloc::Global;
 
-/// Decides whether the second automaton accepts each lasso that the first accepts. The certificate is the answer: a yes with the
-/// evidence of a closed set, a no with a lasso that separates the two, or the list of limit + 1 supergraphs where the limit was met.
-/// The lookahead is that of a reduction before the search; there is none yet, and both logs are empty.
+/// Decides whether the second automaton accepts each lasso that the first accepts. Both are reduced at the lookahead, and the reduced
+/// ones are searched. The certificate is the answer: a yes with the evidence of a closed set, a no with a lasso that separates the two,
+/// or the list of limit + 1 supergraphs where the limit was met. A yes and a list have the logs of both reductions.
 pub fn include(
     alloc: Global,
     pair: &Joined,
@@ -39,30 +41,35 @@ pub fn include(
     requires some { 1 ≤ limit }
     requires few { limit ≤ 100000 }
 
-    // The certificate is the answer: what it has to hold for the outcome of the search.
-    ensures answer { IfOk result (IsAnswer pair.now limit) }
+    // The certificate is the answer: what it has to hold for the outcome of the search on the reduced automata.
+    ensures answer { IfOk result (IsAnswer pair.now look limit) }
 
     // It has a text, and a yes and a no keep all rules of the check.
     ensures formed { IfOk result WellFormed }
     ensures valid { IfOk result (IsValidVerdict pair.now) }
 
-    // A yes says an inclusion, and no live element of it subsumes another.
+    // A yes says an inclusion. Its logs lead to settled automata, and no live element of it subsumes another there.
     ensures included { IfOk result (λ cert. (evidence : YesBody) → cert.body ≡ body.Yes evidence → Includes pair.now.first pair.now.second Buchi) }
-    ensures apart_live { IfOk result (λ cert. (evidence : YesBody) → cert.body ≡ body.Yes evidence → StandApart pair.now evidence) }
+    ensures apart_live { IfOk result (λ cert. (evidence : YesBody) → cert.body ≡ body.Yes evidence → StandApart pair.now look evidence) }
 
     // A no has a lasso that separates the two automata.
     ensures apart { IfOk result (λ cert. (lasso : Lasso) → cert.body ≡ body.NoLasso lasso → SeparatesLasso pair.now.first pair.now.second lasso.prefix lasso.turn) }
 
-    // A list has limit + 1 different supergraphs, none subsumed by an earlier one.
-    ensures listed { IfOk result (λ cert. (list : ListBody) → cert.body ≡ body.Listing list → ListsNew pair.now limit list) }
+    // The logs of a list lead to settled automata. It has limit + 1 different supergraphs of these, none subsumed by an earlier one.
+    ensures listed { IfOk result (λ cert. (list : ListBody) → cert.body ≡ body.Listing list → ListsNew pair.now look limit list) }
 {
-    let order = direct_sim::relation(alloc, &pair.second, 1)?;
-    let outcome = search(alloc, &pair.first, &pair.second, &order, limit)?;
+    let first_states = pair.first.states();
+    let second_states = pair.second.states();
+    let first = reduce(alloc, &pair.first, mode, look)?;
+    let second = reduce(alloc, &pair.second, mode, look)?;
+    let order = direct_sim::relation(alloc, &second.auto, 1)?;
+    let outcome = search(alloc, &first.auto, &second.auto, &order, limit)?;
+    let logs = logs_of(alloc, first.log.as_slice(), second.log.as_slice())?;
     Ok(Cert {
         mode,
-        first_states: pair.first.states(),
-        second_states: pair.second.states(),
+        first_states,
+        second_states,
         labels: pair.labels.count(),
-        body: body_of(alloc, outcome, &order, limit)?,
+        body: body_of(alloc, logs, outcome, &order, limit)?,
     })
 }

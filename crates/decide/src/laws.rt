@@ -1,8 +1,8 @@
 //! What answers are: each law is the contract of a function that does nothing.
 
-ghost use Rattle.decide.specs.Laws.{OneAnswer, AnswersAreFormed, AnswersAreValid, AnswersAreTrue, OneOutcomeDecides};
+ghost use Rattle.decide.specs.Laws.{OneAnswer, AnswersAreFormed, AnswersAreValid, AnswersAreTrue, ReductionsAreOne, WrittenLogsLead, OneOutcomeDecides};
 
-/// Two automata have one answer at a limit.
+/// Two automata have one answer at a lookahead and a limit.
 pub fn one_answer()
     ensures { OneAnswer }
 {}
@@ -22,7 +22,17 @@ pub fn answers_are_true()
     ensures { AnswersAreTrue }
 {}
 
-/// The search ends in one way, whatever list the greatest relation is given by that has its pairs ascending.
+/// Two automata have one pair of reduced ones with their logs.
+pub fn reductions_are_one()
+    ensures { ReductionsAreOne }
+{}
+
+/// The logs that a decision writes lead to the reduced automata.
+pub fn written_logs_lead()
+    ensures { WrittenLogsLead }
+{}
+
+/// The search has one order and one outcome: the greatest relation, as a list of pairs in ascending order, is one.
 pub fn one_outcome_decides()
     ensures { OneOutcomeDecides }
 {}

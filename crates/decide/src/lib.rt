@@ -4,6 +4,7 @@
 mod bodies;
 mod deciding;
 pub mod laws;
+mod logs;
 mod rows;
 
 pub use deciding::include;

@@ -1,5 +1,5 @@
 -- What a check says of what a decision wrote.
-use Rattle.std.proofs.Common.{◌≡◌, ℕ, List, cond, Some, inl, inr, refl, sym, ◌∙◌, ap, subst}
+use Rattle.std.proofs.Common.{◌≡◌, ℕ, List, arith, cond, Some, inl, inr, refl, sym, ◌∙◌, ap, subst}
 use Rattle.std.proofs.lemmas.Bool.{false_from_ne_true}
 use Rattle.std.proofs.lemmas.Cmp.{nat_list_cmp_total}
 use Rattle.std.proofs.lemmas.Map.Text.{is_eq-slice_cmp}
@@ -16,9 +16,11 @@ use Rattle.ba_format.specs.declared.parts.Joined.{Joined}
 use Rattle.cert_text.specs.declared.types.Body.{Body}
 use Rattle.cert_text.specs.declared.types.Body.TheVariants.{Yes, NoLasso, NoWord, Listing}
 use Rattle.cert_text.specs.Text.{text}
-use Rattle.decide.specs.Answer.{unreduced, IsBodyOf}
+use Rattle.decide.specs.Answer.{Reductions, Decides, IsBodyOf}
 use Rattle.decide.proofs.UniqueLemmas.{one_outcome_decides, lasso_is}
-use Rattle.rabit_cli.specs.Command.{ReadsAs, ReadsPair, IsVerdictAnswer, IsOutcomeAnswer, IsDecided, search_limit}
+use Rattle.decide.proofs.EndUniqueLemmas.{reductions_are_one}
+use Rattle.rabit_cli.proofs.PairLemmas.{pair_can_decide}
+use Rattle.rabit_cli.specs.Command.{ReadsAs, ReadsPair, IsVerdictAnswer, IsOutcomeAnswer, IsDecided, search_look, search_limit}
 use Rattle.rabit_cli.specs.Laws.{CheckAgrees, AnswersAreAccepted}
 use Rattle.rabit_cli.specs.declared.answer.Answer.{Answer}
 use Rattle.rabit_cli.specs.declared.answer.Answer.TheVariants.{NotIncluded, Limit}
@@ -44,35 +46,35 @@ module _ (files : FileMap) (c bytes : List ℕ) where
   pair_still a b pair not_a not_b (one, two, first, second, joined) = (one, two, reads_still a one not_a first, reads_still b two not_b second, joined)
 
 -- the verdict of the body is the answer of the outcome, and the other way round
-pub verdict_of_outcome : (pair : Joined) (S : List (ℕ × ℕ)) (o : Outcome Entry) (body : Body) (answer : Answer) → IsBodyOf (unreduced pair) S search_limit o body → IsOutcomeAnswer pair o answer → IsVerdictAnswer pair body answer
-verdict_of_outcome pair S (end.Closed es) (Yes y) answer is e = e
-verdict_of_outcome pair S (end.Closed es) (NoLasso l) answer is e = absurd is
-verdict_of_outcome pair S (end.Closed es) (NoWord w) answer is e = absurd is
-verdict_of_outcome pair S (end.Closed es) (Listing l) answer is e = absurd is
-verdict_of_outcome pair S (end.Apart x z) (Yes y) answer is e = absurd is
-verdict_of_outcome pair S (end.Apart x z) (NoLasso l) answer is e =
+pub verdict_of_outcome : (pair : Joined) (at : Reductions) (S : List (ℕ × ℕ)) (o : Outcome Entry) (body : Body) (answer : Answer) → IsBodyOf at S search_limit o body → IsOutcomeAnswer pair o answer → IsVerdictAnswer pair body answer
+verdict_of_outcome pair at S (end.Closed es) (Yes y) answer is e = e
+verdict_of_outcome pair at S (end.Closed es) (NoLasso l) answer is e = absurd is
+verdict_of_outcome pair at S (end.Closed es) (NoWord w) answer is e = absurd is
+verdict_of_outcome pair at S (end.Closed es) (Listing l) answer is e = absurd is
+verdict_of_outcome pair at S (end.Apart x z) (Yes y) answer is e = absurd is
+verdict_of_outcome pair at S (end.Apart x z) (NoLasso l) answer is e =
     e ∙ ap (λ (k : Lasso). NotIncluded pair.labels k) (lasso_is (record { prefix = x.arc.word; turn = z.arc.word }) l (sym is.0) (sym is.1))
-verdict_of_outcome pair S (end.Apart x z) (NoWord w) answer is e = absurd is
-verdict_of_outcome pair S (end.Apart x z) (Listing l) answer is e = absurd is
-verdict_of_outcome pair S (end.Limit es) (Yes y) answer is e = absurd is
-verdict_of_outcome pair S (end.Limit es) (NoLasso l) answer is e = absurd is
-verdict_of_outcome pair S (end.Limit es) (NoWord w) answer is e = absurd is
-verdict_of_outcome pair S (end.Limit es) (Listing l) answer is e = e ∙ ap Limit (sym is.limit_is)
+verdict_of_outcome pair at S (end.Apart x z) (NoWord w) answer is e = absurd is
+verdict_of_outcome pair at S (end.Apart x z) (Listing l) answer is e = absurd is
+verdict_of_outcome pair at S (end.Limit es) (Yes y) answer is e = absurd is
+verdict_of_outcome pair at S (end.Limit es) (NoLasso l) answer is e = absurd is
+verdict_of_outcome pair at S (end.Limit es) (NoWord w) answer is e = absurd is
+verdict_of_outcome pair at S (end.Limit es) (Listing l) answer is e = e ∙ ap Limit (sym is.limit_is)
 
-pub outcome_of_verdict : (pair : Joined) (S : List (ℕ × ℕ)) (o : Outcome Entry) (body : Body) (answer : Answer) → IsBodyOf (unreduced pair) S search_limit o body → IsVerdictAnswer pair body answer → IsOutcomeAnswer pair o answer
-outcome_of_verdict pair S (end.Closed es) (Yes y) answer is e = e
-outcome_of_verdict pair S (end.Closed es) (NoLasso l) answer is e = absurd is
-outcome_of_verdict pair S (end.Closed es) (NoWord w) answer is e = absurd is
-outcome_of_verdict pair S (end.Closed es) (Listing l) answer is e = absurd is
-outcome_of_verdict pair S (end.Apart x z) (Yes y) answer is e = absurd is
-outcome_of_verdict pair S (end.Apart x z) (NoLasso l) answer is e =
+pub outcome_of_verdict : (pair : Joined) (at : Reductions) (S : List (ℕ × ℕ)) (o : Outcome Entry) (body : Body) (answer : Answer) → IsBodyOf at S search_limit o body → IsVerdictAnswer pair body answer → IsOutcomeAnswer pair o answer
+outcome_of_verdict pair at S (end.Closed es) (Yes y) answer is e = e
+outcome_of_verdict pair at S (end.Closed es) (NoLasso l) answer is e = absurd is
+outcome_of_verdict pair at S (end.Closed es) (NoWord w) answer is e = absurd is
+outcome_of_verdict pair at S (end.Closed es) (Listing l) answer is e = absurd is
+outcome_of_verdict pair at S (end.Apart x z) (Yes y) answer is e = absurd is
+outcome_of_verdict pair at S (end.Apart x z) (NoLasso l) answer is e =
     e ∙ ap (λ (k : Lasso). NotIncluded pair.labels k) (lasso_is l (record { prefix = x.arc.word; turn = z.arc.word }) is.0 is.1)
-outcome_of_verdict pair S (end.Apart x z) (NoWord w) answer is e = absurd is
-outcome_of_verdict pair S (end.Apart x z) (Listing l) answer is e = absurd is
-outcome_of_verdict pair S (end.Limit es) (Yes y) answer is e = absurd is
-outcome_of_verdict pair S (end.Limit es) (NoLasso l) answer is e = absurd is
-outcome_of_verdict pair S (end.Limit es) (NoWord w) answer is e = absurd is
-outcome_of_verdict pair S (end.Limit es) (Listing l) answer is e = e ∙ ap Limit is.limit_is
+outcome_of_verdict pair at S (end.Apart x z) (NoWord w) answer is e = absurd is
+outcome_of_verdict pair at S (end.Apart x z) (Listing l) answer is e = absurd is
+outcome_of_verdict pair at S (end.Limit es) (Yes y) answer is e = absurd is
+outcome_of_verdict pair at S (end.Limit es) (NoLasso l) answer is e = absurd is
+outcome_of_verdict pair at S (end.Limit es) (NoWord w) answer is e = absurd is
+outcome_of_verdict pair at S (end.Limit es) (Listing l) answer is e = e ∙ ap Limit is.limit_is
 
 pub check_agrees : CheckAgrees
 check_agrees files a b c pair cert answer not_a not_b is verdict few decided =
@@ -84,13 +86,16 @@ check_agrees files a b c pair cert answer not_a not_b is verdict few decided =
     )
   where
     says_for : (other : Joined) → pair ≡ other → IsDecided other answer → IsVerdictAnswer pair cert.body answer
-    says_for other same (order, outcome, decides, e) = go (subst (λ p. IsDecided p answer) (sym same) (order, outcome, decides, e))
+    says_for other same decides = go (subst (λ p. IsDecided p answer) (sym same) decides)
       where
         go : IsDecided pair answer → IsVerdictAnswer pair cert.body answer
-        go (order, outcome, decides, e) =
-            let own = is.answer in
-            let one = one_outcome_decides (unreduced pair) search_limit order own.pairs outcome own.outcome decides own.decides in
-            verdict_of_outcome pair own.pairs own.outcome cert.body answer own.body (subst (λ o. IsOutcomeAnswer pair o answer) one.1 e)
+        go (at, ends, (order, outcome, decides, e)) =
+            let (own_at, own_ends, own) = is.answer in
+            let can = pair_can_decide files a b pair is.read in
+            let same_ends : at ≡ own_at = reductions_are_one pair search_look at own_at can.first can.second (omega arith) ends own_ends in
+            let Q : Reductions → Type 0 = λ z. Decides z search_limit order outcome in
+            let one = one_outcome_decides own_at search_limit order own.pairs outcome own.outcome (subst Q same_ends decides) own.decides in
+            verdict_of_outcome pair own_at own.pairs own.outcome cert.body answer own.body (subst (λ o. IsOutcomeAnswer pair o answer) one.1 e)
 
     says : IsVerdictAnswer pair cert.body answer
     says = elim decided [

@@ -10,12 +10,12 @@ use Rattle.cert_text.specs.declared.types.Body.{Body}
 use Rattle.cert_text.specs.declared.types.Body.TheVariants.{Yes, NoLasso, NoWord, Listing}
 use Rattle.cert_text.specs.Text.{text}
 use Rattle.cert_text.specs.WellFormed.{WellFormed}
-use Rattle.cert_check.specs.Checks.{AllHold}
-use Rattle.cert_check.specs.Rules.{body_checks}
-use Rattle.decide.specs.Answer.{unreduced, IsBodyOf, IsAnswer}
-use Rattle.decide.specs.Laws.{CanDecide, IsVerdict, IsValidVerdict}
+use Rattle.log_check.specs.Checks.{AllHold}
+use Rattle.cert_check.specs.Rules.{lasso_checks, BodyHolds}
+use Rattle.decide.specs.Answer.{Reductions, IsBodyOf, IsAnswer}
+use Rattle.decide.specs.Laws.{CanDecide, AreBounds, SaysYesOrNo, IsValidVerdict}
 use Rattle.decide.proofs.AnswerLemmas.{answers_are_true}
-use Rattle.rabit_cli.specs.Command.{ReadsPair, IsPairFault, IsVerdictAnswer, IsDecided, IsIncludeAnswer, UnlessRefused, search_limit}
+use Rattle.rabit_cli.specs.Command.{ReadsPair, IsPairFault, IsVerdictAnswer, IsDecided, IsIncludeAnswer, UnlessRefused, search_look, search_limit}
 use Rattle.rabit_cli.specs.Prepared.{HasVerdict, IsPreparedBy, IsPrepared, IsPreparedFor}
 use Rattle.rabit_cli.specs.Printed.{text_for, is_early, IsPrintable}
 use Rattle.rabit_cli.specs.Written.{IsCertFor, WritesVerdict, LeavesBehind, OfBoth}
@@ -27,22 +27,22 @@ use Rattle.rabit_cli.proofs.AnswerLemmas.{unless_weaker}
 use Rattle.rabit_cli.proofs.CheckLemmas.{outcome_of_verdict}
 
 -- an answer is of no word
-has_verdict : (pair : Joined) (S : List (ℕ × ℕ)) (limit : ℕ) (o : Outcome Entry) (body : Body) → IsBodyOf (unreduced pair) S limit o body → HasVerdict body
-has_verdict pair S limit o (Yes y) is = tt
-has_verdict pair S limit o (NoLasso l) is = tt
-has_verdict pair S limit o (Listing l) is = tt
-has_verdict pair S limit (end.Closed es) (NoWord w) is = is
-has_verdict pair S limit (end.Apart x y) (NoWord w) is = is
-has_verdict pair S limit (end.Limit es) (NoWord w) is = is
+has_verdict : (at : Reductions) (S : List (ℕ × ℕ)) (limit : ℕ) (o : Outcome Entry) (body : Body) → IsBodyOf at S limit o body → HasVerdict body
+has_verdict at S limit o (Yes y) is = tt
+has_verdict at S limit o (NoLasso l) is = tt
+has_verdict at S limit o (Listing l) is = tt
+has_verdict at S limit (end.Closed es) (NoWord w) is = is
+has_verdict at S limit (end.Apart x y) (NoWord w) is = is
+has_verdict at S limit (end.Limit es) (NoWord w) is = is
 
-pub answer_has_verdict : (pair : Joined) (limit : ℕ) (cert : Cert) → IsAnswer pair limit cert → HasVerdict cert.body
-answer_has_verdict pair limit cert answer = has_verdict pair answer.pairs limit answer.outcome cert.body answer.body
+pub answer_has_verdict : (pair : Joined) (k limit : ℕ) (cert : Cert) → IsAnswer pair k limit cert → HasVerdict cert.body
+answer_has_verdict pair k limit cert (at, ends, answer) = has_verdict at answer.pairs limit answer.outcome cert.body answer.body
 
 -- its verdict can be printed
 printable_with : (pair : Joined) (cert : Cert) → IsValidVerdict pair cert → (body : Body) → cert.body ≡ body → (verdict : Answer) → IsVerdictAnswer pair body verdict → IsPrintable verdict
 printable_with pair cert valid (Yes y) is verdict says = subst IsPrintable (sym says) tt
 printable_with pair cert valid (NoLasso l) is verdict says =
-    let rules : AllHold (body_checks pair (NoLasso l)) = subst (λ b. AllHold (body_checks pair b)) is (valid (subst IsVerdict (sym is) tt)).keeps.1 in
+    let rules : AllHold (lasso_checks pair l) = subst (λ b. BodyHolds cert.mode pair b) is (valid (subst SaysYesOrNo (sym is) tt)).keeps.1 in
     subst IsPrintable (sym says) (rules.0, rules.1.0)
 printable_with pair cert valid (NoWord w) is verdict says = absurd says
 printable_with pair cert valid (Listing l) is verdict says = subst IsPrintable (sym says) tt
@@ -51,12 +51,12 @@ pub verdict_is_printable : (pair : Joined) (cert : Cert) → IsValidVerdict pair
 verdict_is_printable pair cert valid verdict says = printable_with pair cert valid cert.body refl verdict says
 
 -- and it is the right one
-pub verdict_is_right : (pair : Joined) (cert : Cert) → IsAnswer pair search_limit cert → (verdict : Answer) → IsVerdictAnswer pair cert.body verdict → IsDecided pair verdict
-verdict_is_right pair cert answer verdict says =
-    (answer.pairs, answer.outcome, answer.decides, outcome_of_verdict pair answer.pairs answer.outcome cert.body verdict answer.body says)
+pub verdict_is_right : (pair : Joined) (cert : Cert) → IsAnswer pair search_look search_limit cert → (verdict : Answer) → IsVerdictAnswer pair cert.body verdict → IsDecided pair verdict
+verdict_is_right pair cert (at, ends, answer) verdict says =
+    (at, ends, (answer.pairs, answer.outcome, answer.decides, outcome_of_verdict pair at answer.pairs answer.outcome cert.body verdict answer.body says))
 
 -- both texts are made
-pub is_prepared : (pair : Joined) (cert : Cert) (ready : Prepared) → CanDecide pair → search_limit ≤ 100000 → IsAnswer pair search_limit cert → WellFormed cert → IsValidVerdict pair cert →
+pub is_prepared : (pair : Joined) (cert : Cert) (ready : Prepared) → CanDecide pair → AreBounds search_look search_limit → IsAnswer pair search_look search_limit cert → WellFormed cert → IsValidVerdict pair cert →
     IsVerdictAnswer pair cert.body ready.verdict → ready.text.items ≡ text_for ready.verdict → ready.certificate ≡ text cert → IsPrepared pair ready
 is_prepared pair cert ready can few answer formed valid verdict said certificate = (
   cert,
@@ -64,7 +64,7 @@ is_prepared pair cert ready can few answer formed valid verdict said certificate
     answer = answer;
     formed = formed;
     valid = valid;
-    truth = answers_are_true pair search_limit cert can few answer;
+    truth = answers_are_true pair search_look search_limit cert can few answer;
     verdict = verdict;
     right = verdict_is_right pair cert answer ready.verdict verdict;
     said = said;
@@ -82,7 +82,13 @@ late_with pair (Listing l) verdict says = (ap is_early says, λ e. (let f = sym 
 pub verdict_is_late : (pair : Joined) (ready : Prepared) → IsPrepared pair ready → (is_early ready.verdict ≡ false) × ¬ (ready.verdict ≡ WriteFault)
 verdict_is_late pair ready (cert, is) = late_with pair cert.body ready.verdict is.verdict
 
--- where the shelf tells its files, the verdict is the answer to the question
+-- where the shelf tells its files, both texts are made for what they read as
+pub prepared_for : (held : Option FileMap) (a b : List ℕ) (pair : Joined) (ready : Prepared) → IfSome held (λ files. ReadsPair files a b pair) → IsPrepared pair ready →
+    IfSome held (λ files. IsPreparedFor files a b ready)
+prepared_for None a b pair ready read made = tt
+prepared_for (Some files) a b pair ready read made = (pair, read, made)
+
+-- and the verdict is the answer to the question
 pub ready_answers : (held : Option FileMap) (a b : List ℕ) (ready : Prepared) → IfSome held (λ files. IsPreparedFor files a b ready) →
     IfSome held (λ files. UnlessRefused ready.verdict (IsIncludeAnswer files a b ready.verdict))
 ready_answers None a b ready h = tt

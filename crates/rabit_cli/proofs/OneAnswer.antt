@@ -19,15 +19,17 @@ use Rattle.cert_text.specs.declared.types.Body.{Body}
 use Rattle.cert_text.specs.declared.types.Body.TheVariants.{Yes, NoLasso, NoWord, Listing}
 use Rattle.cert_text.specs.Grammar.{reading}
 use Rattle.cert_text.proofs.Theorem.{reading_text}
-use Rattle.cert_check.specs.declared.faults.Refusal.{Refusal}
-use Rattle.cert_check.specs.Checks.{Check as Rule, AllHold, FirstBroken}
-use Rattle.cert_check.specs.Rules.{checks_of}
+use Rattle.log_check.specs.declared.faults.Refusal.{Refusal}
+use Rattle.cert_check.proofs.RuleLemmas.{one_rule, none_kept}
 use Rattle.auto_core.specs.Outcome.{Outcome, Entry}
 use Rattle.auto_core.specs.Outcome as end
-use Rattle.decide.specs.Answer.{unreduced}
+use Rattle.decide.specs.Answer.{Reductions, Decides}
+use Rattle.decide.specs.Laws.{CanDecide}
 use Rattle.decide.proofs.UniqueLemmas.{one_outcome_decides}
+use Rattle.decide.proofs.EndUniqueLemmas.{reductions_are_one}
+use Rattle.rabit_cli.proofs.PairLemmas.{pair_can_decide}
 use Rattle.rabit_cli.specs.Question.{Question, Check, Include, Reduce, HasLook}
-use Rattle.rabit_cli.specs.Command.{Holds, HoldsCertificate, Concludes, IsVerdictAnswer, IsAnswerTo, IsCheckAnswer, IsFileFaultWithin, ReadsWithin, IsReduceAnswer, reduce_limits, IsCertificateFault, IsPairFault, ReadsPair, IsOutcomeAnswer, IsDecided, IsIncludeAnswer, search_limit, check_limits}
+use Rattle.rabit_cli.specs.Command.{Holds, HoldsCertificate, Concludes, IsVerdictAnswer, IsAnswerTo, IsCheckAnswer, IsFileFaultWithin, ReadsWithin, IsReduceAnswer, reduce_limits, IsCertificateFault, IsPairFault, ReadsPair, IsOutcomeAnswer, IsDecided, IsIncludeAnswer, search_look, search_limit, check_limits}
 use Rattle.rabit_cli.specs.declared.answer.Answer.{Answer}
 use Rattle.rabit_cli.specs.declared.answer.Answer.TheVariants.{BadFile, BadText, Refused, Reduced}
 
@@ -45,19 +47,6 @@ same_error a b r p q = cc
 
 ok_error : {X E : Type 0} (a : X) (b : E) (r : Result X E) → r ≡ Ok a → r ≡ Err b → ⊥
 ok_error a b r p q = cc
-
--- the first broken rule is one, and none where all hold
-pub one_broken : (cs : List Rule) (r s : Refusal) → FirstBroken cs r → FirstBroken cs s → r ≡ s
-one_broken [] r s p q = absurd p
-one_broken (c ∷ cs) r s p q =
-    elim p [
-      | inl here ↦ elim q [ inl here' ↦ here.1 ∙ sym here'.1 | inr later ↦ absurd (here.0 later.0) ]
-      | inr later ↦ elim q [ inl here ↦ absurd (here.0 later.0) | inr later' ↦ one_broken cs r s later.1 later'.1 ]
-    ]
-
-pub not_broken : (cs : List Rule) (r : Refusal) → FirstBroken cs r → AllHold cs → ⊥
-not_broken [] r p q = p
-not_broken (c ∷ cs) r p q = elim p [ inl here ↦ here.0 q.0 | inr later ↦ not_broken cs r later.1 q.1 ]
 
 same_bytes : (files : FileMap) (name a b : List ℕ) → Holds files name a → Holds files name b → a ≡ b
 same_bytes files name a b p q = same_some a b _ p q
@@ -171,8 +160,8 @@ one_conclusion pair cert x y p q =
                         | inl broken' ↦
                             let r = broken.1 in
                             let r' = broken'.1 in
-                            r.2 ∙ ap (λ z. Refused z) (one_broken (checks_of pair cert) r.0 r'.0 r.1 r'.1) ∙ sym r'.2
-                        | inr valid ↦ let r = broken.1 in absurd (not_broken (checks_of pair cert) r.0 r.1 valid.1)
+                            r.2 ∙ ap (λ z. Refused z) (one_rule pair cert r.0 r'.0 r.1 r'.1) ∙ sym r'.2
+                        | inr valid ↦ let r = broken.1 in absurd (none_kept pair cert r.0 r.1 valid.1)
                       ]
                 ]
             | inr valid ↦
@@ -180,7 +169,7 @@ one_conclusion pair cert x y p q =
                   | inl unbuilt ↦ absurd (false≢true (sym unbuilt.0 ∙ valid.0))
                   | inr decided' ↦
                       elim decided' [
-                        | inl broken ↦ let r = broken.1 in absurd (not_broken (checks_of pair cert) r.0 r.1 valid.1)
+                        | inl broken ↦ let r = broken.1 in absurd (none_kept pair cert r.0 r.1 valid.1)
                         | inr valid' ↦ one_verdict pair cert.body x y valid.2 valid'.2
                       ]
                 ]
@@ -266,9 +255,11 @@ one_outcome_answer pair (end.Closed es) x y p q = p ∙ sym q
 one_outcome_answer pair (end.Apart e f) x y p q = p ∙ sym q
 one_outcome_answer pair (end.Limit es) x y p q = p ∙ sym q
 
-pub one_decided : (pair : Joined) (x y : Answer) → IsDecided pair x → IsDecided pair y → x ≡ y
-one_decided pair x y (order, outcome, decides, is) (order', outcome', decides', is') =
-    let same = one_outcome_decides (unreduced pair) search_limit order order' outcome outcome' decides decides' in
+pub one_decided : (pair : Joined) (x y : Answer) → CanDecide pair → IsDecided pair x → IsDecided pair y → x ≡ y
+one_decided pair x y can (at, ends, (order, outcome, decides, is)) (at', ends', (order', outcome', decides', is')) =
+    let same_ends : at ≡ at' = reductions_are_one pair search_look at at' can.first can.second (omega arith) ends ends' in
+    let Q : Reductions → Type 0 = λ z. Decides z search_limit order outcome in
+    let same = one_outcome_decides at' search_limit order order' outcome outcome' (subst Q same_ends decides) decides' in
     let P : Outcome Entry → Type 0 = λ o. IsOutcomeAnswer pair o x in
     one_outcome_answer pair outcome' x y (subst P same.1 is) is'
 
@@ -285,7 +276,7 @@ one_include_answer files a b x y p q =
             | inl fault ↦ absurd (fault_or_pair files a b y pair fault reads)
             | inr (pair', reads', more') ↦
                 let P : Joined → Type 0 = λ z. IsDecided z x in
-                one_decided pair' x y (subst P (one_pair files a b pair pair' reads reads') more) more'
+                one_decided pair' x y (pair_can_decide files a b pair' reads') (subst P (one_pair files a b pair pair' reads reads') more) more'
           ]
     ]
 
@@ -302,14 +293,14 @@ one_reduce_answer files name look x y from p q =
             | inl fault' ↦ one_file_fault reduce_limits 1 files name x y fault fault'
             | inr (named, reads, more) ↦ absurd (fault_or_reads reduce_limits 1 files name x named fault reads)
           ]
-      | inr (named, reads, (A, is, e)) ↦
+      | inr (named, reads, (t, (A, is, of), e)) ↦
           elim q [
             | inl fault ↦ absurd (fault_or_reads reduce_limits 1 files name y named fault reads)
-            | inr (named', reads', (B, is', e')) ↦
+            | inr (named', reads', (t', (B, is', of'), e')) ↦
                 let P : Named → Type 0 = λ z. IsReduced z.auto Buchi look A in
                 let Q : Named → Type 0 = λ z. x ≡ Reduced (written A z.labels) in
                 let same = one_named reduce_limits 1 files name named named' reads reads' in
-                one_reduced named' look x y reads'.3.reading.auto.valid from A (subst P same is) (subst Q same e) B is' e'
+                one_reduced named' look x y reads'.3.reading.auto.valid from A (subst P same is) (subst Q same (e ∙ ap Reduced of)) B is' (e' ∙ ap Reduced of')
           ]
     ]
 

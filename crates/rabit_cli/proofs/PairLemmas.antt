@@ -12,7 +12,9 @@ use Rattle.ba_format.specs.Joining.{IsJoined, IsRelabelled, relabelled}
 use Rattle.ba_format.specs.Sight.{same_text}
 use Rattle.decide.specs.Answer.{HasFewParts}
 use Rattle.decide.specs.Laws.{CanDecide}
-use Rattle.rabit_cli.specs.Command.{check_limits}
+use Rattle.ba_format.proofs.FaultlessLemmas.{read_is_within}
+use Rattle.shelf_io.specs.Shelf.{FileMap}
+use Rattle.rabit_cli.specs.Command.{check_limits, ReadsPair}
 
 filter_shorter : {X : Type 0} (p : X → Bool) (xs : List X) → length (filter p xs) ≤ length xs
 filter_shorter p [] = omega arith
@@ -49,6 +51,11 @@ can_decide one two pair first second joined = record {
   first_parts = few_parts one pair.labels pair.first first joined.first;
   second_parts = few_parts two pair.labels pair.second second joined.second;
 }
+
+-- so are those that two files read as
+pub pair_can_decide : (files : FileMap) (a b : List ℕ) (pair : Joined) → ReadsPair files a b pair → CanDecide pair
+pair_can_decide files a b pair (one, two, (bytes, held, few, first), (bytes', held', few', second), joined) =
+    can_decide one two pair (read_is_within bytes check_limits one first) (read_is_within bytes' check_limits two second) joined
 
 pub ok_gives : {T E : Type 0} (P Q : T → Type 0) (r : Result T E) → ((x : T) → P x → Q x) → IfOk r P → IfOk r Q
 ok_gives P Q (Ok x) f h = f x h

@@ -9,19 +9,18 @@ use Rattle.ba_format.specs.declared.parts.Joined.{Joined}
 use Rattle.ba_format.specs.declared.parts.Limits.{Limits}
 use Rattle.ba_format.specs.declared.parts.Named.{Named}
 use Rattle.ba_format.specs.Writing.{written}
-use Rattle.reduce_loop.specs.Passes.{IsReduced}
 use Rattle.cert_text.specs.declared.types.Cert.{Cert}
 use Rattle.cert_text.specs.declared.types.Body.{Body}
 use Rattle.cert_text.specs.declared.types.Body.TheVariants.{Yes, NoLasso, NoWord, Listing}
-use Rattle.cert_check.specs.Checks.{AllHold}
 use Rattle.auto_core.specs.Automaton.{Automaton, IsAutomaton}
 use Rattle.auto_core.specs.declared.parts.Mode.{Mode}
 use Rattle.auto_core.specs.declared.parts.Mode.TheVariants.{Buchi, Finite}
-use Rattle.cert_check.specs.Rules.{body_checks, checks_of, has_checked_body, has_checked_form}
+use Rattle.cert_check.specs.Rules.{KeepsRules, BodyHolds, has_checked_body, has_checked_form}
 use Rattle.cert_check.proofs.ClosedLemmas.{valid_yes_includes}
 use Rattle.rabit_cli.specs.Question.{Question, Check, Include, Reduce, HasLook}
 use Rattle.rabit_cli.specs.Printed.{text_for, status_of, status_unsent}
 use Rattle.rabit_cli.specs.Command.{check_limits, reduce_limits, ReadsWithin, IsReduceAnswer, ReadsPair, HoldsCertificate, IsVerdictAnswer, IsAnswerTo, IsCheckAnswer, IsFileFaultWithin, IsPairFault, IsCertificateFault, UnlessRefused}
+use Rattle.rabit_cli.specs.Reducing.{IsReducedText}
 use Rattle.rabit_cli.specs.Written.{OfBoth, LeavesFor, LeavesBehind, LeavesDecided, LeavesFiles}
 use Rattle.rabit_cli.specs.declared.answer.Reply.{Reply}
 use Rattle.rabit_cli.specs.declared.answer.Reply.TheVariants.{Plain, Ready}
@@ -57,7 +56,7 @@ record IsChecked (files : FileMap) (a b c : List ℕ) (answer : Answer) : Type 0
   read : ReadsPair files a b pair
   certificate : HoldsCertificate files c cert
   form : has_checked_form cert ≡ true
-  valid : AllHold (checks_of pair cert)
+  valid : KeepsRules pair cert
   says : IsVerdictAnswer pair cert.body answer
 
 not_file_fault : (limits : Limits) (number : ℕ) (files : FileMap) (name : List ℕ) (answer : Answer) → is_verdict answer ≡ true → IsFileFaultWithin limits number files name answer → ⊥
@@ -75,7 +74,7 @@ not_certificate_fault files name answer is (bytes, held, cause) =
 
 -- a reduction that ends with no fault was made
 made : (files : FileMap) (name : List ℕ) (look : ℕ) (answer : Answer) → is_verdict answer ≡ true → IsReduceAnswer files name look answer →
-    (named : Named) × ReadsWithin reduce_limits files name named × ((B : Automaton) × IsReduced named.auto Buchi look B × (answer ≡ Reduced (written B named.labels)))
+    (named : Named) × ReadsWithin reduce_limits files name named × ((text : List ℕ) × IsReducedText named look text × (answer ≡ Reduced text))
 made files name look answer is h = elim h [ inl fault ↦ absurd (not_file_fault reduce_limits 1 files name answer is fault) | inr reduced ↦ reduced ]
 
 same_reduced : (t u : List ℕ) → Reduced t ≡ Reduced u → t ≡ u
@@ -103,7 +102,7 @@ checked files a b c answer is h =
 
 -- a valid certificate whose answer is a lasso
 apart_from_valid : (files : FileMap) (a b c : List ℕ) (sent sent' : Option (List ℕ)) (labels : List (List ℕ)) (lasso : Lasso) (d : IsChecked files a b c (NotIncluded labels lasso)) (body : Body) →
-    d.cert.body ≡ body → AllHold (body_checks d.pair body) → IsVerdictAnswer d.pair body (NotIncluded labels lasso) → sent' ≡ append_known sent (text_for (NotIncluded labels lasso)) →
+    d.cert.body ≡ body → BodyHolds d.cert.mode d.pair body → IsVerdictAnswer d.pair body (NotIncluded labels lasso) → sent' ≡ append_known sent (text_for (NotIncluded labels lasso)) →
     IsApart files a b c sent sent'
 apart_from_valid files a b c sent sent' labels lasso d (Yes y) is all says sends = absurd (let e = says in cc)
 apart_from_valid files a b c sent sent' labels lasso d (NoWord w) is all says sends = absurd says
@@ -136,7 +135,7 @@ included_from_valid files a b c sent sent' d (Yes evidence) is says sends =
       certificate = d.certificate;
       says_yes = is;
       valid = record { formed = d.certificate.3; form = d.form; keeps = d.valid };
-      includes = valid_yes_includes d.pair d.cert evidence is d.certificate.3 d.form d.read.4.second.valid d.valid;
+      includes = valid_yes_includes d.pair d.cert evidence is d.certificate.3 d.form d.read.4.first.valid d.read.4.second.valid d.valid;
       printed = sends;
     }
 
@@ -171,7 +170,7 @@ apart_from_answer files (Some (Check a b c)) files' labels lasso sent sent' answ
     apart_from_valid files a b c sent sent' labels lasso d d.cert.body refl d.valid.1 d.says sends
 apart_from_answer files (Some (Include a b c)) files' labels lasso sent sent' answer leaves sends = decided_apart files a b c files' sent sent' labels lasso leaves sends
 apart_from_answer files (Some (Reduce name look)) files' labels lasso sent sent' answer leaves sends =
-    let (named, read, (B, is, e)) = made files name look (NotIncluded labels lasso) refl answer in
+    let (named, read, (text, (B, is, of), e)) = made files name look (NotIncluded labels lasso) refl answer in
     cc
 
 listed_from_answer : (files : FileMap) (question : Option Question) (files' : FileMap) (n : ℕ) (sent sent' : Option (List ℕ)) →
@@ -183,7 +182,7 @@ listed_from_answer files (Some (Check a b c)) files' n sent sent' answer leaves 
     none_listed files a b c n d d.cert.body refl d.says
 listed_from_answer files (Some (Include a b c)) files' n sent sent' answer leaves sends = decided_listed files a b c files' sent sent' n leaves sends
 listed_from_answer files (Some (Reduce name look)) files' n sent sent' answer leaves sends =
-    let (named, read, (B, is, e)) = made files name look (Limit n) refl answer in
+    let (named, read, (text, (B, is, of), e)) = made files name look (Limit n) refl answer in
     cc
 
 -- where the words ask for no reduction, no answer is a reduced automaton, and where they ask for one, it is shown
@@ -194,9 +193,9 @@ reduced_from_answer files None t sent sent' within answer sends = cc
 reduced_from_answer files (Some (Check a b c)) t sent sent' within answer sends = tt
 reduced_from_answer files (Some (Include a b c)) t sent sent' within answer sends = tt
 reduced_from_answer files (Some (Reduce name look)) t sent sent' within answer sends =
-    let (named, read, (B, is, e)) = made files name look (Reduced t) refl answer in
+    let (named, read, (text, (B, is, of), e)) = made files name look (Reduced t) refl answer in
     let valid : IsAutomaton named.auto = read.3.reading.auto.valid in
-    let same_text : t ≡ written B named.labels = same_reduced t (written B named.labels) e in
+    let same_text : t ≡ written B named.labels = same_reduced t text e ∙ of in
     let same = reduced_same named.auto B Buchi look valid within.0 is in
     let settled = reduced_settled named.auto B Buchi look valid within.0 is in
     record {
@@ -228,7 +227,7 @@ not_of_reduction files None sent sent' answer = cc
 not_of_reduction files (Some (Check a b c)) sent sent' answer = tt
 not_of_reduction files (Some (Include a b c)) sent sent' answer = tt
 not_of_reduction files (Some (Reduce name look)) sent sent' answer =
-    let (named, read, (B, is, e)) = made files name look Included refl answer in
+    let (named, read, (text, (B, is, of), e)) = made files name look Included refl answer in
     cc
 
 -- how an answer may have been said

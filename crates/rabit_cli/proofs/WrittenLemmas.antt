@@ -12,9 +12,9 @@ use Rattle.cert_text.specs.declared.types.Body.{Body}
 use Rattle.cert_text.specs.declared.types.Body.TheVariants.{Yes, NoLasso, NoWord, Listing}
 use Rattle.cert_text.specs.declared.types.ListBody.{ListBody}
 use Rattle.cert_text.specs.Text.{text}
-use Rattle.decide.specs.Answer.{unreduced, IsBodyOf}
-use Rattle.decide.specs.Laws.{IsVerdict, SaysTruth}
-use Rattle.rabit_cli.specs.Command.{IsVerdictAnswer, search_limit}
+use Rattle.decide.specs.Answer.{Reductions, IsAnswer, IsBodyOf}
+use Rattle.decide.specs.Laws.{SaysYesOrNo, SaysTruth}
+use Rattle.rabit_cli.specs.Command.{IsVerdictAnswer, search_look, search_limit}
 use Rattle.rabit_cli.specs.Written.{IsCertFor, WritesVerdict}
 use Rattle.rabit_cli.specs.Said.{IsDecidedIncluded, IsDecidedApart, IsDecidedListed}
 use Rattle.rabit_cli.specs.Printed.{text_for}
@@ -30,8 +30,9 @@ module _ (files : FileMap) (a b c : List ℕ) (files' : FileMap) (sent sent' : O
     read = is.read;
     answer = is.answer;
     says_yes = body;
-    valid = is.valid (subst IsVerdict (sym body) tt);
-    includes = (subst (SaysTruth pair search_limit) body is.truth).0;
+    valid = is.valid (subst SaysYesOrNo (sym body) tt);
+    includes = (subst (SaysTruth pair search_look search_limit) body is.truth).0;
+    apart = (subst (SaysTruth pair search_look search_limit) body is.truth).1;
     held = held;
     printed = sends;
   }
@@ -49,8 +50,8 @@ module _ (files : FileMap) (a b c : List ℕ) (files' : FileMap) (sent sent' : O
     read = is.read;
     answer = is.answer;
     says_no = body;
-    valid = is.valid (subst IsVerdict (sym body) tt);
-    separates = subst (SaysTruth pair search_limit) body is.truth;
+    valid = is.valid (subst SaysYesOrNo (sym body) tt);
+    separates = subst (SaysTruth pair search_look search_limit) body is.truth;
     held = held;
     printed = sends ∙ ap (λ w. append_known sent (text_for w)) says;
   }
@@ -58,10 +59,13 @@ module _ (files : FileMap) (a b c : List ℕ) (files' : FileMap) (sent sent' : O
   apart_with pair cert is held labels lasso sends (Listing l) body says = absurd (let e = says in cc)
 
   -- the limit in the list is that of the search
-  limit_of : (pair : Joined) (S : List (ℕ × ℕ)) (o : Outcome Entry) (l : ListBody) → IsBodyOf (unreduced pair) S search_limit o (Listing l) → l.limit ≡ search_limit
-  limit_of pair S (end.Closed es) l is = absurd is
-  limit_of pair S (end.Apart x y) l is = absurd is
-  limit_of pair S (end.Limit es) l is = is.limit_is
+  limit_of : (at : Reductions) (S : List (ℕ × ℕ)) (o : Outcome Entry) (l : ListBody) → IsBodyOf at S search_limit o (Listing l) → l.limit ≡ search_limit
+  limit_of at S (end.Closed es) l is = absurd is
+  limit_of at S (end.Apart x y) l is = absurd is
+  limit_of at S (end.Limit es) l is = is.limit_is
+
+  limit_in : (pair : Joined) (cert : Cert) → IsAnswer pair search_look search_limit cert → (l : ListBody) → cert.body ≡ Listing l → l.limit ≡ search_limit
+  limit_in pair cert (at, ends, answer) l body = limit_of at answer.pairs answer.outcome l (subst (IsBodyOf at answer.pairs search_limit answer.outcome) body answer.body)
 
   listed_with : (pair : Joined) (cert : Cert) → IsCertFor files a b pair cert → files' ≡ map.insert files c (text cert) → (n : ℕ) → sent' ≡ append_known sent (text_for (Limit n)) →
       (body : Body) → cert.body ≡ body → IsVerdictAnswer pair body (Limit n) → IsDecidedListed files a b c files' sent sent'
@@ -75,9 +79,9 @@ module _ (files : FileMap) (a b c : List ℕ) (files' : FileMap) (sent sent' : O
     read = is.read;
     answer = is.answer;
     lists = body;
-    listed = (subst (SaysTruth pair search_limit) body is.truth).listed;
+    listed = subst (SaysTruth pair search_look search_limit) body is.truth;
     held = held;
-    printed = sends ∙ ap (λ w. append_known sent (text_for w)) (says ∙ ap Limit (limit_of pair is.answer.pairs is.answer.outcome l (subst (IsBodyOf (unreduced pair) is.answer.pairs search_limit is.answer.outcome) body is.answer.body)));
+    printed = sends ∙ ap (λ w. append_known sent (text_for w)) (says ∙ ap Limit (limit_in pair cert is.answer l body));
   }
 
   pub decided_included : WritesVerdict files a b c Included files' → sent' ≡ append_known sent (text_for Included) → IsDecidedIncluded files a b c files' sent sent'

@@ -16,17 +16,13 @@ use Rattle.cert_text.specs.declared.faults.TextFault.{TextFault}
 use Rattle.cert_text.specs.Law.{FirstFault}
 use Rattle.cert_text.specs.Text.{text}
 use Rattle.cert_text.specs.WellFormed.{WellFormed}
-use Rattle.cert_check.specs.declared.faults.Refusal.{Refusal}
-use Rattle.cert_check.specs.Checks.{AllHold, FirstBroken}
-use Rattle.cert_check.specs.Rules.{checks_of, has_checked_form}
+use Rattle.log_check.specs.declared.faults.Refusal.{Refusal}
+use Rattle.cert_check.specs.Rules.{KeepsRules, BreaksRule, has_checked_form}
 use Rattle.auto_core.specs.Outcome.{Outcome, Entry}
 use Rattle.auto_core.specs.Outcome as end
-use Rattle.decide.specs.Answer.{Decides, unreduced}
-use Rattle.ba_format.specs.Writing.{written}
-use Rattle.auto_core.specs.Automaton.{Automaton}
-use Rattle.auto_core.specs.declared.parts.Mode.TheVariants.{Buchi}
-use Rattle.reduce_loop.specs.Passes.{IsReduced}
+use Rattle.decide.specs.Answer.{Decides, Reductions, AreReductions}
 use Rattle.rabit_cli.specs.Question.{Question, Check, Include, Reduce}
+use Rattle.rabit_cli.specs.Reducing.{IsReducedText}
 use Rattle.rabit_cli.specs.declared.answer.Answer.{Answer}
 use Rattle.rabit_cli.specs.declared.answer.Answer.TheVariants.{NotBuilt, BadFile, LongFile, BadText, LongCertificate, Refused, Included, NotIncluded, Limit, Reduced, ReadFault, WriteFault, OutOfMemory}
 
@@ -93,8 +89,8 @@ IsVerdictAnswer pair (Listing list) answer = answer ≡ Limit list.limit
 abbrev pub Concludes : Joined → Cert → Answer → Type 0
 Concludes pair cert answer =
     ((has_checked_form cert ≡ false) × (answer ≡ NotBuilt))
-    ⊎ ((has_checked_form cert ≡ true) × ((refusal : Refusal) × FirstBroken (checks_of pair cert) refusal × (answer ≡ Refused refusal)))
-    ⊎ ((has_checked_form cert ≡ true) × AllHold (checks_of pair cert) × IsVerdictAnswer pair cert.body answer)
+    ⊎ ((has_checked_form cert ≡ true) × ((refusal : Refusal) × BreaksRule pair cert refusal × (answer ≡ Refused refusal)))
+    ⊎ ((has_checked_form cert ≡ true) × KeepsRules pair cert × IsVerdictAnswer pair cert.body answer)
 
 -- Both files read as automata, and these are the two over their joined labels.
 abbrev pub ReadsPair : FileMap → List ℕ → List ℕ → Joined → Type 0
@@ -112,6 +108,10 @@ IsCheckAnswer files a b c answer =
     × ReadsPair files a b pair
     × (IsCertificateFault files c answer ⊎ ((cert : Cert) × HoldsCertificate files c cert × Concludes pair cert answer)))
 
+-- The lookahead of the reduction of `include`.
+abbrev pub search_look : ℕ
+search_look = 3
+
 -- The most elements of the search of `include`.
 abbrev pub search_limit : ℕ
 search_limit = 20000
@@ -122,10 +122,12 @@ IsOutcomeAnswer pair (end.Closed es) answer = answer ≡ Included
 IsOutcomeAnswer pair (end.Apart x y) answer = answer ≡ NotIncluded pair.labels (record { prefix = x.arc.word; turn = y.arc.word })
 IsOutcomeAnswer pair (end.Limit es) answer = answer ≡ Limit search_limit
 
--- The answer for two joined automata: that of the outcome of the search on them.
+-- The answer for two joined automata: that of the outcome of the search on the reduced ones.
 abbrev pub IsDecided : Joined → Answer → Type 0
 IsDecided pair answer =
-    (order : List (ℕ × ℕ)) × (outcome : Outcome Entry) × Decides (unreduced pair) search_limit order outcome × IsOutcomeAnswer pair outcome answer
+    (at : Reductions)
+    × AreReductions pair search_look at
+    × ((order : List (ℕ × ℕ)) × (outcome : Outcome Entry) × Decides at search_limit order outcome × IsOutcomeAnswer pair outcome answer)
 
 -- The answer of `include A B CERT`: the files are looked at in this order, the first fault decides, and else the search does.
 abbrev pub IsIncludeAnswer : FileMap → List ℕ → List ℕ → Answer → Type 0
@@ -158,8 +160,7 @@ FailsInTurn (Some (Reduce name look)) faults faults' puts puts' = puts' ≡ puts
 abbrev pub IsReduceAnswer : FileMap → List ℕ → ℕ → Answer → Type 0
 IsReduceAnswer files name look answer =
     IsFileFaultWithin reduce_limits 1 files name answer
-    ⊎ ((named : Named) × ReadsWithin reduce_limits files name named
-    × ((B : Automaton) × IsReduced named.auto Buchi look B × (answer ≡ Reduced (written B named.labels))))
+    ⊎ ((named : Named) × ReadsWithin reduce_limits files name named × ((text : List ℕ) × IsReducedText named look text × (answer ≡ Reduced text)))
 
 -- The answer to what the words ask.
 abbrev pub IsAnswerTo : FileMap → Option Question → Answer → Type 0

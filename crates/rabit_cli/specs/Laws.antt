@@ -5,7 +5,7 @@ use Rattle.shelf_io.specs.Shelf.{FileMap}
 use Rattle.ba_format.specs.declared.parts.Joined.{Joined}
 use Rattle.cert_text.specs.declared.types.Cert.{Cert}
 use Rattle.cert_text.specs.Text.{text}
-use Rattle.decide.specs.Laws.{IsVerdict}
+use Rattle.decide.specs.Laws.{SaysYesOrNo}
 use Rattle.rabit_cli.specs.Command.{ReadsPair, HoldsCertificate, IsVerdictAnswer, IsIncludeAnswer, IsCheckAnswer}
 use Rattle.rabit_cli.specs.Written.{IsCertFor}
 use Rattle.rabit_cli.specs.declared.answer.Answer.{Answer}
@@ -14,7 +14,7 @@ use Rattle.rabit_cli.specs.declared.answer.Answer.{Answer}
 -- the files that hold it has the answer that the decision had.
 abbrev pub CheckAgrees : Type 0
 CheckAgrees =
-    (files : FileMap) (a b c : List ℕ) (pair : Joined) (cert : Cert) (answer : Answer) → c ≢ a → c ≢ b → IsCertFor files a b pair cert → IsVerdict cert.body → length (text cert) ≤ 2 ^ 30 →
+    (files : FileMap) (a b c : List ℕ) (pair : Joined) (cert : Cert) (answer : Answer) → c ≢ a → c ≢ b → IsCertFor files a b pair cert → SaysYesOrNo cert.body → length (text cert) ≤ 2 ^ 30 →
     IsIncludeAnswer files a b answer → IsCheckAnswer (map.insert files c (text cert)) a b c answer
 
 -- Wherever a file holds the text of what a decision wrote that says yes or no, a check of it for the same two automata has that verdict.
@@ -23,7 +23,7 @@ abbrev pub AnswersAreAccepted : Type 0
 AnswersAreAccepted =
     (files files' : FileMap) (a b a' b' c : List ℕ) (pair : Joined) (cert : Cert) (answer : Answer)
     → IsCertFor files a b pair cert
-    → IsVerdict cert.body
+    → SaysYesOrNo cert.body
     → ReadsPair files' a' b' pair
     → HoldsCertificate files' c cert
     → IsVerdictAnswer pair cert.body answer

@@ -9,7 +9,7 @@ use Rattle.cert_text.specs.Text.{text}
 use Rattle.cert_text.specs.WellFormed.{WellFormed}
 use Rattle.decide.specs.Answer.{IsAnswer}
 use Rattle.decide.specs.Laws.{IsValidVerdict, SaysTruth}
-use Rattle.rabit_cli.specs.Command.{IsVerdictAnswer, IsDecided, ReadsPair, search_limit}
+use Rattle.rabit_cli.specs.Command.{IsVerdictAnswer, IsDecided, ReadsPair, search_look, search_limit}
 use Rattle.rabit_cli.specs.Printed.{text_for}
 use Rattle.rabit_cli.specs.declared.inclusion.Prepared.{Prepared}
 
@@ -21,10 +21,10 @@ HasVerdict body = Unit {0}
 -- Both texts are made for this certificate, which is the answer for the pair: its own, and that of its verdict, which is the right
 -- one. What the certificate says is so.
 pub record IsPreparedBy (pair : Joined) (cert : Cert) (ready : Prepared) : Type 0 where
-  pub answer : IsAnswer pair search_limit cert
+  pub answer : IsAnswer pair search_look search_limit cert
   pub formed : WellFormed cert
   pub valid : IsValidVerdict pair cert
-  pub truth : SaysTruth pair search_limit cert.body
+  pub truth : SaysTruth pair search_look search_limit cert.body
   pub verdict : IsVerdictAnswer pair cert.body ready.verdict
   pub right : IsDecided pair ready.verdict
   pub said : ready.text.items ≡ text_for ready.verdict

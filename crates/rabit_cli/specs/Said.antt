@@ -6,7 +6,6 @@ use Rattle.shelf_io.specs.Counts.{Rose}
 use Rattle.shelf_io.specs.Shelf.{FileMap}
 use Rattle.auto_core.specs.declared.parts.Lasso.{Lasso}
 use Rattle.auto_core.specs.Accept.{Includes, SeparatesLasso}
-use Rattle.auto_core.specs.Outcome.{AreListed}
 use Rattle.auto_core.specs.declared.parts.Mode.TheVariants.{Buchi}
 use Rattle.ba_format.specs.declared.parts.Joined.{Joined}
 use Rattle.cert_text.specs.declared.types.Cert.{Cert}
@@ -16,6 +15,7 @@ use Rattle.cert_text.specs.declared.types.Body.TheVariants.{Yes, NoLasso, Listin
 use Rattle.cert_text.specs.Text.{text}
 use Rattle.cert_check.specs.Laws.{IsValid}
 use Rattle.decide.specs.Answer.{IsAnswer}
+use Rattle.decide.specs.Laws.{StandApart, ListsNew}
 use Rattle.ba_format.specs.declared.parts.Named.{Named}
 use Rattle.ba_format.specs.Writing.{written}
 use Rattle.auto_core.specs.Automaton.{Automaton}
@@ -24,7 +24,7 @@ use Rattle.reduce_loop.specs.Passes.{IsReduced}
 use Rattle.reduce_loop.specs.Settled.{IsSettled}
 use Rattle.rabit_cli.specs.Question.{Question, Check, Include, Reduce}
 use Rattle.rabit_cli.specs.Reducing.{ReadsBackSame}
-use Rattle.rabit_cli.specs.Command.{IsAnswerTo, UnlessRefused, ReadsPair, ReadsWithin, HoldsCertificate, search_limit, reduce_limits}
+use Rattle.rabit_cli.specs.Command.{IsAnswerTo, UnlessRefused, ReadsPair, ReadsWithin, HoldsCertificate, search_look, search_limit, reduce_limits}
 use Rattle.rabit_cli.specs.declared.answer.Answer.{Answer}
 use Rattle.rabit_cli.specs.declared.answer.Answer.TheVariants.{NotBuilt, Included, NotIncluded, Limit, Reduced, ReadFault, WriteFault, OutOfMemory}
 use Rattle.rabit_cli.specs.declared.answer.Reply.{Reply}
@@ -96,35 +96,37 @@ pub record IsDecidedApart (files : FileMap) (a b c : List ℕ) (files' : FileMap
   pub cert : Cert
   pub lasso : Lasso
   pub read : ReadsPair files a b pair
-  pub answer : IsAnswer pair search_limit cert
+  pub answer : IsAnswer pair search_look search_limit cert
   pub says_no : cert.body ≡ NoLasso lasso
   pub valid : IsValid pair cert
   pub separates : SeparatesLasso pair.first pair.second lasso.prefix lasso.turn
   pub held : files' ≡ map.insert files c (text cert)
   pub printed : sent' ≡ append_known sent (text_for (NotIncluded pair.labels lasso))
 
--- A decision said yes, with the same of a yes.
+-- A decision said yes, with the same of a yes: the logs lead to settled automata, and no live element subsumes another.
 pub record IsDecidedIncluded (files : FileMap) (a b c : List ℕ) (files' : FileMap) (sent sent' : Option (List ℕ)) : Type 0 where
   pub pair : Joined
   pub cert : Cert
   pub evidence : YesBody
   pub read : ReadsPair files a b pair
-  pub answer : IsAnswer pair search_limit cert
+  pub answer : IsAnswer pair search_look search_limit cert
   pub says_yes : cert.body ≡ Yes evidence
   pub valid : IsValid pair cert
   pub includes : Includes pair.first pair.second Buchi
+  pub apart : StandApart pair search_look evidence
   pub held : files' ≡ map.insert files c (text cert)
   pub printed : sent' ≡ append_known sent (text_for Included)
 
--- A decision met its limit, with the same of a list of one supergraph more.
+-- A decision met its limit, with the same of a list of one supergraph more: these are different, and of the settled automata that the
+-- logs lead to.
 pub record IsDecidedListed (files : FileMap) (a b c : List ℕ) (files' : FileMap) (sent sent' : Option (List ℕ)) : Type 0 where
   pub pair : Joined
   pub cert : Cert
   pub list : ListBody
   pub read : ReadsPair files a b pair
-  pub answer : IsAnswer pair search_limit cert
+  pub answer : IsAnswer pair search_look search_limit cert
   pub lists : cert.body ≡ Listing list
-  pub listed : AreListed pair.first pair.second (search_limit + 1) list.elements
+  pub listed : ListsNew pair search_look search_limit list
   pub held : files' ≡ map.insert files c (text cert)
   pub printed : sent' ≡ append_known sent (text_for (Limit search_limit))
 

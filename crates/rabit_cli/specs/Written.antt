@@ -10,7 +10,7 @@ use Rattle.cert_text.specs.WellFormed.{WellFormed}
 use Rattle.decide.specs.Answer.{IsAnswer}
 use Rattle.decide.specs.Laws.{IsValidVerdict, SaysTruth}
 use Rattle.rabit_cli.specs.Question.{Question, Check, Include, Reduce}
-use Rattle.rabit_cli.specs.Command.{ReadsPair, IsVerdictAnswer, search_limit}
+use Rattle.rabit_cli.specs.Command.{ReadsPair, IsVerdictAnswer, search_look, search_limit}
 use Rattle.rabit_cli.specs.declared.answer.Answer.{Answer}
 use Rattle.rabit_cli.specs.declared.answer.Answer.TheVariants.{Included, NotIncluded, Limit, Reduced, WriteFault}
 
@@ -18,10 +18,10 @@ use Rattle.rabit_cli.specs.declared.answer.Answer.TheVariants.{Included, NotIncl
 -- check where it says yes or no, and what it says is so.
 pub record IsCertFor (files : FileMap) (a b : List ℕ) (pair : Joined) (cert : Cert) : Type 0 where
   pub read : ReadsPair files a b pair
-  pub answer : IsAnswer pair search_limit cert
+  pub answer : IsAnswer pair search_look search_limit cert
   pub formed : WellFormed cert
   pub valid : IsValidVerdict pair cert
-  pub truth : SaysTruth pair search_limit cert.body
+  pub truth : SaysTruth pair search_look search_limit cert.body
 
 -- The name holds the whole text of the answer for the two files, and all other files are as before.
 abbrev pub HoldsAnswer : FileMap → List ℕ → List ℕ → List ℕ → FileMap → Type 0

@@ -162,16 +162,6 @@ fn joined_automata_share_labels(rt: HostRuntime) -> Result<(), Fail> {
 }
 
 #[test]
-fn texts_hold_what_was_added(rt: HostRuntime) -> Result<(), Fail> {
-    let mut texts = Texts::new(rt.alloc());
-    texts.add(b"")?;
-    texts.add(b"\xff")?;
-    assert_eq!(rt; texts.count(), 2);
-    assert_eq!(rt; texts.get(1), b"\xff".as_slice());
-    Ok(())
-}
-
-#[test]
 fn an_automaton_without_accepting_states_keeps_none(rt: HostRuntime) -> Result<(), Fail> {
     let auto = Auto::build(rt.alloc(), 2, 0, 1, &[], &[])?;
     assert_eq!(rt; auto.labels(), 0);

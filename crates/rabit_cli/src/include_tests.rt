@@ -29,7 +29,12 @@ const A_ONCE: &str = "[0]\na,[0]->[1]\n[1]\n";
 const PAIR: &str = "a,[5]->[7]\nb,[7]->[5]\n";
 
 /// A shelf with the two files, with room for a certificate.
-fn shelf_of(alloc: Global, first: &str, second: &str, fails: &[u64]) -> Result<MemShelf, Memory> {
+pub fn shelf_of(
+    alloc: Global,
+    first: &str,
+    second: &str,
+    fails: &[u64],
+) -> Result<MemShelf, Memory> {
     let mut held = List::new(alloc);
     held.push(File {
         name: list_of(alloc, b"A")?,
@@ -57,7 +62,7 @@ fn says(
 }
 
 /// The same of the command with the names of the two files and of the certificate.
-fn answers(
+pub fn answers(
     alloc: Global,
     command: &str,
     shelf: &mut MemShelf,
@@ -68,7 +73,7 @@ fn answers(
 }
 
 /// Whether the shelf holds just this text under the certificate's name.
-fn holds(alloc: Global, shelf: &mut MemShelf, certificate: &str) -> bool {
+pub fn holds(alloc: Global, shelf: &mut MemShelf, certificate: &str) -> bool {
     match load(alloc, shelf, "C", 1_000_000) {
         Ok(bytes) => bytes.as_slice() == certificate.as_bytes(),
         Err(_) => false,

@@ -17,7 +17,7 @@ use cert_text::{Body, write_cert};
 use shelf_io::Shelf;
 use std::alloc::Global;
 
-/// The lookahead of the reduction, which is still to come.
+/// The lookahead of the reduction.
 const LOOK: u32 = 3;
 /// The most elements of the search.
 const LIMIT: u32 = 20_000;

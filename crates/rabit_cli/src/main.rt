@@ -41,11 +41,9 @@ mod certificate_text_tests;
 #[cfg(test)]
 mod fault_tests;
 #[cfg(test)]
-mod graph_tests;
-#[cfg(test)]
 mod include_tests;
 #[cfg(test)]
-mod lasso_tests;
+mod log_tests;
 #[cfg(test)]
 mod reduce_tests;
 #[cfg(test)]
@@ -53,10 +51,6 @@ mod search_tests;
 #[cfg(test)]
 mod shelf_tests;
 #[cfg(test)]
-mod supergraph_tests;
-#[cfg(test)]
 mod tests;
-#[cfg(test)]
-mod word_graph_tests;
 #[cfg(test)]
 mod yes_tests;

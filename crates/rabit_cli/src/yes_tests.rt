@@ -30,11 +30,15 @@ const LINES: [&str; 18] = [
     "end\n",
 ];
 
-/// The certificate with these lines in place of those with the same numbers, which are counted from 0.
-fn with_lines(alloc: Global, changes: &[(usize, &str)]) -> Result<String, Memory> {
+/// The text of the lines, with these in place of those with the same numbers, which are counted from 0.
+pub fn with_lines(
+    alloc: Global,
+    lines: &[&str],
+    changes: &[(usize, &str)],
+) -> Result<String, Memory> {
     let mut text = String::new(alloc);
-    for place in 0..LINES.len() {
-        let mut line = LINES[place];
+    for place in 0..lines.len() {
+        let mut line = lines[place];
         for (changed, new) in changes {
             if *changed == place {
                 line = *new;
@@ -48,7 +52,7 @@ fn with_lines(alloc: Global, changes: &[(usize, &str)]) -> Result<String, Memory
 #[test]
 fn valid_certificates_show_inclusion(rt: HostRuntime) -> Result<(), Fail> {
     let alloc = rt.alloc();
-    let text = with_lines(alloc, &[])?;
+    let text = with_lines(alloc, &LINES, &[])?;
     assert_eq!(rt;
         check(alloc, PAIR, PAIR, text.as_str(), "included\n")?,
         (0, true)
@@ -80,7 +84,7 @@ fn one_changed_line_breaks_its_rule(rt: HostRuntime) -> Result<(), Fail> {
         (13, "step 0 2 2\n", "certificate item 7: rule 14\n"),
     ];
     for (place, line, printed) in cases {
-        let text = with_lines(alloc, &[(place, line)])?;
+        let text = with_lines(alloc, &LINES, &[(place, line)])?;
         assert_eq!(rt;
             check(alloc, PAIR, PAIR, text.as_str(), printed)?,
             (5, true)
@@ -104,7 +108,7 @@ fn elements_under_others_are_tested(rt: HostRuntime) -> Result<(), Fail> {
         ),
     ];
     for (place, line, step, printed) in cases {
-        let text = with_lines(alloc, &[(place, line), (step, "")])?;
+        let text = with_lines(alloc, &LINES, &[(place, line), (step, "")])?;
         assert_eq!(rt;
             check(alloc, PAIR, PAIR, text.as_str(), printed)?,
             (5, true)
@@ -155,7 +159,7 @@ fn other_files_are_told_too(rt: HostRuntime) -> Result<(), Fail> {
         ),
     ];
     for (place, line, other, new, printed) in cases {
-        let text = with_lines(alloc, &[(place, line), (other, new)])?;
+        let text = with_lines(alloc, &LINES, &[(place, line), (other, new)])?;
         assert_eq!(rt;
             check(alloc, PAIR, PAIR, text.as_str(), printed)?,
             (5, true)
@@ -180,7 +184,7 @@ fn other_files_are_told_too(rt: HostRuntime) -> Result<(), Fail> {
 #[test]
 fn an_empty_relation_orders_nothing(rt: HostRuntime) -> Result<(), Fail> {
     let alloc = rt.alloc();
-    let text = with_lines(alloc, &[(4, "rel 0\n"), (5, ""), (6, "")])?;
+    let text = with_lines(alloc, &LINES, &[(4, "rel 0\n"), (5, ""), (6, "")])?;
     assert_eq!(rt;
         check(
             alloc,
@@ -204,25 +208,6 @@ fn pairs_without_a_lasso_are_named(rt: HostRuntime) -> Result<(), Fail> {
     assert_eq!(rt;
         check(alloc, both, one, text, "certificate item 2: rule 15\n")?,
         (5, true)
-    );
-    Ok(())
-}
-
-#[test]
-fn logs_with_steps_are_not_checked(rt: HostRuntime) -> Result<(), Fail> {
-    let alloc = rt.alloc();
-    let first = "[0]\na,[0]->[1]\na,[0]->[2]\nb,[1]->[1]\nb,[2]->[2]\nc,[2]->[2]\n[1]\n[2]\n";
-    let second = "[0]\na,[0]->[1]\nb,[1]->[1]\nc,[1]->[1]\n[1]\n";
-    let reduced =
-        "rabit-cert 1 buchi yes\nsizes 3 2 3\nlog1 3\ncut 1 3\ngone 0 1\nrel 3\nrow 0 0\nrow 1 1 2\nrow 2 2\ncut 3 3\ngone 1 2\nrel 3\nrow 0 0\nrow 1 1 2\nrow 2 2\nrel 3\nrow 0 0\nrow 1 1 2\nrow 2 2\ntrim 0 2\nlog2 0\nrel 2\nrow 0 0\nrow 1 1\nelements 2\nlive base 0\nlive base 1\ncover 0 1 1\nstep 0 0 0\nstep 1 1 1\nend\n";
-    assert_eq!(rt;
-        check(alloc, first, second, reduced, "not built\n")?,
-        (9, true)
-    );
-    let text = with_lines(alloc, &[(3, "log2 1\ntrim 0 1\n")])?;
-    assert_eq!(rt;
-        check(alloc, PAIR, PAIR, text.as_str(), "not built\n")?,
-        (9, true)
     );
     Ok(())
 }

@@ -7,7 +7,7 @@ use Rattle.graph_rows.specs.Block.{block_graph}
 use Rattle.cert_text.specs.declared.types.YesBody.{YesBody}
 use Rattle.cert_check.specs.Inclusion.{IsOver, starts_of}
 use Rattle.cert_check.specs.Supers.{StandFor}
-use Rattle.cert_check.proofs.OrderLemmas.{below_more}
+use Rattle.log_check.proofs.BlockLemmas.{below_more}
 use Rattle.cert_check.proofs.SuperLemmas.{base_stands, start_at, starts_count}
 use Rattle.cert_check.proofs.covers.covers_starts.Goals as goal
 

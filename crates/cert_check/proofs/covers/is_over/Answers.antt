@@ -5,7 +5,8 @@ use Rattle.auto_core.specs.Graph.{WordArc, arc_at, Subsumes}
 use Rattle.graph_rows.specs.Block.{block_graph}
 use Rattle.supergraph.specs.Stands.{with_graph}
 use Rattle.supergraph.specs.declared.arcs.Arc.{Arc}
-use Rattle.cert_check.specs.Inclusion.{element_arcs, live_in, pairs_of}
+use Rattle.log_check.specs.Blocks.{pairs_of}
+use Rattle.cert_check.specs.Inclusion.{element_arcs, live_in}
 use Rattle.cert_check.specs.Supers.{StandFor, no_arc, block_at}
 use Rattle.cert_check.proofs.SuperLemmas.{subsumes_alike, arcs_count}
 use Rattle.cert_check.proofs.covers.is_over.Goals as goal

@@ -1,11 +1,11 @@
 use Rattle.std.proofs.Common.{◌≡◌, length, take}
-use Rattle.cert_check.specs.Checks.{AllHold, checks_of_each}
+use Rattle.log_check.specs.Checks.{AllHold, checks_of_each}
 use Rattle.cert_check.specs.Inclusion.{element_checks}
 use Rattle.cert_check.specs.Supers.{AreSupers}
 use Rattle.cert_check.proofs.elements.fill.Given as goal
 
 abbrev pub invariant-loop-e : goal.invariant-loop-e
 invariant-loop-e l =
-    AllHold (checks_of_each (element_checks l.first l.evidence 2) 0 (take l.e l.evidence.elements))
+    AllHold (checks_of_each (element_checks l.first l.evidence l.item) 0 (take l.e l.evidence.elements))
     × AreSupers l.first l.second l.evidence l.e l.supers
     × (length l.fresh ≡ length l.fn.fresh)

@@ -2,9 +2,9 @@ use Rattle.std.proofs.Common.{◌≡◌, ◌↔◌, true, false, IsTrue, inl, in
 use Rattle.std.proofs.lemmas.Bool.{false≢true}
 use Rattle.auto_core.specs.Automaton.{Moves}
 use Rattle.auto_core.specs.Game.{Holds, MatchesForward, StableForward}
-use Rattle.cert_check.specs.Inclusion.{IsBlockBelow, pairs_of}
-use Rattle.cert_check.specs.Supers.{IsRelationOf}
-use Rattle.cert_check.proofs.OrderLemmas.{stable_alike}
+use Rattle.log_check.specs.Blocks.{IsBlockBelow, pairs_of}
+use Rattle.log_check.specs.Blocks.{IsRelationOf}
+use Rattle.log_check.proofs.BlockLemmas.{stable_alike}
 use Rattle.cert_check.proofs.orders.checked_order.Goals as goal
 
 pub returns-then-not-branch-clause-tells : goal.returns-then-not-branch-clause-tells

@@ -2,29 +2,28 @@ use Rattle.std.proofs.Common.{ℕ, ◌+◌, List, length, slice_index_or, sym, �
 use Rattle.cert_text.specs.declared.types.YesBody.{YesBody}
 use Rattle.cert_text.specs.declared.types.StepLine.{StepLine}
 use Rattle.cert_text.specs.declared.types.Element.{Element}
-use Rattle.cert_check.specs.Checks.{Check, AllHold, FirstBroken, checks_of_each}
+use Rattle.log_check.specs.Checks.{Check, AllHold, FirstBroken, checks_of_each}
 use Rattle.cert_check.specs.Inclusion.{step_checks}
-use Rattle.cert_check.proofs.CheckLemmas.{more_of, broken_of}
+use Rattle.log_check.proofs.CheckLemmas.{more_of, broken_of}
 use Rattle.cert_check.proofs.steps.check_steps.Goals as goal
 
 pub returns-in-Some-clause-tells : goal.returns-in-Some-clause-tells
 returns-in-Some-clause-tells c =
     let E : YesBody = c.args.evidence.now in
     let k : ℕ = c.loop-k.k in
-    let checks : ℕ → StepLine → List Check = step_checks c.args.first.now c.args.second.now E (3 + length E.elements) in
+    let checks : ℕ → StepLine → List Check = step_checks c.args.first.now c.args.second.now E c.args.item in
     let line : StepLine = c.index-lines-k.result in
-    let broken : FirstBroken (checks k (slice_index_or c.as_slice-lines.result.now k line)) (record { rule = c.in-Some.rule; item = 3 + length E.elements + k }) =
-    subst (λ (s : StepLine). FirstBroken (checks k s) (record { rule = c.in-Some.rule; item = 3 + length E.elements + k })) c.index-lines-k.is (c.in-Some.ensures.told (3 + length E.elements) k) in
-    subst (λ (l : List Element). FirstBroken (checks_of_each checks 0 E.steps) (record { rule = c.in-Some.rule; item = 3 + length l + k })) (sym c.as_slice.ensures)
-    (broken_of checks k E.steps c.as_slice-lines.result.now line (record { rule = c.in-Some.rule; item = 3 + length E.elements + k }) c.as_slice-lines.ensures c.loop-k-test.true c.loop-k.invariant.0 broken)
+    let broken : FirstBroken (checks k (slice_index_or c.as_slice-lines.result.now k line)) (record { rule = c.in-Some.rule; item = c.args.item + k }) =
+    subst (λ (s : StepLine). FirstBroken (checks k s) (record { rule = c.in-Some.rule; item = c.args.item + k })) c.index-lines-k.is (c.in-Some.ensures.told c.args.item k) in
+    (broken_of checks k E.steps c.as_slice-lines.result.now line (record { rule = c.in-Some.rule; item = c.args.item + k }) c.as_slice-lines.ensures c.loop-k-test.true c.loop-k.invariant.0 broken)
 
 pub loop-k-preserved : goal.loop-k-preserved
 loop-k-preserved c =
     let E : YesBody = c.args.evidence.now in
     let k : ℕ = c.loop-k.k in
-    let checks : ℕ → StepLine → List Check = step_checks c.args.first.now c.args.second.now E (3 + length E.elements) in
+    let checks : ℕ → StepLine → List Check = step_checks c.args.first.now c.args.second.now E c.args.item in
     let line : StepLine = c.index-lines-k.result in (
       more_of checks k E.steps c.as_slice-lines.result.now line c.as_slice-lines.ensures c.loop-k-test.true c.loop-k.invariant.0
-          (subst (λ (s : StepLine). AllHold (checks k s)) c.index-lines-k.is (c.in-None.ensures.told (3 + length E.elements) k)),
+          (subst (λ (s : StepLine). AllHold (checks k s)) c.index-lines-k.is (c.in-None.ensures.told c.args.item k)),
       c.broken_rule.ensures.room ∙ c.loop-k.invariant.1,
     )

@@ -9,7 +9,7 @@ use Rattle.supergraph.specs.declared.arcs.Arc.{Arc}
 use Rattle.cert_text.specs.declared.types.YesBody.{YesBody}
 use Rattle.cert_check.specs.Inclusion.{IsOver, element_arcs, extensions_of}
 use Rattle.cert_check.specs.Supers.{StandFor, no_arc, block_at}
-use Rattle.cert_check.proofs.OrderLemmas.{below_more}
+use Rattle.log_check.proofs.BlockLemmas.{below_more}
 use Rattle.cert_check.proofs.SuperLemmas.{longer_stands, held_ends, extensions_count, extension_at}
 use Rattle.cert_check.proofs.steps.covers_extensions.Goals as goal
 

@@ -1,0 +1,55 @@
+-- A certificate breaks one rule first, and none where it keeps them all.
+use Rattle.std.proofs.Common.{◌≡◌, inl, inr, [], ◌∷◌, sym, ◌∙◌, subst}
+use Rattle.auto_core.specs.declared.parts.Mode.{Mode}
+use Rattle.ba_format.specs.declared.parts.Joined.{Joined}
+use Rattle.cert_text.specs.declared.types.Body.{Body}
+use Rattle.cert_text.specs.declared.types.Body.TheVariants.{Yes, NoLasso, NoWord, Listing}
+use Rattle.cert_text.specs.declared.types.YesBody.{YesBody}
+use Rattle.log_check.specs.declared.ends.Ends.{Ends}
+use Rattle.log_check.specs.declared.faults.Refusal.{Refusal}
+use Rattle.log_check.specs.Checks.{FirstBroken, rule_at}
+use Rattle.log_check.specs.Ends.{item_after}
+use Rattle.log_check.proofs.LawOneLemmas.{broken_one, broken_or_all, ends_one, break_one, none_breaks}
+use Rattle.cert_check.specs.Inclusion.{inclusion_checks}
+use Rattle.cert_check.specs.Rules.{HasSizes, lasso_checks, YesHolds, YesBreaks, BodyHolds, BodyBreaks}
+use Rattle.cert_check.specs.Laws.{OneRuleBreaks, NoneBreaksWhereKept}
+
+one_of_yes : (mode : Mode) (pair : Joined) (evidence : YesBody) (refusal other : Refusal) → YesBreaks mode pair evidence refusal → YesBreaks mode pair evidence other → refusal ≡ other
+one_of_yes mode pair evidence refusal other (inl h) (inl k) = break_one mode pair.first pair.second evidence.first evidence.second refusal other h k
+one_of_yes mode pair evidence refusal other (inl h) (inr (ends, are, k)) = absurd (none_breaks mode pair.first pair.second evidence.first evidence.second refusal ends h are)
+one_of_yes mode pair evidence refusal other (inr (ends, are, h)) (inl k) = absurd (none_breaks mode pair.first pair.second evidence.first evidence.second other ends k are)
+one_of_yes mode pair evidence refusal other (inr (ends, are, h)) (inr (ends', are', k)) =
+    let n = item_after evidence.first evidence.second in
+    let same = ends_one mode pair.first pair.second evidence.first evidence.second ends' ends are' are in
+    broken_one (inclusion_checks n ends.first ends.second evidence) refusal other h
+    (subst (λ (z : Ends). FirstBroken (inclusion_checks n z.first z.second evidence) other) same k)
+
+one_of_body : (mode : Mode) (pair : Joined) (body : Body) (refusal other : Refusal) → BodyBreaks mode pair body refusal → BodyBreaks mode pair body other → refusal ≡ other
+one_of_body mode pair (Yes evidence) refusal other h k = one_of_yes mode pair evidence refusal other h k
+one_of_body mode pair (NoLasso lasso) refusal other h k = broken_one (lasso_checks pair lasso) refusal other h k
+one_of_body mode pair (NoWord word) refusal other h k = absurd h
+one_of_body mode pair (Listing list) refusal other h k = absurd h
+
+pub one_rule : OneRuleBreaks
+one_rule pair cert refusal other (inl h) (inl k) = broken_one (rule_at 1 0 (HasSizes pair cert) ∷ []) refusal other h k
+one_rule pair cert refusal other (inl h) (inr k) = absurd (broken_or_all (rule_at 1 0 (HasSizes pair cert) ∷ []) refusal h (k.0, tt))
+one_rule pair cert refusal other (inr h) (inl k) = absurd (broken_or_all (rule_at 1 0 (HasSizes pair cert) ∷ []) other k (h.0, tt))
+one_rule pair cert refusal other (inr h) (inr k) = one_of_body cert.mode pair cert.body refusal other h.1 k.1
+
+none_of_yes : (mode : Mode) (pair : Joined) (evidence : YesBody) (refusal : Refusal) → YesBreaks mode pair evidence refusal → YesHolds mode pair evidence → ⊥
+none_of_yes mode pair evidence refusal (inl h) holds = none_breaks mode pair.first pair.second evidence.first evidence.second refusal holds.ends h holds.logs
+none_of_yes mode pair evidence refusal (inr (ends, are, h)) holds =
+    let n = item_after evidence.first evidence.second in
+    let same = ends_one mode pair.first pair.second evidence.first evidence.second ends holds.ends are holds.logs in
+    broken_or_all (inclusion_checks n holds.ends.first holds.ends.second evidence) refusal
+    (subst (λ (z : Ends). FirstBroken (inclusion_checks n z.first z.second evidence) refusal) same h) holds.closed
+
+none_of_body : (mode : Mode) (pair : Joined) (body : Body) (refusal : Refusal) → BodyBreaks mode pair body refusal → BodyHolds mode pair body → ⊥
+none_of_body mode pair (Yes evidence) refusal h holds = none_of_yes mode pair evidence refusal h holds
+none_of_body mode pair (NoLasso lasso) refusal h holds = broken_or_all (lasso_checks pair lasso) refusal h holds
+none_of_body mode pair (NoWord word) refusal h holds = h
+none_of_body mode pair (Listing list) refusal h holds = h
+
+pub none_kept : NoneBreaksWhereKept
+none_kept pair cert refusal (inl h) keeps = broken_or_all (rule_at 1 0 (HasSizes pair cert) ∷ []) refusal h (keeps.0, tt)
+none_kept pair cert refusal (inr h) keeps = none_of_body cert.mode pair cert.body refusal h.1 keeps.1

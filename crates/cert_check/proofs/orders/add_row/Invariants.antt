@@ -1,6 +1,0 @@
-use Rattle.std.proofs.Common.{◌≡◌}
-use Rattle.cert_check.proofs.OrderLemmas.{HasMore, first_pairs}
-use Rattle.cert_check.proofs.orders.add_row.Given as goal
-
-abbrev pub invariant-loop-right : goal.invariant-loop-right
-invariant-loop-right l = (l.rel.size ≡ l.fn.rel.size) × HasMore l.fn.rel.pairs l.rel.pairs (first_pairs l.row l.right-index)

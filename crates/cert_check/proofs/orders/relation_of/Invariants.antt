@@ -1,7 +1,0 @@
-use Rattle.std.proofs.Common.{◌≡◌, ◌↔◌, ℕ}
-use Rattle.auto_core.specs.Game.{Holds}
-use Rattle.cert_check.proofs.OrderLemmas.{first_rows}
-use Rattle.cert_check.proofs.orders.relation_of.Given as goal
-
-abbrev pub invariant-loop-row : goal.invariant-loop-row
-invariant-loop-row l = (l.rel.size ≡ l.states) × ((p q : ℕ) → Holds l.rel.pairs p q ↔ Holds (first_rows l.block.rows l.row-index) p q)

@@ -1,0 +1,16 @@
+use Rattle.std.proofs.Common.{◌≡◌, true, refl, slice_index_or, rules}
+use Rattle.cert_text.specs.declared.types.GoneBy.{GoneBy}
+use Rattle.log_check.specs.FirstLog.{IsGoneIn}
+use Rattle.log_check.proofs.BlockLemmas.{all_more, all_told}
+use Rattle.log_check.proofs.cuts.are_gone_in.Goals as goal
+
+pub loop-one-preserved : goal.loop-one-preserved
+loop-one-preserved c =
+    let none : GoneBy = record { trans = 0; by = 0 } in
+    let gone = c.args.gone.now in
+    let k = c.loop-one.one-index in
+    let is : c.is_gone_in.result ≡ true = search rules in
+    all_more (IsGoneIn c.args.automaton.now) gone k (slice_index_or gone k none) none c.loop-one-test.true refl c.loop-one.invariant (c.is_gone_in.ensures.0 is)
+
+pub returns : goal.returns
+returns c = all_told (IsGoneIn c.args.automaton.now) c.args.gone.now c.loop-one.one-index c.loop-one-test.false c.loop-one.invariant

@@ -1,0 +1,23 @@
+use Rattle.std.proofs.Common.{◌+◌, Err, subst}
+use Rattle.std.proofs.lemmas.Result.{err_from_is_err_and}
+use Rattle.cert_text.specs.declared.types.SecondStep.{SecondStep}
+use Rattle.log_check.specs.SecondLog.{second_rules}
+use Rattle.log_check.specs.Follows.{StepFollows, TellsStep}
+use Rattle.log_check.proofs.FollowLemmas.{follows_more, end_fails}
+use Rattle.log_check.proofs.ends.second_end.Goals as goal
+
+pub returns-in_err-end-2 : goal.returns-in_err-end-2
+returns-in_err-end-2 c =
+    let A = c.args.automaton.now in
+    let rules = second_rules in
+    let steps = c.args.steps.now in
+    let p = err_from_is_err_and c.from_residual-in_err-end-2.result c.from_residual-in_err-end-2.ensures.1 in
+    let told = end_fails SecondStep rules A c.loop-i.end c.args.item c.loop-i.i steps c.index-steps-i.result c.in_err-end-2.field-0.0 c.loop-i-test.true c.loop-i.invariant
+    (subst (λ (s : SecondStep). TellsStep SecondStep rules c.loop-i.end (c.args.item + c.loop-i.i) s (Err c.in_err-end-2.field-0.0)) c.index-steps-i.is c.in_err-end-2.ensures) in
+    rw (p.1, p.2) told
+
+pub loop-i-preserved : goal.loop-i-preserved
+loop-i-preserved c =
+    let rules = second_rules in
+    follows_more SecondStep rules c.args.automaton.now c.in_ok-end-2.end c.loop-i.end c.args.item c.loop-i.i c.args.steps.now c.index-steps-i.result c.loop-i-test.true c.loop-i.invariant
+    (subst (λ (s : SecondStep). StepFollows SecondStep rules c.loop-i.end (c.args.item + c.loop-i.i) s c.in_ok-end-2.end) c.index-steps-i.is c.in_ok-end-2.ensures)

@@ -1,0 +1,8 @@
+use Rattle.std.proofs.Common.{◌≡◌, ◌++◌, map, take}
+use Rattle.delayed_sim.specs.Rankings.{ranked_pair}
+use Rattle.cert_text.specs.declared.types.Ranked.{Ranked}
+use Rattle.log_check.specs.Blocks.{rank_of}
+use Rattle.log_check.proofs.rankings.add_row.Given as goal
+
+abbrev pub invariant-loop-ranked : goal.invariant-loop-ranked
+invariant-loop-ranked l = l.pairs.items ≡ l.fn.pairs.items ++ map (λ (r : Ranked). ranked_pair l.row.left r.right (rank_of r.code)) (take l.ranked-index l.row.rights)

@@ -1,0 +1,11 @@
+pub mod Checks
+pub mod Blocks
+pub mod Stability
+pub mod Follows
+pub mod Parts
+pub mod FirstLog
+pub mod SecondLog
+pub mod Ends
+pub mod Laws
+pub mod Closures
+pub mod RankedLists

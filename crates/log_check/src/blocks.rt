@@ -1,0 +1,50 @@
+//! The relations that certificates list.
+
+ghost use Rattle.std.specs.Prelude.{◌≡◌, ◌<◌, ◌↔◌, ◌⊎◌, ℕ, IfOk, IsTrue};
+ghost use Rattle.auto_core.specs.Game.{Holds};
+ghost use Rattle.log_check.specs.Blocks.{pairs_of_row, IsRowBelow, IsBlockBelow, IsRelationOf};
+
+use auto_core::Memory;
+use bit_rel::Rel;
+use cert_text::{RelBlock, Row};
+use std::alloc::Global;
+
+fn is_row_below(states: u32, row: &Row) -> bool
+    ensures { IsTrue result ↔ IsRowBelow states row.now }
+{
+    row.left < states && row.rights.as_slice().iter().all(|right| *right < states)
+}
+
+/// Tells whether the numbers of the block are those of states, of which there are so many.
+pub fn is_block_below(states: u32, block: &RelBlock) -> bool
+    ensures { IsTrue result ↔ IsBlockBelow states block.now }
+{
+    for row in block.rows.as_slice() {
+        if !is_row_below(states, row) {
+            return false;
+        }
+    }
+    true
+}
+
+fn add_row(rel: &mut Rel, row: &Row)
+    requires { IsRowBelow rel.old.size row.now }
+    ensures size { rel.new.size ≡ rel.old.size }
+    ensures pairs { (p q : ℕ) → Holds rel.new.pairs p q ↔ (Holds rel.old.pairs p q ⊎ Holds (pairs_of_row row.now) p q) }
+{
+    for right in row.rights.as_slice() {
+        rel.set(row.left, *right);
+    }
+}
+
+/// The relation on so many states that the block lists.
+pub fn relation_of(alloc: Global, states: u32, block: &RelBlock) -> Result<Rel, Memory>
+    requires { IsBlockBelow states block.now }
+    ensures { IfOk result (IsRelationOf states block.now) }
+{
+    let mut rel = Rel::empty(alloc, states)?;
+    for row in block.rows.as_slice() {
+        add_row(&mut rel, row);
+    }
+    Ok(rel)
+}

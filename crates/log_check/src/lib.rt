@@ -1,0 +1,20 @@
+//! Tests the logs of a certificate: each step by its rules, on the automaton that the steps before it lead to, which is then carried on.
+#![tactic(auto)]
+
+mod blocks;
+mod closures;
+mod cuts;
+mod ends;
+mod faults;
+mod first;
+mod keeping;
+pub mod laws;
+mod rankings;
+mod second;
+mod shapes;
+mod stability;
+
+pub use blocks::{is_block_below, relation_of};
+pub use ends::{Ends, log_ends};
+pub use faults::{CheckFault, Refusal};
+pub use stability::is_stable;
