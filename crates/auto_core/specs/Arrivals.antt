@@ -13,5 +13,5 @@ pub record AreNumbered (transitions : List Trans) (arrivals : List Arrival) : Ty
       → slice_index_or arrivals k d ≡ record { target = target_of transitions k; number = k }
 
 -- The numbers alone.
-abbrev pub numbers : List Arrival → List ℕ
-numbers arrivals = map (λ a. a.number) arrivals
+abbrev pub arrival_numbers : List Arrival → List ℕ
+arrival_numbers arrivals = map (λ a. a.number) arrivals

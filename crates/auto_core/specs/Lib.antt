@@ -14,7 +14,11 @@ pub mod Outcome
 pub mod Members
 pub mod MembersStored
 pub mod Parts
+pub mod Digits
 pub mod Useful
 pub mod Quotient
 pub mod Delayed
 pub mod Pruning
+pub mod Pairs
+pub mod ClosedPairs
+pub mod PairOutcome

@@ -110,7 +110,8 @@ pub record IsLeastSubsumer {E : Type 0} (R : Rules E) (es : List E) (x : E) (i :
   pub here : LiveSubsumes R es x i
   pub least : (j : ℕ) → j < i → LiveSubsumes R es x j → ⊥
 
--- An element of the search over supergraphs: where it comes from, and its arc with its whole word.
+-- An element of a search, of that over supergraphs and of that on finite words: where it comes from, and its arc with its
+-- whole word.
 pub record Entry : Type 0 where
   pub origin : Origin
   pub arc : WordArc

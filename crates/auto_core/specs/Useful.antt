@@ -41,7 +41,7 @@ new_number A kept q = count_below (stays A kept) q
 
 -- B has the kept states of A and the initial one, under new numbers in the old order; the transitions with both ends kept; and the
 -- accepting states that are kept.
-pub record IsKept (A : Automaton) (kept : List ℕ) (B : Automaton) : Type 0 where
+pub record IsKeptPart (A : Automaton) (kept : List ℕ) (B : Automaton) : Type 0 where
   pub valid : IsAutomaton B
   pub states : B.states ≡ count_below (stays A kept) A.states
   pub labels : B.labels ≡ A.labels
@@ -55,4 +55,4 @@ AreUseful A mode states = (q : ℕ) → Contains states q ↔ IsUseful A mode q
 
 -- B keeps just the useful states of A, and the initial one in any case.
 abbrev pub IsTrimmed : Automaton → Mode → Automaton → Type 0
-IsTrimmed A mode B = (kept : List ℕ) × AreUseful A mode kept × IsKept A kept B
+IsTrimmed A mode B = (kept : List ℕ) × AreUseful A mode kept × IsKeptPart A kept B

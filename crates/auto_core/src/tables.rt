@@ -5,7 +5,7 @@ ghost use Rattle.std.specs.Bool.{OnTrue, OnFalse};
 ghost use Rattle.std.specs.List.Sorted.{IsPermutation, IsNonDecreasing, IsStrictlyIncreasing};
 ghost use Rattle.auto_core.specs.Automaton.{IsBefore, IsAscending, HasRepeat};
 ghost use Rattle.auto_core.specs.Build.{HasStateFault, HasStates, HasLabelFault, HasLabels, AreStarts, AreFlags, AreArrivals, sources_of, targets_at};
-ghost use Rattle.auto_core.specs.Arrivals.{AreNumbered, numbers};
+ghost use Rattle.auto_core.specs.Arrivals.{AreNumbered, arrival_numbers};
 
 use crate::automaton::BuildFault;
 use crate::parts::{Memory, Trans};
@@ -147,7 +147,7 @@ pub fn incoming_of(alloc: Global, transitions: &[Trans]) -> Result<Vec<u32>, Mem
 }
 
 fn numbers_of(alloc: Global, arrivals: &[Arrival]) -> Result<Vec<u32>, Memory>
-    ensures { IfOk result (λ v. v.items ≡ numbers arrivals.now) }
+    ensures { IfOk result (λ v. v.items ≡ arrival_numbers arrivals.now) }
 {
     let mut numbers = Vec::with_capacity(alloc, arrivals.len())?;
     for arrival in arrivals {

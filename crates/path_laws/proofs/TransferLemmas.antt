@@ -8,7 +8,7 @@ use Rattle.auto_core.specs.Game.{Chain, AllMatched, MatchesForward}
 use Rattle.auto_core.specs.Automaton.{Moves}
 use Rattle.auto_core.specs.declared.parts.Mode.TheVariants.{Buchi, Finite}
 use Rattle.path_laws.specs.Pumping.{RunsPast}
-use Rattle.path_laws.specs.Transfer.{AcceptsWithin, AllMatchedWithin, Follows, FollowsWithin}
+use Rattle.path_laws.specs.Transfer.{AcceptsWithin, AllMatchedWithin, FollowsFromStart, FollowsWithin}
 use Rattle.auto_core.proofs.PathLemmas.{length-path, path_join, path_split, path_of_run, run_of_path, end_of-append, accepting_from_test, test_from_accepting}
 use Rattle.path_laws.proofs.MatchLemmas.{matched_end}
 use Rattle.path_laws.proofs.PumpingLemmas.{pumping, reblock, repeated-times, length-repeated}
@@ -114,13 +114,13 @@ delayed_transfer A B d valid follows u v h =
     let many : 1 ≤ h.turns * suc d = mul-pos h.some_turn (omega arith) in
     reblock B u v h.before (h.turns * suc d) many (subst (λ l. AcceptsLasso B w l) (repeated-times v h.turns (suc d)) lasso)
 
-pub follows_within : (A B : Automaton) → Follows A B → FollowsWithin A B 0
+pub follows_within : (A B : Automaton) → FollowsFromStart A B → FollowsWithin A B 0
 follows_within A B follows w ps path = let r = follows w ps path in (r.0, r.1, matched_within A B ps r.0 r.2)
 
-pub transfer : (A B : Automaton) → IsAutomaton B → Follows A B → Includes A B Buchi
+pub transfer : (A B : Automaton) → IsAutomaton B → FollowsFromStart A B → Includes A B Buchi
 transfer A B valid follows = delayed_transfer A B 0 valid (follows_within A B follows)
 
-pub transfer_words : (A B : Automaton) → MatchesForward A B A.initial B.initial → Follows A B → Includes A B Finite
+pub transfer_words : (A B : Automaton) → MatchesForward A B A.initial B.initial → FollowsFromStart A B → Includes A B Finite
 transfer_words A B start follows w h =
     let path = path_of_run A A.initial w h.state h.flag h.run in
     let r = follows w path.0 path.1 in

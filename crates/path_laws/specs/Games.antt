@@ -47,7 +47,7 @@ abbrev pub AcrossIncludes : Type 0
 AcrossIncludes = (A B : Automaton) (k : ℕ) (S : List (ℕ × ℕ)) → IsAutomaton B → 1 ≤ k → StableAcross A B k S → Holds S A.initial B.initial → (mode : Mode) → Includes A B mode
 
 -- The closure of a list relates each number to itself, goes on from what it relates, and is inside each transitive list that has the list inside.
-pub record IsClosureOf (S : List (ℕ × ℕ)) : Type 0 where
+pub record IsLeastClosure (S : List (ℕ × ℕ)) : Type 0 where
   pub reflexive : (p : ℕ) → Close (Holds S) p p
   pub transitive : (p q r : ℕ) → Close (Holds S) p q → Close (Holds S) q r → Close (Holds S) p r
   pub has_pairs : (p q : ℕ) → Holds S p q → Close (Holds S) p q
@@ -55,7 +55,7 @@ pub record IsClosureOf (S : List (ℕ × ℕ)) : Type 0 where
 
 -- That holds of each list.
 abbrev pub ClosureIsLeast : Type 0
-ClosureIsLeast = (S : List (ℕ × ℕ)) → IsClosureOf S
+ClosureIsLeast = (S : List (ℕ × ℕ)) → IsLeastClosure S
 
 -- For pairs of numbers below n the closure needs fewer than n steps.
 abbrev pub ClosureIsShort : Type 0

@@ -7,8 +7,8 @@ use Rattle.auto_core.specs.Game.{MatchesForward, AllMatched}
 use Rattle.auto_core.specs.declared.parts.Mode.TheVariants.{Buchi, Finite}
 
 -- Each path of A from its initial state has a path of B from its initial state on the same word, accepting wherever A's is.
-abbrev pub Follows : Automaton → Automaton → Type 0
-Follows A B = (w ps : List ℕ) → Path A A.initial w ps → (qs : List ℕ) × Path B B.initial w qs × AllMatched (MatchesForward A B) ps qs
+abbrev pub FollowsFromStart : Automaton → Automaton → Type 0
+FollowsFromStart A B = (w ps : List ℕ) → Path A A.initial w ps → (qs : List ℕ) × Path B B.initial w qs × AllMatched (MatchesForward A B) ps qs
 
 -- One of the first state and the d states after it is accepting, or the list ends before.
 abbrev pub AcceptsWithin : Automaton → ℕ → List ℕ → Type 0
@@ -29,11 +29,11 @@ FollowsWithin A B d = (w ps : List ℕ) → Path A A.initial w ps → (qs : List
 
 -- If B follows A, it accepts each lasso that A accepts.
 abbrev pub LassosTransfer : Type 0
-LassosTransfer = (A B : Automaton) → IsAutomaton B → Follows A B → Includes A B Buchi
+LassosTransfer = (A B : Automaton) → IsAutomaton B → FollowsFromStart A B → Includes A B Buchi
 
 -- If besides B's initial state is accepting where A's is, it accepts each word that A accepts.
 abbrev pub WordsTransfer : Type 0
-WordsTransfer = (A B : Automaton) → MatchesForward A B A.initial B.initial → Follows A B → Includes A B Finite
+WordsTransfer = (A B : Automaton) → MatchesForward A B A.initial B.initial → FollowsFromStart A B → Includes A B Finite
 
 -- If B follows A with a delay of at most d places, it accepts each lasso that A accepts.
 abbrev pub DelayedTransfer : Type 0

@@ -6,3 +6,7 @@ pub mod SearchLemmas
 pub mod LiveLemmas
 pub mod EntryLemmas
 pub mod OutcomeLemmas
+pub mod PairLemmas
+pub mod ClosedPairLemmas
+pub mod PairEntryLemmas
+pub mod PairOutcomeLemmas

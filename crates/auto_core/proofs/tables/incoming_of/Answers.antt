@@ -4,7 +4,7 @@ use Rattle.std.proofs.lemmas.Result.{IfOk-weaker}
 use Rattle.std.specs.List.Sorted.{IsPermutation}
 use Rattle.auto_core.specs.contracts.tables.ArrivalOrd.TheImpl.{cmp-value}
 use Rattle.auto_core.specs.declared.tables.Arrival.{Arrival}
-use Rattle.auto_core.specs.Arrivals.{AreNumbered, numbers}
+use Rattle.auto_core.specs.Arrivals.{AreNumbered, arrival_numbers}
 use Rattle.auto_core.proofs.TableLemmas.{arrivals_from_sorted}
 use Rattle.auto_core.proofs.tables.incoming_of.Goals as goal
 
@@ -15,7 +15,7 @@ returns c =
     let numbered : AreNumbered c.args.transitions.now given = search rules in
     let same : IsPermutation given sorted = search rules in
     let up : IsSorted cmp-value.it sorted = search rules in
-    let Is : Vec ℕ Global → Type 0 = λ v. v.items ≡ numbers sorted in
+    let Is : Vec ℕ Global → Type 0 = λ v. v.items ≡ arrival_numbers sorted in
     let ok : IfOk c.numbers_of.result Is = search rules in
     IfOk-weaker c.numbers_of.result Is (λ v. AreArrivals c.args.transitions.now v.items)
     (λ v e. let Q : List ℕ → Type 0 = λ xs. AreArrivals c.args.transitions.now xs in subst Q (sym e) (arrivals_from_sorted c.args.transitions.now given sorted numbered same up))

@@ -1,6 +1,6 @@
 use Rattle.std.proofs.Common.{◌≡◌, take}
-use Rattle.auto_core.specs.Arrivals.{numbers}
+use Rattle.auto_core.specs.Arrivals.{arrival_numbers}
 use Rattle.auto_core.proofs.tables.numbers_of.Given as goal
 
 abbrev pub invariant-loop-arrival : goal.invariant-loop-arrival
-invariant-loop-arrival l = l.numbers.items ≡ numbers (take l.arrival-index l.arrivals)
+invariant-loop-arrival l = l.numbers.items ≡ arrival_numbers (take l.arrival-index l.arrivals)
