@@ -1,8 +1,9 @@
 -- Closing a table by way of ever more places.
-use Rattle.std.proofs.Common.{◌≡◌, ℕ, zero, suc, ◌+◌, ◌*◌, ◌/◌, ◌%◌, ◌<◌, ◌≤◌, ◌⊎◌, ◌↔◌, inl, inr, true, ◌||◌, ◌&&◌, ◌==◌, ltb, List, length, get_or, set, bit_or, refl, sym, ap, ◌∙◌, subst, arith, get_or-set_same}
-use Rattle.std.proofs.lemmas.Bool.{cases_eq, cases_lt, cases_order, or_cases, or_left, or_right, and_parts, and_from, and_right, eqb-true, eq-eqb, ne_eqb, lt-ltb, le-ltb}
+use Rattle.std.proofs.Common.{◌≡◌, ℕ, zero, suc, ◌+◌, ◌*◌, ◌/◌, ◌%◌, ◌<◌, ◌≤◌, ◌⊎◌, ◌↔◌, inl, inr, Bool, true, false, ◌||◌, ◌&&◌, ◌==◌, ltb, List, length, get_or, set, bit_or, refl, sym, ap, ◌∙◌, subst, arith, get_or-set_same}
+use Rattle.std.proofs.lemmas.Bool.{false≢true, cases_eq, cases_lt, cases_order, or_cases, or_left, or_right, and_parts, and_from, and_right, eqb-true, eq-eqb, ne_eqb, lt-ltb, le-ltb}
 use Rattle.std.proofs.lemmas.List.{get_or-set_other}
 use Rattle.std.proofs.lemmas.Nat.{row_fits}
+use Rattle.std.proofs.lemmas.Nat.Bits.{bit_at-zero}
 use Rattle.std.specs.Int.{bit_at}
 use Rattle.auto_core.proofs.BitLemmas.{bit_or_tests}
 use Rattle.auto_core.proofs.CellLemmas.{cell_at}
@@ -256,3 +257,28 @@ closed_is_preorder n G R size closed = record {
       let two = (closed.pairs q r).0 k in
       (closed.pairs p r).1 (one.0, two.1, close_trans (Holds G.pairs) p q r one.2 two.2);
 }
+
+alone_tests : (b here way : Bool) → (b ≡ true → here ≡ way) → here ≡ (here || (way && b))
+alone_tests true true true e = refl
+alone_tests true true false e = refl
+alone_tests true false true e = absurd (false≢true (e refl))
+alone_tests true false false e = refl
+alone_tests false true true e = refl
+alone_tests false true false e = refl
+alone_tests false false true e = refl
+alone_tests false false false e = refl
+
+-- a place that is related to no other adds nothing
+pub alone_adds :
+    (table : List ℕ) (w via : ℕ)
+    → ((q : ℕ) → q < w * 64 → HasCell table w via q → q ≡ via)
+    → (p q : ℕ)
+    → q < w * 64
+    → cell_of table w p q ≡ (cell_of table w p q || (cell_of table w p via && cell_of table w via q))
+alone_adds table w via alone p q q_in =
+    alone_tests (cell_of table w via q) (cell_of table w p q) (cell_of table w p via) (λ h. ap (λ x. cell_of table w p x) (alone q q_in h))
+
+-- a cell whose word is zero
+pub clear_word : (table : List ℕ) (w p q : ℕ) → get_or table (p * w + q / 64) 0 ≡ 0 → HasCell table w p q → ⊥
+clear_word table w p q e h =
+    false≢true (sym (ap (λ n. n == 1) (bit_at-zero (q % 64))) ∙ sym (ap (λ n. bit_at n (q % 64) == 1) e) ∙ sym (cell_at table w p q) ∙ h)

@@ -4,23 +4,23 @@ use Rattle.std.proofs.lemmas.Nat.{mul-add-lt}
 use Rattle.std.proofs.Math.Nat.{mul-le-mul_right}
 use Rattle.auto_core.proofs.PathLemmas.{Contains-here, Contains-later, Contains-cons_cases, none_in_nil}
 use Rattle.auto_core.specs.Game.{Holds, IsWithin}
-use Rattle.bit_rel.specs.Relation.{Relation, IsRelation, IsBefore, ArePairsAscending}
+use Rattle.bit_rel.specs.Relation.{Relation, IsRelation, IsPairBefore, ArePairsAscending}
 
 -- An ascending list whose elements are all in another one is no longer.
-before_irrefl : (x y : ℕ × ℕ) → IsBefore x y → IsBefore y x → ⊥
+before_irrefl : (x y : ℕ × ℕ) → IsPairBefore x y → IsPairBefore y x → ⊥
 before_irrefl x y h k = omega arith
 
-not_itself : (x y : ℕ × ℕ) → IsBefore x y → x ≡ y → ⊥
+not_itself : (x y : ℕ × ℕ) → IsPairBefore x y → x ≡ y → ⊥
 not_itself x y h e =
-    let P : ℕ × ℕ → Type 0 = λ z. IsBefore x z in
-    let loop : IsBefore x x = subst P (sym e) h in
+    let P : ℕ × ℕ → Type 0 = λ z. IsPairBefore x z in
+    let loop : IsPairBefore x x = subst P (sym e) h in
     before_irrefl x x loop loop
 
 -- what is in the longer list and behind its first element
 rest_has :
     (x : ℕ × ℕ) (xs ys : List (ℕ × ℕ))
     → ((z : ℕ × ℕ) → Contains ys z → Contains (x ∷ xs) z)
-    → ((z : ℕ × ℕ) → Contains ys z → IsBefore x z)
+    → ((z : ℕ × ℕ) → Contains ys z → IsPairBefore x z)
     → (z : ℕ × ℕ)
     → Contains ys z
     → Contains xs z
@@ -29,7 +29,7 @@ rest_has x xs ys inside before z h = elim (Contains-cons_cases x z xs (inside z 
   | inr later ↦ later
 ]
 
-before_trans : (x y z : ℕ × ℕ) → IsBefore x y → IsBefore y z → IsBefore x z
+before_trans : (x y z : ℕ × ℕ) → IsPairBefore x y → IsPairBefore y z → IsPairBefore x z
 before_trans x y z h k = grind arith
 
 -- the first element of the shorter list is behind the first of the longer one, so all are
@@ -40,10 +40,10 @@ all_behind :
     → Contains xs y
     → (z : ℕ × ℕ)
     → Contains (y ∷ ys) z
-    → IsBefore x z
+    → IsPairBefore x z
 all_behind x y xs ys a b later z h =
-    let first : IsBefore x y = a.0 y later in
-    let P : ℕ × ℕ → Type 0 = λ u. IsBefore x u in
+    let first : IsPairBefore x y = a.0 y later in
+    let P : ℕ × ℕ → Type 0 = λ u. IsPairBefore x u in
     elim (Contains-cons_cases y z ys h) [
       | inl e ↦ subst P e first
       | inr behind ↦ before_trans x y z first (b.0 z behind)
@@ -59,7 +59,7 @@ no_longer xs [] a b inside = omega arith
 no_longer [] (y ∷ ys) a b inside = absurd (none_in_nil y (inside y (Contains-here y y ys refl)))
 no_longer (x ∷ xs) (y ∷ ys) a b inside = elim (Contains-cons_cases x y xs (inside y (Contains-here y y ys refl))) [
   | inl e ↦
-      let P : ℕ × ℕ → Type 0 = λ u. (z : ℕ × ℕ) → Contains ys z → IsBefore u z in
+      let P : ℕ × ℕ → Type 0 = λ u. (z : ℕ × ℕ) → Contains ys z → IsPairBefore u z in
       let rest = no_longer xs ys a.1 b.1 (rest_has x xs ys (λ z h. inside z (Contains-later y z ys h)) (subst P (sym e) b.0)) in
       omega arith
   | inr later ↦
@@ -81,7 +81,7 @@ shorter [] ys a b inside w has lacks = absurd (none_in_nil w has)
 shorter (x ∷ xs) [] a b inside w has lacks = omega arith
 shorter (x ∷ xs) (y ∷ ys) a b inside w has lacks = elim (Contains-cons_cases x y xs (inside y (Contains-here y y ys refl))) [
   | inl e ↦
-      let P : ℕ × ℕ → Type 0 = λ u. (z : ℕ × ℕ) → Contains ys z → IsBefore u z in
+      let P : ℕ × ℕ → Type 0 = λ u. (z : ℕ × ℕ) → Contains ys z → IsPairBefore u z in
       let behind : Contains xs w = elim (Contains-cons_cases x w xs has) [ inl f ↦ absurd (lacks (Contains-here y w ys (sym e ∙ f))) | inr later ↦ later ] in
       let rest = shorter xs ys a.1 b.1 (rest_has x xs ys (λ z h. inside z (Contains-later y z ys h)) (subst P (sym e) b.0)) w behind (λ h. lacks (Contains-later y w ys h)) in
       omega arith
@@ -94,7 +94,7 @@ shorter (x ∷ xs) (y ∷ ys) a b inside w has lacks = elim (Contains-cons_cases
 abbrev place_of : ℕ → ℕ × ℕ → ℕ
 place_of n x = x.0 * n + x.1
 
-place_rises : (n : ℕ) (x y : ℕ × ℕ) → x.1 < n → IsBefore x y → place_of n x < place_of n y
+place_rises : (n : ℕ) (x y : ℕ × ℕ) → x.1 < n → IsPairBefore x y → place_of n x < place_of n y
 place_rises n x y lt (inl less) =
     let rows : suc x.0 * n ≤ y.0 * n = mul-le-mul_right n less in
     let step : suc x.0 * n ≡ n + x.0 * n = suc_times x.0 n in

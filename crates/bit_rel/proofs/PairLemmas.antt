@@ -4,7 +4,7 @@ use Rattle.std.proofs.lemmas.Bool.{cases_eq}
 use Rattle.std.proofs.lemmas.List.Elements.{Contains-append_left, Contains-append_right, Contains-append_cases}
 use Rattle.auto_core.proofs.PathLemmas.{Contains-here, Contains-later, Contains-cons_cases, none_in_nil}
 use Rattle.auto_core.specs.Game.{Holds}
-use Rattle.bit_rel.specs.Relation.{IsRelation, IsBefore, ArePairsAscending}
+use Rattle.bit_rel.specs.Relation.{IsRelation, IsPairBefore, ArePairsAscending}
 use Rattle.bit_rel.specs.Stored.{pairs_in_row, pairs_below}
 
 pub pair_in : (r s p q : ℕ) → r ≡ p → s ≡ q → Contains {X = ℕ × ℕ} ((r, s) ∷ []) (p, q)
@@ -65,7 +65,7 @@ ascending_join :
     (xs ys : List (ℕ × ℕ))
     → ArePairsAscending xs
     → ArePairsAscending ys
-    → ((x y : ℕ × ℕ) → Contains xs x → Contains ys y → IsBefore x y)
+    → ((x y : ℕ × ℕ) → Contains xs x → Contains ys y → IsPairBefore x y)
     → ArePairsAscending (xs ++ ys)
 ascending_join [] ys a b between = b
 ascending_join (x ∷ xs) ys (first, rest) b between = (
@@ -86,7 +86,7 @@ row_ascends cell p (suc n) =
     one true = (λ y h. absurd (none_in_nil y h), tt)
     one false = tt
 
-    between : (b : Bool) (x y : ℕ × ℕ) → Contains (pairs_in_row cell p n) x → Contains {X = ℕ × ℕ} (cond b ((p, n) ∷ []) []) y → IsBefore x y
+    between : (b : Bool) (x y : ℕ × ℕ) → Contains (pairs_in_row cell p n) x → Contains {X = ℕ × ℕ} (cond b ((p, n) ∷ []) []) y → IsPairBefore x y
     between true x y in_row last =
         let (e, lt, is) = row_holds cell p n x.0 x.1 in_row in
         elim (Contains-cons_cases (p, n) y [] last) [
@@ -130,7 +130,7 @@ pairs_none cell n (suc m) none =
     rw (before, here) refl
 
 -- two ascending lists with the same pairs are equal
-before_irrefl : (x y : ℕ × ℕ) → IsBefore x y → IsBefore y x → ⊥
+before_irrefl : (x y : ℕ × ℕ) → IsPairBefore x y → IsPairBefore y x → ⊥
 before_irrefl x y h k = omega arith
 
 pub same_pairs :
@@ -157,12 +157,12 @@ same_pairs (x ∷ xs) (y ∷ ys) a b to from =
 
     to_rest : (z : ℕ × ℕ) → Contains xs z → Contains ys z
     to_rest z h = elim (Contains-cons_cases y z ys (to z (Contains-later x z xs h))) [
-      | inl e ↦ let first = a.0 z h in absurd (let P : ℕ × ℕ → Type 0 = λ u. IsBefore u z in let loop : IsBefore z z = subst P (heads ∙ e) first in before_irrefl z z loop loop)
+      | inl e ↦ let first = a.0 z h in absurd (let P : ℕ × ℕ → Type 0 = λ u. IsPairBefore u z in let loop : IsPairBefore z z = subst P (heads ∙ e) first in before_irrefl z z loop loop)
       | inr later ↦ later
     ]
 
     from_rest : (z : ℕ × ℕ) → Contains ys z → Contains xs z
     from_rest z h = elim (Contains-cons_cases x z xs (from z (Contains-later y z ys h))) [
-      | inl e ↦ let first = b.0 z h in absurd (let P : ℕ × ℕ → Type 0 = λ u. IsBefore u z in let loop : IsBefore z z = subst P (sym heads ∙ e) first in before_irrefl z z loop loop)
+      | inl e ↦ let first = b.0 z h in absurd (let P : ℕ × ℕ → Type 0 = λ u. IsPairBefore u z in let loop : IsPairBefore z z = subst P (sym heads ∙ e) first in before_irrefl z z loop loop)
       | inr later ↦ later
     ]

@@ -8,13 +8,13 @@ pub record Relation : Type 0 where
   pub pairs : List (ℕ × ℕ)
 
 -- x stands before y: by left state, then by right one.
-abbrev pub IsBefore : ℕ × ℕ → ℕ × ℕ → Type 0
-IsBefore x y = (x.0 < y.0) ⊎ ((x.0 ≡ y.0) × (x.1 < y.1))
+abbrev pub IsPairBefore : ℕ × ℕ → ℕ × ℕ → Type 0
+IsPairBefore x y = (x.0 < y.0) ⊎ ((x.0 ≡ y.0) × (x.1 < y.1))
 
 -- Each pair stands before all later ones.
 abbrev pub ArePairsAscending : List (ℕ × ℕ) → Type 0
 ArePairsAscending [] = Unit {0}
-ArePairsAscending (x ∷ xs) = ((y : ℕ × ℕ) → Contains xs y → IsBefore x y) × ArePairsAscending xs
+ArePairsAscending (x ∷ xs) = ((y : ℕ × ℕ) → Contains xs y → IsPairBefore x y) × ArePairsAscending xs
 
 -- A valid relation: both states of each pair are below `size`, and the pairs ascend.
 pub record IsRelation (R : Relation) : Type 0 where

@@ -20,6 +20,6 @@ abbrev pub relation_of : Inside → Relation
 relation_of r = record { size = r.count; pairs = pairs_below (cell_of r.table.items r.width) r.count r.count }
 
 -- The fields fit one another.
-pub record IsStored (r : Inside) : Type 0 where
+pub record IsStoredRelation (r : Inside) : Type 0 where
   pub width : r.width ≡ (r.count + 63) / 64
   pub cells : IsTable r.table.items r.count r.width

@@ -1,6 +1,6 @@
 //! The reflexive and transitive closure of a table of bits, in place.
 
-ghost use Rattle.std.specs.Prelude.{◌≡◌, ◌+◌, ◌*◌, ◌<◌, ◌≤◌, ◌||◌, ◌&&◌, ◌==◌, ◌↔◌, ℕ, length};
+ghost use Rattle.std.specs.Prelude.{◌≡◌, ◌+◌, ◌*◌, ◌/◌, ◌^◌, ◌<◌, ◌≤◌, ◌||◌, ◌&&◌, ◌==◌, ◌↔◌, ℕ, true, length};
 ghost use Rattle.auto_core.specs.Rows.{cell_of, HasCell};
 ghost use Rattle.auto_core.specs.Reach.{IsTable, Arc};
 ghost use Rattle.auto_core.specs.Game.{Close};
@@ -29,6 +29,40 @@ fn relate_selves(table: &mut [u64], count: u32, width: usize)
     }
 }
 
+/// Tells whether the word of the row that has the row's own bit has no other.
+fn has_only_own(table: &[u64], width: usize, at: usize) -> bool
+    requires row { at * width + width ≤ length table.now }
+    requires own { at / 64 < width }
+    requires few { at < 2 ^ 32 }
+    ensures { result ≡ true → (q : ℕ) → q / 64 ≡ at / 64 → HasCell table.now width at q → q ≡ at }
+{
+    for q in at / 64 * 64..at / 64 * 64 + 64 {
+        if rows::has_cell(table, width, at, q) {
+            if q != at {
+                return false;
+            }
+        }
+    }
+    true
+}
+
+/// Tells whether the place is related to no other.
+fn is_alone(table: &[u64], width: usize, at: usize) -> bool
+    requires row { at * width + width ≤ length table.now }
+    requires own { at / 64 < width }
+    requires few { at < 2 ^ 32 }
+    ensures { result ≡ true → (q : ℕ) → q < width * 64 → HasCell table.now width at q → q ≡ at }
+{
+    for word in 0..width {
+        if table[at * width + word] != 0 {
+            if word != at / 64 {
+                return false;
+            }
+        }
+    }
+    has_only_own(table, width, at)
+}
+
 /// Relates each place that is related to `via` to all that `via` is related to.
 fn pass_through(table: &mut [u64], count: u32, width: usize, via: usize)
     requires table { IsTable table.old count width }
@@ -37,6 +71,9 @@ fn pass_through(table: &mut [u64], count: u32, width: usize, via: usize)
     ensures { (p q : ℕ) → p < count → q < width * 64
         → cell_of table.new width p q ≡ (cell_of table.old width p q || (cell_of table.old width p via && cell_of table.old width via q)) }
 {
+    if is_alone(table, width, via) {
+        return;
+    }
     for p in 0..count as usize {
         if rows::has_cell(table, width, p, via) {
             or_row_within(table, width, p, via);

@@ -23,11 +23,11 @@ impl Model for Rel {
 
     ghost Value = { Relation };
 
-    ghost use Rattle.bit_rel.specs.Stored.{relation_of, IsStored};
+    ghost use Rattle.bit_rel.specs.Stored.{relation_of, IsStoredRelation};
 
     ghost view = { relation_of };
 
-    ghost invariant = { IsStored };
+    ghost invariant = { IsStoredRelation };
 }
 
 impl Rel {

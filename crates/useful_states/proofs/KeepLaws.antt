@@ -5,7 +5,7 @@ use Rattle.std.proofs.lemmas.Bool.{cases_lt, cases_eq, false≢true, eq-eqb, or_
 use Rattle.auto_core.specs.Automaton.{Automaton, Moves, IsAccepting, is_accepting}
 use Rattle.auto_core.specs.Run.{Run, repeated}
 use Rattle.auto_core.specs.Accept.{AcceptsLasso, AcceptsWord}
-use Rattle.auto_core.specs.Useful.{Reaches, IsGoal, IsUseful, count_below, stays, new_number, IsKept}
+use Rattle.auto_core.specs.Useful.{Reaches, IsGoal, IsUseful, count_below, stays, new_number, IsKeptPart}
 use Rattle.auto_core.specs.declared.parts.Mode.TheVariants.{Buchi, Finite}
 use Rattle.auto_core.proofs.PathLemmas.{Contains-from_test, test_from_Contains, accepting_from_test, test_from_accepting, run_join}
 use Rattle.auto_core.proofs.MemberLemmas.{same_bool}
@@ -111,7 +111,7 @@ goal_of A p w run =
 
 -- ---- runs of both
 
-module _ (A B : Automaton) (kept : List ℕ) (k : IsKept A kept B) where
+module _ (A B : Automaton) (kept : List ℕ) (k : IsKeptPart A kept B) where
   -- states that stay have numbers of their own
   number_tells : (r s : ℕ) → stays A kept r ≡ true → stays A kept s ≡ true → new_number A kept r ≡ new_number A kept s → r ≡ s
   number_tells r s = count_tells (stays A kept) r s
@@ -239,7 +239,7 @@ module _ (A : Automaton) (kept other : List ℕ) (to : (q : ℕ) → Contains ke
   number_same : (q : ℕ) → new_number A kept q ≡ new_number A other q
   number_same q = count_same (stays A kept) (stays A other) stays_same q
 
-  pub kept_by_members : (B : Automaton) → IsKept A kept B → IsKept A other B
+  pub kept_by_members : (B : Automaton) → IsKeptPart A kept B → IsKeptPart A other B
   kept_by_members B k = record {
     valid = k.valid;
     states = k.states ∙ count_same (stays A kept) (stays A other) stays_same A.states;

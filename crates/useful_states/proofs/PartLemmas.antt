@@ -10,7 +10,7 @@ use Rattle.std.proofs.lemmas.List.Kept.{AllPairs-filter, AllPairs-from_increasin
 use Rattle.auto_core.specs.Automaton.{Automaton, IsAutomaton, Moves, IsAccepting, is_accepting, IsBefore, HasRepeat, trans}
 use Rattle.auto_core.specs.Build.{IsBuilt}
 use Rattle.auto_core.specs.Parts.{AreParts}
-use Rattle.auto_core.specs.Useful.{count_below, stays, new_number, IsKept}
+use Rattle.auto_core.specs.Useful.{count_below, stays, new_number, IsKeptPart}
 use Rattle.auto_core.specs.declared.parts.Trans.{Trans}
 use Rattle.auto_core.proofs.PathLemmas.{Contains-from_test, test_from_Contains, accepting_from_test, test_from_accepting}
 use Rattle.auto_core.proofs.MemberLemmas.{filter_has, filter_from, map_has, map_from, range_has, range_rises, no_repeat, pairs_mapped}
@@ -136,7 +136,7 @@ module _ (A : Automaton) (kept : List ℕ) (valid : IsAutomaton A) where
         let made = map_has (new_number A kept) (filter (λ q. has kept q && is_accepting A q) (range_with_len 0 A.states)) r there in
         subst (λ x. IsAccepting B x) (sym is) (Contains-permutation (kept_accepting A kept) B.accepting (new_number A kept r) b.accepting_given made)
 
-    pub kept_from_built : IsKept A kept B
+    pub kept_from_built : IsKeptPart A kept B
     kept_from_built = record {
       valid = b.valid;
       states = b.states_given;

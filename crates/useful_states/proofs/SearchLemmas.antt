@@ -13,8 +13,8 @@ use Rattle.auto_core.specs.declared.parts.Mode.{Mode}
 use Rattle.auto_core.specs.declared.parts.Mode.TheVariants.{Buchi, Finite}
 use Rattle.auto_core.specs.declared.parts.Trans.{Trans}
 use Rattle.auto_core.proofs.MoveLemmas.{number_of, move_at, move_in_range}
-use Rattle.auto_core.proofs.ReachLemmas.{close_trans, close_one}
-use Rattle.useful_states.specs.Search.{Steps, HoldsArcs, StepsWithin, Marks, ReachesGoal}
+use Rattle.auto_core.proofs.ReachLemmas.{close_trans, close_one, close_refl}
+use Rattle.useful_states.specs.Search.{Steps, HoldsArcs, StepsWithin, Marks, MarksGoals, ReachesGoal}
 use Rattle.useful_states.proofs.KeepLaws.{reach_itself, reach_on, reach_move}
 
 -- ---- tables
@@ -172,20 +172,37 @@ module _ (A : Automaton) (table : List ℕ) (n width : ℕ) where
     λ (w, f, run). r.all s q here (chain_run h s w q f run),
   )
 
-  -- what reaches what is marked
-  pub reaching :
+  -- what reaches what is marked reaches a goal too
+  pub goals_before :
       HoldsArcs (λ p q. Steps A q p) table n width
-      → (P : ℕ → Type 0) (old new : List ℕ)
-      → Marks old (λ q. (q < n) × P q)
-      → ((g : ℕ) → P g → g < n)
+      → n ≡ A.states
+      → (mode : Mode) (k : ℕ) (old new : List ℕ)
       → MarksBelow new n
       → AreReached (Arc table n width) old new
-      → Marks new (λ q. (q < n) × ((g : ℕ) × Reaches A q g × P g))
-  reaching h P old new marks below new_below r = λ q. (
-    λ marked.
+      → MarksGoals A mode k old
+      → MarksGoals A mode k new
+  goals_before h size mode k old new new_below r m = record {
+    sound = λ q marked.
         let (p, from, way) = r.each q marked in
-        (new_below q marked, (p, turned_chain h way.0 p q way.1, ((marks p).0 from).1)),
-    λ (q_in, (g, (w, f, run), is)). r.all g q ((marks g).1 (below g is, is)) (turned_run h q w g f run),
+        let (p_in, (g, on, is)) = m.sound p from in
+        let q_in = new_below q marked in
+        (omega arith, (g, reach_on A q p g (turned_chain h way.0 p q way.1) on, is));
+    each = λ g g_in is. r.all g g (m.each g g_in is) (close_refl (Arc table n width) g);
+  }
+
+  -- what reaches a goal is marked in the end
+  pub goals_reached :
+      HoldsArcs (λ p q. Steps A q p) table n width
+      → n ≡ A.states
+      → (mode : Mode) (old new : List ℕ)
+      → ((g : ℕ) → IsGoal A mode g → g < n)
+      → MarksBelow new n
+      → AreReached (Arc table n width) old new
+      → MarksGoals A mode n old
+      → Marks new (λ q. (q < A.states) × ReachesGoal A mode q)
+  goals_reached h size mode old new below new_below r m = λ q. (
+    (goals_before h size mode n old new new_below r m).sound q,
+    λ (q_in, (g, (w, f, run), is)). r.all g q (m.each g (below g is) is) (turned_run h q w g f run),
   )
 
 accepting_below : (A : Automaton) → IsAutomaton A → (q : ℕ) → IsAccepting A q → q < A.states
@@ -201,37 +218,6 @@ reached_is_state A valid q (w, f, run) = run_stays A valid A.initial w q f valid
 pub goal_is_state : (A : Automaton) → IsAutomaton A → (mode : Mode) (g : ℕ) → IsGoal A mode g → g < A.states
 goal_is_state A valid Buchi g (acc, cycle) = accepting_below A valid g acc
 goal_is_state A valid Finite g acc = accepting_below A valid g acc
-
--- the state one past those so far is marked if it is to be
-pub marks_more :
-    (P : ℕ → Type 0) (old new : List ℕ) (n : ℕ)
-    → P n
-    → ((q : ℕ) → HasBit old q ↔ ((q < n) × P q))
-    → bit_of new n ≡ true
-    → ((i : ℕ) → ¬ (i ≡ n) → bit_of new i ≡ bit_of old i)
-    → (q : ℕ)
-    → HasBit new q ↔ ((q < n + 1) × P q)
-marks_more P old new n here marks is others q = elim (cases_eq q n) [
-  | inl e ↦ (λ h. (omega arith, subst P (sym e) here), λ h. subst (λ x. HasBit new x) (sym e) is)
-  | inr apart ↦ (
-    λ h. let (lt, p) = (marks q).0 (sym (others q apart) ∙ h) in (omega arith, p),
-    λ (lt, p). others q apart ∙ (marks q).1 (omega arith, p),
-  )
-]
-
-pub marks_passed :
-    (P : ℕ → Type 0) (old : List ℕ) (n : ℕ)
-    → (P n → ⊥)
-    → ((q : ℕ) → HasBit old q ↔ ((q < n) × P q))
-    → (q : ℕ)
-    → HasBit old q ↔ ((q < n + 1) × P q)
-marks_passed P old n not_here marks q = (
-  λ h. let (lt, p) = (marks q).0 h in (omega arith, p),
-  λ (lt, p). elim (cases_eq q n) [
-    | inl e ↦ absurd (not_here (subst P e p))
-    | inr apart ↦ (marks q).1 (omega arith, p)
-  ],
-)
 
 pub goal_accepts : (A : Automaton) (mode : Mode) (g : ℕ) → IsGoal A mode g → IsAccepting A g
 goal_accepts A Buchi g (acc, cycle) = acc
@@ -287,3 +273,44 @@ useful_marked A valid mode reached goals members from to both q = (
       let q_in = reached_is_state A valid q u.reached in
       (both q).1 (q_in, (from q).1 u.reached, (to q).1 (q_in, (u.goal, u.reaches, u.is_goal))),
 )
+
+-- no goal is marked yet
+pub goals_none : (A : Automaton) (mode : Mode) (row : List ℕ) → ((i : ℕ) → bit_of row i ≡ false) → MarksGoals A mode 0 row
+goals_none A mode row none = record {
+  sound = λ q h. absurd (false≢true (sym (none q) ∙ h));
+  each = λ g g_in is. absurd (omega arith);
+}
+
+-- the next state is a goal, and is marked
+pub goals_more :
+    (A : Automaton) (mode : Mode) (k : ℕ) (old new : List ℕ)
+    → k < A.states
+    → IsGoal A mode k
+    → MarksGoals A mode k old
+    → bit_of new k ≡ true
+    → ((i : ℕ) → ¬ (i ≡ k) → bit_of new i ≡ bit_of old i)
+    → MarksGoals A mode (k + 1) new
+goals_more A mode k old new k_in goal m here others = record {
+  sound = λ q h. elim (cases_eq q k) [
+    | inl e ↦ (omega arith, (k, subst (λ x. Reaches A x k) (sym e) (reach_itself A k), goal))
+    | inr apart ↦ m.sound q (sym (others q apart) ∙ h)
+  ];
+  each = λ g g_in is. elim (cases_eq g k) [
+    | inl e ↦ subst (λ x. HasBit new x) (sym e) here
+    | inr apart ↦ others g apart ∙ m.each g (omega arith) is
+  ];
+}
+
+-- the next state is marked if it is a goal
+pub goals_passed :
+    (A : Automaton) (mode : Mode) (k : ℕ) (row : List ℕ)
+    → (IsGoal A mode k → HasBit row k)
+    → MarksGoals A mode k row
+    → MarksGoals A mode (k + 1) row
+goals_passed A mode k row here m = record {
+  sound = m.sound;
+  each = λ g g_in is. elim (cases_eq g k) [
+    | inl e ↦ subst (λ x. HasBit row x) (sym e) (here (subst (λ x. IsGoal A mode x) e is))
+    | inr apart ↦ m.each g (omega arith) is
+  ];
+}

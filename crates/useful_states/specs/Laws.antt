@@ -2,16 +2,16 @@
 use Rattle.std.specs.Prelude.{◌≡◌, ℕ, List, Contains}
 use Rattle.auto_core.specs.Automaton.{Automaton}
 use Rattle.auto_core.specs.Accept.{Includes, Same}
-use Rattle.auto_core.specs.Useful.{IsUseful, IsKept, IsTrimmed}
+use Rattle.auto_core.specs.Useful.{IsUseful, IsKeptPart, IsTrimmed}
 use Rattle.auto_core.specs.declared.parts.Mode.{Mode}
 
 -- What keeps some states of A accepts no more than A.
 abbrev pub KeptAcceptsNoMore : Type 0
-KeptAcceptsNoMore = (A B : Automaton) (kept : List ℕ) (mode : Mode) → IsKept A kept B → Includes B A mode
+KeptAcceptsNoMore = (A B : Automaton) (kept : List ℕ) (mode : Mode) → IsKeptPart A kept B → Includes B A mode
 
 -- What keeps all useful states of A, and maybe others, accepts the same.
 abbrev pub KeptAcceptsTheSame : Type 0
-KeptAcceptsTheSame = (A B : Automaton) (kept : List ℕ) (mode : Mode) → ((q : ℕ) → IsUseful A mode q → Contains kept q) → IsKept A kept B → Same A B mode
+KeptAcceptsTheSame = (A B : Automaton) (kept : List ℕ) (mode : Mode) → ((q : ℕ) → IsUseful A mode q → Contains kept q) → IsKeptPart A kept B → Same A B mode
 
 -- An automaton that is trimmed accepts the same.
 abbrev pub TrimmedAcceptsTheSame : Type 0
@@ -19,7 +19,7 @@ TrimmedAcceptsTheSame = (A B : Automaton) (mode : Mode) → IsTrimmed A mode B �
 
 -- There is one automaton at most that keeps these states.
 abbrev pub KeptIsOne : Type 0
-KeptIsOne = (A B C : Automaton) (kept : List ℕ) → IsKept A kept B → IsKept A kept C → B ≡ C
+KeptIsOne = (A B C : Automaton) (kept : List ℕ) → IsKeptPart A kept B → IsKeptPart A kept C → B ≡ C
 
 -- There is one automaton at most that is A trimmed.
 abbrev pub TrimmedIsOne : Type 0

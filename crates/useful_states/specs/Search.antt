@@ -26,3 +26,8 @@ Marks row P = (q : ℕ) → HasBit row q ↔ P q
 -- The state reaches a goal.
 abbrev pub ReachesGoal : Automaton → Mode → ℕ → Type 0
 ReachesGoal A mode q = (g : ℕ) × Reaches A q g × IsGoal A mode g
+
+-- What the row marks reaches a goal, and the goals below k are marked.
+pub record MarksGoals (A : Automaton) (mode : Mode) (k : ℕ) (row : List ℕ) : Type 0 where
+  pub sound : (q : ℕ) → HasBit row q → (q < A.states) × ReachesGoal A mode q
+  pub each : (g : ℕ) → g < k → IsGoal A mode g → HasBit row g

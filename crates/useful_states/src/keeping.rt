@@ -2,7 +2,7 @@
 
 ghost use Rattle.std.specs.Prelude.{◌≡◌, ◌+◌, ◌^◌, ◌<◌, ◌≤◌, ◌&&◌, IfOk, if◌then◌else◌};
 ghost use Rattle.auto_core.specs.Automaton.{is_accepting};
-ghost use Rattle.auto_core.specs.Useful.{stays, IsKept, IsTrimmed};
+ghost use Rattle.auto_core.specs.Useful.{stays, IsKeptPart, IsTrimmed};
 ghost use Rattle.useful_states.specs.KeptParts.{has, joins, AreNumbers, kept_transitions, kept_accepting};
 
 use crate::searching::useful;
@@ -108,7 +108,7 @@ fn accepting_kept(
 /// numbers follow the old ones' order.
 pub fn keep(alloc: Global, automaton: &Auto, kept: &StateSet) -> Result<Auto, Memory>
     requires { kept.now.states ≡ automaton.now.states }
-    ensures { IfOk result (IsKept automaton.now kept.now.members) }
+    ensures { IfOk result (IsKeptPart automaton.now kept.now.members) }
 {
     let numbers = new_numbers(alloc, automaton, kept)?;
     let transitions = transitions_kept(alloc, automaton, kept, &numbers)?;

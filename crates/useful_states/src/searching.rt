@@ -1,9 +1,10 @@
 //! The useful states: those that are reached from the initial state, among those that reach a goal.
 
-ghost use Rattle.std.specs.Prelude.{◌≡◌, ◌+◌, ◌*◌, ◌/◌, ◌^◌, ◌<◌, ◌≤◌, ◌↔◌, ℕ, length, IsTrue, IfOk, Contains, vec_len};
+ghost use Rattle.std.specs.Prelude.{◌≡◌, ◌+◌, ◌*◌, ◌/◌, ◌^◌, ◌<◌, ◌≤◌, ◌↔◌, ℕ, true, false, length, IsTrue, IfOk, Contains, vec_len};
 ghost use Rattle.auto_core.specs.Rows.{HasBit};
+ghost use Rattle.auto_core.specs.Reach.{MarksBelow};
 ghost use Rattle.auto_core.specs.Useful.{Reaches, IsGoal, AreUseful};
-ghost use Rattle.useful_states.specs.Search.{Steps, HoldsArcs, Marks, ReachesGoal};
+ghost use Rattle.useful_states.specs.Search.{Steps, HoldsArcs, Marks, MarksGoals, ReachesGoal};
 
 use auto_core::{Auto, Memory, Mode, StateSet, reach, rows};
 use std::alloc::Global;
@@ -60,27 +61,79 @@ fn is_goal(
     }
 }
 
-/// Marks the goals.
+/// Tells whether the state is a goal that is not marked. `turn` and `done` are room for one row each.
+fn is_new_goal(
+    automaton: &Auto,
+    mode: Mode,
+    ahead: &[u64],
+    width: usize,
+    state: u32,
+    marks: &[u64],
+    turn: &mut [u64],
+    done: &mut [u64],
+) -> bool
+    requires ahead { HoldsArcs (Steps automaton.now) ahead.now automaton.now.states width }
+    requires few { width < 2 ^ 32 }
+    requires marks_len { length marks.now ≡ width }
+    requires turn_len { length turn.old ≡ width }
+    requires done_len { length done.old ≡ width }
+    requires is_state { state < automaton.now.states }
+    ensures goal { result ≡ true → IsGoal automaton.now mode state }
+    ensures passed { result ≡ false → IsGoal automaton.now mode state → HasBit marks.now state }
+{
+    if rows::has_bit(marks, state as usize) {
+        return false;
+    }
+    is_goal(automaton, mode, ahead, width, state, turn, done)
+}
+
+/// Marks in Büchi mode what reaches a marked state, so that no goal among it is searched for. In finite mode a goal is seen without a
+/// search.
+fn spread(
+    automaton: &Auto,
+    mode: Mode,
+    back: &[u64],
+    width: usize,
+    marks: &mut [u64],
+    done: &mut [u64],
+)
+    requires back { HoldsArcs (λ p q. Steps automaton.now q p) back.now automaton.now.states width }
+    requires few { width < 2 ^ 32 }
+    requires marks_len { length marks.old ≡ width }
+    requires done_len { length done.old ≡ width }
+    requires below { MarksBelow marks.old automaton.now.states }
+    ensures { (k : ℕ) → MarksGoals automaton.now mode k marks.old → MarksGoals automaton.now mode k marks.new }
+{
+    match mode {
+        Mode::Finite => {}
+        Mode::Buchi => reach::reach(back, automaton.states(), width, marks, done),
+    }
+}
+
+/// Marks the goals, and with them only states that reach a goal.
 fn mark_goals(
     automaton: &Auto,
     mode: Mode,
     ahead: &[u64],
+    back: &[u64],
     width: usize,
     goals: &mut [u64],
     turn: &mut [u64],
     done: &mut [u64],
 )
     requires ahead { HoldsArcs (Steps automaton.now) ahead.now automaton.now.states width }
+    requires back { HoldsArcs (λ p q. Steps automaton.now q p) back.now automaton.now.states width }
     requires few { width < 2 ^ 32 }
     requires goals_len { length goals.old ≡ width }
     requires turn_len { length turn.old ≡ width }
     requires done_len { length done.old ≡ width }
-    ensures goals { Marks goals.new (λ q. (q < automaton.now.states) × IsGoal automaton.now mode q) }
+    ensures { MarksGoals automaton.now mode automaton.now.states goals.new }
 {
     rows::clear_row(goals);
     for state in 0..automaton.states() {
-        if is_goal(automaton, mode, ahead, width, state, turn, done) {
+        if is_new_goal(automaton, mode, ahead, width, state, goals, turn, done) {
             rows::set_bit(goals, state as usize);
+            spread(automaton, mode, back, width, goals, done);
         }
     }
 }
@@ -110,7 +163,7 @@ fn mark(
     ensures goals { Marks goals.new (λ q. (q < automaton.now.states) × ReachesGoal automaton.now mode q) }
 {
     write_steps(automaton, width, ahead, back);
-    mark_goals(automaton, mode, ahead, width, goals, turn, done);
+    mark_goals(automaton, mode, ahead, back, width, goals, turn, done);
     rows::clear_row(reached);
     rows::set_bit(reached, automaton.initial() as usize);
     reach::reach(ahead, automaton.states(), width, reached, done);

@@ -1,8 +1,8 @@
-use Rattle.std.proofs.Common.{ℕ, subst}
+use Rattle.std.proofs.Common.{ℕ, refl, subst}
 use Rattle.auto_core.specs.Reach.{Arc, MarksBelow, AreReached}
-use Rattle.auto_core.specs.Useful.{Reaches, IsGoal}
+use Rattle.auto_core.specs.Useful.{Reaches}
 use Rattle.useful_states.specs.Search.{Marks}
-use Rattle.useful_states.proofs.SearchLemmas.{reached_from, reaching, goal_is_state}
+use Rattle.useful_states.proofs.SearchLemmas.{reached_from, goals_reached, goal_is_state}
 use Rattle.useful_states.proofs.searching.mark.Goals as goal
 
 pub returns-clause-reached : goal.returns-clause-reached
@@ -23,5 +23,6 @@ returns-clause-goals c =
     let back = c.write_steps.new.back in
     let F : ℕ → Type 0 = λ n. AreReached (Arc back n w) c.mark_goals.new.goals c.reach-2.new.marks in
     let B : ℕ → Type 0 = λ n. MarksBelow c.reach-2.new.marks n in
-    reaching A back A.states w c.write_steps.ensures.back (IsGoal A c.args.mode) c.mark_goals.new.goals c.reach-2.new.marks c.mark_goals.ensures.goals
+    goals_reached A back A.states w c.write_steps.ensures.back refl c.args.mode c.mark_goals.new.goals c.reach-2.new.marks
     (goal_is_state A c.states.ensures.valid c.args.mode) (subst B c.states-2.ensures.count c.reach-2.ensures.below) (subst F c.states-2.ensures.count c.reach-2.ensures.reached)
+    c.mark_goals.ensures

@@ -1,0 +1,8 @@
+//! Whole steps over rows of bits: the next bit of a row, and rows of a table written or narrowed word by word.
+#![tactic(auto)]
+
+mod bits;
+mod tables;
+
+pub use bits::{mark_below, next_bit};
+pub use tables::{and_row, write_row};

@@ -1,0 +1,4 @@
+pub mod BitLemmas
+pub mod SetLemmas
+pub mod MoveLemmas
+pub mod ReachLemmas

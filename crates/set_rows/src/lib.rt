@@ -1,0 +1,10 @@
+//! Sets of states as rows of bits.
+#![tactic(auto)]
+
+mod comparing;
+mod moving;
+mod reaching;
+
+pub use comparing::{covers, has_accepting, meets, subset, write_below};
+pub use moving::{write_after, write_one};
+pub use reaching::reached;
