@@ -7,12 +7,12 @@ use Rattle.auto_core.specs.Automaton.{Automaton, IsAutomaton}
 use Rattle.auto_core.specs.Run.{PathBy}
 use Rattle.auto_core.specs.Game.{BackwardMoves, MatchesBackward, Answers, Round, Holds, ArePairsBelow, StableBackward}
 use Rattle.path_laws.proofs.AppliedLemmas.{followed_backward, followed_to_the_end}
-use Rattle.backward_sim.specs.Preorders.{GreatestIsOne, GreatestIsFollowed, GreatestReachesTheEnd, GreatestIsReflexive}
+use Rattle.backward_sim.specs.Preorders.{GreatestBackwardIsOne, GreatestBackwardIsFollowed, GreatestReachesTheEnd, GreatestBackwardIsReflexive}
 
-pub greatest_is_one : GreatestIsOne
+pub greatest_is_one : GreatestBackwardIsOne
 greatest_is_one A k S T s t p q = (λ h. t.has_each S s.in_range s.stable p q h, λ h. s.has_each T t.in_range t.stable p q h)
 
-pub greatest_is_followed : GreatestIsFollowed
+pub greatest_is_followed : GreatestBackwardIsFollowed
 greatest_is_followed A k S some s p q close = followed_backward A k S some s.stable p q close
 
 pub greatest_reaches_the_end : GreatestReachesTheEnd
@@ -58,7 +58,7 @@ same_is_stable A k valid some p q h =
     round [] ps path may = absurd (elim may [ inl e ↦ omega arith | inr short ↦ let lt = short.0 in omega arith ])
     round (a ∷ w) ps path may = answered_by_itself A valid p a w ps path
 
-pub greatest_is_reflexive : GreatestIsReflexive
+pub greatest_is_reflexive : GreatestBackwardIsReflexive
 greatest_is_reflexive A k S valid some s p lt = s.has_each (same_below A.states) below (same_is_stable A k valid some) p p (same_has A.states p lt)
   where
     below : ArePairsBelow A.states A.states (same_below A.states)

@@ -8,12 +8,12 @@ use Rattle.auto_core.specs.Automaton.{Automaton, IsAutomaton, Moves}
 use Rattle.auto_core.specs.Run.{Path}
 use Rattle.auto_core.specs.Game.{MatchesForward, Answers, Round, Holds, ArePairsBelow, StableForward}
 use Rattle.path_laws.proofs.AppliedLemmas.{followed_forward}
-use Rattle.direct_sim.specs.Preorders.{GreatestIsOne, GreatestIsFollowed, GreatestFollowsMoves, GreatestIsReflexive, GreatestIsPreorder}
+use Rattle.direct_sim.specs.Preorders.{GreatestForwardIsOne, GreatestForwardIsFollowed, GreatestFollowsMoves, GreatestForwardIsReflexive, GreatestIsPreorder}
 
-pub greatest_is_one : GreatestIsOne
+pub greatest_is_one : GreatestForwardIsOne
 greatest_is_one A k S T s t p q = (λ h. t.has_each S s.in_range s.stable p q h, λ h. s.has_each T t.in_range t.stable p q h)
 
-pub greatest_is_followed : GreatestIsFollowed
+pub greatest_is_followed : GreatestForwardIsFollowed
 greatest_is_followed A k S some s p q close = followed_forward A k S some s.stable p q close
 
 -- the pairs of equal numbers below n
@@ -56,7 +56,7 @@ same_is_stable A k valid some p q h =
     round [] ps path may = absurd (elim may [ inl e ↦ omega arith | inr short ↦ let lt = short.0 in omega arith ])
     round (a ∷ w) ps path may = answered_by_itself A valid p a w ps path
 
-pub greatest_is_reflexive : GreatestIsReflexive
+pub greatest_is_reflexive : GreatestForwardIsReflexive
 greatest_is_reflexive A k S valid some s p lt = s.has_each (same_below A.states) below (same_is_stable A k valid some) p p (same_has A.states p lt)
   where
     below : ArePairsBelow A.states A.states (same_below A.states)

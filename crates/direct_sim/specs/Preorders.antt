@@ -7,20 +7,20 @@ use Rattle.bit_rel.specs.Relation.{Relation, IsClosed, IsPreorder}
 use Rattle.path_laws.specs.Games.{IsFollowed}
 
 -- The relation is the closure of the greatest forward relation on the automaton's states.
-pub record IsGreatestClosed (A : Automaton) (k : ℕ) (R : Relation) : Type 0 where
+pub record IsGreatestForwardClosed (A : Automaton) (k : ℕ) (R : Relation) : Type 0 where
   pub greatest : Relation
   pub on_states : greatest.size ≡ A.states
   pub is_greatest : IsGreatestForward A k greatest.pairs
   pub closed : IsClosed greatest R
 
 -- Two greatest forward relations at one lookahead hold the same pairs.
-abbrev pub GreatestIsOne : Type 0
-GreatestIsOne = (A : Automaton) (k : ℕ) (S T : List (ℕ × ℕ)) → IsGreatestForward A k S → IsGreatestForward A k T → (p q : ℕ) → Holds S p q ↔ Holds T p q
+abbrev pub GreatestForwardIsOne : Type 0
+GreatestForwardIsOne = (A : Automaton) (k : ℕ) (S T : List (ℕ × ℕ)) → IsGreatestForward A k S → IsGreatestForward A k T → (p q : ℕ) → Holds S p q ↔ Holds T p q
 
 -- The closure of the greatest forward relation relates p to q only if q is accepting where p is and each path from p is followed
 -- from q by a path on the same word, accepting wherever the first is.
-abbrev pub GreatestIsFollowed : Type 0
-GreatestIsFollowed = (A : Automaton) (k : ℕ) (S : List (ℕ × ℕ)) → 1 ≤ k → IsGreatestForward A k S → (p q : ℕ) → Close (Holds S) p q →
+abbrev pub GreatestForwardIsFollowed : Type 0
+GreatestForwardIsFollowed = (A : Automaton) (k : ℕ) (S : List (ℕ × ℕ)) → 1 ≤ k → IsGreatestForward A k S → (p q : ℕ) → Close (Holds S) p q →
     MatchesForward A A p q × ((w ps : List ℕ) → Path A p w ps → IsFollowed (Moves A) (MatchesForward A A) q w ps)
 
 -- At lookahead 1 a path is followed move by move: the greatest relation holds the two states at each place.
@@ -29,8 +29,8 @@ GreatestFollowsMoves = (A : Automaton) (S : List (ℕ × ℕ)) → IsGreatestFor
     (w ps : List ℕ) → Path A p w ps → IsFollowed (Moves A) (Holds S) q w ps
 
 -- The greatest forward relation relates each state to itself, at each lookahead.
-abbrev pub GreatestIsReflexive : Type 0
-GreatestIsReflexive = (A : Automaton) (k : ℕ) (S : List (ℕ × ℕ)) → IsAutomaton A → 1 ≤ k → IsGreatestForward A k S → (p : ℕ) → p < A.states → Holds S p p
+abbrev pub GreatestForwardIsReflexive : Type 0
+GreatestForwardIsReflexive = (A : Automaton) (k : ℕ) (S : List (ℕ × ℕ)) → IsAutomaton A → 1 ≤ k → IsGreatestForward A k S → (p : ℕ) → p < A.states → Holds S p p
 
 -- At lookahead 1 it is a preorder on the states.
 abbrev pub GreatestIsPreorder : Type 0

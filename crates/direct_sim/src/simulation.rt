@@ -3,7 +3,7 @@
 ghost use Rattle.std.specs.Prelude.{◌≡◌, ◌≤◌, IfOk};
 ghost use Rattle.auto_core.specs.Game.{IsGreatestForward};
 ghost use Rattle.bit_rel.specs.Relation.{IsPreorder};
-ghost use Rattle.direct_sim.specs.Preorders.{IsGreatestClosed};
+ghost use Rattle.direct_sim.specs.Preorders.{IsGreatestForwardClosed};
 
 use auto_core::{Auto, Memory};
 use bit_rel::Rel;
@@ -25,7 +25,7 @@ pub fn preorder(alloc: Global, automaton: &Auto, look: u32) -> Result<Rel, Memor
     requires look_from { 1 ≤ look }
     requires look_upto { look ≤ 6 }
     ensures size { IfOk result (λ r. r.size ≡ automaton.now.states) }
-    ensures closure { IfOk result (IsGreatestClosed automaton.now look) }
+    ensures closure { IfOk result (IsGreatestForwardClosed automaton.now look) }
     ensures preorder { IfOk result (λ r. IsPreorder automaton.now.states r.pairs) }
 {
     let mut rel = relation(alloc, automaton, look)?;

@@ -7,8 +7,8 @@ use Rattle.auto_core.specs.Game.{Holds}
 use Rattle.bit_rel.specs.Relation.{Relation, IsRelation}
 use Rattle.look_round.specs.declared.moves.Move.{Move}
 use Rattle.look_round.specs.Sides.{move}
-use Rattle.look_game.specs.Taking.{Takes, TakesSome, KeepsOthers, HasRounds}
-use Rattle.look_game.specs.Near.{IsReachedWithin, IsApart, MarksNear, HasOtherRounds}
+use Rattle.look_game.specs.Taking.{TakesAway, TakesSome, KeepsOthers, HasRounds}
+use Rattle.look_game.specs.Near.{IsReachedWithin, IsFarFrom, MarksNear, HasOtherRounds}
 use Rattle.look_game.proofs.TakingLemmas.{round_near, takes_none, takes_then, takes_upto}
 
 -- Of the first n moves of the list none leads to a state that one of the rows marks.
@@ -102,7 +102,7 @@ module _ (M : ℕ → ℕ → ℕ → Type 0) (ok : ℕ → ℕ → Type 0) (k :
       → IsRelation R
       → R.size ≡ n
       → MarksNear M n k changed marks
-      → ((p : ℕ) → IsApart M k changed p → HasRounds M ok k R p)
+      → ((p : ℕ) → IsFarFrom M k changed p → HasRounds M ok k R p)
       → HasOtherRounds M ok k R marks
   others_again n R changed marks valid size near apart p unmarked q held =
       let below = valid.in_range p q held in
@@ -112,10 +112,10 @@ module _ (M : ℕ → ℕ → ℕ → Type 0) (ok : ℕ → ℕ → Type 0) (k :
   -- The rows from n on were tried if they are marked; `changed` marks those that lost pairs.
   pub record IsTrying (marks : List ℕ) (old now : Relation) (changed : List ℕ) (any : Bool) (n : ℕ) : Type 0 where
     pub valid : IsRelation old
-    pub takes : Takes M ok k old now
+    pub takes : TakesAway M ok k old now
     pub some : any ≡ true → TakesSome old now
     pub none : any ≡ false → (r : ℕ) → HasBit changed r → ⊥
-    pub rounds : (p : ℕ) → (n ≤ p) ⊎ (HasBit marks p → ⊥) → IsApart M k changed p → HasRounds M ok k now p
+    pub rounds : (p : ℕ) → (n ≤ p) ⊎ (HasBit marks p → ⊥) → IsFarFrom M k changed p → HasRounds M ok k now p
 
   pub trying_begins :
       (marks : List ℕ) (R : Relation) (changed : List ℕ) (n : ℕ)
@@ -140,7 +140,7 @@ module _ (M : ℕ → ℕ → ℕ → Type 0) (ok : ℕ → ℕ → Type 0) (k :
       (marks : List ℕ) (old now new : Relation) (changed after : List ℕ) (any : Bool) (p n : ℕ)
       → p + 1 ≡ n
       → IsTrying marks old now changed any n
-      → Takes M ok k now new
+      → TakesAway M ok k now new
       → TakesSome now new
       → KeepsOthers p now new
       → ((IsReachedWithin M k p p → ⊥) → HasRounds M ok k new p)
@@ -165,7 +165,7 @@ module _ (M : ℕ → ℕ → ℕ → Type 0) (ok : ℕ → ℕ → Type 0) (k :
       still : (r : ℕ) → HasBit changed r → HasBit after r
       still r bit = elim (cases_eq r p) [ inl e ↦ subst (λ x. HasBit after x) (sym e) here | inr other ↦ others r other ∙ bit ]
 
-      stay : (r : ℕ) → (n ≤ r) ⊎ (HasBit marks r → ⊥) → IsApart M k after r → HasRounds M ok k new r
+      stay : (r : ℕ) → (n ≤ r) ⊎ (HasBit marks r → ⊥) → IsFarFrom M k after r → HasRounds M ok k new r
       stay r either apart q held =
           round_near M ok (Holds now.pairs) (Holds new.pairs) k r q
           (λ u v reached is. keeps u v (λ e. apart u (subst (λ x. HasBit after x) (sym e) here) reached) is)
@@ -220,6 +220,6 @@ module _ (M : ℕ → ℕ → ℕ → Type 0) (ok : ℕ → ℕ → Type 0) (k :
       → IsTrying marks old now changed any n
       → n ≡ 0
       → (p : ℕ)
-      → IsApart M k changed p
+      → IsFarFrom M k changed p
       → HasRounds M ok k now p
   all_tried marks old now changed any n h all p apart = h.rounds p (inl (omega arith)) apart

@@ -1,10 +1,11 @@
 -- What holds while the pairs of a row, and the rows one after another, are tried.
-use Rattle.std.proofs.Common.{◌≡◌, ℕ, ◌+◌, ◌<◌, ◌↔◌, inl, inr, Bool, true, false, [], refl, sym, ◌∙◌, subst, arith}
-use Rattle.std.proofs.lemmas.Bool.{cases_eq, false≢true}
+use Rattle.std.proofs.Common.{◌≡◌, ℕ, ◌+◌, ◌<◌, ◌≤◌, ◌↔◌, inl, inr, Bool, true, false, [], refl, sym, ◌∙◌, subst, arith}
+use Rattle.std.proofs.lemmas.Bool.{cases_eq, cases_lt, false≢true}
 use Rattle.auto_core.proofs.PathLemmas.{none_in_nil}
 use Rattle.auto_core.specs.Game.{Round, Holds, IsGreatest}
 use Rattle.bit_rel.specs.Relation.{Relation, IsRelation, Adds, Removes}
-use Rattle.look_game.specs.Taking.{AddsMatching, IsMatching, Takes, TakesSome, KeepsOthers, HasRounds}
+use Rattle.look_round.specs.Words.{IsBound}
+use Rattle.look_game.specs.Taking.{AddsMatching, IsMatching, TakesAway, TakesSome, KeepsOthers, HasRounds, HasStable}
 use Rattle.look_game.specs.Near.{IsReachedWithin}
 use Rattle.look_game.proofs.TakingLemmas.{round_near, takes_none, takes_then, takes_one, takes_upto, takes_some}
 
@@ -112,7 +113,7 @@ row_added ok n m R S h adds = record {
 module _ (M : ℕ → ℕ → ℕ → Type 0) (ok : ℕ → ℕ → Type 0) (k : ℕ) where
   -- Of the pairs of p those whose right state is below n were tried.
   pub record IsVisiting (p : ℕ) (old now : Relation) (changed : Bool) (n : ℕ) : Type 0 where
-    pub takes : Takes M ok k old now
+    pub takes : TakesAway M ok k old now
     pub some : changed ≡ true → TakesSome old now
     pub same : changed ≡ false → now ≡ old
     pub rounds : changed ≡ false → (q : ℕ) → q < n → Holds now.pairs p q → Round M M ok k (Holds now.pairs) p q
@@ -122,7 +123,7 @@ module _ (M : ℕ → ℕ → ℕ → Type 0) (ok : ℕ → ℕ → Type 0) (k :
   -- The rows below n were tried.
   pub record IsPassing (old now : Relation) (changed : Bool) (n : ℕ) : Type 0 where
     pub valid : IsRelation old
-    pub takes : Takes M ok k old now
+    pub takes : TakesAway M ok k old now
     pub some : changed ≡ true → TakesSome old now
     pub rounds : changed ≡ false → (p : ℕ) → p < n → HasRounds M ok k now p
 
@@ -189,6 +190,27 @@ module _ (M : ℕ → ℕ → ℕ → Type 0) (ok : ℕ → ℕ → Type 0) (k :
       here : (r : ℕ) → r ≡ q → Holds now.pairs p r → Round M M ok k (Holds now.pairs) p r
       here r f = let P : ℕ → Type 0 = λ x. Holds now.pairs p x → Round M M ok k (Holds now.pairs) p x in subst P (sym f) round
 
+  -- the pairs of a range are not held
+  pub visit_skips :
+      (p : ℕ) (old now : Relation) (changed : Bool) (n m : ℕ)
+      → IsVisiting p old now changed n
+      → ((q : ℕ) → n ≤ q → q < m → Holds now.pairs p q → ⊥)
+      → IsVisiting p old now changed m
+  visit_skips p old now changed n m h none = record {
+    takes = h.takes;
+    some = h.some;
+    same = h.same;
+    rounds = λ e q q_in held. elim (cases_lt q n) [
+      | inl before ↦ h.rounds e q before held
+      | inr from ↦ absurd (none q from q_in held)
+    ];
+    others = h.others;
+    apart = λ free q q_in held. elim (cases_lt q n) [
+      | inl before ↦ h.apart free q before held
+      | inr from ↦ absurd (none q from q_in held)
+    ];
+  }
+
   pub passing_begins : (R : Relation) → IsRelation R → IsPassing R R false 0
   passing_begins R valid = record {
     valid = valid;
@@ -201,7 +223,7 @@ module _ (M : ℕ → ℕ → ℕ → Type 0) (ok : ℕ → ℕ → Type 0) (k :
   pub row_taken :
       (p : ℕ) (old now new : Relation) (changed : Bool)
       → IsPassing old now changed p
-      → Takes M ok k now new
+      → TakesAway M ok k now new
       → TakesSome now new
       → IsPassing old new true (p + 1)
   row_taken p old now new changed h takes fewer =
@@ -239,7 +261,7 @@ module _ (M : ℕ → ℕ → ℕ → Type 0) (ok : ℕ → ℕ → Type 0) (k :
   pub is_greatest :
       (n : ℕ) (first R : Relation)
       → IsMatching ok n first
-      → Takes M ok k first R
+      → TakesAway M ok k first R
       → ((p : ℕ) → HasRounds M ok k R p)
       → IsGreatest M M ok k n n R.pairs
   is_greatest n first R matching takes rounds = record {
@@ -249,4 +271,25 @@ module _ (M : ℕ → ℕ → ℕ → Type 0) (ok : ℕ → ℕ → Type 0) (k :
         takes.leaves T stable (λ p q h.
         let lt = below p q h in
         (matching.pairs p q).1 (lt.0, lt.1, (stable p q h).0));
+  }
+
+  -- A bound has each stable list inside.
+  pub bound_has_stable : (n : ℕ) (R : Relation) → 1 ≤ k → IsBound M ok n R → HasStable M ok k n R.pairs
+  bound_has_stable n R some bound = record {
+    in_range = λ p q h. let is = bound.matching p q h in (is.0, is.1);
+    matching = λ p q h. (bound.matching p q h).2;
+    has_each = λ T below stable. bound.has_each k some T below stable;
+  }
+
+  -- A relation that was made from one with each stable list inside, and each of whose pairs has its round, is the greatest.
+  pub is_greatest_within :
+      (n : ℕ) (first R : Relation)
+      → HasStable M ok k n first.pairs
+      → TakesAway M ok k first R
+      → ((p : ℕ) → HasRounds M ok k R p)
+      → IsGreatest M M ok k n n R.pairs
+  is_greatest_within n first R has takes rounds = record {
+    in_range = λ p q h. has.in_range p q (takes.within p q h);
+    stable = λ p q h. (has.matching p q (takes.within p q h), rounds p q h);
+    has_each = λ T below stable. takes.leaves T stable (has.has_each T below stable);
   }

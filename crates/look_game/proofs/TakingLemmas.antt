@@ -1,10 +1,10 @@
 -- Taking pairs away.
 use Rattle.std.proofs.Common.{ℕ, zero, suc, ◌≤◌, inl, inr, List, [], ◌∷◌, length, refl, ◌∙◌, subst, arith}
 use Rattle.auto_core.specs.Run.{PathBy}
-use Rattle.auto_core.specs.Game.{Answers, Round, Holds}
+use Rattle.auto_core.specs.Game.{Answers, Round, MayShow, Holds, IsGreatest}
 use Rattle.bit_rel.specs.Relation.{Relation, IsRelation, Removes}
 use Rattle.bit_rel.proofs.LengthLemmas.{no_more, fewer}
-use Rattle.look_game.specs.Taking.{Takes, TakesSome}
+use Rattle.look_game.specs.Taking.{TakesAway, TakesSome, HasStable}
 use Rattle.look_game.specs.Near.{IsReachedWithin}
 
 -- A round that ends in a relation ends in each greater one.
@@ -57,10 +57,10 @@ round_near M ok V W k p q same h w ps path may =
     answers_near M ok V W k p q w ps path few same (h w ps path may)
 
 module _ (M : ℕ → ℕ → ℕ → Type 0) (ok : ℕ → ℕ → Type 0) (k : ℕ) where
-  pub takes_none : (R : Relation) → IsRelation R → Takes M ok k R R
+  pub takes_none : (R : Relation) → IsRelation R → TakesAway M ok k R R
   takes_none R valid = record { size = refl; valid = valid; within = λ p q h. h; leaves = λ T stable inside. inside }
 
-  pub takes_then : (R S T : Relation) → Takes M ok k R S → Takes M ok k S T → Takes M ok k R T
+  pub takes_then : (R S T : Relation) → TakesAway M ok k R S → TakesAway M ok k S T → TakesAway M ok k R T
   takes_then R S T first second = record {
     size = second.size ∙ first.size;
     valid = second.valid;
@@ -69,7 +69,7 @@ module _ (M : ℕ → ℕ → ℕ → Type 0) (ok : ℕ → ℕ → Type 0) (k :
   }
 
   -- a pair that has no round
-  pub takes_one : (R S : Relation) (p q : ℕ) → IsRelation S → Removes R S p q → (Round M M ok k (Holds R.pairs) p q → ⊥) → Takes M ok k R S
+  pub takes_one : (R S : Relation) (p q : ℕ) → IsRelation S → Removes R S p q → (Round M M ok k (Holds R.pairs) p q → ⊥) → TakesAway M ok k R S
   takes_one R S p q valid removes none = record {
     size = removes.size;
     valid = valid;
@@ -86,9 +86,36 @@ module _ (M : ℕ → ℕ → ℕ → Type 0) (ok : ℕ → ℕ → Type 0) (k :
         ));
   }
 
-  pub takes_upto : (R S : Relation) → IsRelation R → Takes M ok k R S → length S.pairs ≤ length R.pairs
+  pub takes_upto : (R S : Relation) → IsRelation R → TakesAway M ok k R S → length S.pairs ≤ length R.pairs
   takes_upto R S valid takes = no_more R S valid takes.valid takes.within
 
 pub takes_some : (R S : Relation) (p q : ℕ) → IsRelation R → IsRelation S → Removes R S p q → Holds R.pairs p q → TakesSome R S
 takes_some R S p q valid after removes held =
     fewer R S p q valid after (λ r s h. ((removes.pairs r s).0 h).0) held (λ h. ((removes.pairs p q).0 h).1 ((refl, refl)))
+
+-- a round at lookahead 1 is one at each
+round_far :
+    (M : ℕ → ℕ → ℕ → Type 0) (ok W : ℕ → ℕ → Type 0) (k p q : ℕ)
+    → 1 ≤ k
+    → Round M M ok 1 W p q
+    → (w ps : List ℕ)
+    → PathBy M p w ps
+    → MayShow M k p w ps
+    → Answers M ok W q w ps
+round_far M ok W k p q some h [] ps path may = elim may [ inl e ↦ absurd (omega arith) | inr short ↦ let lt = short.0 in absurd (omega arith) ]
+round_far M ok W k p q some h (a ∷ w) [] path may = absurd path
+round_far M ok W k p q some h (a ∷ w) (r ∷ ps) (move, rest) may =
+    let (s, go, match, held) = h (a ∷ []) (r ∷ []) (move, tt) (inl refl) in
+    (s, go, match, elim held [ inl there ↦ inl there | inr none ↦ absurd none ])
+
+-- The greatest relation at a larger lookahead has each list inside that is stable at lookahead 1.
+pub far_has_stable :
+    (M : ℕ → ℕ → ℕ → Type 0) (ok : ℕ → ℕ → Type 0) (k n : ℕ) (S : List (ℕ × ℕ))
+    → 1 ≤ k
+    → IsGreatest M M ok k n n S
+    → HasStable M ok 1 n S
+far_has_stable M ok k n S some far = record {
+  in_range = far.in_range;
+  matching = λ p q h. (far.stable p q h).0;
+  has_each = λ T below stable. far.has_each T below (λ p q h. let is = stable p q h in (is.0, round_far M ok (Holds T) k p q some is.1));
+}

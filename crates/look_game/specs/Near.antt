@@ -10,8 +10,8 @@ IsReachedWithin M zero p r = ⊥
 IsReachedWithin M (suc k) p r = (a m : ℕ) × M p a m × ((m ≡ r) ⊎ IsReachedWithin M k m r)
 
 -- No marked state is reached so from p.
-abbrev pub IsApart : (ℕ → ℕ → ℕ → Type 0) → ℕ → List ℕ → ℕ → Type 0
-IsApart M k marks p = (r : ℕ) → HasBit marks r → IsReachedWithin M k p r → ⊥
+abbrev pub IsFarFrom : (ℕ → ℕ → ℕ → Type 0) → ℕ → List ℕ → ℕ → Type 0
+IsFarFrom M k marks p = (r : ℕ) → HasBit marks r → IsReachedWithin M k p r → ⊥
 
 -- Of the states below n, each from which a marked state is reached so has its bit in `near`.
 abbrev pub MarksNear : (ℕ → ℕ → ℕ → Type 0) → ℕ → ℕ → List ℕ → List ℕ → Type 0

@@ -1,15 +1,17 @@
 //! The greatest relation, by a list of rows that are still to be tried.
 
-ghost use Rattle.std.specs.Prelude.{◌≡◌, ◌+◌, ◌/◌, ◌<◌, ◌≤◌, ℕ, true, false, length, IfOk};
+ghost use Rattle.std.specs.Prelude.{◌≡◌, ◌+◌, ◌/◌, ◌^◌, ◌<◌, ◌≤◌, ℕ, true, false, length, IfOk};
 ghost use Rattle.auto_core.specs.Automaton.{IsAutomaton};
 ghost use Rattle.auto_core.specs.Game.{IsGreatest};
-ghost use Rattle.look_game.specs.Taking.{IsMatching, Takes, TakesSome, KeepsOthers, HasRounds};
-ghost use Rattle.look_game.specs.Near.{IsReachedWithin, IsApart, HasOtherRounds};
+ghost use Rattle.bit_rel.specs.Relation.{IsRelation};
+ghost use Rattle.look_game.specs.Taking.{TakesAway, TakesSome, KeepsOthers, HasRounds, HasStable};
+ghost use Rattle.look_game.specs.Near.{IsReachedWithin, IsFarFrom, HasOtherRounds};
 
-use crate::{first, near, rounds};
+use crate::{first, near};
 use auto_core::{Auto, Memory, rows};
 use bit_rel::Rel;
-use look_round::{Scratch, Side};
+use look_round::{Scratch, Side, bound};
+use row_steps::{mark_below, next_bit};
 use std::alloc::Global;
 
 /// Takes away the pairs of `p` that do not have their round, and tells whether there were any.
@@ -26,7 +28,9 @@ fn visit_row<S: Side>(
     requires equal { rel.old.size ≡ automaton.now.states }
     requires made { scratch.old ≡ record { states = automaton.now.states; look = look } }
     requires state { p < automaton.now.states }
-    ensures takes { Takes (S.goes side.now automaton.now) (S.keeps side.now automaton.now) look rel.old rel.new }
+    requires few { automaton.now.states < 2 ^ 32 }
+    requires valid { IsRelation rel.old }
+    ensures takes { TakesAway (S.goes side.now automaton.now) (S.keeps side.now automaton.now) look rel.old rel.new }
     ensures some { result ≡ true → TakesSome rel.old rel.new }
     ensures same { result ≡ false → rel.new ≡ rel.old }
     ensures rounds { result ≡ false → HasRounds (S.goes side.now automaton.now) (S.keeps side.now automaton.now) look rel.new p }
@@ -36,13 +40,13 @@ fn visit_row<S: Side>(
     ensures scratch { scratch.new ≡ scratch.old }
 {
     let mut changed = false;
-    for q in 0..rel.size() {
-        if rel.get(p, q) {
-            if !first::holds(side, automaton, rel, look, p, q, scratch) {
-                rel.clear(p, q);
-                changed = true;
-            }
+    let mut at = 0;
+    while let Some(q) = next_bit(rel.row(p), at) {
+        if !first::holds(side, automaton, rel, look, p, q as u32, scratch) {
+            rel.clear(p, q as u32);
+            changed = true;
         }
+        at = q + 1;
     }
     changed
 }
@@ -65,11 +69,11 @@ fn pass<S: Side>(
     requires marks_len { length marks.now ≡ (automaton.now.states + 63) / 64 }
     requires changed_len { length changed.old ≡ (automaton.now.states + 63) / 64 }
     requires others { HasOtherRounds (S.goes side.now automaton.now) (S.keeps side.now automaton.now) look rel.old marks.now }
-    ensures takes { Takes (S.goes side.now automaton.now) (S.keeps side.now automaton.now) look rel.old rel.new }
+    ensures takes { TakesAway (S.goes side.now automaton.now) (S.keeps side.now automaton.now) look rel.old rel.new }
     ensures some { result ≡ true → TakesSome rel.old rel.new }
     ensures none { result ≡ false → (p : ℕ) → HasRounds (S.goes side.now automaton.now) (S.keeps side.now automaton.now) look rel.new p }
     ensures apart { (p : ℕ)
-        → IsApart (S.goes side.now automaton.now) look changed.new p
+        → IsFarFrom (S.goes side.now automaton.now) look changed.new p
         → HasRounds (S.goes side.now automaton.now) (S.keeps side.now automaton.now) look rel.new p }
     ensures scratch { scratch.new ≡ scratch.old }
 {
@@ -105,29 +109,32 @@ fn settle<S: Side>(
     requires marks_len { length marks.old ≡ (automaton.now.states + 63) / 64 }
     requires changed_len { length changed.old ≡ (automaton.now.states + 63) / 64 }
     requires spare_len { length spare.old ≡ (automaton.now.states + 63) / 64 }
-    ensures takes { Takes (S.goes side.now automaton.now) (S.keeps side.now automaton.now) look rel.old rel.new }
+    ensures takes { TakesAway (S.goes side.now automaton.now) (S.keeps side.now automaton.now) look rel.old rel.new }
     ensures rounds { (p : ℕ) → HasRounds (S.goes side.now automaton.now) (S.keeps side.now automaton.now) look rel.new p }
 {
-    near::mark_all(marks, rel.size());
+    mark_below(marks, rel.size());
     'passes: while pass(side, automaton, look, marks, rel, scratch, changed) {
         near::mark_near(side, automaton, look, changed, marks, spare);
     }
 }
 
-/// The greatest relation on the automaton's states each of whose pairs matches and has its round at this lookahead. A row is
-/// tried again only if one that is reached from it within the lookahead has lost a pair.
-pub fn greatest<S: Side>(
+/// The greatest relation at this lookahead, sought inside a relation that has each stable list inside. A row is tried again only if one
+/// that is reached from it within the lookahead has lost a pair.
+fn greatest_within<S: Side>(
     alloc: Global,
     side: &S,
     automaton: &Auto,
     look: u32,
+    first: Rel,
 ) -> Result<Rel, Memory>
     requires look_from { 1 ≤ look }
     requires look_upto { look ≤ 6 }
+    requires size { first.size ≡ automaton.now.states }
+    requires stable { HasStable (S.goes side.now automaton.now) (S.keeps side.now automaton.now) look automaton.now.states first.pairs }
     ensures size { IfOk result (λ r. r.size ≡ automaton.now.states) }
     ensures greatest { IfOk result (λ r. IsGreatest (S.goes side.now automaton.now) (S.goes side.now automaton.now) (S.keeps side.now automaton.now) look automaton.now.states automaton.now.states r.pairs) }
 {
-    let mut rel = rounds::matching(alloc, side, automaton)?;
+    let mut rel = first;
     let mut scratch = Scratch::new(alloc, automaton, look)?;
     let width = rows::words_for(automaton.states());
     let mut marks = vec![in alloc; 0; width]?;
@@ -144,4 +151,41 @@ pub fn greatest<S: Side>(
         &mut spare,
     );
     Ok(rel)
+}
+
+/// The greatest relation on the automaton's states each of whose pairs matches and has its round at this lookahead. It is sought
+/// inside the bound by short words.
+pub fn greatest<S: Side>(
+    alloc: Global,
+    side: &S,
+    automaton: &Auto,
+    look: u32,
+) -> Result<Rel, Memory>
+    requires look_from { 1 ≤ look }
+    requires look_upto { look ≤ 6 }
+    ensures size { IfOk result (λ r. r.size ≡ automaton.now.states) }
+    ensures greatest { IfOk result (λ r. IsGreatest (S.goes side.now automaton.now) (S.goes side.now automaton.now) (S.keeps side.now automaton.now) look automaton.now.states automaton.now.states r.pairs) }
+{
+    let first = bound(alloc, side, automaton)?;
+    greatest_within(alloc, side, automaton, look, first)
+}
+
+/// The greatest relation at lookahead 1, sought inside the one at a larger lookahead: what is stable at lookahead 1 is stable at each.
+pub fn greatest_near<S: Side>(
+    alloc: Global,
+    side: &S,
+    automaton: &Auto,
+    look: u32,
+    far: Rel,
+) -> Result<Rel, Memory>
+    requires look { 1 ≤ look }
+    requires size { far.size ≡ automaton.now.states }
+    requires far { IsGreatest (S.goes side.now automaton.now) (S.goes side.now automaton.now) (S.keeps side.now automaton.now) look automaton.now.states automaton.now.states far.pairs }
+    ensures size { IfOk result (λ r. r.size ≡ automaton.now.states) }
+    ensures greatest { IfOk result (λ r. IsGreatest (S.goes side.now automaton.now) (S.goes side.now automaton.now) (S.keeps side.now automaton.now) 1 automaton.now.states automaton.now.states r.pairs) }
+{
+    if look == 1 {
+        return Ok(far);
+    }
+    greatest_within(alloc, side, automaton, 1, far)
 }

@@ -6,5 +6,5 @@ mod game;
 mod near;
 mod rounds;
 
-pub use game::greatest;
+pub use game::{greatest, greatest_near};
 pub use rounds::greatest_by_rounds;

@@ -8,16 +8,6 @@ ghost use Rattle.look_game.specs.Near.{MarksNear};
 use auto_core::{Auto, rows};
 use look_round::Side;
 
-/// Marks the places below `count`.
-pub fn mark_all(marks: &mut [u64], count: u32)
-    requires { length marks.old ≡ (count + 63) / 64 }
-    ensures { (p : ℕ) → p < count → HasBit marks.new p }
-{
-    for p in 0..count as usize {
-        rows::set_bit(marks, p);
-    }
-}
-
 /// Tells whether a move from `p` leads to a state that one of the two rows marks.
 fn moves_into<S: Side>(side: &S, automaton: &Auto, p: u32, marks: &[u64], near: &[u64]) -> bool
     requires state { p < automaton.now.states }

@@ -2,7 +2,7 @@
 
 ghost use Rattle.std.specs.Prelude.{◌≡◌, ◌<◌, ◌≤◌, ℕ, true, false, IfOk};
 ghost use Rattle.auto_core.specs.Game.{IsGreatest};
-ghost use Rattle.look_game.specs.Taking.{AddsMatching, IsMatching, Takes, TakesSome, HasRounds};
+ghost use Rattle.look_game.specs.Taking.{AddsMatching, IsMatching, TakesAway, TakesSome, HasRounds};
 
 use auto_core::{Auto, Memory};
 use bit_rel::Rel;
@@ -47,7 +47,7 @@ fn visit_row<S: Side>(
     requires equal { rel.old.size ≡ automaton.now.states }
     requires made { scratch.old ≡ record { states = automaton.now.states; look = look } }
     requires state { p < automaton.now.states }
-    ensures takes { Takes (S.goes side.now automaton.now) (S.keeps side.now automaton.now) look rel.old rel.new }
+    ensures takes { TakesAway (S.goes side.now automaton.now) (S.keeps side.now automaton.now) look rel.old rel.new }
     ensures some { result ≡ true → TakesSome rel.old rel.new }
     ensures same { result ≡ false → rel.new ≡ rel.old }
     ensures rounds { result ≡ false → HasRounds (S.goes side.now automaton.now) (S.keeps side.now automaton.now) look rel.new p }
@@ -77,7 +77,7 @@ fn pass<S: Side>(
     requires look_upto { look ≤ 6 }
     requires equal { rel.old.size ≡ automaton.now.states }
     requires made { scratch.old ≡ record { states = automaton.now.states; look = look } }
-    ensures takes { Takes (S.goes side.now automaton.now) (S.keeps side.now automaton.now) look rel.old rel.new }
+    ensures takes { TakesAway (S.goes side.now automaton.now) (S.keeps side.now automaton.now) look rel.old rel.new }
     ensures some { result ≡ true → TakesSome rel.old rel.new }
     ensures rounds { result ≡ false → (p : ℕ) → HasRounds (S.goes side.now automaton.now) (S.keeps side.now automaton.now) look rel.new p }
     ensures scratch { scratch.new ≡ scratch.old }

@@ -4,3 +4,6 @@ pub mod StepLemmas
 pub mod RoundLemmas
 pub mod RoundLoop
 pub mod IncomingLemmas
+pub mod HavingLemmas
+pub mod ColumnLemmas
+pub mod BoundLemmas

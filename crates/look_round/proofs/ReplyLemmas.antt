@@ -1,10 +1,10 @@
 -- Rows of replies, move by move.
-use Rattle.std.proofs.Common.{◌≡◌, ℕ, ◌+◌, ◌*◌, ◌/◌, ◌%◌, ◌^◌, ◌<◌, ◌⊎◌, ◌↔◌, inl, inr, true, false, ◌==◌, List, length, get_or, bit_and, min, w64, Contains, refl, sym, ap, ◌∙◌, subst, arith}
-use Rattle.std.specs.Int.{bit_at, trailing_zeros}
-use Rattle.std.proofs.lemmas.Bool.{cases_eq, eqb-true, eq-eqb}
+use Rattle.std.proofs.Common.{◌≡◌, ℕ, ◌+◌, ◌*◌, ◌/◌, ◌%◌, ◌<◌, ◌⊎◌, ◌↔◌, inl, inr, true, false, ◌==◌, List, length, get_or, Contains, refl, sym, ap, ◌∙◌, subst, arith}
+use Rattle.std.specs.Int.{bit_at}
+use Rattle.std.proofs.lemmas.Bool.{cases_eq}
 use Rattle.std.proofs.lemmas.List.{get_or_default}
-use Rattle.std.proofs.lemmas.Nat.Bits.{bit_at-lt, bit_at-zero, bit_at_and, bit_at-trailing_zeros}
-use Rattle.auto_core.specs.Rows.{cell_of, HasBit, HasCell}
+use Rattle.std.proofs.lemmas.Nat.Bits.{bit_at-zero}
+use Rattle.auto_core.specs.Rows.{cell_of, HasCell}
 use Rattle.auto_core.proofs.CellLemmas.{cell_at}
 use Rattle.look_round.specs.declared.moves.Move.{Move}
 use Rattle.look_round.specs.Sides.{move}
@@ -18,58 +18,6 @@ pub row_cleared :
     → cell_of table w row q ≡ false
 row_cleared table w row zeros q q_in =
     rw (cell_at table w row q) (ap (λ n. bit_at n (q % 64) == 1) (zeros (q / 64) (omega arith)) ∙ ap (λ n. n == 1) (bit_at-zero (q % 64)))
-
--- a bit in common
-common_bit : (a b i : ℕ) → bit_at (bit_and a b) i ≡ min (bit_at a i) (bit_at b i)
-common_bit a b i = bit_at_and a b i
-
-both_ones : (a b : ℕ) → a < 2 → b < 2 → min a b ≡ 1 → (a ≡ 1) × (b ≡ 1)
-both_ones a b a_bit b_bit h = omega arith
-
-min_ones : (a b : ℕ) → a ≡ 1 → b ≡ 1 → min a b ≡ 1
-min_ones a b e f = omega arith
-
-place : (j t : ℕ) → t < 64 → ((j * 64 + t) / 64 ≡ j) × ((j * 64 + t) % 64 ≡ t)
-place j t t_in = (omega arith, omega arith)
-
-pub common_found :
-    (table other : List ℕ) (w row j : ℕ)
-    → j < w
-    → bit_and (get_or table (row * w + j) 0) (get_or other j 0) < 2 ^ 64
-    → ¬ (bit_and (get_or table (row * w + j) 0) (get_or other j 0) ≡ 0)
-    → (q : ℕ) × (q < w * 64) × HasCell table w row q × HasBit other q
-common_found table other w row j j_in fits some =
-    let a = get_or table (row * w + j) 0 in
-    let b = get_or other j 0 in
-    let m = bit_and a b in
-    let positive : 0 < m = omega arith in
-    let found = bit_at-trailing_zeros w64 m positive fits in
-    let t = trailing_zeros w64 m in
-    let t_in : t < 64 = found.0 in
-    let both = both_ones (bit_at a t) (bit_at b t) (bit_at-lt a t) (bit_at-lt b t) (sym (common_bit a b t) ∙ found.1) in
-    let here = place j t t_in in
-    let q = j * 64 + t in (
-      q,
-      omega arith,
-      rw (cell_at table w row q, here.0, here.1) (eq-eqb (bit_at a t) 1 both.0),
-      rw (here.0, here.1) (eq-eqb (bit_at b t) 1 both.1),
-    )
-
-pub none_common :
-    (table other : List ℕ) (w row : ℕ)
-    → ((j : ℕ) → j < w → bit_and (get_or table (row * w + j) 0) (get_or other j 0) ≡ 0)
-    → ((q : ℕ) × (q < w * 64) × HasCell table w row q × HasBit other q)
-    → ⊥
-none_common table other w row none (q, q_in, cell, bit) =
-    let j = q / 64 in
-    let t = q % 64 in
-    let a = get_or table (row * w + j) 0 in
-    let b = get_or other j 0 in
-    let left : bit_at a t ≡ 1 = eqb-true (bit_at a t) 1 (sym (cell_at table w row q) ∙ cell) in
-    let right : bit_at b t ≡ 1 = eqb-true (bit_at b t) 1 bit in
-    let one : bit_at (bit_and a b) t ≡ 1 = common_bit a b t ∙ min_ones (bit_at a t) (bit_at b t) left right in
-    let zero : bit_at (bit_and a b) t ≡ 0 = ap (λ n. bit_at n t) (none j (omega arith)) ∙ bit_at-zero t in
-    omega arith
 
 -- The row holds what it held and the replies among the first n moves of the list.
 pub record HasRepliesUpto (moves : List Move) (ok : ℕ → ℕ → Type 0) (a p : ℕ) (old now : List ℕ) (width row n : ℕ) : Type 0 where

@@ -1,10 +1,7 @@
 -- Replies gathered from a row, state by state and word by word.
-use Rattle.std.proofs.Common.{◌≡◌, ℕ, ◌+◌, ◌*◌, ◌/◌, ◌%◌, ◌<◌, ◌≤◌, ◌⊎◌, ◌↔◌, inl, inr, false, ◌==◌, List, get_or, refl, sym, ap, ◌∙◌, subst, arith}
-use Rattle.std.specs.Int.{bit_at}
+use Rattle.std.proofs.Common.{◌≡◌, ℕ, ◌+◌, ◌*◌, ◌<◌, ◌≤◌, ◌⊎◌, ◌↔◌, inl, inr, false, List, refl, sym, ◌∙◌, subst, arith}
 use Rattle.std.proofs.lemmas.Bool.{cases_eq, cases_lt, false≢true}
-use Rattle.std.proofs.lemmas.Nat.Bits.{bit_at-zero}
 use Rattle.auto_core.specs.Rows.{cell_of, HasCell}
-use Rattle.auto_core.proofs.CellLemmas.{cell_at}
 use Rattle.look_round.specs.Replies.{IsReply, HasReply, HasReplyFrom, HasReplyWithin}
 
 module _ (M : ℕ → ℕ → ℕ → Type 0) (ok : ℕ → ℕ → Type 0) (a p : ℕ) (D : ℕ → Type 0) where
@@ -65,35 +62,15 @@ module _ (M : ℕ → ℕ → ℕ → Type 0) (ok : ℕ → ℕ → Type 0) (a p
     others = h.others;
   }
 
-  -- the rest of a word holds no state of D
-  pub step_rest :
-      (old now : List ℕ) (width row low high end : ℕ)
-      → HasStepUpto old now width row low high
-      → ((q : ℕ) → high ≤ q → D q → ⊥)
-      → (r : ℕ)
-      → r < width * 64
-      → high ≤ end
-      → HasCell now width row r ↔ (HasCell old width row r ⊎ HasReplyWithin M ok a p D low end r)
-  step_rest old now width row low high end h none r near upto = (
-    λ cell. elim ((h.next r near).0 cell) [ inl first ↦ inl first | inr found ↦ let lt = found.2 in inr (found.0, found.1, omega arith, found.3, found.4) ],
-    λ either. elim either [
-      | inl first ↦ (h.next r near).1 (inl first)
-      | inr found ↦ elim (cases_lt found.0 high) [
-        | inl below ↦ (h.next r near).1 (inr (found.0, found.1, below, found.3, found.4))
-        | inr from ↦ absurd (none found.0 from found.3)
-      ]
-    ],
-  )
-
-  -- one more word has replied
-  pub step_word :
+  -- a range of states has replied
+  step_range :
       (old now new : List ℕ) (width row mid high : ℕ)
       → mid ≤ high
       → HasStepUpto old now width row 0 mid
       → ((r : ℕ) → r < width * 64 → HasCell new width row r ↔ (HasCell now width row r ⊎ HasReplyWithin M ok a p D mid high r))
       → ((i r : ℕ) → r < width * 64 → ¬ (i ≡ row) → cell_of new width i r ≡ cell_of now width i r)
       → HasStepUpto old new width row 0 high
-  step_word old now new width row mid high upto h added same = record {
+  step_range old now new width row mid high upto h added same = record {
     next = λ r near. (
       λ cell. elim ((added r near).0 cell) [
         | inl was ↦ elim ((h.next r near).0 was) [ inl first ↦ inl first | inr found ↦ let lt = found.2 in inr (found.0, found.1, omega arith, found.3, found.4) ]
@@ -110,7 +87,7 @@ module _ (M : ℕ → ℕ → ℕ → Type 0) (ok : ℕ → ℕ → Type 0) (a p
     others = λ i r near apart. same i r near apart ∙ h.others i r near apart;
   }
 
-  -- a word of D is empty
+  -- a range has no state of D
   pub step_zero :
       (old now : List ℕ) (width row mid high : ℕ)
       → mid ≤ high
@@ -118,12 +95,12 @@ module _ (M : ℕ → ℕ → ℕ → Type 0) (ok : ℕ → ℕ → Type 0) (a p
       → ((q : ℕ) → mid ≤ q → q < high → D q → ⊥)
       → HasStepUpto old now width row 0 high
   step_zero old now width row mid high upto h none =
-      step_word old now now width row mid high upto h
+      step_range old now now width row mid high upto h
       (λ r near. (λ cell. inl cell, λ either. elim either [ inl cell ↦ cell | inr found ↦ absurd (none found.0 found.1 found.2 found.3) ]))
       (λ i r near apart. refl)
 
-  -- all words have replied, into a row that was clear
-  pub step_done :
+  -- all states have replied, into a row that was clear
+  step_done :
       (old now : List ℕ) (width row n : ℕ)
       → n ≤ width * 64
       → HasStepUpto old now width row 0 (width * 64)
@@ -143,17 +120,20 @@ module _ (M : ℕ → ℕ → ℕ → Type 0) (ok : ℕ → ℕ → Type 0) (a p
         (r_in, (h.next r (omega arith)).1 (inr (q, omega arith, omega arith, is, reply))),
   )
 
--- an empty word of a row holds no bit
-pub word_empty :
-    (table : List ℕ) (w row word q : ℕ)
-    → get_or table (row * w + word) 0 ≡ 0
-    → word * 64 ≤ q
-    → q < word * 64 + 64
-    → HasCell table w row q
-    → ⊥
-word_empty table w row word q is from below cell =
-    let here : q / 64 ≡ word = omega arith in
-    false≢true (sym (cell_at table w row q ∙ ap (λ j. bit_at (get_or table (row * w + j) 0) (q % 64) == 1) here ∙ ap (λ n. bit_at n (q % 64) == 1) is ∙ ap (λ n. n == 1) (bit_at-zero (q % 64))) ∙ cell)
+  -- from a place on there is no state of D
+  pub step_finished :
+      (old now : List ℕ) (width row n at : ℕ)
+      → n ≤ width * 64
+      → at ≤ width * 64
+      → HasStepUpto old now width row 0 at
+      → ((q : ℕ) → at ≤ q → D q → ⊥)
+      → ((q : ℕ) → q < width * 64 → cell_of old width row q ≡ false)
+      → ((q : ℕ) → D q → q < n)
+      → ((q r : ℕ) → M q a r → r < n)
+      → (r : ℕ)
+      → HasReply now n width row r ↔ HasReplyFrom M ok a p D r
+  step_finished old now width row n at room upto h none clear below stays =
+      step_done old now width row n room (step_zero old now width row at (width * 64) upto h (λ q from lt. none q from)) clear below stays
 
 -- the same row holds the same states
 pub reply_same :
@@ -165,16 +145,4 @@ pub reply_same :
 reply_same old now n w i room same q = (
   λ h. let lt = h.0 in (h.0, sym (same q (omega arith)) ∙ h.1),
   λ h. let lt = h.0 in (h.0, same q (omega arith) ∙ h.1),
-)
-
--- the replies of the same states
-pub within_same :
-    (M : ℕ → ℕ → ℕ → Type 0) (ok : ℕ → ℕ → Type 0) (a p : ℕ) (D E : ℕ → Type 0)
-    → ((q : ℕ) → D q ↔ E q)
-    → (low high r : ℕ) (C B : Type 0)
-    → C ↔ (B ⊎ HasReplyWithin M ok a p D low high r)
-    → C ↔ (B ⊎ HasReplyWithin M ok a p E low high r)
-within_same M ok a p D E same low high r C B both = (
-  λ x. elim (both.0 x) [ inl b ↦ inl b | inr found ↦ inr (found.0, found.1, found.2, (same found.0).0 found.3, found.4) ],
-  λ x. both.1 (elim x [ inl b ↦ inl b | inr found ↦ inr (found.0, found.1, found.2, (same found.0).1 found.3, found.4) ]),
 )

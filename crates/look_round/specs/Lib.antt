@@ -3,3 +3,4 @@ pub mod SideLaws
 pub mod Replies
 pub mod Room
 pub mod RoomStored
+pub mod Words

@@ -1,12 +1,16 @@
-//! One round of the game of looking ahead.
+//! The game of looking ahead: one round, and a bound on what it can relate by short words.
 #![tactic(auto)]
 
+mod bounding;
+mod kinds;
 mod moves;
 mod replies;
 mod round;
 mod scratch;
 mod sides;
+mod words;
 
+pub use bounding::bound;
 pub use moves::Move;
 pub use round::round_holds;
 pub use scratch::Scratch;

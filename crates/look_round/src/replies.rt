@@ -3,11 +3,12 @@
 ghost use Rattle.std.specs.Prelude.{◌≡◌, ◌+◌, ◌*◌, ◌/◌, ◌<◌, ◌≤◌, ◌↔◌, ◌⊎◌, ℕ, false, length, IsTrue};
 ghost use Rattle.auto_core.specs.Rows.{cell_of, HasCell, HasBit};
 ghost use Rattle.auto_core.specs.Automaton.{IsAutomaton};
-ghost use Rattle.look_round.specs.Replies.{IsReply, HasReply, HasReplyFrom, HasReplyWithin};
+ghost use Rattle.look_round.specs.Replies.{IsReply, HasReply, HasReplyFrom};
 
 use crate::moves::Move;
 use crate::sides::Side;
 use auto_core::{Auto, rows};
+use row_steps::next_bit;
 
 /// Clears the row of the table, and leaves the others.
 pub fn clear_table_row(table: &mut [u64], width: usize, row: usize)
@@ -20,20 +21,6 @@ pub fn clear_table_row(table: &mut [u64], width: usize, row: usize)
     }
 }
 
-/// Tells whether the row of the table and the other row, which has `width` words, have a bit in common.
-pub fn meets(table: &[u64], width: usize, row: usize, other: &[u64]) -> bool
-    requires fits { row * width + width ≤ length table.now }
-    requires equal { length other.now ≡ width }
-    ensures { IsTrue result ↔ ((q : ℕ) × (q < width * 64) × HasCell table.now width row q × HasBit other.now q) }
-{
-    for j in 0..width {
-        if table[row * width + j] & other[j] != 0 {
-            return true;
-        }
-    }
-    false
-}
-
 fn is_reply<S: Side>(side: &S, automaton: &Auto, step: Move, reply: Move) -> bool
     requires step { step.to < automaton.now.states }
     requires reply { reply.to < automaton.now.states }
@@ -44,6 +31,53 @@ fn is_reply<S: Side>(side: &S, automaton: &Auto, step: Move, reply: Move) -> boo
     } else {
         false
     }
+}
+
+/// Tells whether `from` answers the step by a state of the row.
+fn has_reply_in<S: Side>(side: &S, automaton: &Auto, from: u32, step: Move, row: &[u64]) -> bool
+    requires from { from < automaton.now.states }
+    requires step { step.to < automaton.now.states }
+    requires row { length row.now ≡ (automaton.now.states + 63) / 64 }
+    ensures { IsTrue result ↔ ((r : ℕ) × IsReply (S.goes side.now automaton.now) (S.keeps side.now automaton.now) step.label step.to from r × HasBit row.now r) }
+{
+    for at in 0..side.moves(automaton, from) {
+        let reply = side.nth(automaton, from, at);
+        if rows::has_bit(row, reply.to as usize) && is_reply(side, automaton, step, reply) {
+            return true;
+        }
+    }
+    false
+}
+
+/// Tells whether one of the states of row `place` answers the step by a state of the other row.
+pub fn one_has_reply_in<S: Side>(
+    side: &S,
+    automaton: &Auto,
+    step: Move,
+    table: &[u64],
+    width: usize,
+    place: usize,
+    row: &[u64],
+) -> bool
+    requires valid { IsAutomaton automaton.now }
+    requires step { step.to < automaton.now.states }
+    requires here { place * width + width ≤ length table.now }
+    requires width { width ≡ (automaton.now.states + 63) / 64 }
+    requires row { length row.now ≡ width }
+    ensures { IsTrue result
+        ↔ ((r : ℕ) × HasReplyFrom (S.goes side.now automaton.now) (S.keeps side.now automaton.now) step.label step.to (HasReply table.now automaton.now.states width place) r × HasBit row.now r) }
+{
+    let mut at = 0;
+    while let Some(q) = next_bit(rows::row_at(table, width, place), at) {
+        if q >= automaton.states() as usize {
+            return false;
+        }
+        if has_reply_in(side, automaton, q as u32, step, row) {
+            return true;
+        }
+        at = q + 1;
+    }
+    false
 }
 
 /// Adds to the row of the table the states by which `from` answers the step.
@@ -73,36 +107,6 @@ fn add_replies<S: Side>(
     }
 }
 
-/// Adds to the row after `place` the states by which those states of row `place` answer the step that stand in the word with this
-/// number.
-fn add_word<S: Side>(
-    side: &S,
-    automaton: &Auto,
-    step: Move,
-    table: &mut [u64],
-    width: usize,
-    place: usize,
-    word: usize,
-)
-    requires step { step.to < automaton.now.states }
-    requires here { place * width + width ≤ length table.old }
-    requires next { (place + 1) * width + width ≤ length table.old }
-    requires width { width ≡ (automaton.now.states + 63) / 64 }
-    requires word { word < width }
-    ensures next { (r : ℕ) → r < width * 64
-        → HasCell table.new width (place + 1) r
-        ↔ (HasCell table.old width (place + 1) r
-        ⊎ HasReplyWithin (S.goes side.now automaton.now) (S.keeps side.now automaton.now) step.label step.to (HasReply table.old automaton.now.states width place) (word * 64) (word * 64 + 64) r) }
-    ensures others { (i r : ℕ) → r < width * 64 → ¬ (i ≡ place + 1) → cell_of table.new width i r ≡ cell_of table.old width i r }
-{
-    let end = (automaton.states() as usize).min(word * 64 + 64);
-    for q in word * 64..end {
-        if rows::has_cell(table, width, place, q) {
-            add_replies(side, automaton, q as u32, step, table, width, place + 1);
-        }
-    }
-}
-
 /// Writes into the row after `place` the states by which the states of row `place` answer the step.
 pub fn step_replies<S: Side>(
     side: &S,
@@ -123,9 +127,12 @@ pub fn step_replies<S: Side>(
     ensures others { (i r : ℕ) → r < width * 64 → ¬ (i ≡ place + 1) → cell_of table.new width i r ≡ cell_of table.old width i r }
 {
     clear_table_row(table, width, place + 1);
-    for word in 0..width {
-        if table[place * width + word] != 0 {
-            add_word(side, automaton, step, table, width, place, word);
+    let mut at = 0;
+    while let Some(q) = next_bit(rows::row_at(table, width, place), at) {
+        if q >= automaton.states() as usize {
+            return;
         }
+        add_replies(side, automaton, q as u32, step, table, width, place + 1);
+        at = q + 1;
     }
 }

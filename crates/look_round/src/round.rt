@@ -40,8 +40,7 @@ fn step_answered<S: Side>(
     ensures kept { KeepsRows sets.old sets.new width (length path.old.items) }
 {
     let place = path.len();
-    replies::step_replies(side, automaton, step, sets, width, place);
-    if replies::meets(sets, width, place + 1, rel.row(step.to)) {
+    if replies::one_has_reply_in(side, automaton, step, sets, width, place, rel.row(step.to)) {
         return true;
     }
     if left == 1 {
@@ -50,6 +49,7 @@ fn step_answered<S: Side>(
     if side.moves(automaton, step.to) == 0 {
         return false;
     }
+    replies::step_replies(side, automaton, step, sets, width, place);
     path.push_reserved(step);
     let answered = round_from(side, automaton, rel, left - 1, step.to, path, sets, width);
     path.pop();

@@ -5,6 +5,7 @@ ghost use Rattle.auto_core.specs.Automaton.{Automaton, IsAutomaton, Moves};
 ghost use Rattle.auto_core.specs.Game.{BackwardMoves, MatchesForward, MatchesBackward};
 ghost use Rattle.look_round.specs.declared.moves.Move.{Move};
 ghost use Rattle.look_round.specs.Sides.{move, forward_moves, backward_moves};
+ghost use Rattle.path_laws.proofs.MatchLemmas.{forward_trans, backward_trans};
 ghost use Rattle.look_round.specs.SideLaws.{forward_lists, forward_stays, backward_lists, backward_stays};
 
 use crate::moves::Move;
@@ -39,6 +40,8 @@ pub trait Side {
     ghost stays: { (s : Self) (A : Automaton) → IsAutomaton A → (p a q : ℕ) → goes s A p a q → q < A.states };
 
     ghost lists: { (s : Self) (A : Automaton) (p a q : ℕ) → Contains (list s A p) (move a q) ↔ goes s A p a q };
+
+    ghost joins: { (s : Self) (A : Automaton) (p q r : ℕ) → keeps s A p q → keeps s A q r → keeps s A p r };
 }
 
 /// Tells whether `q` is accepting if `p` is.
@@ -68,6 +71,8 @@ impl Side for Forward {
     ghost stays = { λ _ A valid p a q m. forward_stays A valid p a q m };
 
     ghost lists = { λ _ A p a q. forward_lists A p a q };
+
+    ghost joins = { λ _ A p q r. forward_trans A A A p q r };
 
     fn moves(&self, automaton: &Auto, state: u32) -> u32 {
         let out = automaton.outgoing(state);
@@ -101,6 +106,8 @@ impl Side for Backward {
     ghost stays = { λ _ A valid p a q m. backward_stays A valid p a q m };
 
     ghost lists = { λ _ A p a q. backward_lists A p a q };
+
+    ghost joins = { λ _ A p q r. backward_trans A A A p q r };
 
     fn moves(&self, automaton: &Auto, state: u32) -> u32 {
         automaton.predecessors(state).len() as u32

@@ -1,4 +1,4 @@
-use Rattle.std.proofs.Common.{refl, ◌∙◌, arith}
+use Rattle.std.proofs.Common.{inl, refl, ◌∙◌, arith}
 use Rattle.look_game.proofs.TakingLemmas.{takes_none, takes_then}
 use Rattle.look_game.proofs.NearLemmas.{others_begin, others_again}
 use Rattle.look_game.proofs.game.settle.Goals as goal
@@ -7,7 +7,7 @@ pub passes-init : goal.passes-init
 passes-init g c =
     let M = g.S.Side.goes c.args.side.now c.args.automaton.now in
     let ok = g.S.Side.keeps c.args.side.now c.args.automaton.now in
-    (refl, takes_none M ok c.args.look c.args.rel.now c.size.ensures.valid, others_begin M ok c.args.look c.size.result c.args.rel.now c.mark_all.new.marks c.size.ensures.valid (omega (arith, c.size.ensures.count)) c.mark_all.ensures)
+    (refl, takes_none M ok c.args.look c.args.rel.now c.size.ensures.valid, others_begin M ok c.args.look c.size.result c.args.rel.now c.mark_below.new.row c.size.ensures.valid (omega (arith, c.size.ensures.count)) (λ p p_in. (c.mark_below.ensures p).1 (inl p_in)))
 
 pub passes-preserved : goal.passes-preserved
 passes-preserved g c =

@@ -1,12 +1,12 @@
 use Rattle.std.proofs.Common.{◌≡◌, length}
-use Rattle.look_game.specs.Taking.{Takes}
+use Rattle.look_game.specs.Taking.{TakesAway}
 use Rattle.look_game.specs.Near.{HasOtherRounds}
 use Rattle.look_game.proofs.game.settle.Given as goal
 
 abbrev pub invariant-passes : goal.invariant-passes
 invariant-passes g l =
     (l.scratch ≡ l.fn.scratch)
-    × Takes (g.S.Side.goes l.side l.automaton) (g.S.Side.keeps l.side l.automaton) l.look l.fn.rel l.rel
+    × TakesAway (g.S.Side.goes l.side l.automaton) (g.S.Side.keeps l.side l.automaton) l.look l.fn.rel l.rel
     × HasOtherRounds (g.S.Side.goes l.side l.automaton) (g.S.Side.keeps l.side l.automaton) l.look l.rel l.marks
 
 abbrev pub decreases-passes : goal.decreases-passes

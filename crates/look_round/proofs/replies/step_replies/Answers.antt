@@ -1,12 +1,53 @@
-use Rattle.std.proofs.Common.{◌≡◌, ◌<◌, ◌≤◌, ◌*◌, ◌+◌, ℕ, List, subst, sym, arith, ◌∙◌}
-use Rattle.auto_core.specs.Rows.{cell_of, HasCell}
+use Rattle.std.proofs.Common.{◌≡◌, ◌<◌, ◌≤◌, ◌*◌, ◌+◌, ℕ, false, inl, inr, List, sym, arith, ◌∙◌}
+use Rattle.std.proofs.lemmas.Bool.{cases_lt, false≢true}
+use Rattle.auto_core.specs.Rows.{bit_of, cell_of, HasCell}
 use Rattle.look_round.specs.Replies.{HasReply}
-use Rattle.look_round.proofs.StepLemmas.{HasStepUpto, step_word, step_zero, step_done, word_empty, reply_same, within_same}
+use Rattle.look_round.proofs.StepLemmas.{step_more, step_zero, step_finished}
 use Rattle.look_round.proofs.replies.step_replies.Goals as goal
-use Rattle.look_round.proofs.replies.step_replies.Goals.{then-table-place-ne0, else-table-place-ne0}
 
-pub loop-word-preserved : goal.loop-word-preserved
-loop-word-preserved g c =
+-- a clear bit of the row is no state of it
+not_there :
+    (old now row : List ℕ) (n width place x : ℕ)
+    → n ≤ width * 64
+    → ((q : ℕ) → q < width * 64 → bit_of row q ≡ cell_of now width place q)
+    → ((q : ℕ) → q < width * 64 → cell_of now width place q ≡ cell_of old width place q)
+    → bit_of row x ≡ false
+    → HasReply old n width place x
+    → ⊥
+not_there old now row n width place x room bits cells clear is =
+    let x_in = is.0 in
+    let near : x < width * 64 = omega arith in
+    false≢true (sym clear ∙ bits x near ∙ cells x near ∙ is.1)
+
+pub returns-then-q-states-clause-next : goal.returns-then-q-states-clause-next
+returns-then-q-states-clause-next g c =
+    let A = c.args.automaton.now in
+    let s = c.args.side.now in
+    let M = g.S.Side.goes s A in
+    let ok = g.S.Side.keeps s A in
+    let a = c.args.step.label in
+    let p = c.args.step.to in
+    let old = c.args.table.now in
+    let now = c.loop-q.table in
+    let w = c.args.width in
+    let n = A.states in
+    let place = c.args.place in
+    let D : ℕ → Type 0 = HasReply old n w place in
+    let width = c.requires.width in
+    let next = c.in-Some.ensures.found in
+    let past = c.if-q-states.true in
+    let count = c.states.ensures.count in
+    let cells : (q : ℕ) → q < w * 64 → cell_of now w place q ≡ cell_of old w place q =
+    λ q near. c.loop-q.invariant.0.others place q near (λ e. omega arith) ∙ c.clear_table_row.ensures.others place q near (λ e. omega arith) in
+    step_finished M ok a p D c.clear_table_row.new.table now w (place + 1) n c.loop-q.at (omega arith) c.loop-q.invariant.1 c.loop-q.invariant.0
+    (λ q from is. elim (cases_lt q c.in-Some.q) [
+      | inl before ↦ not_there old now c.row_at.result.now n w place q (omega arith) c.row_at.ensures.bits cells (next.none_between q from before) is
+      | inr behind ↦ let lt = is.0 in absurd (omega arith)
+    ])
+    c.clear_table_row.ensures.here (λ q is. is.0) (λ q r go. g.met.S.Side.stays s A c.requires.valid q a r go)
+
+pub loop-q-preserved : goal.loop-q-preserved
+loop-q-preserved g c =
     let A = c.args.automaton.now in
     let s = c.args.side.now in
     let M = g.S.Side.goes s A in
@@ -15,34 +56,24 @@ loop-word-preserved g c =
     let p = c.args.step.to in
     let old = c.args.table.now in
     let start = c.clear_table_row.new.table in
-    let now = c.loop-word.table in
+    let now = c.loop-q.table in
     let w = c.args.width in
     let n = A.states in
     let place = c.args.place in
-    let mid = c.loop-word.word * 64 in
+    let q = c.in-Some.q in
     let D : ℕ → Type 0 = HasReply old n w place in
-    let E : ℕ → Type 0 = HasReply now n w place in
-    let next : mid + 64 ≡ (c.loop-word.word + 1) * 64 = omega arith in
     let width = c.requires.width in
-    let room : n ≤ w * 64 = omega arith in
-    let cells : (q : ℕ) → q < w * 64 → cell_of now w place q ≡ cell_of old w place q =
-    λ q near. c.loop-word.invariant.others place q near (λ e. omega arith) ∙ c.clear_table_row.ensures.others place q near (λ e. omega arith) in
-    let same = reply_same old now n w place room cells in
-    let P : List ℕ → Type 0 = λ t. HasStepUpto M ok a p D start t w (place + 1) 0 ((c.loop-word.word + 1) * 64) in
-    elim c.if-table-place-ne0.branch [
-      | then-table-place-ne0 b ↦
-          let new = b.add_word.new.table in
-          subst P (sym b.table-is)
-          (subst (λ high. HasStepUpto M ok a p D start new w (place + 1) 0 high) next
-          (step_word M ok a p D start now new w (place + 1) mid (mid + 64) (omega arith) c.loop-word.invariant
-          (λ r near. within_same M ok a p E D same mid (mid + 64) r (HasCell new w (place + 1) r) (HasCell now w (place + 1) r) (b.add_word.ensures.next r near))
-          b.add_word.ensures.others))
-      | else-table-place-ne0 b ↦
-          subst P (sym b.table-is)
-          (subst (λ high. HasStepUpto M ok a p D start now w (place + 1) 0 high) next
-          (step_zero M ok a p D start now w (place + 1) mid (mid + 64) (omega arith) c.loop-word.invariant
-          (λ q from below is. word_empty now w place c.loop-word.word q b.if-table-place-ne0.false from below ((same q).1 is).1)))
-    ]
+    let next = c.in-Some.ensures.found in
+    let behind = next.behind in
+    let below = c.if-q-states.false in
+    let count = c.states.ensures.count in
+    let near : q < w * 64 = omega arith in
+    let cells : (x : ℕ) → x < w * 64 → cell_of now w place x ≡ cell_of old w place x =
+    λ x x_near. c.loop-q.invariant.0.others place x x_near (λ e. omega arith) ∙ c.clear_table_row.ensures.others place x x_near (λ e. omega arith) in
+    let here : HasCell old w place q = sym (cells q near) ∙ sym (c.row_at.ensures.bits q near) ∙ next.here in
+    let between = step_zero M ok a p D start now w (place + 1) c.loop-q.at q behind c.loop-q.invariant.0
+    (λ x from before is. not_there old now c.row_at.result.now n w place x (omega arith) c.row_at.ensures.bits cells (next.none_between x from before) is) in
+    (step_more M ok a p D start now c.add_replies.new.table w (place + 1) 0 q (omega arith) between (omega arith, here) c.add_replies.ensures.here c.add_replies.ensures.others, omega arith)
 
 pub returns-clause-next : goal.returns-clause-next
 returns-clause-next g c =
@@ -52,13 +83,15 @@ returns-clause-next g c =
     let ok = g.S.Side.keeps s A in
     let a = c.args.step.label in
     let p = c.args.step.to in
-    let start = c.clear_table_row.new.table in
-    let now = c.loop-word.table in
+    let old = c.args.table.now in
+    let now = c.loop-q.table in
     let w = c.args.width in
     let n = A.states in
-    let D : ℕ → Type 0 = HasReply c.args.table.now n w c.args.place in
+    let place = c.args.place in
+    let D : ℕ → Type 0 = HasReply old n w place in
     let width = c.requires.width in
-    let all : c.loop-word.word * 64 ≡ w * 64 = omega arith in
-    step_done M ok a p D start now w (c.args.place + 1) n (omega arith)
-    (subst (λ high. HasStepUpto M ok a p D start now w (c.args.place + 1) 0 high) all c.loop-word.invariant)
+    let cells : (q : ℕ) → q < w * 64 → cell_of now w place q ≡ cell_of old w place q =
+    λ q near. c.loop-q.invariant.0.others place q near (λ e. omega arith) ∙ c.clear_table_row.ensures.others place q near (λ e. omega arith) in
+    step_finished M ok a p D c.clear_table_row.new.table now w (place + 1) n c.loop-q.at (omega arith) c.loop-q.invariant.1 c.loop-q.invariant.0
+    (λ q from is. not_there old now c.row_at.result.now n w place q (omega arith) c.row_at.ensures.bits cells (c.in_default.ensures.none q from) is)
     c.clear_table_row.ensures.here (λ q is. is.0) (λ q r go. g.met.S.Side.stays s A c.requires.valid q a r go)

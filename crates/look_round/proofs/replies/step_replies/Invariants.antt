@@ -1,8 +1,12 @@
-use Rattle.std.proofs.Common.{◌*◌, ◌+◌}
+use Rattle.std.proofs.Common.{◌-◌, ◌*◌, ◌+◌, ◌≤◌}
 use Rattle.look_round.specs.Replies.{HasReply}
 use Rattle.look_round.proofs.StepLemmas.{HasStepUpto}
 use Rattle.look_round.proofs.replies.step_replies.Given as goal
 
-abbrev pub invariant-loop-word : goal.invariant-loop-word
-invariant-loop-word g l =
-    HasStepUpto (g.S.Side.goes l.side l.automaton) (g.S.Side.keeps l.side l.automaton) l.step.label l.step.to (HasReply l.fn.table l.automaton.states l.width l.place) l.initial.table l.table l.width (l.place + 1) 0 (l.word * 64)
+abbrev pub invariant-loop-q : goal.invariant-loop-q
+invariant-loop-q g l =
+    HasStepUpto (g.S.Side.goes l.side l.automaton) (g.S.Side.keeps l.side l.automaton) l.step.label l.step.to (HasReply l.fn.table l.automaton.states l.width l.place) l.initial.table l.table l.width (l.place + 1) 0 l.at
+    × (l.at ≤ l.width * 64)
+
+abbrev pub decreases-loop-q : goal.decreases-loop-q
+decreases-loop-q g l = l.width * 64 - l.at

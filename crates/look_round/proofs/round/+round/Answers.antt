@@ -1,5 +1,6 @@
 use Rattle.std.proofs.Common.{rules, arith, ◌≡◌, ◌+◌, ◌-◌, ◌*◌, ◌<◌, ◌≤◌, ◌↔◌, ℕ, length, IsTrue, true, false, [], ◌∷◌, refl, sym, ap, ◌∙◌, subst, inl, inr, length-append}
 use Rattle.std.proofs.lemmas.Bool.{iff_false, false≢true}
+use Rattle.auto_core.specs.Rows.{HasBit}
 use Rattle.auto_core.specs.Game.{Holds, IsDead}
 use Rattle.look_round.specs.Replies.{HasReply, HasReplyFrom, RoundFrom, RoundAfter, KeepsRows}
 use Rattle.look_round.proofs.RoundLemmas.{met, ended, goes_on}
@@ -81,8 +82,8 @@ round_from-returns-clause-told g t c =
       λ h. refl,
     )
 
-pub step_answered-returns-then-meets-clause-told : goal.step_answered-returns-then-meets-clause-told
-step_answered-returns-then-meets-clause-told g t c =
+pub step_answered-returns-then-one_has_reply_in-clause-told : goal.step_answered-returns-then-one_has_reply_in-clause-told
+step_answered-returns-then-one_has_reply_in-clause-told g t c =
     let A = c.args.automaton.now in
     let s = c.args.side.now in
     let M = g.S.Side.goes s A in
@@ -92,16 +93,12 @@ step_answered-returns-then-meets-clause-told g t c =
     let w = c.args.width in
     let a = c.args.step.label in
     let p = c.args.step.to in
-    let old = c.args.sets.now in
-    let new = c.step_replies.new.table in
-    let place = c.len-place.result in
-    let P : ℕ → Type 0 = λ x. (r : ℕ) → HasReply new n w (place + 1) r ↔ HasReplyFrom M ok a p (HasReply old n w x) r in
-    let replies = subst P c.len-place.ensures.value c.step_replies.ensures.next in
-    let found = c.meets.ensures.0 c.if-meets.true in
-    let related = (c.row.ensures.bits found.0).0 found.3 in
-    let below = (c.row.ensures.valid.in_range p found.0 related).1 in
-    let equal = c.requires.equal in (
-      λ h. met M ok W c.args.left a p (HasReply old n w (length c.args.path.now.items)) (HasReply new n w (place + 1)) replies found.0 (omega arith, found.2) related,
+    let D : ℕ → Type 0 = HasReply c.args.sets.now n w (length c.args.path.now.items) in
+    let E : ℕ → Type 0 = HasReplyFrom M ok a p D in
+    let P : ℕ → Type 0 = λ x. IsTrue c.one_has_reply_in.result ↔ ((r : ℕ) × HasReplyFrom M ok a p (HasReply c.args.sets.now n w x) r × HasBit c.row.result.now r) in
+    let one = subst P c.len-place.ensures.value c.one_has_reply_in.ensures in
+    let found = one.0 c.if-one_has_reply_in.true in (
+      λ h. met M ok W c.args.left a p D E (λ r. (λ x. x, λ x. x)) found.0 found.1 ((c.row.ensures.bits found.0).0 found.2),
       λ h. refl,
     )
 
@@ -116,16 +113,14 @@ step_answered-returns-then-left-eq1-clause-told g t c =
     let w = c.args.width in
     let a = c.args.step.label in
     let p = c.args.step.to in
-    let old = c.args.sets.now in
-    let new = c.step_replies.new.table in
-    let place = c.len-place.result in
-    let P : ℕ → Type 0 = λ x. (r : ℕ) → HasReply new n w (place + 1) r ↔ HasReplyFrom M ok a p (HasReply old n w x) r in
-    let replies = subst P c.len-place.ensures.value c.step_replies.ensures.next in
-    let width = c.requires.width in
-    let apart = iff_false c.meets.ensures c.if-meets.false in
-    let none : (r : ℕ) → HasReply new n w (place + 1) r → W p r → ⊥ = λ r is related. apart (r, omega (arith, is.0), is.1, (c.row.ensures.bits r).1 related) in (
+    let D : ℕ → Type 0 = HasReply c.args.sets.now n w (length c.args.path.now.items) in
+    let E : ℕ → Type 0 = HasReplyFrom M ok a p D in
+    let P : ℕ → Type 0 = λ x. IsTrue c.one_has_reply_in.result ↔ ((r : ℕ) × HasReplyFrom M ok a p (HasReply c.args.sets.now n w x) r × HasBit c.row.result.now r) in
+    let one = subst P c.len-place.ensures.value c.one_has_reply_in.ensures in
+    let apart = iff_false one c.if-one_has_reply_in.false in
+    let none : (r : ℕ) → E r → W p r → ⊥ = λ r is related. apart (r, is, (c.row.ensures.bits r).1 related) in (
       λ h. absurd (false≢true h),
-      λ h. absurd (ended M ok W c.args.left a p (HasReply old n w (length c.args.path.now.items)) (HasReply new n w (place + 1)) replies none (inl c.if-left-eq1.true) h),
+      λ h. absurd (ended M ok W c.args.left a p D E (λ r. (λ x. x, λ x. x)) none (inl c.if-left-eq1.true) h),
     )
 
 pub step_answered-returns-then-moves-eq0-clause-told : goal.step_answered-returns-then-moves-eq0-clause-told
@@ -139,19 +134,17 @@ step_answered-returns-then-moves-eq0-clause-told g t c =
     let w = c.args.width in
     let a = c.args.step.label in
     let p = c.args.step.to in
-    let old = c.args.sets.now in
-    let new = c.step_replies.new.table in
-    let place = c.len-place.result in
-    let P : ℕ → Type 0 = λ x. (r : ℕ) → HasReply new n w (place + 1) r ↔ HasReplyFrom M ok a p (HasReply old n w x) r in
-    let replies = subst P c.len-place.ensures.value c.step_replies.ensures.next in
-    let width = c.requires.width in
-    let apart = iff_false c.meets.ensures c.if-meets.false in
-    let none : (r : ℕ) → HasReply new n w (place + 1) r → W p r → ⊥ = λ r is related. apart (r, omega (arith, is.0), is.1, (c.row.ensures.bits r).1 related) in
+    let D : ℕ → Type 0 = HasReply c.args.sets.now n w (length c.args.path.now.items) in
+    let E : ℕ → Type 0 = HasReplyFrom M ok a p D in
+    let P : ℕ → Type 0 = λ x. IsTrue c.one_has_reply_in.result ↔ ((r : ℕ) × HasReplyFrom M ok a p (HasReply c.args.sets.now n w x) r × HasBit c.row.result.now r) in
+    let one = subst P c.len-place.ensures.value c.one_has_reply_in.ensures in
+    let apart = iff_false one c.if-one_has_reply_in.false in
+    let none : (r : ℕ) → E r → W p r → ⊥ = λ r is related. apart (r, is, (c.row.ensures.bits r).1 related) in
     let dead : IsDead M p = dead_from M (g.S.Side.list s A p) p (g.met.S.Side.lists s A p) (sym c.moves.ensures ∙ c.if-moves-eq0.true) in
     let some = c.requires.left in
     let more : 1 < c.args.left = omega (arith, c.if-left-eq1.false) in (
       λ h. absurd (false≢true h),
-      λ h. absurd (ended M ok W c.args.left a p (HasReply old n w (length c.args.path.now.items)) (HasReply new n w (place + 1)) replies none (inr (more, dead)) h),
+      λ h. absurd (ended M ok W c.args.left a p D E (λ r. (λ x. x, λ x. x)) none (inr (more, dead)) h),
     )
 
 pub step_answered-returns-clause-told : goal.step_answered-returns-clause-told
@@ -170,9 +163,10 @@ step_answered-returns-clause-told g t c =
     let place = c.len-place.result in
     let P : ℕ → Type 0 = λ x. (r : ℕ) → HasReply new n w (place + 1) r ↔ HasReplyFrom M ok a p (HasReply old n w x) r in
     let replies = subst P c.len-place.ensures.value c.step_replies.ensures.next in
-    let width = c.requires.width in
-    let apart = iff_false c.meets.ensures c.if-meets.false in
-    let none : (r : ℕ) → HasReply new n w (place + 1) r → W p r → ⊥ = λ r is related. apart (r, omega (arith, is.0), is.1, (c.row.ensures.bits r).1 related) in
+    let Q1 : ℕ → Type 0 = λ x. IsTrue c.one_has_reply_in.result ↔ ((r : ℕ) × HasReplyFrom M ok a p (HasReply old n w x) r × HasBit c.row.result.now r) in
+    let one = subst Q1 c.len-place.ensures.value c.one_has_reply_in.ensures in
+    let apart = iff_false one c.if-one_has_reply_in.false in
+    let none : (r : ℕ) → HasReply new n w (place + 1) r → W p r → ⊥ = λ r is related. apart (r, (replies r).0 is, (c.row.ensures.bits r).1 related) in
     let alive : IsDead M p → ⊥ = alive_from M (g.S.Side.list s A p) p (g.met.S.Side.lists s A p) (λ e. c.if-moves-eq0.false (c.moves.ensures ∙ e)) in
     let some = c.requires.left in
     let more : 1 < c.args.left = omega (arith, c.if-left-eq1.false) in

@@ -1,0 +1,5 @@
+use Rattle.look_round.proofs.ColumnLemmas.{MarksUpto}
+use Rattle.look_round.proofs.kinds.match_row.Given as goal
+
+abbrev pub invariant-loop-q : goal.invariant-loop-q
+invariant-loop-q g l = MarksUpto (λ q. g.S.Side.keeps l.side l.automaton l.p q) l.row l.q

@@ -1,0 +1,173 @@
+//! A bound on the greatest relation, by short words: the right state of a stable pair has each word that the left one has.
+
+ghost use Rattle.std.specs.Prelude.{◌≡◌, ◌+◌, ◌*◌, ◌/◌, ◌^◌, ◌<◌, ◌≤◌, ◌↔◌, ◌⊎◌, ℕ, true, length, IfOk};
+ghost use Rattle.auto_core.specs.Rows.{cell_of, HasBit, HasCell};
+ghost use Rattle.auto_core.specs.Game.{Holds};
+ghost use Rattle.bit_rel.specs.Relation.{IsRelation};
+ghost use Rattle.look_round.specs.Words.{HoldsTable, IsBound, IsRowNarrowed};
+
+use crate::kinds::match_rows;
+use crate::sides::Side;
+use crate::words::write_columns;
+use auto_core::{Auto, Memory, rows};
+use bit_rel::Rel;
+use row_steps::{and_row, next_bit};
+use std::alloc::Global;
+
+/// At most so many letters are tried.
+const MOST_LETTERS: u32 = 64;
+
+/// At most so many words are tried.
+const MOST_WORDS: u32 = 256;
+
+/// Tells whether the row has no bit but its own.
+fn has_no_other(row: &[u64], own: usize) -> bool
+    requires few { length row.now < 2 ^ 32 }
+    ensures { result ≡ true → (q : ℕ) → HasBit row.now q → q ≡ own }
+{
+    match next_bit(row, 0) {
+        None => true,
+        Some(first) => {
+            if first != own {
+                return false;
+            }
+            match next_bit(row, own + 1) {
+                None => true,
+                Some(_later) => false,
+            }
+        }
+    }
+}
+
+/// Takes from row p what the column has not, if the column has p.
+fn narrow_by(table: &mut [u64], width: usize, p: usize, column: &[u64])
+    requires row { p * width + width ≤ length table.old }
+    requires column { length column.now ≡ width }
+    requires place { p / 64 < width }
+    ensures here { (q : ℕ) → q < width * 64 → HasCell table.new width p q ↔ (HasCell table.old width p q × (HasBit column.now p → HasBit column.now q)) }
+    ensures others { (r q : ℕ) → q < width * 64 → ¬ (r ≡ p) → cell_of table.new width r q ≡ cell_of table.old width r q }
+{
+    if rows::has_bit(column, p) {
+        and_row(table, width, p, column);
+    }
+}
+
+/// Takes from row p what a column has not that has p. A row that is left with its own place alone has each column that it needs.
+fn narrow_row(table: &mut [u64], width: usize, p: usize, columns: &[u64], words: usize)
+    requires row { p * width + width ≤ length table.old }
+    requires place { p / 64 < width }
+    requires few { width < 2 ^ 32 }
+    requires columns { words * width ≤ length columns.now }
+    ensures here { IsRowNarrowed table.old table.new width columns.now p words }
+    ensures others { (r q : ℕ) → q < width * 64 → ¬ (r ≡ p) → cell_of table.new width r q ≡ cell_of table.old width r q }
+{
+    for i in 0..words {
+        narrow_by(table, width, p, rows::row_at(columns, width, i));
+        if has_no_other(rows::row_at(table, width, p), p) {
+            return;
+        }
+    }
+}
+
+/// Takes from each row what a column has not that has the row's own place.
+fn narrow(table: &mut [u64], count: u32, width: usize, columns: &[u64], words: usize)
+    requires table { length table.old ≡ count * width }
+    requires room { count ≤ width * 64 }
+    requires few { width < 2 ^ 32 }
+    requires columns { words * width ≤ length columns.now }
+    ensures { (p : ℕ) → p < count → IsRowNarrowed table.old table.new width columns.now p words }
+{
+    for p in 0..count as usize {
+        narrow_row(table, width, p, columns, words);
+    }
+}
+
+/// Adds the pairs of `p` with the states of the row.
+fn add_row(rel: &mut Rel, p: u32, row: &[u64])
+    requires state { p < rel.old.size }
+    requires few { rel.old.size < 2 ^ 32 }
+    requires len { length row.now < 2 ^ 32 }
+    requires row { (q : ℕ) → HasBit row.now q → q < rel.old.size }
+    requires valid { IsRelation rel.old }
+    ensures size { rel.new.size ≡ rel.old.size }
+    ensures valid { IsRelation rel.new }
+    ensures pairs { (r s : ℕ) → Holds rel.new.pairs r s ↔ (Holds rel.old.pairs r s ⊎ ((r ≡ p) × HasBit row.now s)) }
+{
+    let mut at = 0;
+    while let Some(q) = next_bit(row, at) {
+        rel.set(p, q as u32);
+        at = q + 1;
+    }
+}
+
+/// The relation of the table's rows.
+fn relation_of(alloc: Global, table: &[u64], count: u32, width: usize) -> Result<Rel, Memory>
+    requires width { width ≡ (count + 63) / 64 }
+    requires table { length table.now ≡ count * width }
+    requires columns { (p q : ℕ) → p < count → q < width * 64 → HasCell table.now width p q → q < count }
+    ensures { IfOk result (HoldsTable table.now count width) }
+{
+    let mut rel = Rel::empty(alloc, count)?;
+    for p in 0..count {
+        add_row(&mut rel, p, rows::row_at(table, width, p as usize));
+    }
+    Ok(rel)
+}
+
+/// The bound, where `table` is room for a row for each state, `columns` for so many words, `ends` for one row, and `made` for a row for
+/// each of the letters.
+fn bound_in<S: Side>(
+    alloc: Global,
+    side: &S,
+    automaton: &Auto,
+    table: &mut [u64],
+    columns: &mut [u64],
+    width: usize,
+    room: usize,
+    letters: usize,
+    ends: &mut [u64],
+    made: &mut [u64],
+) -> Result<Rel, Memory>
+    requires width { width ≡ (automaton.now.states + 63) / 64 }
+    requires table { length table.old ≡ automaton.now.states * width }
+    requires some { 1 ≤ room }
+    requires columns { length columns.old ≡ room * width }
+    requires ends { length ends.old ≡ width }
+    requires made { length made.old ≡ letters * width }
+    ensures { IfOk result (IsBound (S.goes side.now automaton.now) (S.keeps side.now automaton.now) automaton.now.states) }
+{
+    let count = automaton.states();
+    let kinds = match_rows(alloc, side, automaton, table, ends, width)?;
+    let words = write_columns(
+        side, automaton, table, &kinds, columns, width, room, letters, ends, made,
+    );
+    narrow(table, count, width, columns, words);
+    relation_of(alloc, table, count, width)
+}
+
+/// A relation of pairs that match which has inside each list that is stable at some lookahead: the pairs whose right state has each of
+/// some short words that the left state has.
+pub fn bound<S: Side>(alloc: Global, side: &S, automaton: &Auto) -> Result<Rel, Memory>
+    ensures { IfOk result (IsBound (S.goes side.now automaton.now) (S.keeps side.now automaton.now) automaton.now.states) }
+{
+    let count = automaton.states();
+    let width = rows::words_for(count);
+    let room = (count / 4 + 16).min(MOST_WORDS) as usize;
+    let letters = automaton.labels().min(MOST_LETTERS) as usize;
+    let mut table = vec![in alloc; 0; count as usize * width]?;
+    let mut columns = vec![in alloc; 0; room * width]?;
+    let mut ends = vec![in alloc; 0; width]?;
+    let mut made = vec![in alloc; 0; letters * width]?;
+    bound_in(
+        alloc,
+        side,
+        automaton,
+        &mut table,
+        &mut columns,
+        width,
+        room,
+        letters,
+        &mut ends,
+        &mut made,
+    )
+}
