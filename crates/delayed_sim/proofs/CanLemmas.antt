@@ -1,6 +1,6 @@
 -- The ranks that pairs can have.
-use Rattle.std.proofs.Common.{◌≡◌, ℕ, zero, suc, ◌≤◌, inl, inr, Some, subst, arith}
-use Rattle.std.proofs.lemmas.Bool.{cases_eq}
+use Rattle.std.proofs.Common.{◌≡◌, ℕ, zero, suc, ◌≤◌, inl, inr, Bool, true, false, Option, None, Some, sym, ap, ◌∙◌, subst, arith}
+use Rattle.std.proofs.lemmas.Bool.{cases_eq, false≢true}
 use Rattle.auto_core.specs.Automaton.{Automaton, IsAccepting}
 use Rattle.auto_core.specs.Delayed.{RankedPairs, HoldsPair, HasRank, IsRight}
 use Rattle.delayed_sim.specs.Levels.{CanHave}
@@ -61,3 +61,18 @@ can_same A R S more (suc r) p q h = (
     | inr answers ↦ inr (λ a p' move. let answer = answers a p' move in (answer.0, answer.1, can_same A R S more r p' answer.0 answer.2))
   ],
 )
+
+-- a place of the table has one rank at most
+pub none_is_some : (o : Option ℕ) (r : ℕ) → o ≡ None → o ≡ Some r → ⊥
+none_is_some o r n s = false≢true (ap has (sym n ∙ s))
+  where
+    has : Option ℕ → Bool
+    has None = false
+    has (Some x) = true
+
+pub some_is : (o : Option ℕ) (r s : ℕ) → o ≡ Some r → o ≡ Some s → r ≡ s
+some_is o r s a b = ap (λ (x : Option ℕ). value x) (sym a ∙ b)
+  where
+    value : Option ℕ → ℕ
+    value (Some x) = x
+    value None = zero

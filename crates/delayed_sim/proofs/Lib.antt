@@ -1,12 +1,11 @@
 pub mod RankLemmas
 pub mod RowLemmas
-pub mod CountLemmas
-pub mod TakingLemmas
+pub mod SettleLemmas
 pub mod CanLemmas
-pub mod NoteLemmas
-pub mod LevelLemmas
-pub mod StartLemmas
 pub mod GreatestLemmas
 pub mod RightLemmas
 pub mod OneLemmas
 pub mod BuildLemmas
+pub mod BoundLemmas
+pub mod ClimbLemmas
+pub mod BeforeLemmas

@@ -2,9 +2,9 @@
 use Rattle.std.proofs.Common.{◌≡◌, ℕ, zero, suc, ◌⊎◌, Option, Some, None, List, [], ◌∷◌, Contains, inl, inr, refl, sym, ◌∙◌, subst, arith}
 use Rattle.auto_core.specs.Automaton.{Automaton}
 use Rattle.auto_core.specs.Delayed.{RankedPairs, HoldsPair, HasRank, IsGreatestDelayed}
-use Rattle.bit_rel.specs.Relation.{IsBefore}
+use Rattle.bit_rel.specs.Relation.{IsPairBefore}
 use Rattle.delayed_sim.specs.Rankings.{AreRankedInOrder}
-use Rattle.delayed_sim.specs.Laws.{GreatestIsOne}
+use Rattle.delayed_sim.specs.Laws.{GreatestDelayedIsOne}
 
 abbrev Ranked : Type 0
 Ranked = ℕ × ℕ × Option ℕ
@@ -22,10 +22,10 @@ contains_first x xs = (zero, omega arith, refl)
 none_there : (z : Ranked) → Contains [] z → ⊥
 none_there z (k, lt, e) = absurd (omega arith)
 
-never : (x : Ranked) → IsBefore (x.0, x.1) (x.0, x.1) → ⊥
+never : (x : Ranked) → IsPairBefore (x.0, x.1) (x.0, x.1) → ⊥
 never x h = elim h [ inl lt ↦ omega arith | inr more ↦ let lt = more.1 in omega arith ]
 
-not_both : (x y : Ranked) → IsBefore (x.0, x.1) (y.0, y.1) → IsBefore (y.0, y.1) (x.0, x.1) → ⊥
+not_both : (x y : Ranked) → IsPairBefore (x.0, x.1) (y.0, y.1) → IsPairBefore (y.0, y.1) (x.0, x.1) → ⊥
 not_both x y h g = elim h [
   | inl lt ↦ elim g [ inl gt ↦ omega arith | inr more ↦ let e = more.0 in omega arith ]
   | inr more ↦ let e = more.0 in let lt = more.1 in elim g [ inl gt ↦ omega arith | inr other ↦ let gt = other.1 in omega arith ]
@@ -45,8 +45,8 @@ ordered_one (x ∷ xs) (y ∷ ys) hx hy there back =
         | inr latter ↦ absurd (not_both x y (hx.0 y latter) (hy.0 x later))
       ]
     ] in
-    let P : Ranked → Type 0 = λ z. IsBefore (z.0, z.1) (x.0, x.1) in
-    let Q : Ranked → Ranked → Type 0 = λ z. λ w. IsBefore (z.0, z.1) (w.0, w.1) in
+    let P : Ranked → Type 0 = λ z. IsPairBefore (z.0, z.1) (x.0, x.1) in
+    let Q : Ranked → Ranked → Type 0 = λ z. λ w. IsPairBefore (z.0, z.1) (w.0, w.1) in
     let rest = ordered_one xs ys hx.1 hy.1
     (λ z c. elim (contains_cases y ys z (there z (contains_later x xs z c))) [
       | inl e ↦ absurd (never z (subst (λ w. Q w z) (first ∙ e) (hx.0 z c)))
@@ -78,7 +78,7 @@ module _ (A : Automaton) (X Y : RankedPairs) (x : IsGreatestDelayed A X) (y : Is
           let e = x.once p q None (Some t) h back in
           absurd (let f = e in cc)
 
-pub greatest_one : GreatestIsOne
+pub greatest_one : GreatestDelayedIsOne
 greatest_one A R S valid also size is other =
     let pairs : R.pairs ≡ S.pairs = ordered_one R.pairs S.pairs valid.in_order also.in_order
     (λ z h. goes_over A R.pairs S.pairs is other z.0 z.1 z.2 h) (λ z h. goes_over A S.pairs R.pairs other is z.0 z.1 z.2 h) in

@@ -6,7 +6,7 @@ use Rattle.std.proofs.lemmas.List.{get_or_default}
 use Rattle.auto_core.specs.Game.{Holds}
 use Rattle.auto_core.specs.Delayed.{HoldsPair, HasRank, AreRankedBelow, HasPairsOnce}
 use Rattle.auto_core.proofs.MemberLemmas.{map_has, map_from}
-use Rattle.bit_rel.specs.Relation.{Relation, IsRelation, IsBefore, ArePairsAscending}
+use Rattle.bit_rel.specs.Relation.{Relation, IsRelation, IsPairBefore, ArePairsAscending}
 use Rattle.delayed_sim.specs.Stored.{rank_at, with_ranks}
 use Rattle.delayed_sim.specs.Rankings.{IsRanking, AreRankedInOrder}
 
@@ -47,7 +47,7 @@ ranks_ordered ranks n [] h = tt
 ranks_ordered ranks n (x ∷ xs) h = (
   λ y has.
       let (z, there, is) = map_from (λ (x : ℕ × ℕ). (x.0, x.1, rank_at ranks n x.0 x.1)) xs y has in
-      let P : ℕ × ℕ × Option ℕ → Type 0 = λ t. IsBefore (x.0, x.1) (t.0, t.1) in
+      let P : ℕ × ℕ × Option ℕ → Type 0 = λ t. IsPairBefore (x.0, x.1) (t.0, t.1) in
       subst P is (h.0 z there),
   ranks_ordered ranks n xs h.1,
 )

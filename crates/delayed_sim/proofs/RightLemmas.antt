@@ -5,7 +5,7 @@ use Rattle.std.proofs.lemmas.Bool.{false≢true}
 use Rattle.auto_core.specs.Automaton.{Automaton, IsAccepting}
 use Rattle.auto_core.specs.Delayed.{RankedPairs, HasRank, HasPairsOnce, IsRight}
 use Rattle.delayed_sim.specs.Right.{HasAnswersBelow, IsRankRight, IsPairRight}
-use Rattle.delayed_sim.proofs.NoteLemmas.{some_is}
+use Rattle.delayed_sim.proofs.CanLemmas.{some_is}
 
 pub one_rank : (X : RankedPairs) → HasPairsOnce X → (p q r s : ℕ) → HasRank X p q r → HasRank X p q s → r ≡ s
 one_rank X once p q r s a b = some_is (Some r) r s refl (once p q (Some r) (Some s) a b)

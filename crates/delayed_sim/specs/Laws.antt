@@ -5,8 +5,8 @@ use Rattle.auto_core.specs.Delayed.{IsGreatestDelayed}
 use Rattle.delayed_sim.specs.Rankings.{Ranking, IsRanking}
 
 -- There is one at most, ranks and all.
-abbrev pub GreatestIsOne : Type 0
-GreatestIsOne =
+abbrev pub GreatestDelayedIsOne : Type 0
+GreatestDelayedIsOne =
     (A : Automaton) (R S : Ranking)
     → IsRanking R
     → IsRanking S

@@ -4,5 +4,6 @@ pub mod Right
 pub mod Settling
 pub mod Levels
 pub mod Boards
-pub mod Starts
 pub mod Laws
+pub mod Unasked
+pub mod Before

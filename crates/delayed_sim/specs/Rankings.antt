@@ -1,7 +1,7 @@
 -- Relations some of whose pairs have a rank.
 use Rattle.std.specs.Prelude.{◌≡◌, ℕ, ◌<◌, ◌↔◌, Option, List, [], ◌∷◌, length, Contains, slice_index_or}
 use Rattle.auto_core.specs.Delayed.{RankedPairs, AreRankedBelow, HasPairsOnce}
-use Rattle.bit_rel.specs.Relation.{IsBefore}
+use Rattle.bit_rel.specs.Relation.{IsPairBefore}
 use Rattle.delayed_sim.specs.declared.delayed.RankedPair.{RankedPair}
 
 -- A relation on the states below `size`: the list of its pairs, each with a rank or without one.
@@ -12,7 +12,7 @@ pub record Ranking : Type 0 where
 -- Each pair stands before all later ones, as in a relation without ranks.
 abbrev pub AreRankedInOrder : RankedPairs → Type 0
 AreRankedInOrder [] = Unit {0}
-AreRankedInOrder (x ∷ xs) = ((y : ℕ × ℕ × Option ℕ) → Contains xs y → IsBefore (x.0, x.1) (y.0, y.1)) × AreRankedInOrder xs
+AreRankedInOrder (x ∷ xs) = ((y : ℕ × ℕ × Option ℕ) → Contains xs y → IsPairBefore (x.0, x.1) (y.0, y.1)) × AreRankedInOrder xs
 
 -- A valid one: both states of each pair are below `size`, each pair has one rank or none, and the pairs ascend.
 pub record IsRanking (R : Ranking) : Type 0 where

@@ -18,6 +18,6 @@ abbrev pub ranking_of : Inside → Ranking
 ranking_of d = record { size = d.held.size; pairs = with_ranks d.held d.ranks.items }
 
 -- There is a place for each pair.
-pub record IsStored (d : Inside) : Type 0 where
+pub record IsStoredRanking (d : Inside) : Type 0 where
   pub valid : IsRelation d.held
   pub len : length d.ranks.items ≡ d.held.size * d.held.size

@@ -36,11 +36,11 @@ impl Model for Delayed {
 
     ghost Value = { Ranking };
 
-    ghost use Rattle.delayed_sim.specs.Stored.{ranking_of, IsStored};
+    ghost use Rattle.delayed_sim.specs.Stored.{ranking_of, IsStoredRanking};
 
     ghost view = { ranking_of };
 
-    ghost invariant = { IsStored };
+    ghost invariant = { IsStoredRanking };
 }
 
 impl Delayed {

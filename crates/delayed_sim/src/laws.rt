@@ -1,8 +1,8 @@
 //! The law of the greatest delayed relation: the contract of a function that does nothing.
 
-ghost use Rattle.delayed_sim.specs.Laws.{GreatestIsOne};
+ghost use Rattle.delayed_sim.specs.Laws.{GreatestDelayedIsOne};
 
 /// The greatest delayed relation is one, and so are its ranks.
 pub fn greatest_is_one()
-    ensures { GreatestIsOne }
+    ensures { GreatestDelayedIsOne }
 {}

@@ -1,316 +1,318 @@
 //! The least ranks inside a relation, level by level: a pair is ranked when each move of its left state is answered by a pair that was
 //! ranked before.
 
-ghost use Rattle.std.specs.Prelude.{◌≡◌, ◌<◌, ◌≤◌, ◌↔◌, ◌⊎◌, ◌+◌, ◌-◌, ◌*◌, ◌/◌, ◌^◌, ℕ, [], ◌∷◌, ◌++◌, length, Contains, slice_index, Some, None, IsTrue, IfOk};
-ghost use Rattle.auto_core.specs.Automaton.{IsAutomaton, Moves, IsAccepting, IsOutgoing, trans_at};
+ghost use Rattle.std.specs.Prelude.{◌≡◌, ◌<◌, ◌≤◌, ◌↔◌, ◌⊎◌, ◌+◌, ◌*◌, ◌/◌, ◌^◌, ℕ, length, Some, None, true, false, All, slice_index, slice_index_or, IfOk};
+ghost use Rattle.auto_core.specs.Automaton.{IsAutomaton, IsAccepting, trans_at};
 ghost use Rattle.auto_core.specs.Game.{Holds};
+ghost use Rattle.auto_core.specs.Rows.{HasBit, HasCell};
 ghost use Rattle.bit_rel.specs.Relation.{IsRelation};
-ghost use Rattle.delayed_sim.specs.Settling.{pair_of, ArePairsIn};
-ghost use Rattle.delayed_sim.specs.Boards.{IsCounted, IsFit, IsRanked, IsOnBoard, IsAnswerBy, IsNoted, Notes, Lowers, place_of_answer, IsLevel, AreLeastRanks};
-ghost use Rattle.delayed_sim.specs.Starts.{GivesRank, IsMoveCount, IsEmptyBoard, Starts};
+ghost use Rattle.delayed_sim.specs.Stored.{rank_at};
+ghost use Rattle.delayed_sim.specs.Before.{LeadsTo};
+ghost use Rattle.delayed_sim.specs.Boards.{HasFreshAnswer, IsReady, GivesRank, IsClimbed, AreLeastRanks};
 
-use crate::delayed::no_ranks;
-use crate::pairs::{Pair, place};
-use auto_core::{Auto, Memory, Trans, rows};
+use crate::before::write_before;
+use crate::pairs::place;
+use auto_core::{Auto, Memory, rows};
 use bit_rel::Rel;
+use row_steps::{and_row, next_bit, write_row};
 use std::alloc::Global;
 
-/// What is known of the pairs on the way.
-#[derive(Debug, Drop)]
-pub struct Board {
-    /// The pairs of the relation that have no rank yet.
-    pub unranked: Rel,
-    /// The rank of each pair, by its place.
-    pub ranks: Vec<Option<u32>>,
-    /// For each pair how many moves of the left state are not answered yet, by its place.
-    pub unanswered: Vec<u32>,
-    /// In the row of a transition the states that answer it.
-    pub answered: Vec<u64>,
-}
-
-/// Gives the pair its rank, if it is one of the relation and has none.
-fn rank_pair(
-    board: &mut Board,
-    p: u32,
-    q: u32,
-    rank: u32,
-    ranked: &mut Vec<Pair>,
-) -> Result<(), Memory>
-    requires left { p < board.old.unranked.size }
-    requires right { q < board.old.unranked.size }
-    requires room { length board.old.ranks.items ≡ board.old.unranked.size * board.old.unranked.size }
-    ensures { IfOk result (λ _. GivesRank board.old board.new p q rank ranked.old.items ranked.new.items) }
+/// Gives the rank to the pairs of the left state with the states of the row, all of which are unranked.
+fn give_ranks(unranked: &mut Rel, ranks: &mut [Option<u32>], p: u32, row: &[u64], rank: u32)
+    requires left { p < unranked.old.size }
+    requires few { unranked.old.size < 2 ^ 32 }
+    requires valid { IsRelation unranked.old }
+    requires len { length ranks.old ≡ unranked.old.size * unranked.old.size }
+    requires row_len { length row.now < 2 ^ 32 }
+    requires row { (q : ℕ) → HasBit row.now q → Holds unranked.old.pairs p q }
+    ensures size { unranked.new.size ≡ unranked.old.size }
+    ensures valid { IsRelation unranked.new }
+    ensures pairs { (r s : ℕ) → Holds unranked.new.pairs r s ↔ (Holds unranked.old.pairs r s × ((r ≡ p) × HasBit row.now s → ⊥)) }
+    ensures table { (r s : ℕ) → r < unranked.old.size → s < unranked.old.size
+        → ((r ≡ p) × HasBit row.now s × (rank_at ranks.new unranked.old.size r s ≡ Some rank))
+        ⊎ (((r ≡ p) × HasBit row.now s → ⊥) × (rank_at ranks.new unranked.old.size r s ≡ rank_at ranks.old unranked.old.size r s)) }
 {
-    if board.unranked.get(p, q) {
-        ranked.push(Pair { left: p, right: q })?;
-        board.unranked.clear(p, q);
-        board.ranks[place(board.unranked.size(), p, q)] = Some(rank);
-    }
-    Ok(())
-}
-
-/// Notes that `q` answers the transition, and tells whether no move of its source waits for `q` any more.
-fn lower(automaton: &Auto, board: &mut Board, t: u32, q: u32) -> bool
-    requires number { t < length automaton.now.transitions }
-    requires state { q < automaton.now.states }
-    requires counted { IsCounted automaton.now board.old }
-    requires fresh { ¬ IsNoted automaton.now board.old t q }
-    ensures lowers { Lowers automaton.now board.old board.new t q }
-    ensures told { IsTrue result ↔ (slice_index board.new.unanswered.items (place_of_answer automaton.now t q) ≡ 0) }
-{
-    let width = rows::words_for(automaton.states());
-    rows::set_cell(&mut board.answered, width, t as usize, q as usize);
-    let p = automaton.transitions()[t as usize].source;
-    let at = place(automaton.states(), p, q);
-    board.unanswered[at] -= 1;
-    board.unanswered[at] == 0
-}
-
-/// Notes that `q` answers the transition, and ranks the pair if that was the last move to be answered.
-fn answer(
-    automaton: &Auto,
-    board: &mut Board,
-    t: u32,
-    q: u32,
-    rank: u32,
-    ranked: &mut Vec<Pair>,
-) -> Result<(), Memory>
-    requires number { t < length automaton.now.transitions }
-    requires state { q < automaton.now.states }
-    requires fit { IsFit automaton.now board.old rank ranked.old.items }
-    ensures { IfOk result (λ _. Notes automaton.now rank board.old board.new ranked.new.items (λ u r. (u ≡ t) × (r ≡ q))) }
-{
-    let width = rows::words_for(automaton.states());
-    if rows::has_cell(&board.answered, width, t as usize, q as usize) {
-        return Ok(());
-    }
-    let last = lower(automaton, board, t, q);
-    let p = automaton.transitions()[t as usize].source;
-    if last {
-        rank_pair(board, p, q, rank, ranked)
-    } else {
-        Ok(())
+    let mut at = 0;
+    while let Some(q) = next_bit(row, at) {
+        unranked.clear(p, q as u32);
+        ranks[place(unranked.size(), p, q as u32)] = Some(rank);
+        at = q + 1;
     }
 }
 
-/// Notes the answers to the transition by those transitions to `right` that have its letter.
-fn answer_to(
-    automaton: &Auto,
-    board: &mut Board,
-    t: u32,
-    right: u32,
-    rank: u32,
-    ranked: &mut Vec<Pair>,
-) -> Result<(), Memory>
-    requires number { t < length automaton.now.transitions }
-    requires state { right < automaton.now.states }
-    requires fit { IsFit automaton.now board.old rank ranked.old.items }
-    ensures { IfOk result (λ _. Notes automaton.now rank board.old board.new ranked.new.items (λ u q. (u ≡ t) × Moves automaton.now q (trans_at automaton.now t).label right)) }
+/// Writes into the row the right states of the unranked pairs of the left state.
+fn write_unranked(unranked: &Rel, p: u32, row: &mut [u64])
+    requires left { p < unranked.now.size }
+    requires len { length row.old ≡ (unranked.now.size + 63) / 64 }
+    ensures bits { (q : ℕ) → HasBit row.new q ↔ Holds unranked.now.pairs p q }
+    ensures valid { IsRelation unranked.now }
 {
-    let label = automaton.transitions()[t as usize].label;
-    let before = automaton.predecessors(right);
-    for i in 0..before.len() {
-        let other = automaton.transitions()[before[i] as usize];
-        if other.label == label {
-            answer(automaton, board, t, other.source, rank, ranked)?;
-        }
-    }
-    Ok(())
+    row.copy_from_slice(unranked.row(p));
 }
 
-/// Notes the answers that the pair gives, now that it has a rank.
-fn visit(
-    automaton: &Auto,
-    board: &mut Board,
-    pair: Pair,
-    rank: u32,
-    ranked: &mut Vec<Pair>,
-) -> Result<(), Memory>
-    requires left { pair.left < automaton.now.states }
-    requires right { pair.right < automaton.now.states }
-    requires fit { IsFit automaton.now board.old rank ranked.old.items }
-    ensures { IfOk result (λ _. Notes automaton.now rank board.old board.new ranked.new.items (IsAnswerBy automaton.now (pair ∷ []))) }
-{
-    let before = automaton.predecessors(pair.left);
-    for i in 0..before.len() {
-        answer_to(automaton, board, before[i], pair.right, rank, ranked)?;
-    }
-    Ok(())
-}
-
-/// Notes the answers that the pairs of one level give; `ranked` gets the pairs of the next one, of this rank.
-fn advance(
-    automaton: &Auto,
-    board: &mut Board,
-    level: &[Pair],
-    rank: u32,
-    ranked: &mut Vec<Pair>,
-) -> Result<(), Memory>
-    requires pairs { ArePairsIn automaton.now.states level.now }
-    requires fit { IsFit automaton.now board.old rank ranked.old.items }
-    ensures { IfOk result (λ _. Notes automaton.now rank board.old board.new ranked.new.items (IsAnswerBy automaton.now level.now)) }
-{
-    for i in 0..level.len() {
-        visit(automaton, board, level[i], rank, ranked)?;
-    }
-    Ok(())
-}
-
-/// The number of the moves of the state.
-fn moves_of(automaton: &Auto, p: u32) -> u32
-    requires { p < automaton.now.states }
-    ensures { IsMoveCount automaton.now p result }
+/// Takes from the row the states by which not each transition of the state is answered.
+fn keep_answered(automaton: &Auto, p: u32, answered: &[u64], width: usize, row: &mut [u64])
+    requires left { p < automaton.now.states }
+    requires width { width ≡ (automaton.now.states + 63) / 64 }
+    requires answered { length answered.now ≡ length automaton.now.transitions * width }
+    requires row { length row.old ≡ width }
+    ensures { (q : ℕ) → q < width * 64 → HasBit row.new q
+        ↔ (HasBit row.old q × ((t : ℕ) → t < length automaton.now.transitions → (trans_at automaton.now t).source ≡ p → HasCell answered.now width t q)) }
 {
     let span = automaton.outgoing(p);
-    span.end - span.begin
-}
-
-/// For each pair the number of the moves of the left state, by its place.
-fn counts_of(alloc: Global, automaton: &Auto) -> Result<Vec<u32>, Memory>
-    ensures len { IfOk result (λ v. length v.items ≡ automaton.now.states * automaton.now.states) }
-    ensures counts { IfOk result (λ v. (p q : ℕ) → p < automaton.now.states → q < automaton.now.states → IsMoveCount automaton.now p (slice_index v.items (p * automaton.now.states + q))) }
-{
-    let n = automaton.states();
-    let mut counts = vec![in alloc; 0; n as usize * n as usize]?;
-    for p in 0..n {
-        fill_row(automaton, &mut counts, p);
-    }
-    Ok(counts)
-}
-
-/// Writes the count of the left state at the places of its pairs.
-fn fill_row(automaton: &Auto, counts: &mut [u32], p: u32)
-    requires left { p < automaton.now.states }
-    requires len { length counts.old ≡ automaton.now.states * automaton.now.states }
-    ensures here { (q : ℕ) → q < automaton.now.states → IsMoveCount automaton.now p (slice_index counts.new (p * automaton.now.states + q)) }
-    ensures others { (r q : ℕ) → q < automaton.now.states → ¬ (r ≡ p) → slice_index counts.new (r * automaton.now.states + q) ≡ slice_index counts.old (r * automaton.now.states + q) }
-{
-    let moves = moves_of(automaton, p);
-    for q in 0..automaton.states() {
-        counts[place(automaton.states(), p, q)] = moves;
+    for t in span.begin..span.end {
+        and_row(row, width, 0, rows::row_at(answered, width, t as usize));
     }
 }
 
-/// The board before any pair is ranked.
-fn empty_board(alloc: Global, automaton: &Auto, rel: &Rel) -> Result<Board, Memory>
-    requires equal { rel.now.size ≡ automaton.now.states }
-    ensures { IfOk result (IsEmptyBoard automaton.now (Holds rel.now.pairs)) }
-{
-    let n = automaton.states();
-    let unranked = rel.copied(alloc)?;
-    let ranks = no_ranks(alloc, n)?;
-    let unanswered = counts_of(alloc, automaton)?;
-    let answered = vec![in alloc; 0; automaton.transitions().len() * rows::words_for(n)]?;
-    Ok(Board {
-        unranked,
-        ranks,
-        unanswered,
-        answered,
-    })
-}
-
-/// Ranks the pair at 0 if its right state is accepting, and else at 1 if its left state has no move.
-fn start_pair(
+/// Gives the rank to the pairs that are ready, and tells whether there are any. `fresh` is made to have them; `row` is room for one row.
+fn rank_ready(
     automaton: &Auto,
-    board: &mut Board,
-    p: u32,
-    q: u32,
-    zeros: &mut Vec<Pair>,
-    ones: &mut Vec<Pair>,
-) -> Result<(), Memory>
-    requires left { p < automaton.now.states }
-    requires right { q < automaton.now.states }
-    requires size { board.old.unranked.size ≡ automaton.now.states }
-    requires room { length board.old.ranks.items ≡ automaton.now.states * automaton.now.states }
-    ensures { IfOk result (λ _. Starts automaton.now (λ r s. (r ≡ p) × (s ≡ q)) board.old board.new zeros.old.items ones.old.items zeros.new.items ones.new.items) }
+    answered: &[u64],
+    rank: u32,
+    unranked: &mut Rel,
+    ranks: &mut [Option<u32>],
+    fresh: &mut [u64],
+    width: usize,
+    row: &mut [u64],
+) -> bool
+    requires width { width ≡ (automaton.now.states + 63) / 64 }
+    requires size { unranked.old.size ≡ automaton.now.states }
+    requires valid { IsRelation unranked.old }
+    requires len { length ranks.old ≡ automaton.now.states * automaton.now.states }
+    requires answered { length answered.now ≡ length automaton.now.transitions * width }
+    requires fresh { length fresh.old ≡ automaton.now.states * width }
+    requires row { length row.old ≡ width }
+    ensures gives { GivesRank automaton.now (IsReady automaton.now unranked.old answered.now) rank unranked.old ranks.old unranked.new ranks.new fresh.new }
+    ensures some { result ≡ true → length unranked.new.pairs < length unranked.old.pairs }
+    ensures none { result ≡ false → (p q : ℕ) → IsReady automaton.now unranked.old answered.now p q → ⊥ }
 {
-    if automaton.accepting(q) {
-        return rank_pair(board, p, q, 0, zeros);
-    }
-    if moves_of(automaton, p) == 0 {
-        return rank_pair(board, p, q, 1, ones);
-    }
-    Ok(())
-}
-
-/// Starts with the pairs of the left state.
-fn start_row(
-    automaton: &Auto,
-    board: &mut Board,
-    p: u32,
-    zeros: &mut Vec<Pair>,
-    ones: &mut Vec<Pair>,
-) -> Result<(), Memory>
-    requires left { p < automaton.now.states }
-    requires size { board.old.unranked.size ≡ automaton.now.states }
-    requires valid { IsRelation board.old.unranked }
-    requires room { length board.old.ranks.items ≡ automaton.now.states * automaton.now.states }
-    ensures { IfOk result (λ _. Starts automaton.now (λ r s. (r ≡ p) × (s < automaton.now.states)) board.old board.new zeros.old.items ones.old.items zeros.new.items ones.new.items) }
-{
-    for q in 0..automaton.states() {
-        start_pair(automaton, board, p, q, zeros, ones)?;
-    }
-    Ok(())
-}
-
-/// Ranks the pairs whose rank rests on no others: those of rank 0, and those of rank 1 whose left state has no move.
-fn start(
-    automaton: &Auto,
-    board: &mut Board,
-    zeros: &mut Vec<Pair>,
-    ones: &mut Vec<Pair>,
-) -> Result<(), Memory>
-    requires size { board.old.unranked.size ≡ automaton.now.states }
-    requires valid { IsRelation board.old.unranked }
-    requires room { length board.old.ranks.items ≡ automaton.now.states * automaton.now.states }
-    ensures { IfOk result (λ _. Starts automaton.now (λ r s. (r < automaton.now.states) × (s < automaton.now.states)) board.old board.new zeros.old.items ones.old.items zeros.new.items ones.new.items) }
-{
+    let mut any = false;
     for p in 0..automaton.states() {
-        start_row(automaton, board, p, zeros, ones)?;
+        write_unranked(unranked, p, row);
+        keep_answered(automaton, p, answered, width, row);
+        write_row(fresh, width, p as usize, row);
+        give_ranks(unranked, ranks, p, row, rank);
+        match next_bit(row, 0) {
+            Some(_first) => any = true,
+            None => {}
+        }
     }
-    Ok(())
+    any
 }
 
-/// Ranks level after level, until a level has no pair.
+/// Writes into the row the accepting states.
+fn write_accepting(automaton: &Auto, row: &mut [u64])
+    requires len { length row.old ≡ (automaton.now.states + 63) / 64 }
+    ensures bits { (q : ℕ) → HasBit row.new q ↔ IsAccepting automaton.now q }
+    ensures valid { IsAutomaton automaton.now }
+{
+    rows::clear_row(row);
+    for q in 0..automaton.states() {
+        if automaton.accepting(q) {
+            rows::set_bit(row, q as usize);
+        }
+    }
+}
+
+/// Gives rank 0 to the unranked pairs whose right state is accepting. `fresh` is made to have them; `row` and `ends` are room for one row.
+fn rank_accepting(
+    automaton: &Auto,
+    unranked: &mut Rel,
+    ranks: &mut [Option<u32>],
+    fresh: &mut [u64],
+    width: usize,
+    row: &mut [u64],
+    ends: &mut [u64],
+)
+    requires width { width ≡ (automaton.now.states + 63) / 64 }
+    requires size { unranked.old.size ≡ automaton.now.states }
+    requires valid { IsRelation unranked.old }
+    requires len { length ranks.old ≡ automaton.now.states * automaton.now.states }
+    requires fresh { length fresh.old ≡ automaton.now.states * width }
+    requires row { length row.old ≡ width }
+    requires ends { length ends.old ≡ width }
+    ensures { GivesRank automaton.now (λ p q. Holds unranked.old.pairs p q × IsAccepting automaton.now q) 0 unranked.old ranks.old unranked.new ranks.new fresh.new }
+{
+    write_accepting(automaton, ends);
+    for p in 0..automaton.states() {
+        write_unranked(unranked, p, row);
+        and_row(row, width, 0, ends);
+        write_row(fresh, width, p as usize, row);
+        give_ranks(unranked, ranks, p, row, 0);
+    }
+}
+
+/// Notes the answers to the transitions into the state by the states of its row. `made` is room for a row for each letter, `row` for one
+/// row.
+fn note_answers(
+    automaton: &Auto,
+    to: u32,
+    ends: &[u64],
+    answered: &mut [u64],
+    width: usize,
+    made: &mut [u64],
+    row: &mut [u64],
+)
+    requires state { to < automaton.now.states }
+    requires valid { IsAutomaton automaton.now }
+    requires width { width ≡ (automaton.now.states + 63) / 64 }
+    requires ends { (q : ℕ) → HasBit ends.now q → q < automaton.now.states }
+    requires ends_len { length ends.now ≡ width }
+    requires answered { length answered.old ≡ length automaton.now.transitions * width }
+    requires made { length made.old ≡ automaton.now.labels * width }
+    requires row { length row.old ≡ width }
+    ensures { (t q : ℕ) → t < length automaton.now.transitions → q < width * 64 → HasCell answered.new width t q
+        ↔ (HasCell answered.old width t q ⊎ (((trans_at automaton.now t).target ≡ to) × LeadsTo automaton.now (trans_at automaton.now t).label ends.now q)) }
+{
+    write_before(automaton, to, ends, made, width, row);
+    let before = automaton.predecessors(to);
+    for i in 0..before.len() {
+        let number = before[i] as usize;
+        let label = automaton.transitions()[number].label as usize;
+        rows::or_row(answered, width, number, rows::row_at(made, width, label));
+    }
+}
+
+/// Notes the answers by the pairs that stand in the rows of `fresh`. `made` is room for a row for each letter, `row` for one row.
+fn note_fresh(
+    automaton: &Auto,
+    fresh: &[u64],
+    answered: &mut [u64],
+    width: usize,
+    made: &mut [u64],
+    row: &mut [u64],
+)
+    requires valid { IsAutomaton automaton.now }
+    requires width { width ≡ (automaton.now.states + 63) / 64 }
+    requires fresh { length fresh.now ≡ automaton.now.states * width }
+    requires columns { (p q : ℕ) → p < automaton.now.states → q < width * 64 → HasCell fresh.now width p q → q < automaton.now.states }
+    requires answered { length answered.old ≡ length automaton.now.transitions * width }
+    requires made { length made.old ≡ automaton.now.labels * width }
+    requires row { length row.old ≡ width }
+    ensures { (t q : ℕ) → t < length automaton.now.transitions → q < width * 64 → HasCell answered.new width t q
+        ↔ (HasCell answered.old width t q ⊎ HasFreshAnswer automaton.now fresh.now t q) }
+{
+    for to in 0..automaton.states() {
+        let ends = rows::row_at(fresh, width, to as usize);
+        match next_bit(ends, 0) {
+            Some(_first) => note_answers(automaton, to, ends, answered, width, made, row),
+            None => {}
+        }
+    }
+}
+
+/// Ranks level after level, until a level has no pair. `made` is room for a row for each letter, `row` for one row.
 fn climb(
+    automaton: &Auto,
+    within: &Rel,
+    unranked: &mut Rel,
+    ranks: &mut [Option<u32>],
+    answered: &mut [u64],
+    fresh: &mut [u64],
+    width: usize,
+    made: &mut [u64],
+    row: &mut [u64],
+)
+    requires few { automaton.now.states ≤ 65535 }
+    requires sound { IsAutomaton automaton.now }
+    requires width { width ≡ (automaton.now.states + 63) / 64 }
+    requires answered { length answered.old ≡ length automaton.now.transitions * width }
+    requires fresh { length fresh.old ≡ automaton.now.states * width }
+    requires made { length made.old ≡ automaton.now.labels * width }
+    requires row { length row.old ≡ width }
+    requires climbed { IsClimbed automaton.now (Holds within.now.pairs) 0 unranked.old ranks.old answered.old fresh.old }
+    ensures { AreLeastRanks automaton.now (Holds within.now.pairs) ranks.new }
+{
+    let mut rank = 0;
+    let mut any = true;
+    'levels: while any {
+        note_fresh(automaton, fresh, answered, width, made, row);
+        rank += 1;
+        any = rank_ready(
+            automaton, answered, rank, unranked, ranks, fresh, width, row,
+        );
+    }
+}
+
+/// Writes the least ranks into the table, which has none yet. `unranked` is a copy of the relation, `answered` is room for a row for each
+/// transition, `fresh` for one for each state, `made` for one for each letter, and `row` and `ends` are room for one row.
+fn rank_within(
+    automaton: &Auto,
+    rel: &Rel,
+    unranked: &mut Rel,
+    ranks: &mut [Option<u32>],
+    answered: &mut [u64],
+    fresh: &mut [u64],
+    width: usize,
+    made: &mut [u64],
+    row: &mut [u64],
+    ends: &mut [u64],
+)
+    requires few { automaton.now.states ≤ 65535 }
+    requires sound { IsAutomaton automaton.now }
+    requires width { width ≡ (automaton.now.states + 63) / 64 }
+    requires equal { rel.now.size ≡ automaton.now.states }
+    requires valid { IsRelation rel.now }
+    requires copied { unranked.old ≡ rel.now }
+    requires len { length ranks.old ≡ automaton.now.states * automaton.now.states }
+    requires clear { (i : ℕ) → slice_index_or ranks.old i None ≡ None }
+    requires answered { length answered.old ≡ length automaton.now.transitions * width }
+    requires fresh { length fresh.old ≡ automaton.now.states * width }
+    requires made { length made.old ≡ automaton.now.labels * width }
+    requires row { length row.old ≡ width }
+    requires ends { length ends.old ≡ width }
+    ensures { AreLeastRanks automaton.now (Holds rel.now.pairs) ranks.new }
+{
+    rows::clear_row(answered);
+    rank_accepting(automaton, unranked, ranks, fresh, width, row, ends);
+    climb(
+        automaton, rel, unranked, ranks, answered, fresh, width, made, row,
+    );
+}
+
+/// Makes the table one without ranks.
+fn clear_ranks(ranks: &mut [Option<u32>])
+    ensures { (i : ℕ) → slice_index_or ranks.new i None ≡ None }
+{
+    for i in 0..ranks.len() {
+        ranks[i] = None;
+    }
+}
+
+/// Writes into the table the least rank of each pair of the relation that can have one, and no other rank.
+pub fn least_ranks(
     alloc: Global,
     automaton: &Auto,
-    board: &mut Board,
-    zeros: Vec<Pair>,
-    ones: Vec<Pair>,
-    within: &Rel,
+    rel: &Rel,
+    ranks: &mut [Option<u32>],
 ) -> Result<(), Memory>
     requires few { automaton.now.states ≤ 65535 }
     requires sound { IsAutomaton automaton.now }
-    requires valid { IsRelation board.old.unranked }
-    requires level { IsLevel automaton.now (Holds within.now.pairs) 0 board.old zeros.items }
-    requires fit { IsFit automaton.now board.old 1 ones.items }
-    ensures { IfOk result (λ _. AreLeastRanks automaton.now (Holds within.now.pairs) board.new.ranks.items) }
-{
-    let mut level = zeros;
-    let mut ranked = ones;
-    let mut rank = 1;
-    advance(automaton, board, &level, rank, &mut ranked)?;
-    'levels: while !ranked.is_empty() {
-        level = ranked;
-        ranked = Vec::new(alloc);
-        rank += 1;
-        advance(automaton, board, &level, rank, &mut ranked)?;
-    }
-    Ok(())
-}
-
-/// The least rank of each pair of the relation that can have one, by its place.
-pub fn least_ranks(alloc: Global, automaton: &Auto, rel: &Rel) -> Result<Vec<Option<u32>>, Memory>
-    requires few { automaton.now.states ≤ 65535 }
-    requires sound { IsAutomaton automaton.now }
     requires equal { rel.now.size ≡ automaton.now.states }
-    ensures { IfOk result (λ v. AreLeastRanks automaton.now (Holds rel.now.pairs) v.items) }
+    requires len { length ranks.old ≡ automaton.now.states * automaton.now.states }
+    ensures { IfOk result (λ _. AreLeastRanks automaton.now (Holds rel.now.pairs) ranks.new) }
 {
-    let mut board = empty_board(alloc, automaton, rel)?;
-    let mut zeros = Vec::new(alloc);
-    let mut ones = Vec::new(alloc);
-    start(automaton, &mut board, &mut zeros, &mut ones)?;
-    climb(alloc, automaton, &mut board, zeros, ones, rel)?;
-    Ok(board.ranks)
+    let n = automaton.states();
+    let width = rows::words_for(n);
+    clear_ranks(ranks);
+    let mut unranked = rel.copied(alloc)?;
+    let mut answered = vec![in alloc; 0; automaton.transitions().len() * width]?;
+    let mut fresh = vec![in alloc; 0; n as usize * width]?;
+    let mut made = vec![in alloc; 0; automaton.labels() as usize * width]?;
+    let mut row = vec![in alloc; 0; width]?;
+    let mut ends = vec![in alloc; 0; width]?;
+    rank_within(
+        automaton,
+        rel,
+        &mut unranked,
+        ranks,
+        &mut answered,
+        &mut fresh,
+        width,
+        &mut made,
+        &mut row,
+        &mut ends,
+    );
+    Ok(())
 }

@@ -1,15 +1,6 @@
-//! Pairs of states, and where they stand in a table.
+//! Where pairs of states stand in a table.
 
 ghost use Rattle.std.specs.Prelude.{◌≡◌, ◌+◌, ◌*◌, ◌<◌};
-
-/// A pair of states.
-#[derive(Clone, Copy, Debug)]
-pub struct Pair {
-    /// The left state.
-    pub left: u32,
-    /// The right state.
-    pub right: u32,
-}
 
 /// The place of the pair in a table of `n` rows and columns.
 pub fn place(n: u32, p: u32, q: u32) -> usize

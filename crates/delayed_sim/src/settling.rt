@@ -1,196 +1,157 @@
-//! Taking pairs away until each move of a left state is answered by a pair that is left.
+//! Taking pairs away until each move of a left state is answered by a pair that is left. A row is marked when it has lost pairs and the moves
+//! to its state are not tried again yet.
 
-ghost use Rattle.std.specs.Prelude.{◌≡◌, ◌<◌, ◌↔◌, ◌⊎◌, ℕ, length, [], ◌∷◌, ◌++◌, Contains, IsTrue, IfOk};
-ghost use Rattle.auto_core.specs.Automaton.{Moves};
+ghost use Rattle.std.specs.Prelude.{◌≡◌, ◌+◌, ◌*◌, ◌/◌, ◌^◌, ◌<◌, ◌↔◌, ℕ, length, true, false};
+ghost use Rattle.auto_core.specs.Automaton.{IsAutomaton};
 ghost use Rattle.auto_core.specs.Game.{Holds};
-ghost use Rattle.bit_rel.specs.Relation.{IsRelation, Removes};
-ghost use Rattle.delayed_sim.specs.Settling.{pair_of, IsAnsweredIn, HasAnswers, IsKept, ArePairsIn, Takes, Shrinks};
+ghost use Rattle.auto_core.specs.Rows.{bit_of, HasBit};
+ghost use Rattle.bit_rel.specs.Relation.{IsRelation};
+ghost use Rattle.delayed_sim.specs.Settling.{HasAnswers, IsAnsweredInto, IsAnsweredBesides, IsFiltered, Shrinks, Tries};
 
-use crate::pairs::Pair;
-use auto_core::{Auto, Memory, Trans};
+use crate::before::write_before;
+use auto_core::{Auto, rows};
 use bit_rel::Rel;
+use row_steps::next_bit;
 
-/// Tells whether the state answers the move with a pair of the relation.
-fn is_answered(automaton: &Auto, rel: &Rel, q: u32, step: Trans) -> bool
-    requires equal { rel.now.size ≡ automaton.now.states }
-    requires state { q < automaton.now.states }
-    requires target { step.target < automaton.now.states }
-    ensures { IsTrue result ↔ IsAnsweredIn automaton.now (Holds rel.now.pairs) q step.label step.target }
+/// Tells whether the row has the right state of each pair of the left state.
+fn has_all(rel: &Rel, p: u32, row: &[u64]) -> bool
+    requires left { p < rel.now.size }
+    requires few { rel.now.size < 2 ^ 32 }
+    requires len { length row.now ≡ (rel.now.size + 63) / 64 }
+    ensures { result ≡ true → (q : ℕ) → Holds rel.now.pairs p q → HasBit row.now q }
 {
-    let span = automaton.successors(q, step.label);
-    for u in span.begin..span.end {
-        if rel.get(step.target, automaton.transitions()[u as usize].target) {
-            return true;
-        }
+    match rows::first_missing(rel.row(p), row) {
+        None => true,
+        Some(_missing) => false,
     }
-    false
 }
 
-/// Tells whether the state answers each move of the left state.
-fn has_answers(automaton: &Auto, rel: &Rel, p: u32, q: u32) -> bool
-    requires equal { rel.now.size ≡ automaton.now.states }
-    requires left { p < automaton.now.states }
-    requires right { q < automaton.now.states }
-    ensures { IsTrue result ↔ HasAnswers automaton.now (Holds rel.now.pairs) p q }
-{
-    let span = automaton.outgoing(p);
-    for t in span.begin..span.end {
-        if !is_answered(automaton, rel, q, automaton.transitions()[t as usize]) {
-            return false;
-        }
-    }
-    true
-}
-
-/// Takes the pair away and notes it.
-pub fn take(rel: &mut Rel, gone: &mut Vec<Pair>, p: u32, q: u32) -> Result<(), Memory>
+/// Takes away the pairs of the left state whose right state the row has not, and tells whether there were any.
+fn keep_in_row(rel: &mut Rel, p: u32, row: &[u64]) -> bool
     requires left { p < rel.old.size }
-    requires right { q < rel.old.size }
-    ensures valid { IfOk result (λ _. IsRelation rel.new) }
-    ensures removes { IfOk result (λ _. Removes rel.old rel.new p q) }
-    ensures noted { IfOk result (λ _. gone.new.items ≡ gone.old.items ++ pair_of p q ∷ []) }
-{
-    gone.push(Pair { left: p, right: q })?;
-    rel.clear(p, q);
-    Ok(())
-}
-
-/// Takes the pair away if it is there and a move of its left state is not answered.
-fn try_pair(
-    automaton: &Auto,
-    rel: &mut Rel,
-    gone: &mut Vec<Pair>,
-    p: u32,
-    q: u32,
-) -> Result<(), Memory>
-    requires equal { rel.old.size ≡ automaton.now.states }
-    requires left { p < automaton.now.states }
-    requires right { q < automaton.now.states }
-    ensures takes { IfOk result (λ _. Takes automaton.now rel.old gone.old.items rel.new gone.new.items) }
-    ensures tried { IfOk result (λ _. Holds rel.new.pairs p q → HasAnswers automaton.now (IsKept rel.new gone.new.items) p q) }
-{
-    if !rel.get(p, q) {
-        return Ok(());
-    }
-    if has_answers(automaton, rel, p, q) {
-        return Ok(());
-    }
-    take(rel, gone, p, q)
-}
-
-/// Tries the pairs of the left state.
-fn try_row(automaton: &Auto, rel: &mut Rel, gone: &mut Vec<Pair>, p: u32) -> Result<(), Memory>
-    requires equal { rel.old.size ≡ automaton.now.states }
+    requires few { rel.old.size < 2 ^ 32 }
     requires valid { IsRelation rel.old }
-    requires left { p < automaton.now.states }
-    ensures takes { IfOk result (λ _. Takes automaton.now rel.old gone.old.items rel.new gone.new.items) }
-    ensures tried { IfOk result (λ _. (q : ℕ) → Holds rel.new.pairs p q → HasAnswers automaton.now (IsKept rel.new gone.new.items) p q) }
+    requires len { length row.now ≡ (rel.old.size + 63) / 64 }
+    ensures { IsFiltered rel.old rel.new p (λ q. HasBit row.now q) result }
 {
-    for q in 0..automaton.states() {
-        try_pair(automaton, rel, gone, p, q)?;
+    if has_all(rel, p, row) {
+        return false;
     }
-    Ok(())
-}
-
-/// Tries all pairs.
-pub fn try_all(automaton: &Auto, rel: &mut Rel, gone: &mut Vec<Pair>) -> Result<(), Memory>
-    requires equal { rel.old.size ≡ automaton.now.states }
-    requires valid { IsRelation rel.old }
-    ensures takes { IfOk result (λ _. Takes automaton.now rel.old gone.old.items rel.new gone.new.items) }
-    ensures tried { IfOk result (λ _. (p q : ℕ) → Holds rel.new.pairs p q → HasAnswers automaton.now (IsKept rel.new gone.new.items) p q) }
-{
-    for p in 0..automaton.states() {
-        try_row(automaton, rel, gone, p)?;
-    }
-    Ok(())
-}
-
-/// Takes the pair away if it is there and the right state does not answer this move of the left state.
-fn try_move(
-    automaton: &Auto,
-    rel: &mut Rel,
-    gone: &mut Vec<Pair>,
-    step: Trans,
-    q: u32,
-) -> Result<(), Memory>
-    requires equal { rel.old.size ≡ automaton.now.states }
-    requires state { q < automaton.now.states }
-    requires source { step.source < automaton.now.states }
-    requires target { step.target < automaton.now.states }
-    requires step { Moves automaton.now step.source step.label step.target }
-    ensures takes { IfOk result (λ _. Takes automaton.now rel.old gone.old.items rel.new gone.new.items) }
-    ensures tried { IfOk result (λ _. Holds rel.new.pairs step.source q → IsAnsweredIn automaton.now (IsKept rel.new gone.new.items) q step.label step.target) }
-{
-    if !rel.get(step.source, q) {
-        return Ok(());
-    }
-    if is_answered(automaton, rel, q, step) {
-        return Ok(());
-    }
-    take(rel, gone, step.source, q)
-}
-
-/// Tries the move against each state that a transition by its letter leads from to `right`.
-fn try_before(
-    automaton: &Auto,
-    rel: &mut Rel,
-    gone: &mut Vec<Pair>,
-    step: Trans,
-    right: u32,
-) -> Result<(), Memory>
-    requires equal { rel.old.size ≡ automaton.now.states }
-    requires valid { IsRelation rel.old }
-    requires state { right < automaton.now.states }
-    requires step { Moves automaton.now step.source step.label step.target }
-    ensures takes { IfOk result (λ _. Takes automaton.now rel.old gone.old.items rel.new gone.new.items) }
-    ensures tried { IfOk result (λ _. (q : ℕ) → Moves automaton.now q step.label right → Holds rel.new.pairs step.source q
-        → IsAnsweredIn automaton.now (IsKept rel.new gone.new.items) q step.label step.target) }
-{
-    let before = automaton.predecessors(right);
-    for i in 0..before.len() {
-        let other = automaton.transitions()[before[i] as usize];
-        if other.label == step.label {
-            try_move(automaton, rel, gone, step, other.source)?;
+    let mut changed = false;
+    let mut at = 0;
+    while let Some(q) = next_bit(rel.row(p), at) {
+        if !rows::has_bit(row, q) {
+            rel.clear(p, q as u32);
+            changed = true;
         }
+        at = q + 1;
     }
-    Ok(())
+    changed
 }
 
-/// Tries the pairs that may have lost an answer with the pair that is gone.
-fn try_after(
+/// Takes away the pairs from whose right state no move answers one to this state, marks the rows that lose pairs, and tells whether
+/// there were any. `ends` and `row` are room for one row, `made` for a row for each letter.
+fn try_into(
     automaton: &Auto,
     rel: &mut Rel,
-    gone: &mut Vec<Pair>,
-    pair: Pair,
-) -> Result<(), Memory>
+    to: u32,
+    marks: &mut [u64],
+    ends: &mut [u64],
+    made: &mut [u64],
+    width: usize,
+    row: &mut [u64],
+) -> bool
+    requires sound { IsAutomaton automaton.now }
+    requires state { to < automaton.now.states }
     requires equal { rel.old.size ≡ automaton.now.states }
     requires valid { IsRelation rel.old }
-    requires left { pair.left < automaton.now.states }
-    requires right { pair.right < automaton.now.states }
-    ensures takes { IfOk result (λ _. Takes automaton.now rel.old gone.old.items rel.new gone.new.items) }
-    ensures tried { IfOk result (λ _. (p a q : ℕ) → Moves automaton.now p a pair.left → Moves automaton.now q a pair.right → Holds rel.new.pairs p q
-        → IsAnsweredIn automaton.now (IsKept rel.new gone.new.items) q a pair.left) }
+    requires width { width ≡ (automaton.now.states + 63) / 64 }
+    requires marks_len { length marks.old ≡ (automaton.now.states + 63) / 64 }
+    requires ends_len { length ends.old ≡ width }
+    requires made_len { length made.old ≡ automaton.now.labels * width }
+    requires row_len { length row.old ≡ width }
+    requires others { (x : ℕ) → x < automaton.now.states → ¬ (x ≡ to) → bit_of marks.old x ≡ false → IsAnsweredInto automaton.now (Holds rel.old.pairs) x }
+    ensures tries { Tries automaton.now rel.old rel.new marks.old marks.new result }
+    ensures answered { IsAnsweredBesides automaton.now (Holds rel.new.pairs) marks.new }
 {
-    let before = automaton.predecessors(pair.left);
+    let mut any = false;
+    ends.copy_from_slice(rel.row(to));
+    write_before(automaton, to, ends, made, width, row);
+    let before = automaton.predecessors(to);
     for i in 0..before.len() {
         let step = automaton.transitions()[before[i] as usize];
-        try_before(automaton, rel, gone, step, pair.right)?;
+        if keep_in_row(
+            rel,
+            step.source,
+            rows::row_at(made, width, step.label as usize),
+        ) {
+            rows::set_bit(marks, step.source as usize);
+            any = true;
+        }
     }
-    Ok(())
+    any
 }
 
-/// Takes pairs away until each move of a left state is answered.
-pub fn settle(automaton: &Auto, rel: &mut Rel, gone: &mut Vec<Pair>) -> Result<(), Memory>
+/// Tries the moves to each marked state, each once, and tells whether pairs were taken away. `ends` and `row` are room for one row, `made`
+/// for a row for each letter.
+fn pass(
+    automaton: &Auto,
+    rel: &mut Rel,
+    marks: &mut [u64],
+    ends: &mut [u64],
+    made: &mut [u64],
+    width: usize,
+    row: &mut [u64],
+) -> bool
+    requires sound { IsAutomaton automaton.now }
     requires equal { rel.old.size ≡ automaton.now.states }
     requires valid { IsRelation rel.old }
-    requires gone { ArePairsIn automaton.now.states gone.old.items }
-    requires noted { (p q : ℕ) → Holds rel.old.pairs p q → HasAnswers automaton.now (IsKept rel.old gone.old.items) p q }
-    ensures takes { IfOk result (λ _. Shrinks automaton.now rel.old rel.new) }
-    ensures none { IfOk result (λ _. gone.new.items ≡ []) }
-    ensures answered { IfOk result (λ _. (p q : ℕ) → Holds rel.new.pairs p q → HasAnswers automaton.now (Holds rel.new.pairs) p q) }
+    requires marks_len { length marks.old ≡ (automaton.now.states + 63) / 64 }
+    requires width { width ≡ (automaton.now.states + 63) / 64 }
+    requires ends_len { length ends.old ≡ width }
+    requires made_len { length made.old ≡ automaton.now.labels * width }
+    requires row_len { length row.old ≡ width }
+    requires besides { IsAnsweredBesides automaton.now (Holds rel.old.pairs) marks.old }
+    ensures shrinks { Shrinks automaton.now rel.old rel.new }
+    ensures some { result ≡ true → length rel.new.pairs < length rel.old.pairs }
+    ensures none { result ≡ false → (x : ℕ) → x < automaton.now.states → bit_of marks.new x ≡ false }
+    ensures besides { IsAnsweredBesides automaton.now (Holds rel.new.pairs) marks.new }
 {
-    'pairs: while let Some(pair) = gone.pop() {
-        try_after(automaton, rel, gone, pair)?;
+    let mut any = false;
+    for to in 0..automaton.states() {
+        if rows::has_bit(marks, to as usize) {
+            rows::clear_bit(marks, to as usize);
+            if try_into(automaton, rel, to, marks, ends, made, width, row) {
+                any = true;
+            }
+        }
     }
-    Ok(())
+    any
+}
+
+/// Takes pairs away until each move of a left state is answered, where only moves to marked states need be tried. No mark is left; `ends`
+/// and `row` are room for one row, `made` for a row for each letter.
+pub fn settle(
+    automaton: &Auto,
+    rel: &mut Rel,
+    marks: &mut [u64],
+    ends: &mut [u64],
+    made: &mut [u64],
+    width: usize,
+    row: &mut [u64],
+)
+    requires sound { IsAutomaton automaton.now }
+    requires equal { rel.old.size ≡ automaton.now.states }
+    requires valid { IsRelation rel.old }
+    requires marks_len { length marks.old ≡ (automaton.now.states + 63) / 64 }
+    requires width { width ≡ (automaton.now.states + 63) / 64 }
+    requires ends_len { length ends.old ≡ width }
+    requires made_len { length made.old ≡ automaton.now.labels * width }
+    requires row_len { length row.old ≡ width }
+    requires besides { IsAnsweredBesides automaton.now (Holds rel.old.pairs) marks.old }
+    ensures shrinks { Shrinks automaton.now rel.old rel.new }
+    ensures unmarked { (x : ℕ) → x < automaton.now.states → bit_of marks.new x ≡ false }
+    ensures answered { (p q : ℕ) → Holds rel.new.pairs p q → HasAnswers automaton.now (Holds rel.new.pairs) p q }
+{
+    'passes: while pass(automaton, rel, marks, ends, made, width, row) {}
 }

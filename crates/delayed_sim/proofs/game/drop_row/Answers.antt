@@ -1,29 +1,73 @@
-use Rattle.std.proofs.Common.{ℕ, ◌≡◌, inl, inr, Some, sym, subst, arith}
-use Rattle.std.proofs.lemmas.Bool.{cases_eq}
-use Rattle.auto_core.specs.Game.{Holds}
-use Rattle.delayed_sim.specs.Stored.{rank_at}
-use Rattle.delayed_sim.proofs.TakingLemmas.{drops_then}
+use Rattle.std.proofs.Common.{rules, ◌≡◌, ◌+◌, ◌*◌, ℕ, Bool, true, false, Option, None, Some, get_or, refl, sym, ap, ◌∙◌, subst, arith}
+use Rattle.std.specs.Option.{is_some}
+use Rattle.std.proofs.lemmas.Bool.{false≢true}
+use Rattle.bit_rel.specs.Relation.{Relation}
+use Rattle.delayed_sim.specs.Settling.{HasSomeRank}
+use Rattle.delayed_sim.proofs.SettleLemmas.{HasTried, pair_below, tried_none, tried_passed, tried_taken, tried_all}
 use Rattle.delayed_sim.proofs.game.drop_row.Goals as goal
+use Rattle.delayed_sim.proofs.game.drop_row.Goals.{then-is_none, else-is_none}
+
+some_from_not : (o : Option ℕ) → is_some o ≡ true → (r : ℕ) × (o ≡ Some r)
+some_from_not (Some r) is = (r, refl)
+some_from_not None is = absurd (false≢true is)
+
+none_from_is : (o : Option ℕ) (r : ℕ) → is_some o ≡ false → o ≡ Some r → ⊥
+none_from_is o r is e = false≢true (sym is ∙ ap (λ x. is_some x) e)
+
+pub loop-q-init : goal.loop-q-init
+loop-q-init c = (tried_none c.args.rel.now c.args.p (λ q. HasSomeRank c.args.ranks.now c.args.rel.now.size c.args.p q) c.requires.valid, omega arith)
+
+pub overflow_cast-q : goal.overflow_cast-q
+overflow_cast-q c =
+    let h = c.loop-q.invariant.0 in
+    let below = pair_below c.loop-q.rel c.row.result.now c.args.rel.now.size c.args.p c.in-Some.q h.size h.valid c.in-Some.ensures.found.here (c.row.ensures.bits c.in-Some.q) in
+    search rules
+
+pub place-requires-clause-column : goal.place-requires-clause-column
+place-requires-clause-column c =
+    let h = c.loop-q.invariant.0 in
+    let below = pair_below c.loop-q.rel c.row.result.now c.loop-q.rel.size c.args.p c.in-Some.q refl h.valid c.in-Some.ensures.found.here (c.row.ensures.bits c.in-Some.q) in
+    omega (arith, c.size.ensures.count)
+
+pub clear-requires-clause-right : goal.clear-requires-clause-right
+clear-requires-clause-right c =
+    let h = c.loop-q.invariant.0 in
+    pair_below c.loop-q.rel c.row.result.now c.loop-q.rel.size c.args.p c.in-Some.q refl h.valid c.in-Some.ensures.found.here (c.row.ensures.bits c.in-Some.q)
+
+pub loop-q-smaller : goal.loop-q-smaller
+loop-q-smaller c =
+    let h = c.loop-q.invariant.0 in
+    let below = pair_below c.loop-q.rel c.row.result.now c.args.rel.now.size c.args.p c.in-Some.q h.size h.valid c.in-Some.ensures.found.here (c.row.ensures.bits c.in-Some.q) in
+    let behind = c.in-Some.ensures.found.behind in
+    omega arith
 
 pub loop-q-preserved : goal.loop-q-preserved
 loop-q-preserved c =
-    let A = c.args.automaton.now in
     let ranks = c.args.ranks.now in
-    let first = c.loop-q.invariant.0 in
-    let second = c.in_ok-drop_pair.ensures.drops in (
-      drops_then A ranks c.args.rel.now c.loop-q.rel c.drop_pair.new.rel c.args.gone.now.items c.loop-q.gone.items c.drop_pair.new.gone.items first second,
-      λ q lt held. elim (cases_eq q c.loop-q.q) [
-        | inl e ↦
-            let P : ℕ → Type 0 = λ y. Holds c.drop_pair.new.rel.pairs c.args.p y → (r : ℕ) × (rank_at ranks c.args.rel.now.size c.args.p y ≡ Some r) in
-            let Q : ℕ → Type 0 = λ n. Holds c.drop_pair.new.rel.pairs c.args.p c.loop-q.q → (r : ℕ) × (rank_at ranks n c.args.p c.loop-q.q ≡ Some r) in
-            subst P (sym e) (subst Q first.size c.in_ok-drop_pair.ensures.ranked) held
-        | inr apart ↦ c.loop-q.invariant.1 q (omega arith) (second.within c.args.p q held)
+    let old = c.args.rel.now in
+    let p = c.args.p in
+    let P : ℕ → Type 0 = λ q. HasSomeRank ranks old.size p q in
+    let q = c.in-Some.q in
+    let now = c.loop-q.rel in
+    let h = c.loop-q.invariant.0 in
+    let next = c.in-Some.ensures.found in
+    let below = pair_below now c.row.result.now old.size p q h.size h.valid next.here (c.row.ensures.bits q) in
+    let at : c.place.result ≡ p * old.size + q = c.place.ensures.place ∙ ap (λ m. p * m + q) (c.size.ensures.count ∙ h.size) in
+    let T : Relation → Bool → Type 0 = λ R changed. HasTried old R p P changed (q + 1) in (
+      elim c.if-is_none.branch [
+        | then-is_none w ↦
+            let is : is_some (get_or ranks (p * old.size + q) None) ≡ false = subst (λ i. is_some (get_or ranks i None) ≡ false) at w.if-is_none.ensures in
+            subst (λ R. T R c.if-is_none.changed) (sym w.rel-is)
+            (subst (λ b. T w.clear.new.self b) (sym w.changed-is)
+            (tried_taken old p P now w.clear.new.self c.loop-q.changed c.row.result.now c.loop-q.at q h c.row.ensures.bits next (λ has. none_from_is (get_or ranks (p * old.size + q) None) has.0 is has.1) w.clear.ensures.pairs w.clear.ensures.valid))
+        | else-is_none w ↦
+            let is : is_some (get_or ranks (p * old.size + q) None) ≡ true = subst (λ i. is_some (get_or ranks i None) ≡ true) at w.if-is_none.ensures in
+            subst (λ R. T R c.if-is_none.changed) (sym w.rel-is)
+            (subst (λ b. T now b) (sym w.changed-is)
+            (tried_passed old p P now c.loop-q.changed c.row.result.now c.loop-q.at q h c.row.ensures.bits next (some_from_not (get_or ranks (p * old.size + q) None) is)))
       ],
+      omega arith,
     )
 
-pub returns-clause-ranked : goal.returns-clause-ranked
-returns-clause-ranked c = λ q held.
-    let h = c.loop-q.invariant.0 in
-    let range = h.valid.in_range c.args.p q held in
-    let lt = range.1 in
-    c.loop-q.invariant.1 q (omega (arith, lt, h.size, c.loop-q-test.false, c.size-q-end.ensures.count)) held
+pub returns : goal.returns
+returns c = tried_all c.args.rel.now c.args.p (λ q. HasSomeRank c.args.ranks.now c.args.rel.now.size c.args.p q) c.loop-q.rel c.loop-q.changed c.row.result.now c.loop-q.at c.loop-q.invariant.0 c.row.ensures.bits c.in_default.ensures.none

@@ -1,86 +1,57 @@
-use Rattle.std.proofs.Common.{rules, ℕ, suc, ◌+◌, ◌*◌, ◌≡◌, List, [], length, vec_len, sym, ap, ◌∙◌, subst, arith}
-use Rattle.std.proofs.lemmas.Bool.{false≢true, eqb-true, eq-eqb}
+use Rattle.std.specs.Prelude.{if◌then◌else◌}
+use Rattle.std.proofs.Common.{◌≡◌, ℕ, suc, ◌+◌, ◌*◌, ◌<◌, ◌≤◌, ◌⊎◌, ◌↔◌, Bool, true, false, length, refl, ap, sym, subst, arith}
+use Rattle.std.proofs.lemmas.Bool.{false≢true}
+use Rattle.auto_core.specs.Rows.{HasCell}
 use Rattle.auto_core.specs.Game.{Holds}
-use Rattle.delayed_sim.specs.Boards.{IsFit, IsLevel, Notes, IsAnswerBy}
-use Rattle.delayed_sim.specs.declared.pairs.Pair.{Pair}
-use Rattle.delayed_sim.proofs.LevelLemmas.{level_next, fit_next, all_ranked, fewer_unranked, no_more_unranked, level_in, nothing}
-use Rattle.bit_rel.proofs.LengthLemmas.{pairs_few}
-use Rattle.delayed_sim.proofs.GreatestLemmas.{measure_falls}
+use Rattle.bit_rel.proofs.LengthLemmas.{pairs_few, no_more}
+use Rattle.delayed_sim.specs.Boards.{row_words, HasFreshAnswer, IsReady, GivesRank, IsClimbed}
+use Rattle.delayed_sim.proofs.ClimbLemmas.{climb_next, climb_ends}
 use Rattle.delayed_sim.proofs.levels.climb.Goals as goal
-
-pub advance-requires-clause-pairs : goal.advance-requires-clause-pairs
-advance-requires-clause-pairs c = level_in c.args.automaton.now (Holds c.args.within.now.pairs) 0 c.args.board.now c.args.zeros.items c.deref.result.now c.deref.ensures.value c.requires.level
 
 pub levels-init : goal.levels-init
 levels-init c =
+    let few = pairs_few c.args.unranked.now c.requires.climbed.valid in
+    let square : c.args.unranked.now.size * c.args.unranked.now.size ≡ c.args.automaton.now.states * c.args.automaton.now.states = ap (λ n. n * n) c.requires.climbed.size in
+    (c.requires.climbed, λ any. omega arith, λ none. absurd (false≢true (sym none)))
+
+pub note_fresh-requires-clause-columns : goal.note_fresh-requires-clause-columns
+note_fresh-requires-clause-columns c =
     let A = c.args.automaton.now in
-    let R = Holds c.args.within.now.pairs in
-    let b = c.args.board.now in
-    let b' = c.advance.new.board in
-    let notes : Notes A 1 b b' c.advance.new.ranked.items (IsAnswerBy A c.args.zeros.items) = subst (λ xs. Notes A 1 b b' c.advance.new.ranked.items (IsAnswerBy A xs)) c.deref.ensures.value c.in_ok-advance.ensures in
-    let valid = c.requires.sound in (
-      level_next A valid R 0 b c.args.zeros.items c.requires.level b' c.advance.new.ranked.items notes,
-      fit_next A valid R 0 b c.args.zeros.items c.requires.level b' c.advance.new.ranked.items notes,
-      λ some.
-          let few = pairs_few b.unranked c.requires.valid in
-          let size = c.requires.fit.counted.size in
-          let less = no_more_unranked A 1 b b' c.advance.new.ranked.items c.args.ones.items (IsAnswerBy A c.args.zeros.items) c.requires.fit notes in
-          let square : b.unranked.size * b.unranked.size ≡ A.states * A.states = ap (λ n. n * n) size in
-          omega arith,
-    )
+    subst (λ v. (p q : ℕ) → p < A.states → q < v * 64 → HasCell c.levels.fresh v p q → q < A.states) (sym c.requires.width) c.levels.invariant.0.columns
 
-pub advance-requires-in-levels-clause-pairs : goal.advance-requires-in-levels-clause-pairs
-advance-requires-in-levels-clause-pairs c = level_in c.args.automaton.now (Holds c.args.within.now.pairs) c.levels.rank c.levels.board c.levels.ranked.items c.deref-in-levels.result.now c.deref-in-levels.ensures.value c.levels.invariant.0
-
-pub levels-smaller : goal.levels-smaller
-levels-smaller c =
-    let A = c.args.automaton.now in
-    let b = c.levels.board in
-    let b' = c.advance-in-levels.new.board in
-    let ranked' = c.advance-in-levels.new.ranked.items in
-    let r = suc c.levels.rank in
-    let len : vec_len c.levels.ranked ≡ length c.levels.ranked.items = search rules in
-    let some : ¬ (length c.levels.ranked.items ≡ 0) = λ none. false≢true (c.levels-test.ensures ∙ eq-eqb (vec_len c.levels.ranked) 0 (len ∙ none)) in
-    let fit = c.levels.invariant.1 in
-    let one : c.levels.rank + 1 ≡ r = omega arith in
-    let notes : Notes A r b b' ranked' (IsAnswerBy A c.deref-in-levels.result.now) = subst (λ n. Notes A n b b' ranked' (IsAnswerBy A c.deref-in-levels.result.now)) one c.in_ok-advance-2.ensures in
-    measure_falls (length b'.unranked.pairs) (length b.unranked.pairs) (length c.levels.ranked.items) (length ranked') some
-    (no_more_unranked A r b b' ranked' [] (IsAnswerBy A c.deref-in-levels.result.now) fit notes)
-    (λ more. fewer_unranked A r b b' ranked' (IsAnswerBy A c.deref-in-levels.result.now) fit notes more)
-
-pub advance-requires-in-levels-clause-fit : goal.advance-requires-in-levels-clause-fit
-advance-requires-in-levels-clause-fit c =
-    let one : suc c.levels.rank ≡ c.levels.rank + 1 = omega arith in
-    let P : ℕ → List Pair → Type 0 = λ n xs. IsFit c.args.automaton.now c.levels.board n xs in
-    subst (λ n. P n c.new-ranked.result.items) one (subst (λ xs. P (suc c.levels.rank) xs) (sym c.new-ranked.ensures.items) c.levels.invariant.1)
+sign_falls : (b : Bool) (m n : ℕ) → m ≤ n → (b ≡ true → m < n) → m + (if b then 1 else 0) < n + 1
+sign_falls true m n le less = let lt = less refl in omega arith
+sign_falls false m n le less = omega arith
 
 pub levels-preserved : goal.levels-preserved
 levels-preserved c =
     let A = c.args.automaton.now in
     let R = Holds c.args.within.now.pairs in
-    let b = c.levels.board in
-    let b' = c.advance-in-levels.new.board in
-    let ranked = c.levels.ranked.items in
-    let ranked' = c.advance-in-levels.new.ranked.items in
-    let r : ℕ = suc c.levels.rank in
-    let one : c.levels.rank + 1 ≡ r = omega arith in
-    let len : vec_len c.levels.ranked ≡ length ranked = search rules in
-    let some : ¬ (length ranked ≡ 0) = λ none. false≢true (c.levels-test.ensures ∙ eq-eqb (vec_len c.levels.ranked) 0 (len ∙ none)) in
-    let at = c.levels.invariant.0 in
-    let fit = c.levels.invariant.1 in
-    let bound = c.levels.invariant.2 some in
-    let with_slice : Notes A r b b' ranked' (IsAnswerBy A c.deref-in-levels.result.now) = subst (λ n. Notes A n b b' ranked' (IsAnswerBy A c.deref-in-levels.result.now)) one c.in_ok-advance-2.ensures in
-    let notes : Notes A r b b' ranked' (IsAnswerBy A ranked) = subst (λ xs. Notes A r b b' ranked' (IsAnswerBy A xs)) c.deref-in-levels.ensures.value with_slice in (
-      subst (λ n. IsLevel A R n b' ranked') (sym one) (level_next A c.requires.sound R c.levels.rank b ranked at b' ranked' notes),
-      subst (λ n. IsFit A b' (suc n) []) (sym one) (fit_next A c.requires.sound R c.levels.rank b ranked at b' ranked' notes),
-      λ more. let fell = fewer_unranked A r b b' ranked' (IsAnswerBy A ranked) fit notes more in omega arith,
+    let w = c.args.width in
+    let r : ℕ = c.levels.rank in
+    let one : suc r ≡ r + 1 = omega arith in
+    let h = c.levels.invariant in
+    let room = h.1 c.levels-test.true in
+    let answered = c.levels.answered in
+    let answered' = c.note_fresh.new.answered in
+    let notes_w = c.note_fresh.ensures in
+    let width = c.requires.width in
+    let notes : (t q : ℕ) → t < length A.transitions → q < A.states → HasCell answered' (row_words A) t q ↔ (HasCell answered (row_words A) t q ⊎ HasFreshAnswer A c.levels.fresh t q) =
+    λ t q t_in q_in. subst (λ v. HasCell answered' v t q ↔ (HasCell answered v t q ⊎ HasFreshAnswer A c.levels.fresh t q)) c.requires.width (notes_w t q t_in (omega arith)) in
+    let gives : GivesRank A (IsReady A c.levels.unranked answered') (suc r) c.levels.unranked c.levels.ranks c.rank_ready-any.new.unranked c.rank_ready-any.new.ranks c.rank_ready-any.new.fresh =
+    subst (λ n. GivesRank A (IsReady A c.levels.unranked answered') n c.levels.unranked c.levels.ranks c.rank_ready-any.new.unranked c.rank_ready-any.new.ranks c.rank_ready-any.new.fresh) (sym one) c.rank_ready-any.ensures.gives in
+    let next : IsClimbed A R (suc r) c.rank_ready-any.new.unranked c.rank_ready-any.new.ranks answered' c.rank_ready-any.new.fresh =
+    climb_next A c.requires.sound R r c.levels.unranked c.levels.ranks answered c.levels.fresh h.0 answered' notes c.rank_ready-any.new.unranked c.rank_ready-any.new.ranks c.rank_ready-any.new.fresh gives in (
+      subst (λ n. IsClimbed A R n c.rank_ready-any.new.unranked c.rank_ready-any.new.ranks answered' c.rank_ready-any.new.fresh) one next,
+      λ any. let fell = c.rank_ready-any.ensures.some any in omega arith,
+      λ none. climb_ends A c.requires.sound R r c.rank_ready-any.new.unranked c.rank_ready-any.new.ranks answered' c.rank_ready-any.new.fresh next
+          (λ p q p_in q_in is. c.rank_ready-any.ensures.none none p q ((gives.rows p q p_in q_in).0 ((next.rows p q p_in q_in).1 is))),
     )
 
-pub returns : goal.returns
-returns c =
-    let A = c.args.automaton.now in
-    let R = Holds c.args.within.now.pairs in
-    let ranked = c.levels.ranked.items in
-    let len : vec_len c.levels.ranked ≡ length ranked = search rules in
-    let none : ranked ≡ [] = nothing ranked (sym len ∙ eqb-true (vec_len c.levels.ranked) 0 (sym c.levels-test.ensures)) in
-    all_ranked A c.requires.sound R c.levels.rank c.levels.board (subst (λ xs. IsLevel A R c.levels.rank c.levels.board xs) none c.levels.invariant.0) c.levels.invariant.1
+pub levels-smaller : goal.levels-smaller
+levels-smaller c =
+    let gives = c.rank_ready-any.ensures.gives in
+    let less = no_more c.levels.unranked c.rank_ready-any.new.unranked c.levels.invariant.0.valid gives.valid (λ p q held. ((gives.pairs p q).0 held).0) in
+    let was = ap (λ b. length c.levels.unranked.pairs + (if b then 1 else 0)) c.levels-test.true in
+    let falls = sign_falls c.rank_ready-any.result (length c.rank_ready-any.new.unranked.pairs) (length c.levels.unranked.pairs) less c.rank_ready-any.ensures.some in
+    omega arith

@@ -1,14 +1,14 @@
 use Rattle.std.specs.Prelude.{if◌then◌else◌}
-use Rattle.std.proofs.Common.{suc, ◌≡◌, ◌≤◌, ◌+◌, ◌*◌, ◌==◌, [], length}
+use Rattle.std.proofs.Common.{◌≡◌, ◌+◌, ◌*◌, ◌≤◌, true, false, length}
 use Rattle.auto_core.specs.Game.{Holds}
-use Rattle.delayed_sim.specs.Boards.{IsFit, IsLevel}
+use Rattle.delayed_sim.specs.Boards.{IsClimbed, AreLeastRanks}
 use Rattle.delayed_sim.proofs.levels.climb.Given as goal
 
 abbrev pub invariant-levels : goal.invariant-levels
 invariant-levels l =
-    IsLevel l.automaton (Holds l.within.pairs) l.rank l.board l.ranked.items
-    × IsFit l.automaton l.board (suc l.rank) []
-    × (¬ (length l.ranked.items ≡ 0) → l.rank + length l.board.unranked.pairs ≤ l.automaton.states * l.automaton.states + 1)
+    IsClimbed l.automaton (Holds l.within.pairs) l.rank l.unranked l.ranks l.answered l.fresh
+    × (l.any ≡ true → l.rank + length l.unranked.pairs ≤ l.automaton.states * l.automaton.states)
+    × (l.any ≡ false → AreLeastRanks l.automaton (Holds l.within.pairs) l.ranks)
 
 abbrev pub decreases-levels : goal.decreases-levels
-decreases-levels l = length l.board.unranked.pairs + (if length l.ranked.items == 0 then 0 else 1)
+decreases-levels l = length l.unranked.pairs + (if l.any then 1 else 0)

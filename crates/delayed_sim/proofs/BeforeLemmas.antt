@@ -1,0 +1,358 @@
+-- Rows of states before a row, and rows of ranks.
+use Rattle.std.proofs.Common.{◌≡◌, ℕ, ◌+◌, ◌*◌, ◌<◌, ◌≤◌, ◌⊎◌, ◌↔◌, inl, inr, true, false, List, Option, None, Some, length, get_or, set, refl, sym, ap, ◌∙◌, subst, arith}
+use Rattle.std.proofs.lemmas.Bool.{cases_eq, cases_lt, false≢true}
+use Rattle.std.proofs.lemmas.Nat.{same_from_place, mul-add-lt}
+use Rattle.std.proofs.lemmas.List.{get_or-set_same, get_or-set_other}
+use Rattle.auto_core.specs.Automaton.{Automaton, Moves, trans_at}
+use Rattle.auto_core.specs.Rows.{bit_of, cell_of, HasBit, HasCell}
+use Rattle.auto_core.specs.Game.{Holds}
+use Rattle.auto_core.proofs.BitLemmas.{bit_past}
+use Rattle.bit_rel.specs.Relation.{Relation, IsRelation, Removes}
+use Rattle.bit_rel.proofs.LengthLemmas.{fewer, no_more}
+use Rattle.row_steps.specs.Walks.{IsNextBit}
+use Rattle.delayed_sim.specs.Stored.{rank_at}
+use Rattle.delayed_sim.specs.Before.{LeadsTo}
+use Rattle.delayed_sim.specs.Boards.{row_words, IsRanked, GivesRank}
+
+-- past its words a row has no bit
+pub bit_near : (row : List ℕ) (w q : ℕ) → length row ≡ w → HasBit row q → q < w * 64
+bit_near row w q len bit = elim (cases_lt q (w * 64)) [
+  | inl near ↦ near
+  | inr past ↦ absurd (false≢true (sym (bit_past row q (omega arith)) ∙ bit))
+]
+
+-- One of the first of these transitions leaves q by the letter a.
+abbrev pub HasFound : Automaton → List ℕ → ℕ → ℕ → ℕ → Type 0
+HasFound A ns n a q = (k : ℕ) × (k < n) × ((trans_at A (get_or ns k 0)).label ≡ a) × ((trans_at A (get_or ns k 0)).source ≡ q)
+
+both_or_not : (a q b r : ℕ) → ((a ≡ b) × (q ≡ r)) ⊎ ¬ ((a ≡ b) × (q ≡ r))
+both_or_not a q b r = elim (cases_eq a b) [
+  | inl e ↦ elim (cases_eq q r) [ inl f ↦ inl (e, f) | inr g ↦ inr (λ both. g both.1) ]
+  | inr g ↦ inr (λ both. g both.0)
+]
+
+-- one more transition is marked
+pub found_more :
+    (A : Automaton) (ns : List ℕ) (i : ℕ) (old now new : List ℕ) (w a q label source : ℕ)
+    → (trans_at A (get_or ns i 0)).label ≡ label
+    → (trans_at A (get_or ns i 0)).source ≡ source
+    → (HasCell now w a q ↔ (HasCell old w a q ⊎ HasFound A ns i a q))
+    → cell_of new w label source ≡ true
+    → (¬ ((a ≡ label) × (q ≡ source)) → cell_of new w a q ≡ cell_of now w a q)
+    → HasCell new w a q ↔ (HasCell old w a q ⊎ HasFound A ns (i + 1) a q)
+found_more A ns i old now new w a q label source by from was here others = elim (both_or_not a q label source) [
+  | inl both ↦ (
+    λ cell. inr (i, omega arith, by ∙ sym both.0, from ∙ sym both.1),
+    λ either. subst (λ x. cell_of new w x q ≡ true) (sym both.0) (subst (λ x. cell_of new w label x ≡ true) (sym both.1) here),
+  )
+  | inr apart ↦ (
+    λ cell. elim (was.0 (sym (others apart) ∙ cell)) [
+      | inl first ↦ inl first
+      | inr found ↦ let lt = found.1 in inr (found.0, omega arith, found.2, found.3)
+    ],
+    λ either. others apart ∙ was.1 (elim either [
+      | inl first ↦ inl first
+      | inr found ↦ elim (cases_eq found.0 i) [
+        | inl f ↦ absurd (apart (
+          sym found.2 ∙ ap (λ k. (trans_at A (get_or ns k 0)).label) f ∙ by,
+          sym found.3 ∙ ap (λ k. (trans_at A (get_or ns k 0)).source) f ∙ from,
+        ))
+        | inr far ↦ let lt = found.1 in inr (found.0, omega arith, found.2, found.3)
+      ]
+    ]),
+  )
+]
+
+-- The rows of the letters that lead to a state mark the states from which a move leads into `ends` below a place.
+abbrev pub LettersLead : Automaton → ℕ → List ℕ → List ℕ → ℕ → ℕ → Type 0
+LettersLead A to ends made w at =
+    (p a q : ℕ) → Moves A p a to → q < w * 64 → HasCell made w a q ↔ ((q' : ℕ) × Moves A q a q' × (q' < at) × HasBit ends q')
+
+pub letters_none :
+    (A : Automaton) (to : ℕ) (ends made : List ℕ) (w : ℕ)
+    → ((p a q : ℕ) → Moves A p a to → q < w * 64 → cell_of made w a q ≡ false)
+    → LettersLead A to ends made w 0
+letters_none A to ends made w clear p a q move near = (
+  λ cell. absurd (false≢true (sym (clear p a q move near) ∙ cell)),
+  λ is. let lt = is.2 in absurd (omega arith),
+)
+
+pub letters_more :
+    (A : Automaton) (to : ℕ) (ends old new : List ℕ) (w at right : ℕ)
+    → LettersLead A to ends old w at
+    → IsNextBit ends at right
+    → ((a q : ℕ) → q < w * 64 → HasCell new w a q ↔ (HasCell old w a q ⊎ Moves A q a right))
+    → LettersLead A to ends new w (right + 1)
+letters_more A to ends old new w at right h next marks p a q move near = (
+  λ cell. elim ((marks a q near).0 cell) [
+    | inl was ↦ let is = (h p a q move near).0 was in let lt = is.2 in let le = next.behind in (is.0, is.1, omega arith, is.3)
+    | inr go ↦ (right, go, omega arith, next.here)
+  ],
+  λ is. (marks a q near).1 (elim (cases_eq is.0 right) [
+    | inl e ↦ inr (subst (λ x. Moves A q a x) e is.1)
+    | inr apart ↦ elim (cases_lt is.0 at) [
+      | inl before ↦ inl ((h p a q move near).1 (is.0, is.1, before, is.3))
+      | inr from ↦ let lt = is.2 in absurd (false≢true (sym (next.none_between is.0 from (omega arith)) ∙ is.3))
+    ]
+  ]),
+)
+
+pub letters_all :
+    (A : Automaton) (to : ℕ) (ends made : List ℕ) (w at : ℕ)
+    → LettersLead A to ends made w at
+    → ((i : ℕ) → at ≤ i → bit_of ends i ≡ false)
+    → (p a q : ℕ)
+    → Moves A p a to
+    → q < w * 64
+    → HasCell made w a q ↔ LeadsTo A a ends q
+letters_all A to ends made w at h none p a q move near = (
+  λ cell. let is = (h p a q move near).0 cell in (is.0, is.1, is.3),
+  λ is. elim (cases_lt is.0 at) [
+    | inl before ↦ (h p a q move near).1 (is.0, is.1, before, is.2)
+    | inr from ↦ absurd (false≢true (sym (none is.0 from) ∙ is.2))
+  ],
+)
+
+-- the row of such a letter
+pub row_leads :
+    (A : Automaton) (to : ℕ) (made ends row : List ℕ) (w p a label : ℕ)
+    → Moves A p a to
+    → label ≡ a
+    → length row ≡ w
+    → ((q : ℕ) → q < w * 64 → bit_of row q ≡ cell_of made w label q)
+    → ((p a q : ℕ) → Moves A p a to → q < w * 64 → HasCell made w a q ↔ LeadsTo A a ends q)
+    → ((q a q' : ℕ) → Moves A q a q' → q < w * 64)
+    → (q : ℕ)
+    → HasBit row q ↔ LeadsTo A a ends q
+row_leads A to made ends row w p a label move e len bits are room q = (
+  λ bit. let near = bit_near row w q len bit in (are p a q move near).0 (subst (λ x. HasCell made w x q) e (sym (bits q near) ∙ bit)),
+  λ leads. let near = room q a leads.0 leads.1 in bits q near ∙ subst (λ x. HasCell made w x q) (sym e) ((are p a q move near).1 leads),
+)
+
+-- Of the left state the pairs with states of the row below a place got the rank.
+pub record HasGiven (unranked : Relation) (ranks : List (Option ℕ)) (p : ℕ) (row : List ℕ) (rank : ℕ) (unranked' : Relation) (ranks' : List (Option ℕ)) (at : ℕ) : Type 0 where
+  pub size : unranked'.size ≡ unranked.size
+  pub valid : IsRelation unranked'
+  pub len : length ranks' ≡ length ranks
+  pub pairs : (r s : ℕ) → Holds unranked'.pairs r s ↔ (Holds unranked.pairs r s × ((r ≡ p) × (s < at) × HasBit row s → ⊥))
+  pub table : (r s : ℕ) → r < unranked.size → s < unranked.size
+      → ((r ≡ p) × (s < at) × HasBit row s × (rank_at ranks' unranked.size r s ≡ Some rank))
+      ⊎ (((r ≡ p) × (s < at) × HasBit row s → ⊥) × (rank_at ranks' unranked.size r s ≡ rank_at ranks unranked.size r s))
+
+-- The rank of one pair of the table is set.
+pub rank_set :
+    (ranks : List (Option ℕ)) (n p q rank at : ℕ)
+    → length ranks ≡ n * n
+    → p < n
+    → q < n
+    → at ≡ p * n + q
+    → (r s : ℕ)
+    → r < n
+    → s < n
+    → ((r ≡ p) × (s ≡ q) × (rank_at (set ranks at (Some rank)) n r s ≡ Some rank))
+    ⊎ (((r ≡ p) × (s ≡ q) → ⊥) × (rank_at (set ranks at (Some rank)) n r s ≡ rank_at ranks n r s))
+rank_set ranks n p q rank at len p_in q_in is r s r_in s_in = elim (cases_eq (r * n + s) at) [
+  | inl e ↦
+      let same = same_from_place r s p q n s_in q_in (e ∙ is) in
+      let inside : at < length ranks = omega (arith, mul-add-lt p n q n p_in q_in, len, is) in
+      inl (same.0, same.1, ap (λ i. get_or (set ranks at (Some rank)) i None) e ∙ get_or-set_same ranks at (Some rank) None inside)
+  | inr far ↦ inr (
+    λ these. far (ap (λ x. x * n + s) these.0 ∙ ap (λ y. p * n + y) these.1 ∙ sym is),
+    get_or-set_other ranks at (r * n + s) (Some rank) None far,
+  )
+]
+
+pub given_none : (unranked : Relation) (ranks : List (Option ℕ)) (p : ℕ) (row : List ℕ) (rank : ℕ) → IsRelation unranked → HasGiven unranked ranks p row rank unranked ranks 0
+given_none unranked ranks p row rank valid = record {
+  size = refl;
+  valid = valid;
+  len = refl;
+  pairs = λ r s. (λ h. (h, λ is. let lt = is.1 in absurd (omega arith)), λ both. both.0);
+  table = λ r s r_in s_in. inr (λ is. let lt = is.1 in absurd (omega arith), refl);
+}
+
+pub given_more :
+    (unranked now new : Relation) (ranks ranks' ranks'' : List (Option ℕ)) (p : ℕ) (row : List ℕ) (rank at q : ℕ)
+    → HasGiven unranked ranks p row rank now ranks' at
+    → IsNextBit row at q
+    → Removes now new p q
+    → IsRelation new
+    → length ranks'' ≡ length ranks'
+    → ((r s : ℕ) → r < unranked.size → s < unranked.size
+    → ((r ≡ p) × (s ≡ q) × (rank_at ranks'' unranked.size r s ≡ Some rank)) ⊎ (((r ≡ p) × (s ≡ q) → ⊥) × (rank_at ranks'' unranked.size r s ≡ rank_at ranks' unranked.size r s)))
+    → HasGiven unranked ranks p row rank new ranks'' (q + 1)
+given_more unranked now new ranks ranks' ranks'' p row rank at q h next removes valid len sets = record {
+  size = removes.size ∙ h.size;
+  valid = valid;
+  len = len ∙ h.len;
+  pairs = λ r s. (
+    λ held.
+        let two = (removes.pairs r s).0 held in
+        let was = (h.pairs r s).0 two.0 in (
+          was.0,
+          λ is. elim (cases_eq s q) [
+            | inl e ↦ two.1 (is.0, e)
+            | inr apart ↦ elim (cases_lt s at) [
+              | inl before ↦ was.1 (is.0, before, is.2)
+              | inr from ↦ let lt = is.1 in false≢true (sym (next.none_between s from (omega arith)) ∙ is.2)
+            ]
+          ],
+        ),
+    λ both. (removes.pairs r s).1 (
+      (h.pairs r s).1 (both.0, λ is. let lt = is.1 in let le = next.behind in both.1 (is.0, omega arith, is.2)),
+      λ is. let e = is.1 in both.1 (is.0, omega arith, subst (λ x. HasBit row x) (sym is.1) next.here),
+    ),
+  );
+  table = λ r s r_in s_in. elim (sets r s r_in s_in) [
+    | inl here ↦ let e = here.1 in inl (here.0, omega arith, subst (λ x. HasBit row x) (sym here.1) next.here, here.2)
+    | inr far ↦ elim (h.table r s r_in s_in) [
+      | inl given ↦ let lt = given.1 in let le = next.behind in inl (given.0, omega arith, given.2, far.1 ∙ given.3)
+      | inr kept ↦ inr (
+        λ is. elim (cases_eq s q) [
+          | inl e ↦ far.0 (is.0, e)
+          | inr apart ↦ elim (cases_lt s at) [
+            | inl before ↦ kept.0 (is.0, before, is.2)
+            | inr from ↦ let lt = is.1 in false≢true (sym (next.none_between s from (omega arith)) ∙ is.2)
+          ]
+        ],
+        far.1 ∙ kept.1,
+      )
+    ]
+  ];
+}
+
+module _ (A : Automaton) (S : ℕ → ℕ → Type 0) (rank : ℕ) (unranked : Relation) (ranks : List (Option ℕ)) where
+  -- The rows below p are done.
+  pub record GivesUpto (unranked' : Relation) (ranks' : List (Option ℕ)) (fresh : List ℕ) (p : ℕ) : Type 0 where
+    pub size : unranked'.size ≡ unranked.size
+    pub valid : IsRelation unranked'
+    pub len : length ranks' ≡ length ranks
+    pub pairs : (r s : ℕ) → Holds unranked'.pairs r s ↔ (Holds unranked.pairs r s × ((r < p) × S r s → ⊥))
+    pub table : (r s : ℕ) → r < A.states → s < A.states
+        → ((r < p) × S r s × IsRanked A ranks' r s rank) ⊎ (((r < p) × S r s → ⊥) × (rank_at ranks' A.states r s ≡ rank_at ranks A.states r s))
+    pub rows : (r s : ℕ) → r < p → s < A.states → HasCell fresh (row_words A) r s ↔ S r s
+    pub columns : (r s : ℕ) → r < p → s < row_words A * 64 → HasCell fresh (row_words A) r s → s < A.states
+
+  pub gives_none : (fresh : List ℕ) → IsRelation unranked → GivesUpto unranked ranks fresh 0
+  gives_none fresh valid = record {
+    size = refl;
+    valid = valid;
+    len = refl;
+    pairs = λ r s. (λ h. (h, λ is. let lt = is.0 in absurd (omega arith)), λ both. both.0);
+    table = λ r s r_in s_in. inr (λ is. let lt = is.0 in absurd (omega arith), refl);
+    rows = λ r s below. absurd (omega arith);
+    columns = λ r s below. absurd (omega arith);
+  }
+
+  pub gives_row :
+      (now new : Relation) (ranks' ranks'' : List (Option ℕ)) (fresh fresh' row : List ℕ) (p : ℕ)
+      → unranked.size ≡ A.states
+      → p < A.states
+      → A.states ≤ row_words A * 64
+      → GivesUpto now ranks' fresh p
+      → ((q : ℕ) → HasBit row q ↔ S p q)
+      → ((q : ℕ) → S p q → q < A.states)
+      → ((q : ℕ) → q < row_words A * 64 → cell_of fresh' (row_words A) p q ≡ bit_of row q)
+      → ((r q : ℕ) → q < row_words A * 64 → ¬ (r ≡ p) → cell_of fresh' (row_words A) r q ≡ cell_of fresh (row_words A) r q)
+      → new.size ≡ now.size
+      → IsRelation new
+      → length ranks'' ≡ length ranks'
+      → ((r s : ℕ) → Holds new.pairs r s ↔ (Holds now.pairs r s × ((r ≡ p) × HasBit row s → ⊥)))
+      → ((r s : ℕ) → r < now.size → s < now.size
+      → ((r ≡ p) × HasBit row s × (rank_at ranks'' now.size r s ≡ Some rank))
+      ⊎ (((r ≡ p) × HasBit row s → ⊥) × (rank_at ranks'' now.size r s ≡ rank_at ranks' now.size r s)))
+      → GivesUpto new ranks'' fresh' (p + 1)
+  gives_row now new ranks' ranks'' fresh fresh' row p size p_in room h bits right here others same valid len opens gives = record {
+    size = same ∙ h.size;
+    valid = valid;
+    len = len ∙ h.len;
+    pairs = λ r s. (
+      λ held.
+          let two = (opens r s).0 held in
+          let was = (h.pairs r s).0 two.0 in (
+            was.0,
+            λ is. elim (cases_eq r p) [
+              | inl e ↦ two.1 (e, (bits s).1 (subst (λ x. S x s) e is.1))
+              | inr apart ↦ let lt = is.0 in was.1 (omega arith, is.1)
+            ],
+          ),
+      λ both. (opens r s).1 (
+        (h.pairs r s).1 (both.0, λ is. let lt = is.0 in both.1 (omega arith, is.1)),
+        λ is. let e = is.0 in both.1 (omega arith, subst (λ x. S x s) (sym is.0) ((bits s).0 is.1)),
+      ),
+    );
+    table = λ r s r_in s_in. elim (at_states r s r_in s_in) [
+      | inl given ↦ let e = given.0 in inl (omega arith, subst (λ x. S x s) (sym given.0) ((bits s).0 given.1), given.2)
+      | inr kept ↦ elim (h.table r s r_in s_in) [
+        | inl old ↦ let lt = old.0 in inl (omega arith, old.1, kept.1 ∙ old.2)
+        | inr out ↦ inr (
+          λ is. elim (cases_eq r p) [
+            | inl e ↦ kept.0 (e, (bits s).1 (subst (λ x. S x s) e is.1))
+            | inr apart ↦ let lt = is.0 in out.0 (omega arith, is.1)
+          ],
+          kept.1 ∙ out.1,
+        )
+      ]
+    ];
+    rows = λ r s below s_in. elim (cases_eq r p) [
+      | inl e ↦
+          let P : ℕ → Type 0 = λ x. HasCell fresh' (row_words A) x s ↔ S x s in
+          subst P (sym e) (λ cell. (bits s).0 (sym (here s (omega arith)) ∙ cell), λ is. here s (omega arith) ∙ (bits s).1 is)
+      | inr apart ↦
+          let was = h.rows r s (omega arith) s_in in
+          (λ cell. was.0 (sym (others r s (omega arith) apart) ∙ cell), λ is. others r s (omega arith) apart ∙ was.1 is)
+    ];
+    columns = λ r s below near cell. elim (cases_eq r p) [
+      | inl e ↦ right s ((bits s).0 (sym (here s near) ∙ subst (λ x. HasCell fresh' (row_words A) x s) e cell))
+      | inr apart ↦ h.columns r s (omega arith) near (sym (others r s near apart) ∙ cell)
+    ];
+  }
+    where
+      at_states : (r s : ℕ) → r < A.states → s < A.states
+          → ((r ≡ p) × HasBit row s × IsRanked A ranks'' r s rank)
+          ⊎ (((r ≡ p) × HasBit row s → ⊥) × (rank_at ranks'' A.states r s ≡ rank_at ranks' A.states r s))
+      at_states r s r_in s_in =
+          let n_is : now.size ≡ A.states = h.size ∙ size in
+          let P : ℕ → Type 0 = λ n. ((r ≡ p) × HasBit row s × (rank_at ranks'' n r s ≡ Some rank)) ⊎ (((r ≡ p) × HasBit row s → ⊥) × (rank_at ranks'' n r s ≡ rank_at ranks' n r s)) in
+          subst P n_is (gives r s (omega arith) (omega arith))
+
+  pub gives_all :
+      (unranked' : Relation) (ranks' : List (Option ℕ)) (fresh : List ℕ) (p : ℕ)
+      → A.states ≤ p
+      → ((r s : ℕ) → S r s → r < A.states)
+      → GivesUpto unranked' ranks' fresh p
+      → GivesRank A S rank unranked ranks unranked' ranks' fresh
+  gives_all unranked' ranks' fresh p all below h = record {
+    size = h.size;
+    valid = h.valid;
+    len = h.len;
+    pairs = λ r s. (
+      λ held. let was = (h.pairs r s).0 held in (was.0, λ is. let lt = below r s is in was.1 (omega arith, is)),
+      λ both. (h.pairs r s).1 (both.0, λ is. both.1 is.1),
+    );
+    table = λ r s r_in s_in. elim (h.table r s r_in s_in) [
+      | inl given ↦ inl (given.1, given.2)
+      | inr kept ↦ inr (λ is. kept.0 (omega arith, is), kept.1)
+    ];
+    rows = λ r s r_in s_in. h.rows r s (omega arith) s_in;
+    columns = λ r s r_in. h.columns r s (omega arith);
+  }
+
+  pub gives_fewer :
+      (now new : Relation) (p q : ℕ)
+      → IsRelation now
+      → IsRelation new
+      → (row : List ℕ)
+      → HasBit row q
+      → Holds now.pairs p q
+      → ((r s : ℕ) → Holds new.pairs r s ↔ (Holds now.pairs r s × ((r ≡ p) × HasBit row s → ⊥)))
+      → length new.pairs < length now.pairs
+  gives_fewer now new p q valid after row bit held opens = fewer now new p q valid after (λ r s h. ((opens r s).0 h).0) held (λ h. ((opens p q).0 h).1 (refl, bit))
+
+  pub gives_no_more :
+      (now new : Relation) (p : ℕ) (row : List ℕ)
+      → IsRelation now
+      → IsRelation new
+      → ((r s : ℕ) → Holds new.pairs r s ↔ (Holds now.pairs r s × ((r ≡ p) × HasBit row s → ⊥)))
+      → length new.pairs ≤ length now.pairs
+  gives_no_more now new p row valid after opens = no_more now new valid after (λ r s h. ((opens r s).0 h).0)

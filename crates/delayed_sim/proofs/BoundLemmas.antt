@@ -1,0 +1,43 @@
+-- A right list of ranked pairs is inside a bound on the lists that are stable at lookahead 1 where no state asks anything of another.
+use Rattle.std.proofs.Common.{◌≡◌, ℕ, inl, inr, Option, [], ◌∷◌, map, ap, subst, arith}
+use Rattle.auto_core.specs.Automaton.{Automaton, Moves}
+use Rattle.auto_core.specs.Game.{Holds, Round}
+use Rattle.auto_core.specs.Delayed.{RankedPairs, HoldsPair, IsRight, AreRankedBelow}
+use Rattle.auto_core.proofs.MemberLemmas.{map_has, map_from}
+use Rattle.bit_rel.specs.Relation.{Relation}
+use Rattle.look_round.specs.Words.{IsBound}
+use Rattle.delayed_sim.specs.Unasked.{AsksNothing}
+
+-- the pair without its rank
+abbrev states_of : ℕ × ℕ × Option ℕ → ℕ × ℕ
+states_of x = (x.0, x.1)
+
+unranked : (Y : RankedPairs) (p q : ℕ) → HoldsPair Y p q → Holds (map states_of Y) p q
+unranked Y p q h = map_has states_of Y (p, q, h.0) h.1
+
+ranked : (Y : RankedPairs) (p q : ℕ) → Holds (map states_of Y) p q → HoldsPair Y p q
+ranked Y p q h =
+    let (x, there, is) = map_from states_of Y (p, q) h in
+    let left : x.0 ≡ p = ap (λ (y : ℕ × ℕ). y.0) is in
+    let right : x.1 ≡ q = ap (λ (y : ℕ × ℕ). y.1) is in
+    let here : HoldsPair Y x.0 x.1 = (x.2, there) in
+    subst (λ r. HoldsPair Y r q) left (subst (λ r. HoldsPair Y x.0 r) right here)
+
+right_round : (A : Automaton) (Y : RankedPairs) → IsRight A Y → (p q : ℕ) → HoldsPair Y p q → Round (Moves A) (Moves A) AsksNothing 1 (Holds (map states_of Y)) p q
+right_round A Y right p q held [] ps path may = absurd (elim may [ inl e ↦ omega arith | inr short ↦ let lt = short.0 in omega arith ])
+right_round A Y right p q held (a ∷ w) [] path may = absurd path
+right_round A Y right p q held (a ∷ w) (r ∷ ps) path may =
+    let answer = right.answers p q a r held path.0 in
+    (answer.0, answer.1, tt, inl (unranked Y r answer.0 answer.2))
+
+pub bound_has :
+    (A : Automaton) (R : Relation)
+    → IsBound (Moves A) AsksNothing A.states R
+    → (Y : RankedPairs)
+    → AreRankedBelow A.states Y
+    → IsRight A Y
+    → (p q : ℕ)
+    → HoldsPair Y p q
+    → Holds R.pairs p q
+bound_has A R bound Y inside right p q held =
+    bound.has_each 1 (omega arith) (map states_of Y) (λ r s h. inside r s (ranked Y r s h)) (λ r s h. (tt, right_round A Y right r s (ranked Y r s h))) p q (unranked Y p q held)

@@ -1,7 +1,0 @@
-use Rattle.std.proofs.Common.{ℕ, ◌<◌, ◌≤◌}
-use Rattle.auto_core.specs.Automaton.{trans_at}
-use Rattle.auto_core.specs.Game.{Holds}
-use Rattle.delayed_sim.proofs.settling.is_answered.Given as goal
-
-abbrev pub invariant-loop-u : goal.invariant-loop-u
-invariant-loop-u l = (v : ℕ) → l.initial.u ≤ v → v < l.u → Holds l.rel.pairs l.step.target (trans_at l.automaton v).target → ⊥
