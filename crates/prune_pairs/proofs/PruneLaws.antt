@@ -12,7 +12,7 @@ use Rattle.auto_core.specs.declared.parts.Mode.TheVariants.{Buchi, Finite}
 use Rattle.auto_core.proofs.PathLemmas.{Contains-from_test, test_from_Contains}
 use Rattle.auto_core.proofs.MoveLemmas.{number_of, move_at}
 use Rattle.path_laws.specs.Paths.{turned}
-use Rattle.path_laws.specs.Transfer.{Follows}
+use Rattle.path_laws.specs.Transfer.{FollowsFromStart}
 use Rattle.path_laws.proofs.MatchLemmas.{forward_refl, forward_trans, backward_trans, matched_refl, matched_weaker, matched_end}
 use Rattle.path_laws.proofs.TurnLemmas.{path_turned, end_of-turned, turned-turned, matched_turned}
 use Rattle.path_laws.proofs.GameLemmas.{close_refl, close_trans}
@@ -97,7 +97,7 @@ module _ (A B : Automaton) (gone : List ℕ) (k : IsCut A gone B) where
   accepted_before p acc = subst (λ l. Contains l p) k.accepting acc
 
   -- what is left accepts no more
-  fewer : Follows B A
+  fewer : FollowsFromStart B A
   fewer w ps path = (
     ps,
     subst (λ s. Path A s w ps) k.initial (path_as (Moves B) (Moves A) was_there B.initial w ps path),
@@ -119,7 +119,7 @@ module _ (A B : Automaton) (gone : List ℕ) (k : IsCut A gone B) where
       )
 
   -- where no move is gone
-  all_left : ((p a q : ℕ) → Moves A p a q → Moves B p a q) → Follows A B
+  all_left : ((p a q : ℕ) → Moves A p a q → Moves B p a q) → FollowsFromStart A B
   all_left left w ps path = (
     ps,
     subst (λ s. Path B s w ps) (sym k.initial) (path_as (Moves A) (Moves B) left A.initial w ps path),
@@ -134,7 +134,7 @@ module _ (A B : Automaton) (gone : List ℕ) (k : IsCut A gone B) where
       | inr (t, is, there) ↦ inr (better_move A n (Close (Holds back)) (Close (Holds ahead)) t p a q is (have t there))
     ]
 
-    none_better : (n ≡ 0) ⊎ (5 ≤ n) → Follows A B
+    none_better : (n ≡ 0) ⊎ (5 ≤ n) → FollowsFromStart A B
     none_better at = all_left (λ p a q m. elim (left_or_better p a q m) [
       | inl left ↦ left
       | inr b ↦ absurd (no_source n (Close (Holds back)) p b.from at b.source)
@@ -143,7 +143,7 @@ module _ (A B : Automaton) (gone : List ℕ) (k : IsCut A gone B) where
 -- ---- pairs 1 and 2
 
 module _ (A B : Automaton) (gone : List ℕ) (k : IsCut A gone B) (look : ℕ) (some : 1 ≤ look) (back ahead : List (ℕ × ℕ)) where
-  first_pair : StableForward A look ahead → ((t : ℕ) → Contains gone t → HasBetter A 1 (Close (Holds back)) (Close (Holds ahead)) t) → Follows A B
+  first_pair : StableForward A look ahead → ((t : ℕ) → Contains gone t → HasBetter A 1 (Close (Holds back)) (Close (Holds ahead)) t) → FollowsFromStart A B
   first_pair stable have w ps path =
       let (bound, low) = towers_are_low ahead in
       let stays : (p a r : ℕ) → Moves A p a r → Moves B p a r ⊎ ((s : ℕ) × Moves A p a s × Strict (Close (Holds ahead)) r s) = λ p a r m.
@@ -159,7 +159,7 @@ module _ (A B : Automaton) (gone : List ℕ) (k : IsCut A gone B) (look : ℕ) (
       (followed_forward A look ahead some stable) stays A.initial w ps path in
       (qs, subst (λ s. Path B s w qs) (sym k.initial) goes, matched_weaker (MatchesForward A A) (MatchesForward A B) (accepts_too A B gone k) ps qs matched)
 
-  second_pair : StableBackward A look back → ((t : ℕ) → Contains gone t → HasBetter A 2 (Close (Holds back)) (Close (Holds ahead)) t) → Follows A B
+  second_pair : StableBackward A look back → ((t : ℕ) → Contains gone t → HasBetter A 2 (Close (Holds back)) (Close (Holds ahead)) t) → FollowsFromStart A B
   second_pair stable have w ps path =
       let e = end_of A.initial ps in
       let (bound, low) = towers_are_low back in
@@ -179,7 +179,7 @@ module _ (A B : Automaton) (gone : List ℕ) (k : IsCut A gone B) (look : ℕ) (
 
   -- ---- pairs 3 and 4
 
-  third_pair : StableBackward A look back → StableForward A 1 ahead → ((t : ℕ) → Contains gone t → HasBetter A 3 (Close (Holds back)) (Close (Holds ahead)) t) → Follows A B
+  third_pair : StableBackward A look back → StableForward A 1 ahead → ((t : ℕ) → Contains gone t → HasBetter A 3 (Close (Holds back)) (Close (Holds ahead)) t) → FollowsFromStart A B
   third_pair stable_back stable_ahead have w ps path =
       let e = end_of A.initial ps in
       let (bound, low) = towers_are_low ahead in
@@ -195,7 +195,7 @@ module _ (A B : Automaton) (gone : List ℕ) (k : IsCut A gone B) (look : ℕ) (
       (reverse w) e (turned A.initial ps) [] [] (path_turned (Moves A) A.initial w ps path) tt in
       read_back A B gone k w ps r.middle r.before r.left (followed_forward A 1 ahead (omega arith) stable_ahead e r.middle r.above).0 r.matched (r.far (end_of-turned A.initial ps))
 
-  fourth_pair : StableBackward A 1 back → StableForward A look ahead → ((t : ℕ) → Contains gone t → HasBetter A 4 (Close (Holds back)) (Close (Holds ahead)) t) → Follows A B
+  fourth_pair : StableBackward A 1 back → StableForward A look ahead → ((t : ℕ) → Contains gone t → HasBetter A 4 (Close (Holds back)) (Close (Holds ahead)) t) → FollowsFromStart A B
   fourth_pair stable_back stable_ahead have w ps path =
       let (bound, low) = towers_are_low back in
       let stays : (p a r : ℕ) → BackwardMoves A p a r → BackwardMoves B p a r ⊎ ((q s : ℕ) × BackwardMoves A q a s × Close (Holds ahead) p q × Strict (Close (Holds back)) r s) = λ p a r m.
@@ -217,7 +217,7 @@ module _ (A B : Automaton) (gone : List ℕ) (k : IsCut A gone B) (look : ℕ) (
 -- ---- the law
 
 pruning_follows : (A B : Automaton) (n look : ℕ) (back ahead : List (ℕ × ℕ)) (gone : List ℕ) → 1 ≤ look → IsStableBack A n look back → IsStableAhead A n look ahead
-    → ((t : ℕ) → Contains gone t → HasBetter A n (Close (Holds back)) (Close (Holds ahead)) t) → IsCut A gone B → Follows A B
+    → ((t : ℕ) → Contains gone t → HasBetter A n (Close (Holds back)) (Close (Holds ahead)) t) → IsCut A gone B → FollowsFromStart A B
 pruning_follows A B zero look back ahead gone some sb sa have k = none_better A B gone k 0 back ahead have (inl refl)
 pruning_follows A B (suc zero) look back ahead gone some sb sa have k = first_pair A B gone k look some back ahead (sa (λ e. omega (arith, e))) have
 pruning_follows A B (suc (suc zero)) look back ahead gone some sb sa have k = second_pair A B gone k look some back ahead (sb (λ e. omega (arith, e))) have

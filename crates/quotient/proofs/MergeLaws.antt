@@ -14,7 +14,7 @@ use Rattle.auto_core.proofs.MoveLemmas.{move_in_range}
 use Rattle.auto_core.proofs.SetLemmas.{same_automaton}
 use Rattle.path_laws.specs.Paths.{turned}
 use Rattle.path_laws.specs.Games.{IsFollowed}
-use Rattle.path_laws.specs.Transfer.{Follows}
+use Rattle.path_laws.specs.Transfer.{FollowsFromStart}
 use Rattle.path_laws.proofs.MatchLemmas.{forward_trans, backward_trans, matched_trans, matched_weaker}
 use Rattle.path_laws.proofs.TurnLemmas.{path_turned, end_of-turned, turned-turned, matched_turned}
 use Rattle.path_laws.proofs.AppliedLemmas.{followed_forward, followed_backward}
@@ -70,7 +70,7 @@ module _ (A B : Automaton) (classes : List ℕ) (valid : IsAutomaton A) (k : IsQ
   moves_stay p a q m = let r = move_in_range A valid p a q m in (r.0, r.1)
 
   module _ (S : List (ℕ × ℕ)) (n : ℕ) (some : 1 ≤ n) (related : RelatesMembers A classes S) where
-    followed : StableForward A n S → Follows B A
+    followed : StableForward A n S → FollowsFromStart B A
     followed stable w ps path =
         let rep = represented (Moves A) (MatchesForward A A) (forward_trans A A A) (λ q. q < A.states) (class_of classes) moves_stay
         (λ p q p_in q_in e. followed_forward A n S some stable p q (related p q p_in q_in e))
@@ -89,7 +89,7 @@ module _ (A B : Automaton) (classes : List ℕ) (valid : IsAutomaton A) (k : IsQ
     abbrev Asked : ℕ → ℕ → Type 0
     Asked c x = (y : ℕ) → y < A.states → c ≡ class_of classes y → MatchesBackward A A y x
 
-    followed_back : StableBackward A n S → Follows B A
+    followed_back : StableBackward A n S → FollowsFromStart B A
     followed_back stable w ps path =
         let c = end_of B.initial ps in
         let turns = turned B.initial ps in

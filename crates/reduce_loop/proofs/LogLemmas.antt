@@ -22,7 +22,7 @@ use Rattle.reduce_loop.specs.declared.steps.MergeBy.TheVariants as by
 use Rattle.reduce_loop.specs.declared.steps.Step.{Step}
 use Rattle.reduce_loop.specs.declared.steps.Step.TheVariants as step
 use Rattle.reduce_loop.specs.Kinds.{kinds_of}
-use Rattle.reduce_loop.specs.Logs.{IsRelationOf, IsMergeOf, IsDelayedMergeOf, IsGivenWhere, pairs_of, IsCutOf, IsEntry, IsLogged, LogThrough, LogPasses}
+use Rattle.reduce_loop.specs.Logs.{IsRelationOf, IsMergeOf, IsDelayedMergeOf, IsGivenWhere, pairs_given, IsCutOf, IsEntry, IsLogged, LogThrough, LogPasses}
 use Rattle.reduce_loop.specs.Laws.{LogIsOne}
 use Rattle.reduce_loop.proofs.RelationLemmas.{same_relation}
 use Rattle.reduce_loop.proofs.MergeLemmas.{same_classes, same_closure}
@@ -68,10 +68,10 @@ cut_entry_one : (A : Automaton) (n k : ℕ) (gone these : List Gone) (back back'
 cut_entry_one A n k gone these back back' ahead ahead' is also =
     let same_back : back ≡ back' = given_one A (IsGreatestBackward A (look_back n k)) (backward_is_one A (look_back n k)) (¬ (n ≡ 1)) back back' is.is_back also.is_back in
     let same_ahead : ahead ≡ ahead' = given_one A (IsGreatestForward A (look_ahead n k)) (forward_is_one A (look_ahead n k)) (¬ (n ≡ 2)) ahead ahead' is.is_ahead also.is_ahead in
-    let moved : AreLeastBetter A n (Close (Holds (pairs_of back'))) (Close (Holds (pairs_of ahead'))) gone =
-    subst (λ f. AreLeastBetter A n (Close (Holds (pairs_of back'))) (Close (Holds (pairs_of f))) gone) same_ahead
-    (subst (λ b. AreLeastBetter A n (Close (Holds (pairs_of b))) (Close (Holds (pairs_of ahead))) gone) same_back is.least) in
-    let same_gone : gone ≡ these = least_one A n (Close (Holds (pairs_of back'))) (Close (Holds (pairs_of ahead'))) gone these moved also.least in
+    let moved : AreLeastBetter A n (Close (Holds (pairs_given back'))) (Close (Holds (pairs_given ahead'))) gone =
+    subst (λ f. AreLeastBetter A n (Close (Holds (pairs_given back'))) (Close (Holds (pairs_given f))) gone) same_ahead
+    (subst (λ b. AreLeastBetter A n (Close (Holds (pairs_given b))) (Close (Holds (pairs_given ahead))) gone) same_back is.least) in
+    let same_gone : gone ≡ these = least_one A n (Close (Holds (pairs_given back'))) (Close (Holds (pairs_given ahead'))) gone these moved also.least in
     λ i. step.Cut n k (same_gone i) (same_back i) (same_ahead i)
 
 entry_one : (A : Automaton) (mode : Mode) (k : ℕ) (kind : Kind) (entry other : Step) → IsEntry A mode k kind entry → IsEntry A mode k kind other → entry ≡ other

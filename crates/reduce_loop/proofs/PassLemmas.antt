@@ -9,7 +9,7 @@ use Rattle.auto_core.proofs.PathLemmas.{Contains-here, Contains-later, Contains-
 use Rattle.reduce_loop.specs.declared.steps.Kind.{Kind}
 use Rattle.reduce_loop.specs.declared.steps.Step.{Step}
 use Rattle.reduce_loop.specs.Kinds.{kinds_of, After}
-use Rattle.reduce_loop.specs.Passes.{Through, Passes, IsReduced}
+use Rattle.reduce_loop.specs.Passes.{Through, LeadByPasses, IsReduced}
 use Rattle.reduce_loop.specs.Settled.{IsSettled}
 use Rattle.reduce_loop.specs.Logs.{IsLogged, LogThrough, LogPasses, IsLog}
 use Rattle.reduce_loop.specs.Size.{size_of, IsNoLarger}
@@ -107,25 +107,25 @@ module _ (mode : Mode) (k : ℕ) where
 
   -- ---- passes
 
-  passes_one : (n m : ℕ) (A B C : Automaton) → IsAutomaton A → Passes A mode k n B → Passes A mode k m C → B ≡ C
+  passes_one : (n m : ℕ) (A B C : Automaton) → IsAutomaton A → LeadByPasses A mode k n B → LeadByPasses A mode k m C → B ≡ C
   passes_one zero zero A B C valid (e, settled) (f, also) = e ∙ sym f
   passes_one zero (suc m) A B C valid (e, settled) (X, pass, changed, rest) = absurd (changed (through_one (kinds_of mode) A X A valid pass settled))
   passes_one (suc n) zero A B C valid (X, pass, changed, rest) (e, settled) = absurd (changed (through_one (kinds_of mode) A X A valid pass settled))
   passes_one (suc n) (suc m) A B C valid (X, pass, changed, rest) (Y, other, differs, more) =
       let same = through_one (kinds_of mode) A X Y valid pass other in
-      passes_one n m X B C (through_valid (kinds_of mode) A X valid pass) rest (subst (λ Z. Passes Z mode k m C) (sym same) more)
+      passes_one n m X B C (through_valid (kinds_of mode) A X valid pass) rest (subst (λ Z. LeadByPasses Z mode k m C) (sym same) more)
 
-  passes_same : 1 ≤ k → (n : ℕ) (A C : Automaton) → IsAutomaton A → Passes A mode k n C → Same A C mode
+  passes_same : 1 ≤ k → (n : ℕ) (A C : Automaton) → IsAutomaton A → LeadByPasses A mode k n C → Same A C mode
   passes_same some zero A C valid (e, settled) = subst (λ X. Same A X mode) (sym e) (same_itself A mode)
   passes_same some (suc n) A C valid (B, pass, changed, rest) =
       same_on A B C mode (through_same some (kinds_of mode) (λ x h. h) A B valid pass) (passes_same some n B C (through_valid (kinds_of mode) A B valid pass) rest)
 
-  passes_no_larger : (n : ℕ) (A C : Automaton) → IsAutomaton A → Passes A mode k n C → IsNoLarger A C
+  passes_no_larger : (n : ℕ) (A C : Automaton) → IsAutomaton A → LeadByPasses A mode k n C → IsNoLarger A C
   passes_no_larger zero A C valid (e, settled) = no_larger_itself A C e
   passes_no_larger (suc n) A C valid (B, pass, changed, rest) =
       no_larger_on A B C (through_smaller (kinds_of mode) A B valid pass).no_larger (passes_no_larger n B C (through_valid (kinds_of mode) A B valid pass) rest)
 
-  passes_settled : (n : ℕ) (A C : Automaton) → IsAutomaton A → Passes A mode k n C → IsSettled C mode k
+  passes_settled : (n : ℕ) (A C : Automaton) → IsAutomaton A → LeadByPasses A mode k n C → IsSettled C mode k
   passes_settled zero A C valid (e, settled) =
       subst (λ X. IsSettled X mode k) (sym e) (λ kind h. after_settled A mode k kind (through_settled (kinds_of mode) A valid settled kind h))
   passes_settled (suc n) A C valid (B, pass, changed, rest) = passes_settled n B C (through_valid (kinds_of mode) A B valid pass) rest
@@ -136,7 +136,7 @@ module _ (mode : Mode) (k : ℕ) where
   log_through [] A C log (e, none) = e
   log_through (kind ∷ kinds) A C log (B, now, later, step, logged, rest, is) = (B, step, log_through kinds B C later rest)
 
-  log_passes : (n : ℕ) (A C : Automaton) (log : List Step) → LogPasses A mode k n C log → Passes A mode k n C
+  log_passes : (n : ℕ) (A C : Automaton) (log : List Step) → LogPasses A mode k n C log → LeadByPasses A mode k n C
   log_passes zero A C log (e, through) = (e, log_through (kinds_of mode) A A log through)
   log_passes (suc n) A C log (B, now, later, through, changed, rest, is) = (B, log_through (kinds_of mode) A B now through, changed, log_passes n B C later rest)
 

@@ -13,7 +13,7 @@ use Rattle.prune_pairs.specs.Laws.{AgreeOnStates}
 use Rattle.prune_pairs.specs.Least.{IsLeastBetter, AreLeastBetter, numbers_of}
 use Rattle.prune_pairs.specs.declared.removing.Gone.{Gone}
 use Rattle.prune_pairs.proofs.OneLaws.{pruned_shorter, better_goes}
-use Rattle.reduce_loop.specs.Logs.{IsRelationOf, IsGivenWhere, pairs_of, IsBackOf, IsAheadOf}
+use Rattle.reduce_loop.specs.Logs.{IsRelationOf, IsGivenWhere, pairs_given, IsBackOf, IsAheadOf}
 use Rattle.reduce_loop.proofs.SizeLemmas.{IsSmaller}
 
 pub pruned_smaller : (A B : Automaton) (n k : ℕ) → IsAutomaton A → IsPruned A n k B → IsSmaller A B
@@ -89,7 +89,7 @@ least_as A n back ahead other_back other_ahead to from gone are = record {
 -- ---- the relations of a pair
 
 module _ (A : Automaton) (Greatest : List (ℕ × ℕ) → Type 0) (wanted : Type 0) where
-  given_greatest : (rel : Option Relation) → IsGivenWhere wanted (IsRelationOf A Greatest) rel → wanted → Greatest (pairs_of rel)
+  given_greatest : (rel : Option Relation) → IsGivenWhere wanted (IsRelationOf A Greatest) rel → wanted → Greatest (pairs_given rel)
   given_greatest None is u = absurd (is u)
   given_greatest (Some rel) is u = is.1.greatest
 
@@ -97,7 +97,7 @@ module _ (A : Automaton) (Greatest : List (ℕ × ℕ) → Type 0) (wanted : Typ
   closed_size None closed is c u = absurd (is u)
   closed_size (Some rel) closed is c u = let size = c.size in let on = is.1.on_states in omega arith
 
-  closed_agrees : (rel : Option Relation) (closed : Relation) → IsGivenWhere wanted (IsRelationOf A Greatest) rel → IfSome rel (λ given. IsClosed given closed) → wanted → AgreeOnStates A (Holds closed.pairs) (Close (Holds (pairs_of rel)))
+  closed_agrees : (rel : Option Relation) (closed : Relation) → IsGivenWhere wanted (IsRelationOf A Greatest) rel → IfSome rel (λ given. IsClosed given closed) → wanted → AgreeOnStates A (Holds closed.pairs) (Close (Holds (pairs_given rel)))
   closed_agrees None closed is c u p q p_in q_in = absurd (is u)
   closed_agrees (Some rel) closed is c u p q p_in q_in =
       let on = is.1.on_states in
@@ -117,20 +117,20 @@ module _ (A : Automaton) (n k : ℕ) (back ahead : Option Relation) (is_back : I
       → IfSome back (λ given. IsClosed given closed_back)
       → IfSome ahead (λ given. IsClosed given closed_ahead)
       → AreLeastBetter A n (Holds closed_back.pairs) (Holds closed_ahead.pairs) gone
-      → AreLeastBetter A n (Close (Holds (pairs_of back))) (Close (Holds (pairs_of ahead))) gone
+      → AreLeastBetter A n (Close (Holds (pairs_given back))) (Close (Holds (pairs_given ahead))) gone
   least_closed closed_back closed_ahead gone valid cb ca are =
-      let goes : (t u : ℕ) → IsBetterAt A n (Holds closed_back.pairs) (Holds closed_ahead.pairs) t u ↔ IsBetterAt A n (Close (Holds (pairs_of back))) (Close (Holds (pairs_of ahead))) t u = λ t u. better_goes A n closed_back.pairs closed_ahead.pairs (pairs_of back) (pairs_of ahead) t u valid
+      let goes : (t u : ℕ) → IsBetterAt A n (Holds closed_back.pairs) (Holds closed_ahead.pairs) t u ↔ IsBetterAt A n (Close (Holds (pairs_given back))) (Close (Holds (pairs_given ahead))) t u = λ t u. better_goes A n closed_back.pairs closed_ahead.pairs (pairs_given back) (pairs_given ahead) t u valid
       (closed_agrees A _ (¬ (n ≡ 1)) back closed_back is_back cb) (closed_agrees A _ (¬ (n ≡ 2)) ahead closed_ahead is_ahead ca) in
-      least_as A n (Holds closed_back.pairs) (Holds closed_ahead.pairs) (Close (Holds (pairs_of back))) (Close (Holds (pairs_of ahead)))
+      least_as A n (Holds closed_back.pairs) (Holds closed_ahead.pairs) (Close (Holds (pairs_given back))) (Close (Holds (pairs_given ahead)))
       (λ t u. (goes t u).0) (λ t u. (goes t u).1) gone are
 
-  pub pruned_by : (B : Automaton) (gone : List Gone) → AreLeastBetter A n (Close (Holds (pairs_of back))) (Close (Holds (pairs_of ahead))) gone → IsCut A (numbers_of gone) B → IsPruned A n k B
+  pub pruned_by : (B : Automaton) (gone : List Gone) → AreLeastBetter A n (Close (Holds (pairs_given back))) (Close (Holds (pairs_given ahead))) gone → IsCut A (numbers_of gone) B → IsPruned A n k B
   pruned_by B gone least cut = record {
-    back = pairs_of back;
-    ahead = pairs_of ahead;
+    back = pairs_given back;
+    ahead = pairs_given ahead;
     gone = numbers_of gone;
     greatest_back = given_greatest A _ (¬ (n ≡ 1)) back is_back;
     greatest_ahead = given_greatest A _ (¬ (n ≡ 2)) ahead is_ahead;
-    removable = λ t. (has_better A n (Close (Holds (pairs_of back))) (Close (Holds (pairs_of ahead))) gone least t, least.all t);
+    removable = λ t. (has_better A n (Close (Holds (pairs_given back))) (Close (Holds (pairs_given ahead))) gone least t, least.all t);
     cut = cut;
   }

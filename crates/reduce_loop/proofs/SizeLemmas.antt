@@ -4,7 +4,7 @@ use Rattle.std.proofs.lemmas.Bool.{cases_eq}
 use Rattle.std.proofs.lemmas.List.{length-map}
 use Rattle.std.proofs.lemmas.List.Kept.{AllPairs-from_increasing}
 use Rattle.auto_core.specs.Automaton.{Automaton, IsAutomaton, Moves, IsAccepting, IsBefore, trans}
-use Rattle.auto_core.specs.Useful.{count_below, stays, new_number, IsKept}
+use Rattle.auto_core.specs.Useful.{count_below, stays, new_number, IsKeptPart}
 use Rattle.auto_core.specs.declared.parts.Trans.{Trans}
 use Rattle.auto_core.proofs.MoveLemmas.{move_in_range}
 use Rattle.auto_core.proofs.MemberLemmas.{Rises, rises_from_pairs, map_has}
@@ -96,7 +96,7 @@ all_counted test (suc n) all q q_in = elim (cases_eq q (suc n)) [
   | inr apart ↦ all_counted test n (omega (arith, count_within test n, at_most_one (test n))) q (omega arith)
 ]
 
-pub kept_smaller : (A B : Automaton) (kept : List ℕ) → IsAutomaton A → IsKept A kept B → IsSmaller A B
+pub kept_smaller : (A B : Automaton) (kept : List ℕ) → IsAutomaton A → IsKeptPart A kept B → IsSmaller A B
 kept_smaller A B kept valid k = elim (cases_eq (count_below (stays A kept) A.states) A.states) [
   | inl all ↦
       let same : (q : ℕ) → q < A.states → new_number A kept q ≡ q = λ q lt. all_counted (stays A kept) A.states all q (omega arith) in

@@ -48,9 +48,9 @@ IsGivenWhere wanted is None = wanted → ⊥
 IsGivenWhere wanted is (Some rel) = wanted × is rel
 
 -- The pairs of the relation, none where no relation is given.
-abbrev pub pairs_of : Option Relation → List (ℕ × ℕ)
-pairs_of None = []
-pairs_of (Some rel) = rel.pairs
+abbrev pub pairs_given : Option Relation → List (ℕ × ℕ)
+pairs_given None = []
+pairs_given (Some rel) = rel.pairs
 
 -- Where pair n has a backward relation, it is given and the greatest of A at the pair's lookahead.
 abbrev pub IsBackOf : Automaton → ℕ → ℕ → Option Relation → Type 0
@@ -65,7 +65,7 @@ IsAheadOf A n k ahead = IsGivenWhere (¬ (n ≡ 2)) (IsRelationOf A (IsGreatestF
 pub record IsCutOf (A : Automaton) (n k : ℕ) (gone : List Gone) (back ahead : Option Relation) : Type 0 where
   pub is_back : IsBackOf A n k back
   pub is_ahead : IsAheadOf A n k ahead
-  pub least : AreLeastBetter A n (Close (Holds (pairs_of back))) (Close (Holds (pairs_of ahead))) gone
+  pub least : AreLeastBetter A n (Close (Holds (pairs_given back))) (Close (Holds (pairs_given ahead))) gone
 
 -- The entry tells of a step of this kind on A at lookahead k: the useful states, ascending; which relation, the greatest as it is,
 -- without being closed, joined the states by its closure, with the class of each; which transitions are gone and by which relations.

@@ -15,10 +15,10 @@ abbrev pub IsPass : Automaton → Mode → ℕ → Automaton → Type 0
 IsPass A mode k B = Through A mode k (kinds_of mode) B
 
 -- n passes that each change the automaton lead from A to C, and the next pass leaves C as it is.
-abbrev pub Passes : Automaton → Mode → ℕ → ℕ → Automaton → Type 0
-Passes A mode k zero C = (C ≡ A) × IsPass A mode k A
-Passes A mode k (suc n) C = (B : Automaton) × IsPass A mode k B × (B ≡ A → ⊥) × Passes B mode k n C
+abbrev pub LeadByPasses : Automaton → Mode → ℕ → ℕ → Automaton → Type 0
+LeadByPasses A mode k zero C = (C ≡ A) × IsPass A mode k A
+LeadByPasses A mode k (suc n) C = (B : Automaton) × IsPass A mode k B × (B ≡ A → ⊥) × LeadByPasses B mode k n C
 
 -- C is the first of A, A after one pass, A after two passes and so on that a further pass leaves as it is.
 abbrev pub IsReduced : Automaton → Mode → ℕ → Automaton → Type 0
-IsReduced A mode k C = (n : ℕ) × Passes A mode k n C
+IsReduced A mode k C = (n : ℕ) × LeadByPasses A mode k n C

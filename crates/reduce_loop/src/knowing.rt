@@ -7,6 +7,8 @@ ghost use Rattle.reduce_loop.specs.Logs.{IsRelationOf, IsBackOf, IsAheadOf};
 
 use auto_core::{Auto, Memory};
 use bit_rel::Rel;
+use look_game::greatest_near;
+use look_round::{Backward, Forward};
 use std::alloc::Global;
 
 /// The greatest relations of an automaton that were found so far, at the lookahead of the reduction and at lookahead 1.
@@ -74,6 +76,60 @@ pub(crate) fn backward(
     Ok(rel)
 }
 
+/// The greatest forward relation at lookahead 1, which is kept. It is sought inside the one at the lookahead of the reduction, which is
+/// kept too.
+fn near_forward(
+    alloc: Global,
+    automaton: &Auto,
+    kept: &mut Option<Rel>,
+    far: &mut Option<Rel>,
+    look: u32,
+) -> Result<Rel, Memory>
+    requires look_from { 1 ≤ look }
+    requires look_upto { look ≤ 6 }
+    requires known { IfSome kept.old (IsRelationOf automaton.now (IsGreatestForward automaton.now 1)) }
+    requires far { IfSome far.old (IsRelationOf automaton.now (IsGreatestForward automaton.now look)) }
+    ensures greatest { IfOk result (IsRelationOf automaton.now (IsGreatestForward automaton.now 1)) }
+    ensures known { IfOk result (λ _. IfSome kept.new (IsRelationOf automaton.now (IsGreatestForward automaton.now 1))) }
+    ensures far { IfOk result (λ _. IfSome far.new (IsRelationOf automaton.now (IsGreatestForward automaton.now look))) }
+{
+    match kept {
+        Some(rel) => return rel.copied(alloc),
+        None => {}
+    }
+    let found = forward(alloc, automaton, far, look)?;
+    let rel = greatest_near(alloc, &Forward, automaton, look, found)?;
+    *kept = Some(rel.copied(alloc)?);
+    Ok(rel)
+}
+
+/// The greatest backward relation at lookahead 1, which is kept. It is sought inside the one at the lookahead of the reduction, which is
+/// kept too.
+fn near_backward(
+    alloc: Global,
+    automaton: &Auto,
+    kept: &mut Option<Rel>,
+    far: &mut Option<Rel>,
+    look: u32,
+) -> Result<Rel, Memory>
+    requires look_from { 1 ≤ look }
+    requires look_upto { look ≤ 6 }
+    requires known { IfSome kept.old (IsRelationOf automaton.now (IsGreatestBackward automaton.now 1)) }
+    requires far { IfSome far.old (IsRelationOf automaton.now (IsGreatestBackward automaton.now look)) }
+    ensures greatest { IfOk result (IsRelationOf automaton.now (IsGreatestBackward automaton.now 1)) }
+    ensures known { IfOk result (λ _. IfSome kept.new (IsRelationOf automaton.now (IsGreatestBackward automaton.now 1))) }
+    ensures far { IfOk result (λ _. IfSome far.new (IsRelationOf automaton.now (IsGreatestBackward automaton.now look))) }
+{
+    match kept {
+        Some(rel) => return rel.copied(alloc),
+        None => {}
+    }
+    let found = backward(alloc, automaton, far, look)?;
+    let rel = greatest_near(alloc, &Backward, automaton, look, found)?;
+    *kept = Some(rel.copied(alloc)?);
+    Ok(rel)
+}
+
 /// The backward relation of the pair, if it has one.
 pub(crate) fn back_of(
     alloc: Global,
@@ -90,7 +146,13 @@ pub(crate) fn back_of(
 {
     match pair {
         1 => Ok(None),
-        4 => Ok(Some(backward(alloc, automaton, &mut known.near_backward, 1)?)),
+        4 => Ok(Some(near_backward(
+            alloc,
+            automaton,
+            &mut known.near_backward,
+            &mut known.backward,
+            look,
+        )?)),
         _ => Ok(Some(backward(alloc, automaton, &mut known.backward, look)?)),
     }
 }
@@ -111,7 +173,13 @@ pub(crate) fn ahead_of(
 {
     match pair {
         2 => Ok(None),
-        3 => Ok(Some(forward(alloc, automaton, &mut known.near_forward, 1)?)),
+        3 => Ok(Some(near_forward(
+            alloc,
+            automaton,
+            &mut known.near_forward,
+            &mut known.forward,
+            look,
+        )?)),
         _ => Ok(Some(forward(alloc, automaton, &mut known.forward, look)?)),
     }
 }

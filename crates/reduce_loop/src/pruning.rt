@@ -7,7 +7,7 @@ ghost use Rattle.bit_rel.specs.Relation.{IsClosed};
 ghost use Rattle.prune_pairs.specs.Least.{AreLeastBetter, numbers_of};
 ghost use Rattle.reduce_loop.specs.Kinds.{After};
 ghost use Rattle.reduce_loop.specs.Known.{IsKnown};
-ghost use Rattle.reduce_loop.specs.Logs.{IsBackOf, IsAheadOf, IsEntry, pairs_of};
+ghost use Rattle.reduce_loop.specs.Logs.{IsBackOf, IsAheadOf, IsEntry, pairs_given};
 ghost use Rattle.std.specs.List.Sorted.{IsStrictlyIncreasing};
 
 use crate::joining::closure;
@@ -41,7 +41,7 @@ fn removable_by(
     requires pair_upto { pair ≤ 4 }
     requires back { IsBackOf automaton.now pair look back.now }
     requires ahead { IsAheadOf automaton.now pair look ahead.now }
-    ensures { IfOk result (AreLeastBetter automaton.now pair (Close (Holds (pairs_of back.now))) (Close (Holds (pairs_of ahead.now)))) }
+    ensures { IfOk result (AreLeastBetter automaton.now pair (Close (Holds (pairs_given back.now))) (Close (Holds (pairs_given ahead.now)))) }
 {
     let states = automaton.states();
     let closed_back = closure_of(alloc, back, states)?;
