@@ -18,7 +18,7 @@ use Rattle.auto_core.specs.Accept.{Same}
 use Rattle.auto_core.proofs.Accepting.{Contains-from_test, test-from_Contains}
 use Rattle.ba_format.specs.declared.parts.Named.{Named}
 use Rattle.ba_format.specs.declared.parts.Joined.{Joined}
-use Rattle.ba_format.specs.Sight.{same_text, noted, first_seen, number_in}
+use Rattle.ba_format.specs.Sight.{same_text, noted, first_seen, place_in}
 use Rattle.ba_format.specs.Grammar.{StateLine}
 use Rattle.ba_format.specs.Faults.{states_in, labels_in, transitions_in, same_trans, state_lines, names_of, labels_of, transitions_of, accepting_names, accepting_numbers, accepting_of}
 use Rattle.ba_format.specs.Reading.{IsReading}
@@ -29,7 +29,7 @@ use Rattle.ba_format.proofs.JoinLemmas.{at_number, number_tells}
 use Rattle.ba_format.proofs.DraftLemmas.{AllFound, AllFound-noted, AllFound-left, AllFound-right}
 use Rattle.ba_format.proofs.LawLemmas.{contains_cases, contains_later, contains_first}
 use Rattle.ba_format.proofs.RenameLemmas.{IsRenaming, renamed_same}
-use Rattle.ba_format.proofs.WrittenLemmas.{transition_entry_of, written_entries, entries_of-written}
+use Rattle.ba_format.proofs.WrittenLemmas.{transition_entry_of, written_entries, contents_of-written}
 
 -- ---- members
 
@@ -158,11 +158,11 @@ LS A labels = labels_of (written_entries A labels)
 
 -- the number that a state has where it is read
 abbrev pub renamed : Automaton → List (List ℕ) → ℕ → ℕ
-renamed A labels q = number_in same_text (NS A labels) (name_text q)
+renamed A labels q = place_in same_text (NS A labels) (name_text q)
 
 -- a transition in the numbers of what is read
 abbrev pub renumbered : Automaton → List (List ℕ) → Trans → Trans
-renumbered A labels t = trans (renamed A labels t.source) (number_in same_text (LS A labels) (get_or labels t.label [])) (renamed A labels t.target)
+renumbered A labels t = trans (renamed A labels t.source) (place_in same_text (LS A labels) (get_or labels t.label [])) (renamed A labels t.target)
 
 -- a state that stands in the text
 abbrev Known : Automaton → List (List ℕ) → ℕ → Type 0
@@ -238,10 +238,10 @@ module _ (A : Automaton) (labels : List (List ℕ)) (w : IsWritable A labels) wh
       by [] e = e
       by (q ∷ qs) e = not_zero (suc (length (map name_text qs))) (omega arith)
 
-  accepting_numbered : accepting_of (written_entries A labels) ≡ first_seen (λ a b. eqb a b) (map (number_in same_text (NS A labels)) (map name_text (accepting_written A)))
+  accepting_numbered : accepting_of (written_entries A labels) ≡ first_seen (λ a b. eqb a b) (map (place_in same_text (NS A labels)) (map name_text (accepting_written A)))
   accepting_numbered =
       ap (λ b. if b then range_with_len 0 (length (NS A labels)) else accepting_numbers (written_entries A labels)) (ap (λ l. eqb (length l) 0) accepting_listed ∙ some_accepting (eqb (length A.accepting) 0) refl)
-      ∙ ap (λ l. first_seen (λ a b. eqb a b) (map (number_in same_text (NS A labels)) l)) accepting_listed
+      ∙ ap (λ l. first_seen (λ a b. eqb a b) (map (place_in same_text (NS A labels)) l)) accepting_listed
 
   module _ (names : List (List ℕ)) (read : Named) (joined : Joined) (rd : IsReading (written_entries A labels) read)
       (j : IsJoined (record { auto = A; names = names; labels = labels }) read joined) where
@@ -260,29 +260,29 @@ module _ (A : Automaton) (labels : List (List ℕ)) (w : IsWritable A labels) wh
 
     -- the letter of a transition in the joined numbers
     letter : Trans → ℕ
-    letter t = number_in same_text joined.labels (get_or labels t.label [])
+    letter t = place_in same_text joined.labels (get_or labels t.label [])
 
     same_letter : (t : Trans) → Contains A.transitions t
-        → relabelled read.labels joined.labels (renumbered A labels t) ≡ trans (renamed A labels t.source) (number_in same_text joined.labels (get_or labels t.label [])) (renamed A labels t.target)
+        → relabelled read.labels joined.labels (renumbered A labels t) ≡ trans (renamed A labels t.source) (place_in same_text joined.labels (get_or labels t.label [])) (renamed A labels t.target)
     same_letter t c =
         (λ i. relabelled (rd.labels i) joined.labels (renumbered A labels t))
-        ∙ ap (λ text. trans (renamed A labels t.source) (number_in same_text joined.labels text) (renamed A labels t.target)) (sym (at_number (LS A labels) (get_or labels t.label []) (label_known t c)))
+        ∙ ap (λ text. trans (renamed A labels t.source) (place_in same_text joined.labels text) (renamed A labels t.target)) (sym (at_number (LS A labels) (get_or labels t.label []) (label_known t c)))
 
-    to_second : (t : Trans) → Contains A.transitions t → Moves joined.second (renamed A labels t.source) (number_in same_text joined.labels (get_or labels t.label [])) (renamed A labels t.target)
+    to_second : (t : Trans) → Contains A.transitions t → Moves joined.second (renamed A labels t.source) (place_in same_text joined.labels (get_or labels t.label [])) (renamed A labels t.target)
     to_second t c =
         Contains-permutation (map (relabelled read.labels joined.labels) read.auto.transitions) joined.second.transitions _ j.second.transitions_given
         (subst (Contains (map (relabelled read.labels joined.labels) read.auto.transitions)) (same_letter t c)
         (map_contains (relabelled read.labels joined.labels) read.auto.transitions (renumbered A labels t) (to_read t c)))
 
     from_second : (u : Trans) → Contains joined.second.transitions u
-        → (t : Trans) × Contains A.transitions t × (trans (renamed A labels t.source) (number_in same_text joined.labels (get_or labels t.label [])) (renamed A labels t.target) ≡ u)
+        → (t : Trans) × Contains A.transitions t × (trans (renamed A labels t.source) (place_in same_text joined.labels (get_or labels t.label [])) (renamed A labels t.target) ≡ u)
     from_second u c =
         let given = contains_map (relabelled read.labels joined.labels) read.auto.transitions u
         (Contains-permutation joined.second.transitions (map (relabelled read.labels joined.labels) read.auto.transitions) u (IsPermutation-sym (map (relabelled read.labels joined.labels) read.auto.transitions) joined.second.transitions j.second.transitions_given) c) in
         let own = from_read given.0 given.1 in
         (own.0, own.1, sym (same_letter own.0 own.1) ∙ ap (relabelled read.labels joined.labels) own.2 ∙ given.2)
 
-    to_first : (t : Trans) → Contains A.transitions t → Moves joined.first t.source (number_in same_text joined.labels (get_or labels t.label [])) t.target
+    to_first : (t : Trans) → Contains A.transitions t → Moves joined.first t.source (place_in same_text joined.labels (get_or labels t.label [])) t.target
     to_first t c =
         Contains-permutation (map (relabelled labels joined.labels) A.transitions) joined.first.transitions (relabelled labels joined.labels t) j.first.transitions_given
         (map_contains (relabelled labels joined.labels) A.transitions t c)
@@ -298,15 +298,15 @@ module _ (A : Automaton) (labels : List (List ℕ)) (w : IsWritable A labels) wh
     accepting_from z c =
         let in_read = Contains-permutation joined.second.accepting read.auto.accepting z (IsPermutation-sym read.auto.accepting joined.second.accepting j.second.accepting_given) c in
         let in_text = Contains-permutation read.auto.accepting (accepting_of (written_entries A labels)) z (IsPermutation-sym (accepting_of (written_entries A labels)) read.auto.accepting rd.auto.accepting_given) in_read in
-        let numbers = map (number_in same_text (NS A labels)) (map name_text (accepting_written A)) in
-        let named = contains_map (number_in same_text (NS A labels)) (map name_text (accepting_written A)) z (first_from (λ a b. eqb a b) eqb-equal numbers z (subst (λ l. Contains l z) accepting_numbered in_text)) in
+        let numbers = map (place_in same_text (NS A labels)) (map name_text (accepting_written A)) in
+        let named = contains_map (place_in same_text (NS A labels)) (map name_text (accepting_written A)) z (first_from (λ a b. eqb a b) eqb-equal numbers z (subst (λ l. Contains l z) accepting_numbered in_text)) in
         let own = contains_map name_text (accepting_written A) named.0 named.1 in
-        (own.0, own.1, ap (number_in same_text (NS A labels)) own.2 ∙ named.2)
+        (own.0, own.1, ap (place_in same_text (NS A labels)) own.2 ∙ named.2)
 
     accepting_to : (q : ℕ) → Contains (accepting_written A) q → Contains joined.second.accepting (renamed A labels q)
     accepting_to q c =
-        let numbers = map (number_in same_text (NS A labels)) (map name_text (accepting_written A)) in
-        let listed = map_contains (number_in same_text (NS A labels)) (map name_text (accepting_written A)) (name_text q) (map_contains name_text (accepting_written A) q c) in
+        let numbers = map (place_in same_text (NS A labels)) (map name_text (accepting_written A)) in
+        let listed = map_contains (place_in same_text (NS A labels)) (map name_text (accepting_written A)) (name_text q) (map_contains name_text (accepting_written A) q c) in
         Contains-permutation read.auto.accepting joined.second.accepting (renamed A labels q) j.second.accepting_given
         (Contains-permutation (accepting_of (written_entries A labels)) read.auto.accepting (renamed A labels q) rd.auto.accepting_given
         (subst (λ l. Contains l (renamed A labels q)) (sym accepting_numbered) (first_has (λ a b. eqb a b) eqb-equal numbers (renamed A labels q) listed)))
@@ -368,4 +368,4 @@ module _ (A : Automaton) (labels : List (List ℕ)) (w : IsWritable A labels) wh
 
 pub written_reads_back : WrittenReadsBack
 written_reads_back A labels names limits read joined mode w reads j =
-    read_back_same A labels w names read joined (subst (λ es. IsReading es read) (entries_of-written A labels w) reads.reading) j mode
+    read_back_same A labels w names read joined (subst (λ es. IsReading es read) (contents_of-written A labels w) reads.reading) j mode

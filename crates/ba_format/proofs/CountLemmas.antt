@@ -19,7 +19,7 @@ use Rattle.ba_format.specs.Writing.{name_text, accepting_written}
 use Rattle.ba_format.specs.Laws.{IsWritable, WrittenCounts, WrittenIsRead}
 use Rattle.ba_format.proofs.SightLemmas.{same_text-equal}
 use Rattle.ba_format.proofs.NamedLemmas.{All-seen, seen-most}
-use Rattle.ba_format.proofs.WrittenLemmas.{transition_entry_of, written_entries, entries_of-written, written_reads}
+use Rattle.ba_format.proofs.WrittenLemmas.{transition_entry_of, written_entries, contents_of-written, written_reads}
 use Rattle.ba_format.proofs.BackLemmas.{renumbered, transitions_listed}
 
 -- ---- texts of the first numbers
@@ -123,7 +123,7 @@ module _ (A : Automaton) (labels : List (List ℕ)) (w : IsWritable A labels) wh
 
 pub written_counts : WrittenCounts
 written_counts A labels w =
-    let same = sym (entries_of-written A labels w) in
+    let same = sym (contents_of-written A labels w) in
     record {
       states = subst (λ es. length (names_of es) ≤ A.states + 1) same (few_names A labels w);
       labels = subst (λ es. length (labels_of es) ≤ A.labels) same (few_labels A labels w);

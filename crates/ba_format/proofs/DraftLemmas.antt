@@ -6,8 +6,8 @@ use Rattle.std.proofs.lemmas.List.Sums.{fold-append}
 use Rattle.std.proofs.lemmas.List.Folds.{list_any-append}
 use Rattle.std.proofs.lemmas.Grind.{flat_map-append}
 use Rattle.auto_core.specs.Automaton.{trans}
-use Rattle.ba_format.specs.Sight.{same_text, noted, number_in}
-use Rattle.ba_format.specs.Grammar.{Entry, StateLine, TransitionLine}
+use Rattle.ba_format.specs.Sight.{same_text, noted, place_in}
+use Rattle.ba_format.specs.Grammar.{LineContent, StateLine, TransitionLine}
 use Rattle.ba_format.specs.Faults.{states_in, labels_in, names_of, labels_of, transitions_in, transitions_of, same_trans}
 use Rattle.ba_format.proofs.SightLemmas.{same_text-refl}
 
@@ -30,10 +30,10 @@ position-more p (x ∷ xs) ys h = by (p x) h (position-more p xs ys)
     by true h rest = refl
     by false h rest = ap (λ n. 1 + n) (rest h)
 
-number-more : (text x : List ℕ) (seen : List (List ℕ)) → list_any (same_text text) seen ≡ true → number_in same_text (noted same_text seen x) text ≡ number_in same_text seen text
+number-more : (text x : List ℕ) (seen : List (List ℕ)) → list_any (same_text text) seen ≡ true → place_in same_text (noted same_text seen x) text ≡ place_in same_text seen text
 number-more text x seen h = by (list_any (same_text x) seen)
   where
-    by : (b : Bool) → number_in same_text (if b then seen else seen ++ x ∷ []) text ≡ number_in same_text seen text
+    by : (b : Bool) → place_in same_text (if b then seen else seen ++ x ∷ []) text ≡ place_in same_text seen text
     by true = refl
     by false = position-more (same_text text) seen (x ∷ []) h
 
@@ -46,12 +46,12 @@ found-noted text seen = by (list_any (same_text text) seen) refl
     by false e = list_any-append (same_text text) seen (text ∷ []) ∙ ap (λ b. b || list_any (same_text text) (text ∷ [])) e ∙ ap (λ b. b || false) (same_text-refl text)
 
 -- a new text gets the next number
-pub number-new : (text : List ℕ) (seen : List (List ℕ)) → list_any (same_text text) seen ≡ false → number_in same_text (seen ++ text ∷ []) text ≡ length seen
+pub number-new : (text : List ℕ) (seen : List (List ℕ)) → list_any (same_text text) seen ≡ false → place_in same_text (seen ++ text ∷ []) text ≡ length seen
 number-new text [] h = ap (λ b. cond (not b) (1 + 0) 0) (same_text-refl text)
 number-new text (x ∷ xs) h = by (same_text text x) h (number-new text xs)
   where
-    by : (b : Bool) → (b || list_any (same_text text) xs) ≡ false → (list_any (same_text text) xs ≡ false → number_in same_text (xs ++ text ∷ []) text ≡ length xs)
-        → cond (not b) (1 + number_in same_text (xs ++ text ∷ []) text) 0 ≡ suc (length xs)
+    by : (b : Bool) → (b || list_any (same_text text) xs) ≡ false → (list_any (same_text text) xs ≡ false → place_in same_text (xs ++ text ∷ []) text ≡ length xs)
+        → cond (not b) (1 + place_in same_text (xs ++ text ∷ []) text) 0 ≡ suc (length xs)
     by true h rest = absurd (true≢false h)
     by false h rest = omega (arith, rest h)
 
@@ -63,7 +63,7 @@ pub found-all : (text : List ℕ) (xs seen : List (List ℕ)) → list_any (same
 found-all text [] seen h = h
 found-all text (x ∷ xs) seen h = found-all text xs (noted same_text seen x) (found-more text x seen h)
 
-pub number-all : (text : List ℕ) (xs seen : List (List ℕ)) → list_any (same_text text) seen ≡ true → number_in same_text (fold (noted same_text) seen xs) text ≡ number_in same_text seen text
+pub number-all : (text : List ℕ) (xs seen : List (List ℕ)) → list_any (same_text text) seen ≡ true → place_in same_text (fold (noted same_text) seen xs) text ≡ place_in same_text seen text
 number-all text [] seen h = refl
 number-all text (x ∷ xs) seen h = number-all text xs (noted same_text seen x) (found-more text x seen h) ∙ number-more text x seen h
 
@@ -84,24 +84,24 @@ pub AllFound-right : (xs ys seen : List (List ℕ)) → AllFound seen (xs ++ ys)
 AllFound-right [] ys seen h = h
 AllFound-right (x ∷ xs) ys seen h = AllFound-right xs ys seen h.1
 
-pub numbers-all : (xs more seen : List (List ℕ)) → AllFound seen xs → map (number_in same_text (fold (noted same_text) seen more)) xs ≡ map (number_in same_text seen) xs
+pub numbers-all : (xs more seen : List (List ℕ)) → AllFound seen xs → map (place_in same_text (fold (noted same_text) seen more)) xs ≡ map (place_in same_text seen) xs
 numbers-all [] more seen h = refl
 numbers-all (x ∷ xs) more seen h = λ i. number-all x more seen h.0 i ∷ numbers-all xs more seen h.1 i
 
 -- ---- a line more
 
 -- the last line's part of a flat list
-pub flat-push : {X : Type 0} (f : Entry → List X) (entries : List Entry) (entry : Entry) → flat_map f (entries ++ entry ∷ []) ≡ flat_map f entries ++ f entry
+pub flat-push : {X : Type 0} (f : LineContent → List X) (entries : List LineContent) (entry : LineContent) → flat_map f (entries ++ entry ∷ []) ≡ flat_map f entries ++ f entry
 flat-push f entries entry = flat_map-append f entries (entry ∷ []) ∙ ap (λ l. flat_map f entries ++ l) (append-nil (f entry))
 
-pub names-push : (entries : List Entry) (entry : Entry) → names_of (entries ++ entry ∷ []) ≡ fold (noted same_text) (names_of entries) (states_in entry)
+pub names-push : (entries : List LineContent) (entry : LineContent) → names_of (entries ++ entry ∷ []) ≡ fold (noted same_text) (names_of entries) (states_in entry)
 names-push entries entry = ap (fold (noted same_text) []) (flat-push states_in entries entry) ∙ fold-append (noted same_text) [] (flat_map states_in entries) (states_in entry)
 
-pub labels-push : (entries : List Entry) (entry : Entry) → labels_of (entries ++ entry ∷ []) ≡ fold (noted same_text) (labels_of entries) (labels_in entry)
+pub labels-push : (entries : List LineContent) (entry : LineContent) → labels_of (entries ++ entry ∷ []) ≡ fold (noted same_text) (labels_of entries) (labels_in entry)
 labels-push entries entry = ap (fold (noted same_text) []) (flat-push labels_in entries entry) ∙ fold-append (noted same_text) [] (flat_map labels_in entries) (labels_in entry)
 
 -- the lines' transitions keep their numbers when more is noted
-transitions-kept : (entries : List Entry) (names labels more_names more_labels : List (List ℕ)) → AllFound names (flat_map states_in entries) → AllFound labels (flat_map labels_in entries)
+transitions-kept : (entries : List LineContent) (names labels more_names more_labels : List (List ℕ)) → AllFound names (flat_map states_in entries) → AllFound labels (flat_map labels_in entries)
     → flat_map (transitions_in (fold (noted same_text) names more_names) (fold (noted same_text) labels more_labels)) entries ≡ flat_map (transitions_in names labels) entries
 transitions-kept [] names labels more_names more_labels hn hl = refl
 transitions-kept (StateLine name ∷ entries) names labels more_names more_labels hn hl = transitions-kept entries names labels more_names more_labels hn.1 hl
@@ -110,7 +110,7 @@ transitions-kept (TransitionLine label source target ∷ entries) names labels m
     trans (number-all source more_names names hn.0 i) (number-all label more_labels labels hl.0 i) (number-all target more_names names hn.1.0 i)
     ∷ transitions-kept entries names labels more_names more_labels hn.1.1 hl.1 i
 
-pub transitions-push : (entries : List Entry) (entry : Entry)
+pub transitions-push : (entries : List LineContent) (entry : LineContent)
     → transitions_of (entries ++ entry ∷ []) ≡ fold (noted same_trans) (transitions_of entries) (transitions_in (names_of (entries ++ entry ∷ [])) (labels_of (entries ++ entry ∷ [])) entry)
 transitions-push entries entry =
     let N = names_of (entries ++ entry ∷ []) in

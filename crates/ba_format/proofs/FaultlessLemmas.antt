@@ -16,8 +16,8 @@ use Rattle.auto_core.proofs.Order.{IsBefore-trans}
 use Rattle.ba_format.specs.declared.parts.BaKind.{BaKind}
 use Rattle.ba_format.specs.declared.parts.BaKind.TheVariants.{TwoInitial, TooManyStates, TooManyLabels, TooManyTransitions}
 use Rattle.ba_format.specs.declared.parts.Limits.{Limits}
-use Rattle.ba_format.specs.Grammar.{Line, Entry, entry_of, own_fault, lines_of}
-use Rattle.ba_format.specs.Faults.{names_of, labels_of, transitions_of, accepting_of, opens_twice, later_fault, kind_of_line, first_fault, fault_of_lines, fault_of, entries_of}
+use Rattle.ba_format.specs.Grammar.{NumberedLine, LineContent, content_of, own_fault, lines_in}
+use Rattle.ba_format.specs.Faults.{names_of, labels_of, transitions_of, accepting_of, opens_twice, later_fault, kind_of_line, first_fault, fault_of_lines, fault_of, contents_of}
 use Rattle.ba_format.specs.Draft.{Fits}
 use Rattle.ba_format.specs.Laws.{ReadIsWithin, FaultlessReads}
 use Rattle.ba_format.proofs.LabelLemmas.{if_none, later_none}
@@ -95,7 +95,7 @@ or_none_later : (own later : Option BaKind) → option_or own later ≡ None →
 or_none_later None later h = h
 or_none_later (Some kind) later h = cc
 
-fits_after : (limits : Limits) (earlier : List Entry) (entry : Entry) → later_fault limits earlier entry ≡ None → Fits limits (earlier ++ entry ∷ [])
+fits_after : (limits : Limits) (earlier : List LineContent) (entry : LineContent) → later_fault limits earlier entry ≡ None → Fits limits (earlier ++ entry ∷ [])
 fits_after limits earlier entry h =
     let one = if_none (opens_twice earlier entry) TwoInitial _ h in
     let two = if_none (ltb limits.states (length (names_of (earlier ++ entry ∷ [])))) TooManyStates _ one.1 in
@@ -107,32 +107,32 @@ fits_after limits earlier entry h =
       transitions = not_past limits.transitions (length (transitions_of (earlier ++ entry ∷ []))) four.0;
     }
 
-fits_all : (limits : Limits) (earlier : List Entry) (lines : List Line) → Fits limits earlier → first_fault limits earlier lines ≡ None → Fits limits (earlier ++ map (λ l. entry_of l.text) lines)
+fits_all : (limits : Limits) (earlier : List LineContent) (lines : List NumberedLine) → Fits limits earlier → first_fault limits earlier lines ≡ None → Fits limits (earlier ++ map (λ l. content_of l.text) lines)
 fits_all limits earlier [] f h = subst (Fits limits) (sym (append-nil earlier)) f
 fits_all limits earlier (l ∷ ls) f h =
-    let entry = entry_of l.text in
+    let entry = content_of l.text in
     let parts = later_none l.number (kind_of_line limits earlier l.text) (first_fault limits (earlier ++ entry ∷ []) ls) h in
     let now = fits_after limits earlier entry (or_none_later (own_fault l.text) (later_fault limits earlier entry) parts.0) in
-    subst (Fits limits) (append_assoc earlier (entry ∷ []) (map (λ l. entry_of l.text) ls)) (fits_all limits (earlier ++ entry ∷ []) ls now parts.1)
+    subst (Fits limits) (append_assoc earlier (entry ∷ []) (map (λ l. content_of l.text) ls)) (fits_all limits (earlier ++ entry ∷ []) ls now parts.1)
 
-lines_without_fault : (limits : Limits) (lines : List Line) → fault_of_lines limits lines ≡ None → (0 < length (map (λ l. entry_of l.text) lines)) × (first_fault limits [] lines ≡ None)
+lines_without_fault : (limits : Limits) (lines : List NumberedLine) → fault_of_lines limits lines ≡ None → (0 < length (map (λ l. content_of l.text) lines)) × (first_fault limits [] lines ≡ None)
 lines_without_fault limits [] h = cc
 lines_without_fault limits (l ∷ ls) h = (omega arith, h)
 
-pub text_fits : (text : List ℕ) (limits : Limits) → fault_of text limits ≡ None → Fits limits (entries_of text)
+pub text_fits : (text : List ℕ) (limits : Limits) → fault_of text limits ≡ None → Fits limits (contents_of text)
 text_fits text limits none =
     let start : Fits limits [] = record { states = omega arith; labels = omega arith; transitions = omega arith } in
-    fits_all limits [] (lines_of text) start (lines_without_fault limits (lines_of text) none).1
+    fits_all limits [] (lines_in text) start (lines_without_fault limits (lines_in text) none).1
 
 pub read_is_within : ReadIsWithin
-read_is_within text limits named reads = within_limits limits (entries_of text) named (text_fits text limits reads.no_fault) reads.reading
+read_is_within text limits named reads = within_limits limits (contents_of text) named (text_fits text limits reads.no_fault) reads.reading
 
 -- ---- the value
 
 pub faultless_reads : FaultlessReads
 faultless_reads text limits states_fit labels_fit transitions_fit none =
-    let entries = entries_of text in
-    let lines = lines_without_fault limits (lines_of text) none in
+    let entries = contents_of text in
+    let lines = lines_without_fault limits (lines_in text) none in
     let fits : Fits limits entries = text_fits text limits none in
     let parts = parts_of entries lines.0 (omega (arith, fits.transitions)) in
     let transitions = put_in_order IsBefore IsBefore-trans either_before (transitions_of entries) (different_from (transitions_of entries) parts.no_transition_twice) in

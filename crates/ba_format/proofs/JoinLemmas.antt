@@ -9,9 +9,9 @@ use Rattle.std.proofs.lemmas.List.Kept.{AllPairs-from_increasing}
 use Rattle.std.proofs.lemmas.Bool.{cases_lt, cases_eq}
 use Rattle.std.proofs.lemmas.List.Folds.{list_any_at, list_any-append, list_any_none}
 use Rattle.ba_format.proofs.SightLemmas.{same_text-refl, same_text-equal}
-use Rattle.ba_format.specs.Sight.{same_text, number_in, AreDifferent}
+use Rattle.ba_format.specs.Sight.{same_text, place_in, AreDifferent}
 use Rattle.auto_core.specs.Automaton.{Automaton, IsAutomaton, HasRepeat, IsBefore, trans, trans_at}
-use Rattle.ba_format.specs.Parts.{AreParts}
+use Rattle.auto_core.specs.Parts.{AreParts}
 use Rattle.ba_format.proofs.LineLemmas.{place_within}
 use Rattle.std.proofs.lemmas.List.Sums.{passes_at_first}
 use Rattle.std.proofs.lemmas.Bool.Decides.{nat_tests}
@@ -188,18 +188,18 @@ joined_made first second new one both n o b =
 -- ---- renumbered automata
 
 -- a text that is found stands at its number
-pub number_within : (texts : List (List ℕ)) (text : List ℕ) → list_any (same_text text) texts ≡ true → number_in same_text texts text < length texts
+pub number_within : (texts : List (List ℕ)) (text : List ℕ) → list_any (same_text text) texts ≡ true → place_in same_text texts text < length texts
 number_within texts text h = within _ _ (place_within (same_text text) texts ∙ h)
   where
     within : (m n : ℕ) → ltb m n ≡ true → m < n
     within m n e = grind (arith, nat_tests)
 
-pub at_number : (texts : List (List ℕ)) (text : List ℕ) → list_any (same_text text) texts ≡ true → text ≡ get_or texts (number_in same_text texts text) []
+pub at_number : (texts : List (List ℕ)) (text : List ℕ) → list_any (same_text text) texts ≡ true → text ≡ get_or texts (place_in same_text texts text) []
 at_number texts text h = same_text-equal text _ (passes_at_first (same_text text) texts [] (number_within texts text h))
 
 -- different texts have different numbers
 pub number_tells : (texts : List (List ℕ)) (a b : List ℕ) → list_any (same_text a) texts ≡ true → list_any (same_text b) texts ≡ true
-    → number_in same_text texts a ≡ number_in same_text texts b → a ≡ b
+    → place_in same_text texts a ≡ place_in same_text texts b → a ≡ b
 number_tells texts a b ha hb e = at_number texts a ha ∙ ap (λ n. get_or texts n []) e ∙ sym (at_number texts b hb)
 
 map_same : {X Y : Type 0} (f g : X → Y) (xs : List X) → All (λ x. f x ≡ g x) xs → map f xs ≡ map g xs
@@ -213,13 +213,13 @@ module _ (A : Automaton) (labels joined : List (List ℕ)) (valid : IsAutomaton 
   label_known i lt = omega (arith, (valid.in_range i (trans 0 0 0) lt).2, count)
 
   -- the numbers of the labels are those of their texts
-  pub by_numbers : (numbers : List ℕ) → numbers ≡ map (number_in same_text joined) labels
+  pub by_numbers : (numbers : List ℕ) → numbers ≡ map (place_in same_text joined) labels
       → map (λ t. trans t.source (get_or numbers t.label 0) t.target) A.transitions ≡ map (relabelled labels joined) A.transitions
   by_numbers numbers e =
       map_same (λ t. trans t.source (get_or numbers t.label 0) t.target) (relabelled labels joined) A.transitions (λ k d lt.
       let t = get_or A.transitions k d in
       let known : t.label < length labels = omega (arith, (valid.in_range k d lt).2, count) in
-      ap (λ n. trans t.source n t.target) (ap (λ l. get_or l t.label 0) e ∙ get_or-map (number_in same_text joined) labels t.label [] 0 known))
+      ap (λ n. trans t.source n t.target) (ap (λ l. get_or l t.label 0) e ∙ get_or-map (place_in same_text joined) labels t.label [] 0 known))
 
   -- the transition at a place, with its new label
   at_place : (k : ℕ) (d : Trans) → k < length A.transitions → get_or (map (relabelled labels joined) A.transitions) k d ≡ relabelled labels joined (trans_at A k)
@@ -282,7 +282,7 @@ module _ (A : Automaton) (labels joined : List (List ℕ)) (valid : IsAutomaton 
       }
 
   -- the new transitions, by the steps that make them
-  pub transitions_made : (numbers lent : List ℕ) (given lent_transitions made : List Trans) → numbers ≡ map (number_in same_text joined) labels → lent ≡ numbers → given ≡ A.transitions
+  pub transitions_made : (numbers lent : List ℕ) (given lent_transitions made : List Trans) → numbers ≡ map (place_in same_text joined) labels → lent ≡ numbers → given ≡ A.transitions
       → made ≡ map (λ t. trans t.source (get_or lent t.label 0) t.target) given → lent_transitions ≡ made
       → lent_transitions ≡ map (relabelled labels joined) A.transitions
   transitions_made numbers lent given lent_transitions made e l g m t =

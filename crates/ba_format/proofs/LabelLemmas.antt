@@ -11,8 +11,8 @@ use Rattle.ba_format.specs.declared.parts.BaKind.{BaKind}
 use Rattle.ba_format.specs.declared.parts.BaKind.TheVariants.{BadByte, Shape, EmptyToken, TokenLong}
 use Rattle.ba_format.specs.declared.parts.Limits.{Limits}
 use Rattle.ba_format.specs.Sight.{same_text, AreDifferent}
-use Rattle.ba_format.specs.Grammar.{Line, Entry, StateLine, TransitionLine, is_blank, without_leading, trimmed, arrows, is_comma, entry_of, tokens_of, is_bad, is_shaped, is_empty, is_long, own_fault, lines_of, before_arrow, after_arrow}
-use Rattle.ba_format.specs.Faults.{labels_in, labels_of, kind_of_line, later_fault, or_later, first_fault, fault_of_lines, entries_of}
+use Rattle.ba_format.specs.Grammar.{NumberedLine, LineContent, StateLine, TransitionLine, is_blank, without_leading, trimmed, arrows, is_comma, content_of, content_tokens, is_bad, is_shaped, is_empty, is_long, own_fault, lines_in, before_arrow, after_arrow}
+use Rattle.ba_format.specs.Faults.{labels_in, labels_of, kind_of_line, later_fault, or_later, first_fault, fault_of_lines, contents_of}
 use Rattle.ba_format.specs.Laws.{IsLabelText, LabelsFit}
 use Rattle.ba_format.proofs.SightLemmas.{same_text-refl}
 use Rattle.ba_format.proofs.LineLemmas.{before-none, cut_at, is_shaped-cut}
@@ -106,15 +106,15 @@ if_none false kind rest h = (refl, h)
 record OwnParts (line : List ℕ) : Type 0 where
   good : list_any is_bad line ≡ false
   shaped : is_shaped line ≡ true
-  full : list_any is_empty (tokens_of (entry_of line)) ≡ false
-  short : list_any is_long (tokens_of (entry_of line)) ≡ false
+  full : list_any is_empty (content_tokens (content_of line)) ≡ false
+  short : list_any is_long (content_tokens (content_of line)) ≡ false
 
 own_parts : (line : List ℕ) → own_fault line ≡ None → OwnParts line
 own_parts line h =
     let one = if_none (list_any is_bad line) BadByte _ h in
     let two = if_none (not (is_shaped line)) Shape _ one.1 in
-    let three = if_none (list_any is_empty (tokens_of (entry_of line))) EmptyToken _ two.1 in
-    let four = if_none (list_any is_long (tokens_of (entry_of line))) TokenLong _ three.1 in
+    let three = if_none (list_any is_empty (content_tokens (content_of line))) EmptyToken _ two.1 in
+    let four = if_none (list_any is_long (content_tokens (content_of line))) TokenLong _ three.1 in
     record { good = one.0; shaped = back (is_shaped line) two.0; full = three.0; short = four.0 }
   where
     back : (b : Bool) → not b ≡ false → b ≡ true
@@ -126,10 +126,10 @@ label_fits line own comma =
     let o = own_parts line own in
     let front = before_first is_comma line in
     let back = after_first is_comma line in
-    let entry : entry_of line ≡ TransitionLine (trimmed front) (trimmed (before_arrow back)) (trimmed (after_arrow back)) =
+    let entry : content_of line ≡ TransitionLine (trimmed front) (trimmed (before_arrow back)) (trimmed (after_arrow back)) =
     ap (λ b. if b then TransitionLine (trimmed front) (trimmed (before_arrow back)) (trimmed (after_arrow back)) else StateLine line) comma in
-    let full = (none_of (is_empty (trimmed front)) _ (ap (λ e. list_any is_empty (tokens_of e)) (sym entry) ∙ o.full)).0 in
-    let short = (none_of (is_long (trimmed front)) _ (ap (λ e. list_any is_long (tokens_of e)) (sym entry) ∙ o.short)).0 in
+    let full = (none_of (is_empty (trimmed front)) _ (ap (λ e. list_any is_empty (content_tokens e)) (sym entry) ∙ o.full)).0 in
+    let short = (none_of (is_long (trimmed front)) _ (ap (λ e. list_any is_long (content_tokens e)) (sym entry) ∙ o.short)).0 in
     let some = positive (length (trimmed front)) full in
     let cut = sym (is_shaped-cut line comma) ∙ o.shaped in
     record {
@@ -156,7 +156,7 @@ label_fits line own comma =
     middle false true c h = absurd (true≢false (sym h))
     middle false false c h = refl
 
-labels_of_line : (line : List ℕ) → own_fault line ≡ None → All IsLabelText (labels_in (entry_of line))
+labels_of_line : (line : List ℕ) → own_fault line ≡ None → All IsLabelText (labels_in (content_of line))
 labels_of_line line own = by (list_any is_comma line) refl
   where
     by : (b : Bool) → list_any is_comma line ≡ b
@@ -174,21 +174,21 @@ pub later_none : (n : ℕ) (kind : Option BaKind) (rest : Option BaFault) → or
 later_none n None rest h = (refl, h)
 later_none n (Some kind) rest h = cc
 
-labels_of_lines : (limits : Limits) (earlier : List Entry) (lines : List Line) → first_fault limits earlier lines ≡ None → All IsLabelText (flat_map labels_in (map (λ l. entry_of l.text) lines))
+labels_of_lines : (limits : Limits) (earlier : List LineContent) (lines : List NumberedLine) → first_fault limits earlier lines ≡ None → All IsLabelText (flat_map labels_in (map (λ l. content_of l.text) lines))
 labels_of_lines limits earlier [] h = All-nil IsLabelText
 labels_of_lines limits earlier (l ∷ ls) h =
-    let parts = later_none l.number (kind_of_line limits earlier l.text) (first_fault limits (earlier ++ entry_of l.text ∷ []) ls) h in
-    All-append IsLabelText (labels_in (entry_of l.text)) (flat_map labels_in (map (λ l. entry_of l.text) ls))
-    (labels_of_line l.text (or_none (own_fault l.text) (later_fault limits earlier (entry_of l.text)) parts.0))
-    (labels_of_lines limits (earlier ++ entry_of l.text ∷ []) ls parts.1)
+    let parts = later_none l.number (kind_of_line limits earlier l.text) (first_fault limits (earlier ++ content_of l.text ∷ []) ls) h in
+    All-append IsLabelText (labels_in (content_of l.text)) (flat_map labels_in (map (λ l. content_of l.text) ls))
+    (labels_of_line l.text (or_none (own_fault l.text) (later_fault limits earlier (content_of l.text)) parts.0))
+    (labels_of_lines limits (earlier ++ content_of l.text ∷ []) ls parts.1)
 
-labels_of_text : (limits : Limits) (lines : List Line) → fault_of_lines limits lines ≡ None → All IsLabelText (flat_map labels_in (map (λ l. entry_of l.text) lines))
+labels_of_text : (limits : Limits) (lines : List NumberedLine) → fault_of_lines limits lines ≡ None → All IsLabelText (flat_map labels_in (map (λ l. content_of l.text) lines))
 labels_of_text limits [] h = cc
 labels_of_text limits (l ∷ ls) h = labels_of_lines limits [] (l ∷ ls) h
 
 pub labels_fit : LabelsFit
 labels_fit text limits read r =
     let labels = r.reading.labels in
-    let fit = All-seen same_text IsLabelText [] (flat_map labels_in (entries_of text)) (All-nil IsLabelText) (labels_of_text limits (lines_of text) r.no_fault) in
-    let apart : AreDifferent (labels_of (entries_of text)) = different-seen same_text same_text-refl [] (flat_map labels_in (entries_of text)) (λ i j d lt short. absurd (omega arith)) in
+    let fit = All-seen same_text IsLabelText [] (flat_map labels_in (contents_of text)) (All-nil IsLabelText) (labels_of_text limits (lines_in text) r.no_fault) in
+    let apart : AreDifferent (labels_of (contents_of text)) = different-seen same_text same_text-refl [] (flat_map labels_in (contents_of text)) (λ i j d lt short. absurd (omega arith)) in
     (subst (All IsLabelText) (sym labels) fit, subst AreDifferent (sym labels) apart)

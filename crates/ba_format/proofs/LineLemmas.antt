@@ -5,7 +5,7 @@ use Rattle.std.proofs.Math.Seq.{drop-cons, take-suc}
 use Rattle.std.proofs.lemmas.List.{append-nil, append_assoc, length-drop}
 use Rattle.std.proofs.lemmas.List.Sums.{split_at_first, passes_at_first, sum_by-cons, sum_by-append}
 use Rattle.std.proofs.lemmas.Bool.Decides.{nat_tests}
-use Rattle.ba_format.specs.Grammar.{arrows, before_arrow, after_arrow, is_comma, is_shaped, entry_of, StateLine}
+use Rattle.ba_format.specs.Grammar.{arrows, before_arrow, after_arrow, is_comma, is_shaped, content_of, StateLine}
 use Rattle.ba_format.specs.Seen.{is_cut_shaped, transition_entry, entry_seen}
 use Rattle.ba_format.specs.declared.lines.Said.{Said}
 
@@ -172,13 +172,13 @@ is_shaped-cut line h =
     ∙ (λ i. eqb (count-cut line h i) 1 && eqb (arrows-cut line h i) 1 && eqb (arrows after) 1)
     ∙ shape_by (list_any is_comma after) (count_by is_comma after) (arrows before) (arrows after) (count-none is_comma after) (λ e. omega (arith, count-cut after e))
 
-pub entry-cut : (line : List ℕ) → list_any is_comma line ≡ true → transition_entry (before_first is_comma line) (after_first is_comma line) ≡ entry_of line
+pub entry-cut : (line : List ℕ) → list_any is_comma line ≡ true → transition_entry (before_first is_comma line) (after_first is_comma line) ≡ content_of line
 entry-cut line h = ap (λ t. if t then transition_entry (before_first is_comma line) (after_first is_comma line) else StateLine line) (sym h)
 
 -- what is known of a line cut at its first comma, told of the line
 pub shaped-cut : (line label rest : List ℕ) (r : Option Said) → list_any is_comma line ≡ true → label ≡ before_first is_comma line → rest ≡ after_first is_comma line
     → MatchOption r (is_cut_shaped label rest ≡ false) (λ said. (is_cut_shaped label rest ≡ true) × (entry_seen said ≡ transition_entry label rest))
-    → MatchOption r (is_shaped line ≡ false) (λ said. (is_shaped line ≡ true) × (entry_seen said ≡ entry_of line))
+    → MatchOption r (is_shaped line ≡ false) (λ said. (is_shaped line ≡ true) × (entry_seen said ≡ content_of line))
 shaped-cut line label rest None h l m k = is_shaped-cut line h ∙ (λ i. is_cut_shaped (sym l i) (sym m i)) ∙ k
 shaped-cut line label rest (Some said) h l m k =
     (is_shaped-cut line h ∙ (λ i. is_cut_shaped (sym l i) (sym m i)) ∙ k.0, k.1 ∙ (λ i. transition_entry (l i) (m i)) ∙ entry-cut line h)

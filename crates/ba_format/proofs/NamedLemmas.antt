@@ -10,17 +10,17 @@ use Rattle.std.proofs.lemmas.Bool.Decides.{nat_tests}
 use Rattle.auto_core.specs.declared.parts.Trans.{Trans}
 use Rattle.auto_core.specs.Automaton.{trans, HasRepeat}
 use Rattle.ba_format.specs.declared.draft.Draft.{Draft}
-use Rattle.ba_format.specs.Sight.{same_text, noted, first_seen, number_in}
-use Rattle.ba_format.specs.Grammar.{Entry, StateLine, TransitionLine}
+use Rattle.ba_format.specs.Sight.{same_text, noted, first_seen, place_in}
+use Rattle.ba_format.specs.Grammar.{LineContent, StateLine, TransitionLine}
 use Rattle.ba_format.specs.Faults.{states_in, labels_in, names_of, labels_of, transitions_in, transitions_of, same_trans, initial_of, accepting_names, accepting_numbers, accepting_of}
 use Rattle.ba_format.specs.declared.draft.Opening.{Opening}
 use Rattle.ba_format.specs.declared.draft.Opening.TheVariants.{Nothing, OneState, States, Transitions}
 use Rattle.std.proofs.lemmas.List.Sorted.{length_permutation}
 use Rattle.ba_format.specs.declared.parts.Limits.{Limits}
 use Rattle.ba_format.specs.declared.parts.Named.{Named}
-use Rattle.ba_format.specs.Reading.{IsReading, IsWithin}
+use Rattle.ba_format.specs.Reading.{IsReading, IsWithinLimits}
 use Rattle.ba_format.specs.Draft.{trans_with, Opens, Stands, Fits}
-use Rattle.ba_format.specs.Parts.{AreParts}
+use Rattle.auto_core.specs.Parts.{AreParts}
 use Rattle.ba_format.proofs.SightLemmas.{same_text-refl}
 use Rattle.ba_format.proofs.JoinLemmas.{place_is, number_within}
 use Rattle.ba_format.proofs.DraftLemmas.{AllFound, AllFound-noted, number-all}
@@ -72,23 +72,23 @@ length-seen same seen (x ∷ xs) = omega (arith, length-noted same seen x, lengt
 
 -- ---- the parts
 
-text_in_range : (texts xs : List (List ℕ)) → AllFound texts xs → All (λ x. number_in same_text texts x < length texts) xs
-text_in_range texts [] h = All-nil (λ x. number_in same_text texts x < length texts)
-text_in_range texts (x ∷ xs) h = All-cons (λ x. number_in same_text texts x < length texts) x xs (number_within texts x h.0) (text_in_range texts xs h.1)
+text_in_range : (texts xs : List (List ℕ)) → AllFound texts xs → All (λ x. place_in same_text texts x < length texts) xs
+text_in_range texts [] h = All-nil (λ x. place_in same_text texts x < length texts)
+text_in_range texts (x ∷ xs) h = All-cons (λ x. place_in same_text texts x < length texts) x xs (number_within texts x h.0) (text_in_range texts xs h.1)
 
 abbrev InRange : ℕ → ℕ → Trans → Type 0
 InRange states labels t = (t.source < states) × (t.target < states) × (t.label < labels)
 
-transitions_in_range : (names labels : List (List ℕ)) (entries : List Entry) → AllFound names (flat_map states_in entries) → AllFound labels (flat_map labels_in entries)
+transitions_in_range : (names labels : List (List ℕ)) (entries : List LineContent) → AllFound names (flat_map states_in entries) → AllFound labels (flat_map labels_in entries)
     → All (InRange (length names) (length labels)) (flat_map (transitions_in names labels) entries)
 transitions_in_range names labels [] hn hl = All-nil (InRange (length names) (length labels))
 transitions_in_range names labels (StateLine name ∷ entries) hn hl = transitions_in_range names labels entries hn.1 hl
 transitions_in_range names labels (TransitionLine label source target ∷ entries) hn hl =
-    All-cons (InRange (length names) (length labels)) (trans (number_in same_text names source) (number_in same_text labels label) (number_in same_text names target)) (flat_map (transitions_in names labels) entries)
+    All-cons (InRange (length names) (length labels)) (trans (place_in same_text names source) (place_in same_text labels label) (place_in same_text names target)) (flat_map (transitions_in names labels) entries)
     (number_within names source hn.0, number_within names target hn.1.0, number_within labels label hl.0)
     (transitions_in_range names labels entries hn.1.1 hl.1)
 
-pub transitions_range : (entries : List Entry) → All (InRange (length (names_of entries)) (length (labels_of entries))) (transitions_of entries)
+pub transitions_range : (entries : List LineContent) → All (InRange (length (names_of entries)) (length (labels_of entries))) (transitions_of entries)
 transitions_range entries =
     All-seen same_trans (InRange (length (names_of entries)) (length (labels_of entries))) [] (flat_map (transitions_in (names_of entries) (labels_of entries)) entries)
     (All-nil (InRange (length (names_of entries)) (length (labels_of entries))))
@@ -99,15 +99,15 @@ transitions_range entries =
 alone : (text : List ℕ) → list_any (same_text text) (text ∷ []) ≡ true
 alone text = ap (λ b. b || false) (same_text-refl text)
 
-first_place : (text : List ℕ) → number_in same_text (text ∷ []) text ≡ 0
+first_place : (text : List ℕ) → place_in same_text (text ∷ []) text ≡ 0
 first_place text = ap (λ b. cond (not b) (1 + 0) 0) (same_text-refl text)
 
-pub initial_zero : (entries : List Entry) → 0 < length entries → initial_of entries ≡ 0
+pub initial_zero : (entries : List LineContent) → 0 < length entries → initial_of entries ≡ 0
 initial_zero [] h = absurd (omega arith)
 initial_zero (StateLine name ∷ entries) h = number-all name (flat_map states_in entries) (name ∷ []) (alone name) ∙ first_place name
 initial_zero (TransitionLine label source target ∷ entries) h = number-all source (target ∷ flat_map states_in entries) (source ∷ []) (alone source) ∙ first_place source
 
-pub names_some : (entries : List Entry) → 0 < length entries → 0 < length (names_of entries)
+pub names_some : (entries : List LineContent) → 0 < length entries → 0 < length (names_of entries)
 names_some [] h = absurd (omega arith)
 names_some (StateLine name ∷ entries) h = omega (arith, length-seen same_text (name ∷ []) (flat_map states_in entries))
 names_some (TransitionLine label source target ∷ entries) h = omega (arith, length-seen same_text (source ∷ []) (target ∷ flat_map states_in entries))
@@ -124,25 +124,25 @@ range-push a (suc n) =
 eqb-refl : (n : ℕ) → eqb n n ≡ true
 eqb-refl n = grind (arith, nat_tests)
 
-same_trans-refl : (t : Trans) → same_trans t t ≡ true
+pub same_trans-refl : (t : Trans) → same_trans t t ≡ true
 same_trans-refl t = λ i. eqb-refl t.source i && eqb-refl t.label i && eqb-refl t.target i
 
-accepting_in_range : (entries : List Entry) (b : Bool) → All (λ q. q < length (names_of entries)) (if b then range_with_len 0 (length (names_of entries)) else accepting_numbers entries)
+accepting_in_range : (entries : List LineContent) (b : Bool) → All (λ q. q < length (names_of entries)) (if b then range_with_len 0 (length (names_of entries)) else accepting_numbers entries)
 accepting_in_range entries true = λ k d lt.
     let n = length (names_of entries) in
     let lt' : k < n = omega (arith, length-range_with_len 0 n) in
     omega (arith, get_or-range_with_len 0 n k d lt')
 accepting_in_range entries false =
-    All-seen (λ a b. eqb a b) (λ q. q < length (names_of entries)) [] (map (number_in same_text (names_of entries)) (accepting_names entries)) (All-nil (λ q. q < length (names_of entries)))
-    (All-map (λ q. q < length (names_of entries)) (number_in same_text (names_of entries)) (accepting_names entries) (text_in_range (names_of entries) (accepting_names entries) (accepting-found entries)))
+    All-seen (λ a b. eqb a b) (λ q. q < length (names_of entries)) [] (map (place_in same_text (names_of entries)) (accepting_names entries)) (All-nil (λ q. q < length (names_of entries)))
+    (All-map (λ q. q < length (names_of entries)) (place_in same_text (names_of entries)) (accepting_names entries) (text_in_range (names_of entries) (accepting_names entries) (accepting-found entries)))
 
-accepting_once : (entries : List Entry) (b : Bool) → HasRepeat (if b then range_with_len 0 (length (names_of entries)) else accepting_numbers entries) → ⊥
+accepting_once : (entries : List LineContent) (b : Bool) → HasRepeat (if b then range_with_len 0 (length (names_of entries)) else accepting_numbers entries) → ⊥
 accepting_once entries true = λ (i, j, differ, hi, hj, e).
     let n = length (names_of entries) in
     let hi' : i < n = omega (arith, length-range_with_len 0 n) in
     let hj' : j < n = omega (arith, length-range_with_len 0 n) in
     differ (omega (arith, get_or-range_with_len 0 n i 0 hi', get_or-range_with_len 0 n j 0 hj', e 0))
-accepting_once entries false = no_repeat_seen (λ a b. eqb a b) eqb-refl 0 (map (number_in same_text (names_of entries)) (accepting_names entries))
+accepting_once entries false = no_repeat_seen (λ a b. eqb a b) eqb-refl 0 (map (place_in same_text (names_of entries)) (accepting_names entries))
 
 -- there are numbers just where there are names
 counts : (f : List ℕ → ℕ) (names : List (List ℕ)) → eqb (length (first_seen (λ a b. eqb a b) (map f names))) 0 ≡ eqb (length names) 0
@@ -152,13 +152,13 @@ counts f (x ∷ xs) = by (length (first_seen (λ a b. eqb a b) (map f (x ∷ xs)
     by : (n : ℕ) → 1 ≤ n → eqb n 0 ≡ false
     by n h = grind (arith, nat_tests)
 
-pub accepting_chosen : (entries : List Entry) (keys : List ℕ) (states : ℕ) → keys ≡ accepting_numbers entries → states ≡ length (names_of entries)
+pub accepting_chosen : (entries : List LineContent) (keys : List ℕ) (states : ℕ) → keys ≡ accepting_numbers entries → states ≡ length (names_of entries)
     → (if eqb (length keys) 0 then range_with_len 0 states else keys) ≡ accepting_of entries
 accepting_chosen entries keys states k s =
     (λ i. if eqb (length (k i)) 0 then range_with_len 0 (s i) else k i)
-    ∙ ap (λ b. if b then range_with_len 0 (length (names_of entries)) else accepting_numbers entries) (counts (number_in same_text (names_of entries)) (accepting_names entries))
+    ∙ ap (λ b. if b then range_with_len 0 (length (names_of entries)) else accepting_numbers entries) (counts (place_in same_text (names_of entries)) (accepting_names entries))
 
-pub parts_of : (entries : List Entry) → 0 < length entries → length (transitions_of entries) < 2 ^ 32
+pub parts_of : (entries : List LineContent) → 0 < length entries → length (transitions_of entries) < 2 ^ 32
     → AreParts (length (names_of entries)) (length (labels_of entries)) 0 (transitions_of entries) (accepting_of entries)
 parts_of entries some few =
     record {
@@ -170,7 +170,7 @@ parts_of entries some few =
     }
 
 -- the automaton, by the steps that make it
-module _ (draft : Draft) (entries : List Entry) (s : Stands draft entries) where
+module _ (draft : Draft) (entries : List LineContent) (s : Stands draft entries) where
   pub transitions_given : (parts : List (ℕ × ℕ × ℕ)) (made lent : List Trans) → parts ≡ draft.transitions.keys → made ≡ map trans_with parts → lent ≡ made → lent ≡ transitions_of entries
   transitions_given parts made lent p m l = l ∙ m ∙ ap (map trans_with) p ∙ s.transitions
 
@@ -179,7 +179,7 @@ module _ (draft : Draft) (entries : List Entry) (s : Stands draft entries) where
   accepting_given chosen made lent states c n m l = l ∙ m ∙ accepting_chosen entries chosen states (c ∙ s.accepting) (n ∙ ap length s.names)
 
 -- lines that begin alike are some lines alike
-pub opens_some : (o : Opening) (a b : List Entry) → Opens o a → Opens o b → 0 < length a → 0 < length b
+pub opens_some : (o : Opening) (a b : List LineContent) → Opens o a → Opens o b → 0 < length a → 0 < length b
 opens_some Nothing a b ha hb some = absurd (omega (arith, ap length ha))
 opens_some OneState a b ha hb some = omega (arith, hb.0)
 opens_some States a b ha hb some = omega (arith, hb.0)
@@ -197,17 +197,17 @@ pub seen-most : {X : Type 0} (same : X → X → Bool) (seen xs : List X) → le
 seen-most same seen [] = omega arith
 seen-most same seen (x ∷ xs) = omega (arith, noted-most same seen x, seen-most same (noted same seen x) xs)
 
-lines-most : (names labels : List (List ℕ)) (entries : List Entry) → length (flat_map (transitions_in names labels) entries) ≤ length entries
+lines-most : (names labels : List (List ℕ)) (entries : List LineContent) → length (flat_map (transitions_in names labels) entries) ≤ length entries
 lines-most names labels [] = omega arith
 lines-most names labels (StateLine name ∷ entries) = omega (arith, lines-most names labels entries)
 lines-most names labels (TransitionLine label source target ∷ entries) = omega (arith, lines-most names labels entries)
 
-pub transitions-most : (entries : List Entry) → length (transitions_of entries) ≤ length entries
+pub transitions-most : (entries : List LineContent) → length (transitions_of entries) ≤ length entries
 transitions-most entries =
     omega (arith, seen-most same_trans [] (flat_map (transitions_in (names_of entries) (labels_of entries)) entries), lines-most (names_of entries) (labels_of entries) entries)
 
 -- what lines within the limits say is within the limits
-pub within_limits : (limits : Limits) (entries : List Entry) (named : Named) → Fits limits entries → IsReading entries named → IsWithin limits named
+pub within_limits : (limits : Limits) (entries : List LineContent) (named : Named) → Fits limits entries → IsReading entries named → IsWithinLimits limits named
 within_limits limits entries named f r =
     record {
       states_named = r.auto.states_given ∙ ap length (sym r.names);

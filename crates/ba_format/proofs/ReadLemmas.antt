@@ -12,8 +12,8 @@ use Rattle.ba_format.specs.declared.parts.Limits.{Limits}
 use Rattle.ba_format.specs.declared.draft.Opening.{Opening}
 use Rattle.ba_format.specs.declared.draft.Opening.TheVariants.{Nothing, OneState, States, Transitions}
 use Rattle.ba_format.specs.declared.draft.Draft.{Draft}
-use Rattle.ba_format.specs.Grammar.{Line as TextLine, Entry, is_newline, trimmed, onto_lines, lines_from, lines_of, entry_of}
-use Rattle.ba_format.specs.Faults.{kind_of_line, or_later, first_fault, fault_of_lines, fault_of, entries_of}
+use Rattle.ba_format.specs.Grammar.{NumberedLine as TextLine, LineContent, is_newline, trimmed, onto_lines, lines_from, lines_in, content_of}
+use Rattle.ba_format.specs.Faults.{kind_of_line, or_later, first_fault, fault_of_lines, fault_of, contents_of}
 use Rattle.ba_format.specs.Draft.{Opens, Stands, Fits}
 
 -- the lines of a text that isn't empty: its first line, and the lines behind it
@@ -31,11 +31,11 @@ lines-first number text h = by (cases_lt (position_or_len is_newline text) (leng
 
 -- The lines up to here, of this number, say the entries that the draft stands for; the rest of the text holds the others.
 pub record Underway (limits : Limits) (text rest : List ℕ) (number : ℕ) (draft : Draft) : Type 0 where
-  pub entries : List Entry
+  pub entries : List LineContent
   pub stands : Stands draft entries
   pub fits : Fits limits entries
-  pub faults : first_fault limits entries (lines_from (number + 1) (slice_split is_newline rest)) ≡ first_fault limits [] (lines_of text)
-  pub says : entries ++ map (λ l. entry_of l.text) (lines_from (number + 1) (slice_split is_newline rest)) ≡ entries_of text
+  pub faults : first_fault limits entries (lines_from (number + 1) (slice_split is_newline rest)) ≡ first_fault limits [] (lines_in text)
+  pub says : entries ++ map (λ l. content_of l.text) (lines_from (number + 1) (slice_split is_newline rest)) ≡ contents_of text
   pub short : number + length rest ≤ length text
   pub few : length entries ≤ number
 
@@ -75,7 +75,7 @@ module _ (limits : Limits) (text rest : List ℕ) (number : ℕ) (draft : Draft)
         stands = u.stands;
         fits = u.fits;
         faults = ap (first_fault limits u.entries) (sym same) ∙ u.faults;
-        says = ap (λ l. u.entries ++ map (λ l. entry_of l.text) l) (sym same) ∙ u.says;
+        says = ap (λ l. u.entries ++ map (λ l. content_of l.text) l) (sym same) ∙ u.says;
         short = shorter_rest;
         few = omega (arith, u.few);
       }
@@ -88,34 +88,34 @@ module _ (limits : Limits) (text rest : List ℕ) (number : ℕ) (draft : Draft)
   line_first (b ∷ bs) e n = cut ∙ ap (λ l. onto_lines (number + 1) l (lines_from (number + 1 + 1) (slice_split is_newline (after_first is_newline rest)))) (sym e)
 
   pub Underway-taken : (line : List ℕ) (new : Draft) → line ≡ trimmed (before_first is_newline rest) → 0 < length line
-      → (kind_of_line limits u.entries line ≡ None) × Stands new (u.entries ++ entry_of line ∷ []) × Fits limits (u.entries ++ entry_of line ∷ [])
+      → (kind_of_line limits u.entries line ≡ None) × Stands new (u.entries ++ content_of line ∷ []) × Fits limits (u.entries ++ content_of line ∷ [])
       → Underway limits text (after_first is_newline rest) (number + 1) new
   Underway-taken line new e n (none, s, f) =
       let later = lines_from (number + 1 + 1) (slice_split is_newline (after_first is_newline rest)) in
       let first = line_first line e n in
       record {
-        entries = u.entries ++ entry_of line ∷ [];
+        entries = u.entries ++ content_of line ∷ [];
         stands = s;
         fits = f;
-        faults = sym (ap (λ k. or_later (number + 1) k (first_fault limits (u.entries ++ entry_of line ∷ []) later)) none) ∙ sym (ap (first_fault limits u.entries) first) ∙ u.faults;
-        says = append_assoc u.entries (entry_of line ∷ []) (map (λ l. entry_of l.text) later) ∙ sym (ap (λ l. u.entries ++ map (λ l. entry_of l.text) l) first) ∙ u.says;
+        faults = sym (ap (λ k. or_later (number + 1) k (first_fault limits (u.entries ++ content_of line ∷ []) later)) none) ∙ sym (ap (first_fault limits u.entries) first) ∙ u.faults;
+        says = append_assoc u.entries (content_of line ∷ []) (map (λ l. content_of l.text) later) ∙ sym (ap (λ l. u.entries ++ map (λ l. content_of l.text) l) first) ∙ u.says;
         short = shorter_rest;
-        few = omega (arith, u.few, length-append u.entries (entry_of line ∷ []));
+        few = omega (arith, u.few, length-append u.entries (content_of line ∷ []));
       }
 
   pub refused_line : (line : List ℕ) (kind : BaKind) → line ≡ trimmed (before_first is_newline rest) → 0 < length line → kind_of_line limits u.entries line ≡ Some kind
-      → first_fault limits [] (lines_of text) ≡ Some (record { line = number + 1; kind = kind })
+      → first_fault limits [] (lines_in text) ≡ Some (record { line = number + 1; kind = kind })
   refused_line line kind e n k =
       let later = lines_from (number + 1 + 1) (slice_split is_newline (after_first is_newline rest)) in
       sym u.faults
       ∙ ap (first_fault limits u.entries) (line_first line e n)
-      ∙ ap (λ k. or_later (number + 1) k (first_fault limits (u.entries ++ entry_of line ∷ []) later)) k
+      ∙ ap (λ k. or_later (number + 1) k (first_fault limits (u.entries ++ content_of line ∷ []) later)) k
 
 -- all lines are done
 pub Underway-end : (limits : Limits) (text rest : List ℕ) (number : ℕ) (draft : Draft) → length rest ≡ 0 → Underway limits text rest number draft
-    → (first_fault limits [] (lines_of text) ≡ None) × Stands draft (entries_of text) × Fits limits (entries_of text) × (length (entries_of text) ≤ length text)
+    → (first_fault limits [] (lines_in text) ≡ None) × Stands draft (contents_of text) × Fits limits (contents_of text) × (length (contents_of text) ≤ length text)
 Underway-end limits text [] number draft h u =
-    let all : u.entries ≡ entries_of text = sym (append-nil u.entries) ∙ u.says in
+    let all : u.entries ≡ contents_of text = sym (append-nil u.entries) ∙ u.says in
     (sym u.faults, subst (Stands draft) all u.stands, subst (Fits limits) all u.fits, omega (arith, ap length all, u.few, u.short))
 Underway-end limits text (b ∷ bs) number draft h u = absurd (omega arith)
 
@@ -127,24 +127,24 @@ empty_from n e = grind (arith, nat_tests)
 
 -- ---- the result
 
-no_lines : (limits : Limits) (lines : List TextLine) → map (λ l. entry_of l.text) lines ≡ [] → fault_of_lines limits lines ≡ Some (record { line = 0; kind = Empty })
+no_lines : (limits : Limits) (lines : List TextLine) → map (λ l. content_of l.text) lines ≡ [] → fault_of_lines limits lines ≡ Some (record { line = 0; kind = Empty })
 no_lines limits [] e = refl
 no_lines limits (l ∷ ls) e = cc
 
 -- a text without lines is empty
-pub empty_text : (limits : Limits) (text : List ℕ) (o : Opening) → o ≡ Nothing → Opens o (entries_of text) → fault_of text limits ≡ Some (record { line = 0; kind = Empty })
-empty_text limits text o e h = no_lines limits (lines_of text) (subst (λ o. Opens o (entries_of text)) e h)
+pub empty_text : (limits : Limits) (text : List ℕ) (o : Opening) → o ≡ Nothing → Opens o (contents_of text) → fault_of text limits ≡ Some (record { line = 0; kind = Empty })
+empty_text limits text o e h = no_lines limits (lines_in text) (subst (λ o. Opens o (contents_of text)) e h)
 
-some_lines : (limits : Limits) (lines : List TextLine) → 0 < length (map (λ l. entry_of l.text) lines) → fault_of_lines limits lines ≡ first_fault limits [] lines
+some_lines : (limits : Limits) (lines : List TextLine) → 0 < length (map (λ l. content_of l.text) lines) → fault_of_lines limits lines ≡ first_fault limits [] lines
 some_lines limits [] h = absurd (omega arith)
 some_lines limits (l ∷ ls) h = refl
 
 -- some line opens the text
-pub opens_not : (o : Opening) (entries : List Entry) → Opens o entries → (o ≡ Nothing → ⊥) → 0 < length entries
+pub opens_not : (o : Opening) (entries : List LineContent) → Opens o entries → (o ≡ Nothing → ⊥) → 0 < length entries
 opens_not Nothing entries h n = absurd (n refl)
 opens_not OneState entries h n = omega (arith, h.0)
 opens_not States entries h n = omega (arith, h.0)
 opens_not Transitions entries h n = h.0
 
-pub no_fault_text : (limits : Limits) (text : List ℕ) → 0 < length (entries_of text) → first_fault limits [] (lines_of text) ≡ None → fault_of text limits ≡ None
-no_fault_text limits text h e = some_lines limits (lines_of text) h ∙ e
+pub no_fault_text : (limits : Limits) (text : List ℕ) → 0 < length (contents_of text) → first_fault limits [] (lines_in text) ≡ None → fault_of text limits ≡ None
+no_fault_text limits text h e = some_lines limits (lines_in text) h ∙ e

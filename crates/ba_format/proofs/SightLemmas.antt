@@ -7,7 +7,7 @@ use Rattle.std.proofs.lemmas.List.Elements.{Contains-get_or}
 use Rattle.std.proofs.lemmas.List.Quantifiers.{all_pairs_push}
 use Rattle.indexmap.proofs.CallerLemmas.{Contains-list_any}
 use Rattle.indexmap.specs.IndexSet.{insert_key}
-use Rattle.ba_format.specs.Sight.{same_text, noted, number_in, AreTexts}
+use Rattle.ba_format.specs.Sight.{same_text, noted, place_in, AreTexts}
 
 -- the test on things that are seen through f
 module _ {K X : Type 0} (f : K → X) (same : X → X → Bool) where
@@ -72,7 +72,7 @@ texts-insert keys v text e new =
 
 -- the place of a text among those of a set
 pub place_through : (keys : List (Vec ℕ Global)) (text : List ℕ) (r : Option ℕ) → r ≡ position (λ t. same_text text t.items) keys → is_some r ≡ list_any (λ t. same_text text t.items) keys
-    → MatchOption r (list_any (same_text text) (map (λ t. t.items) keys) ≡ false) (λ at. (list_any (same_text text) (map (λ t. t.items) keys) ≡ true) × (at ≡ number_in same_text (map (λ t. t.items) keys) text))
+    → MatchOption r (list_any (same_text text) (map (λ t. t.items) keys) ≡ false) (λ at. (list_any (same_text text) (map (λ t. t.items) keys) ≡ true) × (at ≡ place_in same_text (map (λ t. t.items) keys) text))
 place_through keys text None e found = sym (list_any-through (λ t. t.items) same_text text keys) ∙ sym found
 place_through keys text (Some at) e found =
     (sym (list_any-through (λ t. t.items) same_text text keys) ∙ sym found, at_place _ _ at e ∙ position-through (λ t. t.items) same_text text keys)

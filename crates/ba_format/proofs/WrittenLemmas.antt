@@ -13,9 +13,9 @@ use Rattle.std.proofs.lemmas.Fmt.{decimal_by_steps, length-decimal-le}
 use Rattle.auto_core.specs.declared.parts.Trans.{Trans}
 use Rattle.auto_core.specs.Automaton.{Automaton, IsAutomaton}
 use Rattle.ba_format.specs.declared.parts.Limits.{Limits}
-use Rattle.ba_format.specs.Grammar.{Line, Entry, StateLine, TransitionLine, is_newline, is_blank, without_leading, trimmed, onto_lines, lines_from, lines_of, arrows, before_arrow, after_arrow, is_comma, entry_of, is_bad, is_shaped, is_empty, is_long, token_fault, own_fault}
+use Rattle.ba_format.specs.Grammar.{NumberedLine, LineContent, StateLine, TransitionLine, is_newline, is_blank, without_leading, trimmed, onto_lines, lines_from, lines_in, arrows, before_arrow, after_arrow, is_comma, content_of, is_bad, is_shaped, is_empty, is_long, token_fault, own_fault}
 use Rattle.ba_format.specs.Sight.{same_text}
-use Rattle.ba_format.specs.Faults.{states_in, labels_in, transitions_in, same_trans, names_of, labels_of, transitions_of, is_state_line, opens_twice, later_fault, kind_of_line, or_later, first_fault, fault_of, entries_of}
+use Rattle.ba_format.specs.Faults.{states_in, labels_in, transitions_in, same_trans, names_of, labels_of, transitions_of, is_state_line, opens_twice, later_fault, kind_of_line, or_later, first_fault, fault_of, contents_of}
 use Rattle.ba_format.specs.Draft.{Fits}
 use Rattle.ba_format.specs.Seen.{is_cut_shaped}
 use Rattle.ba_format.specs.Writing.{name_text, transition_text, accepting_written, written}
@@ -163,14 +163,14 @@ label_kept text l =
 -- ---- what a written line says
 
 -- The line, as it stands, says this, and has no fault of its own.
-pub record LineSays (line : List ℕ) (entry : Entry) : Type 0 where
+pub record LineSays (line : List ℕ) (entry : LineContent) : Type 0 where
   pub kept : trimmed line ≡ line
   pub some : 0 < length line
   pub one : list_any is_newline line ≡ false
   pub own : own_fault line ≡ None
-  pub says : entry_of line ≡ entry
+  pub says : content_of line ≡ entry
 
-own_none : (line : List ℕ) (entry : Entry) → list_any is_bad line ≡ false → is_shaped line ≡ true → entry_of line ≡ entry → token_fault entry ≡ None → own_fault line ≡ None
+own_none : (line : List ℕ) (entry : LineContent) → list_any is_bad line ≡ false → is_shaped line ≡ true → content_of line ≡ entry → token_fault entry ≡ None → own_fault line ≡ None
 own_none line entry good shaped says tokens =
     rw (good, shaped) (ap token_fault says ∙ tokens)
 
@@ -187,7 +187,7 @@ state_says : (q : ℕ) → q ≤ 2 ^ 32 → LineSays (name_text q) (StateLine (n
 state_says q h =
     let big : q < 2 ^ 64 = omega arith in
     let no_comma = name-no_comma q big in
-    let says : entry_of (name_text q) ≡ StateLine (name_text q) =
+    let says : content_of (name_text q) ≡ StateLine (name_text q) =
     ap (λ b. if b then TransitionLine (trimmed (before_first is_comma (name_text q))) (trimmed (before_arrow (after_first is_comma (name_text q)))) (trimmed (after_arrow (after_first is_comma (name_text q)))) else StateLine (name_text q)) no_comma in
     let shaped : is_shaped (name_text q) ≡ true =
     ap (λ b. if b then (eqb (count_by is_comma (name_text q)) 1 && eqb (arrows (name_text q)) 1 && eqb (arrows (after_first is_comma (name_text q))) 1) else eqb (arrows (name_text q)) 0) no_comma
@@ -243,7 +243,7 @@ transition_says label p q l hp hq =
     (list_any-append is_comma m (45 ∷ 62 ∷ n) ∙ (λ i. name-no_comma p bigp i || (false || (false || name-no_comma q bigq i))))
     l.no_arrow
     (arrows-cut_at m n no_dash ∙ ap (λ k. k + 1) (arrows-none n (name-no_dash q bigq))) in
-    let says : entry_of line ≡ TransitionLine label m n =
+    let says : content_of line ≡ TransitionLine label m n =
     ap (λ b. if b then TransitionLine (trimmed (before_first is_comma line)) (trimmed (before_arrow (after_first is_comma line))) (trimmed (after_arrow (after_first is_comma line))) else StateLine line) comma
     ∙ (λ i. TransitionLine (trimmed (before i)) (trimmed (before_arrow (after i))) (trimmed (after_arrow (after i))))
     ∙ (λ i. TransitionLine (label_kept label l i) (trimmed (before-cut_at m n no_dash i)) (trimmed (after-cut_at m n no_dash i)))
@@ -276,7 +276,7 @@ transition_says label p q l hp hq =
 -- ---- the lines of a text that ends each of them
 
 -- Each line says its entry.
-abbrev pub AllSay : List (List ℕ) → List Entry → Type 0
+abbrev pub AllSay : List (List ℕ) → List LineContent → Type 0
 AllSay [] [] = Unit {0}
 AllSay [] (e ∷ es) = ⊥
 AllSay (l ∷ ls) [] = ⊥
@@ -287,7 +287,7 @@ abbrev pub ended : List (List ℕ) → List ℕ
 ended lines = flat_map (λ l. l ++ 10 ∷ []) lines
 
 -- the lines with their numbers
-abbrev pub numbered : ℕ → List (List ℕ) → List Line
+abbrev pub numbered : ℕ → List (List ℕ) → List NumberedLine
 numbered n [] = []
 numbered n (l ∷ ls) = record { number = n; text = l } ∷ numbered (n + 1) ls
 
@@ -295,7 +295,7 @@ none_all : (p : ℕ → Bool) (xs : List ℕ) → list_any p xs ≡ false → Al
 none_all p [] h = All-nil (λ x. p x ≡ false)
 none_all p (x ∷ xs) h = let parts = none_of (p x) (list_any p xs) h in All-cons (λ x. p x ≡ false) x xs parts.0 (none_all p xs parts.1)
 
-split-ended : (lines : List (List ℕ)) (entries : List Entry) → AllSay lines entries → slice_split is_newline (ended lines) ≡ lines ++ [] ∷ []
+split-ended : (lines : List (List ℕ)) (entries : List LineContent) → AllSay lines entries → slice_split is_newline (ended lines) ≡ lines ++ [] ∷ []
 split-ended [] [] h = refl
 split-ended [] (e ∷ es) h = absurd h
 split-ended (l ∷ ls) [] h = absurd h
@@ -304,37 +304,37 @@ split-ended (l ∷ ls) (e ∷ es) h =
     ∙ slice_split_at is_newline l 10 (ended ls) (none_all is_newline l h.0.one) refl
     ∙ ap (λ x. l ∷ x) (split-ended ls es h.1)
 
-onto-line : (n : ℕ) (l : List ℕ) (lines : List Line) → trimmed l ≡ l → 0 < length l → onto_lines n (trimmed l) lines ≡ record { number = n; text = l } ∷ lines
+onto-line : (n : ℕ) (l : List ℕ) (lines : List NumberedLine) → trimmed l ≡ l → 0 < length l → onto_lines n (trimmed l) lines ≡ record { number = n; text = l } ∷ lines
 onto-line n [] lines e h = absurd (omega arith)
 onto-line n (b ∷ bs) lines e h = ap (λ t. onto_lines n t lines) e
 
-lines-ended : (n : ℕ) (lines : List (List ℕ)) (entries : List Entry) → AllSay lines entries → lines_from n (lines ++ [] ∷ []) ≡ numbered n lines
+lines-ended : (n : ℕ) (lines : List (List ℕ)) (entries : List LineContent) → AllSay lines entries → lines_from n (lines ++ [] ∷ []) ≡ numbered n lines
 lines-ended n [] [] h = refl
 lines-ended n [] (e ∷ es) h = absurd h
 lines-ended n (l ∷ ls) [] h = absurd h
 lines-ended n (l ∷ ls) (e ∷ es) h = onto-line n l (lines_from (n + 1) (ls ++ [] ∷ [])) h.0.kept h.0.some ∙ ap (λ x. record { number = n; text = l } ∷ x) (lines-ended (n + 1) ls es h.1)
 
-lines_of-ended : (lines : List (List ℕ)) (entries : List Entry) → AllSay lines entries → lines_of (ended lines) ≡ numbered 1 lines
-lines_of-ended lines entries h = ap (lines_from 1) (split-ended lines entries h) ∙ lines-ended 1 lines entries h
+lines_in-ended : (lines : List (List ℕ)) (entries : List LineContent) → AllSay lines entries → lines_in (ended lines) ≡ numbered 1 lines
+lines_in-ended lines entries h = ap (lines_from 1) (split-ended lines entries h) ∙ lines-ended 1 lines entries h
 
-entries-numbered : (n : ℕ) (lines : List (List ℕ)) (entries : List Entry) → AllSay lines entries → map (λ l. entry_of l.text) (numbered n lines) ≡ entries
+entries-numbered : (n : ℕ) (lines : List (List ℕ)) (entries : List LineContent) → AllSay lines entries → map (λ l. content_of l.text) (numbered n lines) ≡ entries
 entries-numbered n [] [] h = refl
 entries-numbered n [] (e ∷ es) h = absurd h
 entries-numbered n (l ∷ ls) [] h = absurd h
 entries-numbered n (l ∷ ls) (e ∷ es) h = λ i. h.0.says i ∷ entries-numbered (n + 1) ls es h.1 i
 
-pub entries-ended : (lines : List (List ℕ)) (entries : List Entry) → AllSay lines entries → entries_of (ended lines) ≡ entries
-entries-ended lines entries h = ap (map (λ l. entry_of l.text)) (lines_of-ended lines entries h) ∙ entries-numbered 1 lines entries h
+pub entries-ended : (lines : List (List ℕ)) (entries : List LineContent) → AllSay lines entries → contents_of (ended lines) ≡ entries
+entries-ended lines entries h = ap (map (λ l. content_of l.text)) (lines_in-ended lines entries h) ∙ entries-numbered 1 lines entries h
 
 -- ---- no fault
 
 -- No first transition line stands behind two state lines.
-abbrev pub Orderly : List Entry → List Entry → Type 0
+abbrev pub Orderly : List LineContent → List LineContent → Type 0
 Orderly earlier [] = Unit {0}
 Orderly earlier (e ∷ es) = (opens_twice earlier e ≡ false) × Orderly (earlier ++ e ∷ []) es
 
 -- counts of the first lines are no greater than those of all
-fits-front : (limits : Limits) (es xs : List Entry) → Fits limits (xs ++ es) → Fits limits xs
+fits-front : (limits : Limits) (es xs : List LineContent) → Fits limits (xs ++ es) → Fits limits xs
 fits-front limits [] xs f = subst (Fits limits) (append-nil xs) f
 fits-front limits (e ∷ es) xs f =
     let g = fits-front limits es (xs ++ e ∷ []) (subst (Fits limits) (sym (append_assoc xs (e ∷ []) es)) f) in
@@ -344,7 +344,7 @@ fits-front limits (e ∷ es) xs f =
       transitions = omega (arith, g.transitions, ap length (transitions-push xs e), length-seen same_trans (transitions_of xs) (transitions_in (names_of (xs ++ e ∷ [])) (labels_of (xs ++ e ∷ [])) e));
     }
 
-no_first_fault : (limits : Limits) (n : ℕ) (lines : List (List ℕ)) (earlier entries : List Entry) → AllSay lines entries → Orderly earlier entries → Fits limits (earlier ++ entries)
+no_first_fault : (limits : Limits) (n : ℕ) (lines : List (List ℕ)) (earlier entries : List LineContent) → AllSay lines entries → Orderly earlier entries → Fits limits (earlier ++ entries)
     → first_fault limits earlier (numbered n lines) ≡ None
 no_first_fault limits n [] earlier [] h o f = refl
 no_first_fault limits n [] earlier (e ∷ es) h o f = absurd h
@@ -352,22 +352,22 @@ no_first_fault limits n (l ∷ ls) earlier [] h o f = absurd h
 no_first_fault limits n (l ∷ ls) earlier (e ∷ es) h o f =
     let all = subst (Fits limits) (sym (append_assoc earlier (e ∷ []) es)) f in
     let kind : kind_of_line limits earlier l ≡ None =
-    ap (λ own. option_or own (later_fault limits earlier (entry_of l))) h.0.own
+    ap (λ own. option_or own (later_fault limits earlier (content_of l))) h.0.own
     ∙ ap (later_fault limits earlier) h.0.says
     ∙ no_fault limits earlier e o.0 (fits-front limits es (earlier ++ e ∷ []) all) in
-    ap (λ k. or_later n k (first_fault limits (earlier ++ entry_of l ∷ []) (numbered (n + 1) ls))) kind
+    ap (λ k. or_later n k (first_fault limits (earlier ++ content_of l ∷ []) (numbered (n + 1) ls))) kind
     ∙ ap (λ x. first_fault limits (earlier ++ x ∷ []) (numbered (n + 1) ls)) h.0.says
     ∙ no_first_fault limits (n + 1) ls (earlier ++ e ∷ []) es h.1 o.1 all
 
-pub no_fault-ended : (limits : Limits) (lines : List (List ℕ)) (entries : List Entry) → AllSay lines entries → Orderly [] entries → 0 < length entries → Fits limits entries → fault_of (ended lines) limits ≡ None
+pub no_fault-ended : (limits : Limits) (lines : List (List ℕ)) (entries : List LineContent) → AllSay lines entries → Orderly [] entries → 0 < length entries → Fits limits entries → fault_of (ended lines) limits ≡ None
 no_fault-ended limits lines entries h o some f =
     no_fault_text limits (ended lines) (subst (λ es. 0 < length es) (sym (entries-ended lines entries h)) some)
-    (ap (first_fault limits []) (lines_of-ended lines entries h) ∙ no_first_fault limits 1 lines [] entries h o f)
+    (ap (first_fault limits []) (lines_in-ended lines entries h) ∙ no_first_fault limits 1 lines [] entries h o f)
 
 -- ---- the written text
 
 -- what the line of a transition says
-abbrev pub transition_entry_of : List (List ℕ) → Trans → Entry
+abbrev pub transition_entry_of : List (List ℕ) → Trans → LineContent
 transition_entry_of labels t = TransitionLine (get_or labels t.label []) (name_text t.source) (name_text t.target)
 
 abbrev pub line_of : List (List ℕ) → Trans → List ℕ
@@ -376,7 +376,7 @@ line_of labels t = transition_line (get_or labels t.label []) t.source t.target
 abbrev pub written_lines : Automaton → List (List ℕ) → List (List ℕ)
 written_lines A labels = name_text A.initial ∷ (map (line_of labels) A.transitions ++ map name_text (accepting_written A))
 
-abbrev pub written_entries : Automaton → List (List ℕ) → List Entry
+abbrev pub written_entries : Automaton → List (List ℕ) → List LineContent
 written_entries A labels = StateLine (name_text A.initial) ∷ (map (transition_entry_of labels) A.transitions ++ map (λ q. StateLine (name_text q)) (accepting_written A))
 
 transition_text-ended : (labels : List (List ℕ)) (t : Trans) → line_of labels t ++ 10 ∷ [] ≡ transition_text labels t
@@ -392,13 +392,13 @@ written-ended A labels =
     (flat_map-map (λ l. l ++ 10 ∷ []) (line_of labels) A.transitions ∙ (λ j. flat_map (λ t. transition_text-ended labels t j) A.transitions)) i
     ++ flat_map-map (λ l. l ++ 10 ∷ []) name_text (accepting_written A) i))
 
-AllSay-append : (ls ms : List (List ℕ)) (es fs : List Entry) → AllSay ls es → AllSay ms fs → AllSay (ls ++ ms) (es ++ fs)
+AllSay-append : (ls ms : List (List ℕ)) (es fs : List LineContent) → AllSay ls es → AllSay ms fs → AllSay (ls ++ ms) (es ++ fs)
 AllSay-append [] ms [] fs h g = g
 AllSay-append [] ms (e ∷ es) fs h g = absurd h
 AllSay-append (l ∷ ls) ms [] fs h g = absurd h
 AllSay-append (l ∷ ls) ms (e ∷ es) fs h g = (h.0, AllSay-append ls ms es fs h.1 g)
 
-AllSay-map : {X : Type 0} (f : X → List ℕ) (g : X → Entry) (xs : List X) → All (λ x. LineSays (f x) (g x)) xs → AllSay (map f xs) (map g xs)
+AllSay-map : {X : Type 0} (f : X → List ℕ) (g : X → LineContent) (xs : List X) → All (λ x. LineSays (f x) (g x)) xs → AllSay (map f xs) (map g xs)
 AllSay-map f g [] h = tt
 AllSay-map f g (x ∷ xs) h = (All-head (λ x. LineSays (f x) (g x)) x xs h, AllSay-map f g xs (All-tail (λ x. LineSays (f x) (g x)) x xs h))
 
@@ -420,14 +420,14 @@ written_say A labels w =
     )
 
 -- one line, or a transition line among them
-abbrev StartsOnce : List Entry → Type 0
+abbrev StartsOnce : List LineContent → Type 0
 StartsOnce earlier = (length earlier ≡ 1) ⊎ (list_all is_state_line earlier ≡ false)
 
-orderly_states : (earlier : List Entry) (qs : List ℕ) → Orderly earlier (map (λ q. StateLine (name_text q)) qs)
+orderly_states : (earlier : List LineContent) (qs : List ℕ) → Orderly earlier (map (λ q. StateLine (name_text q)) qs)
 orderly_states earlier [] = tt
 orderly_states earlier (q ∷ qs) = (refl, orderly_states (earlier ++ StateLine (name_text q) ∷ []) qs)
 
-orderly_transitions : (labels : List (List ℕ)) (earlier : List Entry) (ts : List Trans) (qs : List ℕ) → StartsOnce earlier
+orderly_transitions : (labels : List (List ℕ)) (earlier : List LineContent) (ts : List Trans) (qs : List ℕ) → StartsOnce earlier
     → Orderly earlier (map (transition_entry_of labels) ts ++ map (λ q. StateLine (name_text q)) qs)
 orderly_transitions labels earlier [] qs h = orderly_states earlier qs
 orderly_transitions labels earlier (t ∷ ts) qs h =
@@ -444,12 +444,12 @@ orderly_transitions labels earlier (t ∷ ts) qs h =
 pub written_orderly : (A : Automaton) (labels : List (List ℕ)) → Orderly [] (written_entries A labels)
 written_orderly A labels = (refl, orderly_transitions labels (StateLine (name_text A.initial) ∷ []) A.transitions (accepting_written A) (inl refl))
 
-pub entries_of-written : (A : Automaton) (labels : List (List ℕ)) → IsWritable A labels → entries_of (written A labels) ≡ written_entries A labels
-entries_of-written A labels w = ap entries_of (sym (written-ended A labels)) ∙ entries-ended (written_lines A labels) (written_entries A labels) (written_say A labels w)
+pub contents_of-written : (A : Automaton) (labels : List (List ℕ)) → IsWritable A labels → contents_of (written A labels) ≡ written_entries A labels
+contents_of-written A labels w = ap contents_of (sym (written-ended A labels)) ∙ entries-ended (written_lines A labels) (written_entries A labels) (written_say A labels w)
 
 pub written_reads : WrittenReads
 written_reads A labels limits w counts =
-    let same = entries_of-written A labels w in
+    let same = contents_of-written A labels w in
     let fits : Fits limits (written_entries A labels) =
     subst (Fits limits) same (record { states = counts.states; labels = counts.labels; transitions = counts.transitions }) in
     ap (λ t. fault_of t limits) (sym (written-ended A labels))

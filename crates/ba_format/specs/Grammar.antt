@@ -22,24 +22,24 @@ abbrev pub trimmed : List ℕ → List ℕ
 trimmed bs = reverse (without_leading (reverse (without_leading bs)))
 
 -- A line that isn't blank, trimmed, and its number.
-pub record Line : Type 0 where
+pub record NumberedLine : Type 0 where
   pub number : ℕ
   pub text : List ℕ
 
 -- The line with this number and text stands before the others, unless it is blank.
-abbrev pub onto_lines : ℕ → List ℕ → List Line → List Line
+abbrev pub onto_lines : ℕ → List ℕ → List NumberedLine → List NumberedLine
 onto_lines number [] lines = lines
 onto_lines number (b ∷ bs) lines = record { number = number; text = b ∷ bs } ∷ lines
 
 -- The lines that aren't blank among these pieces, the first piece having this number.
-abbrev pub lines_from : ℕ → List (List ℕ) → List Line
+abbrev pub lines_from : ℕ → List (List ℕ) → List NumberedLine
 lines_from number [] = []
 lines_from number (piece ∷ pieces) = onto_lines number (trimmed piece) (lines_from (number + 1) pieces)
 
 -- The lines of a text that aren't blank. Lines are numbered from 1, blank ones too.
 -- (Where the text ends in LF, the piece after it is blank.)
-abbrev pub lines_of : List ℕ → List Line
-lines_of text = lines_from 1 (slice_split is_newline text)
+abbrev pub lines_in : List ℕ → List NumberedLine
+lines_in text = lines_from 1 (slice_split is_newline text)
 
 -- How often `->` stands in a text.
 abbrev pub arrows : List ℕ → ℕ
@@ -63,23 +63,23 @@ abbrev pub is_comma : ℕ → Bool
 is_comma b = b == 44
 
 -- What a line says.
-pub data Entry : Type 0 where
-  StateLine : (name : List ℕ) → Entry
-  TransitionLine : (label source target : List ℕ) → Entry
+pub data LineContent : Type 0 where
+  StateLine : (name : List ℕ) → LineContent
+  TransitionLine : (label source target : List ℕ) → LineContent
 
 -- What a trimmed line says: with a comma it is a transition line `label,source->target`, without one it is a state line,
 -- whose token is the whole line. Blanks at the ends of a token are dropped (CR can't be among them: it is a bad byte).
-abbrev pub entry_of : List ℕ → Entry
-entry_of line =
+abbrev pub content_of : List ℕ → LineContent
+content_of line =
     if list_any is_comma line then
     TransitionLine (trimmed (before_first is_comma line)) (trimmed (before_arrow (after_first is_comma line))) (trimmed (after_arrow (after_first is_comma line)))
     else
     StateLine line
 
 -- The tokens of a line.
-abbrev pub tokens_of : Entry → List (List ℕ)
-tokens_of (StateLine name) = name ∷ []
-tokens_of (TransitionLine label source target) = label ∷ source ∷ target ∷ []
+abbrev pub content_tokens : LineContent → List (List ℕ)
+content_tokens (StateLine name) = name ∷ []
+content_tokens (TransitionLine label source target) = label ∷ source ∷ target ∷ []
 
 -- A byte that no line may have: 0x7F, and those below 0x20 but the tab.
 abbrev pub is_bad : ℕ → Bool
@@ -102,10 +102,10 @@ abbrev pub is_long : List ℕ → Bool
 is_long token = nat_lt 255 (length token)
 
 -- What is wrong with the tokens of a line: the least kind.
-abbrev pub token_fault : Entry → Option BaKind
+abbrev pub token_fault : LineContent → Option BaKind
 token_fault entry =
-    if list_any is_empty (tokens_of entry) then Some EmptyToken
-    else if list_any is_long (tokens_of entry) then Some TokenLong
+    if list_any is_empty (content_tokens entry) then Some EmptyToken
+    else if list_any is_long (content_tokens entry) then Some TokenLong
     else None
 
 -- What is wrong with a trimmed line by itself: the least kind.
@@ -113,4 +113,4 @@ abbrev pub own_fault : List ℕ → Option BaKind
 own_fault line =
     if list_any is_bad line then Some BadByte
     else if not (is_shaped line) then Some Shape
-    else token_fault (entry_of line)
+    else token_fault (content_of line)

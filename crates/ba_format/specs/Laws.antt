@@ -9,8 +9,8 @@ use Rattle.ba_format.specs.declared.parts.Named.{Named}
 use Rattle.ba_format.specs.declared.parts.Joined.{Joined}
 use Rattle.ba_format.specs.Sight.{AreDifferent}
 use Rattle.ba_format.specs.Grammar.{is_bad, is_blank, is_comma, arrows}
-use Rattle.ba_format.specs.Faults.{fault_of, entries_of, names_of, labels_of, transitions_of}
-use Rattle.ba_format.specs.Reading.{Reads, IsWithin}
+use Rattle.ba_format.specs.Faults.{fault_of, contents_of, names_of, labels_of, transitions_of}
+use Rattle.ba_format.specs.Reading.{Reads, IsWithinLimits}
 use Rattle.ba_format.specs.Joining.{IsJoined}
 use Rattle.ba_format.specs.Writing.{written}
 
@@ -30,7 +30,7 @@ FaultlessReads =
 
 -- What a text reads as stays within the limits.
 abbrev pub ReadIsWithin : Type 0
-ReadIsWithin = (text : List ℕ) (limits : Limits) (named : Named) → Reads text limits named → IsWithin limits named
+ReadIsWithin = (text : List ℕ) (limits : Limits) (named : Named) → Reads text limits named → IsWithinLimits limits named
 
 -- Two read automata are joined in one way.
 abbrev pub JoinsAsOne : Type 0
@@ -60,9 +60,9 @@ pub record IsWritable (A : Automaton) (labels : List (List ℕ)) : Type 0 where
 
 -- The states, labels and transitions that the text brings stay within the limits.
 pub record CountsFit (text : List ℕ) (limits : Limits) : Type 0 where
-  pub states : length (names_of (entries_of text)) ≤ limits.states
-  pub labels : length (labels_of (entries_of text)) ≤ limits.labels
-  pub transitions : length (transitions_of (entries_of text)) ≤ limits.transitions
+  pub states : length (names_of (contents_of text)) ≤ limits.states
+  pub labels : length (labels_of (contents_of text)) ≤ limits.labels
+  pub transitions : length (transitions_of (contents_of text)) ≤ limits.transitions
 
 -- A written text whose counts stay within the limits has no fault.
 abbrev pub WrittenReads : Type 0

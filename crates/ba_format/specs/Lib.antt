@@ -4,7 +4,6 @@ pub mod Faults
 pub mod Seen
 pub mod Draft
 pub mod Joining
-pub mod Parts
 pub mod Reading
 pub mod Writing
 pub mod Laws

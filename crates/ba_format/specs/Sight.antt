@@ -17,8 +17,8 @@ module _ {X : Type 0} (same : X → X → Bool) where
   first_seen xs = fold noted [] xs
 
   -- The number of a thing that was seen: its place.
-  abbrev pub number_in : List X → X → ℕ
-  number_in seen x = position_or_len (same x) seen
+  abbrev pub place_in : List X → X → ℕ
+  place_in seen x = position_or_len (same x) seen
 
 -- No two of the texts are the same.
 abbrev pub AreDifferent : List (List ℕ) → Type 0

@@ -2,7 +2,7 @@
 
 ghost use Rattle.std.specs.Prelude.{IfOk};
 ghost use Rattle.auto_core.specs.Build.{IsBuilt};
-ghost use Rattle.ba_format.specs.Parts.{AreParts};
+ghost use Rattle.auto_core.specs.Parts.{AreParts};
 
 use auto_core::{Auto, BuildFault, Memory, Trans};
 use std::alloc::Global;

@@ -1,9 +1,9 @@
 //! What the lines of a text bring, line by line.
 
 ghost use Rattle.std.specs.Prelude.{◌≡◌, ◌+◌, ◌^◌, ◌<◌, ◌≤◌, ◌==◌, if◌then◌else◌, List, [], length, map, OnOk, OnErr, IfOk, IfErr, MatchResult};
-ghost use Rattle.ba_format.specs.Sight.{same_text, noted, number_in};
-ghost use Rattle.ba_format.specs.Grammar.{Entry, StateLine, TransitionLine};
-ghost use Rattle.ba_format.specs.Draft.{PastLimit, NotesState, NotesTransition, Stands, Fits, Takes, TakesLine, IsReady, trans_with};
+ghost use Rattle.ba_format.specs.Sight.{same_text, noted, place_in};
+ghost use Rattle.ba_format.specs.Grammar.{LineContent, StateLine, TransitionLine};
+ghost use Rattle.ba_format.specs.Draft.{PastLimit, NotesState, NotesTransition, Stands, Fits, Takes, TakesLine, IsReadyDraft, trans_with};
 ghost use Rattle.ba_format.specs.Reading.{IsReading};
 ghost use Rattle.std.specs.List.{range_with_len};
 
@@ -76,7 +76,7 @@ pub(crate) struct Draft {
 
 /// The number of a text: a new one is appended first, unless that would bring more texts than the limit. The fault is then `past`.
 fn number(texts: &mut Texts, text: &[u8], limit: u32, past: BaKind) -> Result<u32, Refusal>
-    ensures { length texts.old ≤ limit → MatchResult result (λ at. (texts.new ≡ noted same_text texts.old text.now) × (at ≡ number_in same_text texts.new text.now) × (length texts.new ≤ limit)) (PastLimit past limit (length (noted same_text texts.old text.now))) }
+    ensures { length texts.old ≤ limit → MatchResult result (λ at. (texts.new ≡ noted same_text texts.old text.now) × (at ≡ place_in same_text texts.new text.now) × (length texts.new ≤ limit)) (PastLimit past limit (length (noted same_text texts.old text.now))) }
 {
     if let Some(at) = texts.find(text) {
         return Ok(at);
@@ -124,7 +124,7 @@ impl Draft {
 
     /// Takes a state line.
     fn take_state(&mut self, name: &[u8], limits: &Limits) -> Result<(), Refusal>
-        ensures { (entries : List Entry) → Stands self.old entries → Fits limits.now entries → Takes limits.now entries (StateLine name.now) self.new result }
+        ensures { (entries : List LineContent) → Stands self.old entries → Fits limits.now entries → Takes limits.now entries (StateLine name.now) self.new result }
     {
         let at = number(&mut self.names, name, limits.states, BaKind::TooManyStates)?;
         self.note_state_line(at)?;
@@ -149,7 +149,7 @@ impl Draft {
         target: &[u8],
         limits: &Limits,
     ) -> Result<(), Refusal>
-        ensures { (entries : List Entry) → Stands self.old entries → Fits limits.now entries → Takes limits.now entries (TransitionLine label.now source.now target.now) self.new result }
+        ensures { (entries : List LineContent) → Stands self.old entries → Fits limits.now entries → Takes limits.now entries (TransitionLine label.now source.now target.now) self.new result }
     {
         if let Opening::States = self.opening {
             return Err(Refusal::Line(BaKind::TwoInitial));
@@ -180,7 +180,7 @@ impl Draft {
 
     /// Takes a trimmed line that isn't blank.
     pub(crate) fn take(&mut self, line: &[u8], limits: &Limits) -> Result<(), Refusal>
-        ensures { (entries : List Entry) → Stands self.old entries → Fits limits.now entries → TakesLine limits.now entries line.now self.new result }
+        ensures { (entries : List LineContent) → Stands self.old entries → Fits limits.now entries → TakesLine limits.now entries line.now self.new result }
     {
         match said_by(line) {
             Err(kind) => Err(Refusal::Line(kind)),
@@ -193,8 +193,8 @@ impl Draft {
 
     /// The automaton that the lines say, with its names and labels.
     pub(crate) fn into_named(self, alloc: Global) -> Result<Named, Memory>
-        requires { IsReady self }
-        ensures { IfOk result (λ named. (entries : List Entry) → Stands self entries → IsReading entries named) }
+        requires { IsReadyDraft self }
+        ensures { IfOk result (λ named. (entries : List LineContent) → Stands self entries → IsReading entries named) }
     {
         let transitions = transitions_of(alloc, self.transitions.as_slice())?;
         let accepting = chosen_or_all(alloc, self.accepting.as_slice(), self.names.count())?;

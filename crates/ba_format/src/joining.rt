@@ -3,7 +3,7 @@
 ghost use Rattle.std.specs.Prelude.{◌≡◌, ◌+◌, ◌^◌, ◌<◌, true, length, map, slice_index, OnOk, IfOk, All};
 ghost use Rattle.std.specs.List.{list_any};
 ghost use Rattle.auto_core.specs.Automaton.{trans};
-ghost use Rattle.ba_format.specs.Sight.{same_text, number_in, AreDifferent};
+ghost use Rattle.ba_format.specs.Sight.{same_text, place_in, AreDifferent};
 ghost use Rattle.ba_format.specs.Joining.{joined_labels, IsRelabelled, IsJoined};
 
 use crate::building::built;
@@ -29,7 +29,7 @@ fn add_new(joined: &mut Texts, texts: &Texts) -> Result<(), Memory>
 /// The number of each label in the joined list, which has them all.
 fn numbers_in(alloc: Global, labels: &Texts, joined: &Texts) -> Result<Vec<u32>, Memory>
     requires { All (λ label. list_any (same_text label) joined.now ≡ true) labels.now }
-    ensures numbers { IfOk result (λ numbers. numbers.items ≡ map (number_in same_text joined.now) labels.now) }
+    ensures numbers { IfOk result (λ numbers. numbers.items ≡ map (place_in same_text joined.now) labels.now) }
     ensures different { AreDifferent labels.now }
 {
     let mut numbers = Vec::new(alloc);

@@ -3,7 +3,7 @@
 ghost use Rattle.std.specs.Prelude.{◌≡◌, ◌+◌, true, false, nat_lt, position, None, Some, MatchOption, MatchResult};
 ghost use Rattle.std.specs.List.{list_any, before_first, after_first};
 ghost use Rattle.ba_format.specs.Grammar.{is_bad, is_comma, is_shaped, arrows, before_arrow, after_arrow, own_fault, token_fault};
-ghost use Rattle.ba_format.specs.Grammar.{entry_of as entry_value, trimmed as trimmed_text, without_leading as text_without_leading};
+ghost use Rattle.ba_format.specs.Grammar.{content_of as entry_value, trimmed as trimmed_text, without_leading as text_without_leading};
 ghost use Rattle.ba_format.specs.Seen.{entry_seen, is_cut_shaped, transition_entry};
 
 use crate::parts::BaKind;

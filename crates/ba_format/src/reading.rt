@@ -2,10 +2,10 @@
 
 ghost use Rattle.std.specs.Prelude.{◌≡◌, ◌+◌, ◌^◌, ◌<◌, ◌≤◌, ◌⊎◌, [], None, Some, Ok, Err, length, position, IfOk, MatchResult};
 ghost use Rattle.std.specs.List.{before_first, after_first};
-ghost use Rattle.ba_format.specs.Grammar.{is_newline, lines_of};
-ghost use Rattle.ba_format.specs.Faults.{first_fault, fault_of, entries_of};
+ghost use Rattle.ba_format.specs.Grammar.{is_newline, lines_in};
+ghost use Rattle.ba_format.specs.Faults.{first_fault, fault_of, contents_of};
 ghost use Rattle.ba_format.specs.Draft.{Stands, Fits, TellsFault};
-ghost use Rattle.ba_format.specs.Reading.{Reads, IsWithin};
+ghost use Rattle.ba_format.specs.Reading.{Reads, IsWithinLimits};
 
 use crate::draft::{Draft, Opening, Refusal};
 use crate::lines::trimmed;
@@ -33,7 +33,7 @@ fn first_line(text: &[u8]) -> (&[u8], &[u8])
 /// What the lines of a text bring.
 fn draft_of(alloc: Global, text: &[u8], limits: &Limits) -> Result<Draft, ReadFault>
     requires { length text.now ≤ 2 ^ 24 }
-    ensures { MatchResult result (λ draft. (first_fault limits.now [] (lines_of text.now) ≡ None) × Stands draft (entries_of text.now) × Fits limits.now (entries_of text.now) × (length (entries_of text.now) ≤ length text.now)) (TellsFault (first_fault limits.now [] (lines_of text.now))) }
+    ensures { MatchResult result (λ draft. (first_fault limits.now [] (lines_in text.now) ≡ None) × Stands draft (contents_of text.now) × Fits limits.now (contents_of text.now) × (length (contents_of text.now) ≤ length text.now)) (TellsFault (first_fault limits.now [] (lines_in text.now))) }
 {
     let mut draft = Draft::new(alloc);
     let mut rest = text;
@@ -61,7 +61,7 @@ fn draft_of(alloc: Global, text: &[u8], limits: &Limits) -> Result<Draft, ReadFa
 pub fn read(alloc: Global, bytes: &[u8], limits: &Limits) -> Result<Named, ReadFault>
     requires { length bytes.now ≤ 2 ^ 24 }
     ensures named { IfOk result (Reads bytes.now limits.now) }
-    ensures within { IfOk result (IsWithin limits.now) }
+    ensures within { IfOk result (IsWithinLimits limits.now) }
     ensures fault { (fault : BaFault) → result ≡ Err (ReadFault.Ba fault) → fault_of bytes.now limits.now ≡ Some fault }
     ensures found { (fault : BaFault) → fault_of bytes.now limits.now ≡ Some fault → (result ≡ Err (ReadFault.Ba fault)) ⊎ (result ≡ Err ReadFault.Memory) }
 {

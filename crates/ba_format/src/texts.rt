@@ -2,7 +2,7 @@
 
 ghost use Rattle.std.specs.Prelude.{◌≡◌, ◌+◌, ◌-◌, ◌^◌, ◌<◌, [], ◌∷◌, ◌++◌, length, slice_index_or, Contains, OnOk, OnErr, MatchOption, true, false};
 ghost use Rattle.std.specs.List.{list_any};
-ghost use Rattle.ba_format.specs.Sight.{AreDifferent, same_text, number_in};
+ghost use Rattle.ba_format.specs.Sight.{AreDifferent, same_text, place_in};
 
 use auto_core::Memory;
 use indexmap::IndexSet;
@@ -73,7 +73,7 @@ impl Texts {
 
     /// The number of a text, if it is there.
     pub(crate) fn find(&self, text: &[u8]) -> Option<u32>
-        ensures { MatchOption result (list_any (same_text text.now) self.now ≡ false) (λ at. (list_any (same_text text.now) self.now ≡ true) × (at ≡ number_in same_text self.now text.now)) }
+        ensures { MatchOption result (list_any (same_text text.now) self.now ≡ false) (λ at. (list_any (same_text text.now) self.now ≡ true) × (at ≡ place_in same_text self.now text.now)) }
     {
         let at = self.texts.get_index_of(text)?;
         Some(at as u32)

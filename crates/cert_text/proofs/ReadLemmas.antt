@@ -12,7 +12,7 @@ use Rattle.cert_text.specs.Text.{Line}
 use Rattle.cert_text.specs.Tokens.{tokens_of}
 use Rattle.cert_text.specs.Agrees.{Agrees}
 use Rattle.cert_text.specs.Told.{Told, located}
-use Rattle.cert_text.specs.Grammar.{Outcome, Read, Stopped, after, lines_of, read_lines, reading, told_at, first_left, is_bare, finish}
+use Rattle.cert_text.specs.Grammar.{ReadOutcome, Read, Stopped, after, lines_of, read_lines, reading, told_at, first_left, is_bare, finish}
 use Rattle.cert_text.specs.Machine.{step, ended, at_end}
 use Rattle.cert_text.proofs.ResumeState.{resume, state_law, state_last}
 use Rattle.cert_text.proofs.SplitLemmas.{split_none, split_some, rest_all}
@@ -50,7 +50,7 @@ pub told_stopped : (bytes : List ℕ) (fault : TextKind) (here : List Line) (n :
     → reading bytes ≡ Err (record { line = n; kind = fault })
 told_stopped bytes fault here n e k =
     let L = lines_of bytes in
-    let f : Outcome → Result Cert TextFault = λ o. told_at (first_left L o) o in
+    let f : ReadOutcome → Result Cert TextFault = λ o. told_at (first_left L o) o in
     let g : ℕ → Result Cert TextFault = λ m. Err (record { line = m; kind = fault }) in
     let m : (length L + 1) - length here ≡ n = omega arith in
     ap f e ∙ ap g m
@@ -58,7 +58,7 @@ told_stopped bytes fault here n e k =
 pub told_read : (bytes : List ℕ) (c : Cert) → read_lines (lines_of bytes) ≡ Read c → reading bytes ≡ Ok c
 told_read bytes c e =
     let L = lines_of bytes in
-    let f : Outcome → Result Cert TextFault = λ o. told_at (first_left L o) o in
+    let f : ReadOutcome → Result Cert TextFault = λ o. told_at (first_left L o) o in
     ap f e
 
 -- the reader stops at a line

@@ -59,13 +59,13 @@ use Rattle.cert_text.specs.declared.machine.State.TheVariants as state
 use Rattle.cert_text.specs.Text.{Line}
 use Rattle.cert_text.specs.WellFormed.{blocks_due, is_live}
 use Rattle.cert_text.specs.Lines.{Said, word_in, number_in, numbers_in, ascending_in, sizes_in, heading_in, row_in, rank_row_in, gone_by_in, first_head_in, second_head_in, origin_in, element_in, step_in}
-use Rattle.cert_text.specs.Grammar.{Outcome, Read, Stopped, Then, after, next_line, read_rows, read_block, read_rank_rows, read_rank_block, read_blocks, read_classes, read_first_rest, read_first_steps, read_grounds, read_second_rest, read_second_steps, read_elements, read_steps, read_origins, read_cover, read_all_elements, read_closed, read_all_origins, read_limited, read_first_log, read_second_log, read_turn, read_lasso, read_word, yes_of, list_of, read_evidence, read_after_first, read_logs, read_body, finish, cert_of, read_end, read_rest, read_sizes, read_lines}
+use Rattle.cert_text.specs.Grammar.{ReadOutcome, Read, Stopped, Then, after, next_line, read_rows, read_block, read_rank_rows, read_rank_block, read_blocks, read_classes, read_first_rest, read_first_steps, read_grounds, read_second_rest, read_second_steps, read_elements, read_steps, read_origins, read_cover, read_all_elements, read_closed, read_all_origins, read_limited, read_first_log, read_second_log, read_turn, read_lasso, read_word, yes_of, list_of, read_evidence, read_after_first, read_logs, read_body, finish, cert_of, read_end, read_rest, read_sizes, read_lines}
 use Rattle.cert_text.specs.Machine.{map_said, on_or, rows_due, step_block, rank_rows_due, step_ranks, blocks_left, with_block, first_started, step_first, first_left, with_first, step_first_log, rel_due, with_forward, with_backward, with_delayed, second_started, step_second, second_left, with_second, step_second_log, elements_left, live_from, step_or_whole, steps_left, with_order, step_yes, origins_left, step_list, step_no, whole, begun, with_no, with_first_log, evidence_due, with_second_log, with_yes, with_list, step}
 use Rattle.cert_text.proofs.FormLemmas.{drop_one}
 
 -- How a state reads on, and what a step reads on.
 abbrev pub Resume : Type 0 → Type 0 → Type 0
-Resume S X = S → Then X → List Line → Outcome
+Resume S X = S → Then X → List Line → ReadOutcome
 
 abbrev pub on_step : {S X : Type 0} → Resume S X → Then X → Then (Step S X)
 on_step resume next (More s) lines = resume s next lines

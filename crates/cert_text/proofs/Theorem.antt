@@ -7,7 +7,7 @@ use Rattle.cert_text.specs.declared.faults.TextFault.{TextFault}
 use Rattle.cert_text.specs.Text.{Line, text_of, text, cert_lines}
 use Rattle.cert_text.specs.Tokens.{tokens_of}
 use Rattle.cert_text.specs.WellFormed.{has_text, has_some, WellFormed}
-use Rattle.cert_text.specs.Grammar.{Outcome, Read, Stopped, lines_of, read_lines, reading, told_at, first_left, finish}
+use Rattle.cert_text.specs.Grammar.{ReadOutcome, Read, Stopped, lines_of, read_lines, reading, told_at, first_left, finish}
 use Rattle.cert_text.specs.Law.{OneText}
 use Rattle.cert_text.proofs.BytesLines.{lines_text, text_back}
 use Rattle.cert_text.proofs.PlainCert.{plain_cert}
@@ -31,7 +31,7 @@ pub reading_text : (c : Cert) → has_text c ≡ true → reading (text c) ≡ O
 reading_text c e =
     told_read (text c) c (ap (λ b. read_lines (lines_of b)) (sym (append-nil (text c))) ∙ text_then c [] e)
 
-told_inv : (n : ℕ) (o : Outcome) (c : Cert) → told_at n o ≡ Ok c → o ≡ Read c
+told_inv : (n : ℕ) (o : ReadOutcome) (c : Cert) → told_at n o ≡ Ok c → o ≡ Read c
 told_inv n (Read d) c e = let same : d ≡ c = cc in ap Read same
 told_inv n (Stopped fault rest) c e = absurd (cc)
 

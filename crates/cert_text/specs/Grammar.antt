@@ -42,72 +42,72 @@ use Rattle.cert_text.specs.WellFormed.{blocks_due, is_live, has_some}
 use Rattle.cert_text.specs.Lines.{Said, word_in, number_in, numbers_in, ascending_in, sizes_in, heading_in, row_in, rank_row_in, gone_by_in, first_head_in, second_head_in, origin_in, element_in, step_in}
 
 -- What comes of reading lines: a certificate, or a fault at the first of these lines.
-pub data Outcome : Type 0 where
-  Read : Cert → Outcome
-  Stopped : TextKind → List Line → Outcome
+pub data ReadOutcome : Type 0 where
+  Read : Cert → ReadOutcome
+  Stopped : TextKind → List Line → ReadOutcome
 
 -- What follows, given what was read and the lines that are left.
 abbrev pub Then : Type 0 → Type 0
-Then A = A → List Line → Outcome
+Then A = A → List Line → ReadOutcome
 
 -- On with what the line says, or stop at it.
-abbrev pub after : {A : Type 0} → Said A → Then A → List Line → List Line → Outcome
+abbrev pub after : {A : Type 0} → Said A → Then A → List Line → List Line → ReadOutcome
 after (Ok a) next here rest = next a rest
 after (Err fault) next here rest = Stopped fault here
 
 -- The next line. The last piece of the bytes is no whole line.
-abbrev pub next_line : {A : Type 0} → (Line → Said A) → Then A → List Line → Outcome
+abbrev pub next_line : {A : Type 0} → (Line → Said A) → Then A → List Line → ReadOutcome
 next_line said next [] = Stopped Truncated []
 next_line said next (piece ∷ []) = Stopped Truncated (piece ∷ [])
 next_line said next (line ∷ other ∷ rest) = after (said line) next (line ∷ other ∷ rest) (other ∷ rest)
 
 -- That many rows, whose left numbers ascend from the bound, after these.
-abbrev pub read_rows : ℕ → ℕ → List Row → Then (List Row) → List Line → Outcome
+abbrev pub read_rows : ℕ → ℕ → List Row → Then (List Row) → List Line → ReadOutcome
 read_rows zero bound rows next lines = next rows lines
 read_rows (suc n) bound rows next lines =
     next_line (row_in bound) (λ row. read_rows n (row.left + 1) (rows ++ row ∷ []) next) lines
 
 -- A relation.
-abbrev pub read_block : Then RelBlock → List Line → Outcome
+abbrev pub read_block : Then RelBlock → List Line → ReadOutcome
 read_block next =
     next_line (number_in keyword.Rel) (λ n. read_rows n 0 [] (λ rows. next (record { rows = rows })))
 
 -- That many rows with ranks.
-abbrev pub read_rank_rows : ℕ → ℕ → List RankRow → Then (List RankRow) → List Line → Outcome
+abbrev pub read_rank_rows : ℕ → ℕ → List RankRow → Then (List RankRow) → List Line → ReadOutcome
 read_rank_rows zero bound rows next lines = next rows lines
 read_rank_rows (suc n) bound rows next lines =
     next_line (rank_row_in bound) (λ row. read_rank_rows n (row.left + 1) (rows ++ row ∷ []) next) lines
 
 -- A relation with ranks.
-abbrev pub read_rank_block : Then RankBlock → List Line → Outcome
+abbrev pub read_rank_block : Then RankBlock → List Line → ReadOutcome
 read_rank_block next =
     next_line (number_in keyword.Rel) (λ n. read_rank_rows n 0 [] (λ rows. next (record { rows = rows })))
 
 -- That many relations, after these.
-abbrev pub read_blocks : ℕ → List RelBlock → Then (List RelBlock) → List Line → Outcome
+abbrev pub read_blocks : ℕ → List RelBlock → Then (List RelBlock) → List Line → ReadOutcome
 read_blocks zero blocks next lines = next blocks lines
 read_blocks (suc n) blocks next lines = read_block (λ block. read_blocks n (blocks ++ block ∷ []) next) lines
 
 -- The classes of the states.
-abbrev pub read_classes : Then (List ℕ) → List Line → Outcome
+abbrev pub read_classes : Then (List ℕ) → List Line → ReadOutcome
 read_classes = next_line (numbers_in keyword.Classes tail.SomeNumbers)
 
 -- The rest of a step of the first log.
-abbrev pub read_first_rest : FirstHead → Then FirstStep → List Line → Outcome
+abbrev pub read_first_rest : FirstHead → Then FirstStep → List Line → ReadOutcome
 read_first_rest (first_head.Trim kept) next = next (first.Trim kept)
 read_first_rest (first_head.Merge) next = read_classes (λ classes. next (first.Merge classes))
 read_first_rest (first_head.Cut pair look) next =
     next_line gone_by_in (λ gone. read_blocks (blocks_due pair) [] (λ blocks. next (first.Cut pair look gone blocks)))
 
 -- That many steps of the first log, after these.
-abbrev pub read_first_steps : ℕ → List FirstStep → Then (List FirstStep) → List Line → Outcome
+abbrev pub read_first_steps : ℕ → List FirstStep → Then (List FirstStep) → List Line → ReadOutcome
 read_first_steps zero steps next lines = next steps lines
 read_first_steps (suc n) steps next lines =
     next_line first_head_in
     (λ head. read_first_rest head (λ step. read_first_steps n (steps ++ step ∷ []) next)) lines
 
 -- The relation by which states of the second automaton are merged.
-abbrev pub read_grounds : Way → List ℕ → Then SecondStep → List Line → Outcome
+abbrev pub read_grounds : Way → List ℕ → Then SecondStep → List Line → ReadOutcome
 read_grounds (way.Forward look) classes next =
     read_block (λ rel. next (second.Merge (grounds.Forward look rel) classes))
 read_grounds (way.Backward look) classes next =
@@ -116,27 +116,27 @@ read_grounds (way.Delayed) classes next =
     read_rank_block (λ ranks. next (second.Merge (grounds.Delayed ranks) classes))
 
 -- The rest of a step of the second log.
-abbrev pub read_second_rest : SecondHead → Then SecondStep → List Line → Outcome
+abbrev pub read_second_rest : SecondHead → Then SecondStep → List Line → ReadOutcome
 read_second_rest (second_head.Trim kept) next = next (second.Trim kept)
 read_second_rest (second_head.Merge way) next = read_classes (λ classes. read_grounds way classes next)
 read_second_rest (second_head.Cut) next =
     next_line (ascending_in keyword.Gone tail.SomeNumbers) (λ gone. next (second.Cut gone))
 
 -- That many steps of the second log, after these.
-abbrev pub read_second_steps : Mode → ℕ → List SecondStep → Then (List SecondStep) → List Line → Outcome
+abbrev pub read_second_steps : Mode → ℕ → List SecondStep → Then (List SecondStep) → List Line → ReadOutcome
 read_second_steps m zero steps next lines = next steps lines
 read_second_steps m (suc n) steps next lines =
     next_line (second_head_in m)
     (λ head. read_second_rest head (λ step. read_second_steps m n (steps ++ step ∷ []) next)) lines
 
 -- That many elements of a yes, after these.
-abbrev pub read_elements : Mode → ℕ → List Element → Then (List Element) → List Line → Outcome
+abbrev pub read_elements : Mode → ℕ → List Element → Then (List Element) → List Line → ReadOutcome
 read_elements m zero elements next lines = next elements lines
 read_elements m (suc n) elements next lines =
     next_line (element_in m) (λ e. read_elements m n (elements ++ e ∷ []) next) lines
 
 -- One line for each of these elements that is live, the first of them having the number n.
-abbrev pub read_steps : ℕ → List Element → List StepLine → Then (List StepLine) → List Line → Outcome
+abbrev pub read_steps : ℕ → List Element → List StepLine → Then (List StepLine) → List Line → ReadOutcome
 read_steps n [] steps next lines = next steps lines
 read_steps n (e ∷ es) steps next lines =
     cond (is_live e.mark)
@@ -144,52 +144,52 @@ read_steps n (e ∷ es) steps next lines =
     (read_steps (n + 1) es steps next lines)
 
 -- That many elements of a list, after these.
-abbrev pub read_origins : Mode → ℕ → List Origin → Then (List Origin) → List Line → Outcome
+abbrev pub read_origins : Mode → ℕ → List Origin → Then (List Origin) → List Line → ReadOutcome
 read_origins m zero origins next lines = next origins lines
 read_origins m (suc n) origins next lines =
     next_line (origin_in m) (λ from. read_origins m n (origins ++ from ∷ []) next) lines
 
 -- What a yes has after the order: the elements, their cover and their extensions.
-abbrev pub read_cover : RelBlock → List Element → Then Closed → List Line → Outcome
+abbrev pub read_cover : RelBlock → List Element → Then Closed → List Line → ReadOutcome
 read_cover order elements next =
     next_line (numbers_in keyword.Cover tail.Numbers) (λ cover. read_steps 0 elements [] (λ steps.
     next (record { order = order; elements = elements; cover = cover; steps = steps })))
 
-abbrev pub read_all_elements : Mode → RelBlock → Then Closed → List Line → Outcome
+abbrev pub read_all_elements : Mode → RelBlock → Then Closed → List Line → ReadOutcome
 read_all_elements m order next =
     next_line (number_in keyword.Elements) (λ n. read_elements m n [] (λ elements. read_cover order elements next))
 
 -- What a yes has after the logs.
-abbrev pub read_closed : Mode → Then Closed → List Line → Outcome
+abbrev pub read_closed : Mode → Then Closed → List Line → ReadOutcome
 read_closed m next = read_block (λ order. read_all_elements m order next)
 
 -- What a list has after the logs.
-abbrev pub read_all_origins : Mode → ℕ → Then Limited → List Line → Outcome
+abbrev pub read_all_origins : Mode → ℕ → Then Limited → List Line → ReadOutcome
 read_all_origins m limit next =
     next_line (number_in keyword.Elements) (λ n.
     read_origins m n [] (λ elements. next (record { limit = limit; elements = elements })))
 
-abbrev pub read_limited : Mode → Then Limited → List Line → Outcome
+abbrev pub read_limited : Mode → Then Limited → List Line → ReadOutcome
 read_limited m next = next_line (number_in keyword.Limit) (λ limit. read_all_origins m limit next)
 
 -- The first log.
-abbrev pub read_first_log : Then (List FirstStep) → List Line → Outcome
+abbrev pub read_first_log : Then (List FirstStep) → List Line → ReadOutcome
 read_first_log next = next_line (number_in keyword.Log1) (λ n. read_first_steps n [] next)
 
 -- The second log.
-abbrev pub read_second_log : Mode → Then (List SecondStep) → List Line → Outcome
+abbrev pub read_second_log : Mode → Then (List SecondStep) → List Line → ReadOutcome
 read_second_log m next = next_line (number_in keyword.Log2) (λ n. read_second_steps m n [] next)
 
 -- A lasso.
-abbrev pub read_turn : List ℕ → Then Body → List Line → Outcome
+abbrev pub read_turn : List ℕ → Then Body → List Line → ReadOutcome
 read_turn prefix next =
     next_line (numbers_in keyword.Loop tail.SomeNumbers) (λ turn. next (body.NoLasso (record { prefix = prefix; turn = turn })))
 
-abbrev pub read_lasso : Then Body → List Line → Outcome
+abbrev pub read_lasso : Then Body → List Line → ReadOutcome
 read_lasso next = next_line (numbers_in keyword.Prefix tail.Numbers) (λ prefix. read_turn prefix next)
 
 -- A word.
-abbrev pub read_word : Then Body → List Line → Outcome
+abbrev pub read_word : Then Body → List Line → ReadOutcome
 read_word next = next_line (numbers_in keyword.Word tail.Numbers) (λ word. next (body.NoWord word))
 
 -- What stands after the logs.
@@ -207,20 +207,20 @@ abbrev pub list_of : List FirstStep → List SecondStep → Limited → Body
 list_of firsts seconds limited =
     body.Listing (record { first = firsts; second = seconds; limit = limited.limit; elements = limited.elements })
 
-abbrev pub read_evidence : Mode → Answer → List FirstStep → List SecondStep → Then Body → List Line → Outcome
+abbrev pub read_evidence : Mode → Answer → List FirstStep → List SecondStep → Then Body → List Line → ReadOutcome
 read_evidence m (answer.Yes) firsts seconds next = read_closed m (λ closed. next (yes_of firsts seconds closed))
 read_evidence m (answer.No) firsts seconds next = read_closed m (λ closed. next (yes_of firsts seconds closed))
 read_evidence m (answer.List) firsts seconds next = read_limited m (λ limited. next (list_of firsts seconds limited))
 
 -- The logs, and what follows them.
-abbrev pub read_after_first : Mode → Answer → List FirstStep → Then Body → List Line → Outcome
+abbrev pub read_after_first : Mode → Answer → List FirstStep → Then Body → List Line → ReadOutcome
 read_after_first m a firsts next = read_second_log m (λ seconds. read_evidence m a firsts seconds next)
 
-abbrev pub read_logs : Mode → Answer → Then Body → List Line → Outcome
+abbrev pub read_logs : Mode → Answer → Then Body → List Line → ReadOutcome
 read_logs m a next = read_first_log (λ firsts. read_after_first m a firsts next)
 
 -- The lines between the line of sizes and the last line.
-abbrev pub read_body : Mode → Answer → Then Body → List Line → Outcome
+abbrev pub read_body : Mode → Answer → Then Body → List Line → ReadOutcome
 read_body m (answer.Yes) next = read_logs m answer.Yes next
 read_body (mode.Buchi) (answer.No) next = read_lasso next
 read_body (mode.Finite) (answer.No) next = read_word next
@@ -254,15 +254,15 @@ abbrev pub read_end : Then Cert
 read_end c = next_line (word_in keyword.End) (λ u. finish c)
 
 -- What follows the line of sizes.
-abbrev pub read_rest : Heading → Sizes → List Line → Outcome
+abbrev pub read_rest : Heading → Sizes → List Line → ReadOutcome
 read_rest h sizes = read_body h.mode h.answer (λ b. read_end (cert_of h.mode sizes b))
 
 -- What follows the first line.
-abbrev pub read_sizes : Heading → List Line → Outcome
+abbrev pub read_sizes : Heading → List Line → ReadOutcome
 read_sizes h = next_line sizes_in (read_rest h)
 
 -- A whole text.
-abbrev pub read_lines : List Line → Outcome
+abbrev pub read_lines : List Line → ReadOutcome
 read_lines =
     next_line heading_in read_sizes
 
@@ -271,12 +271,12 @@ abbrev pub lines_of : List ℕ → List Line
 lines_of bytes = map tokens_of (slice_split (λ b. b == 10) bytes)
 
 -- What comes of the bytes, if a fault stands at the line with this number.
-abbrev pub told_at : ℕ → Outcome → Result Cert TextFault
+abbrev pub told_at : ℕ → ReadOutcome → Result Cert TextFault
 told_at line (Read c) = Ok c
 told_at line (Stopped fault rest) = Err (record { line = line; kind = fault })
 
 -- The number of the first line that is left, of these lines.
-abbrev pub first_left : List Line → Outcome → ℕ
+abbrev pub first_left : List Line → ReadOutcome → ℕ
 first_left lines (Read c) = 0
 first_left lines (Stopped fault rest) = (length lines + 1) - length rest
 

@@ -59,7 +59,7 @@ use Rattle.cert_text.specs.declared.machine.State.TheVariants as state
 use Rattle.cert_text.specs.Text.{Line}
 use Rattle.cert_text.specs.WellFormed.{blocks_due, is_live}
 use Rattle.cert_text.specs.Lines.{Said, word_in, number_in, numbers_in, ascending_in, sizes_in, heading_in, row_in, rank_row_in, gone_by_in, first_head_in, second_head_in, origin_in, element_in, step_in}
-use Rattle.cert_text.specs.Grammar.{Outcome, Stopped, finish, yes_of, list_of, cert_of}
+use Rattle.cert_text.specs.Grammar.{ReadOutcome, Stopped, finish, yes_of, list_of, cert_of}
 
 -- What comes of what is said.
 abbrev pub map_said : {A B : Type 0} → (A → B) → Said A → Said B
@@ -278,10 +278,10 @@ abbrev pub done_cert : State → Option Cert
 done_cert (state.Done c) = Some c
 done_cert _ = None
 
-abbrev pub ended : Option Cert → Line → Outcome
+abbrev pub ended : Option Cert → Line → ReadOutcome
 ended (Some c) piece = finish c (piece ∷ [])
 ended None piece = Stopped kind.Truncated (piece ∷ [])
 
 -- What comes of the last piece, which is no whole line.
-abbrev pub at_end : State → Line → Outcome
+abbrev pub at_end : State → Line → ReadOutcome
 at_end s piece = ended (done_cert s) piece

@@ -4,7 +4,8 @@ ghost use Rattle.std.specs.Prelude.{◌≡◌, ◌+◌, ◌<◌, ◌++◌, ◌�
 ghost use Rattle.cert_text.specs.WellFormed.{has_some};
 ghost use Rattle.std.specs.List.{list_all};
 ghost use Rattle.cert_text.specs.Tokens.{tokens_of};
-ghost use Rattle.cert_text.specs.Forms.{is_digit, is_number, value, has_empty, has_word, has_number, fits, has_numbers, line_fault, value_at, values_from, number_of, may_follow, pair_up};
+ghost use Rattle.auto_core.specs.Digits.{is_digit};
+ghost use Rattle.cert_text.specs.Forms.{is_number, value, has_empty, has_word, has_number, fits, has_numbers, line_fault, value_at, values_from, number_of, may_follow, pair_up};
 
 use crate::faults::TextKind;
 use crate::keywords::Keyword;

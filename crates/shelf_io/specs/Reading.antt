@@ -24,12 +24,12 @@ rest_in files (Some reading) = drop reading.at (file_at files reading.index).byt
 abbrev pub left_in : List File → Option Reading → Option (List ℕ)
 left_in files reading = Some (rest_in files reading)
 
-abbrev IsTold : Begun → Type 0
-IsTold Nothing = Unit {0}
-IsTold Unnamed = ⊥
-IsTold (Named name) = Unit {0}
+abbrev IsBegunTold : Begun → Type 0
+IsBegunTold Nothing = Unit {0}
+IsBegunTold Unnamed = ⊥
+IsBegunTold (Named name) = Unit {0}
 
 -- The file is always named.
 pub begun_in-told : (files : List File) (reading : Option Reading) → begun_in files reading ≢ Unnamed
-begun_in-told files None is = subst IsTold is tt
-begun_in-told files (Some reading) is = subst IsTold is tt
+begun_in-told files None is = subst IsBegunTold is tt
+begun_in-told files (Some reading) is = subst IsBegunTold is tt

@@ -1,5 +1,5 @@
 use Rattle.std.proofs.Common.{◌∙◌, ap, sym, length, ◌∷◌, [], arith}
-use Rattle.ba_format.specs.Sight.{same_text, number_in}
+use Rattle.ba_format.specs.Sight.{same_text, place_in}
 use Rattle.ba_format.proofs.JoinLemmas.{absent}
 use Rattle.ba_format.proofs.SightLemmas.{noted-new}
 use Rattle.ba_format.proofs.DraftLemmas.{number-new}
@@ -16,6 +16,6 @@ returns c = λ h.
     let none = c.in_default.ensures in
     let made = c.in_ok-add.ensures.ok in (
       made ∙ sym (noted-new same_text old text none),
-      c.count-at.ensures.count ∙ sym (ap (λ l. number_in same_text l text) made ∙ number-new text old none),
+      c.count-at.ensures.count ∙ sym (ap (λ l. place_in same_text l text) made ∙ number-new text old none),
       omega (arith, ap length made, length-append old (text ∷ [])),
     )

@@ -1,5 +1,5 @@
 use Rattle.std.proofs.Common.{arith}
-use Rattle.ba_format.specs.Faults.{entries_of}
+use Rattle.ba_format.specs.Faults.{contents_of}
 use Rattle.ba_format.proofs.ReadLemmas.{empty_text, opens_not, no_fault_text}
 use Rattle.ba_format.proofs.NamedLemmas.{transitions-most, within_limits}
 use Rattle.ba_format.proofs.reading.read.Goals as goal
@@ -11,7 +11,7 @@ returns-in-Nothing-clause-fault c = λ fault e.
 
 pub into_named-requires : goal.into_named-requires
 into_named-requires c =
-    let entries = entries_of c.args.bytes.now in
+    let entries = contents_of c.args.bytes.now in
     record {
       entries = entries;
       stands = c.in_ok-draft.ensures.1;
@@ -21,7 +21,7 @@ into_named-requires c =
 
 pub returns : goal.returns
 returns c =
-    let entries = entries_of c.args.bytes.now in
+    let entries = contents_of c.args.bytes.now in
     let some = opens_not c.in_ok-draft.draft.opening entries c.in_ok-draft.ensures.1.opening c.in_default.not-Nothing in
     let none = no_fault_text c.args.limits.now c.args.bytes.now some c.in_ok-draft.ensures.0 in
     let reading = c.in_ok-into_named.ensures entries c.in_ok-draft.ensures.1 in

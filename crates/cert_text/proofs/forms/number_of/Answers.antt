@@ -6,7 +6,7 @@ use Rattle.std.proofs.lemmas.Int.Digits.{digits_value_more}
 use Rattle.std.proofs.lemmas.Str.{digit_value_digit}
 use Rattle.std.proofs.lemmas.Bool.Decides.{nat_tests}
 use Rattle.std.specs.Char.{digit_value}
-use Rattle.cert_text.specs.Forms.{is_digit}
+use Rattle.auto_core.specs.Digits.{is_digit}
 use Rattle.cert_text.proofs.forms.number_of.Goals as goal
 
 below : (i v : ℕ) → i < 9 → v < 10 ^ i → v < 100000000

@@ -1,7 +1,7 @@
 use Rattle.std.proofs.Common.{◌≡◌, ◌<◌, ◌^◌, take, true}
 use Rattle.std.specs.List.{list_all}
 use Rattle.std.specs.Str.Parse.{digits_value}
-use Rattle.cert_text.specs.Forms.{is_digit}
+use Rattle.auto_core.specs.Digits.{is_digit}
 use Rattle.cert_text.proofs.forms.number_of.Given as goal
 
 abbrev pub invariant-loop-byte : goal.invariant-loop-byte
