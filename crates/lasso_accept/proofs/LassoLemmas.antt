@@ -13,7 +13,7 @@ use Rattle.auto_core.proofs.ReachLemmas.{close_trans}
 use Rattle.lasso_accept.specs.Plane.{ArePlanes}
 
 -- a run from a state ends in a state
-run_in_range : (A : Automaton) → IsAutomaton A → (p : ℕ) (w : List ℕ) (q : ℕ) (flag : Bool) → p < A.states → Run A p w q flag → q < A.states
+pub run_in_range : (A : Automaton) → IsAutomaton A → (p : ℕ) (w : List ℕ) (q : ℕ) (flag : Bool) → p < A.states → Run A p w q flag → q < A.states
 run_in_range A valid p [] q flag p_in (e, f) = let P : ℕ → Type 0 = λ s. s < A.states in subst P e p_in
 run_in_range A valid p (a ∷ w) q flag p_in (r, later, m, run, e) = run_in_range A valid r w q later (move_in_range A valid p a r m).1 run
 
@@ -133,3 +133,27 @@ row_entered A valid u width any flagged row planes inside outside = (
         | inr far ↦ absurd (false≢true (sym (outside q far) ∙ h))
       ],
 )
+
+-- Arcs one after another as runs on so many turns, and the other way round.
+pub chain_as_run :
+    (A : Automaton)
+    → IsAutomaton A
+    → (v : List ℕ) (width : ℕ) (any flagged : List ℕ)
+    → ArePlanes A v width any flagged
+    → (n p q : ℕ)
+    → Chain (Arc any A.states width) n p q
+    → (flag : Bool) × Run A p (repeated v n) q flag
+unfolding arc
+chain_as_run A valid v width any flagged planes n p q c = chain_run A valid v width any flagged planes n p q c
+
+pub run_as_chain :
+    (A : Automaton)
+    → IsAutomaton A
+    → (v : List ℕ) (width : ℕ) (any flagged : List ℕ)
+    → ArePlanes A v width any flagged
+    → (n p q : ℕ) (flag : Bool)
+    → p < A.states
+    → Run A p (repeated v n) q flag
+    → Chain (Arc any A.states width) n p q
+unfolding arc
+run_as_chain A valid v width any flagged planes n p q flag p_in run = run_chain A valid v width any flagged planes n p q flag p_in run

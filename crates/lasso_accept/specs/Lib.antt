@@ -1,1 +1,5 @@
 pub mod Plane
+pub mod Guide
+pub mod Countdown
+pub mod LassoRun
+pub mod Route

@@ -19,7 +19,7 @@ pub struct Planes {
 }
 
 /// The first table where the state is accepting, else the second.
-fn pick<'a>(automaton: &Auto, state: u32, marked: &'a [u64], plain: &'a [u64]) -> &'a [u64]
+pub fn pick<'a>(automaton: &Auto, state: u32, marked: &'a [u64], plain: &'a [u64]) -> &'a [u64]
     requires { state < automaton.now.states }
     ensures { result.now ≡ chosen automaton.now marked.now plain.now state }
 {

@@ -1,0 +1,29 @@
+use Rattle.std.proofs.Common.{ℕ, ◌<◌, sym, arith, subst, ◌∙◌, inl, inr, rules}
+use Rattle.std.proofs.lemmas.Bool.{cases_eq, false≢true}
+use Rattle.auto_core.specs.Rows.{HasBit}
+use Rattle.auto_core.specs.Reach.{Arc, ReturnsTo}
+use Rattle.lasso_accept.proofs.countdown.turning_place.Goals as goal
+
+pub loop-at-preserved : goal.loop-at-preserved
+loop-at-preserved c = λ x x_in marked back.
+    let any = Arc c.args.any.now c.args.count c.args.width in
+    let flagged = Arc c.args.flagged.now c.args.count c.args.width in
+    elim (cases_eq x c.loop-at.at) [
+      | inl e ↦
+          let P : ℕ → Type 0 = λ y. ReturnsTo any flagged y in
+          false≢true (sym c.if-returns_to.false ∙ c.returns_to.ensures.1 (subst P e back))
+      | inr n ↦ c.loop-at.invariant x (omega arith) marked back
+    ]
+
+pub returns-then-returns_to-clause-found : goal.returns-then-returns_to-clause-found
+returns-then-returns_to-clause-found c =
+    let marked : HasBit c.reach.new.marks c.loop-at.at = search rules in
+    let (p, was, way) = c.reach.ensures.reached.each c.loop-at.at marked in
+    (omega arith, (p, was, way), c.returns_to.ensures.0 c.if-returns_to.true)
+
+pub returns-clause-none : goal.returns-clause-none
+returns-clause-none c = λ cycle.
+    let marked = c.reach.ensures.reached.all cycle.start cycle.at cycle.marked cycle.enters in
+    let leaves = cycle.leaves in
+    let at_in : cycle.at < c.loop-at.at = omega (arith, leaves.0) in
+    c.loop-at.invariant cycle.at at_in marked (cycle.next, cycle.leaves, cycle.returns)
