@@ -1,10 +1,8 @@
 -- The evidence of a closed list.
-use Rattle.std.proofs.Common.{◌≡◌, ℕ, zero, suc, ◌+◌, ◌-◌, ◌<◌, ◌≤◌, Bool, true, false, cond, List, [], ◌∷◌, ◌++◌, length, map, slice_index_or, refl, sym, ap, ◌∙◌, subst, inl, inr, arith, length-append}
-use Rattle.std.specs.Prelude.{filter}
-use Rattle.std.specs.List.{range_with_len}
-use Rattle.auto_core.specs.Automaton.{Automaton, IsAutomaton, trans_at, IsOutgoing}
+use Rattle.std.proofs.Common.{◌≡◌, ℕ, ◌+◌, ◌<◌, true, false, List, [], ◌∷◌, ◌++◌, length, slice_index_or, sym, ap, ◌∙◌, subst, inl, inr, arith, length-append}
+use Rattle.auto_core.specs.Automaton.{Automaton, IsAutomaton, trans_at}
 use Rattle.auto_core.specs.Game.{IsGreatestForward}
-use Rattle.auto_core.specs.Outcome.{At, Entry, Closed, HasSubsumer, IsLeastSubsumer, SearchEnds, base_entry, next_entry, steps_out, supergraph_rules}
+use Rattle.auto_core.specs.Outcome.{At, Entry, Closed, HasSubsumer, IsLeastSubsumer, SearchEnds, base_entry, next_entry, supergraph_rules}
 use Rattle.cert_text.specs.declared.types.Element.{Element}
 use Rattle.cert_text.specs.declared.types.Mark.{Mark}
 use Rattle.cert_text.specs.declared.types.Mark.TheVariants.{Live, Under}
@@ -17,13 +15,9 @@ use Rattle.ramsey_search.specs.declared.parts.Held.{Held}
 use Rattle.ramsey_search.specs.declared.family.Family.{Family}
 use Rattle.ramsey_search.specs.Kept.{IsKept, IsFamily, IsWhole, entries_held, NoneSubsumes, held_super}
 use Rattle.ramsey_search.specs.Marks.{IsCovererOf, HasCoverer, IsHeldMark, AreMarked, numbers_beside}
-use Rattle.ramsey_search.specs.Ends.{IsMarked, IsStepOf}
+use Rattle.evidence.specs.Evidence.{IsMarked}
 use Rattle.ramsey_search.proofs.MeetLemmas.{none_at_all, first_is_least}
-use Rattle.std.proofs.lemmas.List.Elements.{filter-append}
-use Rattle.ramsey_search.proofs.TurnLemmas.{held_in_range, range_splits, steps_out_are}
-use Rattle.std.proofs.lemmas.Option.{none-some, same_Some}
-use Rattle.std.proofs.lemmas.List.FromFn.{length-range_with_len}
-use Rattle.cert_text.specs.declared.types.StepLine.{StepLine}
+use Rattle.ramsey_search.proofs.TurnLemmas.{held_in_range}
 
 -- An element that some element subsumes has a coverer, and that is its least live subsumer.
 module _ (A B : Automaton) (S : List (ℕ × ℕ)) (greatest : IsGreatestForward B 1 S) (n : ℕ) (same : n ≡ B.states) (f : Family) (es : List Entry) (family : IsFamily A B S f es)
@@ -96,7 +90,7 @@ module _ (A B : Automaton) (S : List (ℕ × ℕ)) (limit : ℕ) (valid_A : IsAu
           let k = at_some f.held.items i (omega arith) in
           (k.0, k.1, whole.kept i k.0 x k.1 x_is)
 
-      pub marks_are : (i : ℕ) (x : Entry) (m : Element) → At es i x → At elements i m → IsMarked A B S es i x m.mark
+      pub marks_are : (i : ℕ) (x : Entry) (m : Element) → At es i x → At elements i m → IsMarked (supergraph_rules A B S) es i x m.mark
       marks_are i x m x_is m_is =
           let h = held_at i x x_is in
           let within = at_within es i x x_is in
@@ -104,50 +98,9 @@ module _ (A B : Automaton) (S : List (ℕ × ℕ)) (limit : ℕ) (valid_A : IsAu
           let told = (marked.each i m h.0 m_is h.1).1 in
           go m.mark told within h.0 h.2 range.0 range.1
         where
-          go : (mark : Mark) → IsHeldMark n S f (held_at i x x_is).0 (slice_index_or f.live.items i false) mark → i < length es → (h : Held) → IsKept B S h x → h.arc.from < A.states → h.arc.to < A.states → IsMarked A B S es i x mark
+          go : (mark : Mark) → IsHeldMark n S f (held_at i x x_is).0 (slice_index_or f.live.items i false) mark → i < length es → (h : Held) → IsKept B S h x → h.arc.from < A.states → h.arc.to < A.states → IsMarked (supergraph_rules A B S) es i x mark
           go Live flag within h kept from_in to_in = whole.tells.stays i within flag
           go (Under j) told within h kept from_in to_in =
               let own = held_at i x x_is in
               let range = held_in_range A B S valid_A es whole.origins i x own.0 x_is own.2 in
               (whole.tells.drops i within told.0, coverer_is_least A B S greatest n same f es whole own.0 x own.2 range.0 range.1 j told.1)
-
--- Lists whose elements give the same, place by place.
-pub same_maps : {X Y Z : Type 0} (f : X → Z) (g : Y → Z) (xs : List X) (ys : List Y) → length xs ≡ length ys → ((i : ℕ) (x : X) (y : Y) → At xs i x → At ys i y → f x ≡ g y) → map f xs ≡ map g ys
-same_maps f g [] [] size same = refl
-same_maps f g [] (y ∷ ys) size same = absurd (omega arith)
-same_maps f g (x ∷ xs) [] size same = absurd (omega arith)
-same_maps f g (x ∷ xs) (y ∷ ys) size same =
-    ap (λ z. z ∷ map f xs) (same 0 x y refl refl) ∙ ap (λ l. g y ∷ l) (same_maps f g xs ys (omega arith) (λ i a b a_is b_is. same (suc i) a b a_is b_is))
-
-pub filters_alike : (p q : ℕ → Bool) (a n : ℕ) → ((t : ℕ) → a ≤ t → t < a + n → p t ≡ q t) → filter p (range_with_len a n) ≡ filter q (range_with_len a n)
-filters_alike p q a zero same = refl
-filters_alike p q a (suc n) same =
-    ap (λ b. cond b (a ∷ filter p (range_with_len (a + 1) n)) (filter p (range_with_len (a + 1) n))) (same a (omega arith) (omega arith))
-    ∙ ap (λ l. cond (q a) (a ∷ l) l) (filters_alike p q (a + 1) n (λ t from below. same t (omega arith) (omega arith)))
-
-pub filter_range_more : (p : ℕ → Bool) (e : ℕ) → filter p (range_with_len 0 (e + 1)) ≡ filter p (range_with_len 0 e) ++ cond (p e) (e ∷ []) []
-filter_range_more p e =
-    let at : 0 + e ≡ e = omega arith in
-    ap (filter p) (range_splits 0 e 1 ∙ ap (λ k. range_with_len 0 e ++ k ∷ []) at) ∙ filter-append p (range_with_len 0 e) (e ∷ [])
-
--- The places of a range.
-at_range : (a n k t : ℕ) → At (range_with_len a n) k t → t ≡ a + k
-at_range a zero k t is = absurd (none-some t is)
-at_range a (suc n) zero t is = let e = same_Some a t is in omega arith
-at_range a (suc n) (suc k) t is = let e = at_range (a + 1) n k t is in omega arith
-
--- The step line of an element.
-pub step_is : (A B : Automaton) (S : List (ℕ × ℕ)) (es : List Entry) (line : StepLine) (x : Entry) (begin end : ℕ) → At es line.element x → IsOutgoing A x.arc.to begin end → begin + length line.by ≡ end →
-    ((k j : ℕ) → At line.by k j → IsLeastSubsumer (supergraph_rules A B S) es (next_entry A line.element x (begin + k)) j) → IsStepOf A B S es line
-step_is A B S es line x begin end is out size each =
-    let steps : steps_out A x.arc.to ≡ range_with_len begin (end - begin) = steps_out_are A x.arc.to begin end out in
-    let count : length (range_with_len begin (end - begin)) ≡ end - begin = length-range_with_len begin (end - begin) in
-    let range = out.is_range in
-    record {
-      element = x;
-      is = is;
-      size = (let e : length line.by ≡ end - begin = omega arith in e) ∙ sym count ∙ sym (ap length steps);
-      each = λ k t j t_is j_is.
-          let here : t ≡ begin + k = at_range begin (end - begin) k t (subst (λ l. At l k t) steps t_is) in
-          subst (λ m. IsLeastSubsumer (supergraph_rules A B S) es (next_entry A line.element x m) j) (sym here) (each k j j_is);
-    }

@@ -16,9 +16,10 @@ use Rattle.search_laws.proofs.ListLemmas.{in_filter, filter_has}
 use Rattle.search_laws.proofs.EntryLemmas.{FitsBehind, origins_more}
 use Rattle.ramsey_search.specs.declared.parts.Held.{Held}
 use Rattle.ramsey_search.specs.declared.family.Family.{Family}
-use Rattle.ramsey_search.specs.Kept.{IsKept, LiesBetween, AreBetween, IsFamily, numbers_at, IsSubsumedOf, HasEntered, held_super}
+use Rattle.evidence.specs.Tables.{numbers_at}
+use Rattle.ramsey_search.specs.Kept.{IsKept, LiesBetween, AreBetween, IsFamily, IsSubsumedOf, HasEntered, held_super}
 use Rattle.ramsey_search.proofs.KeptLemmas.{to_entries, to_held}
-use Rattle.ramsey_search.proofs.NumberLemmas.{at_of_contains, contains_of_at, increasing_push}
+use Rattle.evidence.proofs.NumberLemmas.{at_of_contains, contains_of_at, increasing_push}
 
 -- One more flag behind.
 flag_before : (flags : List Bool) (i : ℕ) → i < length flags → slice_index_or (flags ++ true ∷ []) i false ≡ slice_index_or flags i false

@@ -1,15 +1,11 @@
 pub mod KeptLemmas
-pub mod ListLemmas
 pub mod MeetingLemmas
 pub mod EntriesLemmas
-pub mod NumberLemmas
 pub mod EnteredLemmas
-pub mod TableLemmas
 pub mod MeetLemmas
 pub mod PairLemmas
 pub mod TurnLemmas
 pub mod ClosureLemmas
 pub mod AnswerLemmas
-pub mod OriginListLemmas
 pub mod ClosingLemmas
 pub mod WholeLemmas

@@ -11,9 +11,10 @@ use Rattle.search_laws.proofs.PlaceLemmas.{at_within, at_some}
 use Rattle.search_laws.proofs.LiveLemmas.{live_one}
 use Rattle.ramsey_search.specs.declared.parts.Held.{Held}
 use Rattle.ramsey_search.specs.declared.family.Family.{Family}
-use Rattle.ramsey_search.specs.Kept.{IsKept, AreBetween, IsFamily, numbers_at, NoneSubsumes, IsFirstSubsumer, held_super}
+use Rattle.evidence.specs.Tables.{numbers_at}
+use Rattle.ramsey_search.specs.Kept.{IsKept, AreBetween, IsFamily, NoneSubsumes, IsFirstSubsumer, held_super}
 use Rattle.ramsey_search.proofs.KeptLemmas.{to_entries, to_held}
-use Rattle.ramsey_search.proofs.NumberLemmas.{at_of_contains, contains_of_at, earlier_is_less}
+use Rattle.evidence.proofs.NumberLemmas.{at_of_contains, contains_of_at, earlier_is_less}
 
 module _ (A B : Automaton) (S : List (ℕ × ℕ)) (greatest : IsGreatestForward B 1 S) (f : Family) (es : List Entry) (h : Held) (c : Entry)
     (family : IsFamily A B S f es) (kept : IsKept B S h c) (from_in : h.arc.from < A.states) (to_in : h.arc.to < A.states)

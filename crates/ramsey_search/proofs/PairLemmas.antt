@@ -13,8 +13,9 @@ use Rattle.ramsey_search.specs.declared.parts.Held.{Held}
 use Rattle.ramsey_search.specs.declared.family.Family.{Family}
 use Rattle.ramsey_search.specs.declared.parts.Fate.{Fate}
 use Rattle.ramsey_search.specs.declared.parts.Fate.TheVariants as fates
-use Rattle.ramsey_search.specs.Kept.{IsKept, AreBetween, IsFamily, numbers_at, AllPass, FailsFirst, AreTold, IsTold, held_super}
-use Rattle.ramsey_search.proofs.NumberLemmas.{at_of_contains, contains_of_at, earlier_is_less}
+use Rattle.evidence.specs.Tables.{numbers_at}
+use Rattle.ramsey_search.specs.Kept.{IsKept, AreBetween, IsFamily, AllPass, FailsFirst, AreTold, IsTold, held_super}
+use Rattle.evidence.proofs.NumberLemmas.{at_of_contains, contains_of_at, earlier_is_less}
 
 module _ (A B : Automaton) (S : List (ℕ × ℕ)) (valid : IsAutomaton B) (greatest : IsGreatestForward B 1 S) (h k : Held) (x y : Entry) (h_kept : IsKept B S h x) (k_kept : IsKept B S k y) where
   tested_held : IsTested A (super_entry B x) (super_entry B y) → IsTested A (held_super B.states h) (held_super B.states k)

@@ -1,9 +1,6 @@
 -- The search, candidate by candidate.
-use Rattle.std.proofs.Common.{◌≡◌, ℕ, zero, suc, ◌+◌, ◌-◌, ◌*◌, ◌<◌, ◌≤◌, ◌⊎◌, Bool, true, false, cond, ◌==◌, List, [], ◌∷◌, ◌++◌, length, map, slice_index_or, refl, sym, ap, ◌∙◌, subst, inl, inr, arith, length-append, append-nil}
-use Rattle.std.specs.Prelude.{filter}
+use Rattle.std.proofs.Common.{◌≡◌, ℕ, suc, ◌+◌, ◌-◌, ◌*◌, ◌<◌, ◌≤◌, Bool, true, false, List, [], ◌∷◌, ◌++◌, length, map, slice_index_or, refl, sym, ap, ◌∙◌, subst, arith, length-append}
 use Rattle.std.specs.List.{range_with_len}
-use Rattle.std.proofs.lemmas.Bool.{cases_Bool, eq-eqb, eqb-true}
-use Rattle.std.proofs.lemmas.List.Elements.{filter-append}
 use Rattle.auto_core.specs.Automaton.{Automaton, IsAutomaton, trans_at, IsOutgoing}
 use Rattle.auto_core.specs.Run.{Run}
 use Rattle.auto_core.specs.Game.{IsGreatestForward}
@@ -15,15 +12,17 @@ use Rattle.graph_rows.specs.Block.{IsFormed}
 use Rattle.search_laws.specs.Outcomes.{HaveOrigins}
 use Rattle.search_laws.proofs.PlaceLemmas.{at_within, at_some, at_more, at_new}
 use Rattle.search_laws.proofs.EntryLemmas.{FitsBehind, origins_more, entry_is_real, arc_here}
-use Rattle.ramsey_search.specs.Entries.{entry_of, entries_of}
+use Rattle.evidence.proofs.RangeLemmas.{extensions_from, steps_out_are, range_more, range_over}
+use Rattle.evidence.specs.Entries.{entry_of, entries_of}
 use Rattle.ramsey_search.specs.declared.parts.Held.{Held}
 use Rattle.ramsey_search.specs.declared.family.Family.{Family}
 use Rattle.ramsey_search.specs.declared.parts.Fate.{Fate}
 use Rattle.ramsey_search.specs.declared.parts.Fate.TheVariants as fates
-use Rattle.ramsey_search.specs.Kept.{IsKept, IsFamily, IsWhole, IsCandidate, IsTold, FitsTogether, HasEntered, HasCome, HasEnded, Leads, numbers_at, entries_held}
+use Rattle.evidence.specs.Tables.{numbers_at}
+use Rattle.ramsey_search.specs.Kept.{IsKept, IsFamily, IsWhole, IsCandidate, IsTold, FitsTogether, HasEntered, HasCome, HasEnded, Leads, entries_held}
 use Rattle.ramsey_search.proofs.EntriesLemmas.{entries_entered}
 use Rattle.ramsey_search.proofs.EnteredLemmas.{entered_family}
-use Rattle.ramsey_search.proofs.NumberLemmas.{contains_of_at}
+use Rattle.evidence.proofs.NumberLemmas.{contains_of_at}
 
 -- The ends of a real arc are states.
 real_in_range : (A : Automaton) → IsAutomaton A → (p : ℕ) (w : List ℕ) (q : ℕ) (flag : Bool) → 1 ≤ length w → Run A p w q flag → (p < A.states) × (q < A.states)
@@ -151,81 +150,15 @@ module _ (A B : Automaton) (S : List (ℕ × ℕ)) (limit : ℕ) (old now : Fami
     }
     come_in few fates.Full told = absurd told
 
--- The candidates of the start from a transition on, and those of an element.
+-- The candidates of the start from a transition on.
 abbrev pub starts_from : Automaton → ℕ → List Entry
 starts_from A t = map (base_entry A) (range_with_len t (length A.transitions - t))
-
-abbrev pub extensions_from : Automaton → ℕ → Entry → ℕ → ℕ → List Entry
-extensions_from A e x t end = map (next_entry A e x) (range_with_len t (end - t))
-
-range_more : (t n : ℕ) → t < n → range_with_len t (n - t) ≡ t ∷ range_with_len (t + 1) (n - (t + 1))
-range_more t n lt = let e : n - t ≡ suc (n - (t + 1)) = omega arith in ap (range_with_len t) e
-
-range_over : (t n : ℕ) → n ≤ t → range_with_len t (n - t) ≡ []
-range_over t n le = let e : n - t ≡ 0 = omega arith in ap (range_with_len t) e
 
 pub starts_more : (A : Automaton) (t : ℕ) → t < length A.transitions → starts_from A t ≡ base_entry A t ∷ starts_from A (t + 1)
 starts_more A t lt = ap (map (base_entry A)) (range_more t (length A.transitions) lt)
 
 pub starts_over : (A : Automaton) (t : ℕ) → length A.transitions ≤ t → starts_from A t ≡ []
 starts_over A t le = ap (map (base_entry A)) (range_over t (length A.transitions) le)
-
-pub extensions_more : (A : Automaton) (e : ℕ) (x : Entry) (t end : ℕ) → t < end → extensions_from A e x t end ≡ next_entry A e x t ∷ extensions_from A e x (t + 1) end
-extensions_more A e x t end lt = ap (map (next_entry A e x)) (range_more t end lt)
-
-pub extensions_over : (A : Automaton) (e : ℕ) (x : Entry) (t end : ℕ) → end ≤ t → extensions_from A e x t end ≡ []
-extensions_over A e x t end le = ap (map (next_entry A e x)) (range_over t end le)
-
--- The transitions out of a state are a range.
-none_out : (p : ℕ → Bool) (a n : ℕ) → ((t : ℕ) → a ≤ t → t < a + n → p t ≡ false) → filter p (range_with_len a n) ≡ []
-none_out p a zero none = refl
-none_out p a (suc n) none =
-    ap (λ b. cond b (a ∷ filter p (range_with_len (a + 1) n)) (filter p (range_with_len (a + 1) n))) (none a (omega arith) (omega arith))
-    ∙ none_out p (a + 1) n (λ t from below. none t (omega arith) (omega arith))
-
-all_out : (p : ℕ → Bool) (a n : ℕ) → ((t : ℕ) → a ≤ t → t < a + n → p t ≡ true) → filter p (range_with_len a n) ≡ range_with_len a n
-all_out p a zero all = refl
-all_out p a (suc n) all =
-    ap (λ b. cond b (a ∷ filter p (range_with_len (a + 1) n)) (filter p (range_with_len (a + 1) n))) (all a (omega arith) (omega arith))
-    ∙ ap (λ l. a ∷ l) (all_out p (a + 1) n (λ t from below. all t (omega arith) (omega arith)))
-
-pub range_splits : (a m n : ℕ) → range_with_len a (m + n) ≡ range_with_len a m ++ range_with_len (a + m) n
-range_splits a zero n = let e : zero + n ≡ n = omega arith in let f : a ≡ a + zero = omega arith in ap (range_with_len a) e ∙ ap (λ k. range_with_len k n) f
-range_splits a (suc m) n =
-    let e : suc m + n ≡ suc (m + n) = omega arith in
-    let f : (a + 1) + m ≡ a + suc m = omega arith in
-    ap (range_with_len a) e ∙ ap (λ l. a ∷ l) (range_splits (a + 1) m n ∙ ap (λ k. range_with_len (a + 1) m ++ range_with_len k n) f)
-
-filter_over : (p : ℕ → Bool) (xs ys : List ℕ) → filter p (xs ++ ys) ≡ filter p xs ++ filter p ys
-filter_over p xs ys = filter-append p xs ys
-
-pub steps_out_are : (A : Automaton) (p begin end : ℕ) → IsOutgoing A p begin end → steps_out A p ≡ range_with_len begin (end - begin)
-steps_out_are A p begin end out =
-    let is : ℕ → Bool = λ t. (trans_at A t).source == p in
-    let n : ℕ = length A.transitions in
-    let range = out.is_range in
-    let within = out.within in
-    let first : n ≡ begin + ((end - begin) + (n - end)) = omega arith in
-    let at : 0 + begin ≡ begin = omega arith in
-    let split : range_with_len 0 n ≡ range_with_len 0 begin ++ (range_with_len begin (end - begin) ++ range_with_len end (n - end)) =
-    ap (range_with_len 0) first
-    ∙ range_splits 0 begin ((end - begin) + (n - end))
-    ∙ ap (λ k. range_with_len 0 begin ++ range_with_len k ((end - begin) + (n - end))) at
-    ∙ ap (λ l. range_with_len 0 begin ++ l) (range_splits begin (end - begin) (n - end) ∙ (let e : begin + (end - begin) ≡ end = omega arith in ap (λ k. range_with_len begin (end - begin) ++ range_with_len k (n - end)) e)) in
-    let low : filter is (range_with_len 0 begin) ≡ [] = none_out is 0 begin (λ t from below. not_equal (trans_at A t).source p (inl (out.before t (omega arith)))) in
-    let middle : filter is (range_with_len begin (end - begin)) ≡ range_with_len begin (end - begin) =
-    all_out is begin (end - begin) (λ t from below. eq-eqb (trans_at A t).source p (out.inside t from (omega arith))) in
-    let high : filter is (range_with_len end (n - end)) ≡ [] = none_out is end (n - end) (λ t from below. not_equal (trans_at A t).source p (inr (out.after t from (omega arith)))) in
-    ap (filter is) split
-    ∙ filter_over is (range_with_len 0 begin) (range_with_len begin (end - begin) ++ range_with_len end (n - end))
-    ∙ ap (λ l. l ++ filter is (range_with_len begin (end - begin) ++ range_with_len end (n - end))) low
-    ∙ filter_over is (range_with_len begin (end - begin)) (range_with_len end (n - end))
-    ∙ ap (λ l. filter is (range_with_len begin (end - begin)) ++ l) high
-    ∙ append-nil (filter is (range_with_len begin (end - begin)))
-    ∙ middle
-  where
-    not_equal : (a b : ℕ) → (a < b) ⊎ (b < a) → (a == b) ≡ false
-    not_equal a b h = elim (cases_Bool (a == b)) [ inr no_eq ↦ no_eq | inl yes_eq ↦ let e = eqb-true a b yes_eq in absurd (elim h [ inl lt ↦ omega arith | inr lt ↦ omega arith ]) ]
 
 -- Where the search has ended, what was left does not matter.
 pub come_ends : (A B : Automaton) (S : List (ℕ × ℕ)) (limit : ℕ) (old now : Family) (fate : Fate) (cs left other : List Entry) (turn later last : ℕ) → (fate ≡ fates.GoesOn → ⊥) →

@@ -12,9 +12,10 @@ use Rattle.search_laws.proofs.PlaceLemmas.{at_within}
 use Rattle.search_laws.proofs.EntryLemmas.{origins_of_none, arc_here}
 use Rattle.ramsey_search.specs.declared.parts.Held.{Held}
 use Rattle.ramsey_search.specs.declared.family.Family.{Family}
-use Rattle.ramsey_search.specs.Kept.{AreBetween, IsFamily, IsWhole, numbers_at, entries_held}
+use Rattle.evidence.specs.Tables.{numbers_at}
+use Rattle.ramsey_search.specs.Kept.{AreBetween, IsFamily, IsWhole, entries_held}
 use Rattle.ramsey_search.proofs.TurnLemmas.{entries_none}
-use Rattle.ramsey_search.proofs.OriginListLemmas.{origins_of_entries}
+use Rattle.evidence.proofs.EntriesLemmas.{origins_of_entries}
 
 nothing_between : (live : List Bool) (p q : ℕ) → AreBetween [] live p q []
 nothing_between live p q = record {

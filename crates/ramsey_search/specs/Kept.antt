@@ -1,7 +1,6 @@
 -- How the search keeps its elements.
-use Rattle.std.specs.Prelude.{◌≡◌, ℕ, ◌+◌, ◌*◌, ◌<◌, ◌≤◌, ◌⊎◌, Bool, true, false, List, [], ◌∷◌, ◌++◌, length, map, Contains, filter, slice_index_or, Vec}
+use Rattle.std.specs.Prelude.{◌≡◌, ℕ, ◌+◌, ◌*◌, ◌<◌, ◌≤◌, ◌⊎◌, Bool, true, false, List, [], ◌∷◌, ◌++◌, length, map, Contains, filter, slice_index_or}
 use Rattle.std.specs.List.Sorted.{IsStrictlyIncreasing}
-use Rattle.std.specs.declared.alloc.Global.{Global}
 use Rattle.auto_core.specs.Automaton.{Automaton}
 use Rattle.auto_core.specs.Game.{Holds}
 use Rattle.auto_core.specs.Graph.{Supergraph, Covers, Subsumes, Passes, Fails, graph_of}
@@ -11,7 +10,8 @@ use Rattle.supergraph.specs.Stands.{with_word, with_graph}
 use Rattle.search_laws.specs.Outcomes.{HaveOrigins}
 use Rattle.auto_core.specs.Graph.{IsPlacedAt}
 use Rattle.auto_core.specs.Outcome.{arcs_in}
-use Rattle.ramsey_search.specs.Entries.{entry_of, entries_of}
+use Rattle.evidence.specs.Tables.{numbers_at}
+use Rattle.evidence.specs.Entries.{entry_of, entries_of}
 use Rattle.ramsey_search.specs.declared.parts.Held.{Held}
 use Rattle.ramsey_search.specs.declared.parts.Fate.{Fate}
 use Rattle.ramsey_search.specs.declared.parts.Fate.TheVariants as fates
@@ -46,10 +46,6 @@ pub record AreBetween (es : List Entry) (live : List Bool) (p q : ℕ) (numbers 
   pub ascending : IsStrictlyIncreasing numbers
   pub only : (j : ℕ) → Contains numbers j → LiesBetween es live p q j
   pub all : (j : ℕ) → LiesBetween es live p q j → Contains numbers j
-
--- The numbers at a place of the table.
-abbrev pub numbers_at : List (Vec ℕ Global) → ℕ → List ℕ
-numbers_at ends k = slice_index_or (map (λ (v : Vec ℕ Global). v.items) ends) k []
 
 -- The family holds these elements.
 pub record IsFamily (A B : Automaton) (S : List (ℕ × ℕ)) (f : Family) (es : List Entry) : Type 0 where

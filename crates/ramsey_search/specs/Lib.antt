@@ -1,4 +1,3 @@
-pub mod Entries
 pub mod Kept
 pub mod Ends
 pub mod Marks

@@ -6,7 +6,8 @@ use Rattle.cert_text.specs.declared.types.Mark.{Mark}
 use Rattle.cert_text.specs.declared.types.Mark.TheVariants.{Live, Under}
 use Rattle.ramsey_search.specs.declared.parts.Held.{Held}
 use Rattle.ramsey_search.specs.declared.family.Family.{Family}
-use Rattle.ramsey_search.specs.Kept.{numbers_at, IsFirstSubsumer, NoneSubsumes, held_super}
+use Rattle.evidence.specs.Tables.{numbers_at}
+use Rattle.ramsey_search.specs.Kept.{IsFirstSubsumer, NoneSubsumes, held_super}
 
 -- The numbers of the live elements with the ends of the kept element.
 abbrev pub numbers_beside : Family → Held → List ℕ

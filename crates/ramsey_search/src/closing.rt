@@ -9,15 +9,16 @@ ghost use Rattle.graph_rows.specs.Block.{IsFormed};
 ghost use Rattle.cert_text.specs.declared.types.StepLine.{StepLine};
 ghost use Rattle.ramsey_search.specs.declared.parts.Held.{Held};
 ghost use Rattle.ramsey_search.specs.Kept.{FitsTogether, IsWhole, entries_held};
-ghost use Rattle.ramsey_search.specs.Ends.{IsClosureOf, IsStepOf};
+ghost use Rattle.evidence.specs.Evidence.{IsEvidenceOf, IsStepOf};
 ghost use Rattle.ramsey_search.specs.Marks.{AreMarked, HasCoverer, IsCovererOf};
 
 use crate::candidates::{base_candidate, next_candidate};
 use crate::family::Family;
-use crate::parts::{Closure, Held};
+use crate::parts::Held;
 use auto_core::{Auto, List, Memory};
 use bit_rel::Rel;
 use cert_text::{Element, Mark, StepLine};
+use evidence::Closure;
 use std::alloc::Global;
 
 /// The least live element that subsumes this one; there is one.
@@ -98,7 +99,7 @@ fn step_line(
     requires element { element < length family.now.held.items }
     requires some { (x : Entry) (t : ℕ) → At (entries_held first.now family.now) element x → t < length first.now.transitions → (trans_at first.now t).source ≡ x.arc.to
         → HasSubsumer (supergraph_rules first.now second.now order.now.pairs) (entries_held first.now family.now) (next_entry first.now element x t) }
-    ensures step { IfOk result (IsStepOf first.now second.now order.now.pairs (entries_held first.now family.now)) }
+    ensures step { IfOk result (IsStepOf (supergraph_rules first.now second.now order.now.pairs) (entries_held first.now family.now)) }
     ensures element { IfOk result (λ line. line.element ≡ element) }
 {
     let from = &family.held[element as usize];
@@ -128,7 +129,7 @@ fn steps(
         → (trans_at first.now t).source ≡ x.arc.to
         → HasSubsumer (supergraph_rules first.now second.now order.now.pairs) (entries_held first.now family.now) (next_entry first.now e x t) }
     ensures lines { IfOk result (λ steps. map (λ (l : StepLine). l.element) steps ≡ filter (λ e. slice_index_or family.now.live.items e false) (range_with_len 0 (length family.now.held.items))) }
-    ensures each { IfOk result (λ steps. (k : ℕ) (l : StepLine) → At steps k l → IsStepOf first.now second.now order.now.pairs (entries_held first.now family.now) l) }
+    ensures each { IfOk result (λ steps. (k : ℕ) (l : StepLine) → At steps k l → IsStepOf (supergraph_rules first.now second.now order.now.pairs) (entries_held first.now family.now) l) }
 {
     let mut steps = List::new(alloc);
     for element in 0..family.held.len() as u32 {
@@ -154,7 +155,7 @@ pub(crate) fn closure(
     requires whole { IsWhole first.now second.now order.now.pairs family.now }
     requires closed { (limit : ℕ) × SearchEnds first.now second.now order.now.pairs limit (Closed (entries_held first.now family.now)) }
     requires few { length family.now.held.items < 2 ^ 32 }
-    ensures { IfOk result (IsClosureOf first.now second.now order.now.pairs (entries_held first.now family.now)) }
+    ensures { IfOk result (IsEvidenceOf (supergraph_rules first.now second.now order.now.pairs) (entries_held first.now family.now)) }
 {
     Ok(Closure {
         elements: elements(alloc, order, family)?,

@@ -3,7 +3,8 @@
 ghost use Rattle.std.specs.Prelude.{◌≡◌, ◌+◌, ◌*◌, ◌^◌, ◌<◌, ◌≤◌, ℕ, [], length, MatchOption, IfOk, OnOk};
 ghost use Rattle.graph_rows.specs.Block.{IsFormed, block_graph};
 ghost use Rattle.supergraph.specs.Stands.{with_graph};
-ghost use Rattle.ramsey_search.specs.Kept.{FitsTogether, HasEntered, NoneSubsumes, IsFirstSubsumer, numbers_at};
+ghost use Rattle.evidence.specs.Tables.{numbers_at};
+ghost use Rattle.ramsey_search.specs.Kept.{FitsTogether, HasEntered, NoneSubsumes, IsFirstSubsumer};
 
 use crate::meeting::{drop_subsumed, least_subsumer, still_live};
 use crate::parts::Held;

@@ -10,5 +10,6 @@ mod parts;
 mod searching;
 mod turns;
 
-pub use parts::{Closure, Outcome};
+pub use evidence::Closure;
+pub use parts::Outcome;
 pub use searching::search;

@@ -1,19 +1,8 @@
 //! What the search gives, and what it keeps while it goes.
 
 use auto_core::{Lasso, List, Origin};
-use cert_text::{Element, StepLine};
+use evidence::Closure;
 use supergraph::Arc;
-
-/// The evidence of a closed set.
-#[derive(Debug, Drop)]
-pub struct Closure {
-    /// The elements in the order in which they entered, each live or under the least live one that subsumes it.
-    pub elements: List<Element>,
-    /// For each transition of the first automaton, the least live element that subsumes its supergraph.
-    pub cover: List<u32>,
-    /// For each live element, in order, the least live elements that subsume its extensions.
-    pub steps: List<StepLine>,
-}
 
 /// How the search ends.
 #[derive(Debug, Drop)]

@@ -4,7 +4,7 @@ ghost use Rattle.std.specs.Prelude.{◌≡◌, ◌<◌, ◌≤◌, length, map, 
 ghost use Rattle.auto_core.specs.Game.{IsGreatestForward};
 ghost use Rattle.supergraph.specs.Words.{NameWhatIsThere, word_at};
 ghost use Rattle.ramsey_search.specs.declared.parts.Held.{Held};
-ghost use Rattle.ramsey_search.specs.Ends.{IsAnswer, IsTrueAnswer};
+ghost use Rattle.ramsey_search.specs.Ends.{IsOutcomeOf, IsTrueOutcome};
 
 use crate::closing::closure;
 use crate::family::Family;
@@ -61,8 +61,8 @@ pub fn search(
     requires greatest { IsGreatestForward second.now 1 order.now.pairs }
     requires some { 1 ≤ limit }
     requires few { limit ≤ 100000 }
-    ensures answer { IfOk result (IsAnswer first.now second.now order.now.pairs limit) }
-    ensures truth { IfOk result (IsTrueAnswer first.now second.now order.now.pairs limit) }
+    ensures answer { IfOk result (IsOutcomeOf first.now second.now order.now.pairs limit) }
+    ensures truth { IfOk result (IsTrueOutcome first.now second.now order.now.pairs limit) }
 {
     let mut family = Family::new(alloc, first.states())?;
     let mut scratch = Scratch::new(alloc, second.states())?;

@@ -4,7 +4,7 @@ ghost use Rattle.std.specs.Prelude.{◌≡◌, ◌+◌, ◌<◌, ◌≤◌, ℕ,
 ghost use Rattle.auto_core.specs.Automaton.{IsAutomaton};
 ghost use Rattle.auto_core.specs.Game.{IsGreatestForward};
 ghost use Rattle.auto_core.specs.Outcome.{At, Entry, HasNoSubsumer, supergraph_rules};
-ghost use Rattle.ramsey_search.specs.Entries.{entry_of};
+ghost use Rattle.evidence.specs.Entries.{entry_of};
 ghost use Rattle.ramsey_search.specs.Kept.{HasCome, HasEnded, IsCandidate, IsWhole, entries_held};
 
 use crate::candidates::{base_candidate, next_candidate};

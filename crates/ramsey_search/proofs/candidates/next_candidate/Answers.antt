@@ -6,7 +6,7 @@ use Rattle.auto_core.specs.declared.parts.Origin.TheVariants.{Next}
 use Rattle.graph_rows.specs.Block.{block_graph, IsFormed, width_of}
 use Rattle.std.specs.Vec.{with_items}
 use Rattle.ramsey_search.specs.declared.parts.Held.{Held}
-use Rattle.ramsey_search.proofs.ListLemmas.{take_front}
+use Rattle.evidence.proofs.ListLemmas.{take_front}
 use Rattle.ramsey_search.proofs.KeptLemmas.{next_kept}
 use Rattle.ramsey_search.proofs.candidates.next_candidate.Goals as goal
 

@@ -6,7 +6,7 @@ use Rattle.ramsey_search.specs.declared.family.Family.{Family}
 use Rattle.ramsey_search.specs.Kept.{entries_held}
 use Rattle.ramsey_search.proofs.TurnLemmas.{held_in_range, fits_together}
 use Rattle.ramsey_search.proofs.ClosureLemmas.{starts_have, steps_have, dropped_have}
-use Rattle.ramsey_search.specs.declared.parts.Closure.{Closure}
+use Rattle.evidence.specs.declared.parts.Closure.{Closure}
 use Rattle.ramsey_search.proofs.ClosingLemmas.{closure_is}
 use Rattle.ramsey_search.proofs.closing.closure.Goals as goal
 

@@ -5,7 +5,7 @@ use Rattle.cert_text.specs.declared.types.Element.{Element}
 use Rattle.ramsey_search.specs.declared.parts.Held.{Held}
 use Rattle.ramsey_search.specs.declared.family.Family.{Family}
 use Rattle.ramsey_search.specs.Marks.{IsHeldMark, AreMarked}
-use Rattle.ramsey_search.proofs.MeetingLemmas.{read_at}
+use Rattle.evidence.proofs.ListLemmas.{read_at}
 use Rattle.ramsey_search.proofs.ClosureLemmas.{marked_more}
 use Rattle.ramsey_search.proofs.closing.elements.Goals as goal
 use Rattle.ramsey_search.proofs.closing.elements.Goals.{then-index, else-index}

@@ -1,4 +1,4 @@
-use Rattle.std.proofs.Common.{◌≡◌, ℕ, ◌+◌, ◌<◌, ◌≤◌, List, [], ◌∷◌, ◌++◌, length, sym, ap, ◌∙◌, subst, inl, inr, arith, length-append}
+use Rattle.std.proofs.Common.{◌≡◌, ℕ, ◌+◌, ◌<◌, ◌≤◌, List, [], ◌∷◌, ◌++◌, length, refl, sym, ap, ◌∙◌, subst, inl, inr, arith, length-append}
 use Rattle.auto_core.specs.Automaton.{Automaton, trans_at, IsOutgoing}
 use Rattle.auto_core.specs.Graph.{WordArc}
 use Rattle.auto_core.specs.Outcome.{At, Entry, IsLeastSubsumer, next_entry, supergraph_rules}
@@ -8,9 +8,10 @@ use Rattle.search_laws.proofs.PlaceLemmas.{at_same, at_within, at_some, at_cases
 use Rattle.ramsey_search.specs.declared.parts.Held.{Held}
 use Rattle.ramsey_search.specs.declared.family.Family.{Family}
 use Rattle.ramsey_search.specs.Kept.{IsKept, entries_held}
-use Rattle.ramsey_search.proofs.MeetingLemmas.{read_at}
+use Rattle.evidence.proofs.ListLemmas.{read_at}
 use Rattle.ramsey_search.proofs.TurnLemmas.{held_in_range, fits_together, next_is_candidate, candidate_in_range}
-use Rattle.ramsey_search.proofs.ClosureLemmas.{has_coverer, coverer_is_least, step_is}
+use Rattle.evidence.proofs.StepLemmas.{step_is}
+use Rattle.ramsey_search.proofs.ClosureLemmas.{has_coverer, coverer_is_least}
 use Rattle.ramsey_search.proofs.closing.step_line.Goals as goal
 
 pub outgoing-out-requires : goal.outgoing-out-requires
@@ -266,4 +267,4 @@ returns-clause-step c =
     let order : begin ≤ end = c.outgoing-out.ensures.range.is_range in
     let most : c.loop-t.t ≤ end = c.loop-t.auto.t-end order in
     let reached : c.loop-t.t ≡ end = omega arith in
-    step_is A B S es line x begin end x_is (subst (λ p. IsOutgoing A p begin end) to c.outgoing-out.ensures.range) (c.loop-t.invariant.size ∙ reached) (λ k j is. c.loop-t.invariant.each k j x is x_is)
+    step_is (supergraph_rules A B S) A es line x begin end refl x_is (subst (λ p. IsOutgoing A p begin end) to c.outgoing-out.ensures.range) (c.loop-t.invariant.size ∙ reached) (λ k j is. c.loop-t.invariant.each k j x is x_is)

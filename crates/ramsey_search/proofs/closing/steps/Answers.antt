@@ -3,13 +3,13 @@ use Rattle.std.specs.Prelude.{filter}
 use Rattle.std.specs.List.{range_with_len}
 use Rattle.std.proofs.lemmas.List.{get_or_default, map-append}
 use Rattle.auto_core.specs.Automaton.{Automaton}
-use Rattle.auto_core.specs.Outcome.{At, Entry}
+use Rattle.auto_core.specs.Outcome.{At, Entry, supergraph_rules}
 use Rattle.cert_text.specs.declared.types.StepLine.{StepLine}
 use Rattle.search_laws.proofs.PlaceLemmas.{at_cases}
 use Rattle.ramsey_search.specs.declared.family.Family.{Family}
 use Rattle.ramsey_search.specs.Kept.{entries_held}
-use Rattle.ramsey_search.specs.Ends.{IsStepOf}
-use Rattle.ramsey_search.proofs.ClosureLemmas.{filter_range_more}
+use Rattle.evidence.specs.Evidence.{IsStepOf}
+use Rattle.evidence.proofs.RangeLemmas.{filter_range_more}
 use Rattle.ramsey_search.proofs.closing.steps.Goals as goal
 use Rattle.ramsey_search.proofs.closing.steps.Goals.{then-index+in_ok-step_line+in_ok-push, else-index}
 
@@ -43,7 +43,7 @@ loop-element-preserved c =
                 ∙ sym (filter_range_more live e);
             each = λ k l is. elim (at_cases c.loop-element.steps line k l (subst (λ z. At z k l) pushed is)) [
               | inl old ↦ c.loop-element.invariant.each k l old
-              | inr new ↦ subst (IsStepOf A B S es) (sym new.1) w.in_ok-step_line.ensures.step
+              | inr new ↦ subst (IsStepOf (supergraph_rules A B S) es) (sym new.1) w.in_ok-step_line.ensures.step
             ];
           }
       | else-index w ↦

@@ -7,7 +7,8 @@ use Rattle.graph_rows.specs.Block.{block_graph, IsFormed}
 use Rattle.supergraph.specs.Stands.{with_graph}
 use Rattle.ramsey_search.specs.declared.parts.Held.{Held}
 use Rattle.ramsey_search.specs.Kept.{held_super}
-use Rattle.ramsey_search.proofs.MeetingLemmas.{read_at, AreDroppedSoFar, dropped_all, dropped_more, kept_more}
+use Rattle.evidence.proofs.ListLemmas.{read_at}
+use Rattle.ramsey_search.proofs.MeetingLemmas.{AreDroppedSoFar, dropped_all, dropped_more, kept_more}
 use Rattle.ramsey_search.proofs.meeting.drop_subsumed.Goals as goal
 use Rattle.ramsey_search.proofs.meeting.drop_subsumed.Goals.{then-subsumes, else-subsumes}
 

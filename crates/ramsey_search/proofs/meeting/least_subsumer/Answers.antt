@@ -8,7 +8,7 @@ use Rattle.supergraph.specs.Stands.{with_graph}
 use Rattle.search_laws.proofs.PlaceLemmas.{at_same, at_within}
 use Rattle.ramsey_search.specs.declared.parts.Held.{Held}
 use Rattle.ramsey_search.specs.Kept.{held_super}
-use Rattle.ramsey_search.proofs.MeetingLemmas.{read_at}
+use Rattle.evidence.proofs.ListLemmas.{read_at}
 use Rattle.ramsey_search.proofs.meeting.least_subsumer.Goals as goal
 
 pub subsumes-requires-clause-first : goal.subsumes-requires-clause-first

@@ -3,7 +3,7 @@ use Rattle.auto_core.specs.Outcome.{At}
 use Rattle.search_laws.proofs.PlaceLemmas.{at_same}
 use Rattle.ramsey_search.specs.declared.parts.Held.{Held}
 use Rattle.ramsey_search.specs.Kept.{AllPass, FailsFirst}
-use Rattle.ramsey_search.proofs.MeetingLemmas.{read_at}
+use Rattle.evidence.proofs.ListLemmas.{read_at}
 use Rattle.ramsey_search.proofs.PairLemmas.{all_pass_more, all_pass_whole}
 use Rattle.ramsey_search.proofs.pairs.first_among.Goals as goal
 

@@ -3,8 +3,9 @@ use Rattle.auto_core.specs.Automaton.{Automaton}
 use Rattle.auto_core.specs.Outcome.{At}
 use Rattle.ramsey_search.specs.declared.parts.Held.{Held}
 use Rattle.ramsey_search.specs.declared.family.Family.{Family}
-use Rattle.ramsey_search.specs.Kept.{numbers_at, AreTold, entries_held}
-use Rattle.ramsey_search.proofs.MeetingLemmas.{read_at}
+use Rattle.evidence.specs.Tables.{numbers_at}
+use Rattle.ramsey_search.specs.Kept.{AreTold, entries_held}
+use Rattle.evidence.proofs.ListLemmas.{read_at}
 use Rattle.ramsey_search.proofs.PairLemmas.{told_after, told_before, told_nothing}
 use Rattle.ramsey_search.proofs.pairs.first_failing.Goals as goal
 

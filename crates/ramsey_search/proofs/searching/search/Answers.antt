@@ -6,7 +6,7 @@ use Rattle.ramsey_search.specs.declared.parts.Fate.TheVariants as fates
 use Rattle.ramsey_search.specs.declared.parts.Outcome.TheVariants as end
 use Rattle.ramsey_search.specs.declared.family.Family.{Family}
 use Rattle.ramsey_search.specs.Kept.{HasEnded, IsWhole, entries_held}
-use Rattle.ramsey_search.specs.Ends.{IsAnswer}
+use Rattle.ramsey_search.specs.Ends.{IsOutcomeOf}
 use Rattle.ramsey_search.proofs.WholeLemmas.{held_names, word_is, inside, origins_are}
 use Rattle.ramsey_search.proofs.AnswerLemmas.{answer_is_true}
 use Rattle.ramsey_search.proofs.searching.search.Goals as goal
@@ -21,7 +21,7 @@ returns-in-GoesOn-clause-truth c =
     let whole : IsWhole A B S f = c.in_ok-fate.ensures.whole in
     let ended : HasEnded A B S limit fates.GoesOn (entries_held A f) = subst (λ k. HasEnded A B S limit k (entries_held A f)) c.in-GoesOn.is c.in_ok-fate.ensures.ended in
     let closure = c.in_ok-closure-in-GoesOn.field-0 in
-    let answer : IsAnswer A B S limit (end.Closed closure) = (entries_held A f, ended, c.in_ok-closure-in-GoesOn.ensures) in
+    let answer : IsOutcomeOf A B S limit (end.Closed closure) = (entries_held A f, ended, c.in_ok-closure-in-GoesOn.ensures) in
     answer_is_true A B S limit c.states-2.ensures.valid c.requires.greatest (end.Closed closure) answer
 
 pub lasso_of-requires-clause-prefix : goal.lasso_of-requires-clause-prefix
@@ -87,7 +87,7 @@ returns-in-Apart-clause-answer c =
     let is : origins ≡ map (λ (h : Held). h.origin) f.held.items =
     c.as_slice.ensures ∙ c.in_ok-origins-in-Apart.ensures ∙ ap (map (λ (h : Held). h.origin)) c.deref.ensures.value in
     let lasso = c.in_ok-lasso_of-in-Apart.field-0 in
-    let answer : IsAnswer A B S limit (end.Apart lasso) = (
+    let answer : IsOutcomeOf A B S limit (end.Apart lasso) = (
       ended.0,
       ended.1,
       ended.4,
@@ -111,7 +111,7 @@ returns-in-Apart-clause-truth c =
     let is : origins ≡ map (λ (h : Held). h.origin) f.held.items =
     c.as_slice.ensures ∙ c.in_ok-origins-in-Apart.ensures ∙ ap (map (λ (h : Held). h.origin)) c.deref.ensures.value in
     let lasso = c.in_ok-lasso_of-in-Apart.field-0 in
-    let answer : IsAnswer A B S limit (end.Apart lasso) = (
+    let answer : IsOutcomeOf A B S limit (end.Apart lasso) = (
       ended.0,
       ended.1,
       ended.4,
@@ -131,7 +131,7 @@ returns-clause-answer c =
     let ended : HasEnded A B S limit fates.Full (entries_held A f) = subst (λ k. HasEnded A B S limit k (entries_held A f)) c.in-Full.is c.in_ok-fate.ensures.ended in
     let origins : List Origin = c.in_ok-origins_of-in-Full.field-0 in
     let is : origins ≡ map (λ (h : Held). h.origin) f.held.items = c.in_ok-origins_of-in-Full.ensures ∙ ap (map (λ (h : Held). h.origin)) c.deref-in-Full.ensures.value in
-    let answer : IsAnswer A B S limit (end.Limit origins) = (entries_held A f, ended, origins_are A f origins is) in
+    let answer : IsOutcomeOf A B S limit (end.Limit origins) = (entries_held A f, ended, origins_are A f origins is) in
     answer
 
 pub returns-clause-truth : goal.returns-clause-truth
@@ -145,5 +145,5 @@ returns-clause-truth c =
     let ended : HasEnded A B S limit fates.Full (entries_held A f) = subst (λ k. HasEnded A B S limit k (entries_held A f)) c.in-Full.is c.in_ok-fate.ensures.ended in
     let origins : List Origin = c.in_ok-origins_of-in-Full.field-0 in
     let is : origins ≡ map (λ (h : Held). h.origin) f.held.items = c.in_ok-origins_of-in-Full.ensures ∙ ap (map (λ (h : Held). h.origin)) c.deref-in-Full.ensures.value in
-    let answer : IsAnswer A B S limit (end.Limit origins) = (entries_held A f, ended, origins_are A f origins is) in
+    let answer : IsOutcomeOf A B S limit (end.Limit origins) = (entries_held A f, ended, origins_are A f origins is) in
     answer_is_true A B S limit c.states-2.ensures.valid c.requires.greatest (end.Limit origins) answer

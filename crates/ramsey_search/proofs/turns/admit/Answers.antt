@@ -4,7 +4,7 @@ use Rattle.auto_core.specs.Outcome.{At, Entry}
 use Rattle.search_laws.proofs.PlaceLemmas.{at_within, at_some, at_new}
 use Rattle.ramsey_search.specs.declared.parts.Held.{Held}
 use Rattle.ramsey_search.specs.declared.family.Family.{Family}
-use Rattle.ramsey_search.specs.Entries.{entry_of}
+use Rattle.evidence.specs.Entries.{entry_of}
 use Rattle.ramsey_search.specs.Kept.{IsFamily, HasEntered, IsTold, entries_held, IsWhole}
 use Rattle.ramsey_search.proofs.EntriesLemmas.{entries_entered}
 use Rattle.ramsey_search.proofs.TurnLemmas.{candidate_in_range, held_in_range, fits_together, entered_whole, come_full, come_in, is_whole}

@@ -5,8 +5,9 @@ use Rattle.graph_rows.specs.Block.{block_graph}
 use Rattle.supergraph.specs.Stands.{with_graph}
 use Rattle.ramsey_search.specs.declared.parts.Held.{Held}
 use Rattle.ramsey_search.specs.declared.family.Family.{Family}
-use Rattle.ramsey_search.specs.Entries.{entry_of}
-use Rattle.ramsey_search.specs.Kept.{entries_held, NoneSubsumes, IsFirstSubsumer, numbers_at, held_super}
+use Rattle.evidence.specs.Entries.{entry_of}
+use Rattle.evidence.specs.Tables.{numbers_at}
+use Rattle.ramsey_search.specs.Kept.{entries_held, NoneSubsumes, IsFirstSubsumer, held_super}
 use Rattle.ramsey_search.proofs.MeetLemmas.{none_at_all, first_subsumes}
 use Rattle.ramsey_search.proofs.TurnLemmas.{candidate_in_range, fits_together, come_past}
 use Rattle.ramsey_search.proofs.turns.consider.Goals as goal

@@ -3,7 +3,7 @@ use Rattle.auto_core.specs.Automaton.{Automaton}
 use Rattle.auto_core.specs.Outcome.{Entry, base_entry, supergraph_rules}
 use Rattle.ramsey_search.specs.declared.parts.Fate.TheVariants as fates
 use Rattle.ramsey_search.specs.declared.family.Family.{Family}
-use Rattle.ramsey_search.specs.Entries.{entry_of}
+use Rattle.evidence.specs.Entries.{entry_of}
 use Rattle.ramsey_search.specs.Kept.{IsKept, HasCome, entries_held}
 use Rattle.ramsey_search.proofs.TurnLemmas.{base_is_candidate, starts_from, starts_more, come_then, come_ends}
 use Rattle.ramsey_search.proofs.turns.try_starts.Goals as goal

@@ -7,10 +7,11 @@ use Rattle.search_laws.proofs.PlaceLemmas.{at_within, at_some}
 use Rattle.ramsey_search.specs.declared.parts.Held.{Held}
 use Rattle.ramsey_search.specs.declared.parts.Fate.TheVariants as fates
 use Rattle.ramsey_search.specs.declared.family.Family.{Family}
-use Rattle.ramsey_search.specs.Entries.{entry_of}
+use Rattle.evidence.specs.Entries.{entry_of}
 use Rattle.ramsey_search.specs.Kept.{IsKept, HasCome, entries_held}
-use Rattle.ramsey_search.proofs.MeetingLemmas.{read_at}
-use Rattle.ramsey_search.proofs.TurnLemmas.{held_in_range, next_is_candidate, extensions_from, extensions_more, extensions_over, come_then, come_ends, turn_begins, turn_passes}
+use Rattle.evidence.proofs.ListLemmas.{read_at}
+use Rattle.evidence.proofs.RangeLemmas.{extensions_from, extensions_more, extensions_over}
+use Rattle.ramsey_search.proofs.TurnLemmas.{held_in_range, next_is_candidate, come_then, come_ends, turn_begins, turn_passes}
 use Rattle.ramsey_search.proofs.turns.try_turn.Goals as goal
 
 pub returns-then-not-index-clause-come : goal.returns-then-not-index-clause-come

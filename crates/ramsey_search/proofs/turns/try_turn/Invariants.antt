@@ -2,7 +2,7 @@ use Rattle.std.proofs.Common.{◌≡◌, ◌+◌, []}
 use Rattle.auto_core.specs.Outcome.{At, Entry}
 use Rattle.ramsey_search.specs.declared.parts.Fate.TheVariants as fates
 use Rattle.ramsey_search.specs.Kept.{HasCome, entries_held}
-use Rattle.ramsey_search.proofs.TurnLemmas.{extensions_from}
+use Rattle.evidence.proofs.RangeLemmas.{extensions_from}
 use Rattle.ramsey_search.proofs.turns.try_turn.Given as goal
 
 abbrev pub invariant-loop-t : goal.invariant-loop-t

@@ -3,8 +3,9 @@ use Rattle.std.specs.Prelude.{filter}
 use Rattle.std.specs.declared.alloc.Global.{Global}
 use Rattle.auto_core.specs.Outcome.{At}
 use Rattle.ramsey_search.specs.declared.parts.Held.{Held}
-use Rattle.ramsey_search.specs.Kept.{numbers_at, AreDropped, held_super}
-use Rattle.ramsey_search.proofs.TableLemmas.{numbers_is, numbers_set, numbers_stay}
+use Rattle.evidence.specs.Tables.{numbers_at}
+use Rattle.ramsey_search.specs.Kept.{AreDropped, held_super}
+use Rattle.evidence.proofs.TableLemmas.{numbers_is, numbers_set, numbers_stay}
 use Rattle.ramsey_search.proofs.family.Family.enter.Goals as goal
 
 pub drop_subsumed-requires-clause-there : goal.drop_subsumed-requires-clause-there

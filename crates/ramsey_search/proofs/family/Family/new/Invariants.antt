@@ -1,5 +1,5 @@
 use Rattle.std.proofs.Common.{◌≡◌, length}
-use Rattle.ramsey_search.proofs.TableLemmas.{AreEmpty}
+use Rattle.evidence.proofs.TableLemmas.{AreEmpty}
 use Rattle.ramsey_search.proofs.family.Family.new.Given as goal
 
 abbrev pub invariant-loop-place : goal.invariant-loop-place

@@ -1,0 +1,12 @@
+pub mod KeptLemmas
+pub mod MeetingLemmas
+pub mod EntriesLemmas
+pub mod EnteredLemmas
+pub mod MeetLemmas
+pub mod TurnLemmas
+pub mod ClosureLemmas
+pub mod ClosingLemmas
+pub mod AnswerLemmas
+pub mod WholeLemmas
+pub mod MadeLemmas
+pub mod HeadLemmas

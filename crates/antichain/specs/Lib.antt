@@ -1,0 +1,4 @@
+pub mod Kept
+pub mod Ends
+pub mod Marks
+pub mod Made

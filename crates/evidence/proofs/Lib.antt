@@ -1,0 +1,8 @@
+pub mod ListLemmas
+pub mod NumberLemmas
+pub mod TableLemmas
+pub mod RangeLemmas
+pub mod EntriesLemmas
+pub mod StepLemmas
+pub mod MarkLemmas
+pub mod UniqueLemmas
