@@ -5,41 +5,34 @@ use Rattle.std.proofs.lemmas.Bool.{and_parts, eq-eqb, false≢true, eqb-true}
 use Rattle.std.proofs.lemmas.List.{get_or-map, length-map}
 use Rattle.auto_core.specs.Automaton.{Automaton, IsAutomaton, trans, trans_at}
 use Rattle.auto_core.specs.Accept.{Includes}
-use Rattle.auto_core.specs.Graph.{WordArc, start_arc, arc_at, base_arc, extended_arc, ArePlaced, IsPlacedAt}
-use Rattle.auto_core.specs.Closed.{ClosedSet, IsSubsumed}
+use Rattle.auto_core.specs.Graph.{WordArc, start_arc, arc_at, base_arc, extended_arc}
+use Rattle.auto_core.specs.Closed.{ClosedSet, IsLive}
+use Rattle.auto_core.specs.ClosedPairs.{ClosedPairs}
 use Rattle.auto_core.specs.declared.parts.Mode.{Mode}
 use Rattle.auto_core.specs.declared.parts.Mode.TheVariants.{Buchi, Finite}
-use Rattle.auto_core.specs.declared.parts.Origin.{Origin}
-use Rattle.auto_core.specs.declared.parts.Origin.TheVariants.{Start, Base, Next}
+use Rattle.auto_core.specs.declared.parts.Origin.TheVariants.{Start}
 use Rattle.auto_core.specs.declared.parts.Trans.{Trans}
 use Rattle.graph_laws.proofs.ClosedLemmas.{closed_set_includes}
 use Rattle.graph_laws.proofs.OriginLemmas.{length-arcs_of, placed_arcs_are_real}
+use Rattle.search_laws.proofs.ClosedPairLemmas.{closed_pairs_include}
+use Rattle.search_laws.proofs.PairEntryLemmas.{placed_pairs_are_reached}
 use Rattle.cert_text.specs.declared.types.YesBody.{YesBody}
 use Rattle.cert_text.specs.declared.types.Element.{Element}
 use Rattle.cert_text.specs.declared.types.StepLine.{StepLine}
-use Rattle.cert_text.specs.WellFormed.{WellFormed, is_short, are_short, is_body, is_yes, is_block, are_logs, is_live, is_element, is_origin, is_mark, are_steps, is_step_of, is_first_step, is_second_step}
+use Rattle.cert_text.specs.WellFormed.{WellFormed, is_short, are_short, is_body, is_yes, is_block, are_logs, is_live, is_element, are_steps, is_step_of, is_first_step, is_second_step}
 use Rattle.ba_format.specs.declared.parts.Joined.{Joined}
 use Rattle.cert_text.specs.declared.types.Cert.{Cert}
-use Rattle.cert_text.specs.declared.types.Body.TheVariants.{Yes, NoLasso}
-use Rattle.cert_check.specs.Laws.{ValidYesIncludes, ValidNoSeparates}
-use Rattle.cert_check.specs.Rules.{lasso_checks, YesHolds, BodyHolds, KeepsRules, has_checked_body, has_checked_form}
+use Rattle.cert_text.specs.declared.types.Body.TheVariants.{Yes}
+use Rattle.cert_check.specs.Laws.{ValidYesIncludes, ValidNoSeparates, ValidNoSeparatesByWord}
+use Rattle.cert_check.specs.Rules.{lasso_checks, word_checks, YesHolds, BodyHolds, KeepsRules}
 use Rattle.log_check.specs.Ends.{item_after}
 use Rattle.log_check.proofs.LawLemmas.{first_log_grows, second_log_shrinks}
 use Rattle.log_check.specs.Checks.{Check, AllHold, checks_of_each}
 use Rattle.log_check.specs.Blocks.{pairs_of}
-use Rattle.cert_check.specs.Inclusion.{origins_of, element_arcs, live_in, no_element, NamesOrigin, HasEarlierParent, GoesOn, AreOver, IsOver, starts_of, extensions_of, order_checks, element_checks, under_checks, cover_checks, step_checks, pair_checks, inclusion_checks}
+use Rattle.cert_check.specs.Inclusion.{origins_of, element_arcs, live_in, no_element, AreOver, IsOver, PassesBy, starts_of, extensions_of, order_checks, element_checks, under_checks, cover_checks, step_checks, pair_checks, inclusion_checks}
 use Rattle.log_check.proofs.CheckLemmas.{all_front, all_back, each_of}
-
--- An element of a Büchi file does not come from the start.
-not_start : (o : Origin) → is_origin Buchi o ≡ true → ¬ (o ≡ Start)
-not_start Start h e = false≢true h
-not_start (Base t) h e = cc
-not_start (Next p t) h e = cc
-
-pub begun_at : (es : List Element) (e : ℕ) (d : Element) → list_all (is_element Buchi) es ≡ true → e < length es → ¬ ((slice_index_or es e d).origin ≡ Start)
-begun_at [] e d h lt = absurd (omega arith)
-begun_at (x ∷ es) zero d h lt = not_start x.origin (and_parts (is_mark x.mark) (is_origin Buchi x.origin) (and_parts (is_element Buchi x) (list_all (is_element Buchi) es) h).0).1
-begun_at (x ∷ es) (suc e) d h lt = begun_at es e d (and_parts (is_element Buchi x) (list_all (is_element Buchi) es) h).1 (omega arith)
+use Rattle.cert_check.proofs.PlaceLemmas.{origin_fits, IsPlacedIn, placed_one}
+use Rattle.cert_check.proofs.SuperLemmas.{arcs_count}
 
 -- What a transition that passes a test stands at among those that do.
 kept_at : (p : Trans → Bool) (ts : List Trans) (t : ℕ) (d : Trans) → t < length ts → p (slice_index_or ts t d) ≡ true →
@@ -96,34 +89,27 @@ module _ (d : StepLine) where
   line_from_start : (e : ℕ) (es : List Element) (steps : List StepLine) → are_steps 0 es steps ≡ true → e < length es → is_live (slice_index_or es e no_element).mark ≡ true → HasLine steps e
   line_from_start e es steps h lt live = let zero_on : 0 + e ≡ e = omega arith in subst (HasLine steps) zero_on (line_of_live 0 e es steps h lt live)
 
-pub placed_one : (A : Automaton) (arcs : List WordArc) (n e : ℕ) (o : Origin) → ¬ (o ≡ Start) → NamesOrigin A n o → HasEarlierParent e o → GoesOn A arcs o → IsPlacedAt A arcs e o
-placed_one A arcs n e Start some names earlier goes = absurd (some refl)
-placed_one A arcs n e (Base t) some names earlier goes = names
-placed_one A arcs n e (Next p t) some names earlier goes = (earlier, names.1, goes)
-
 -- One arc of a list that elements are over.
-subsumed_at : (A B : Automaton) (evidence : YesBody) (js : List ℕ) (xs : List WordArc) (i : ℕ) (x : WordArc) → AreOver A B evidence js xs → i < length xs → slice_index_or xs i (start_arc A) ≡ x →
-    IsSubsumed A B (pairs_of evidence.order) (element_arcs A evidence) (live_in evidence) x
-subsumed_at A B evidence js xs i x over lt is =
-    let one : IsOver A B evidence (slice_index js i) x = subst (IsOver A B evidence (slice_index js i)) is (over.each i lt) in
-    (slice_index js i, one.0, one.1)
+over_at : (m : Mode) (A B : Automaton) (evidence : YesBody) (js : List ℕ) (xs : List WordArc) (i : ℕ) (x : WordArc) → AreOver m A B evidence js xs → i < length xs → slice_index_or xs i (start_arc A) ≡ x →
+    IsOver m A B evidence (slice_index js i) x
+over_at m A B evidence js xs i x over lt is = subst (IsOver m A B evidence (slice_index js i)) is (over.each i lt)
 
 -- The five lists of checks after those of the relation.
-module _ (n : ℕ) (A B : Automaton) (evidence : YesBody) where
+module _ (m : Mode) (n : ℕ) (A B : Automaton) (evidence : YesBody) where
   abbrev pub elements_part : List Check
   elements_part = checks_of_each (element_checks A evidence (n + 1)) 0 evidence.elements
 
   abbrev pub under_part : List Check
-  under_part = checks_of_each (under_checks A B evidence (n + 1)) 0 evidence.elements
+  under_part = checks_of_each (under_checks m A B evidence (n + 1)) 0 evidence.elements
 
   abbrev pub cover_part : List Check
-  cover_part = cover_checks A B evidence (n + 1 + length evidence.elements)
+  cover_part = cover_checks m A B evidence (n + 1 + length evidence.elements)
 
   abbrev pub steps_part : List Check
-  steps_part = checks_of_each (step_checks A B evidence (n + 2 + length evidence.elements)) 0 evidence.steps
+  steps_part = checks_of_each (step_checks m A B evidence (n + 2 + length evidence.elements)) 0 evidence.steps
 
   abbrev pub pairs_part : List Check
-  pairs_part = checks_of_each (pair_checks A B evidence (n + 1)) 0 evidence.elements
+  pairs_part = checks_of_each (pair_checks m A B evidence (n + 1)) 0 evidence.elements
 
   record Parts : Type 0 where
     order : AllHold (order_checks B evidence n)
@@ -132,7 +118,7 @@ module _ (n : ℕ) (A B : Automaton) (evidence : YesBody) where
     steps : AllHold steps_part
     pairs : AllHold pairs_part
 
-  parts : AllHold (inclusion_checks n A B evidence) → Parts
+  parts : AllHold (inclusion_checks m n A B evidence) → Parts
   parts hold =
       let a : AllHold (elements_part ++ (under_part ++ (cover_part ++ (steps_part ++ pairs_part)))) =
       all_back (order_checks B evidence n) (elements_part ++ (under_part ++ (cover_part ++ (steps_part ++ pairs_part)))) hold in
@@ -148,50 +134,77 @@ module _ (n : ℕ) (A B : Automaton) (evidence : YesBody) where
       }
 
   -- Each element is placed, live or not.
-  placed : list_all (is_element Buchi) evidence.elements ≡ true → Parts → ArePlaced A (origins_of evidence)
-  placed begun p e lt =
+  placed : list_all (is_element m) evidence.elements ≡ true → Parts → (e : ℕ) → e < length (origins_of evidence) → IsPlacedIn m A (element_arcs A evidence) e (slice_index_or (origins_of evidence) e Start)
+  placed fits p e lt =
       let lt' : e < length evidence.elements = omega (arith, length-map evidence.elements (λ (x : Element). x.origin)) in
       let h = each_of (element_checks A evidence (n + 1)) e evidence.elements no_element lt' p.elements in
       let is : slice_index_or (origins_of evidence) e Start ≡ (slice_index_or evidence.elements e no_element).origin =
       get_or-map (λ (x : Element). x.origin) evidence.elements e no_element Start lt' in
-      subst (IsPlacedAt A (element_arcs A evidence) e) (sym is)
-      (placed_one A (element_arcs A evidence) (length evidence.elements) e (slice_index_or evidence.elements e no_element).origin
-      (begun_at evidence.elements e no_element begun lt') h.0.0 h.1.0 h.1.1.0)
+      subst (IsPlacedIn m A (element_arcs A evidence) e) (sym is)
+      (placed_one m A (element_arcs A evidence) (length evidence.elements) e (slice_index_or evidence.elements e no_element).origin
+      (origin_fits m evidence.elements e no_element fits lt') h.0.0 h.1.0 h.1.1.0)
 
-  pub closed : list_all (is_element Buchi) evidence.elements ≡ true → are_steps 0 evidence.elements evidence.steps ≡ true → AllHold (inclusion_checks n A B evidence) →
-      ClosedSet A B (pairs_of evidence.order) (element_arcs A evidence) (live_in evidence)
-  closed begun lined hold =
-      let p = parts hold in
-      let size : length (element_arcs A evidence) ≡ length evidence.elements = length-arcs_of A (origins_of evidence) ∙ length-map evidence.elements (λ (x : Element). x.origin) in
-      record {
-        stable = p.order.1.0;
-        real = λ e lt. placed_arcs_are_real A (origins_of evidence) (placed begun p) e (omega (arith, length-arcs_of A (origins_of evidence)));
-        starts = λ t lt.
-            subsumed_at A B evidence evidence.cover (starts_of A) t (base_arc A (trans_at A t)) p.cover.1.0
-            (omega (arith, length-map A.transitions (base_arc A)))
-            (get_or-map (base_arc A) A.transitions t (trans 0 0 0) (start_arc A) lt);
-        steps = λ e t live lt leaves.
-            let (k, k_in, is) = line_from_start no_line e evidence.elements evidence.steps lined (omega (arith, live.0, size)) live.1 in
-            let step : StepLine = slice_index_or evidence.steps k no_line in
-            let h = each_of (step_checks A B evidence (n + 2 + length evidence.elements)) k evidence.steps no_line k_in p.steps in
-            let x : WordArc = arc_at A (element_arcs A evidence) e in
-            let over : AreOver A B evidence step.by (extensions_of A x) = subst (λ m. AreOver A B evidence step.by (extensions_of A (arc_at A (element_arcs A evidence) m))) is h.1.0 in
-            let (i, i_in, same) = kept_at (λ (u : Trans). u.source == x.to) A.transitions t (trans 0 0 0) lt (eq-eqb (trans_at A t).source x.to leaves) in
-            subsumed_at A B evidence step.by (extensions_of A x) i (extended_arc A x (trans_at A t)) over
+  no_line : StepLine
+  no_line = record { element = 0; by = [] }
+
+  -- Each extension of a live element has one over it.
+  step_over : are_steps 0 evidence.elements evidence.steps ≡ true → Parts → (e t : ℕ) → IsLive (element_arcs A evidence) (live_in evidence) e → t < length A.transitions →
+      (trans_at A t).source ≡ (arc_at A (element_arcs A evidence) e).to → (j : ℕ) × IsOver m A B evidence j (extended_arc A (arc_at A (element_arcs A evidence) e) (trans_at A t))
+  step_over lined p e t live lt leaves =
+      let size = arcs_count A evidence in
+      let (k, k_in, is) = line_from_start no_line e evidence.elements evidence.steps lined (omega (arith, live.0, size)) live.1 in
+      let step : StepLine = slice_index_or evidence.steps k no_line in
+      let h = each_of (step_checks m A B evidence (n + 2 + length evidence.elements)) k evidence.steps no_line k_in p.steps in
+      let x : WordArc = arc_at A (element_arcs A evidence) e in
+      let over : AreOver m A B evidence step.by (extensions_of A x) = subst (λ z. AreOver m A B evidence step.by (extensions_of A (arc_at A (element_arcs A evidence) z))) is h.1.0 in
+      let (i, i_in, same) = kept_at (λ (u : Trans). u.source == x.to) A.transitions t (trans 0 0 0) lt (eq-eqb (trans_at A t).source x.to leaves) in (
+        slice_index step.by i,
+        over_at m A B evidence step.by (extensions_of A x) i (extended_arc A x (trans_at A t)) over
             (omega (arith, i_in, length-map (filter (λ (u : Trans). u.source == x.to) A.transitions) (extended_arc A x)))
-            (get_or-map (extended_arc A x) (filter (λ (u : Trans). u.source == x.to) A.transitions) i (trans 0 0 0) (start_arc A) i_in ∙ ap (extended_arc A x) same);
-        passes = λ e f live_e live_f.
-            (each_of (pair_checks A B evidence (n + 1)) e evidence.elements no_element (omega (arith, live_e.0, size)) p.pairs).0 live_e f live_f;
-      }
-    where
-      no_line : StepLine
-      no_line = record { element = 0; by = [] }
+            (get_or-map (extended_arc A x) (filter (λ (u : Trans). u.source == x.to) A.transitions) i (trans 0 0 0) (start_arc A) i_in ∙ ap (extended_arc A x) same),
+      )
 
--- So the second automaton accepts each lasso that the first accepts.
-pub included : (n : ℕ) (A B : Automaton) (evidence : YesBody) → IsAutomaton B → list_all (is_element Buchi) evidence.elements ≡ true → are_steps 0 evidence.elements evidence.steps ≡ true →
-    AllHold (inclusion_checks n A B evidence) → Includes A B Buchi
-included n A B evidence valid begun lined hold =
-    closed_set_includes A B (pairs_of evidence.order) (element_arcs A evidence) (live_in evidence) valid (closed n A B evidence begun lined hold)
+  -- Each live element passes.
+  passes_one : Parts → (e : ℕ) → IsLive (element_arcs A evidence) (live_in evidence) e → PassesBy m A B evidence e
+  passes_one p e live = let size = arcs_count A evidence in (each_of (pair_checks m A B evidence (n + 1)) e evidence.elements no_element (omega (arith, live.0, size)) p.pairs).0
+
+-- In a Büchi file they are a closed set of supergraphs.
+pub closed : (n : ℕ) (A B : Automaton) (evidence : YesBody) → list_all (is_element Buchi) evidence.elements ≡ true → are_steps 0 evidence.elements evidence.steps ≡ true →
+    AllHold (inclusion_checks Buchi n A B evidence) → ClosedSet A B (pairs_of evidence.order) (element_arcs A evidence) (live_in evidence)
+closed n A B evidence fits lined hold =
+    let p = parts Buchi n A B evidence hold in
+    record {
+      stable = p.order.1.0;
+      real = λ e lt. placed_arcs_are_real A (origins_of evidence) (placed Buchi n A B evidence fits p) e (omega (arith, length-arcs_of A (origins_of evidence)));
+      starts = λ t lt.
+          let over = over_at Buchi A B evidence evidence.cover (starts_of A) t (base_arc A (trans_at A t)) p.cover.1.0
+          (omega (arith, length-map A.transitions (base_arc A)))
+          (get_or-map (base_arc A) A.transitions t (trans 0 0 0) (start_arc A) lt) in
+          (slice_index evidence.cover t, over.0, over.1);
+      steps = λ e t live lt leaves. let over = step_over Buchi n A B evidence lined p e t live lt leaves in (over.0, over.1.0, over.1.1);
+      passes = λ e f live_e live_f. passes_one Buchi n A B evidence p e live_e live_e f live_f;
+    }
+
+-- In a finite file they are a closed set of pairs.
+pub closed_pairs : (n : ℕ) (A B : Automaton) (evidence : YesBody) → list_all (is_element Finite) evidence.elements ≡ true → are_steps 0 evidence.elements evidence.steps ≡ true →
+    AllHold (inclusion_checks Finite n A B evidence) → ClosedPairs A B (pairs_of evidence.order) (element_arcs A evidence) (live_in evidence)
+closed_pairs n A B evidence fits lined hold =
+    let p = parts Finite n A B evidence hold in
+    record {
+      stable = p.order.1.0;
+      reached = λ e lt. placed_pairs_are_reached A (origins_of evidence) (placed Finite n A B evidence fits p) e (omega (arith, length-arcs_of A (origins_of evidence)));
+      start = let over = over_at Finite A B evidence evidence.cover (start_arc A ∷ []) 0 (start_arc A) p.cover.1.0 (omega arith) refl in (slice_index evidence.cover 0, over.0, over.1);
+      steps = λ e t live lt leaves. let over = step_over Finite n A B evidence lined p e t live lt leaves in (over.0, over.1.0, over.1.1);
+      passes = λ e live. passes_one Finite n A B evidence p e live live;
+    }
+
+-- So the second automaton accepts each lasso, in a finite file each word, that the first accepts.
+pub included : (m : Mode) (n : ℕ) (A B : Automaton) (evidence : YesBody) → IsAutomaton B → list_all (is_element m) evidence.elements ≡ true → are_steps 0 evidence.elements evidence.steps ≡ true →
+    AllHold (inclusion_checks m n A B evidence) → Includes A B m
+included Buchi n A B evidence valid fits lined hold =
+    closed_set_includes A B (pairs_of evidence.order) (element_arcs A evidence) (live_in evidence) valid (closed n A B evidence fits lined hold)
+included Finite n A B evidence valid fits lined hold =
+    closed_pairs_include A B (pairs_of evidence.order) (element_arcs A evidence) (live_in evidence) (closed_pairs n A B evidence fits lined hold)
 
 -- The parts of a well-formed certificate of inclusion.
 yes_formed : (cert : Cert) (evidence : YesBody) → cert.body ≡ Yes evidence → WellFormed cert → is_yes cert.mode evidence ≡ true
@@ -202,17 +215,17 @@ yes_formed cert evidence is formed =
     let fits : is_body cert.mode cert.body ≡ true = (and_parts (is_short cert.labels) (is_body cert.mode cert.body) labels).1 in
     subst (λ b. is_body cert.mode b ≡ true) is fits
 
-pub record YesParts (evidence : YesBody) : Type 0 where
+pub record YesParts (m : Mode) (evidence : YesBody) : Type 0 where
   pub few : length evidence.elements < 10 ^ 9
-  pub elements : list_all (is_element Buchi) evidence.elements ≡ true
+  pub elements : list_all (is_element m) evidence.elements ≡ true
   pub lined : are_steps 0 evidence.elements evidence.steps ≡ true
 
-pub yes_parts : (evidence : YesBody) → is_yes Buchi evidence ≡ true → YesParts evidence
-yes_parts evidence h =
-    let a = (and_parts (are_logs Buchi evidence.first evidence.second) (is_block evidence.order && (is_short (length evidence.elements) && (list_all (is_element Buchi) evidence.elements && (are_short evidence.cover && are_steps 0 evidence.elements evidence.steps)))) h).1 in
-    let b = (and_parts (is_block evidence.order) (is_short (length evidence.elements) && (list_all (is_element Buchi) evidence.elements && (are_short evidence.cover && are_steps 0 evidence.elements evidence.steps))) a).1 in
-    let c = and_parts (is_short (length evidence.elements)) (list_all (is_element Buchi) evidence.elements && (are_short evidence.cover && are_steps 0 evidence.elements evidence.steps)) b in
-    let d = and_parts (list_all (is_element Buchi) evidence.elements) (are_short evidence.cover && are_steps 0 evidence.elements evidence.steps) c.1 in
+pub yes_parts : (m : Mode) (evidence : YesBody) → is_yes m evidence ≡ true → YesParts m evidence
+yes_parts m evidence h =
+    let a = (and_parts (are_logs m evidence.first evidence.second) (is_block evidence.order && (is_short (length evidence.elements) && (list_all (is_element m) evidence.elements && (are_short evidence.cover && are_steps 0 evidence.elements evidence.steps)))) h).1 in
+    let b = (and_parts (is_block evidence.order) (is_short (length evidence.elements) && (list_all (is_element m) evidence.elements && (are_short evidence.cover && are_steps 0 evidence.elements evidence.steps))) a).1 in
+    let c = and_parts (is_short (length evidence.elements)) (list_all (is_element m) evidence.elements && (are_short evidence.cover && are_steps 0 evidence.elements evidence.steps)) b in
+    let d = and_parts (list_all (is_element m) evidence.elements) (are_short evidence.cover && are_steps 0 evidence.elements evidence.steps) c.1 in
     record {
       few = grind (arith, c.0);
       elements = d.0;
@@ -246,39 +259,37 @@ lines_fit n (x ∷ es) (step ∷ steps) h = by (is_live x.mark) h (λ g. lines_f
     by true g f k = let r = f (and_parts (is_step_of n step) (are_steps (n + 1) es steps) g).1 in omega arith
     by false g f k = let r = k g in omega arith
 
--- A checked form that says yes is of Büchi mode.
-yes_is_buchi : (m : Mode) (evidence : YesBody) → has_checked_body m (Yes evidence) ≡ true → m ≡ Buchi
-yes_is_buchi Buchi evidence h = refl
-yes_is_buchi Finite evidence h = absurd (false≢true h)
-
-pub checked_yes_parts : (cert : Cert) (evidence : YesBody) → cert.body ≡ Yes evidence → WellFormed cert → has_checked_form cert ≡ true → YesParts evidence
-checked_yes_parts cert evidence is formed form =
-    let buchi : cert.mode ≡ Buchi = yes_is_buchi cert.mode evidence (subst (λ b. has_checked_body cert.mode b ≡ true) is form) in
-    yes_parts evidence (subst (λ m. is_yes m evidence ≡ true) buchi (yes_formed cert evidence is formed))
+-- Where each of three inclusions is, the first and the last automaton have it.
+through : (m : Mode) (A B C D : Automaton) → Includes A B m → Includes B C m → Includes C D m → Includes A D m
+through Buchi A B C D first second third = λ u v accepted. third u v (second u v (first u v accepted))
+through Finite A B C D first second third = λ w accepted. third w (second w (first w accepted))
 
 -- What the evidence shows of the automata that the logs lead to, it shows of those that they begin with.
-pub through_logs : (pair : Joined) (evidence : YesBody) → IsAutomaton pair.first → IsAutomaton pair.second → is_yes Buchi evidence ≡ true → YesHolds Buchi pair evidence →
-    Includes pair.first pair.second Buchi
-through_logs pair evidence valid valid' formed h =
-    let p = yes_parts evidence formed in
-    let logs = log_parts Buchi evidence formed in
-    let grows = first_log_grows Buchi pair.first h.ends.first 1 evidence.first valid logs.firsts h.logs.first in
-    let shrinks = second_log_shrinks Buchi pair.second h.ends.second (1 + length evidence.first) evidence.second valid' logs.seconds h.logs.second in
-    let middle = included (item_after evidence.first evidence.second) h.ends.first h.ends.second evidence shrinks.1.valid p.elements p.lined h.closed in
-    λ u v accepted. shrinks.0 u v (middle u v (grows.0 u v accepted))
+pub through_logs : (m : Mode) (pair : Joined) (evidence : YesBody) → IsAutomaton pair.first → IsAutomaton pair.second → is_yes m evidence ≡ true → YesHolds m pair evidence →
+    Includes pair.first pair.second m
+through_logs m pair evidence valid valid' formed h =
+    let p = yes_parts m evidence formed in
+    let logs = log_parts m evidence formed in
+    let grows = first_log_grows m pair.first h.ends.first 1 evidence.first valid logs.firsts h.logs.first in
+    let shrinks = second_log_shrinks m pair.second h.ends.second (1 + length evidence.first) evidence.second valid' logs.seconds h.logs.second in
+    let middle = included m (item_after evidence.first evidence.second) h.ends.first h.ends.second evidence shrinks.1.valid p.elements p.lined h.closed in
+    through m pair.first h.ends.first h.ends.second pair.second grows.0 middle shrinks.0
 
 -- A valid certificate that says yes shows an inclusion.
-pub valid_yes_includes : (pair : Joined) (cert : Cert) (evidence : YesBody) → cert.body ≡ Yes evidence → WellFormed cert → has_checked_form cert ≡ true → IsAutomaton pair.first → IsAutomaton pair.second →
-    KeepsRules pair cert → Includes pair.first pair.second Buchi
-valid_yes_includes pair cert evidence is formed form valid valid' hold =
-    let buchi : cert.mode ≡ Buchi = yes_is_buchi cert.mode evidence (subst (λ b. has_checked_body cert.mode b ≡ true) is form) in
-    let yes : is_yes Buchi evidence ≡ true = subst (λ m. is_yes m evidence ≡ true) buchi (yes_formed cert evidence is formed) in
-    through_logs pair evidence valid valid' yes (subst (λ m. YesHolds m pair evidence) buchi (subst (λ b. BodyHolds cert.mode pair b) is hold.1))
+pub valid_yes_includes : (pair : Joined) (cert : Cert) (evidence : YesBody) → cert.body ≡ Yes evidence → WellFormed cert → IsAutomaton pair.first → IsAutomaton pair.second →
+    KeepsRules pair cert → Includes pair.first pair.second cert.mode
+valid_yes_includes pair cert evidence is formed valid valid' hold =
+    through_logs cert.mode pair evidence valid valid' (yes_formed cert evidence is formed) (subst (λ b. BodyHolds cert.mode pair b) is hold.1)
 
 pub valid_yes : ValidYesIncludes
-valid_yes pair cert evidence valid valid' is v = valid_yes_includes pair cert evidence is v.formed v.form valid valid' v.keeps
+valid_yes pair cert evidence valid valid' is v = valid_yes_includes pair cert evidence is v.formed valid valid' v.keeps
 
 pub valid_no : ValidNoSeparates
 valid_no pair cert lasso is v =
     let all : AllHold (lasso_checks pair lasso) = subst (λ b. BodyHolds cert.mode pair b) is v.keeps.1 in
     (all.1.1.0, all.1.1.1.0)
+
+pub valid_no_by_word : ValidNoSeparatesByWord
+valid_no_by_word pair cert word is v =
+    let all : AllHold (word_checks pair word) = subst (λ b. BodyHolds cert.mode pair b) is v.keeps.1 in
+    (all.1.0, all.1.1.0)

@@ -14,37 +14,37 @@ use Rattle.cert_check.specs.Inclusion.{order_checks, inclusion_checks}
 use Rattle.log_check.proofs.CheckLemmas.{tells_fault, tells_after}
 use Rattle.cert_check.proofs.ClosedLemmas.{elements_part, under_part, cover_part, steps_part, pairs_part}
 
-module _ (n : ℕ) (A B : Automaton) (evidence : YesBody) (X : Type 0) (e : CheckFault) where
+module _ (m : Mode) (n : ℕ) (A B : Automaton) (evidence : YesBody) (X : Type 0) (e : CheckFault) where
   abbrev E : List Check
-  E = elements_part n A B evidence
+  E = elements_part m n A B evidence
 
   abbrev U : List Check
-  U = under_part n A B evidence
+  U = under_part m n A B evidence
 
   abbrev C : List Check
-  C = cover_part n A B evidence
+  C = cover_part m n A B evidence
 
   abbrev S : List Check
-  S = steps_part n A B evidence
+  S = steps_part m n A B evidence
 
   abbrev P : List Check
-  P = pairs_part n A B evidence
+  P = pairs_part m n A B evidence
 
-  pub fault_in_elements : AllHold (order_checks B evidence n) → Tells {X = X} E (Err e) → Tells {X = Unit {0}} (inclusion_checks n A B evidence) (Err e)
+  pub fault_in_elements : AllHold (order_checks B evidence n) → Tells {X = X} E (Err e) → Tells {X = Unit {0}} (inclusion_checks m n A B evidence) (Err e)
   fault_in_elements order h = tells_after (Unit {0}) (order_checks B evidence n) (E ++ (U ++ (C ++ (S ++ P)))) (Err e) order (tells_fault X (Unit {0}) E (U ++ (C ++ (S ++ P))) e h)
 
-  pub fault_in_under : AllHold (order_checks B evidence n) → AllHold E → Tells {X = X} U (Err e) → Tells {X = Unit {0}} (inclusion_checks n A B evidence) (Err e)
+  pub fault_in_under : AllHold (order_checks B evidence n) → AllHold E → Tells {X = X} U (Err e) → Tells {X = Unit {0}} (inclusion_checks m n A B evidence) (Err e)
   fault_in_under order elements h =
       tells_after (Unit {0}) (order_checks B evidence n) (E ++ (U ++ (C ++ (S ++ P)))) (Err e) order
       (tells_after (Unit {0}) E (U ++ (C ++ (S ++ P))) (Err e) elements (tells_fault X (Unit {0}) U (C ++ (S ++ P)) e h))
 
-  pub fault_in_cover : AllHold (order_checks B evidence n) → AllHold E → AllHold U → Tells {X = X} C (Err e) → Tells {X = Unit {0}} (inclusion_checks n A B evidence) (Err e)
+  pub fault_in_cover : AllHold (order_checks B evidence n) → AllHold E → AllHold U → Tells {X = X} C (Err e) → Tells {X = Unit {0}} (inclusion_checks m n A B evidence) (Err e)
   fault_in_cover order elements under h =
       tells_after (Unit {0}) (order_checks B evidence n) (E ++ (U ++ (C ++ (S ++ P)))) (Err e) order
       (tells_after (Unit {0}) E (U ++ (C ++ (S ++ P))) (Err e) elements
       (tells_after (Unit {0}) U (C ++ (S ++ P)) (Err e) under (tells_fault X (Unit {0}) C (S ++ P) e h)))
 
-  pub fault_in_steps : AllHold (order_checks B evidence n) → AllHold E → AllHold U → AllHold C → Tells {X = X} S (Err e) → Tells {X = Unit {0}} (inclusion_checks n A B evidence) (Err e)
+  pub fault_in_steps : AllHold (order_checks B evidence n) → AllHold E → AllHold U → AllHold C → Tells {X = X} S (Err e) → Tells {X = Unit {0}} (inclusion_checks m n A B evidence) (Err e)
   fault_in_steps order elements under cover h =
       tells_after (Unit {0}) (order_checks B evidence n) (E ++ (U ++ (C ++ (S ++ P)))) (Err e) order
       (tells_after (Unit {0}) E (U ++ (C ++ (S ++ P))) (Err e) elements
@@ -52,14 +52,14 @@ module _ (n : ℕ) (A B : Automaton) (evidence : YesBody) (X : Type 0) (e : Chec
       (tells_after (Unit {0}) C (S ++ P) (Err e) cover (tells_fault X (Unit {0}) S P e h))))
 
 -- The last part.
-pub pairs_last : (n : ℕ) (A B : Automaton) (evidence : YesBody) (r : Result (Unit {0}) CheckFault) → AllHold (order_checks B evidence n) → AllHold (elements_part n A B evidence) → AllHold (under_part n A B evidence) →
-    AllHold (cover_part n A B evidence) → AllHold (steps_part n A B evidence) → Tells (pairs_part n A B evidence) r → Tells (inclusion_checks n A B evidence) r
-pairs_last n A B evidence r order elements under cover steps h =
-    let E : List Check = elements_part n A B evidence in
-    let U : List Check = under_part n A B evidence in
-    let C : List Check = cover_part n A B evidence in
-    let S : List Check = steps_part n A B evidence in
-    let P : List Check = pairs_part n A B evidence in
+pub pairs_last : (m : Mode) (n : ℕ) (A B : Automaton) (evidence : YesBody) (r : Result (Unit {0}) CheckFault) → AllHold (order_checks B evidence n) → AllHold (elements_part m n A B evidence) → AllHold (under_part m n A B evidence) →
+    AllHold (cover_part m n A B evidence) → AllHold (steps_part m n A B evidence) → Tells (pairs_part m n A B evidence) r → Tells (inclusion_checks m n A B evidence) r
+pairs_last m n A B evidence r order elements under cover steps h =
+    let E : List Check = elements_part m n A B evidence in
+    let U : List Check = under_part m n A B evidence in
+    let C : List Check = cover_part m n A B evidence in
+    let S : List Check = steps_part m n A B evidence in
+    let P : List Check = pairs_part m n A B evidence in
     tells_after (Unit {0}) (order_checks B evidence n) (E ++ (U ++ (C ++ (S ++ P)))) r order
     (tells_after (Unit {0}) E (U ++ (C ++ (S ++ P))) r elements
     (tells_after (Unit {0}) U (C ++ (S ++ P)) r under
@@ -72,7 +72,7 @@ fault_in_logs mode pair evidence Memory h = tt
 
 -- A yes whose logs lead to two automata.
 pub after_logs : (mode : Mode) (pair : Joined) (evidence : YesBody) (ends : Ends) (r : Result (Unit {0}) CheckFault) → TellsBothLogs mode pair.first pair.second evidence.first evidence.second (Ok ends) →
-    Tells (inclusion_checks (item_after evidence.first evidence.second) ends.first ends.second evidence) r → TellsYes mode pair evidence r
+    Tells (inclusion_checks mode (item_after evidence.first evidence.second) ends.first ends.second evidence) r → TellsYes mode pair evidence r
 after_logs mode pair evidence ends (Ok x) lead h = record { ends = ends; logs = lead; closed = h }
 after_logs mode pair evidence ends (Err (Refused refusal)) lead h = inr (ends, lead, h)
 after_logs mode pair evidence ends (Err Memory) lead h = tt

@@ -1,3 +1,4 @@
+pub mod PlaceLemmas
 pub mod ClosedLemmas
 pub mod SuperLemmas
 pub mod PairLemmas

@@ -6,10 +6,11 @@ use Rattle.std.proofs.lemmas.List.Elements.{Contains-append_left, Contains-push_
 use Rattle.auto_core.specs.Automaton.{Automaton}
 use Rattle.auto_core.specs.Graph.{WordArc, LassoIn, IsTested, super_of, graph_of, arc_at}
 use Rattle.auto_core.specs.Closed.{IsLive}
+use Rattle.auto_core.specs.declared.parts.Mode.TheVariants.{Buchi}
 use Rattle.graph_rows.specs.Block.{block_graph}
 use Rattle.cert_text.specs.declared.types.YesBody.{YesBody}
 use Rattle.cert_check.specs.Inclusion.{element_arcs, live_in, PassesWithAll}
-use Rattle.cert_check.specs.Supers.{AreSupers, block_at, held_arc, IsTurn, ListsJust, AddsIf, AreTurnsByState}
+use Rattle.cert_check.specs.Supers.{AreSupers, block_at, block_len, held_arc, IsTurn, ListsJust, AddsIf, AreTurnsByState}
 use Rattle.cert_check.specs.declared.elements.Supers.{Supers}
 use Rattle.cert_check.proofs.SuperLemmas.{arcs_count, lassos_alike}
 
@@ -82,7 +83,7 @@ turns_more evidence supers n all list before has just chosen = record {
     )
 
 -- The test of one element against the turns at its end.
-module _ (A B : Automaton) (evidence : YesBody) (supers : Supers) (are : AreSupers A B evidence (length evidence.elements) supers) where
+module _ (A B : Automaton) (evidence : YesBody) (supers : Supers) (are : AreSupers Buchi A B evidence (length evidence.elements) supers) where
   turn_of_tested : (e f : ℕ) → e < length evidence.elements → IsLive (element_arcs A evidence) (live_in evidence) f →
       IsTested A (super_of B (arc_at A (element_arcs A evidence) e)) (super_of B (arc_at A (element_arcs A evidence) f)) → IsTurn evidence supers f × ((held_arc supers f).from ≡ (held_arc supers e).to)
   turn_of_tested e f e_in live tested =
@@ -115,15 +116,15 @@ module _ (A B : Automaton) (evidence : YesBody) (supers : Supers) (are : AreSupe
       }
 
   blocks_of_words : (e f : ℕ) → e < length evidence.elements → f < length evidence.elements →
-      LassoIn (block_graph B.states (block_at B.states supers.blocks.items e)) (block_graph B.states (block_at B.states supers.blocks.items f)) B.initial
+      LassoIn (block_graph B.states (block_at (block_len Buchi B.states) supers.blocks.items e)) (block_graph B.states (block_at (block_len Buchi B.states) supers.blocks.items f)) B.initial
       ↔ LassoIn (graph_of B (arc_at A (element_arcs A evidence) e).word) (graph_of B (arc_at A (element_arcs A evidence) f).word) B.initial
   blocks_of_words e f e_in f_in =
-      lassos_alike A B (held_arc supers e) (held_arc supers f) (block_at B.states supers.blocks.items e) (block_at B.states supers.blocks.items f)
+      lassos_alike A B (held_arc supers e) (held_arc supers f) (block_at (block_len Buchi B.states) supers.blocks.items e) (block_at (block_len Buchi B.states) supers.blocks.items f)
       (arc_at A (element_arcs A evidence) e) (arc_at A (element_arcs A evidence) f) B.initial (are.each e e_in) (are.each f f_in)
 
   pub passes_told : (e : ℕ) (turns : List ℕ) (told : Bool) → e < length evidence.elements → live_in evidence e ≡ true → (held_arc supers e).from ≡ A.initial →
       ListsJust turns (λ f. IsTurn evidence supers f × ((held_arc supers f).from ≡ (held_arc supers e).to)) →
-      ((told ≡ true) ↔ ((f : ℕ) → Contains turns f → LassoIn (block_graph B.states (block_at B.states supers.blocks.items e)) (block_graph B.states (block_at B.states supers.blocks.items f)) B.initial)) →
+      ((told ≡ true) ↔ ((f : ℕ) → Contains turns f → LassoIn (block_graph B.states (block_at (block_len Buchi B.states) supers.blocks.items e)) (block_graph B.states (block_at (block_len Buchi B.states) supers.blocks.items f)) B.initial)) →
       (told ≡ true) ↔ PassesWithAll A B evidence e
   passes_told e turns told e_in live starts just asked = (
     λ is. λ _ f live_f. λ tested.

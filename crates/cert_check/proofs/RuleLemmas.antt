@@ -1,5 +1,5 @@
 -- A certificate breaks one rule first, and none where it keeps them all.
-use Rattle.std.proofs.Common.{◌≡◌, inl, inr, [], ◌∷◌, sym, ◌∙◌, subst}
+use Rattle.std.proofs.Common.{◌≡◌, inl, inr, [], ◌∷◌, subst}
 use Rattle.auto_core.specs.declared.parts.Mode.{Mode}
 use Rattle.ba_format.specs.declared.parts.Joined.{Joined}
 use Rattle.cert_text.specs.declared.types.Body.{Body}
@@ -11,7 +11,7 @@ use Rattle.log_check.specs.Checks.{FirstBroken, rule_at}
 use Rattle.log_check.specs.Ends.{item_after}
 use Rattle.log_check.proofs.LawOneLemmas.{broken_one, broken_or_all, ends_one, break_one, none_breaks}
 use Rattle.cert_check.specs.Inclusion.{inclusion_checks}
-use Rattle.cert_check.specs.Rules.{HasSizes, lasso_checks, YesHolds, YesBreaks, BodyHolds, BodyBreaks}
+use Rattle.cert_check.specs.Rules.{HasSizes, lasso_checks, word_checks, YesHolds, YesBreaks, BodyHolds, BodyBreaks}
 use Rattle.cert_check.specs.Laws.{OneRuleBreaks, NoneBreaksWhereKept}
 
 one_of_yes : (mode : Mode) (pair : Joined) (evidence : YesBody) (refusal other : Refusal) → YesBreaks mode pair evidence refusal → YesBreaks mode pair evidence other → refusal ≡ other
@@ -21,13 +21,13 @@ one_of_yes mode pair evidence refusal other (inr (ends, are, h)) (inl k) = absur
 one_of_yes mode pair evidence refusal other (inr (ends, are, h)) (inr (ends', are', k)) =
     let n = item_after evidence.first evidence.second in
     let same = ends_one mode pair.first pair.second evidence.first evidence.second ends' ends are' are in
-    broken_one (inclusion_checks n ends.first ends.second evidence) refusal other h
-    (subst (λ (z : Ends). FirstBroken (inclusion_checks n z.first z.second evidence) other) same k)
+    broken_one (inclusion_checks mode n ends.first ends.second evidence) refusal other h
+    (subst (λ (z : Ends). FirstBroken (inclusion_checks mode n z.first z.second evidence) other) same k)
 
 one_of_body : (mode : Mode) (pair : Joined) (body : Body) (refusal other : Refusal) → BodyBreaks mode pair body refusal → BodyBreaks mode pair body other → refusal ≡ other
 one_of_body mode pair (Yes evidence) refusal other h k = one_of_yes mode pair evidence refusal other h k
 one_of_body mode pair (NoLasso lasso) refusal other h k = broken_one (lasso_checks pair lasso) refusal other h k
-one_of_body mode pair (NoWord word) refusal other h k = absurd h
+one_of_body mode pair (NoWord word) refusal other h k = broken_one (word_checks pair word) refusal other h k
 one_of_body mode pair (Listing list) refusal other h k = absurd h
 
 pub one_rule : OneRuleBreaks
@@ -41,13 +41,13 @@ none_of_yes mode pair evidence refusal (inl h) holds = none_breaks mode pair.fir
 none_of_yes mode pair evidence refusal (inr (ends, are, h)) holds =
     let n = item_after evidence.first evidence.second in
     let same = ends_one mode pair.first pair.second evidence.first evidence.second ends holds.ends are holds.logs in
-    broken_or_all (inclusion_checks n holds.ends.first holds.ends.second evidence) refusal
-    (subst (λ (z : Ends). FirstBroken (inclusion_checks n z.first z.second evidence) refusal) same h) holds.closed
+    broken_or_all (inclusion_checks mode n holds.ends.first holds.ends.second evidence) refusal
+    (subst (λ (z : Ends). FirstBroken (inclusion_checks mode n z.first z.second evidence) refusal) same h) holds.closed
 
 none_of_body : (mode : Mode) (pair : Joined) (body : Body) (refusal : Refusal) → BodyBreaks mode pair body refusal → BodyHolds mode pair body → ⊥
 none_of_body mode pair (Yes evidence) refusal h holds = none_of_yes mode pair evidence refusal h holds
 none_of_body mode pair (NoLasso lasso) refusal h holds = broken_or_all (lasso_checks pair lasso) refusal h holds
-none_of_body mode pair (NoWord word) refusal h holds = h
+none_of_body mode pair (NoWord word) refusal h holds = broken_or_all (word_checks pair word) refusal h holds
 none_of_body mode pair (Listing list) refusal h holds = h
 
 pub none_kept : NoneBreaksWhereKept

@@ -3,9 +3,12 @@
 use Rattle.std.specs.Prelude.{◌≡◌, ℕ, ◌+◌, ◌<◌, ◌==◌, Bool, List, [], ◌∷◌, ◌++◌, length, map, All, slice_index, slice_index_or}
 use Rattle.std.specs.List.{filter}
 use Rattle.auto_core.specs.Automaton.{Automaton, trans_at}
-use Rattle.auto_core.specs.Game.{StableForward}
-use Rattle.auto_core.specs.Graph.{Passes, WordArc, super_of, start_arc, base_arc, extended_arc, arc_at, arcs_of}
-use Rattle.auto_core.specs.Closed.{IsLive, SubsumesAt}
+use Rattle.auto_core.specs.Game.{Holds, StableForward}
+use Rattle.auto_core.specs.Graph.{Subsumes, Passes, WordArc, super_of, start_arc, base_arc, extended_arc, arc_at, arcs_of}
+use Rattle.auto_core.specs.Closed.{IsLive}
+use Rattle.auto_core.specs.Pairs.{PairSubsumes, PairPasses, pair_of}
+use Rattle.auto_core.specs.declared.parts.Mode.{Mode}
+use Rattle.auto_core.specs.declared.parts.Mode.TheVariants.{Buchi, Finite}
 use Rattle.auto_core.specs.declared.parts.Origin.{Origin}
 use Rattle.auto_core.specs.declared.parts.Origin.TheVariants.{Start, Base, Next}
 use Rattle.auto_core.specs.declared.parts.Trans.{Trans}
@@ -57,23 +60,34 @@ GoesOn A arcs Start = Unit {0}
 GoesOn A arcs (Base t) = Unit {0}
 GoesOn A arcs (Next p t) = (trans_at A t).source ≡ (arc_at A arcs p).to
 
--- The element j is live, and its supergraph subsumes the one of x, by exactly the listed pairs.
-abbrev pub IsOver : Automaton → Automaton → YesBody → ℕ → WordArc → Type 0
-IsOver A B evidence j x = IsLive (element_arcs A evidence) (live_in evidence) j × SubsumesAt A B (pairs_of evidence.order) (element_arcs A evidence) j x
+-- x subsumes y: the supergraph of the one that of the other, in finite mode the pair.
+abbrev pub SubsumesIn : Mode → Automaton → List (ℕ × ℕ) → WordArc → WordArc → Type 0
+SubsumesIn Buchi B S x y = Subsumes (Holds S) (super_of B x) (super_of B y)
+SubsumesIn Finite B S x y = PairSubsumes (Holds S) (pair_of B x) (pair_of B y)
+
+-- The element j is live, and it subsumes x by exactly the listed pairs.
+abbrev pub IsOver : Mode → Automaton → Automaton → YesBody → ℕ → WordArc → Type 0
+IsOver mode A B evidence j x =
+    IsLive (element_arcs A evidence) (live_in evidence) j × SubsumesIn mode B (pairs_of evidence.order) (arc_at A (element_arcs A evidence) j) x
 
 -- An element that is not live is under the one that it names.
-abbrev pub IsUnder : Automaton → Automaton → YesBody → ℕ → Mark → Type 0
-IsUnder A B evidence e Live = Unit {0}
-IsUnder A B evidence e (Under j) = IsOver A B evidence j (arc_at A (element_arcs A evidence) e)
+abbrev pub IsUnder : Mode → Automaton → Automaton → YesBody → ℕ → Mark → Type 0
+IsUnder mode A B evidence e Live = Unit {0}
+IsUnder mode A B evidence e (Under j) = IsOver mode A B evidence j (arc_at A (element_arcs A evidence) e)
 
 -- There are as many elements named as there are arcs, each of them over the arc at its place.
-pub record AreOver (A B : Automaton) (evidence : YesBody) (js : List ℕ) (xs : List WordArc) : Type 0 where
+pub record AreOver (mode : Mode) (A B : Automaton) (evidence : YesBody) (js : List ℕ) (xs : List WordArc) : Type 0 where
   pub count : length js ≡ length xs
-  pub each : (i : ℕ) → i < length xs → IsOver A B evidence (slice_index js i) (slice_index_or xs i (start_arc A))
+  pub each : (i : ℕ) → i < length xs → IsOver mode A B evidence (slice_index js i) (slice_index_or xs i (start_arc A))
 
 -- The arcs of one letter, in the order of the transitions.
 abbrev pub starts_of : Automaton → List WordArc
 starts_of A = map (base_arc A) A.transitions
+
+-- The arcs that the cover is for: those of one letter, in finite mode the one of the empty word.
+abbrev pub covered_in : Mode → Automaton → List WordArc
+covered_in Buchi A = starts_of A
+covered_in Finite A = start_arc A ∷ []
 
 -- The arc's extensions by the transitions out of the state that it leads to, in their order.
 abbrev pub extensions_of : Automaton → WordArc → List WordArc
@@ -84,6 +98,15 @@ abbrev pub PassesWithAll : Automaton → Automaton → YesBody → ℕ → Type 
 PassesWithAll A B evidence e =
     IsLive (element_arcs A evidence) (live_in evidence) e → (f : ℕ) → IsLive (element_arcs A evidence) (live_in evidence) f →
     Passes A B (super_of B (arc_at A (element_arcs A evidence) e)) (super_of B (arc_at A (element_arcs A evidence) f))
+
+-- The element, if it is live, passes: if its state is accepting, a member of its set is.
+abbrev pub PassesAlone : Automaton → Automaton → YesBody → ℕ → Type 0
+PassesAlone A B evidence e = IsLive (element_arcs A evidence) (live_in evidence) e → PairPasses A B (pair_of B (arc_at A (element_arcs A evidence) e))
+
+-- What is asked of the live elements: their pairs pass, in finite mode each passes by itself.
+abbrev pub PassesBy : Mode → Automaton → Automaton → YesBody → ℕ → Type 0
+PassesBy Buchi A B evidence e = PassesWithAll A B evidence e
+PassesBy Finite A B evidence e = PassesAlone A B evidence e
 
 -- The numbers are those of elements.
 abbrev pub AreElements : YesBody → List ℕ → Type 0
@@ -105,33 +128,33 @@ element_checks A evidence item e element =
     ∷ []
 
 -- It is under the element that it names.
-abbrev pub under_checks : Automaton → Automaton → YesBody → ℕ → ℕ → Element → List Check
-under_checks A B evidence item e element = rule_at 12 (item + e) (IsUnder A B evidence e element.mark) ∷ []
+abbrev pub under_checks : Mode → Automaton → Automaton → YesBody → ℕ → ℕ → Element → List Check
+under_checks mode A B evidence item e element = rule_at 12 (item + e) (IsUnder mode A B evidence e element.mark) ∷ []
 
--- The cover names elements, and these are over the arcs of one letter.
-abbrev pub cover_checks : Automaton → Automaton → YesBody → ℕ → List Check
-cover_checks A B evidence item =
+-- The cover names elements, and these are over the arcs that it is for.
+abbrev pub cover_checks : Mode → Automaton → Automaton → YesBody → ℕ → List Check
+cover_checks mode A B evidence item =
     rule_at 1 item (AreElements evidence evidence.cover)
-    ∷ rule_at 13 item (AreOver A B evidence evidence.cover (starts_of A))
+    ∷ rule_at 13 item (AreOver mode A B evidence evidence.cover (covered_in mode A))
     ∷ []
 
 -- A step line names elements, and these are over the extensions of its element.
-abbrev pub step_checks : Automaton → Automaton → YesBody → ℕ → ℕ → StepLine → List Check
-step_checks A B evidence item k step =
+abbrev pub step_checks : Mode → Automaton → Automaton → YesBody → ℕ → ℕ → StepLine → List Check
+step_checks mode A B evidence item k step =
     rule_at 1 (item + k) ((step.element < length evidence.elements) × AreElements evidence step.by)
-    ∷ rule_at 14 (item + k) (AreOver A B evidence step.by (extensions_of A (arc_at A (element_arcs A evidence) step.element)))
+    ∷ rule_at 14 (item + k) (AreOver mode A B evidence step.by (extensions_of A (arc_at A (element_arcs A evidence) step.element)))
     ∷ []
 
--- Its pairs pass.
-abbrev pub pair_checks : Automaton → Automaton → YesBody → ℕ → ℕ → Element → List Check
-pair_checks A B evidence item e element = rule_at 15 (item + e) (PassesWithAll A B evidence e) ∷ []
+-- It passes.
+abbrev pub pair_checks : Mode → Automaton → Automaton → YesBody → ℕ → ℕ → Element → List Check
+pair_checks mode A B evidence item e element = rule_at 15 (item + e) (PassesBy mode A B evidence e) ∷ []
 
 -- The items, from this number on: the relation, then each element, then the cover, then each step line.
-abbrev pub inclusion_checks : ℕ → Automaton → Automaton → YesBody → List Check
-inclusion_checks item A B evidence =
+abbrev pub inclusion_checks : Mode → ℕ → Automaton → Automaton → YesBody → List Check
+inclusion_checks mode item A B evidence =
     order_checks B evidence item
     ++ (checks_of_each (element_checks A evidence (item + 1)) 0 evidence.elements
-    ++ (checks_of_each (under_checks A B evidence (item + 1)) 0 evidence.elements
-    ++ (cover_checks A B evidence (item + 1 + length evidence.elements)
-    ++ (checks_of_each (step_checks A B evidence (item + 2 + length evidence.elements)) 0 evidence.steps
-    ++ checks_of_each (pair_checks A B evidence (item + 1)) 0 evidence.elements))))
+    ++ (checks_of_each (under_checks mode A B evidence (item + 1)) 0 evidence.elements
+    ++ (cover_checks mode A B evidence (item + 1 + length evidence.elements)
+    ++ (checks_of_each (step_checks mode A B evidence (item + 2 + length evidence.elements)) 0 evidence.steps
+    ++ checks_of_each (pair_checks mode A B evidence (item + 1)) 0 evidence.elements))))

@@ -1,13 +1,12 @@
 -- What valid certificates show.
-use Rattle.std.specs.Prelude.{◌≡◌, true}
+use Rattle.std.specs.Prelude.{◌≡◌, ℕ, List, true}
 use Rattle.auto_core.specs.Automaton.{IsAutomaton}
-use Rattle.auto_core.specs.Accept.{Includes, SeparatesLasso}
+use Rattle.auto_core.specs.Accept.{Includes, SeparatesLasso, SeparatesWord}
 use Rattle.auto_core.specs.declared.parts.Lasso.{Lasso}
-use Rattle.auto_core.specs.declared.parts.Mode.TheVariants.{Buchi}
 use Rattle.ba_format.specs.declared.parts.Joined.{Joined}
 use Rattle.cert_text.specs.declared.types.Cert.{Cert}
 use Rattle.cert_text.specs.declared.types.YesBody.{YesBody}
-use Rattle.cert_text.specs.declared.types.Body.TheVariants.{Yes, NoLasso}
+use Rattle.cert_text.specs.declared.types.Body.TheVariants.{Yes, NoLasso, NoWord}
 use Rattle.cert_text.specs.WellFormed.{WellFormed}
 use Rattle.log_check.specs.declared.faults.Refusal.{Refusal}
 use Rattle.cert_check.specs.Rules.{KeepsRules, BreaksRule, has_checked_form}
@@ -18,13 +17,17 @@ pub record IsValid (pair : Joined) (cert : Cert) : Type 0 where
   pub form : has_checked_form cert ≡ true
   pub keeps : KeepsRules pair cert
 
--- If a valid certificate says yes, the second automaton accepts each lasso that the first accepts.
+-- If a valid certificate says yes, the second automaton accepts each lasso, in finite mode each word, that the first accepts.
 abbrev pub ValidYesIncludes : Type 0
-ValidYesIncludes = (pair : Joined) (cert : Cert) (evidence : YesBody) → IsAutomaton pair.first → IsAutomaton pair.second → cert.body ≡ Yes evidence → IsValid pair cert → Includes pair.first pair.second Buchi
+ValidYesIncludes = (pair : Joined) (cert : Cert) (evidence : YesBody) → IsAutomaton pair.first → IsAutomaton pair.second → cert.body ≡ Yes evidence → IsValid pair cert → Includes pair.first pair.second cert.mode
 
 -- If a valid certificate says no by a lasso, the first automaton accepts it and the second does not.
 abbrev pub ValidNoSeparates : Type 0
 ValidNoSeparates = (pair : Joined) (cert : Cert) (lasso : Lasso) → cert.body ≡ NoLasso lasso → IsValid pair cert → SeparatesLasso pair.first pair.second lasso.prefix lasso.turn
+
+-- If it says no by a word, the first automaton accepts that and the second does not.
+abbrev pub ValidNoSeparatesByWord : Type 0
+ValidNoSeparatesByWord = (pair : Joined) (cert : Cert) (word : List ℕ) → cert.body ≡ NoWord word → IsValid pair cert → SeparatesWord pair.first pair.second word
 
 -- A certificate breaks one rule first, at most.
 abbrev pub OneRuleBreaks : Type 0

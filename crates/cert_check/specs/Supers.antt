@@ -1,44 +1,61 @@
--- What the check holds of a certificate of inclusion: its relation, and of each element the arc and its word's graph.
-use Rattle.std.specs.Prelude.{◌≡◌, ℕ, ◌*◌, ◌<◌, ◌↔◌, ◌⊎◌, true, false, List, [], length, take, drop, slice_index_or, Contains}
+-- What the check holds of a certificate of inclusion: of each element the arc, and its word's graph, in finite mode its word's set.
+use Rattle.std.specs.Prelude.{◌≡◌, ℕ, ◌+◌, ◌*◌, ◌/◌, ◌<◌, ◌↔◌, ◌⊎◌, true, false, List, [], length, take, drop, slice_index_or, Contains}
 use Rattle.auto_core.specs.Automaton.{Automaton}
-use Rattle.auto_core.specs.Game.{Holds}
 use Rattle.auto_core.specs.Graph.{SameGraph, graph_of, WordArc, IsReal, arc_at}
-use Rattle.bit_rel.specs.Relation.{Relation}
+use Rattle.auto_core.specs.Pairs.{set_of}
+use Rattle.auto_core.specs.Rows.{HasBit}
+use Rattle.auto_core.specs.declared.parts.Mode.{Mode}
+use Rattle.auto_core.specs.declared.parts.Mode.TheVariants.{Buchi, Finite}
 use Rattle.graph_rows.specs.Block.{width_of, block_graph, IsFormed}
+use Rattle.set_rows.specs.Sets.{IsRow}
 use Rattle.supergraph.specs.declared.arcs.Arc.{Arc}
 use Rattle.supergraph.specs.Stands.{with_word}
-use Rattle.cert_text.specs.declared.types.RelBlock.{RelBlock}
 use Rattle.cert_text.specs.declared.types.YesBody.{YesBody}
-use Rattle.log_check.specs.Blocks.{pairs_of}
 use Rattle.cert_check.specs.Inclusion.{element_arcs, live_in}
 use Rattle.cert_check.specs.declared.elements.Supers.{Supers}
 
--- The words of a block for a graph of n states.
-abbrev pub block_len : ℕ → ℕ
-block_len n = 2 * n * width_of n
+-- The words of a block over n states: of two planes of rows for a graph, in finite mode of the one row of a set.
+abbrev pub block_len : Mode → ℕ → ℕ
+block_len Buchi n = 2 * n * width_of n
+block_len Finite n = (n + 63) / 64
 
--- The block of the element with this number.
+-- The block of the element with this number; each block has so many words.
 abbrev pub block_at : ℕ → List ℕ → ℕ → List ℕ
-block_at n blocks e = take (block_len n) (drop (e * block_len n) blocks)
+block_at words blocks e = take words (drop (e * words) blocks)
 
 -- No arc.
 abbrev pub no_arc : Arc
 no_arc = record { from = 0; to = 0; accepting = false }
 
--- The arc is that of x, which a run of A has, and the block has the graph of its word.
-pub record StandFor (A B : Automaton) (held : Arc) (block : List ℕ) (x : WordArc) : Type 0 where
-  pub real : IsReal A x
+-- The block is one over n states.
+abbrev pub IsBlock : Mode → ℕ → List ℕ → Type 0
+IsBlock Buchi n block = IsFormed n block
+IsBlock Finite n block = IsRow n block
+
+-- What is asked of an arc: a run has it, in finite mode only that it ends in a state.
+abbrev pub IsArcIn : Mode → Automaton → WordArc → Type 0
+IsArcIn Buchi A x = IsReal A x
+IsArcIn Finite A x = x.to < A.states
+
+-- The block has the graph of the word, in finite mode the word's set.
+abbrev pub HasWord : Mode → Automaton → List ℕ → List ℕ → Type 0
+HasWord Buchi B block w = SameGraph (block_graph B.states block) (graph_of B w)
+HasWord Finite B block w = (q : ℕ) → HasBit block q ↔ set_of B w q
+
+-- The arc is that of x, and the block has what its word leads to.
+pub record StandFor (mode : Mode) (A B : Automaton) (held : Arc) (block : List ℕ) (x : WordArc) : Type 0 where
+  pub real : IsArcIn mode A x
   pub arc : with_word held x.word ≡ x
-  pub formed : IsFormed B.states block
-  pub graph : SameGraph (block_graph B.states block) (graph_of B x.word)
+  pub formed : IsBlock mode B.states block
+  pub word : HasWord mode B block x.word
 
 -- The arcs and blocks of the first n elements.
-pub record AreSupers (A B : Automaton) (evidence : YesBody) (n : ℕ) (supers : Supers) : Type 0 where
-  pub states : supers.states ≡ B.states
+pub record AreSupers (mode : Mode) (A B : Automaton) (evidence : YesBody) (n : ℕ) (supers : Supers) : Type 0 where
+  pub words : supers.words ≡ block_len mode B.states
   pub count : length supers.arcs.items ≡ n
-  pub size : length supers.blocks.items ≡ n * block_len B.states
+  pub size : length supers.blocks.items ≡ n * block_len mode B.states
   pub each : (e : ℕ) → e < n →
-      StandFor A B (slice_index_or supers.arcs.items e no_arc) (block_at B.states supers.blocks.items e) (arc_at A (element_arcs A evidence) e)
+      StandFor mode A B (slice_index_or supers.arcs.items e no_arc) (block_at (block_len mode B.states) supers.blocks.items e) (arc_at A (element_arcs A evidence) e)
 
 -- The arc of the element with this number.
 abbrev pub held_arc : Supers → ℕ → Arc

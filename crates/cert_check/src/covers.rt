@@ -1,15 +1,16 @@
-//! The elements over others: those that are over dropped ones, and those over the arcs of one letter.
+//! The elements over others: those that are over dropped ones, and those over the arcs that the cover is for.
 
 ghost use Rattle.std.specs.Prelude.{◌≡◌, ◌+◌, ◌^◌, ◌<◌, ◌↔◌, ℕ, length, slice_index_or, true, IsTrue};
-ghost use Rattle.auto_core.specs.Graph.{WordArc, arc_at};
-ghost use Rattle.graph_rows.specs.Block.{IsFormed};
+ghost use Rattle.auto_core.specs.Graph.{WordArc};
+ghost use Rattle.auto_core.specs.declared.parts.Mode.TheVariants.{Buchi, Finite};
 ghost use Rattle.log_check.specs.Checks.{Tells, checks_of_each};
-ghost use Rattle.cert_check.specs.Inclusion.{element_arcs, live_in, IsOver, IsUnder, AreOver, AreElements, NamesElement, starts_of, extensions_of, under_checks, cover_checks, step_checks, no_element};
-ghost use Rattle.log_check.specs.Blocks.{IsRelationOf};
-ghost use Rattle.cert_check.specs.Supers.{block_len, StandFor, AreSupers};
+ghost use Rattle.cert_check.specs.Inclusion.{live_in, IsOver, IsUnder, AreOver, AreElements, NamesElement, covered_in, under_checks, cover_checks, no_element};
+ghost use Rattle.log_check.specs.Blocks.{IsBlockRelation};
+ghost use Rattle.cert_check.specs.Supers.{block_len, IsBlock, StandFor, AreSupers};
 
+use crate::blocks;
 use crate::elements::Supers;
-use auto_core::Auto;
+use auto_core::{Auto, Mode};
 use bit_rel::Rel;
 use cert_text::{Mark, YesBody};
 use log_check::{CheckFault, Refusal};
@@ -23,8 +24,9 @@ pub fn is_live(evidence: &YesBody, e: u32) -> bool
     matches!(evidence.elements.as_slice()[e as usize].mark, Mark::Live)
 }
 
-/// Tells whether the element `j` is live and its supergraph subsumes that of the arc with this block.
+/// Tells whether the element `j` is live and subsumes the arc with this block.
 pub fn is_over(
+    mode: Mode,
     first: &Auto,
     second: &Auto,
     evidence: &YesBody,
@@ -34,14 +36,15 @@ pub fn is_over(
     arc: &Arc,
     block: &[u64],
 ) -> bool
-    requires supers { AreSupers first.now second.now evidence.now (length evidence.now.elements) supers.now }
-    requires order { IsRelationOf second.now.states evidence.now.order order.now }
+    requires supers { AreSupers mode first.now second.now evidence.now (length evidence.now.elements) supers.now }
+    requires order { IsBlockRelation second.now.states evidence.now.order order.now }
     requires element { j < length evidence.now.elements }
-    requires formed { IsFormed second.now.states block.now }
-    ensures { (x : WordArc) → StandFor first.now second.now arc.now block.now x → IsTrue result ↔ IsOver first.now second.now evidence.now j x }
+    requires formed { IsBlock mode second.now.states block.now }
+    ensures { (x : WordArc) → StandFor mode first.now second.now arc.now block.now x → IsTrue result ↔ IsOver mode first.now second.now evidence.now j x }
 {
     is_live(evidence, j)
-        && supergraph::subsumes(
+        && blocks::subsumes(
+            mode,
             order,
             &supers.arcs[j as usize],
             supers.block(j as usize),
@@ -60,6 +63,7 @@ pub fn are_elements(evidence: &YesBody, numbers: &[u32]) -> bool
 
 /// Tells whether the element `e` is under the one that it names.
 fn is_under(
+    mode: Mode,
     first: &Auto,
     second: &Auto,
     evidence: &YesBody,
@@ -68,15 +72,16 @@ fn is_under(
     e: usize,
     mark: &Mark,
 ) -> bool
-    requires supers { AreSupers first.now second.now evidence.now (length evidence.now.elements) supers.now }
-    requires order { IsRelationOf second.now.states evidence.now.order order.now }
+    requires supers { AreSupers mode first.now second.now evidence.now (length evidence.now.elements) supers.now }
+    requires order { IsBlockRelation second.now.states evidence.now.order order.now }
     requires number { e < length evidence.now.elements }
     requires names { NamesElement (length evidence.now.elements) mark.now }
-    ensures { IsTrue result ↔ IsUnder first.now second.now evidence.now e mark.now }
+    ensures { IsTrue result ↔ IsUnder mode first.now second.now evidence.now e mark.now }
 {
     match mark {
         Mark::Live => true,
         Mark::Under(j) => is_over(
+            mode,
             first,
             second,
             evidence,
@@ -91,6 +96,7 @@ fn is_under(
 
 /// Tests that each element that is not live is under the one that it names. `item` is the number of the first one's item.
 pub fn check_under(
+    mode: Mode,
     first: &Auto,
     second: &Auto,
     evidence: &YesBody,
@@ -98,16 +104,25 @@ pub fn check_under(
     order: &Rel,
     supers: &Supers,
 ) -> Result<(), CheckFault>
-    requires supers { AreSupers first.now second.now evidence.now (length evidence.now.elements) supers.now }
-    requires order { IsRelationOf second.now.states evidence.now.order order.now }
+    requires supers { AreSupers mode first.now second.now evidence.now (length evidence.now.elements) supers.now }
+    requires order { IsBlockRelation second.now.states evidence.now.order order.now }
     requires few { length evidence.now.elements < 10 ^ 9 }
     requires few_items { item + length evidence.now.elements < 2 ^ 32 }
     requires names { (e : ℕ) → e < length evidence.now.elements → NamesElement (length evidence.now.elements) (slice_index_or evidence.now.elements e no_element).mark }
-    ensures { Tells (checks_of_each (under_checks first.now second.now evidence.now item) 0 evidence.now.elements) result }
+    ensures { Tells (checks_of_each (under_checks mode first.now second.now evidence.now item) 0 evidence.now.elements) result }
 {
     let elements = evidence.elements.as_slice();
     for e in 0..elements.len() {
-        if !is_under(first, second, evidence, order, supers, e, &elements[e].mark) {
+        if !is_under(
+            mode,
+            first,
+            second,
+            evidence,
+            order,
+            supers,
+            e,
+            &elements[e].mark,
+        ) {
             return Err(CheckFault::Refused(Refusal {
                 rule: 12,
                 item: item + e as u32,
@@ -118,7 +133,7 @@ pub fn check_under(
 }
 
 /// Tells whether the elements of the cover are over the arcs of one letter.
-fn covers_starts(
+fn covers_letters(
     first: &Auto,
     second: &Auto,
     evidence: &YesBody,
@@ -126,23 +141,30 @@ fn covers_starts(
     supers: &Supers,
     fresh: &mut [u64],
 ) -> bool
-    requires supers { AreSupers first.now second.now evidence.now (length evidence.now.elements) supers.now }
-    requires order { IsRelationOf second.now.states evidence.now.order order.now }
+    requires supers { AreSupers Buchi first.now second.now evidence.now (length evidence.now.elements) supers.now }
+    requires order { IsBlockRelation second.now.states evidence.now.order order.now }
     requires names { AreElements evidence.now evidence.now.cover }
-    requires room { length fresh.old ≡ block_len second.now.states }
-    ensures told { IsTrue result ↔ AreOver first.now second.now evidence.now evidence.now.cover (starts_of first.now) }
+    requires room { length fresh.old ≡ block_len Buchi second.now.states }
+    ensures told { IsTrue result ↔ AreOver Buchi first.now second.now evidence.now evidence.now.cover (covered_in Buchi first.now) }
     ensures room { length fresh.new ≡ length fresh.old }
 {
     let cover = evidence.cover.as_slice();
-    let transitions = first.transitions();
-    if cover.len() != transitions.len() {
+    let count = first.transitions().len();
+    if cover.len() != count {
         return false;
     }
-    for t in 0..transitions.len() {
-        graph_rows::letter(second, transitions[t].label, fresh);
-        let arc = supergraph::base(first, t as u32);
+    for t in 0..count {
+        let arc = blocks::base(first, second, t as u32, fresh);
         if !is_over(
-            first, second, evidence, order, supers, cover[t], &arc, fresh,
+            Mode::Buchi,
+            first,
+            second,
+            evidence,
+            order,
+            supers,
+            cover[t],
+            &arc,
+            fresh,
         ) {
             return false;
         }
@@ -150,8 +172,66 @@ fn covers_starts(
     true
 }
 
+/// Tells whether the one element of the cover is over the empty word.
+fn covers_start(
+    first: &Auto,
+    second: &Auto,
+    evidence: &YesBody,
+    order: &Rel,
+    supers: &Supers,
+    fresh: &mut [u64],
+) -> bool
+    requires supers { AreSupers Finite first.now second.now evidence.now (length evidence.now.elements) supers.now }
+    requires order { IsBlockRelation second.now.states evidence.now.order order.now }
+    requires names { AreElements evidence.now evidence.now.cover }
+    requires room { length fresh.old ≡ block_len Finite second.now.states }
+    ensures told { IsTrue result ↔ AreOver Finite first.now second.now evidence.now evidence.now.cover (covered_in Finite first.now) }
+    ensures room { length fresh.new ≡ length fresh.old }
+{
+    let cover = evidence.cover.as_slice();
+    if cover.len() != 1 {
+        return false;
+    }
+    let arc = blocks::start(first, second, fresh);
+    is_over(
+        Mode::Finite,
+        first,
+        second,
+        evidence,
+        order,
+        supers,
+        cover[0],
+        &arc,
+        fresh,
+    )
+}
+
+/// Tells whether the elements of the cover are over the arcs that it is for.
+fn covers_all(
+    mode: Mode,
+    first: &Auto,
+    second: &Auto,
+    evidence: &YesBody,
+    order: &Rel,
+    supers: &Supers,
+    fresh: &mut [u64],
+) -> bool
+    requires supers { AreSupers mode first.now second.now evidence.now (length evidence.now.elements) supers.now }
+    requires order { IsBlockRelation second.now.states evidence.now.order order.now }
+    requires names { AreElements evidence.now evidence.now.cover }
+    requires room { length fresh.old ≡ block_len mode second.now.states }
+    ensures told { IsTrue result ↔ AreOver mode first.now second.now evidence.now evidence.now.cover (covered_in mode first.now) }
+    ensures room { length fresh.new ≡ length fresh.old }
+{
+    match mode {
+        Mode::Buchi => covers_letters(first, second, evidence, order, supers, fresh),
+        Mode::Finite => covers_start(first, second, evidence, order, supers, fresh),
+    }
+}
+
 /// Tests the cover, which is this item.
 pub fn check_cover(
+    mode: Mode,
     first: &Auto,
     second: &Auto,
     evidence: &YesBody,
@@ -160,16 +240,16 @@ pub fn check_cover(
     supers: &Supers,
     fresh: &mut [u64],
 ) -> Result<(), CheckFault>
-    requires supers { AreSupers first.now second.now evidence.now (length evidence.now.elements) supers.now }
-    requires order { IsRelationOf second.now.states evidence.now.order order.now }
-    requires room { length fresh.old ≡ block_len second.now.states }
-    ensures tells { Tells (cover_checks first.now second.now evidence.now item) result }
+    requires supers { AreSupers mode first.now second.now evidence.now (length evidence.now.elements) supers.now }
+    requires order { IsBlockRelation second.now.states evidence.now.order order.now }
+    requires room { length fresh.old ≡ block_len mode second.now.states }
+    ensures tells { Tells (cover_checks mode first.now second.now evidence.now item) result }
     ensures room { length fresh.new ≡ length fresh.old }
 {
     if !are_elements(evidence, evidence.cover.as_slice()) {
         return Err(CheckFault::Refused(Refusal { rule: 1, item }));
     }
-    if !covers_starts(first, second, evidence, order, supers, fresh) {
+    if !covers_all(mode, first, second, evidence, order, supers, fresh) {
         return Err(CheckFault::Refused(Refusal { rule: 13, item }));
     }
     Ok(())

@@ -1,23 +1,24 @@
-//! The elements of a certificate of inclusion: where they come from, their arcs and their words' graphs.
+//! The elements of a certificate of inclusion: where they come from, their arcs, and their words' graphs or sets.
 
-ghost use Rattle.std.specs.Prelude.{◌≡◌, ◌+◌, ◌++◌, [], ◌∷◌, ◌*◌, ◌^◌, ◌<◌, ◌≤◌, ◌↔◌, ℕ, All, length, slice_index_or, vec_len, IfOk, IsTrue, MatchOption};
-ghost use Rattle.auto_core.specs.Graph.{arc_at, arc_of};
-ghost use Rattle.auto_core.specs.declared.parts.Origin.TheVariants.{Start};
+ghost use Rattle.std.specs.Prelude.{◌≡◌, ◌+◌, ◌++◌, [], ◌∷◌, ◌*◌, ◌^◌, ◌<◌, ◌≤◌, ◌↔◌, ℕ, true, All, length, slice_index_or, IfOk, IsTrue, MatchOption};
+ghost use Rattle.auto_core.specs.Graph.{arc_of};
+ghost use Rattle.cert_text.specs.WellFormed.{is_origin};
 ghost use Rattle.log_check.specs.Checks.{AllHold, FirstBroken, Tells, checks_of_each};
 ghost use Rattle.cert_check.specs.Inclusion.{element_arcs, NamesOrigin, NamesElement, HasEarlierParent, GoesOn, no_element, element_checks};
-ghost use Rattle.cert_check.specs.Supers.{block_at, block_len, no_arc, StandFor, AreSupers};
+ghost use Rattle.cert_check.specs.Supers.{block_at, block_len, StandFor, AreSupers};
 
-use auto_core::{Auto, Memory, Origin};
+use crate::blocks;
+use auto_core::{Auto, Memory, Mode, Origin};
 use cert_text::{Element, Mark, YesBody};
 use log_check::{CheckFault, Refusal};
 use std::alloc::Global;
 use supergraph::Arc;
 
-/// The arcs of the first elements, and the graphs of their words in blocks one after another.
+/// The arcs of the first elements, and their blocks one after another.
 #[derive(Drop)]
 pub struct Supers {
-    /// How many states the graphs have.
-    pub states: u32,
+    /// How many words a block has.
+    pub words: usize,
     /// The arc of each element.
     pub arcs: Vec<Arc>,
     /// The block of each element.
@@ -27,19 +28,11 @@ pub struct Supers {
 impl Supers {
     /// The block of the element with this number.
     pub fn block(&self, e: usize) -> &[u64]
-        requires { e * block_len self.now.states + block_len self.now.states ≤ length self.now.blocks.items }
-        ensures { result.now ≡ block_at self.now.states self.now.blocks.items e }
+        requires { e * self.now.words + self.now.words ≤ length self.now.blocks.items }
+        ensures { result.now ≡ block_at self.now.words self.now.blocks.items e }
     {
-        let words = graph_rows::words_of(self.states);
-        &self.blocks[e * words..e * words + words]
+        &self.blocks[e * self.words..e * self.words + self.words]
     }
-}
-
-/// Room for one block.
-pub fn empty_block(alloc: Global, states: u32) -> Result<Vec<u64>, Memory>
-    ensures { IfOk result (λ block. vec_len block ≡ block_len states) }
-{
-    Ok(vec![in alloc; 0; graph_rows::words_of(states)]?)
 }
 
 fn names_origin(first: &Auto, count: usize, origin: &Origin) -> bool
@@ -73,6 +66,7 @@ fn has_earlier_parent(e: usize, origin: &Origin) -> bool
 
 /// Tells whether the transition goes on from the parent, which is among the elements before.
 fn goes_on(
+    mode: Mode,
     first: &Auto,
     second: &Auto,
     evidence: &YesBody,
@@ -80,7 +74,7 @@ fn goes_on(
     e: usize,
     origin: &Origin,
 ) -> bool
-    requires supers { AreSupers first.now second.now evidence.now e supers.now }
+    requires supers { AreSupers mode first.now second.now evidence.now e supers.now }
     requires names { NamesOrigin first.now (length evidence.now.elements) origin.now }
     requires earlier { HasEarlierParent e origin.now }
     ensures { IsTrue result ↔ GoesOn first.now (element_arcs first.now evidence.now) origin.now }
@@ -95,6 +89,7 @@ fn goes_on(
 
 /// The rule of what the element itself names that is broken first, if one is.
 fn broken_rule(
+    mode: Mode,
     first: &Auto,
     second: &Auto,
     evidence: &YesBody,
@@ -102,7 +97,7 @@ fn broken_rule(
     e: usize,
     element: &Element,
 ) -> Option<u32>
-    requires supers { AreSupers first.now second.now evidence.now e supers.now }
+    requires supers { AreSupers mode first.now second.now evidence.now e supers.now }
     ensures { (item : ℕ) → MatchOption result
         (AllHold (element_checks first.now evidence.now item e element.now))
         (λ rule. FirstBroken (element_checks first.now evidence.now item e element.now) (record { rule = rule; item = item + e })) }
@@ -117,14 +112,15 @@ fn broken_rule(
     if !has_earlier_parent(e, &element.origin) {
         return Some(10);
     }
-    if !goes_on(first, second, evidence, supers, e, &element.origin) {
+    if !goes_on(mode, first, second, evidence, supers, e, &element.origin) {
         return Some(11);
     }
     None
 }
 
-/// Writes the graph of the element's word, from the elements before, and answers its arc.
+/// Writes the block of the element, from the elements before, and answers its arc.
 fn compute(
+    mode: Mode,
     first: &Auto,
     second: &Auto,
     evidence: &YesBody,
@@ -133,32 +129,36 @@ fn compute(
     origin: &Origin,
     fresh: &mut [u64],
 ) -> Arc
-    requires supers { AreSupers first.now second.now evidence.now e supers.now }
-    requires some { ¬ (origin.now ≡ Start) }
+    requires supers { AreSupers mode first.now second.now evidence.now e supers.now }
+    requires begun { is_origin mode origin.now ≡ true }
     requires names { NamesOrigin first.now (length evidence.now.elements) origin.now }
     requires earlier { HasEarlierParent e origin.now }
     requires leaves { GoesOn first.now (element_arcs first.now evidence.now) origin.now }
-    requires room { length fresh.old ≡ block_len second.now.states }
-    ensures stands { StandFor first.now second.now result fresh.new (arc_of first.now (element_arcs first.now evidence.now) origin.now) }
+    requires room { length fresh.old ≡ block_len mode second.now.states }
+    ensures stands { StandFor mode first.now second.now result fresh.new (arc_of first.now (element_arcs first.now evidence.now) origin.now) }
     ensures room { length fresh.new ≡ length fresh.old }
 {
     match origin {
-        Origin::Start => unreachable!(),
-        Origin::Base(t) => {
-            graph_rows::letter(second, first.transitions()[*t as usize].label, fresh);
-            supergraph::base(first, *t)
-        }
+        Origin::Start => blocks::start(first, second, fresh),
+        Origin::Base(t) => blocks::base(first, second, *t, fresh),
         Origin::Next(p, t) => {
-            let label = first.transitions()[*t as usize].label;
-            graph_rows::extend(second, label, supers.block(*p as usize), fresh);
-            supergraph::extend(first, &supers.arcs[*p as usize], *t)
+            let arc = &supers.arcs[*p as usize];
+            blocks::extend(
+                mode,
+                first,
+                second,
+                arc,
+                supers.block(*p as usize),
+                *t,
+                fresh,
+            )
         }
     }
 }
 
 /// Adds an arc and a block.
 fn add(supers: &mut Supers, arc: Arc, block: &[u64]) -> Result<(), Memory>
-    ensures states { supers.new.states ≡ supers.old.states }
+    ensures words { supers.new.words ≡ supers.old.words }
     ensures arcs { IfOk result (λ _. supers.new.arcs.items ≡ supers.old.arcs.items ++ arc ∷ []) }
     ensures blocks { IfOk result (λ _. supers.new.blocks.items ≡ supers.old.blocks.items ++ block.now) }
 {
@@ -169,6 +169,7 @@ fn add(supers: &mut Supers, arc: Arc, block: &[u64]) -> Result<(), Memory>
 
 /// Adds the arc and the block of the element `e` with this origin.
 fn add_element(
+    mode: Mode,
     first: &Auto,
     second: &Auto,
     evidence: &YesBody,
@@ -177,23 +178,24 @@ fn add_element(
     origin: &Origin,
     fresh: &mut [u64],
 ) -> Result<(), Memory>
-    requires supers { AreSupers first.now second.now evidence.now e supers.old }
+    requires supers { AreSupers mode first.now second.now evidence.now e supers.old }
     requires element { e < length evidence.now.elements }
     requires is { origin.now ≡ (slice_index_or evidence.now.elements e no_element).origin }
-    requires some { ¬ (origin.now ≡ Start) }
+    requires begun { is_origin mode origin.now ≡ true }
     requires names { NamesOrigin first.now (length evidence.now.elements) origin.now }
     requires earlier { HasEarlierParent e origin.now }
     requires leaves { GoesOn first.now (element_arcs first.now evidence.now) origin.now }
-    requires room { length fresh.old ≡ block_len second.now.states }
-    ensures supers { IfOk result (λ _. AreSupers first.now second.now evidence.now (e + 1) supers.new) }
+    requires room { length fresh.old ≡ block_len mode second.now.states }
+    ensures supers { IfOk result (λ _. AreSupers mode first.now second.now evidence.now (e + 1) supers.new) }
     ensures room { length fresh.new ≡ length fresh.old }
 {
-    let arc = compute(first, second, evidence, supers, e, origin, fresh);
+    let arc = compute(mode, first, second, evidence, supers, e, origin, fresh);
     add(supers, arc, fresh)
 }
 
 /// Adds the arcs and the blocks of all elements, up to one that does not name what is there or go on from an earlier one.
 fn fill(
+    mode: Mode,
     first: &Auto,
     second: &Auto,
     evidence: &YesBody,
@@ -203,15 +205,15 @@ fn fill(
 ) -> Result<(), CheckFault>
     requires few { length evidence.now.elements < 10 ^ 9 }
     requires few_items { item + length evidence.now.elements < 2 ^ 32 }
-    requires begun { All (λ element. ¬ (element.origin ≡ Start)) evidence.now.elements }
-    requires none { AreSupers first.now second.now evidence.now 0 supers.old }
-    requires room { length fresh.old ≡ block_len second.now.states }
+    requires begun { All (λ element. is_origin mode element.origin ≡ true) evidence.now.elements }
+    requires none { AreSupers mode first.now second.now evidence.now 0 supers.old }
+    requires room { length fresh.old ≡ block_len mode second.now.states }
     ensures tells { Tells (checks_of_each (element_checks first.now evidence.now item) 0 evidence.now.elements) result }
-    ensures supers { IfOk result (λ _. AreSupers first.now second.now evidence.now (length evidence.now.elements) supers.new) }
+    ensures supers { IfOk result (λ _. AreSupers mode first.now second.now evidence.now (length evidence.now.elements) supers.new) }
 {
     let elements = evidence.elements.as_slice();
     for e in 0..elements.len() {
-        match broken_rule(first, second, evidence, supers, e, &elements[e]) {
+        match broken_rule(mode, first, second, evidence, supers, e, &elements[e]) {
             Some(rule) => {
                 return Err(CheckFault::Refused(Refusal {
                     rule,
@@ -221,6 +223,7 @@ fn fill(
             None => {}
         }
         add_element(
+            mode,
             first,
             second,
             evidence,
@@ -233,10 +236,11 @@ fn fill(
     Ok(())
 }
 
-/// The arcs and graphs of all elements, if each names what is there and goes on from an earlier one. `item` is the number of the first
+/// The arcs and blocks of all elements, if each names what is there and goes on from an earlier one. `item` is the number of the first
 /// one's item.
 pub fn checked_elements(
     alloc: Global,
+    mode: Mode,
     first: &Auto,
     second: &Auto,
     evidence: &YesBody,
@@ -244,17 +248,17 @@ pub fn checked_elements(
 ) -> Result<Supers, CheckFault>
     requires few { length evidence.now.elements < 10 ^ 9 }
     requires few_items { item + length evidence.now.elements < 2 ^ 32 }
-    requires begun { All (λ element. ¬ (element.origin ≡ Start)) evidence.now.elements }
+    requires begun { All (λ element. is_origin mode element.origin ≡ true) evidence.now.elements }
     ensures tells { Tells (checks_of_each (element_checks first.now evidence.now item) 0 evidence.now.elements) result }
-    ensures supers { IfOk result (AreSupers first.now second.now evidence.now (length evidence.now.elements)) }
+    ensures supers { IfOk result (AreSupers mode first.now second.now evidence.now (length evidence.now.elements)) }
 {
     let states = second.states();
     let mut supers = Supers {
-        states,
+        words: blocks::words_of(mode, states),
         arcs: Vec::new(alloc),
         blocks: Vec::new(alloc),
     };
-    let mut fresh = empty_block(alloc, states)?;
-    fill(first, second, evidence, item, &mut supers, &mut fresh)?;
+    let mut fresh = blocks::empty_block(alloc, mode, states)?;
+    fill(mode, first, second, evidence, item, &mut supers, &mut fresh)?;
     Ok(supers)
 }

@@ -11,6 +11,6 @@ pub enum Verdict {
     Apart(Lasso),
     /// The first accepts the word and the second does not.
     ApartWord(Word),
-    /// A list of one more supergraph than this limit.
+    /// A list of one element more than this limit.
     Listed(u32),
 }

@@ -1,13 +1,13 @@
 //! Checks that the evidence of an inclusion is a closed set.
 
-ghost use Rattle.std.specs.Prelude.{◌≡◌, ◌+◌, ◌^◌, ◌<◌, All, IfOk, length};
+ghost use Rattle.std.specs.Prelude.{◌≡◌, ◌+◌, ◌^◌, ◌<◌, true, All, IfOk, length};
 ghost use Rattle.auto_core.specs.Automaton.{IsAutomaton};
-ghost use Rattle.auto_core.specs.declared.parts.Origin.TheVariants.{Start};
+ghost use Rattle.cert_text.specs.WellFormed.{is_origin};
 ghost use Rattle.log_check.specs.Checks.{Tells};
 ghost use Rattle.cert_check.specs.Inclusion.{inclusion_checks};
 
-use crate::{covers, elements, orders, pairs, steps};
-use auto_core::Auto;
+use crate::{blocks, covers, elements, orders, passing, steps};
+use auto_core::{Auto, Mode};
 use cert_text::YesBody;
 use log_check::CheckFault;
 use std::alloc::Global;
@@ -15,6 +15,7 @@ use std::alloc::Global;
 /// Tests the evidence by all its rules, in their order, on the automata that the logs lead to. `item` is the number of its first item.
 pub fn check_inclusion(
     alloc: Global,
+    mode: Mode,
     first: &Auto,
     second: &Auto,
     evidence: &YesBody,
@@ -23,16 +24,17 @@ pub fn check_inclusion(
     requires few { length evidence.now.elements < 10 ^ 9 }
     requires few_items { item + 2 + length evidence.now.elements + length evidence.now.steps < 2 ^ 32 }
     requires few_steps { length evidence.now.steps < 10 ^ 9 }
-    requires begun { All (λ element. ¬ (element.origin ≡ Start)) evidence.now.elements }
-    ensures tells { Tells (inclusion_checks item first.now second.now evidence.now) result }
+    requires begun { All (λ element. is_origin mode element.origin ≡ true) evidence.now.elements }
+    ensures tells { Tells (inclusion_checks mode item first.now second.now evidence.now) result }
     ensures automaton { IfOk result (λ _. IsAutomaton second.now) }
 {
     let count = evidence.elements.as_slice().len() as u32;
     let order = orders::checked_order(alloc, second, evidence, item)?;
-    let supers = elements::checked_elements(alloc, first, second, evidence, item + 1)?;
-    let mut fresh = elements::empty_block(alloc, second.states())?;
-    covers::check_under(first, second, evidence, item + 1, &order, &supers)?;
+    let supers = elements::checked_elements(alloc, mode, first, second, evidence, item + 1)?;
+    let mut fresh = blocks::empty_block(alloc, mode, second.states())?;
+    covers::check_under(mode, first, second, evidence, item + 1, &order, &supers)?;
     covers::check_cover(
+        mode,
         first,
         second,
         evidence,
@@ -42,6 +44,7 @@ pub fn check_inclusion(
         &mut fresh,
     )?;
     steps::check_steps(
+        mode,
         first,
         second,
         evidence,
@@ -50,5 +53,5 @@ pub fn check_inclusion(
         &supers,
         &mut fresh,
     )?;
-    pairs::check_pairs(alloc, first, second, evidence, item + 1, &supers)
+    passing::check_passing(alloc, mode, first, second, evidence, item + 1, &supers)
 }

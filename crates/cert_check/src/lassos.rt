@@ -18,7 +18,8 @@ pub fn are_labels(word: &[u32], labels: u32) -> bool
     word.iter().all(|letter| *letter < labels)
 }
 
-fn copy_word(alloc: Global, word: &Word) -> Result<Word, Memory>
+/// The same word once more.
+pub fn copy_word(alloc: Global, word: &Word) -> Result<Word, Memory>
     ensures { IfOk result (λ copy. copy ≡ word.now) }
 {
     let mut copy = List::new(alloc);

@@ -1,6 +1,6 @@
 //! What valid certificates show, and which rule others break first: each law is the contract of a function that does nothing.
 
-ghost use Rattle.cert_check.specs.Laws.{ValidYesIncludes, ValidNoSeparates, OneRuleBreaks, NoneBreaksWhereKept};
+ghost use Rattle.cert_check.specs.Laws.{ValidYesIncludes, ValidNoSeparates, ValidNoSeparatesByWord, OneRuleBreaks, NoneBreaksWhereKept};
 
 /// A valid certificate that says yes shows an inclusion.
 pub fn valid_yes_includes()
@@ -10,6 +10,11 @@ pub fn valid_yes_includes()
 /// A valid certificate that says no by a lasso shows that it separates the two automata.
 pub fn valid_no_separates()
     ensures { ValidNoSeparates }
+{}
+
+/// A valid certificate that says no by a word shows that it separates the two automata.
+pub fn valid_no_separates_by_word()
+    ensures { ValidNoSeparatesByWord }
 {}
 
 /// A certificate breaks one rule first, at most.

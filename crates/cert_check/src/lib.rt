@@ -1,6 +1,7 @@
 //! Checks a certificate for two automata, whoever wrote it, and says what it shows.
 #![tactic(auto)]
 
+mod blocks;
 mod checking;
 mod covers;
 mod elements;
@@ -10,7 +11,9 @@ mod lassos;
 pub mod laws;
 mod orders;
 mod pairs;
+mod passing;
 mod steps;
+mod words;
 
 pub use checking::{can_check, check};
 pub use faults::Verdict;

@@ -2,7 +2,7 @@
 
 ghost use Rattle.std.specs.Prelude.{IfOk};
 ghost use Rattle.log_check.specs.Checks.{Tells};
-ghost use Rattle.log_check.specs.Blocks.{IsRelationOf};
+ghost use Rattle.log_check.specs.Blocks.{IsBlockRelation};
 ghost use Rattle.cert_check.specs.Inclusion.{order_checks};
 
 use auto_core::Auto;
@@ -20,7 +20,7 @@ pub fn checked_order(
     item: u32,
 ) -> Result<Rel, CheckFault>
     ensures tells { Tells (order_checks second.now evidence.now item) result }
-    ensures relation { IfOk result (IsRelationOf second.now.states evidence.now.order) }
+    ensures relation { IfOk result (IsBlockRelation second.now.states evidence.now.order) }
 {
     let states = second.states();
     if !is_block_below(states, &evidence.order) {

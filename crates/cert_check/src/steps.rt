@@ -4,18 +4,19 @@ ghost use Rattle.std.specs.Prelude.{◌≡◌, ◌+◌, ◌^◌, ◌<◌, ◌↔
 ghost use Rattle.auto_core.specs.Graph.{arc_at};
 ghost use Rattle.log_check.specs.Checks.{AllHold, FirstBroken, Tells, checks_of_each};
 ghost use Rattle.cert_check.specs.Inclusion.{element_arcs, AreOver, AreElements, extensions_of, step_checks};
-ghost use Rattle.log_check.specs.Blocks.{IsRelationOf};
+ghost use Rattle.log_check.specs.Blocks.{IsBlockRelation};
 ghost use Rattle.cert_check.specs.Supers.{block_len, AreSupers};
 
-use crate::covers;
 use crate::elements::Supers;
-use auto_core::Auto;
+use crate::{blocks, covers};
+use auto_core::{Auto, Mode};
 use bit_rel::Rel;
 use cert_text::{StepLine, YesBody};
 use log_check::{CheckFault, Refusal};
 
 /// Tells whether the elements that the line names are over the extensions of its element.
 fn covers_extensions(
+    mode: Mode,
     first: &Auto,
     second: &Auto,
     evidence: &YesBody,
@@ -24,32 +25,35 @@ fn covers_extensions(
     step: &StepLine,
     fresh: &mut [u64],
 ) -> bool
-    requires supers { AreSupers first.now second.now evidence.now (length evidence.now.elements) supers.now }
-    requires order { IsRelationOf second.now.states evidence.now.order order.now }
+    requires supers { AreSupers mode first.now second.now evidence.now (length evidence.now.elements) supers.now }
+    requires order { IsBlockRelation second.now.states evidence.now.order order.now }
     requires element { step.now.element < length evidence.now.elements }
     requires names { AreElements evidence.now step.now.by }
-    requires room { length fresh.old ≡ block_len second.now.states }
-    ensures told { IsTrue result ↔ AreOver first.now second.now evidence.now step.now.by (extensions_of first.now (arc_at first.now (element_arcs first.now evidence.now) step.now.element)) }
+    requires room { length fresh.old ≡ block_len mode second.now.states }
+    ensures told { IsTrue result ↔ AreOver mode first.now second.now evidence.now step.now.by (extensions_of first.now (arc_at first.now (element_arcs first.now evidence.now) step.now.element)) }
     ensures room { length fresh.new ≡ length fresh.old }
 {
     let by = step.by.as_slice();
-    let transitions = first.transitions();
     let arc = &supers.arcs[step.element as usize];
+    let block = supers.block(step.element as usize);
+    // the contract of this call says that the automaton is valid
+    let _states = first.states();
     let span = first.outgoing(arc.to);
     if by.len() != (span.end - span.begin) as usize {
         return false;
     }
     for i in 0..by.len() {
-        let t = span.begin as usize + i;
-        graph_rows::extend(
+        let longer = blocks::extend(
+            mode,
+            first,
             second,
-            transitions[t].label,
-            supers.block(step.element as usize),
+            arc,
+            block,
+            span.begin + i as u32,
             fresh,
         );
-        let longer = supergraph::extend(first, arc, t as u32);
         if !covers::is_over(
-            first, second, evidence, order, supers, by[i], &longer, fresh,
+            mode, first, second, evidence, order, supers, by[i], &longer, fresh,
         ) {
             return false;
         }
@@ -59,6 +63,7 @@ fn covers_extensions(
 
 /// The rule that the line breaks first, if it breaks one.
 fn broken_rule(
+    mode: Mode,
     first: &Auto,
     second: &Auto,
     evidence: &YesBody,
@@ -67,12 +72,12 @@ fn broken_rule(
     step: &StepLine,
     fresh: &mut [u64],
 ) -> Option<u32>
-    requires supers { AreSupers first.now second.now evidence.now (length evidence.now.elements) supers.now }
-    requires order { IsRelationOf second.now.states evidence.now.order order.now }
-    requires room { length fresh.old ≡ block_len second.now.states }
+    requires supers { AreSupers mode first.now second.now evidence.now (length evidence.now.elements) supers.now }
+    requires order { IsBlockRelation second.now.states evidence.now.order order.now }
+    requires room { length fresh.old ≡ block_len mode second.now.states }
     ensures told { (item k : ℕ) → MatchOption result
-        (AllHold (step_checks first.now second.now evidence.now item k step.now))
-        (λ rule. FirstBroken (step_checks first.now second.now evidence.now item k step.now) (record { rule = rule; item = item + k })) }
+        (AllHold (step_checks mode first.now second.now evidence.now item k step.now))
+        (λ rule. FirstBroken (step_checks mode first.now second.now evidence.now item k step.now) (record { rule = rule; item = item + k })) }
     ensures room { length fresh.new ≡ length fresh.old }
 {
     if (step.element as usize) >= evidence.elements.as_slice().len() {
@@ -81,7 +86,7 @@ fn broken_rule(
     if !covers::are_elements(evidence, step.by.as_slice()) {
         return Some(1);
     }
-    if !covers_extensions(first, second, evidence, order, supers, step, fresh) {
+    if !covers_extensions(mode, first, second, evidence, order, supers, step, fresh) {
         return Some(14);
     }
     None
@@ -89,6 +94,7 @@ fn broken_rule(
 
 /// Tests the step lines. `item` is the number of the first one's item.
 pub fn check_steps(
+    mode: Mode,
     first: &Auto,
     second: &Auto,
     evidence: &YesBody,
@@ -97,17 +103,19 @@ pub fn check_steps(
     supers: &Supers,
     fresh: &mut [u64],
 ) -> Result<(), CheckFault>
-    requires supers { AreSupers first.now second.now evidence.now (length evidence.now.elements) supers.now }
-    requires order { IsRelationOf second.now.states evidence.now.order order.now }
+    requires supers { AreSupers mode first.now second.now evidence.now (length evidence.now.elements) supers.now }
+    requires order { IsBlockRelation second.now.states evidence.now.order order.now }
     requires few_steps { length evidence.now.steps < 10 ^ 9 }
     requires few_items { item + length evidence.now.steps < 2 ^ 32 }
-    requires room { length fresh.old ≡ block_len second.now.states }
-    ensures tells { Tells (checks_of_each (step_checks first.now second.now evidence.now item) 0 evidence.now.steps) result }
+    requires room { length fresh.old ≡ block_len mode second.now.states }
+    ensures tells { Tells (checks_of_each (step_checks mode first.now second.now evidence.now item) 0 evidence.now.steps) result }
     ensures room { length fresh.new ≡ length fresh.old }
 {
     let lines = evidence.steps.as_slice();
     for k in 0..lines.len() {
-        match broken_rule(first, second, evidence, order, supers, &lines[k], fresh) {
+        match broken_rule(
+            mode, first, second, evidence, order, supers, &lines[k], fresh,
+        ) {
             Some(rule) => {
                 return Err(CheckFault::Refused(Refusal {
                     rule,

@@ -13,7 +13,7 @@ use Rattle.cert_text.specs.declared.types.RankBlock.{RankBlock}
 use Rattle.cert_text.specs.declared.types.RankRow.{RankRow}
 use Rattle.cert_text.specs.declared.types.Ranked.{Ranked}
 use Rattle.cert_text.specs.WellFormed.{is_short, has_some, ascend_from, ascend, rights_of, is_ranked, are_rank_rows, is_rank_row, is_rank_block}
-use Rattle.log_check.specs.Blocks.{rank_of, ranked_of_row, ranked_of, IsRankRowBelow, IsRankBlockBelow, IsRankingOf}
+use Rattle.log_check.specs.Blocks.{rank_of, ranked_of_row, ranked_pairs_of, IsRankRowBelow, IsRankBlockBelow, IsRankingOf}
 use Rattle.log_check.specs.RankedLists.{row_list, block_list}
 
 -- ---- joined lists
@@ -50,14 +50,14 @@ pairs_below n block below p q rank h =
     let right_below : r.right < n = All-contains (λ (s : Ranked). s.right < n) row.rights r row_below.1 r_in in
     (subst (λ m. m < n) (ap (λ (x : RankedPair). x.left) is) row_below.0, subst (λ m. m < n) (ap (λ (x : RankedPair). x.right) is) right_below)
 
-listed_from : (block : RankBlock) (p q : ℕ) (rank : Option ℕ) → Contains (block_list block) (ranked_pair p q rank) → Contains (ranked_of block) (p, q, rank)
+listed_from : (block : RankBlock) (p q : ℕ) (rank : Option ℕ) → Contains (block_list block) (ranked_pair p q rank) → Contains (ranked_pairs_of block) (p, q, rank)
 listed_from block p q rank h =
     let (row, row_in, here) = flat_from row_list block.rows (ranked_pair p q rank) h in
     let (r, r_in, is) = map_from (pair_in row.left) row.rights (ranked_pair p q rank) here in
     flat_has ranked_of_row block.rows row (p, q, rank) row_in
     (subst (λ (x : ℕ × ℕ × Option ℕ). Contains (ranked_of_row row) x) (ap triple is) (map_has (λ (s : Ranked). triple (pair_in row.left s)) row.rights r r_in))
 
-listed_to : (block : RankBlock) (p q : ℕ) (rank : Option ℕ) → Contains (ranked_of block) (p, q, rank) → Contains (block_list block) (ranked_pair p q rank)
+listed_to : (block : RankBlock) (p q : ℕ) (rank : Option ℕ) → Contains (ranked_pairs_of block) (p, q, rank) → Contains (block_list block) (ranked_pair p q rank)
 listed_to block p q rank h =
     let (row, row_in, here) = flat_from ranked_of_row block.rows (p, q, rank) h in
     let (r, r_in, is) = map_from (λ (s : Ranked). triple (pair_in row.left s)) row.rights (p, q, rank) here in

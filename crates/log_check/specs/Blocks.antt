@@ -28,7 +28,7 @@ abbrev pub IsBlockBelow : ℕ → RelBlock → Type 0
 IsBlockBelow n block = All (IsRowBelow n) block.rows
 
 -- The relation on n states holds just the pairs that the block lists.
-pub record IsRelationOf (n : ℕ) (block : RelBlock) (rel : Relation) : Type 0 where
+pub record IsBlockRelation (n : ℕ) (block : RelBlock) (rel : Relation) : Type 0 where
   pub size : rel.size ≡ n
   pub pairs : (p q : ℕ) → Holds rel.pairs p q ↔ Holds (pairs_of block) p q
 
@@ -41,8 +41,8 @@ abbrev pub ranked_of_row : RankRow → RankedPairs
 ranked_of_row row = map (λ (r : Ranked). (row.left, r.right, rank_of r.code)) row.rights
 
 -- The pairs that the block lists, with their ranks.
-abbrev pub ranked_of : RankBlock → RankedPairs
-ranked_of block = flat_map ranked_of_row block.rows
+abbrev pub ranked_pairs_of : RankBlock → RankedPairs
+ranked_pairs_of block = flat_map ranked_of_row block.rows
 
 -- The states of the row are below n.
 abbrev pub IsRankRowBelow : ℕ → RankRow → Type 0
@@ -55,4 +55,4 @@ IsRankBlockBelow n block = All (IsRankRowBelow n) block.rows
 -- The relation with ranks, on n states, holds just the pairs that the block lists, with their ranks.
 pub record IsRankingOf (n : ℕ) (block : RankBlock) (ranks : Ranking) : Type 0 where
   pub size : ranks.size ≡ n
-  pub pairs : (p q : ℕ) (rank : Option ℕ) → Contains ranks.pairs (p, q, rank) ↔ Contains (ranked_of block) (p, q, rank)
+  pub pairs : (p q : ℕ) (rank : Option ℕ) → Contains ranks.pairs (p, q, rank) ↔ Contains (ranked_pairs_of block) (p, q, rank)

@@ -12,12 +12,12 @@ pub record IsClosureOf (n : ℕ) (R : ℕ → ℕ → Type 0) (rel : Relation) :
   pub pairs : (p q : ℕ) → p < n → q < n → Holds rel.pairs p q ↔ Close R p q
 
 -- If p and q are of one class, the table has the pair.
-abbrev pub IsJoined : List ℕ → Relation → ℕ → ℕ → Type 0
-IsJoined classes rel p q = class_of classes p ≡ class_of classes q → Holds rel.pairs p q
+abbrev pub IsJoinedInClass : List ℕ → Relation → ℕ → ℕ → Type 0
+IsJoinedInClass classes rel p q = class_of classes p ≡ class_of classes q → Holds rel.pairs p q
 
 -- So has it for p and each state below n.
 abbrev pub IsRowJoined : List ℕ → Relation → ℕ → ℕ → Type 0
-IsRowJoined classes rel n p = (q : ℕ) → q < n → IsJoined classes rel p q
+IsRowJoined classes rel n p = (q : ℕ) → q < n → IsJoinedInClass classes rel p q
 
 -- The table relates any two members of a class.
 abbrev pub JoinsMembers : List ℕ → Relation → ℕ → Type 0

@@ -2,7 +2,7 @@
 use Rattle.std.specs.Prelude.{◌≡◌, ℕ, ◌<◌, ◌≤◌, ◌==◌, List, [], ◌∷◌, length, All, Contains, if◌then◌else◌, slice_index_or}
 use Rattle.auto_core.specs.Automaton.{Automaton, trans_at}
 use Rattle.auto_core.specs.Game.{Close, Holds}
-use Rattle.auto_core.specs.Useful.{IsUseful, IsKept}
+use Rattle.auto_core.specs.Useful.{IsUseful, IsKeptPart}
 use Rattle.auto_core.specs.Quotient.{IsQuotient}
 use Rattle.auto_core.specs.Pruning.{IsCut, IsStableBack, IsStableAhead}
 use Rattle.auto_core.specs.declared.parts.Mode.{Mode}
@@ -89,7 +89,7 @@ first_checks mode A item (Cut pair look gone blocks) =
 
 -- A trim keeps the listed states, a merge has the classes for states, and a cut takes the listed transitions away.
 abbrev pub FirstStepLeads : Automaton → FirstStep → Automaton → Type 0
-FirstStepLeads A (Trim kept) B = IsKept A kept B
+FirstStepLeads A (Trim kept) B = IsKeptPart A kept B
 FirstStepLeads A (Merge classes) B = IsQuotient A classes B
 FirstStepLeads A (Cut pair look gone blocks) B = IsCut A (gone_of gone) B
 

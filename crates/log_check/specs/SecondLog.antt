@@ -3,7 +3,7 @@ use Rattle.std.specs.Prelude.{ℕ, List, [], ◌∷◌}
 use Rattle.auto_core.specs.Automaton.{Automaton}
 use Rattle.auto_core.specs.Game.{StableForward, StableBackward}
 use Rattle.auto_core.specs.Delayed.{HoldsPair, IsRight}
-use Rattle.auto_core.specs.Useful.{IsKept}
+use Rattle.auto_core.specs.Useful.{IsKeptPart}
 use Rattle.auto_core.specs.Quotient.{IsQuotient, RelatesMembers}
 use Rattle.auto_core.specs.Pruning.{IsCut}
 use Rattle.quotient.specs.Announced.{RelatesMembersBy}
@@ -14,7 +14,7 @@ use Rattle.cert_text.specs.declared.types.Grounds.TheVariants.{Forward, Backward
 use Rattle.cert_text.specs.declared.types.RelBlock.{RelBlock}
 use Rattle.log_check.specs.declared.faults.Refusal.{Refusal}
 use Rattle.log_check.specs.Checks.{Check, rule_at}
-use Rattle.log_check.specs.Blocks.{pairs_of, IsBlockBelow, ranked_of, IsRankBlockBelow}
+use Rattle.log_check.specs.Blocks.{pairs_of, IsBlockBelow, ranked_pairs_of, IsRankBlockBelow}
 use Rattle.log_check.specs.Parts.{AreStates, AreTransitions, IsLook, AreClassesFor}
 use Rattle.log_check.specs.Follows.{LogRules, Follows, Breaks}
 
@@ -40,8 +40,8 @@ merge_checks A item (Backward look block) classes =
 merge_checks A item (Delayed ranks) classes =
     rule_at 1 item (IsRankBlockBelow A.states ranks)
     ∷ rule_at 3 item (AreClassesFor A classes)
-    ∷ rule_at 5 item (IsRight A (ranked_of ranks))
-    ∷ rule_at 6 item (RelatesMembersBy A classes (HoldsPair (ranked_of ranks)))
+    ∷ rule_at 5 item (IsRight A (ranked_pairs_of ranks))
+    ∷ rule_at 6 item (RelatesMembersBy A classes (HoldsPair (ranked_pairs_of ranks)))
     ∷ []
 
 -- What is asked of a step: a trim and a cut name what is there, and need nothing more.
@@ -52,7 +52,7 @@ second_checks A item (Cut gone) = rule_at 1 item (AreTransitions A gone) ∷ []
 
 -- A trim keeps the listed states, a merge has the classes for states, and a cut takes the listed transitions away.
 abbrev pub SecondStepLeads : Automaton → SecondStep → Automaton → Type 0
-SecondStepLeads A (Trim kept) B = IsKept A kept B
+SecondStepLeads A (Trim kept) B = IsKeptPart A kept B
 SecondStepLeads A (Merge by classes) B = IsQuotient A classes B
 SecondStepLeads A (Cut gone) B = IsCut A gone B
 

@@ -2,7 +2,7 @@
 
 ghost use Rattle.std.specs.Prelude.{◌≡◌, ◌<◌, ◌↔◌, ◌⊎◌, ℕ, IfOk, IsTrue};
 ghost use Rattle.auto_core.specs.Game.{Holds};
-ghost use Rattle.log_check.specs.Blocks.{pairs_of_row, IsRowBelow, IsBlockBelow, IsRelationOf};
+ghost use Rattle.log_check.specs.Blocks.{pairs_of_row, IsRowBelow, IsBlockBelow, IsBlockRelation};
 
 use auto_core::Memory;
 use bit_rel::Rel;
@@ -40,7 +40,7 @@ fn add_row(rel: &mut Rel, row: &Row)
 /// The relation on so many states that the block lists.
 pub fn relation_of(alloc: Global, states: u32, block: &RelBlock) -> Result<Rel, Memory>
     requires { IsBlockBelow states block.now }
-    ensures { IfOk result (IsRelationOf states block.now) }
+    ensures { IfOk result (IsBlockRelation states block.now) }
 {
     let mut rel = Rel::empty(alloc, states)?;
     for row in block.rows.as_slice() {

@@ -1,7 +1,7 @@
 //! Automata that keep listed states.
 
 ghost use Rattle.std.specs.Prelude.{◌≡◌, ◌<◌, ◌↔◌, ℕ, Contains, IfOk, IsTrue};
-ghost use Rattle.auto_core.specs.Useful.{IsUseful, IsKept};
+ghost use Rattle.auto_core.specs.Useful.{IsUseful, IsKeptPart};
 ghost use Rattle.log_check.specs.Parts.{AreStates};
 
 use auto_core::{Auto, Memory, Mode, StateSet};
@@ -53,7 +53,7 @@ pub(crate) fn lists_useful(
 /// The automaton of the listed states.
 pub(crate) fn keep_listed(alloc: Global, automaton: &Auto, kept: &[u32]) -> Result<Auto, Memory>
     requires { AreStates automaton.now kept.now }
-    ensures { IfOk result (IsKept automaton.now kept.now) }
+    ensures { IfOk result (IsKeptPart automaton.now kept.now) }
 {
     let set = set_of(alloc, automaton, kept)?;
     keep(alloc, automaton, &set)

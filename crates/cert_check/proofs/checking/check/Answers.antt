@@ -11,4 +11,4 @@ returns-in_ok-check_yes-in-Yes-clause-truth c =
     let sizes : HasSizes pair cert = c.has_sizes.ensures.told.0 (search rules) in
     let automata = c.has_sizes.ensures.automata (search rules) in
     let hold : BodyHolds cert.mode pair cert.body = subst (λ (b : Body). BodyHolds cert.mode pair b) (sym c.in-Yes.is) c.in_ok-check_yes-in-Yes.ensures in
-    valid_yes_includes pair cert c.in-Yes.evidence c.in-Yes.is c.requires.well_formed c.requires.form automata.0 automata.1 (sizes, hold)
+    valid_yes_includes pair cert c.in-Yes.evidence c.in-Yes.is c.requires.well_formed automata.0 automata.1 (sizes, hold)

@@ -4,4 +4,4 @@ use Rattle.cert_check.specs.Inclusion.{under_checks}
 use Rattle.cert_check.proofs.covers.check_under.Given as goal
 
 abbrev pub invariant-loop-e : goal.invariant-loop-e
-invariant-loop-e l = AllHold (checks_of_each (under_checks l.first l.second l.evidence l.item) 0 (take l.e l.evidence.elements))
+invariant-loop-e l = AllHold (checks_of_each (under_checks l.mode l.first l.second l.evidence l.item) 0 (take l.e l.evidence.elements))

@@ -1,45 +1,76 @@
-use Rattle.std.proofs.Common.{ℕ, ◌≡◌, ◌<◌, List, slice_index_or, sym, ap, ◌∙◌, subst, arith}
+use Rattle.std.proofs.Common.{ℕ, ◌≡◌, ◌<◌, true, List, slice_index_or, sym, ap, ◌∙◌, subst, arith}
 use Rattle.std.proofs.lemmas.List.{get_or_default}
-use Rattle.auto_core.specs.Automaton.{trans, trans_at}
-use Rattle.auto_core.specs.Graph.{SameGraph, WordArc, letter_graph, extended, arc_at, arc_of}
-use Rattle.auto_core.specs.declared.parts.Trans.{Trans}
+use Rattle.auto_core.specs.Graph.{WordArc, start_arc, base_arc, arc_at, arc_of}
+use Rattle.auto_core.specs.Automaton.{trans_at}
+use Rattle.auto_core.specs.declared.parts.Mode.{Mode}
+use Rattle.auto_core.specs.declared.parts.Mode.TheVariants.{Buchi, Finite}
 use Rattle.auto_core.specs.declared.parts.Origin.{Origin}
-use Rattle.graph_rows.specs.Block.{block_graph}
 use Rattle.supergraph.specs.declared.arcs.Arc.{Arc}
+use Rattle.cert_text.specs.WellFormed.{is_origin}
 use Rattle.cert_check.specs.Inclusion.{element_arcs, HasEarlierParent}
-use Rattle.cert_check.specs.Supers.{StandFor, no_arc, block_at}
-use Rattle.cert_check.proofs.SuperLemmas.{base_stands, longer_stands}
+use Rattle.cert_check.specs.Supers.{IsBlock, StandFor, block_len, no_arc, block_at}
+use Rattle.cert_check.proofs.PlaceLemmas.{is_finite, is_buchi}
 use Rattle.cert_check.proofs.elements.compute.Goals as goal
+
+pub start-requires : goal.start-requires
+start-requires c =
+    let m : Mode = c.args.mode in
+    let fin : m ≡ Finite = is_finite m (subst (λ (o : Origin). is_origin m o ≡ true) c.in-Start.is c.requires.begun) in
+    record { room = c.requires.room ∙ ap (λ (k : Mode). block_len k c.args.second.now.states) fin }
+
+pub returns-in-Start-clause-stands : goal.returns-in-Start-clause-stands
+returns-in-Start-clause-stands c =
+    let A = c.args.first.now in
+    let B = c.args.second.now in
+    let m : Mode = c.args.mode in
+    let W : List WordArc = element_arcs A c.args.evidence.now in
+    let fin : m ≡ Finite = is_finite m (subst (λ (o : Origin). is_origin m o ≡ true) c.in-Start.is c.requires.begun) in
+    subst (λ (o : Origin). StandFor m A B c.start.result c.start.new.fresh (arc_of A W o)) (sym c.in-Start.is)
+    (subst (λ (k : Mode). StandFor k A B c.start.result c.start.new.fresh (start_arc A)) (sym fin) c.start.ensures.stands)
+
+pub base-requires-clause-room : goal.base-requires-clause-room
+base-requires-clause-room c =
+    let m : Mode = c.args.mode in
+    let buchi : m ≡ Buchi = is_buchi m c.in-Base.t (subst (λ (o : Origin). is_origin m o ≡ true) c.in-Base.is c.requires.begun) in
+    c.requires.room ∙ ap (λ (k : Mode). block_len k c.args.second.now.states) buchi
 
 pub returns-in-Base-clause-stands : goal.returns-in-Base-clause-stands
 returns-in-Base-clause-stands c =
     let A = c.args.first.now in
     let B = c.args.second.now in
-    let W : List WordArc = element_arcs A c.args.evidence.now in
+    let m : Mode = c.args.mode in
     let t : ℕ = c.in-Base.t in
-    let graph : SameGraph (block_graph B.states c.letter.new.out) (letter_graph B (trans_at A t).label) =
-    subst (λ (l : List Trans). SameGraph (block_graph B.states c.letter.new.out) (letter_graph B (slice_index_or l t (trans 0 0 0)).label)) c.transitions.ensures.list c.letter.ensures.graph in
-    subst (λ (o : Origin). StandFor A B c.base.result c.letter.new.out (arc_of A W o)) (sym c.in-Base.is)
-    (base_stands A B c.base.result c.letter.new.out t c.base.ensures.arc c.base.ensures.real c.letter.ensures.formed graph)
+    let W : List WordArc = element_arcs A c.args.evidence.now in
+    let buchi : m ≡ Buchi = is_buchi m t (subst (λ (o : Origin). is_origin m o ≡ true) c.in-Base.is c.requires.begun) in
+    subst (λ (o : Origin). StandFor m A B c.base.result c.base.new.fresh (arc_of A W o)) (sym c.in-Base.is)
+    (subst (λ (k : Mode). StandFor k A B c.base.result c.base.new.fresh (base_arc A (trans_at A t))) (sym buchi) c.base.ensures.stands)
+
+pub extend-requires-clause-formed : goal.extend-requires-clause-formed
+extend-requires-clause-formed c =
+    let B = c.args.second.now in
+    let m : Mode = c.args.mode in
+    let p : ℕ = c.in-Next.p in
+    let earlier : p < c.args.e = subst (λ (o : Origin). HasEarlierParent c.args.e o) c.in-Next.is c.requires.earlier in
+    let is_block : c.block.result.now ≡ block_at (block_len m B.states) c.args.supers.now.blocks.items p =
+    c.block.ensures ∙ ap (λ n. block_at n c.args.supers.now.blocks.items p) c.requires.supers.words in
+    subst (IsBlock m B.states) (sym is_block) (c.requires.supers.each p earlier).formed
 
 pub returns-in-Next-clause-stands : goal.returns-in-Next-clause-stands
 returns-in-Next-clause-stands c =
     let A = c.args.first.now in
     let B = c.args.second.now in
+    let m : Mode = c.args.mode in
     let W : List WordArc = element_arcs A c.args.evidence.now in
     let p : ℕ = c.in-Next.p in
     let t : ℕ = c.in-Next.t in
+    let words : ℕ = block_len m B.states in
     let earlier : p < c.args.e = subst (λ (o : Origin). HasEarlierParent c.args.e o) c.in-Next.is c.requires.earlier in
-    let from : StandFor A B (slice_index_or c.args.supers.now.arcs.items p no_arc) (block_at B.states c.args.supers.now.blocks.items p) (arc_at A W p) = c.requires.supers.each p earlier in
-    let is_arc : c.index.result.now ≡ slice_index_or c.args.supers.now.arcs.items p no_arc =
-    c.index.ensures ∙ get_or_default c.args.supers.now.arcs.items p c.index.result.now no_arc (omega (arith, c.requires.supers.count)) in
-    let is_block : c.block.result.now ≡ block_at B.states c.args.supers.now.blocks.items p =
-    c.block.ensures ∙ ap (λ n. block_at n c.args.supers.now.blocks.items p) c.requires.supers.states in
-    let old : StandFor A B c.index.result.now c.block.result.now (arc_at A W p) =
-    subst (λ (a : Arc). StandFor A B a c.block.result.now (arc_at A W p)) (sym is_arc)
-    (subst (λ (b : List ℕ). StandFor A B (slice_index_or c.args.supers.now.arcs.items p no_arc) b (arc_at A W p)) (sym is_block) from) in
-    let graph : SameGraph (block_graph B.states c.extend.new.out) (extended B (block_graph B.states c.block.result.now) (trans_at A t).label) =
-    subst (λ (l : List Trans). SameGraph (block_graph B.states c.extend.new.out) (extended B (block_graph B.states c.block.result.now) (slice_index_or l t (trans 0 0 0)).label))
-    c.transitions-in-Next.ensures.list c.extend.ensures.graph in
-    subst (λ (o : Origin). StandFor A B c.extend-in-Next.result c.extend.new.out (arc_of A W o)) (sym c.in-Next.is)
-    (longer_stands A B c.index.result.now c.extend-in-Next.result c.block.result.now c.extend.new.out (arc_at A W p) t old c.extend-in-Next.ensures.arc c.extend-in-Next.ensures.real c.extend.ensures.formed graph)
+    let from : StandFor m A B (slice_index_or c.args.supers.now.arcs.items p no_arc) (block_at words c.args.supers.now.blocks.items p) (arc_at A W p) = c.requires.supers.each p earlier in
+    let is_arc : c.index-arc.result.now ≡ slice_index_or c.args.supers.now.arcs.items p no_arc =
+    c.index-arc.ensures ∙ get_or_default c.args.supers.now.arcs.items p c.index-arc.result.now no_arc (omega (arith, c.requires.supers.count)) in
+    let is_block : c.block.result.now ≡ block_at words c.args.supers.now.blocks.items p =
+    c.block.ensures ∙ ap (λ n. block_at n c.args.supers.now.blocks.items p) c.requires.supers.words in
+    let old : StandFor m A B c.index-arc.result.now c.block.result.now (arc_at A W p) =
+    subst (λ (a : Arc). StandFor m A B a c.block.result.now (arc_at A W p)) (sym is_arc)
+    (subst (λ (b : List ℕ). StandFor m A B (slice_index_or c.args.supers.now.arcs.items p no_arc) b (arc_at A W p)) (sym is_block) from) in
+    subst (λ (o : Origin). StandFor m A B c.extend.result c.extend.new.fresh (arc_of A W o)) (sym c.in-Next.is) (c.extend.ensures.stands (arc_at A W p) old)

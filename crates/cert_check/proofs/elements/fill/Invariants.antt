@@ -7,5 +7,5 @@ use Rattle.cert_check.proofs.elements.fill.Given as goal
 abbrev pub invariant-loop-e : goal.invariant-loop-e
 invariant-loop-e l =
     AllHold (checks_of_each (element_checks l.first l.evidence l.item) 0 (take l.e l.evidence.elements))
-    × AreSupers l.first l.second l.evidence l.e l.supers
+    × AreSupers l.mode l.first l.second l.evidence l.e l.supers
     × (length l.fresh ≡ length l.fn.fresh)

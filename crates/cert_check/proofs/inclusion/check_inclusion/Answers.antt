@@ -13,7 +13,7 @@ use Rattle.cert_check.proofs.inclusion.check_inclusion.Goals as goal
 pub returns-in_err-supers : goal.returns-in_err-supers
 returns-in_err-supers c =
     let p = err_from_is_err_and c.from_residual-in_err-supers.result c.from_residual-in_err-supers.ensures.1 in
-    let told = fault_in_elements c.args.item c.args.first.now c.args.second.now c.args.evidence.now Supers c.in_err-supers.field-0.0 c.in_ok-order.ensures.tells c.in_err-supers.ensures.tells in
+    let told = fault_in_elements c.args.mode c.args.item c.args.first.now c.args.second.now c.args.evidence.now Supers c.in_err-supers.field-0.0 c.in_ok-order.ensures.tells c.in_err-supers.ensures.tells in
     record { tells = rw (p.1, p.2) told; automaton = rw (p.1) tt }
 
 pub check_under-requires-clause-names : goal.check_under-requires-clause-names
@@ -23,7 +23,7 @@ check_under-requires-clause-names c = λ e lt.
 pub returns-in_err-check_under : goal.returns-in_err-check_under
 returns-in_err-check_under c =
     let p = err_from_is_err_and c.from_residual-in_err-check_under.result c.from_residual-in_err-check_under.ensures.1 in
-    let told = fault_in_under c.args.item c.args.first.now c.args.second.now c.args.evidence.now (Unit {0}) c.in_err-check_under.field-0.0 c.in_ok-order.ensures.tells c.in_ok-supers.ensures.tells c.in_err-check_under.ensures in
+    let told = fault_in_under c.args.mode c.args.item c.args.first.now c.args.second.now c.args.evidence.now (Unit {0}) c.in_err-check_under.field-0.0 c.in_ok-order.ensures.tells c.in_ok-supers.ensures.tells c.in_err-check_under.ensures in
     record { tells = rw (p.1, p.2) told; automaton = rw (p.1) tt }
 
 pub returns-in_err-check_cover : goal.returns-in_err-check_cover
@@ -33,8 +33,8 @@ returns-in_err-check_cover c =
     let E = c.args.evidence.now in
     let n : ℕ = c.args.item in
     let p = err_from_is_err_and c.from_residual-in_err-check_cover.result c.from_residual-in_err-check_cover.ensures.1 in
-    let cover = subst (λ (l : List Element). Tells {X = Unit {0}} (cover_checks A B E (n + 1 + length l)) (Err c.in_err-check_cover.field-0.0)) c.as_slice.ensures c.in_err-check_cover.ensures.tells in
-    let told = fault_in_cover n A B E (Unit {0}) c.in_err-check_cover.field-0.0 c.in_ok-order.ensures.tells c.in_ok-supers.ensures.tells c.in_ok-check_under.ensures cover in
+    let cover = subst (λ (l : List Element). Tells {X = Unit {0}} (cover_checks c.args.mode A B E (n + 1 + length l)) (Err c.in_err-check_cover.field-0.0)) c.as_slice.ensures c.in_err-check_cover.ensures.tells in
+    let told = fault_in_cover c.args.mode n A B E (Unit {0}) c.in_err-check_cover.field-0.0 c.in_ok-order.ensures.tells c.in_ok-supers.ensures.tells c.in_ok-check_under.ensures cover in
     record { tells = rw (p.1, p.2) told; automaton = rw (p.1) tt }
 
 pub returns-in_err-check_steps : goal.returns-in_err-check_steps
@@ -44,9 +44,9 @@ returns-in_err-check_steps c =
     let E = c.args.evidence.now in
     let n : ℕ = c.args.item in
     let p = err_from_is_err_and c.from_residual-in_err-check_steps.result c.from_residual-in_err-check_steps.ensures.1 in
-    let cover = subst (λ (l : List Element). AllHold (cover_checks A B E (n + 1 + length l))) c.as_slice.ensures c.in_ok-check_cover.ensures.tells in
-    let steps = subst (λ (l : List Element). Tells {X = Unit {0}} (checks_of_each (step_checks A B E (n + 2 + length l)) 0 E.steps) (Err c.in_err-check_steps.field-0.0)) c.as_slice.ensures c.in_err-check_steps.ensures.tells in
-    let told = fault_in_steps n A B E (Unit {0}) c.in_err-check_steps.field-0.0 c.in_ok-order.ensures.tells c.in_ok-supers.ensures.tells c.in_ok-check_under.ensures cover steps in
+    let cover = subst (λ (l : List Element). AllHold (cover_checks c.args.mode A B E (n + 1 + length l))) c.as_slice.ensures c.in_ok-check_cover.ensures.tells in
+    let steps = subst (λ (l : List Element). Tells {X = Unit {0}} (checks_of_each (step_checks c.args.mode A B E (n + 2 + length l)) 0 E.steps) (Err c.in_err-check_steps.field-0.0)) c.as_slice.ensures c.in_err-check_steps.ensures.tells in
+    let told = fault_in_steps c.args.mode n A B E (Unit {0}) c.in_err-check_steps.field-0.0 c.in_ok-order.ensures.tells c.in_ok-supers.ensures.tells c.in_ok-check_under.ensures cover steps in
     record { tells = rw (p.1, p.2) told; automaton = rw (p.1) tt }
 
 pub returns : goal.returns
@@ -55,9 +55,9 @@ returns c =
     let B = c.args.second.now in
     let E = c.args.evidence.now in
     let n : ℕ = c.args.item in
-    let cover = subst (λ (l : List Element). AllHold (cover_checks A B E (n + 1 + length l))) c.as_slice.ensures c.in_ok-check_cover.ensures.tells in
-    let steps = subst (λ (l : List Element). AllHold (checks_of_each (step_checks A B E (n + 2 + length l)) 0 E.steps)) c.as_slice.ensures c.in_ok-check_steps.ensures.tells in
+    let cover = subst (λ (l : List Element). AllHold (cover_checks c.args.mode A B E (n + 1 + length l))) c.as_slice.ensures c.in_ok-check_cover.ensures.tells in
+    let steps = subst (λ (l : List Element). AllHold (checks_of_each (step_checks c.args.mode A B E (n + 2 + length l)) 0 E.steps)) c.as_slice.ensures c.in_ok-check_steps.ensures.tells in
     record {
-      tells = pairs_last n A B E c.check_pairs.result c.in_ok-order.ensures.tells c.in_ok-supers.ensures.tells c.in_ok-check_under.ensures cover steps c.check_pairs.ensures;
-      automaton = any_ok c.check_pairs.result (IsAutomaton B) c.states.ensures.valid;
+      tells = pairs_last c.args.mode n A B E c.check_passing.result c.in_ok-order.ensures.tells c.in_ok-supers.ensures.tells c.in_ok-check_under.ensures cover steps c.check_passing.ensures;
+      automaton = any_ok c.check_passing.result (IsAutomaton B) c.states.ensures.valid;
     }

@@ -3,7 +3,7 @@ use Rattle.std.proofs.lemmas.Bool.{false≢true}
 use Rattle.auto_core.specs.Automaton.{Moves}
 use Rattle.auto_core.specs.Game.{Holds, MatchesForward, StableForward}
 use Rattle.log_check.specs.Blocks.{IsBlockBelow, pairs_of}
-use Rattle.log_check.specs.Blocks.{IsRelationOf}
+use Rattle.log_check.specs.Blocks.{IsBlockRelation}
 use Rattle.log_check.proofs.BlockLemmas.{stable_alike}
 use Rattle.cert_check.proofs.orders.checked_order.Goals as goal
 
@@ -12,7 +12,7 @@ returns-then-not-branch-clause-tells c =
     let B = c.args.second.now in
     let pairs = pairs_of c.args.evidence.now.order in
     let below : IsBlockBelow B.states c.args.evidence.now.order = search rules in
-    let same : IsRelationOf B.states c.args.evidence.now.order c.in_ok-rel.rel = search rules in
+    let same : IsBlockRelation B.states c.args.evidence.now.order c.in_ok-rel.rel = search rules in
     let told : IsTrue c.in_ok-is_stable.field-0 ↔ StableForward B 1 c.in_ok-rel.rel.pairs = search rules in
     let is : c.in_ok-is_stable.field-0 ≡ false = search rules in
     inr (
@@ -28,7 +28,7 @@ returns-clause-tells c =
     let B = c.args.second.now in
     let pairs = pairs_of c.args.evidence.now.order in
     let below : IsBlockBelow B.states c.args.evidence.now.order = search rules in
-    let same : IsRelationOf B.states c.args.evidence.now.order c.in_ok-rel.rel = search rules in
+    let same : IsBlockRelation B.states c.args.evidence.now.order c.in_ok-rel.rel = search rules in
     let told : IsTrue c.in_ok-is_stable.field-0 ↔ StableForward B 1 c.in_ok-rel.rel.pairs = search rules in
     let is : c.in_ok-is_stable.field-0 ≡ true = search rules in (
       below,

@@ -3,8 +3,9 @@ use Rattle.std.proofs.lemmas.Bool.{false≢true}
 use Rattle.std.proofs.lemmas.List.{take_more}
 use Rattle.std.proofs.lemmas.List.Elements.{Contains-get_or, Contains-push_cases}
 use Rattle.auto_core.specs.Graph.{LassoIn}
+use Rattle.auto_core.specs.declared.parts.Mode.TheVariants.{Buchi}
 use Rattle.graph_rows.specs.Block.{block_graph}
-use Rattle.cert_check.specs.Supers.{block_at}
+use Rattle.cert_check.specs.Supers.{block_at, block_len}
 use Rattle.cert_check.proofs.PairLemmas.{lassos_named}
 use Rattle.cert_check.proofs.pairs.has_lassos.Goals as goal
 
@@ -13,8 +14,8 @@ returns-then-not-passes-clause-told c =
     let n : ℕ = c.args.second.now.states in
     let blocks : List ℕ = c.args.supers.now.blocks.items in
     let f : ℕ = slice_index_or c.args.others.now c.loop-f.f-index 0 in
-    let told = lassos_named c.states-states.result n c.block.result.now (block_at n blocks c.args.e) c.block-in-loop-f.result.now (block_at n blocks f) c.initial.result c.args.second.now.initial c.passes.result
-    c.states-states.ensures.count (c.block.ensures ∙ ap (λ m. block_at m blocks c.args.e) c.requires.supers.states) (c.block-in-loop-f.ensures ∙ ap (λ m. block_at m blocks f) c.requires.supers.states)
+    let told = lassos_named c.states-states.result n c.block.result.now (block_at (block_len Buchi n) blocks c.args.e) c.block-in-loop-f.result.now (block_at (block_len Buchi n) blocks f) c.initial.result c.args.second.now.initial c.passes.result
+    c.states-states.ensures.count (c.block.ensures ∙ ap (λ k. block_at k blocks c.args.e) c.requires.supers.words) (c.block-in-loop-f.ensures ∙ ap (λ k. block_at k blocks f) c.requires.supers.words)
     c.initial.ensures.state c.passes.ensures.told in
     let is : c.passes.result ≡ false = search rules in (
       λ h. absurd (false≢true h),
@@ -27,13 +28,13 @@ loop-f-preserved c =
     let blocks : List ℕ = c.args.supers.now.blocks.items in
     let k : ℕ = c.loop-f.f-index in
     let f : ℕ = slice_index_or c.args.others.now k 0 in
-    let told = lassos_named c.states-states.result n c.block.result.now (block_at n blocks c.args.e) c.block-in-loop-f.result.now (block_at n blocks f) c.initial.result c.args.second.now.initial c.passes.result
-    c.states-states.ensures.count (c.block.ensures ∙ ap (λ m. block_at m blocks c.args.e) c.requires.supers.states) (c.block-in-loop-f.ensures ∙ ap (λ m. block_at m blocks f) c.requires.supers.states)
+    let told = lassos_named c.states-states.result n c.block.result.now (block_at (block_len Buchi n) blocks c.args.e) c.block-in-loop-f.result.now (block_at (block_len Buchi n) blocks f) c.initial.result c.args.second.now.initial c.passes.result
+    c.states-states.ensures.count (c.block.ensures ∙ ap (λ k. block_at k blocks c.args.e) c.requires.supers.words) (c.block-in-loop-f.ensures ∙ ap (λ k. block_at k blocks f) c.requires.supers.words)
     c.initial.ensures.state c.passes.ensures.told in
     let is : c.passes.result ≡ true = search rules in (
       λ g there. elim (Contains-push_cases (take k c.args.others.now) f g (subst (λ (l : List ℕ). Contains l g) (take_more c.args.others.now k 0 c.loop-f-test.true) there)) [
         | inl before ↦ c.loop-f.invariant.0 g before
-        | inr same ↦ subst (λ m. LassoIn (block_graph n (block_at n blocks c.args.e)) (block_graph n (block_at n blocks m)) c.args.second.now.initial) same (told.0 is)
+        | inr same ↦ subst (λ m. LassoIn (block_graph n (block_at (block_len Buchi n) blocks c.args.e)) (block_graph n (block_at (block_len Buchi n) blocks m)) c.args.second.now.initial) same (told.0 is)
       ],
       c.passes.ensures.kept ∙ c.states-states.ensures.count ∙ sym c.requires.room,
     )

@@ -4,7 +4,7 @@ use Rattle.auto_core.specs.Delayed.{HoldsPair, IsRight}
 use Rattle.auto_core.specs.Game.{Holds}
 use Rattle.auto_core.specs.Quotient.{IsQuotient}
 use Rattle.quotient.specs.Announced.{RelatesMembersBy}
-use Rattle.log_check.specs.Blocks.{ranked_of, IsRankBlockBelow, IsRankingOf}
+use Rattle.log_check.specs.Blocks.{ranked_pairs_of, IsRankBlockBelow, IsRankingOf}
 use Rattle.log_check.specs.Closures.{IsClosureOf, JoinsMembers}
 use Rattle.log_check.specs.Parts.{AreClassesFor}
 use Rattle.log_check.proofs.ClosureLemmas.{closure_of, joins_from, joins_to}
@@ -14,7 +14,7 @@ use Rattle.log_check.proofs.second.merge_delayed.Goals as goal
 pub returns-then-not-holds : goal.returns-then-not-holds
 returns-then-not-holds c =
     let A = c.args.automaton.now in
-    let X = ranked_of c.args.ranks.now in
+    let X = ranked_pairs_of c.args.ranks.now in
     let Y = c.in_ok-ranking.ranking.pairs in
     let named : IsRankBlockBelow A.states c.args.ranks.now = search rules in
     let classed : (c.in-Some.classes ≡ c.args.numbers.now) × AreClassesFor A c.args.numbers.now = search rules in
@@ -34,7 +34,7 @@ returns-then-not-holds c =
 pub returns-then-not-joins_members : goal.returns-then-not-joins_members
 returns-then-not-joins_members c =
     let A = c.args.automaton.now in
-    let X = ranked_of c.args.ranks.now in
+    let X = ranked_pairs_of c.args.ranks.now in
     let Y = c.in_ok-ranking.ranking.pairs in
     let rel = c.close.new.self in
     let named : IsRankBlockBelow A.states c.args.ranks.now = search rules in
@@ -65,7 +65,7 @@ returns-then-not-joins_members c =
 pub returns : goal.returns
 returns c =
     let A = c.args.automaton.now in
-    let X = ranked_of c.args.ranks.now in
+    let X = ranked_pairs_of c.args.ranks.now in
     let Y = c.in_ok-ranking.ranking.pairs in
     let rel = c.close.new.self in
     let named : IsRankBlockBelow A.states c.args.ranks.now = search rules in

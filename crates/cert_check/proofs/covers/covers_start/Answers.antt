@@ -1,0 +1,24 @@
+use Rattle.std.proofs.Common.{ℕ, ◌≡◌, ◌↔◌, IsTrue, List, [], ◌∷◌, length, slice_index, slice_index_or, sym, ap, ◌∙◌, subst, arith}
+use Rattle.auto_core.specs.Graph.{start_arc}
+use Rattle.auto_core.specs.declared.parts.Mode.TheVariants.{Finite}
+use Rattle.cert_text.specs.declared.types.YesBody.{YesBody}
+use Rattle.cert_check.specs.Inclusion.{IsOver}
+use Rattle.cert_check.proofs.covers.covers_start.Goals as goal
+
+pub returns-clause-told : goal.returns-clause-told
+returns-clause-told c =
+    let A = c.args.first.now in
+    let B = c.args.second.now in
+    let E : YesBody = c.args.evidence.now in
+    let count : length E.cover ≡ 1 = sym (ap length c.as_slice-cover.ensures) ∙ c.if-cover-ne1.false in
+    let told : IsTrue c.is_over.result ↔ IsOver Finite A B E (slice_index E.cover 0) (start_arc A) =
+    subst (λ (l : List ℕ). IsTrue c.is_over.result ↔ IsOver Finite A B E (slice_index l 0) (start_arc A)) c.as_slice-cover.ensures
+    (c.is_over.ensures (start_arc A) c.start-arc.ensures.stands) in (
+      λ is. record {
+        count = count;
+        each = λ i lt.
+            let first : i ≡ 0 = omega arith in
+            subst (λ k. IsOver Finite A B E (slice_index E.cover k) (slice_index_or (start_arc A ∷ []) k (start_arc A))) (sym first) (told.0 is);
+      },
+      λ all. told.1 (all.each 0 (omega arith)),
+    )
