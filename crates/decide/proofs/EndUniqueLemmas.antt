@@ -1,7 +1,7 @@
 -- There is one pair of reduced automata, each with its log.
 use Rattle.std.proofs.Common.{◌≡◌, ℕ, ◌≤◌, List, [], ◌∷◌, map, refl, sym, ap, ◌∙◌, subst}
 use Rattle.auto_core.specs.Automaton.{Automaton, IsAutomaton}
-use Rattle.auto_core.specs.declared.parts.Mode.TheVariants.{Buchi}
+use Rattle.auto_core.specs.declared.parts.Mode.{Mode}
 use Rattle.bit_rel.specs.Relation.{Relation}
 use Rattle.cert_text.specs.declared.types.FirstStep.{FirstStep}
 use Rattle.cert_text.specs.declared.types.FirstStep.TheVariants as first
@@ -53,12 +53,12 @@ one_second_step (step.Merge by classes) a b (these, are, p) (those, too, q) = p 
 one_second_step (step.Cut pair look gone back ahead) a b p q = p ∙ sym q
 
 -- There is one end of a reduction, and one log.
-module _ (A B C : Automaton) (k : ℕ) (log other : List Step) (valid : IsAutomaton A) (some : 1 ≤ k) (is : IsLog A Buchi k B log) (also : IsLog A Buchi k C other) where
+module _ (A B C : Automaton) (m : Mode) (k : ℕ) (log other : List Step) (valid : IsAutomaton A) (some : 1 ≤ k) (is : IsLog A m k B log) (also : IsLog A m k C other) where
   same_log : log ≡ other
-  same_log = log_one A B C Buchi k log other valid some is also
+  same_log = log_one A B C m k log other valid some is also
 
   same_end : B ≡ C
-  same_end = reduced_one A B C Buchi k valid some (log_of_reduced A B Buchi k log is) (log_of_reduced A C Buchi k other also)
+  same_end = reduced_one A B C m k valid some (log_of_reduced A B m k log is) (log_of_reduced A C m k other also)
 
   same_first : (firsts others : List FirstStep) → AreFirstWritten log firsts → AreFirstWritten other others → firsts ≡ others
   same_first firsts others a b = one_written Step FirstStep IsFirstWritten one_first_step log firsts others a (subst (λ l. AreFirstWritten l others) (sym same_log) b)
@@ -67,9 +67,9 @@ module _ (A B C : Automaton) (k : ℕ) (log other : List Step) (valid : IsAutoma
   same_second seconds others a b = one_written Step SecondStep IsSecondWritten one_second_step log seconds others a (subst (λ l. AreSecondWritten l others) (sym same_log) b)
 
 pub reductions_are_one : ReductionsAreOne
-reductions_are_one pair k at other one two some p q =
-    let first = same_end pair.first at.first other.first k p.first_steps q.first_steps one some p.first_reduced q.first_reduced in
-    let second = same_end pair.second at.second other.second k p.second_steps q.second_steps two some p.second_reduced q.second_reduced in
-    let firsts = same_first pair.first at.first other.first k p.first_steps q.first_steps one some p.first_reduced q.first_reduced at.first_log other.first_log p.first_written q.first_written in
-    let seconds = same_second pair.second at.second other.second k p.second_steps q.second_steps two some p.second_reduced q.second_reduced at.second_log other.second_log p.second_written q.second_written in
+reductions_are_one pair terms at other one two some p q =
+    let first = same_end pair.first at.first other.first terms.mode terms.look p.first_steps q.first_steps one some p.first_reduced q.first_reduced in
+    let second = same_end pair.second at.second other.second terms.mode terms.look p.second_steps q.second_steps two some p.second_reduced q.second_reduced in
+    let firsts = same_first pair.first at.first other.first terms.mode terms.look p.first_steps q.first_steps one some p.first_reduced q.first_reduced at.first_log other.first_log p.first_written q.first_written in
+    let seconds = same_second pair.second at.second other.second terms.mode terms.look p.second_steps q.second_steps two some p.second_reduced q.second_reduced at.second_log other.second_log p.second_written q.second_written in
     λ i. record { first = first i; second = second i; first_log = firsts i; second_log = seconds i }

@@ -15,7 +15,7 @@ use Rattle.reduce_loop.specs.declared.steps.Kind.{Kind}
 use Rattle.reduce_loop.specs.declared.steps.Kind.TheVariants.{Trim, Forward, Backward, Delayed, Prune}
 use Rattle.reduce_loop.specs.declared.steps.Step.{Step}
 use Rattle.reduce_loop.specs.Kinds.{kinds_of, After}
-use Rattle.reduce_loop.specs.Logs.{IsBackOf, IsAheadOf, IsCutOf, IsEntry, IsLog, pairs_of as relation_pairs}
+use Rattle.reduce_loop.specs.Logs.{IsBackOf, IsAheadOf, IsCutOf, IsEntry, IsLog, pairs_given as relation_pairs}
 use Rattle.reduce_loop.proofs.MakingLemmas.{useful_below}
 use Rattle.cert_text.specs.declared.types.FirstStep.{FirstStep}
 use Rattle.cert_text.specs.declared.types.FirstStep.TheVariants as first

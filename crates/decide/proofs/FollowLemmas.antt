@@ -10,7 +10,7 @@ use Rattle.auto_core.specs.Delayed.{HoldsPair, AreRankedBelow}
 use Rattle.auto_core.specs.Game.{Close, Holds, ArePairsBelow, IsGreatest, IsGreatestForward, IsGreatestBackward}
 use Rattle.auto_core.specs.Pruning.{AtSource, AtTarget, HasBetter, IsCut, IsPruned, look_back, look_ahead}
 use Rattle.auto_core.specs.Quotient.{IsQuotient}
-use Rattle.auto_core.specs.Useful.{IsKept, IsTrimmed}
+use Rattle.auto_core.specs.Useful.{IsKeptPart, IsTrimmed}
 use Rattle.auto_core.specs.declared.parts.Mode.{Mode}
 use Rattle.auto_core.specs.declared.parts.Mode.TheVariants.{Buchi, Finite}
 use Rattle.auto_core.proofs.PathLemmas.{Contains-here, Contains-later}
@@ -23,7 +23,7 @@ use Rattle.reduce_loop.specs.declared.steps.Kind.{Kind}
 use Rattle.reduce_loop.specs.declared.steps.Kind.TheVariants.{Trim, Forward, Backward, Delayed, Prune}
 use Rattle.reduce_loop.specs.declared.steps.Step.{Step}
 use Rattle.reduce_loop.specs.Kinds.{kinds_of, AreDelayedPairs, IsMerged, After}
-use Rattle.reduce_loop.specs.Logs.{IsUsefulList, IsMergeOf, IsDelayedMergeOf, IsBackOf, IsAheadOf, IsCutOf, IsEntry, LogThrough, LogPasses, pairs_of as relation_pairs}
+use Rattle.reduce_loop.specs.Logs.{IsUsefulList, IsMergeOf, IsDelayedMergeOf, IsBackOf, IsAheadOf, IsCutOf, IsEntry, LogThrough, LogPasses, pairs_given as relation_pairs}
 use Rattle.reduce_loop.proofs.DelayedLemmas.{same_pairs}
 use Rattle.reduce_loop.proofs.MergeLemmas.{same_classes, same_closure}
 use Rattle.reduce_loop.proofs.StepLemmas.{after_valid}
@@ -159,7 +159,7 @@ rank_block_below n X block is range =
 
 -- ---- where a trim and a merge lead
 
-pub trim_leads : (A B : Automaton) (mode : Mode) (kept : List ℕ) → IsTrimmed A mode B → IsUsefulList A mode kept → IsKept A kept B
+pub trim_leads : (A B : Automaton) (mode : Mode) (kept : List ℕ) → IsTrimmed A mode B → IsUsefulList A mode kept → IsKeptPart A kept B
 trim_leads A B mode kept (these, are, keeps) list =
     kept_by_members A these kept (λ q h. (list.useful q).1 ((are q).0 h)) (λ q h. (are q).1 ((list.useful q).0 h)) B keeps
 

@@ -15,14 +15,14 @@ use Rattle.reduce_loop.specs.declared.steps.Kind.{Kind}
 use Rattle.reduce_loop.specs.declared.steps.Kind.TheVariants.{Trim, Forward, Backward, Delayed, Prune}
 use Rattle.reduce_loop.specs.declared.steps.Step.{Step}
 use Rattle.reduce_loop.specs.Kinds.{kinds_of, After}
-use Rattle.reduce_loop.specs.Logs.{IsMergeOf, IsDelayedMergeOf, IsEntry, IsLog, pairs_of as relation_pairs}
+use Rattle.reduce_loop.specs.Logs.{IsMergeOf, IsDelayedMergeOf, IsEntry, IsLog, pairs_given as relation_pairs}
 use Rattle.reduce_loop.proofs.MakingLemmas.{useful_below}
 use Rattle.cert_text.specs.declared.types.SecondStep.{SecondStep}
 use Rattle.cert_text.specs.declared.types.SecondStep.TheVariants as second
 use Rattle.cert_text.specs.declared.types.Grounds.TheVariants as grounds
 use Rattle.cert_text.specs.declared.types.RelBlock.{RelBlock}
 use Rattle.cert_text.specs.declared.types.RankBlock.{RankBlock}
-use Rattle.log_check.specs.Blocks.{pairs_of, IsBlockBelow, ranked_of, IsRankBlockBelow}
+use Rattle.log_check.specs.Blocks.{pairs_of, IsBlockBelow, ranked_pairs_of, IsRankBlockBelow}
 use Rattle.log_check.specs.Follows.{StepFollows}
 use Rattle.log_check.specs.Parts.{IsLook, AreTransitions}
 use Rattle.log_check.specs.SecondLog.{second_rules, SecondLogFollows}
@@ -57,9 +57,9 @@ module _ (A B : Automaton) (item : ℕ) where
   delayed_keeps : (ranks : Ranking) (classes : List ℕ) (block : RankBlock) → IsDelayedMergeOf A ranks classes → IsRankBlockOf ranks.pairs block → IsQuotient A classes B → KeepsAs (second.Merge (grounds.Delayed block) classes)
   delayed_keeps ranks classes block merge is leads =
       let below : IsRankBlockBelow A.states block = rank_block_below A.states ranks.pairs block is merge.greatest.in_range in
-      let right : IsRight A (ranked_of block) = subst (IsRight A) (sym is.pairs) merge.greatest.right in
+      let right : IsRight A (ranked_pairs_of block) = subst (IsRight A) (sym is.pairs) merge.greatest.right in
       let P : RankedPairs → Type 0 = λ X. RelatesMembersBy A classes (HoldsPair X) in
-      let related : RelatesMembersBy A classes (HoldsPair (ranked_of block)) = subst P (sym is.pairs) (members_related A (HoldsPair ranks.pairs) classes merge.joined) in
+      let related : RelatesMembersBy A classes (HoldsPair (ranked_pairs_of block)) = subst P (sym is.pairs) (members_related A (HoldsPair ranks.pairs) classes merge.joined) in
       record { holds = (below, ((merge.joined.len, merge.joined.valid), (right, (related, tt)))); leads = leads }
 
   cut_keeps : (n k : ℕ) (gone : List Gone) (back ahead : ℕ → ℕ → Type 0) → AreLeastBetter A n back ahead gone → IsCut A (numbers_of gone) B → KeepsAs (second.Cut (numbers_of gone))

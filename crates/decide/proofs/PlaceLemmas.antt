@@ -25,13 +25,6 @@ checks_from f n (x ∷ xs) each =
 pub checks_from_places : {X : Type 0} (f : ℕ → X → List Check) (xs : List X) → ((k : ℕ) (x : X) → At xs k x → AllHold (f k x)) → AllHold (checks_of_each f 0 xs)
 checks_from_places f xs each = checks_from f 0 xs (λ k x is. let e : k ≡ 0 + k = omega arith in subst (λ m. AllHold (f m x)) e (each k x is))
 
-pub same_by_places : {X : Type 0} (xs ys : List X) → length xs ≡ length ys → ((k : ℕ) (x y : X) → At xs k x → At ys k y → x ≡ y) → xs ≡ ys
-same_by_places [] [] size same = refl
-same_by_places [] (y ∷ ys) size same = absurd (omega arith)
-same_by_places (x ∷ xs) [] size same = absurd (omega arith)
-same_by_places (x ∷ xs) (y ∷ ys) size same =
-    ap (λ z. z ∷ xs) (same 0 x y refl refl) ∙ ap (λ zs. y ∷ zs) (same_by_places xs ys (omega arith) (λ k a b a_is b_is. same (suc k) a b a_is b_is))
-
 -- Filtering what a function gives.
 pub filter_of_map : {X Y : Type 0} (p : Y → Bool) (f : X → Y) (xs : List X) → filter p (map f xs) ≡ map f (filter (λ x. p (f x)) xs)
 filter_of_map p f [] = refl

@@ -9,7 +9,7 @@ use Rattle.std.proofs.lemmas.List.Elements.{Contains-append_cases, Contains-appe
 use Rattle.auto_core.specs.Delayed.{RankedPairs, HoldsPair, HasRank, HasPairsOnce}
 use Rattle.auto_core.proofs.PathLemmas.{Contains-cons_cases, Contains-here, Contains-later, none_in_nil}
 use Rattle.search_laws.proofs.ListLemmas.{in_map, map_has}
-use Rattle.bit_rel.specs.Relation.{IsBefore}
+use Rattle.bit_rel.specs.Relation.{IsPairBefore}
 use Rattle.cert_text.specs.declared.types.RankRow.{RankRow}
 use Rattle.cert_text.specs.declared.types.Ranked.{Ranked}
 use Rattle.cert_text.specs.WellFormed.{is_short, is_ranked, rights_of, has_some, ascend, ascend_from, is_rank_row, are_rank_rows}
@@ -204,7 +204,7 @@ module _ (X : RankedPairs) (n i : ℕ) (rows : List RankRow) where
       lacks q rank h = let (r, (k, k_in, e), is) = found.has q rank (range i q (rank, h)).1 h in omega arith
 
 -- Pairs in order, and then such behind them.
-order_join : (xs ys : RankedPairs) → AreRankedInOrder xs → AreRankedInOrder ys → ((x y : ℕ × ℕ × Option ℕ) → Contains xs x → Contains ys y → IsBefore (x.0, x.1) (y.0, y.1)) → AreRankedInOrder (xs ++ ys)
+order_join : (xs ys : RankedPairs) → AreRankedInOrder xs → AreRankedInOrder ys → ((x y : ℕ × ℕ × Option ℕ) → Contains xs x → Contains ys y → IsPairBefore (x.0, x.1) (y.0, y.1)) → AreRankedInOrder (xs ++ ys)
 order_join [] ys a b between = b
 order_join (x ∷ xs) ys (first, rest) b between = (
   λ y h. elim (Contains-append_cases xs ys y h) [
@@ -253,7 +253,7 @@ rank_rows_ascend bound (row ∷ rows) h =
 
 -- Two lists in order with the same members are one.
 abbrev Before : ℕ × ℕ × Option ℕ → ℕ × ℕ × Option ℕ → Type 0
-Before x y = IsBefore (x.0, x.1) (y.0, y.1)
+Before x y = IsPairBefore (x.0, x.1) (y.0, y.1)
 
 rises : (xs : RankedPairs) → AreRankedInOrder xs → Rises Before xs
 rises [] h = tt

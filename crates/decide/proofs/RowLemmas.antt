@@ -9,7 +9,7 @@ use Rattle.std.proofs.lemmas.List.Elements.{Contains-append_cases, Contains-appe
 use Rattle.auto_core.specs.Game.{Holds, ArePairsBelow}
 use Rattle.auto_core.proofs.PathLemmas.{Contains-cons_cases, Contains-here, Contains-later, none_in_nil}
 use Rattle.search_laws.proofs.ListLemmas.{in_map, map_has}
-use Rattle.bit_rel.specs.Relation.{IsBefore, ArePairsAscending}
+use Rattle.bit_rel.specs.Relation.{IsPairBefore, ArePairsAscending}
 use Rattle.bit_rel.proofs.PairLemmas.{same_pairs}
 use Rattle.cert_text.specs.declared.types.Row.{Row}
 use Rattle.cert_text.specs.WellFormed.{is_short, are_short, has_some, ascend, ascend_from, is_row, are_rows}
@@ -201,7 +201,7 @@ rows_same S n i rows rights range are found none = record {
     ]
 
 -- Ascending pairs, and then such behind them.
-ascending_join : (xs ys : List (ℕ × ℕ)) → ArePairsAscending xs → ArePairsAscending ys → ((x y : ℕ × ℕ) → Contains xs x → Contains ys y → IsBefore x y) → ArePairsAscending (xs ++ ys)
+ascending_join : (xs ys : List (ℕ × ℕ)) → ArePairsAscending xs → ArePairsAscending ys → ((x y : ℕ × ℕ) → Contains xs x → Contains ys y → IsPairBefore x y) → ArePairsAscending (xs ++ ys)
 ascending_join [] ys a b between = b
 ascending_join (x ∷ xs) ys (first, rest) b between = (
   λ y h. elim (Contains-append_cases xs ys y h) [

@@ -23,7 +23,7 @@ use Rattle.reduce_loop.specs.declared.steps.Kind.{Kind}
 use Rattle.reduce_loop.specs.declared.steps.Kind.TheVariants.{Trim, Forward, Backward, Delayed, Prune}
 use Rattle.reduce_loop.specs.declared.steps.Step.{Step}
 use Rattle.reduce_loop.specs.Kinds.{kinds_of, After}
-use Rattle.reduce_loop.specs.Logs.{IsUsefulList, IsCutOf, IsEntry, IsLogged, LogThrough, LogPasses, IsLog, pairs_of as relation_pairs}
+use Rattle.reduce_loop.specs.Logs.{IsUsefulList, IsCutOf, IsEntry, IsLogged, LogThrough, LogPasses, IsLog, pairs_given as relation_pairs}
 use Rattle.reduce_loop.specs.Size.{size_of, IsNoLarger}
 use Rattle.reduce_loop.proofs.DelayedLemmas.{none_in_finite}
 use Rattle.reduce_loop.proofs.MakingLemmas.{useful_below}

@@ -1,13 +1,17 @@
 -- The body that is made of what the search gave, and of both logs.
 use Rattle.std.specs.Prelude.{◌≡◌, ℕ, List}
+use Rattle.auto_core.specs.Automaton.{Automaton}
+use Rattle.auto_core.specs.Outcome.{Outcome, Entry, ComesOut}
+use Rattle.auto_core.specs.declared.parts.Origin.{Origin}
 use Rattle.cert_text.specs.declared.types.Body.{Body}
-use Rattle.cert_text.specs.declared.types.Body.TheVariants.{Yes, NoLasso, Listing}
+use Rattle.cert_text.specs.declared.types.Body.TheVariants.{Yes, Listing}
 use Rattle.cert_text.specs.declared.types.RelBlock.{RelBlock}
 use Rattle.cert_text.specs.declared.types.YesBody.{YesBody}
-use Rattle.ramsey_search.specs.declared.parts.Closure.{Closure}
-use Rattle.ramsey_search.specs.declared.parts.Outcome.{Outcome}
-use Rattle.ramsey_search.specs.declared.parts.Outcome.TheVariants as end
+use Rattle.evidence.specs.declared.parts.Closure.{Closure}
 use Rattle.decide.specs.declared.logs.Logs.{Logs}
+use Rattle.decide.specs.declared.terms.Terms.{Terms}
+use Rattle.decide.specs.Answer.{Reductions, IsBodyOf}
+use Rattle.decide.specs.Searches.{rules_in}
 use Rattle.decide.specs.Written.{IsBlockOf}
 
 -- The evidence of the closure with this block and these logs.
@@ -19,9 +23,16 @@ evidence_of logs c block =
 abbrev pub IsYesWith : Logs → List (ℕ × ℕ) → Closure → Body → Type 0
 IsYesWith logs S c body = (block : RelBlock) × IsBlockOf S block × (body ≡ Yes (evidence_of logs c block))
 
--- The body tells what the search gave. A no has no log.
-abbrev pub TellsOutcome : Logs → List (ℕ × ℕ) → ℕ → Outcome → Body → Type 0
-TellsOutcome logs S limit (end.Closed closure) body = IsYesWith logs S closure body
-TellsOutcome logs S limit (end.Apart lasso) body = body ≡ NoLasso lasso
-TellsOutcome logs S limit (end.Limit origins) body =
-    body ≡ Listing (record { first = logs.first; second = logs.second; limit = limit; elements = origins })
+-- The list of the origins.
+abbrev pub IsListWith : Logs → ℕ → List Origin → Body → Type 0
+IsListWith logs limit origins body = body ≡ Listing (record { first = logs.first; second = logs.second; limit = limit; elements = origins })
+
+-- These automata with these logs.
+abbrev pub ends_with : Automaton → Automaton → Logs → Reductions
+ends_with A B logs = record { first = A; second = B; first_log = logs.first; second_log = logs.second }
+
+-- The body is that of how the search on the two automata ends.
+pub record IsFoundBody (A B : Automaton) (logs : Logs) (terms : Terms) (S : List (ℕ × ℕ)) (body : Body) : Type 0 where
+  pub outcome : Outcome Entry
+  pub ends : ComesOut (rules_in terms.mode A B S) terms.limit outcome
+  pub is : IsBodyOf (ends_with A B logs) terms S outcome body

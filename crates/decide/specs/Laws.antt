@@ -1,9 +1,8 @@
 -- What the answers of a decision are.
 use Rattle.std.specs.Prelude.{◌≡◌, ℕ, ◌+◌, ◌≤◌, List, length}
 use Rattle.auto_core.specs.Automaton.{IsAutomaton}
-use Rattle.auto_core.specs.Accept.{Includes, SeparatesLasso}
-use Rattle.auto_core.specs.Outcome.{Outcome, Entry, AreListed, NoneSubsumedBefore}
-use Rattle.auto_core.specs.declared.parts.Mode.TheVariants.{Buchi}
+use Rattle.auto_core.specs.Accept.{Includes, SeparatesLasso, SeparatesWord}
+use Rattle.auto_core.specs.Outcome.{Outcome, Entry}
 use Rattle.ba_format.specs.declared.parts.Joined.{Joined}
 use Rattle.cert_text.specs.declared.types.Cert.{Cert}
 use Rattle.cert_text.specs.declared.types.Body.{Body}
@@ -18,7 +17,10 @@ use Rattle.log_check.specs.Ends.{AreEnds}
 use Rattle.reduce_loop.specs.Settled.{IsSettled}
 use Rattle.cert_check.specs.Inclusion.{origins_of, live_in}
 use Rattle.cert_check.specs.Laws.{IsValid}
-use Rattle.ramsey_search.specs.Ends.{LiveStandApart}
+use Rattle.evidence.specs.Evidence.{LiveStandApart}
+use Rattle.decide.specs.declared.terms.Terms.{Terms}
+use Rattle.decide.specs.Terms.{AreBounded}
+use Rattle.decide.specs.Searches.{rules_in, AreListedIn, NoneSubsumedEarlier}
 use Rattle.decide.specs.Answer.{HasFewParts, IsOrder, Decides, IsAnswer, Reductions, AreReductions}
 
 -- The two automata are valid, over as many labels as there are texts, and small enough to be decided.
@@ -43,99 +45,97 @@ abbrev pub IsValidVerdict : Joined → Cert → Type 0
 IsValidVerdict pair cert = SaysYesOrNo cert.body → IsValid pair cert
 
 -- The logs lead from the read automata to these two, in which no step of the reduction has anything left to do.
-pub record AreSettledEnds (pair : Joined) (k : ℕ) (firsts : List FirstStep) (seconds : List SecondStep) (ends : Ends) : Type 0 where
-  pub lead : AreEnds Buchi pair.first pair.second firsts seconds ends
-  pub first_settled : IsSettled ends.first Buchi k
-  pub second_settled : IsSettled ends.second Buchi k
+pub record AreSettledEnds (pair : Joined) (terms : Terms) (firsts : List FirstStep) (seconds : List SecondStep) (ends : Ends) : Type 0 where
+  pub lead : AreEnds terms.mode pair.first pair.second firsts seconds ends
+  pub first_settled : IsSettled ends.first terms.mode terms.look
+  pub second_settled : IsSettled ends.second terms.mode terms.look
 
 -- The logs of the evidence lead to settled automata, and no live element subsumes another, by the order that the search of these goes by.
-pub record StandApart (pair : Joined) (k : ℕ) (evidence : YesBody) : Type 0 where
+pub record StandApart (pair : Joined) (terms : Terms) (evidence : YesBody) : Type 0 where
   pub ends : Ends
-  pub settled : AreSettledEnds pair k evidence.first evidence.second ends
-  pub apart : (S : List (ℕ × ℕ)) → IsOrder ends.second S → LiveStandApart ends.first ends.second S (origins_of evidence) (live_in evidence)
+  pub settled : AreSettledEnds pair terms evidence.first evidence.second ends
+  pub apart : (S : List (ℕ × ℕ)) → IsOrder ends.second S →
+      LiveStandApart (rules_in terms.mode ends.first ends.second S) ends.first (origins_of evidence) (live_in evidence)
 
--- The logs of the list lead to settled automata. It has limit + 1 different supergraphs of these, and none is subsumed by an earlier one.
-pub record ListsNew (pair : Joined) (k limit : ℕ) (list : ListBody) : Type 0 where
+-- The logs of the list lead to settled automata. It has limit + 1 different supergraphs of these, in finite mode pairs of a state and a
+-- set, and none is subsumed by an earlier one.
+pub record ListsNew (pair : Joined) (terms : Terms) (list : ListBody) : Type 0 where
   pub ends : Ends
-  pub settled : AreSettledEnds pair k list.first list.second ends
-  pub listed : AreListed ends.first ends.second (limit + 1) list.elements
-  pub fresh : (S : List (ℕ × ℕ)) → IsOrder ends.second S → NoneSubsumedBefore ends.first ends.second S list.elements
+  pub settled : AreSettledEnds pair terms list.first list.second ends
+  pub listed : AreListedIn terms.mode ends.first ends.second (terms.limit + 1) list.elements
+  pub fresh : (S : List (ℕ × ℕ)) → IsOrder ends.second S → NoneSubsumedEarlier (rules_in terms.mode ends.first ends.second S) ends.first list.elements
 
 -- What the body says is so.
-abbrev pub SaysTruth : Joined → ℕ → ℕ → Body → Type 0
-SaysTruth pair k limit (Yes evidence) = Includes pair.first pair.second Buchi × StandApart pair k evidence
-SaysTruth pair k limit (NoLasso lasso) = SeparatesLasso pair.first pair.second lasso.prefix lasso.turn
-SaysTruth pair k limit (NoWord word) = ⊥
-SaysTruth pair k limit (Listing list) = ListsNew pair k limit list
+abbrev pub SaysTruth : Joined → Terms → Body → Type 0
+SaysTruth pair terms (Yes evidence) = Includes pair.first pair.second terms.mode × StandApart pair terms evidence
+SaysTruth pair terms (NoLasso lasso) = SeparatesLasso pair.first pair.second lasso.prefix lasso.turn
+SaysTruth pair terms (NoWord word) = SeparatesWord pair.first pair.second word
+SaysTruth pair terms (Listing list) = ListsNew pair terms list
 
--- A lookahead of the reduction, and a limit of the search.
-abbrev pub AreBounds : ℕ → ℕ → Type 0
-AreBounds k limit = (1 ≤ k) × (k ≤ 6) × (limit ≤ 100000)
-
--- Two answers for the same automata, at the same lookahead and limit, are one certificate.
+-- Two answers for the same automata, by the same terms, are one certificate.
 abbrev pub OneAnswer : Type 0
 OneAnswer =
-    (pair : Joined) (k limit : ℕ) (c d : Cert)
+    (pair : Joined) (terms : Terms) (c d : Cert)
     → IsAutomaton pair.first
     → IsAutomaton pair.second
-    → 1 ≤ k
-    → IsAnswer pair k limit c
-    → IsAnswer pair k limit d
+    → 1 ≤ terms.look
+    → IsAnswer pair terms c
+    → IsAnswer pair terms d
     → c ≡ d
 
 -- An answer has a text, at each lookahead from 1 to 6 and each limit up to 100,000.
 abbrev pub AnswersAreFormed : Type 0
 AnswersAreFormed =
-    (pair : Joined) (k limit : ℕ) (cert : Cert)
+    (pair : Joined) (terms : Terms) (cert : Cert)
     → CanDecide pair
-    → AreBounds k limit
-    → IsAnswer pair k limit cert
+    → AreBounded terms
+    → IsAnswer pair terms cert
     → WellFormed cert
 
 -- An answer that says yes or no keeps all rules of the check.
 abbrev pub AnswersAreValid : Type 0
 AnswersAreValid =
-    (pair : Joined) (k limit : ℕ) (cert : Cert)
+    (pair : Joined) (terms : Terms) (cert : Cert)
     → CanDecide pair
-    → AreBounds k limit
-    → IsAnswer pair k limit cert
+    → AreBounded terms
+    → IsAnswer pair terms cert
     → IsValidVerdict pair cert
 
 -- What an answer says is so.
 abbrev pub AnswersAreTrue : Type 0
 AnswersAreTrue =
-    (pair : Joined) (k limit : ℕ) (cert : Cert)
+    (pair : Joined) (terms : Terms) (cert : Cert)
     → CanDecide pair
-    → AreBounds k limit
-    → IsAnswer pair k limit cert
-    → SaysTruth pair k limit cert.body
+    → AreBounded terms
+    → IsAnswer pair terms cert
+    → SaysTruth pair terms cert.body
 
 -- Two automata have one pair of reduced ones, with one log each.
 abbrev pub ReductionsAreOne : Type 0
 ReductionsAreOne =
-    (pair : Joined) (k : ℕ) (at other : Reductions)
+    (pair : Joined) (terms : Terms) (at other : Reductions)
     → IsAutomaton pair.first
     → IsAutomaton pair.second
-    → 1 ≤ k
-    → AreReductions pair k at
-    → AreReductions pair k other
+    → 1 ≤ terms.look
+    → AreReductions pair terms at
+    → AreReductions pair terms other
     → at ≡ other
 
 -- The logs as they are written lead, by the rules of the check, from the two automata to the reduced ones.
 abbrev pub WrittenLogsLead : Type 0
 WrittenLogsLead =
-    (pair : Joined) (k : ℕ) (at : Reductions)
+    (pair : Joined) (terms : Terms) (at : Reductions)
     → IsAutomaton pair.first
     → IsAutomaton pair.second
-    → 1 ≤ k
-    → k ≤ 6
-    → AreReductions pair k at
-    → AreEnds Buchi pair.first pair.second at.first_log at.second_log (record { first = at.first; second = at.second })
+    → 1 ≤ terms.look
+    → terms.look ≤ 6
+    → AreReductions pair terms at
+    → AreEnds terms.mode pair.first pair.second at.first_log at.second_log (record { first = at.first; second = at.second })
 
 -- The search on the log ends has one order and one outcome.
 abbrev pub OneOutcomeDecides : Type 0
 OneOutcomeDecides =
-    (at : Reductions) (limit : ℕ) (S T : List (ℕ × ℕ)) (o p : Outcome Entry)
-    → Decides at limit S o
-    → Decides at limit T p
+    (at : Reductions) (terms : Terms) (S T : List (ℕ × ℕ)) (o p : Outcome Entry)
+    → Decides at terms S o
+    → Decides at terms T p
     → (S ≡ T) × (o ≡ p)

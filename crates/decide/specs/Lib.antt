@@ -1,3 +1,5 @@
+pub mod Terms
+pub mod Searches
 pub mod Written
 pub mod Answer
 pub mod Laws

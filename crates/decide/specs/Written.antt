@@ -18,7 +18,7 @@ use Rattle.cert_text.specs.declared.types.GoneBy.{GoneBy}
 use Rattle.cert_text.specs.declared.types.RelBlock.{RelBlock}
 use Rattle.cert_text.specs.declared.types.RankBlock.{RankBlock}
 use Rattle.cert_text.specs.WellFormed.{is_block, is_rank_block}
-use Rattle.log_check.specs.Blocks.{pairs_of, ranked_of}
+use Rattle.log_check.specs.Blocks.{pairs_of, ranked_pairs_of}
 
 -- The block lists just these pairs: its rows are not empty, and left and right numbers ascend.
 pub record IsBlockOf (S : List (ℕ × ℕ)) (block : RelBlock) : Type 0 where
@@ -28,7 +28,7 @@ pub record IsBlockOf (S : List (ℕ × ℕ)) (block : RelBlock) : Type 0 where
 -- The same of pairs that have a rank or none.
 pub record IsRankBlockOf (X : RankedPairs) (block : RankBlock) : Type 0 where
   pub formed : is_rank_block block ≡ true
-  pub pairs : ranked_of block ≡ X
+  pub pairs : ranked_pairs_of block ≡ X
 
 -- The things of the first list stand, one by one and in their order, for those of the second.
 abbrev pub AreWritten : (S T : Type 0) → (S → T → Type 0) → List S → List T → Type 0

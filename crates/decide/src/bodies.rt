@@ -1,14 +1,19 @@
-//! What a certificate claims, by how the search ended.
+//! What a certificate claims, by how the search ends.
 
-ghost use Rattle.std.specs.Prelude.{◌≤◌, IfOk};
-ghost use Rattle.decide.specs.Bodies.{IsYesWith, TellsOutcome};
+ghost use Rattle.std.specs.Prelude.{◌≡◌, ◌≤◌, IfOk};
+ghost use Rattle.auto_core.specs.Game.{IsGreatestForward};
+ghost use Rattle.auto_core.specs.declared.parts.Mode.TheVariants.{Buchi, Finite};
+ghost use Rattle.decide.specs.Bodies.{IsFoundBody, IsListWith, IsYesWith};
 
 use crate::logs::Logs;
 use crate::rows::block_of;
-use auto_core::Memory;
+use crate::terms::Terms;
+use antichain::WordOutcome;
+use auto_core::{Auto, List, Memory, Mode, Origin};
 use bit_rel::Rel;
 use cert_text::{Body, ListBody, YesBody};
-use ramsey_search::{Closure, Outcome};
+use evidence::Closure;
+use ramsey_search::Outcome;
 use std::alloc::Global;
 
 /// The evidence of a closed set.
@@ -26,25 +31,87 @@ fn yes_of(alloc: Global, logs: Logs, closure: Closure, order: &Rel) -> Result<Bo
     }))
 }
 
-/// The body of the certificate for the outcome of a search with this order and this limit, behind these logs.
-pub(crate) fn body_of(
-    alloc: Global,
-    logs: Logs,
-    outcome: Outcome,
-    order: &Rel,
-    limit: u32,
-) -> Result<Body, Memory>
-    requires { order.now.size ≤ 512 }
-    ensures { IfOk result (TellsOutcome logs order.now.pairs limit outcome) }
+/// The list of the elements of these origins.
+fn list_of(logs: Logs, limit: u32, origins: List<Origin>) -> Body
+    ensures { IsListWith logs limit origins result }
 {
-    match outcome {
+    Body::Listing(ListBody {
+        first: logs.first,
+        second: logs.second,
+        limit,
+        elements: origins,
+    })
+}
+
+/// The body for how the search over supergraphs ends, behind these logs.
+fn lasso_body(
+    alloc: Global,
+    first: &Auto,
+    second: &Auto,
+    order: &Rel,
+    terms: Terms,
+    logs: Logs,
+) -> Result<Body, Memory>
+    requires mode { terms.mode ≡ Buchi }
+    requires few { order.now.size ≤ 512 }
+    requires labels { first.now.labels ≡ second.now.labels }
+    requires order_size { order.now.size ≡ second.now.states }
+    requires greatest { IsGreatestForward second.now 1 order.now.pairs }
+    requires limit_from { 1 ≤ terms.limit }
+    requires limit_upto { terms.limit ≤ 100000 }
+    ensures { IfOk result (IsFoundBody first.now second.now logs terms order.now.pairs) }
+{
+    match ramsey_search::search(alloc, first, second, order, terms.limit)? {
         Outcome::Closed(closure) => yes_of(alloc, logs, closure, order),
         Outcome::Apart(lasso) => Ok(Body::NoLasso(lasso)),
-        Outcome::Limit(origins) => Ok(Body::Listing(ListBody {
-            first: logs.first,
-            second: logs.second,
-            limit,
-            elements: origins,
-        })),
+        Outcome::Limit(origins) => Ok(list_of(logs, terms.limit, origins)),
+    }
+}
+
+/// The body for how the search over pairs of a state and a set ends, behind these logs.
+fn word_body(
+    alloc: Global,
+    first: &Auto,
+    second: &Auto,
+    order: &Rel,
+    terms: Terms,
+    logs: Logs,
+) -> Result<Body, Memory>
+    requires mode { terms.mode ≡ Finite }
+    requires few { order.now.size ≤ 512 }
+    requires labels { first.now.labels ≡ second.now.labels }
+    requires order_size { order.now.size ≡ second.now.states }
+    requires greatest { IsGreatestForward second.now 1 order.now.pairs }
+    requires limit_from { 1 ≤ terms.limit }
+    requires limit_upto { terms.limit ≤ 100000 }
+    ensures { IfOk result (IsFoundBody first.now second.now logs terms order.now.pairs) }
+{
+    match antichain::search(alloc, first, second, order, terms.limit)? {
+        WordOutcome::Closed(closure) => yes_of(alloc, logs, closure, order),
+        WordOutcome::Apart(word) => Ok(Body::NoWord(word)),
+        WordOutcome::Limit(origins) => Ok(list_of(logs, terms.limit, origins)),
+    }
+}
+
+/// The body of the certificate for how the search of the mode ends on the two automata, behind these logs.
+pub(crate) fn body_of(
+    alloc: Global,
+    first: &Auto,
+    second: &Auto,
+    order: &Rel,
+    terms: Terms,
+    logs: Logs,
+) -> Result<Body, Memory>
+    requires few { order.now.size ≤ 512 }
+    requires labels { first.now.labels ≡ second.now.labels }
+    requires order_size { order.now.size ≡ second.now.states }
+    requires greatest { IsGreatestForward second.now 1 order.now.pairs }
+    requires limit_from { 1 ≤ terms.limit }
+    requires limit_upto { terms.limit ≤ 100000 }
+    ensures { IfOk result (IsFoundBody first.now second.now logs terms order.now.pairs) }
+{
+    match terms.mode {
+        Mode::Buchi => lasso_body(alloc, first, second, order, terms, logs),
+        Mode::Finite => word_body(alloc, first, second, order, terms, logs),
     }
 }

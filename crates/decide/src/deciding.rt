@@ -1,28 +1,29 @@
 //! The decision of an inclusion.
 
-ghost use Rattle.std.specs.Prelude.{◌≡◌, ◌≤◌, IfOk, length};
-ghost use Rattle.auto_core.specs.Accept.{Includes, SeparatesLasso};
+ghost use Rattle.std.specs.Prelude.{◌≡◌, ◌≤◌, ℕ, List, IfOk, length};
+ghost use Rattle.auto_core.specs.Accept.{Includes, SeparatesLasso, SeparatesWord};
 ghost use Rattle.auto_core.specs.declared.parts.Lasso.{Lasso};
-ghost use Rattle.auto_core.specs.declared.parts.Mode.TheVariants.{Buchi};
 ghost use Rattle.cert_text.specs.WellFormed.{WellFormed};
 ghost use Rattle.cert_text.specs.declared.types.YesBody.{YesBody};
 ghost use Rattle.cert_text.specs.declared.types.ListBody.{ListBody};
 ghost use Rattle.cert_text.specs.declared.types.Body.TheVariants as body;
 ghost use Rattle.decide.specs.Answer.{IsAnswer, HasFewParts};
+ghost use Rattle.decide.specs.Terms.{terms_of};
 ghost use Rattle.decide.specs.Laws.{IsValidVerdict, StandApart, ListsNew};
 
 use crate::bodies::body_of;
 use crate::logs::logs_of;
+use crate::terms::Terms;
 use auto_core::{Memory, Mode};
 use ba_format::Joined;
 use cert_text::Cert;
-use ramsey_search::search;
 use reduce_loop::reduce;
 use std::alloc::Global;
 
-/// Decides whether the second automaton accepts each lasso that the first accepts. Both are reduced at the lookahead, and the reduced
-/// ones are searched. The certificate is the answer: a yes with the evidence of a closed set, a no with a lasso that separates the two,
-/// or the list of limit + 1 supergraphs where the limit was met. A yes and a list have the logs of both reductions.
+/// Decides whether the second automaton accepts each lasso, in finite mode each word, that the first accepts. Both are reduced at the
+/// lookahead, and the reduced ones are searched. The certificate is the answer: a yes with the evidence of a closed set, a no with a lasso
+/// or word that separates the two, or the list of limit + 1 supergraphs, in finite mode pairs of a state and a set, where the limit was
+/// met. A yes and a list have the logs of both reductions.
 pub fn include(
     alloc: Global,
     pair: &Joined,
@@ -35,41 +36,42 @@ pub fn include(
     requires few_labels { length pair.now.labels ≤ 512 }
     requires first_parts { HasFewParts pair.now.first }
     requires second_parts { HasFewParts pair.now.second }
-    requires buchi { mode ≡ Buchi }
     requires look_from { 1 ≤ look }
     requires look_upto { look ≤ 6 }
     requires some { 1 ≤ limit }
     requires few { limit ≤ 100000 }
 
     // The certificate is the answer: what it has to hold for the outcome of the search on the reduced automata.
-    ensures answer { IfOk result (IsAnswer pair.now look limit) }
+    ensures answer { IfOk result (IsAnswer pair.now (terms_of mode look limit)) }
 
     // It has a text, and a yes and a no keep all rules of the check.
     ensures formed { IfOk result WellFormed }
     ensures valid { IfOk result (IsValidVerdict pair.now) }
 
     // A yes says an inclusion. Its logs lead to settled automata, and no live element of it subsumes another there.
-    ensures included { IfOk result (λ cert. (evidence : YesBody) → cert.body ≡ body.Yes evidence → Includes pair.now.first pair.now.second Buchi) }
-    ensures apart_live { IfOk result (λ cert. (evidence : YesBody) → cert.body ≡ body.Yes evidence → StandApart pair.now look evidence) }
+    ensures included { IfOk result (λ cert. (evidence : YesBody) → cert.body ≡ body.Yes evidence → Includes pair.now.first pair.now.second mode) }
+    ensures apart_live { IfOk result (λ cert. (evidence : YesBody) → cert.body ≡ body.Yes evidence → StandApart pair.now (terms_of mode look limit) evidence) }
 
-    // A no has a lasso that separates the two automata.
+    // A no has a lasso that separates the two automata, in finite mode a word.
     ensures apart { IfOk result (λ cert. (lasso : Lasso) → cert.body ≡ body.NoLasso lasso → SeparatesLasso pair.now.first pair.now.second lasso.prefix lasso.turn) }
+    ensures apart_word { IfOk result (λ cert. (word : List ℕ) → cert.body ≡ body.NoWord word → SeparatesWord pair.now.first pair.now.second word) }
 
-    // The logs of a list lead to settled automata. It has limit + 1 different supergraphs of these, none subsumed by an earlier one.
-    ensures listed { IfOk result (λ cert. (list : ListBody) → cert.body ≡ body.Listing list → ListsNew pair.now look limit list) }
+    // The logs of a list lead to settled automata. It has limit + 1 different supergraphs of these, in finite mode pairs of a state and a
+    // set, none subsumed by an earlier one.
+    ensures listed { IfOk result (λ cert. (list : ListBody) → cert.body ≡ body.Listing list → ListsNew pair.now (terms_of mode look limit) list) }
 {
     let first_states = pair.first.states();
     let second_states = pair.second.states();
     let first = reduce(alloc, &pair.first, mode, look)?;
     let second = reduce(alloc, &pair.second, mode, look)?;
     let order = direct_sim::relation(alloc, &second.auto, 1)?;
-    let outcome = search(alloc, &first.auto, &second.auto, &order, limit)?;
     let logs = logs_of(alloc, first.log.as_slice(), second.log.as_slice())?;
+    let terms = Terms { mode, look, limit };
     Ok(Cert {
         mode,
         first_states,
         second_states,
         labels: pair.labels.count(),
-        body: body_of(alloc, logs, outcome, &order, limit)?,
+        body: body_of(alloc, &first.auto, &second.auto, &order, terms, logs)?,
     })
 }

@@ -2,27 +2,27 @@
 
 ghost use Rattle.decide.specs.Laws.{OneAnswer, AnswersAreFormed, AnswersAreValid, AnswersAreTrue, ReductionsAreOne, WrittenLogsLead, OneOutcomeDecides};
 
-/// Two automata have one answer at a lookahead and a limit.
+/// Two automata have one answer at a mode, a lookahead and a limit.
 pub fn one_answer()
     ensures { OneAnswer }
 {}
 
-/// An answer has a text.
+/// An answer for automata that are small enough, at a lookahead and a limit within their bounds, has a text.
 pub fn answers_are_formed()
     ensures { AnswersAreFormed }
 {}
 
-/// An answer that says yes or no keeps all rules of the check.
+/// Such an answer, if it says yes or no, keeps all rules of the check.
 pub fn answers_are_valid()
     ensures { AnswersAreValid }
 {}
 
-/// What an answer says is so.
+/// What such an answer says is so.
 pub fn answers_are_true()
     ensures { AnswersAreTrue }
 {}
 
-/// Two automata have one pair of reduced ones with their logs.
+/// Two automata have one pair of reduced ones with their logs, at a mode and a lookahead.
 pub fn reductions_are_one()
     ensures { ReductionsAreOne }
 {}

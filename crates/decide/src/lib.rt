@@ -6,5 +6,7 @@ mod deciding;
 pub mod laws;
 mod logs;
 mod rows;
+mod terms;
 
 pub use deciding::include;
+pub use terms::Terms;

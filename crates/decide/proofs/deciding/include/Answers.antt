@@ -1,40 +1,37 @@
 use Rattle.std.proofs.Common.{List, refl, sym, subst, ◌∙◌, arith}
-use Rattle.auto_core.specs.declared.parts.Mode.{Mode}
-use Rattle.auto_core.specs.declared.parts.Mode.TheVariants.{Buchi}
 use Rattle.bit_rel.specs.Relation.{Relation, IsRelation}
 use Rattle.bit_rel.proofs.TableLemmas.{valid_table}
 use Rattle.reduce_loop.specs.declared.steps.Step.{Step}
-use Rattle.reduce_loop.specs.Logs.{IsLog}
 use Rattle.reduce_loop.proofs.PassLemmas.{reduced_no_larger}
 use Rattle.decide.specs.Answer.{IsOrder}
+use Rattle.decide.specs.Terms.{AreBounded, terms_of}
+use Rattle.decide.specs.Laws.{CanDecide}
 use Rattle.decide.specs.Logs.{AreStepsOnFew, AreLogsOf}
 use Rattle.decide.proofs.EndLemmas.{log_few}
 use Rattle.decide.proofs.MadeLemmas.{answer_made}
-use Rattle.decide.proofs.AnswerLemmas.{answers_are_formed, answers_are_valid, yes_includes, yes_stands_apart, no_separates, list_is_new}
+use Rattle.decide.proofs.AnswerLemmas.{answers_are_formed, answers_are_valid, yes_includes, yes_stands_apart, no_separates, word_tells_apart, list_is_new}
 use Rattle.decide.proofs.deciding.include.Goals as goal
 
-pub search-requires-clause-labels : goal.search-requires-clause-labels
-search-requires-clause-labels c =
+pub body_of-requires-clause-labels : goal.body_of-requires-clause-labels
+body_of-requires-clause-labels c =
     let first = reduced_no_larger c.args.pair.now.first c.in_ok-first.first.auto c.args.mode c.args.look c.states-first_states.ensures.valid c.requires.look_from c.in_ok-first.ensures.reduced in
     let second = reduced_no_larger c.args.pair.now.second c.in_ok-second.second.auto c.args.mode c.args.look c.states-second_states.ensures.valid c.requires.look_from c.in_ok-second.ensures.reduced in
     first.labels ∙ c.requires.first_labels ∙ sym c.requires.second_labels ∙ sym second.labels
 
 pub logs_of-requires-clause-first : goal.logs_of-requires-clause-first
 logs_of-requires-clause-first c =
-    let A = c.args.pair.now.first in
     let reduced = c.in_ok-first.first in
-    let log : IsLog A Buchi c.args.look reduced.auto reduced.log = subst (λ (m : Mode). IsLog A m c.args.look reduced.auto reduced.log) c.requires.buchi c.in_ok-first.ensures.log in
-    subst (λ (l : List Step). AreStepsOnFew l) (sym c.as_slice.ensures) (log_few A reduced.auto c.args.look reduced.log c.states-first_states.ensures.valid c.requires.first_parts.states log)
+    subst (λ (l : List Step). AreStepsOnFew l) (sym c.as_slice.ensures)
+    (log_few c.args.pair.now.first reduced.auto c.args.mode c.args.look reduced.log c.states-first_states.ensures.valid c.requires.first_parts.states c.in_ok-first.ensures.log)
 
 pub logs_of-requires-clause-second : goal.logs_of-requires-clause-second
 logs_of-requires-clause-second c =
-    let B = c.args.pair.now.second in
     let reduced = c.in_ok-second.second in
-    let log : IsLog B Buchi c.args.look reduced.auto reduced.log = subst (λ (m : Mode). IsLog B m c.args.look reduced.auto reduced.log) c.requires.buchi c.in_ok-second.ensures.log in
-    subst (λ (l : List Step). AreStepsOnFew l) (sym c.as_slice-2.ensures) (log_few B reduced.auto c.args.look reduced.log c.states-second_states.ensures.valid c.requires.second_parts.states log)
+    subst (λ (l : List Step). AreStepsOnFew l) (sym c.as_slice-2.ensures)
+    (log_few c.args.pair.now.second reduced.auto c.args.mode c.args.look reduced.log c.states-second_states.ensures.valid c.requires.second_parts.states c.in_ok-second.ensures.log)
 
-pub body_of-requires : goal.body_of-requires
-body_of-requires c =
+pub body_of-requires-clause-few : goal.body_of-requires-clause-few
+body_of-requires-clause-few c =
     let less = reduced_no_larger c.args.pair.now.second c.in_ok-second.second.auto c.args.mode c.args.look c.states-second_states.ensures.valid c.requires.look_from c.in_ok-second.ensures.reduced in
     let fewer = less.states in
     omega (arith, c.in_ok-order.ensures.size, c.requires.second_parts.states)
@@ -42,85 +39,114 @@ body_of-requires c =
 pub returns-clause-answer : goal.returns-clause-answer
 returns-clause-answer c =
     let pair = c.args.pair.now in
-    let look = c.args.look in
     let first = c.in_ok-first.first in
     let second = c.in_ok-second.second in
     let logs = c.in_ok-logs.logs in
     let R = c.in_ok-order.order in
     let valid : IsRelation R = subst (λ (R : Relation). IsRelation R) c.order.view_is (valid_table c.order.inside.table.items c.order.inside.width c.order.inside.count) in
     let order : IsOrder second.auto R.pairs = record { greatest = c.in_ok-order.ensures.greatest; ascending = valid.in_order } in
-    let first_log : IsLog pair.first Buchi look first.auto first.log = subst (λ (m : Mode). IsLog pair.first m look first.auto first.log) c.requires.buchi c.in_ok-first.ensures.log in
-    let second_log : IsLog pair.second Buchi look second.auto second.log = subst (λ (m : Mode). IsLog pair.second m look second.auto second.log) c.requires.buchi c.in_ok-second.ensures.log in
     let written : AreLogsOf first.log second.log logs =
     subst (λ (l : List Step). AreLogsOf l second.log logs) c.as_slice.ensures (subst (λ (l : List Step). AreLogsOf c.as_slice.result.now l logs) c.as_slice-2.ensures c.in_ok-logs.ensures) in
-    answer_made pair look c.args.limit first second logs R.pairs first_log second_log written order c.in_ok-outcome.outcome c.in_ok-body_of.field-0 c.in_ok-outcome.ensures.answer c.in_ok-body_of.ensures
+    answer_made pair (terms_of c.args.mode c.args.look c.args.limit) first second logs R.pairs c.in_ok-first.ensures.log c.in_ok-second.ensures.log written order
     (record { mode = c.args.mode; first_states = c.states-first_states.result; second_states = c.states-second_states.result; labels = c.count.result; body = c.in_ok-body_of.field-0 })
-    c.requires.buchi
-    (c.states-first_states.ensures.count, c.states-second_states.ensures.count, c.count.ensures.count)
     refl
+    (c.states-first_states.ensures.count, c.states-second_states.ensures.count, c.count.ensures.count)
+    c.in_ok-body_of.ensures
 
 pub returns-clause-formed : goal.returns-clause-formed
-returns-clause-formed c = answers_are_formed c.args.pair.now c.args.look c.args.limit _ (record {
-  first = c.states-first_states.ensures.valid;
-  second = c.states-second_states.ensures.valid;
-  first_labels = c.requires.first_labels;
-  second_labels = c.requires.second_labels;
-  few_labels = c.requires.few_labels;
-  first_parts = c.requires.first_parts;
-  second_parts = c.requires.second_parts;
-}) (c.requires.look_from, c.requires.look_upto, c.requires.few) (returns-clause-answer c)
+returns-clause-formed c =
+    let can : CanDecide c.args.pair.now = record {
+      first = c.states-first_states.ensures.valid;
+      second = c.states-second_states.ensures.valid;
+      first_labels = c.requires.first_labels;
+      second_labels = c.requires.second_labels;
+      few_labels = c.requires.few_labels;
+      first_parts = c.requires.first_parts;
+      second_parts = c.requires.second_parts;
+    } in
+    let bounds : AreBounded (terms_of c.args.mode c.args.look c.args.limit) = record { look_from = c.requires.look_from; look_upto = c.requires.look_upto; few = c.requires.few } in
+    answers_are_formed c.args.pair.now (terms_of c.args.mode c.args.look c.args.limit) _ can bounds (returns-clause-answer c)
 
 pub returns-clause-valid : goal.returns-clause-valid
-returns-clause-valid c = answers_are_valid c.args.pair.now c.args.look c.args.limit _ (record {
-  first = c.states-first_states.ensures.valid;
-  second = c.states-second_states.ensures.valid;
-  first_labels = c.requires.first_labels;
-  second_labels = c.requires.second_labels;
-  few_labels = c.requires.few_labels;
-  first_parts = c.requires.first_parts;
-  second_parts = c.requires.second_parts;
-}) (c.requires.look_from, c.requires.look_upto, c.requires.few) (returns-clause-answer c)
+returns-clause-valid c =
+    let can : CanDecide c.args.pair.now = record {
+      first = c.states-first_states.ensures.valid;
+      second = c.states-second_states.ensures.valid;
+      first_labels = c.requires.first_labels;
+      second_labels = c.requires.second_labels;
+      few_labels = c.requires.few_labels;
+      first_parts = c.requires.first_parts;
+      second_parts = c.requires.second_parts;
+    } in
+    let bounds : AreBounded (terms_of c.args.mode c.args.look c.args.limit) = record { look_from = c.requires.look_from; look_upto = c.requires.look_upto; few = c.requires.few } in
+    answers_are_valid c.args.pair.now (terms_of c.args.mode c.args.look c.args.limit) _ can bounds (returns-clause-answer c)
 
 pub returns-clause-included : goal.returns-clause-included
-returns-clause-included c = yes_includes c.args.pair.now c.args.look c.args.limit _ (record {
-  first = c.states-first_states.ensures.valid;
-  second = c.states-second_states.ensures.valid;
-  first_labels = c.requires.first_labels;
-  second_labels = c.requires.second_labels;
-  few_labels = c.requires.few_labels;
-  first_parts = c.requires.first_parts;
-  second_parts = c.requires.second_parts;
-}) (c.requires.look_from, c.requires.look_upto, c.requires.few) (returns-clause-answer c)
+returns-clause-included c =
+    let can : CanDecide c.args.pair.now = record {
+      first = c.states-first_states.ensures.valid;
+      second = c.states-second_states.ensures.valid;
+      first_labels = c.requires.first_labels;
+      second_labels = c.requires.second_labels;
+      few_labels = c.requires.few_labels;
+      first_parts = c.requires.first_parts;
+      second_parts = c.requires.second_parts;
+    } in
+    let bounds : AreBounded (terms_of c.args.mode c.args.look c.args.limit) = record { look_from = c.requires.look_from; look_upto = c.requires.look_upto; few = c.requires.few } in
+    yes_includes c.args.pair.now (terms_of c.args.mode c.args.look c.args.limit) _ can bounds (returns-clause-answer c)
 
 pub returns-clause-apart_live : goal.returns-clause-apart_live
-returns-clause-apart_live c = yes_stands_apart c.args.pair.now c.args.look c.args.limit _ (record {
-  first = c.states-first_states.ensures.valid;
-  second = c.states-second_states.ensures.valid;
-  first_labels = c.requires.first_labels;
-  second_labels = c.requires.second_labels;
-  few_labels = c.requires.few_labels;
-  first_parts = c.requires.first_parts;
-  second_parts = c.requires.second_parts;
-}) (c.requires.look_from, c.requires.look_upto, c.requires.few) (returns-clause-answer c)
+returns-clause-apart_live c =
+    let can : CanDecide c.args.pair.now = record {
+      first = c.states-first_states.ensures.valid;
+      second = c.states-second_states.ensures.valid;
+      first_labels = c.requires.first_labels;
+      second_labels = c.requires.second_labels;
+      few_labels = c.requires.few_labels;
+      first_parts = c.requires.first_parts;
+      second_parts = c.requires.second_parts;
+    } in
+    let bounds : AreBounded (terms_of c.args.mode c.args.look c.args.limit) = record { look_from = c.requires.look_from; look_upto = c.requires.look_upto; few = c.requires.few } in
+    yes_stands_apart c.args.pair.now (terms_of c.args.mode c.args.look c.args.limit) _ can bounds (returns-clause-answer c)
 
 pub returns-clause-apart : goal.returns-clause-apart
-returns-clause-apart c = no_separates c.args.pair.now c.args.look c.args.limit _ (record {
-  first = c.states-first_states.ensures.valid;
-  second = c.states-second_states.ensures.valid;
-  first_labels = c.requires.first_labels;
-  second_labels = c.requires.second_labels;
-  few_labels = c.requires.few_labels;
-  first_parts = c.requires.first_parts;
-  second_parts = c.requires.second_parts;
-}) (c.requires.look_from, c.requires.look_upto, c.requires.few) (returns-clause-answer c)
+returns-clause-apart c =
+    let can : CanDecide c.args.pair.now = record {
+      first = c.states-first_states.ensures.valid;
+      second = c.states-second_states.ensures.valid;
+      first_labels = c.requires.first_labels;
+      second_labels = c.requires.second_labels;
+      few_labels = c.requires.few_labels;
+      first_parts = c.requires.first_parts;
+      second_parts = c.requires.second_parts;
+    } in
+    let bounds : AreBounded (terms_of c.args.mode c.args.look c.args.limit) = record { look_from = c.requires.look_from; look_upto = c.requires.look_upto; few = c.requires.few } in
+    no_separates c.args.pair.now (terms_of c.args.mode c.args.look c.args.limit) _ can bounds (returns-clause-answer c)
+
+pub returns-clause-apart_word : goal.returns-clause-apart_word
+returns-clause-apart_word c =
+    let can : CanDecide c.args.pair.now = record {
+      first = c.states-first_states.ensures.valid;
+      second = c.states-second_states.ensures.valid;
+      first_labels = c.requires.first_labels;
+      second_labels = c.requires.second_labels;
+      few_labels = c.requires.few_labels;
+      first_parts = c.requires.first_parts;
+      second_parts = c.requires.second_parts;
+    } in
+    let bounds : AreBounded (terms_of c.args.mode c.args.look c.args.limit) = record { look_from = c.requires.look_from; look_upto = c.requires.look_upto; few = c.requires.few } in
+    word_tells_apart c.args.pair.now (terms_of c.args.mode c.args.look c.args.limit) _ can bounds (returns-clause-answer c)
 
 pub returns-clause-listed : goal.returns-clause-listed
-returns-clause-listed c = list_is_new c.args.pair.now c.args.look c.args.limit _ (record {
-  first = c.states-first_states.ensures.valid;
-  second = c.states-second_states.ensures.valid;
-  first_labels = c.requires.first_labels;
-  second_labels = c.requires.second_labels;
-  few_labels = c.requires.few_labels;
-  first_parts = c.requires.first_parts;
-  second_parts = c.requires.second_parts;
-}) (c.requires.look_from, c.requires.look_upto, c.requires.few) (returns-clause-answer c)
+returns-clause-listed c =
+    let can : CanDecide c.args.pair.now = record {
+      first = c.states-first_states.ensures.valid;
+      second = c.states-second_states.ensures.valid;
+      first_labels = c.requires.first_labels;
+      second_labels = c.requires.second_labels;
+      few_labels = c.requires.few_labels;
+      first_parts = c.requires.first_parts;
+      second_parts = c.requires.second_parts;
+    } in
+    let bounds : AreBounded (terms_of c.args.mode c.args.look c.args.limit) = record { look_from = c.requires.look_from; look_upto = c.requires.look_upto; few = c.requires.few } in
+    list_is_new c.args.pair.now (terms_of c.args.mode c.args.look c.args.limit) _ can bounds (returns-clause-answer c)
