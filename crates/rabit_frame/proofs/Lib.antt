@@ -1,0 +1,4 @@
+pub mod OneLemmas
+pub mod TurnLemmas
+pub mod EndLemmas
+pub mod PutLemmas

@@ -1,0 +1,42 @@
+use Rattle.std.proofs.Common.{◌≡◌, ◌≤◌, ◌∙◌, ℕ, List, length, rules, subst, Option, OnErr}
+use Rattle.rabit_frame.specs.Files.{Output}
+use Rattle.shelf_io.specs.Shelf.{FileMap}
+use Rattle.shelf_io.specs.Counts.{Rose}
+use Rattle.rabit_frame.specs.Ending.{OfBoth, filed, IsCutShort}
+use Rattle.rabit_frame.proofs.EndLemmas.{on_error, ends_unread, ends_refused, ends_reached, ends_cut}
+use Rattle.rabit_frame.proofs.carrying.ending_of.Goals as goal
+
+pub returns-in-Err-ReadFault-clause-ends : goal.returns-in-Err-ReadFault-clause-ends
+returns-in-Err-ReadFault-clause-ends g c =
+    let e = c.in-Err-ReadFault.ensures in
+    ends_unread _ _ (g.H.Shelf.held c.args.shelf.now) _ (g.H.Shelf.held c.args.shelf.now) _ _ _ _ (e.some (search rules)) (e.read_fault (search rules)) e.files_stay e.puts_stay
+
+pub returns-in-Err-OutOfMemory-clause-ends : goal.returns-in-Err-OutOfMemory-clause-ends
+returns-in-Err-OutOfMemory-clause-ends g c =
+    let e = c.in-Err-OutOfMemory.ensures in
+    ends_refused _ _ (g.H.Shelf.held c.args.shelf.now) _ (g.H.Shelf.held c.args.shelf.now) _ _ _ _ (e.no_read_fault (search rules)) e.files_stay e.puts_stay
+
+pub returns-in-Ok-put_all-clause-ends : goal.returns-in-Ok-put_all-clause-ends
+returns-in-Ok-put_all-clause-ends g c =
+    let held = g.H.Shelf.held c.args.shelf.now in
+    let between : Option FileMap = g.H.Shelf.held c.reply_of.new.shelf in
+    let held' : Option FileMap = g.H.Shelf.held c.put_all.new.shelf in
+    let e = c.in-Ok.ensures in
+    let w = c.in-Ok-put_all.ensures in
+    let P : List Output → Type 0 = λ ps. OfBoth between held' (λ files files'. files' ≡ filed files ps) in
+    let none = w.faults_stay ∙ e.no_read_fault (λ is. cc) in
+    ends_reached _ _ held between held' _ _ _ _ c.in-Ok.reply e.right e.may e.files_stay (subst P c.as_slice.ensures w.written) none (w.done ∙ e.puts_stay)
+
+pub returns-clause-ends : goal.returns-clause-ends
+returns-clause-ends g c =
+    let held = g.H.Shelf.held c.args.shelf.now in
+    let between : Option FileMap = g.H.Shelf.held c.reply_of.new.shelf in
+    let held' : Option FileMap = g.H.Shelf.held c.put_all.new.shelf in
+    let e = c.in-Ok.ensures in
+    let failed = λ (P : Type 0) (h : OnErr c.put_all.result P). on_error P c.put_all.result c.in-Err._failed c.in-Err.is h in
+    let w = c.put_all.ensures in
+    let P : List Output → Type 0 = λ ps. OfBoth between held' (λ files files'. IsCutShort files ps files') in
+    let Q : List Output → Type 0 = λ ps. 1 ≤ length ps in
+    let R : ℕ → Type 0 = λ n. Rose n (g.H.Shelf.put_faults c.put_all.new.shelf) in
+    let none = w.faults_stay ∙ e.no_read_fault (λ is. cc) in
+    ends_cut _ _ held between held' _ _ _ _ c.in-Ok.reply e.right e.may e.files_stay (subst P c.as_slice.ensures (failed _ w.cut)) (subst Q c.as_slice.ensures (failed _ w.some)) none (subst R e.puts_stay (failed _ w.failed))

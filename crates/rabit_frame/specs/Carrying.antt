@@ -1,0 +1,78 @@
+-- What carrying out a command does to the outside, with no case on the command.
+use Rattle.std.specs.Prelude.{◌≡◌, ℕ, ◌≤◌, ◌⊎◌, List, take, Option, Some}
+use Rattle.std.specs.Io.KnownBytes.{append_known}
+use Rattle.shelf_io.specs.Counts.{Rose}
+use Rattle.shelf_io.specs.Shelf.{FileMap}
+use Rattle.rabit_frame.specs.declared.parts.Value.{Value}
+use Rattle.rabit_frame.specs.declared.parts.Reply.{Reply}
+use Rattle.rabit_frame.specs.declared.parts.Ending.{Ending}
+use Rattle.rabit_frame.specs.declared.parts.Ending.TheVariants as ending
+use Rattle.rabit_frame.specs.Files.{Input}
+use Rattle.rabit_frame.specs.Lines.{write_line}
+use Rattle.rabit_frame.specs.Statuses.{status_number, number_unsent}
+use Rattle.rabit_frame.specs.Reading.{ReadInTurn}
+use Rattle.rabit_frame.specs.Ending.{IsReplyFor, MayEnd, Leaves, OfBoth, filed, IsCutShort, WasGiven, WasSaid, SaysOnly}
+
+-- The command came to this end. Where the shelf tells its files, the reply is the right one and they are what it leaves. It is a read fault exactly
+-- where the shelf's count of failed reads rose, and a write fault exactly where that of failed puts did.
+pub record EndsSo (means : List Value → Reply → Type 0) (inputs : List Input) (end : Ending) (held held' : Option FileMap) (read_faults read_faults' put_faults put_faults' : ℕ) : Type 0 where
+  pub may : MayEnd means inputs end
+  pub leaves : OfBoth held held' (λ files files'. Leaves means inputs end files files')
+  pub read_fault : end ≡ ending.ReadFault → Rose read_faults read_faults'
+  pub no_read_fault : ¬ (end ≡ ending.ReadFault) → read_faults' ≡ read_faults
+  pub write_fault : end ≡ ending.WriteFault → Rose put_faults put_faults'
+  pub no_write_fault : ¬ (end ≡ ending.WriteFault) → put_faults' ≡ put_faults
+
+-- It came to an end, and that was said.
+pub record IsCarriedOut (means : List Value → Reply → Type 0) (inputs : List Input) (held held' : Option FileMap) (status : ℕ) (sent sent' : Option (List ℕ)) (give_faults give_faults' read_faults read_faults' put_faults put_faults' : ℕ) : Type 0 where
+  pub end : Ending
+  pub ends : EndsSo means inputs end held held' read_faults read_faults' put_faults put_faults'
+  pub said : WasSaid end status sent sent' give_faults give_faults'
+
+-- Whatever is the right reply: it was carried out whole, with its status, its text and its files, unless a count of the outside rose or memory was
+-- refused.
+abbrev pub SaysEach : (List Value → Reply → Type 0) → List Input → FileMap → Option FileMap → ℕ → Option (List ℕ) → Option (List ℕ) → ℕ → ℕ → ℕ → ℕ → ℕ → ℕ → Type 0
+SaysEach means inputs files held' status sent sent' give_faults give_faults' read_faults read_faults' put_faults put_faults' =
+    (r : Reply)
+    → IsReplyFor means inputs files r
+    → ((status ≡ status_number r.status) × (sent' ≡ append_known sent r.text) × (held' ≡ Some (filed files r.puts)))
+    ⊎ Rose read_faults read_faults'
+    ⊎ Rose give_faults give_faults'
+    ⊎ Rose put_faults put_faults'
+    ⊎ (status ≡ 8)
+
+-- A status of a command's own is that of the right reply, whose files are written and whose text was given.
+abbrev pub ShowsReply : (List Value → Reply → Type 0) → List Input → ℕ → Option (List ℕ) → Option (List ℕ) → ℕ → ℕ → FileMap → FileMap → Type 0
+ShowsReply means inputs status sent sent' give_faults give_faults' files files' =
+    (r : Reply)
+    × IsReplyFor means inputs files r
+    × (status_number r.status ≡ status)
+    × (files' ≡ filed files r.puts)
+    × WasGiven r.text (status_number r.status) (number_unsent r.status) status sent sent' give_faults give_faults'
+
+-- A result, with a status up to 2, is what the values that the files read as mean. Its files are written and its whole text was sent.
+abbrev pub ShowsResult : (List Value → Reply → Type 0) → List Input → ℕ → Option (List ℕ) → Option (List ℕ) → FileMap → FileMap → Type 0
+ShowsResult means inputs status sent sent' files files' =
+    (r : Reply)
+    × (values : List Value)
+    × ReadInTurn files inputs values
+    × means values r
+    × (status_number r.status ≡ status)
+    × (files' ≡ filed files r.puts)
+    × (sent' ≡ append_known sent r.text)
+
+-- A write fault: the sink refused a result whose files are all written, and took a front of its text; or the shelf refused one of the reply's files, and
+-- that was said.
+abbrev pub LeavesUnwritten : (List Value → Reply → Type 0) → List Input → Option (List ℕ) → Option (List ℕ) → ℕ → ℕ → ℕ → ℕ → FileMap → FileMap → Type 0
+LeavesUnwritten means inputs sent sent' give_faults give_faults' put_faults put_faults' files files' =
+    (r : Reply)
+    × IsReplyFor means inputs files r
+    × ((Rose give_faults give_faults' × (files' ≡ filed files r.puts) × (number_unsent r.status ≡ 7) × ((n : ℕ) × (sent' ≡ append_known sent (take n r.text))))
+    ⊎ (Rose put_faults put_faults' × IsCutShort files r.puts files' × SaysOnly write_line 7 sent sent' give_faults give_faults'))
+
+-- What a command leaves, by its status, where only its results write: a result comes with all of its files. A write fault leaves
+-- them too where the sink refused the text, and where the shelf's count rose a part of them. Nothing else writes a file.
+pub record LeavesByStatus (whole part : FileMap → FileMap → Type 0) (status put_faults put_faults' : ℕ) (files files' : FileMap) : Type 0 where
+  pub result : status ≤ 2 → whole files files'
+  pub write_fault : status ≡ 7 → whole files files' ⊎ (Rose put_faults put_faults' × part files files')
+  pub other : 3 ≤ status → ¬ (status ≡ 7) → files' ≡ files

@@ -1,0 +1,89 @@
+-- How a command ends: its reply is right, its files are written in order, and its text is given.
+use Rattle.std.specs.Prelude.{◌≡◌, ℕ, ◌≤◌, ◌⊎◌, List, [], ◌∷◌, length, take, Option, Some, None}
+use Rattle.std.specs.FinMap as map
+use Rattle.std.specs.Io.KnownBytes.{append_known}
+use Rattle.shelf_io.specs.Counts.{Rose}
+use Rattle.shelf_io.specs.Shelf.{FileMap}
+use Rattle.rabit_frame.specs.declared.parts.Value.{Value}
+use Rattle.rabit_frame.specs.declared.parts.Reply.{Reply}
+use Rattle.rabit_frame.specs.declared.parts.Ending.{Ending}
+use Rattle.rabit_frame.specs.declared.parts.Ending.TheVariants as ending
+use Rattle.rabit_frame.specs.Files.{Input, Output}
+use Rattle.rabit_frame.specs.Lines.{read_line, write_line, memory_line}
+use Rattle.rabit_frame.specs.Statuses.{status_number, number_unsent}
+use Rattle.rabit_frame.specs.Reading.{ReadInTurn, AreOfKinds, StopInTurn, MayStop}
+
+-- The right reply for these files: that of the first file that is not read, or what the values that they read as mean.
+abbrev pub IsReplyFor : (List Value → Reply → Type 0) → List Input → FileMap → Reply → Type 0
+IsReplyFor means inputs files r = StopInTurn files inputs r ⊎ ((values : List Value) × ReadInTurn files inputs values × means values r)
+
+-- A reply that may come, whatever the files hold.
+abbrev pub MayReply : (List Value → Reply → Type 0) → List Input → Reply → Type 0
+MayReply means inputs r = MayStop inputs r ⊎ ((values : List Value) × AreOfKinds inputs values × means values r)
+
+-- The files after all of these were written, in order.
+abbrev pub filed : FileMap → List Output → FileMap
+filed files [] = files
+filed files (p ∷ ps) = filed (map.insert files p.name p.bytes) ps
+
+-- The files where a put failed: those before it are written, its own holds a front of its bytes or what was there, and none after it is written.
+abbrev pub IsCutShort : FileMap → List Output → FileMap → Type 0
+IsCutShort files [] files' = ⊥
+IsCutShort files (p ∷ ps) files' =
+    (files' ≡ files)
+    ⊎ ((n : ℕ) × (files' ≡ map.insert files p.name (take n p.bytes)))
+    ⊎ IsCutShort (map.insert files p.name p.bytes) ps files'
+
+-- A shelf that tells its files tells them afterwards too, and then this holds of those before and those after.
+abbrev pub OfBoth : Option FileMap → Option FileMap → (FileMap → FileMap → Type 0) → Type 0
+OfBoth (Some files) held' P = (files' : FileMap) × (held' ≡ Some files') × P files files'
+OfBoth None held' P = held' ≡ None
+
+-- What the files are after a command that ended so. Only a reply writes, and only its own files.
+abbrev pub Leaves : (List Value → Reply → Type 0) → List Input → Ending → FileMap → FileMap → Type 0
+Leaves means inputs (ending.Reached r) files files' = IsReplyFor means inputs files r × (files' ≡ filed files r.puts)
+Leaves means inputs (ending.WriteFault) files files' = (r : Reply) × IsReplyFor means inputs files r × IsCutShort files r.puts files'
+Leaves means inputs (ending.ReadFault) files files' = files' ≡ files
+Leaves means inputs (ending.OutOfMemory) files files' = files' ≡ files
+
+-- How a command may end, whatever the shelf tells: a read fault only with a file to read, a write fault only with one to write.
+abbrev pub MayEnd : (List Value → Reply → Type 0) → List Input → Ending → Type 0
+MayEnd means inputs (ending.Reached r) = MayReply means inputs r
+MayEnd means inputs (ending.WriteFault) = (r : Reply) × MayReply means inputs r × (1 ≤ length r.puts)
+MayEnd means inputs (ending.ReadFault) = 1 ≤ length inputs
+MayEnd means inputs (ending.OutOfMemory) = Unit {0}
+
+-- What is printed at the end.
+abbrev pub ending_text : Ending → List ℕ
+ending_text (ending.Reached r) = r.text
+ending_text (ending.ReadFault) = read_line
+ending_text (ending.WriteFault) = write_line
+ending_text (ending.OutOfMemory) = memory_line
+
+-- The program's status where that was sent.
+abbrev pub status_of : Ending → ℕ
+status_of (ending.Reached r) = status_number r.status
+status_of (ending.ReadFault) = 6
+status_of (ending.WriteFault) = 7
+status_of (ending.OutOfMemory) = 8
+
+-- The program's status where it was not.
+abbrev pub status_unsent : Ending → ℕ
+status_unsent (ending.Reached r) = number_unsent r.status
+status_unsent (ending.ReadFault) = 6
+status_unsent (ending.WriteFault) = 7
+status_unsent (ending.OutOfMemory) = 8
+
+-- The text was given: the sink took all of it, with the one status, or its count rose and it took a front, with the other.
+abbrev pub WasGiven : List ℕ → ℕ → ℕ → ℕ → Option (List ℕ) → Option (List ℕ) → ℕ → ℕ → Type 0
+WasGiven said number unsent status sent sent' give_faults give_faults' =
+    ((status ≡ number) × (sent' ≡ append_known sent said) × (give_faults' ≡ give_faults))
+    ⊎ ((status ≡ unsent) × Rose give_faults give_faults' × ((n : ℕ) × (sent' ≡ append_known sent (take n said))))
+
+-- The text of the ending was given so.
+abbrev pub WasSaid : Ending → ℕ → Option (List ℕ) → Option (List ℕ) → ℕ → ℕ → Type 0
+WasSaid e status sent sent' give_faults give_faults' = WasGiven (ending_text e) (status_of e) (status_unsent e) status sent sent' give_faults give_faults'
+
+-- Nothing but this line was given, at this status.
+abbrev pub SaysOnly : List ℕ → ℕ → Option (List ℕ) → Option (List ℕ) → ℕ → ℕ → Type 0
+SaysOnly line status sent sent' give_faults give_faults' = WasGiven line status status status sent sent' give_faults give_faults'

@@ -1,0 +1,6 @@
+pub mod Files
+pub mod Lines
+pub mod Statuses
+pub mod Reading
+pub mod Ending
+pub mod Carrying

@@ -1,0 +1,132 @@
+-- What a command's files are read as, each in its turn.
+use Rattle.std.specs.Prelude.{◌≡◌, ℕ, ◌<◌, ◌≤◌, ◌^◌, ◌⊎◌, List, [], ◌∷◌, ◌++◌, length, codes, Option, Some, IfSome, false}
+use Rattle.std.specs.FinMap as map
+use Rattle.shelf_io.specs.Shelf.{FileMap}
+use Rattle.auto_core.specs.Automaton.{IsAutomaton}
+use Rattle.ba_format.specs.declared.parts.BaFault.{BaFault}
+use Rattle.ba_format.specs.Faults.{fault_of}
+use Rattle.ba_format.specs.Reading.{Reads, IsWithinLimits}
+use Rattle.cert_text.specs.declared.faults.TextFault.{TextFault}
+use Rattle.cert_text.specs.Law.{FirstFault}
+use Rattle.cert_text.specs.Text.{text}
+use Rattle.cert_text.specs.WellFormed.{WellFormed}
+use Rattle.rabit_frame.specs.declared.parts.FileKind.{FileKind}
+use Rattle.rabit_frame.specs.declared.parts.FileKind.TheVariants as kind
+use Rattle.rabit_frame.specs.declared.parts.Value.{Value}
+use Rattle.rabit_frame.specs.declared.parts.Value.TheVariants as value
+use Rattle.rabit_frame.specs.declared.parts.Status.{Status}
+use Rattle.rabit_frame.specs.declared.parts.Status.TheVariants as status
+use Rattle.rabit_frame.specs.declared.parts.Reply.{Reply}
+use Rattle.rabit_frame.specs.declared.parts.Halt.{Halt}
+use Rattle.rabit_frame.specs.declared.parts.Halt.TheVariants as halt
+use Rattle.rabit_frame.specs.Files.{Input, Output}
+use Rattle.rabit_frame.specs.Lines.{kind_name, text_kind_name, file_line, certificate_line}
+
+-- A reply with this text, which writes these files.
+abbrev pub reply_with : Status → List ℕ → List Output → Reply
+reply_with s said puts = record { status = s; text = said; puts = puts }
+
+-- A reply that writes nothing.
+abbrev pub only_said : Status → List ℕ → Reply
+only_said s said = reply_with s said []
+
+-- The most bytes of a file: 16 MiB of an automaton's, 1 GiB of a certificate's.
+abbrev pub most_bytes : FileKind → ℕ
+most_bytes (kind.Automaton number limits) = 2 ^ 24
+most_bytes (kind.Certificate) = 2 ^ 30
+
+-- What is said of a file that has more.
+abbrev pub long_reply : FileKind → Reply
+long_reply (kind.Automaton number limits) = only_said status.BadFile (file_line number 0 (codes "Long"))
+long_reply (kind.Certificate) = only_said status.BadCertificate (certificate_line 0 (codes "Long"))
+
+-- The bytes read as this: an automaton within the limits, or the certificate whose text they are.
+abbrev pub ReadsAs : FileKind → List ℕ → Value → Type 0
+ReadsAs (kind.Automaton number limits) bytes (value.Automaton named) = Reads bytes limits named
+ReadsAs (kind.Certificate) bytes (value.Certificate cert) = WellFormed cert × (bytes ≡ text cert)
+ReadsAs k bytes v = ⊥
+
+-- The bytes have a fault, and this tells it.
+abbrev pub HasFault : FileKind → List ℕ → Reply → Type 0
+HasFault (kind.Automaton number limits) bytes r =
+    (fault : BaFault) × (fault_of bytes limits ≡ Some fault) × (r ≡ only_said status.BadFile (file_line number fault.line (kind_name fault.kind)))
+HasFault (kind.Certificate) bytes r =
+    (fault : TextFault) × FirstFault bytes fault × (r ≡ only_said status.BadCertificate (certificate_line fault.line (text_kind_name fault.kind)))
+
+-- What is known of a value that was read, whatever the bytes.
+abbrev pub IsOfKind : FileKind → Value → Type 0
+IsOfKind (kind.Automaton number limits) (value.Automaton named) = IsWithinLimits limits named × IsAutomaton named.auto
+IsOfKind (kind.Certificate) (value.Certificate cert) = WellFormed cert
+IsOfKind k v = ⊥
+
+-- The shelf has these bytes under the name.
+abbrev pub HasBytes : FileMap → List ℕ → List ℕ → Type 0
+HasBytes files name bytes = map.get files name ≡ Some bytes
+
+-- The shelf has no file of this name.
+abbrev pub IsMissing : FileMap → List ℕ → Type 0
+IsMissing files name = map.contains_key files name ≡ false
+
+-- The file reads as this value.
+abbrev pub FileReads : FileMap → Input → Value → Type 0
+FileReads files input v =
+    (bytes : List ℕ) × HasBytes files input.name bytes × (length bytes ≤ most_bytes input.kind) × ReadsAs input.kind bytes v
+
+-- The file is too long, or has a fault, and this tells it.
+abbrev pub FileStops : FileMap → Input → Reply → Type 0
+FileStops files input r =
+    (bytes : List ℕ)
+    × HasBytes files input.name bytes
+    × (((most_bytes input.kind < length bytes) × (r ≡ long_reply input.kind))
+    ⊎ ((length bytes ≤ most_bytes input.kind) × HasFault input.kind bytes r))
+
+-- The files read as these values, one for each.
+abbrev pub ReadInTurn : FileMap → List Input → List Value → Type 0
+ReadInTurn files [] [] = Unit {0}
+ReadInTurn files (i ∷ is) (v ∷ vs) = FileReads files i v × ReadInTurn files is vs
+ReadInTurn files is vs = ⊥
+
+-- The values are of the kinds of the files, one for each.
+abbrev pub AreOfKinds : List Input → List Value → Type 0
+AreOfKinds [] [] = Unit {0}
+AreOfKinds (i ∷ is) (v ∷ vs) = IsOfKind i.kind v × AreOfKinds is vs
+AreOfKinds is vs = ⊥
+
+-- A file stops the reading, and those before it read as values.
+abbrev pub StopInTurn : FileMap → List Input → Reply → Type 0
+StopInTurn files [] r = ⊥
+StopInTurn files (i ∷ is) r = FileStops files i r ⊎ ((read : Value) × FileReads files i read × StopInTurn files is r)
+
+-- A file is missing, and those before it read as values.
+abbrev pub MissInTurn : FileMap → List Input → Type 0
+MissInTurn files [] = ⊥
+MissInTurn files (i ∷ is) = IsMissing files i.name ⊎ ((read : Value) × FileReads files i read × MissInTurn files is)
+
+-- The count of missing names stays, or a name was missing in its turn.
+abbrev pub CountsInTurn : FileMap → List Input → ℕ → ℕ → Type 0
+CountsInTurn files inputs before now = (now ≡ before) ⊎ MissInTurn files inputs
+
+-- What may be said of a file of this kind that is not read, whatever it holds.
+abbrev pub MayStopAt : FileKind → Reply → Type 0
+MayStopAt k r = (r ≡ long_reply k) ⊎ ((bytes : List ℕ) × HasFault k bytes r)
+
+-- The same of one of the files.
+abbrev pub MayStop : List Input → Reply → Type 0
+MayStop [] r = ⊥
+MayStop (i ∷ is) r = MayStopAt i.kind r ⊎ MayStop is r
+
+-- A fact of the reply that reading ended with, where it ended with one.
+abbrev pub HaltsBy : (Reply → Type 0) → Halt → Type 0
+HaltsBy P (halt.Stopped r) = P r
+HaltsBy P h = Unit {0}
+
+-- Where the shelf tells its files, they read as these values.
+abbrev pub TellsRead : Option FileMap → List Input → List Value → Type 0
+TellsRead held inputs values = IfSome held (λ files. ReadInTurn files inputs values)
+
+-- All values after those before: one for each of these files, of its kind, and where the shelf tells its files, what they read as.
+pub record AddsRead (held : Option FileMap) (inputs : List Input) (before all : List Value) : Type 0 where
+  pub read : List Value
+  pub whole : all ≡ before ++ read
+  pub kinds : AreOfKinds inputs read
+  pub in_turn : TellsRead held inputs read

@@ -1,0 +1,14 @@
+//! The frame of every command: files are read in turn, the reply is found, its files are written in order, and its text is given.
+#![tactic(auto)]
+
+mod carrying;
+mod lines;
+mod parts;
+mod putting;
+mod reading;
+mod work;
+
+pub use carrying::{answer_one, carry_out};
+pub use lines::{append, line};
+pub use parts::{FileKind, Put, Reply, Slot, Status, Value};
+pub use work::Work;

@@ -1,0 +1,90 @@
+-- The numbers of a question are in their ranges.
+use Rattle.std.proofs.Common.{◌≡◌, ℕ, ◌≤◌, Bool, true, false, List, [], ◌∷◌, codes, Option, Some, None, IfSome, if◌then◌else◌, refl, arith}
+use Rattle.std.specs.Prelude.{option_map, option_and_then}
+use Rattle.std.specs.Str.{bytes_eq}
+use Rattle.clap.specs.Words.{Row, Kinds, first_of, fault_of, subcommand_of}
+use Rattle.rabit_words.specs.Number.{number_between, number_or}
+use Rattle.rabit_words.specs.Command.{rabit_app}
+use Rattle.rabit_words.specs.Question.{HasNumbersInRange, look_in, limit_in, number_at, asks_include, asks_check, asks_reduce, asks_drill, asks_by, asks_found, asks_unless, has_help_word, question_of}
+use Rattle.rabit_words.proofs.NumberLemmas.{number_in_range}
+
+and_then_gives : {X Y : Type 0} (P : Y → Type 0) (f : X → Option Y) (o : Option X) → ((x : X) → o ≡ Some x → IfSome (f x) P) → IfSome (option_and_then f o) P
+and_then_gives P f None h = tt
+and_then_gives P f (Some x) h = h x refl
+
+map_gives : {X Y : Type 0} (P : Y → Type 0) (f : X → Y) (o : Option X) → ((x : X) → o ≡ Some x → P (f x)) → IfSome (option_map f o) P
+map_gives P f None h = tt
+map_gives P f (Some x) h = h x refl
+
+choice_gives : {Y : Type 0} (P : Y → Type 0) (b : Bool) (x y : Option Y) → IfSome x P → IfSome y P → IfSome (if b then x else y) P
+choice_gives P true x y p q = p
+choice_gives P false x y p q = q
+
+number_or_range : (usual low high : ℕ) (o : Option (List ℕ)) (n : ℕ) → low ≤ usual → usual ≤ high → number_or usual low high o ≡ Some n → (low ≤ n) × (n ≤ high)
+number_or_range usual low high None n from upto e = let same : usual ≡ n = cc in (omega arith, omega arith)
+number_or_range usual low high (Some text) n from upto e = number_in_range low high text n e
+
+number_at_range : (id : List ℕ) (low high : ℕ) (rows : List Row) (n : ℕ) → number_at id low high rows ≡ Some n → (low ≤ n) × (n ≤ high)
+number_at_range id low high rows n e = go (first_of id rows) e
+  where
+    go : (o : Option (List ℕ)) → option_and_then (number_between low high) o ≡ Some n → (low ≤ n) × (n ≤ high)
+    go None h = absurd (let f = h in cc)
+    go (Some text) h = number_in_range low high text n h
+
+module _ (rows : List Row) where
+  look_range : (k : ℕ) → look_in rows ≡ Some k → (1 ≤ k) × (k ≤ 6)
+  look_range k e = number_or_range 3 1 6 (first_of (codes "look") rows) k (omega arith) (omega arith) e
+
+  limit_range : (n : ℕ) → limit_in rows ≡ Some n → (1 ≤ n) × (n ≤ 100000)
+  limit_range n e = number_or_range 20000 1 100000 (first_of (codes "limit") rows) n (omega arith) (omega arith) e
+
+  include_range : IfSome (asks_include rows) HasNumbersInRange
+  include_range =
+      and_then_gives HasNumbersInRange _ (first_of (codes "A") rows) (λ a is_a.
+      and_then_gives HasNumbersInRange _ (first_of (codes "B") rows) (λ b is_b.
+      and_then_gives HasNumbersInRange _ (first_of (codes "CERT") rows) (λ c is_c.
+      and_then_gives HasNumbersInRange _ (look_in rows) (λ look is_look.
+      map_gives HasNumbersInRange _ (limit_in rows) (λ limit is_limit.
+      let k = look_range look is_look in
+      let n = limit_range limit is_limit in
+      (k.0, k.1, n.0, n.1))))))
+
+  check_range : IfSome (asks_check rows) HasNumbersInRange
+  check_range =
+      and_then_gives HasNumbersInRange _ (first_of (codes "A") rows) (λ a is_a.
+      and_then_gives HasNumbersInRange _ (first_of (codes "B") rows) (λ b is_b.
+      map_gives HasNumbersInRange _ (first_of (codes "CERT") rows) (λ c is_c. tt)))
+
+  reduce_range : IfSome (asks_reduce rows) HasNumbersInRange
+  reduce_range =
+      and_then_gives HasNumbersInRange _ (first_of (codes "A") rows) (λ a is_a.
+      map_gives HasNumbersInRange _ (look_in rows) (λ look is_look. look_range look is_look))
+
+  drill_range : IfSome (asks_drill rows) HasNumbersInRange
+  drill_range =
+      and_then_gives HasNumbersInRange _ (number_at (codes "SEED") 0 4294967295 rows) (λ seed is_seed.
+      and_then_gives HasNumbersInRange _ (number_at (codes "STATES") 2 512 rows) (λ states is_states.
+      map_gives HasNumbersInRange _ (number_at (codes "LABELS") 1 26 rows) (λ labels is_labels.
+      let s = number_at_range (codes "SEED") 0 4294967295 rows seed is_seed in
+      let n = number_at_range (codes "STATES") 2 512 rows states is_states in
+      let l = number_at_range (codes "LABELS") 1 26 rows labels is_labels in
+      let upto = s.1 in
+      (omega arith, n.0, n.1, l.0, l.1))))
+
+  by_range : (name : List ℕ) → IfSome (asks_by name rows) HasNumbersInRange
+  by_range name =
+      choice_gives HasNumbersInRange (bytes_eq name (codes "include")) (asks_include rows) _ include_range
+      (choice_gives HasNumbersInRange (bytes_eq name (codes "check")) (asks_check rows) _ check_range
+      (choice_gives HasNumbersInRange (bytes_eq name (codes "reduce")) (asks_reduce rows) _ reduce_range
+      (choice_gives HasNumbersInRange (bytes_eq name (codes "drill")) (asks_drill rows) None drill_range tt)))
+
+found_range : (found : Option (List ℕ × List Row)) → IfSome (asks_found found) HasNumbersInRange
+found_range None = tt
+found_range (Some (name, rows)) = by_range rows name
+
+unless_range : (kinds : Kinds) (found : Option (List ℕ × List Row)) → IfSome (asks_unless kinds found) HasNumbersInRange
+unless_range [] found = found_range found
+unless_range (k ∷ ks) found = tt
+
+pub question_in_range : (words : List (List ℕ)) → IfSome (question_of words) HasNumbersInRange
+question_in_range words = choice_gives HasNumbersInRange (has_help_word words) None _ tt (unless_range (fault_of rabit_app (codes "rabit" ∷ words)) (subcommand_of rabit_app (codes "rabit" ∷ words)))

@@ -1,0 +1,49 @@
+-- The one command whose matches give the question.
+use Rattle.std.specs.Prelude.{ℕ, true, List, codes, Some}
+use Rattle.clap.specs.Words.{App, Rule, Shape, new_app, new_rule, with_rule, with_subcommand}
+use Rattle.clap.specs.Simple.{on_top}
+use Rattle.clap.specs.declared.builder.action.ArgAction.TheVariants.{Set, SetTrue}
+
+-- A word that has to stand in its place.
+abbrev pub place : List ℕ → Rule
+place id = record (new_rule id) { required = true; action = Some Set }
+
+-- An option with a word after it.
+abbrev pub option_with_word : List ℕ → Rule
+option_with_word id = record (new_rule id) { long = Some id; action = Some Set }
+
+-- An option alone.
+abbrev pub option_alone : List ℕ → Rule
+option_alone id = record (new_rule id) { long = Some id; action = Some SetTrue }
+
+-- A command of this name with the places of two automata and a certificate.
+abbrev pub three_files_app : List ℕ → App
+three_files_app name = with_rule (with_rule (with_rule (new_app name) (place (codes "A"))) (place (codes "B"))) (place (codes "CERT"))
+
+-- `include A B CERT [--finite] [--look K] [--limit N]`
+abbrev pub include_app : App
+include_app =
+    with_rule (with_rule (with_rule (three_files_app (codes "include")) (option_alone (codes "finite"))) (option_with_word (codes "look"))) (option_with_word (codes "limit"))
+
+-- `check A B CERT`
+abbrev pub check_app : App
+check_app = three_files_app (codes "check")
+
+-- `reduce A [--finite] [--look K]`
+abbrev pub reduce_app : App
+reduce_app = with_rule (with_rule (with_rule (new_app (codes "reduce")) (place (codes "A"))) (option_alone (codes "finite"))) (option_with_word (codes "look"))
+
+-- `drill SEED STATES LABELS`
+abbrev pub drill_app : App
+drill_app = with_rule (with_rule (with_rule (new_app (codes "drill")) (place (codes "SEED"))) (place (codes "STATES"))) (place (codes "LABELS"))
+
+-- The command needs one of its subcommands.
+abbrev pub needing_subcommand : Shape → Shape
+needing_subcommand s = record s { subcommand_required = true }
+
+-- The program's command.
+abbrev pub rabit_app : App
+rabit_app =
+    with_subcommand
+    (with_subcommand (with_subcommand (with_subcommand (on_top needing_subcommand (new_app (codes "rabit"))) include_app.top) check_app.top) reduce_app.top)
+    drill_app.top

@@ -1,0 +1,120 @@
+-- What the words after the program's name ask.
+use Rattle.std.specs.Prelude.{ℕ, ◌≤◌, ◌<◌, ◌^◌, ◌||◌, Bool, false, List, [], ◌∷◌, codes, Option, Some, None, option_map, option_and_then, if◌then◌else◌}
+use Rattle.std.specs.List.{list_any}
+use Rattle.std.specs.Str.{bytes_eq}
+use Rattle.std.specs.String.{string_bytes}
+use Rattle.auto_core.specs.declared.parts.Mode.{Mode}
+use Rattle.auto_core.specs.declared.parts.Mode.TheVariants.{Buchi, Finite}
+use Rattle.clap.specs.Words.{Row, first_of, fault_of, subcommand_of, Kinds}
+use Rattle.rabit_words.specs.declared.parts.Question.{Question as Held}
+use Rattle.rabit_words.specs.declared.parts.Question.TheVariants as held
+use Rattle.rabit_words.specs.Number.{number_between, number_or}
+use Rattle.rabit_words.specs.Command.{rabit_app}
+
+-- A command with its files' names and its numbers.
+pub data Question : Type 0 where
+  Include : (first second certificate : List ℕ) (mode : Mode) (look limit : ℕ) → Question
+  Check : (first second certificate : List ℕ) → Question
+  Reduce : (name : List ℕ) (mode : Mode) (look : ℕ) → Question
+  Drill : (seed states labels : ℕ) → Question
+
+-- The question with its names as bytes.
+abbrev pub told : Held → Question
+told (held.Include a b c mode look limit) = Include (string_bytes a) (string_bytes b) (string_bytes c) mode look limit
+told (held.Check a b c) = Check (string_bytes a) (string_bytes b) (string_bytes c)
+told (held.Reduce a mode look) = Reduce (string_bytes a) mode look
+told (held.Drill seed states labels) = Drill seed states labels
+
+-- The mode, by what stands for `--finite`.
+abbrev pub mode_by : Option (List ℕ) → Mode
+mode_by None = Buchi
+mode_by (Some text) = if bytes_eq text (codes "true") then Finite else Buchi
+
+-- The lookahead, from 1 to 6, and 3 where none is named.
+abbrev pub look_in : List Row → Option ℕ
+look_in rows = number_or 3 1 6 (first_of (codes "look") rows)
+
+-- The limit of a search, from 1 to 100,000, and 20,000 where none is named.
+abbrev pub limit_in : List Row → Option ℕ
+limit_in rows = number_or 20000 1 100000 (first_of (codes "limit") rows)
+
+-- The number in this place, from `low` to `high`.
+abbrev pub number_at : List ℕ → ℕ → ℕ → List Row → Option ℕ
+number_at id low high rows = option_and_then (number_between low high) (first_of id rows)
+
+-- What is asked where these stand in the places of `include`.
+abbrev pub asks_include : List Row → Option Question
+asks_include rows =
+    option_and_then
+    (λ a. option_and_then
+    (λ b. option_and_then
+    (λ c. option_and_then
+    (λ look. option_map (λ limit. Include a b c (mode_by (first_of (codes "finite") rows)) look limit) (limit_in rows))
+    (look_in rows)) (first_of (codes "CERT") rows)) (first_of (codes "B") rows)) (first_of (codes "A") rows)
+
+-- The same of `check`.
+abbrev pub asks_check : List Row → Option Question
+asks_check rows =
+    option_and_then
+    (λ a. option_and_then
+    (λ b. option_map (λ c. Check a b c) (first_of (codes "CERT") rows)) (first_of (codes "B") rows)) (first_of (codes "A") rows)
+
+-- The same of `reduce`.
+abbrev pub asks_reduce : List Row → Option Question
+asks_reduce rows =
+    option_and_then
+    (λ a. option_map (λ look. Reduce a (mode_by (first_of (codes "finite") rows)) look) (look_in rows)) (first_of (codes "A") rows)
+
+-- The same of `drill`: a seed below 2^32, 2 to 512 states, 1 to 26 labels.
+abbrev pub asks_drill : List Row → Option Question
+asks_drill rows =
+    option_and_then
+    (λ seed. option_and_then
+    (λ states. option_map (λ labels. Drill seed states labels) (number_at (codes "LABELS") 1 26 rows))
+    (number_at (codes "STATES") 2 512 rows)) (number_at (codes "SEED") 0 4294967295 rows)
+
+-- What is asked by the subcommand of this name.
+abbrev pub asks_by : List ℕ → List Row → Option Question
+asks_by name rows =
+    if bytes_eq name (codes "include") then asks_include rows
+    else (if bytes_eq name (codes "check") then asks_check rows
+    else (if bytes_eq name (codes "reduce") then asks_reduce rows
+    else (if bytes_eq name (codes "drill") then asks_drill rows else None)))
+
+-- The same of the subcommand that was found, if one was.
+abbrev pub asks_found : Option (List ℕ × List Row) → Option Question
+asks_found None = None
+asks_found (Some found) = asks_by found.0 found.1
+
+-- The same, where the words have no fault.
+abbrev pub asks_unless : Kinds → Option (List ℕ × List Row) → Option Question
+asks_unless [] found = asks_found found
+asks_unless (kind ∷ kinds) found = None
+
+-- What the whole command line asks, by the matches of the program's command.
+abbrev pub asks_on_line : List (List ℕ) → Option Question
+asks_on_line line = asks_unless (fault_of rabit_app line) (subcommand_of rabit_app line)
+
+-- `-h` or `--help`.
+abbrev pub is_help_option : List ℕ → Bool
+is_help_option word = bytes_eq word (codes "-h") || bytes_eq word (codes "--help")
+
+-- The first word is `help`.
+abbrev pub starts_with_help : List (List ℕ) → Bool
+starts_with_help [] = false
+starts_with_help (word ∷ words) = bytes_eq word (codes "help")
+
+-- The first word is `help`, or any is a help option.
+abbrev pub has_help_word : List (List ℕ) → Bool
+has_help_word words = starts_with_help words || list_any is_help_option words
+
+-- The question of the words: there is none where they hold a help word, have a fault by the command, or spell a number otherwise or out of its range.
+abbrev pub question_of : List (List ℕ) → Option Question
+question_of words = if has_help_word words then None else asks_on_line (codes "rabit" ∷ words)
+
+-- The numbers of a question are in their ranges.
+abbrev pub HasNumbersInRange : Question → Type 0
+HasNumbersInRange (Include a b c mode look limit) = (1 ≤ look) × (look ≤ 6) × (1 ≤ limit) × (limit ≤ 100000)
+HasNumbersInRange (Check a b c) = Unit {0}
+HasNumbersInRange (Reduce a mode look) = (1 ≤ look) × (look ≤ 6)
+HasNumbersInRange (Drill seed states labels) = (seed < 2 ^ 32) × (2 ≤ states) × (states ≤ 512) × (1 ≤ labels) × (labels ≤ 26)

@@ -1,0 +1,97 @@
+//! The program's command, as `clap` has it.
+
+ghost use Rattle.std.specs.Prelude.{◌≡◌, false, codes, IfOk};
+ghost use Rattle.clap.specs.Words.{rule_of, app_of};
+ghost use Rattle.clap.specs.declared.builder.command.Command.TheViews.{out-Command};
+ghost use Rattle.rabit_words.specs.Command.{place, option_with_word, option_alone, three_files_app, include_app, check_app, reduce_app, drill_app, rabit_app};
+
+use clap::{Arg, ArgAction, Command};
+use std::alloc::{AllocError, Global};
+
+/// A word that has to stand in its place.
+fn place<'a>(alloc: Global, id: &'a str) -> Arg<'a>
+    ensures rule { rule_of result ≡ place id.entry.now }
+    ensures local { result.global ≡ false }
+{
+    Arg::new(alloc, id).required(true).action(ArgAction::Set)
+}
+
+/// An option with a word after it.
+fn option_with_word<'a>(alloc: Global, id: &'a str) -> Arg<'a>
+    ensures rule { rule_of result ≡ option_with_word id.entry.now }
+    ensures local { result.global ≡ false }
+{
+    Arg::new(alloc, id).long(id).action(ArgAction::Set)
+}
+
+/// An option alone.
+fn option_alone<'a>(alloc: Global, id: &'a str) -> Arg<'a>
+    ensures rule { rule_of result ≡ option_alone id.entry.now }
+    ensures local { result.global ≡ false }
+{
+    Arg::new(alloc, id).long(id).action(ArgAction::SetTrue)
+}
+
+/// A command of this name with the places of two automata and a certificate.
+fn with_three_files<'a>(alloc: Global, name: &'a str) -> Result<Command<'a>, AllocError>
+    ensures app { IfOk result (λ c. app_of c ≡ three_files_app name.entry.now) }
+    ensures local { IfOk result (λ c. (out-Command c).has_globals ≡ false) }
+{
+    Command::new(alloc, name)
+        .arg(place(alloc, "A"))?
+        .arg(place(alloc, "B"))?
+        .arg(place(alloc, "CERT"))
+}
+
+/// `include A B CERT [--finite] [--look K] [--limit N]`
+fn include<'a>(alloc: Global) -> Result<Command<'a>, AllocError>
+    ensures app { IfOk result (λ c. app_of c ≡ include_app) }
+    ensures local { IfOk result (λ c. (out-Command c).has_globals ≡ false) }
+{
+    with_three_files(alloc, "include")?
+        .arg(option_alone(alloc, "finite"))?
+        .arg(option_with_word(alloc, "look"))?
+        .arg(option_with_word(alloc, "limit"))
+}
+
+/// `check A B CERT`
+fn check<'a>(alloc: Global) -> Result<Command<'a>, AllocError>
+    ensures app { IfOk result (λ c. app_of c ≡ check_app) }
+    ensures local { IfOk result (λ c. (out-Command c).has_globals ≡ false) }
+{
+    with_three_files(alloc, "check")
+}
+
+/// `reduce A [--finite] [--look K]`
+fn reduce<'a>(alloc: Global) -> Result<Command<'a>, AllocError>
+    ensures app { IfOk result (λ c. app_of c ≡ reduce_app) }
+    ensures local { IfOk result (λ c. (out-Command c).has_globals ≡ false) }
+{
+    Command::new(alloc, "reduce")
+        .arg(place(alloc, "A"))?
+        .arg(option_alone(alloc, "finite"))?
+        .arg(option_with_word(alloc, "look"))
+}
+
+/// `drill SEED STATES LABELS`
+fn drill<'a>(alloc: Global) -> Result<Command<'a>, AllocError>
+    ensures app { IfOk result (λ c. app_of c ≡ drill_app) }
+    ensures local { IfOk result (λ c. (out-Command c).has_globals ≡ false) }
+{
+    Command::new(alloc, "drill")
+        .arg(place(alloc, "SEED"))?
+        .arg(place(alloc, "STATES"))?
+        .arg(place(alloc, "LABELS"))
+}
+
+/// The program's command, which needs one of its subcommands.
+pub fn rabit<'a>(alloc: Global) -> Result<Command<'a>, AllocError>
+    ensures { IfOk result (λ c. app_of c ≡ rabit_app) }
+{
+    Command::new(alloc, "rabit")
+        .subcommand_required(true)
+        .subcommand(include(alloc)?)?
+        .subcommand(check(alloc)?)?
+        .subcommand(reduce(alloc)?)?
+        .subcommand(drill(alloc)?)
+}

@@ -1,0 +1,50 @@
+//! What a command line can ask.
+
+use auto_core::Mode;
+
+/// A question: a command with its files' names and its numbers.
+#[derive(Debug, Drop)]
+pub enum Question {
+    /// Decides an inclusion and writes its certificate.
+    Include {
+        /// The first automaton's file.
+        first: String,
+        /// The second automaton's file.
+        second: String,
+        /// The file that the certificate is written to.
+        certificate: String,
+        /// Lassos or finite words.
+        mode: Mode,
+        /// The lookahead of the reductions, from 1 to 6.
+        look: u32,
+        /// The most elements of the search, from 1 to 100,000.
+        limit: u32,
+    },
+    /// Checks a certificate.
+    Check {
+        /// The first automaton's file.
+        first: String,
+        /// The second automaton's file.
+        second: String,
+        /// The certificate's file.
+        certificate: String,
+    },
+    /// Reduces an automaton.
+    Reduce {
+        /// The automaton's file.
+        name: String,
+        /// Lassos or finite words.
+        mode: Mode,
+        /// The lookahead, from 1 to 6.
+        look: u32,
+    },
+    /// Makes two automata, decides both inclusions and checks both certificates.
+    Drill {
+        /// The seed of the numbers that are drawn.
+        seed: u32,
+        /// The states of each automaton, from 2 to 512.
+        states: u32,
+        /// The labels, from 1 to 26.
+        labels: u32,
+    },
+}
