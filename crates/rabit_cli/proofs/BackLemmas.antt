@@ -7,15 +7,16 @@ use Rattle.std.specs.List.Sorted.{IsPermutation}
 use Rattle.std.proofs.lemmas.List.Sorted.{IsPermutation-refl}
 use Rattle.auto_core.specs.declared.parts.Trans.{Trans}
 use Rattle.auto_core.specs.Automaton.{Automaton, IsAutomaton, IsInRange, trans}
-use Rattle.auto_core.specs.Accept.{Same}
-use Rattle.auto_core.specs.declared.parts.Mode.TheVariants.{Buchi}
+use Rattle.auto_core.specs.Accept.{Includes, Same}
+use Rattle.auto_core.specs.declared.parts.Mode.{Mode}
+use Rattle.auto_core.specs.declared.parts.Mode.TheVariants.{Buchi, Finite}
 use Rattle.ba_format.specs.declared.parts.Limits.{Limits}
 use Rattle.ba_format.specs.declared.parts.Named.{Named}
 use Rattle.ba_format.specs.declared.parts.Joined.{Joined}
 use Rattle.ba_format.specs.Joining.{relabelled, IsRelabelled, IsJoined}
 use Rattle.ba_format.specs.Laws.{IsWritable}
 use Rattle.ba_format.specs.Reading.{Reads}
-use Rattle.ba_format.specs.Sight.{same_text, number_in, AreDifferent}
+use Rattle.ba_format.specs.Sight.{same_text, place_in, AreDifferent}
 use Rattle.ba_format.specs.Writing.{written}
 use Rattle.ba_format.proofs.BackLemmas.{written_reads_back}
 use Rattle.ba_format.proofs.CountLemmas.{written_is_read}
@@ -25,13 +26,13 @@ use Rattle.ba_format.proofs.LawLemmas.{built_once, contains_first, contains_late
 use Rattle.ba_format.proofs.RenameLemmas.{IsRenaming, renamed_same}
 use Rattle.ba_format.proofs.SightLemmas.{same_text-refl, same_text-equal}
 use Rattle.reduce_loop.specs.declared.steps.Kind.TheVariants.{Trim, Forward, Backward, Delayed}
-use Rattle.reduce_loop.specs.Kinds.{prunings}
+use Rattle.reduce_loop.specs.Kinds.{kinds_of, prunings}
 use Rattle.reduce_loop.specs.Passes.{IsReduced}
 use Rattle.reduce_loop.specs.Settled.{IsSettled}
 use Rattle.reduce_loop.proofs.PassLemmas.{reduced_no_larger}
-use Rattle.rabit_cli.specs.Command.{reduce_limits}
-use Rattle.rabit_cli.specs.Reducing.{printed_limits, ReadsBackSame}
-use Rattle.rabit_cli.proofs.LookLemmas.{reduced_labels}
+use Rattle.rabit_cli.specs.Files.{reduce_limits}
+use Rattle.rabit_cli.specs.Reduce.{printed_limits, ReadsBackSame}
+use Rattle.rabit_cli.proofs.LabelLemmas.{reduced_labels}
 
 -- ---- the first labels keep their numbers
 
@@ -42,15 +43,15 @@ differs text other h = by (same_text text other) refl
     by true e = absurd (h (sym (same_text-equal text other e)))
     by false e = refl
 
-number_here : (labels more : List (List ℕ)) (a : ℕ) → AreDifferent labels → a < length labels → number_in same_text (labels ++ more) (get_or labels a []) ≡ a
+number_here : (labels more : List (List ℕ)) (a : ℕ) → AreDifferent labels → a < length labels → place_in same_text (labels ++ more) (get_or labels a []) ≡ a
 number_here [] more a different lt = absurd (omega arith)
-number_here (x ∷ xs) more zero different lt = ap (λ b. cond (not b) (1 + number_in same_text (xs ++ more) x) 0) (same_text-refl x)
+number_here (x ∷ xs) more zero different lt = ap (λ b. cond (not b) (1 + place_in same_text (xs ++ more) x) 0) (same_text-refl x)
 number_here (x ∷ xs) more (suc k) different lt =
     let text = get_or xs k [] in
     let other : same_text text x ≡ false = differs text x (different zero (suc k) [] (omega arith) lt) in
     let rest = number_here xs more k (λ i j d short within. different (suc i) (suc j) d (omega arith) (omega arith)) (omega arith) in
-    let step = ap (λ b. cond (not b) (1 + number_in same_text (xs ++ more) text) 0) other in
-    let sum : 1 + number_in same_text (xs ++ more) text ≡ suc k = omega (arith, rest) in
+    let step = ap (λ b. cond (not b) (1 + place_in same_text (xs ++ more) text) 0) other in
+    let sum : 1 + place_in same_text (xs ++ more) text ≡ suc k = omega (arith, rest) in
     step ∙ sum
 
 map_itself : (f : Trans → Trans) (ts : List Trans) → ((t : Trans) → Contains ts t → f t ≡ t) → map f ts ≡ ts
@@ -74,8 +75,8 @@ valid_with A n valid more few = record {
   accepting_in_order = valid.accepting_in_order;
 }
 
-same_with : (A : Automaton) (n : ℕ) → Same A (with_labels A n) Buchi
-same_with A n = renamed_same A (with_labels A n) (λ q. q) (λ q. Unit {0}) renaming Buchi
+same_with : (A : Automaton) (n : ℕ) (m : Mode) → Same A (with_labels A n) m
+same_with A n m = renamed_same A (with_labels A n) (λ q. q) (λ q. Unit {0}) renaming m
   where
     renaming : IsRenaming A (with_labels A n) (λ q. q) (λ q. Unit {0})
     renaming = record {
@@ -110,19 +111,27 @@ module _ (A : Automaton) (labels more : List (List ℕ)) (valid : IsAutomaton A)
 
 -- ---- the text of the reduced automaton
 
-module _ (file_limits : Limits) (bytes : List ℕ) (named : Named) (B : Automaton) (look : ℕ) (reads : Reads bytes file_limits named) (reduced : IsReduced named.auto Buchi look B)
-    (same : Same named.auto B Buchi) (settled : IsSettled B Buchi look)
+trim_comes : (m : Mode) → Contains (kinds_of m) Trim
+trim_comes Buchi = contains_first Trim (Forward ∷ Backward ∷ Delayed ∷ prunings)
+trim_comes Finite = contains_first Trim (Forward ∷ Backward ∷ prunings)
+
+includes_then : (m : Mode) (A B C : Automaton) → Includes A B m → Includes B C m → Includes A C m
+includes_then Buchi A B C first second = λ u v h. second u v (first u v h)
+includes_then Finite A B C first second = λ w h. second w (first w h)
+
+module _ (file_limits : Limits) (bytes : List ℕ) (named : Named) (B : Automaton) (m : Mode) (look : ℕ) (reads : Reads bytes file_limits named) (reduced : IsReduced named.auto m look B)
+    (same : Same named.auto B m) (settled : IsSettled B m look)
   where
     named_count : named.auto.labels ≡ length named.labels
     named_count = reads.reading.auto.labels_given ∙ ap length (sym reads.reading.labels)
 
     labels_stay : B.labels ≡ named.auto.labels
-    labels_stay = reduced_labels Buchi look named.auto B reduced
+    labels_stay = reduced_labels m look named.auto B reduced
 
     fit : IsWritable B named.labels
     fit =
         let labels = labels_fit bytes file_limits named reads in
-        let trimmed = settled Trim (contains_first Trim (Forward ∷ Backward ∷ Delayed ∷ prunings)) in
+        let trimmed = settled Trim (trim_comes m) in
         record { valid = trimmed.2.valid; all_named = omega (arith, labels_stay, named_count); different = labels.1; fit = labels.0 }
 
     module _ (limits : Limits) (again : Named) (joined : Joined) (back : Reads (written B named.labels) limits again) (j : IsJoined named again joined) where
@@ -159,33 +168,37 @@ module _ (file_limits : Limits) (bytes : List ℕ) (named : Named) (B : Automato
         second = j.second;
       }
 
-      last : Same (with_labels B (length joined.labels)) joined.second Buchi
-      last = written_reads_back B named.labels [] limits again other Buchi fit back other_joined
+      last : Same (with_labels B (length joined.labels)) joined.second m
+      last = written_reads_back B named.labels [] limits again other m fit back other_joined
 
-      joined_same : Same joined.first joined.second Buchi
+      joined_same : Same joined.first joined.second m
       joined_same =
           let n = length joined.labels in
-          subst (λ A. Same A joined.second Buchi) (sym first_is) (
-            λ u v h. last.0 u v ((same_with B n).0 u v (same.0 u v ((same_with named.auto n).1 u v h))),
-            λ u v h. (same_with named.auto n).0 u v (same.1 u v ((same_with B n).1 u v (last.1 u v h))),
+          let from : Same (with_labels named.auto n) (with_labels B n) m = (
+            includes_then m (with_labels named.auto n) named.auto (with_labels B n) (same_with named.auto n m).1 (includes_then m named.auto B (with_labels B n) same.0 (same_with B n m).0),
+            includes_then m (with_labels B n) B (with_labels named.auto n) (same_with B n m).1 (includes_then m B named.auto (with_labels named.auto n) same.1 (same_with named.auto n m).0),
+          ) in
+          subst (λ A. Same A joined.second m) (sym first_is) (
+            includes_then m (with_labels named.auto n) (with_labels B n) joined.second from.0 last.0,
+            includes_then m joined.second (with_labels B n) (with_labels named.auto n) last.1 from.1,
           )
 
 -- the text reads within limits of one state more than those of the file
-module _ (bytes : List ℕ) (named : Named) (B : Automaton) (look : ℕ) (from : 1 ≤ look) (reads : Reads bytes reduce_limits named) (reduced : IsReduced named.auto Buchi look B)
-    (same : Same named.auto B Buchi) (settled : IsSettled B Buchi look)
+module _ (bytes : List ℕ) (named : Named) (B : Automaton) (m : Mode) (look : ℕ) (from : 1 ≤ look) (reads : Reads bytes reduce_limits named) (reduced : IsReduced named.auto m look B)
+    (same : Same named.auto B m) (settled : IsSettled B m look)
   where
     reads_again : (again : Named) × Reads (written B named.labels) printed_limits again
     reads_again =
         let within = read_is_within bytes reduce_limits named reads in
-        let small = reduced_no_larger named.auto B Buchi look reads.reading.auto.valid from reduced in
-        let writable = fit reduce_limits bytes named B look reads reduced same settled in
+        let small = reduced_no_larger named.auto B m look reads.reading.auto.valid from reduced in
+        let writable = fit reduce_limits bytes named B m look reads reduced same settled in
         let states : B.states + 1 ≤ printed_limits.states = omega (arith, within.states, small.states) in
         let labels : B.labels ≤ printed_limits.labels = omega (arith, within.labels, small.labels) in
         let transitions : length B.transitions ≤ printed_limits.transitions = omega (arith, within.transitions, small.transitions) in
         faultless_reads (written B named.labels) printed_limits (omega arith) (omega arith) (omega arith) (written_is_read B named.labels printed_limits writable states labels transitions)
 
-    pub reads_back_same : ReadsBackSame named (written B named.labels)
+    pub reads_back_same : ReadsBackSame named m (written B named.labels)
     reads_back_same = record {
       reads = reads_again;
-      same = joined_same reduce_limits bytes named B look reads reduced same settled;
+      same = joined_same reduce_limits bytes named B m look reads reduced same settled;
     }

@@ -1,109 +1,165 @@
--- What a check says of what a decision wrote.
-use Rattle.std.proofs.Common.{◌≡◌, ℕ, List, arith, cond, Some, inl, inr, refl, sym, ◌∙◌, ap, subst}
-use Rattle.std.proofs.lemmas.Bool.{false_from_ne_true}
-use Rattle.std.proofs.lemmas.Cmp.{nat_list_cmp_total}
-use Rattle.std.proofs.lemmas.Map.Text.{is_eq-slice_cmp}
-use Rattle.std.proofs.lemmas.Slice.Eq.{bytes_eq-Decides}
-use Rattle.std.specs.FinMap as map
-use Rattle.std.specs.FinMap.{get-insert}
-use Rattle.std.specs.Str.{bytes_eq}
+-- `check`: one reply, and what it shows.
+use Rattle.std.proofs.Common.{◌≡◌, ℕ, ◌≤◌, List, [], Option, true, false, inl, inr, refl, sym, ◌∙◌, ap, subst, arith}
+use Rattle.std.proofs.lemmas.Bool.{false≢true}
+use Rattle.std.specs.Io.KnownBytes.{append_known}
 use Rattle.shelf_io.specs.Shelf.{FileMap}
-use Rattle.auto_core.specs.declared.parts.Lasso.{Lasso}
-use Rattle.auto_core.specs.Outcome.{Entry, Outcome}
-use Rattle.auto_core.specs.Outcome as end
 use Rattle.ba_format.specs.declared.parts.Named.{Named}
 use Rattle.ba_format.specs.declared.parts.Joined.{Joined}
+use Rattle.ba_format.specs.Joining.{IsJoined}
+use Rattle.ba_format.proofs.LawLemmas.{joins_as_one}
+use Rattle.cert_text.specs.declared.types.Cert.{Cert}
 use Rattle.cert_text.specs.declared.types.Body.{Body}
 use Rattle.cert_text.specs.declared.types.Body.TheVariants.{Yes, NoLasso, NoWord, Listing}
-use Rattle.cert_text.specs.Text.{text}
-use Rattle.decide.specs.Answer.{Reductions, Decides, IsBodyOf}
-use Rattle.decide.proofs.UniqueLemmas.{one_outcome_decides, lasso_is}
-use Rattle.decide.proofs.EndUniqueLemmas.{reductions_are_one}
-use Rattle.rabit_cli.proofs.PairLemmas.{pair_can_decide}
-use Rattle.rabit_cli.specs.Command.{ReadsAs, ReadsPair, IsVerdictAnswer, IsOutcomeAnswer, IsDecided, search_look, search_limit}
-use Rattle.rabit_cli.specs.Laws.{CheckAgrees, AnswersAreAccepted}
-use Rattle.rabit_cli.specs.declared.answer.Answer.{Answer}
-use Rattle.rabit_cli.specs.declared.answer.Answer.TheVariants.{NotIncluded, Limit}
-use Rattle.rabit_cli.proofs.OneAnswer.{one_pair, fault_or_pair}
+use Rattle.cert_check.specs.Rules.{KeepsRules, BodyHolds, has_checked_body, has_checked_form}
+use Rattle.cert_check.proofs.ClosedLemmas.{valid_yes_includes}
+use Rattle.cert_check.proofs.RuleLemmas.{one_rule, none_kept}
+use Rattle.rabit_frame.specs.declared.parts.Value.{Value}
+use Rattle.rabit_frame.specs.declared.parts.Status.TheVariants as status
+use Rattle.rabit_frame.specs.declared.parts.Reply.{Reply}
+use Rattle.rabit_frame.specs.Statuses.{status_number}
+use Rattle.rabit_frame.specs.Reading.{only_said, ReadInTurn}
+use Rattle.rabit_cli.specs.Printed.{refused_text}
+use Rattle.rabit_cli.specs.Files.{ReadsPair, HoldsCertificate}
+use Rattle.rabit_cli.specs.Replies.{IsVerdictReply, TellsApart}
+use Rattle.rabit_cli.specs.Check.{check_inputs, Concludes, MeansCheck, ShowsCheck}
+use Rattle.rabit_cli.proofs.VerdictLemmas.{one_verdict, puts_of_verdict}
 
--- what the written name holds, and what the others do
-module _ (files : FileMap) (c bytes : List ℕ) where
-  asked : (name : List ℕ) → map.get (map.insert files c bytes) name ≡ cond (bytes_eq name c) (Some bytes) (map.get files name)
-  asked name = get-insert nat_list_cmp_total files c bytes name ∙ ap (λ b. cond b (Some bytes) (map.get files name)) (is_eq-slice_cmp name c)
-
-  written : map.get (map.insert files c bytes) c ≡ Some bytes
-  written = asked c ∙ ap (λ b. cond b (Some bytes) (map.get files c)) ((bytes_eq-Decides c c).1 refl)
-
-  other : (name : List ℕ) → (c ≡ name → ⊥) → map.get (map.insert files c bytes) name ≡ map.get files name
-  other name differ =
-      asked name
-      ∙ ap (λ b. cond b (Some bytes) (map.get files name)) (false_from_ne_true (bytes_eq name c) (λ t. differ (sym ((bytes_eq-Decides name c).0 t))))
-
-  reads_still : (name : List ℕ) (named : Named) → (c ≡ name → ⊥) → ReadsAs files name named → ReadsAs (map.insert files c bytes) name named
-  reads_still name named differ (b, held, few, reads) = (b, other name differ ∙ held, few, reads)
-
-  pair_still : (a b : List ℕ) (pair : Joined) → (c ≡ a → ⊥) → (c ≡ b → ⊥) → ReadsPair files a b pair → ReadsPair (map.insert files c bytes) a b pair
-  pair_still a b pair not_a not_b (one, two, first, second, joined) = (one, two, reads_still a one not_a first, reads_still b two not_b second, joined)
-
--- the verdict of the body is the answer of the outcome, and the other way round
-pub verdict_of_outcome : (pair : Joined) (at : Reductions) (S : List (ℕ × ℕ)) (o : Outcome Entry) (body : Body) (answer : Answer) → IsBodyOf at S search_limit o body → IsOutcomeAnswer pair o answer → IsVerdictAnswer pair body answer
-verdict_of_outcome pair at S (end.Closed es) (Yes y) answer is e = e
-verdict_of_outcome pair at S (end.Closed es) (NoLasso l) answer is e = absurd is
-verdict_of_outcome pair at S (end.Closed es) (NoWord w) answer is e = absurd is
-verdict_of_outcome pair at S (end.Closed es) (Listing l) answer is e = absurd is
-verdict_of_outcome pair at S (end.Apart x z) (Yes y) answer is e = absurd is
-verdict_of_outcome pair at S (end.Apart x z) (NoLasso l) answer is e =
-    e ∙ ap (λ (k : Lasso). NotIncluded pair.labels k) (lasso_is (record { prefix = x.arc.word; turn = z.arc.word }) l (sym is.0) (sym is.1))
-verdict_of_outcome pair at S (end.Apart x z) (NoWord w) answer is e = absurd is
-verdict_of_outcome pair at S (end.Apart x z) (Listing l) answer is e = absurd is
-verdict_of_outcome pair at S (end.Limit es) (Yes y) answer is e = absurd is
-verdict_of_outcome pair at S (end.Limit es) (NoLasso l) answer is e = absurd is
-verdict_of_outcome pair at S (end.Limit es) (NoWord w) answer is e = absurd is
-verdict_of_outcome pair at S (end.Limit es) (Listing l) answer is e = e ∙ ap Limit (sym is.limit_is)
-
-pub outcome_of_verdict : (pair : Joined) (at : Reductions) (S : List (ℕ × ℕ)) (o : Outcome Entry) (body : Body) (answer : Answer) → IsBodyOf at S search_limit o body → IsVerdictAnswer pair body answer → IsOutcomeAnswer pair o answer
-outcome_of_verdict pair at S (end.Closed es) (Yes y) answer is e = e
-outcome_of_verdict pair at S (end.Closed es) (NoLasso l) answer is e = absurd is
-outcome_of_verdict pair at S (end.Closed es) (NoWord w) answer is e = absurd is
-outcome_of_verdict pair at S (end.Closed es) (Listing l) answer is e = absurd is
-outcome_of_verdict pair at S (end.Apart x z) (Yes y) answer is e = absurd is
-outcome_of_verdict pair at S (end.Apart x z) (NoLasso l) answer is e =
-    e ∙ ap (λ (k : Lasso). NotIncluded pair.labels k) (lasso_is l (record { prefix = x.arc.word; turn = z.arc.word }) is.0 is.1)
-outcome_of_verdict pair at S (end.Apart x z) (NoWord w) answer is e = absurd is
-outcome_of_verdict pair at S (end.Apart x z) (Listing l) answer is e = absurd is
-outcome_of_verdict pair at S (end.Limit es) (Yes y) answer is e = absurd is
-outcome_of_verdict pair at S (end.Limit es) (NoLasso l) answer is e = absurd is
-outcome_of_verdict pair at S (end.Limit es) (NoWord w) answer is e = absurd is
-outcome_of_verdict pair at S (end.Limit es) (Listing l) answer is e = e ∙ ap Limit is.limit_is
-
-pub check_agrees : CheckAgrees
-check_agrees files a b c pair cert answer not_a not_b is verdict few decided =
-    let valid = is.valid verdict in
-    inr (
-      pair,
-      pair_still files c (text cert) a b pair not_a not_b is.read,
-      inr (cert, (text cert, written files c (text cert), few, is.formed, refl), inr (inr (valid.form, valid.keeps, says))),
-    )
-  where
-    says_for : (other : Joined) → pair ≡ other → IsDecided other answer → IsVerdictAnswer pair cert.body answer
-    says_for other same decides = go (subst (λ p. IsDecided p answer) (sym same) decides)
-      where
-        go : IsDecided pair answer → IsVerdictAnswer pair cert.body answer
-        go (at, ends, (order, outcome, decides, e)) =
-            let (own_at, own_ends, own) = is.answer in
-            let can = pair_can_decide files a b pair is.read in
-            let same_ends : at ≡ own_at = reductions_are_one pair search_look at own_at can.first can.second (omega arith) ends own_ends in
-            let Q : Reductions → Type 0 = λ z. Decides z search_limit order outcome in
-            let one = one_outcome_decides own_at search_limit order own.pairs outcome own.outcome (subst Q same_ends decides) own.decides in
-            verdict_of_outcome pair own_at own.pairs own.outcome cert.body answer own.body (subst (λ o. IsOutcomeAnswer pair o answer) one.1 e)
-
-    says : IsVerdictAnswer pair cert.body answer
-    says = elim decided [
-      | inl fault ↦ absurd (fault_or_pair files a b answer pair fault is.read)
-      | inr (other, read, more) ↦ says_for other (one_pair files a b pair other is.read read) more
+one_conclusion : (pair : Joined) (cert : Cert) (r s : Reply) → Concludes pair cert r → Concludes pair cert s → r ≡ s
+one_conclusion pair cert r s p q =
+    elim p [
+      | inl unbuilt ↦
+          elim q [
+            | inl unbuilt' ↦ unbuilt.1 ∙ sym unbuilt'.1
+            | inr decided ↦ elim decided [ inl broken ↦ absurd (false≢true (sym unbuilt.0 ∙ broken.0)) | inr valid ↦ absurd (false≢true (sym unbuilt.0 ∙ valid.0)) ]
+          ]
+      | inr decided ↦
+          elim decided [
+            | inl broken ↦
+                elim q [
+                  | inl unbuilt ↦ absurd (false≢true (sym unbuilt.0 ∙ broken.0))
+                  | inr decided' ↦
+                      elim decided' [
+                        | inl broken' ↦
+                            let b = broken.1 in
+                            let b' = broken'.1 in
+                            b.2 ∙ ap (λ z. only_said status.BadCertificate (refused_text z)) (one_rule pair cert b.0 b'.0 b.1 b'.1) ∙ sym b'.2
+                        | inr valid ↦ let b = broken.1 in absurd (none_kept pair cert b.0 b.1 valid.1)
+                      ]
+                ]
+            | inr valid ↦
+                elim q [
+                  | inl unbuilt ↦ absurd (false≢true (sym unbuilt.0 ∙ valid.0))
+                  | inr decided' ↦
+                      elim decided' [
+                        | inl broken ↦ let b = broken.1 in absurd (none_kept pair cert b.0 b.1 valid.1)
+                        | inr valid' ↦ one_verdict cert.mode pair cert.body [] r s valid.2 valid'.2
+                      ]
+                ]
+          ]
     ]
 
-pub answers_accepted : AnswersAreAccepted
-answers_accepted files files' a b a' b' c pair cert answer is verdict read held says =
-    let valid = is.valid verdict in
-    inr (pair, read, inr (cert, held, inr (inr (valid.form, valid.keeps, says))))
+pub one_check : (values : List Value) (r s : Reply) → MeansCheck values r → MeansCheck values s → r ≡ s
+one_check values r s (one, two, cert, is, (pair, joined, concludes)) (one', two', cert', is', (pair', joined', concludes')) =
+    let all = sym is ∙ is' in
+    let first : one ≡ one' = cc in
+    let second : two ≡ two' = cc in
+    let third : cert ≡ cert' = cc in
+    let P : Named → Type 0 = λ z. IsJoined z two pair in
+    let Q : Named → Type 0 = λ z. IsJoined one' z pair in
+    let same : pair ≡ pair' = joins_as_one one' two' pair pair' (subst Q second (subst P first joined)) joined' in
+    let C : Joined → Type 0 = λ z. Concludes z cert r in
+    let D : Cert → Type 0 = λ z. Concludes pair' z r in
+    one_conclusion pair' cert' r s (subst D third (subst C same concludes)) concludes'
+
+-- a check writes nothing
+pub check_puts : (values : List Value) (r : Reply) → MeansCheck values r → r.puts ≡ []
+check_puts values r (one, two, cert, is, (pair, joined, concludes)) =
+    elim concludes [
+      | inl unbuilt ↦ ap (λ z. z.puts) unbuilt.1
+      | inr decided ↦ elim decided [ inl broken ↦ ap (λ z. z.puts) broken.1.2 | inr valid ↦ puts_of_verdict cert.mode pair cert.body [] r valid.2 ]
+    ]
+
+-- its status is none of the words'
+pub check_asked : (values : List Value) (r : Reply) → MeansCheck values r → status_number r.status ≡ 3 → ⊥
+check_asked values r (one, two, cert, is, (pair, joined, concludes)) three =
+    elim concludes [
+      | inl unbuilt ↦ (let e = ap (λ z. status_number z.status) unbuilt.1 in omega arith)
+      | inr decided ↦ elim decided [ inl broken ↦ (let e = ap (λ z. status_number z.status) broken.1.2 in omega arith) | inr valid ↦ go cert.body valid.2 ]
+    ]
+  where
+    go : (body : Body) → IsVerdictReply cert.mode pair body [] r → ⊥
+    go (Yes b) e = (let f = ap (λ z. status_number z.status) e in omega arith)
+    go (NoLasso l) e = (let f = ap (λ z. status_number z.status) e in omega arith)
+    go (NoWord w) e = (let f = ap (λ z. status_number z.status) e in omega arith)
+    go (Listing l) e = (let f = ap (λ z. status_number z.status) e in omega arith)
+
+-- no list is checked yet
+no_list : (body : Body) → has_checked_body body ≡ false → has_checked_body body ≡ true → ⊥
+no_list body p q = false≢true (sym p ∙ q)
+
+module _ (files : FileMap) (a b c : List ℕ) (status : ℕ) (sent sent' : Option (List ℕ)) (r : Reply) where
+  shows_high : 3 ≤ status → ShowsCheck files a b c status sent sent'
+  shows_high high = record { included = λ e. absurd (omega arith); not_included = λ e. absurd (omega arith); no_limit = λ e. omega arith }
+
+  module _ (number : status_number r.status ≡ status) (sends : sent' ≡ append_known sent r.text) where
+    shows_valid : (pair : Joined) (cert : Cert) → ReadsPair files a b pair → HoldsCertificate files c cert → has_checked_form cert ≡ true → KeepsRules pair cert → (body : Body) → cert.body ≡ body → IsVerdictReply cert.mode pair body [] r → ShowsCheck files a b c status sent sent'
+    shows_valid pair cert read certificate form keeps (Yes evidence) is says =
+        let zero : status ≡ 0 = sym number ∙ ap (λ z. status_number z.status) says in
+        record {
+          included = λ e. record {
+            pair = pair;
+            cert = cert;
+            evidence = evidence;
+            read = read;
+            certificate = certificate;
+            says_yes = is;
+            valid = record { formed = certificate.3; form = form; keeps = keeps };
+            includes = valid_yes_includes pair cert evidence is certificate.3 read.4.first.valid read.4.second.valid keeps;
+            printed = sends ∙ ap (λ z. append_known sent z.text) says;
+          };
+          not_included = λ e. absurd (omega arith);
+          no_limit = λ e. omega arith;
+        }
+    shows_valid pair cert read certificate form keeps (NoLasso lasso) is says =
+        let one : status ≡ 1 = sym number ∙ ap (λ z. status_number z.status) says in
+        let all = subst (λ z. BodyHolds cert.mode pair z) is keeps.1 in
+        record {
+          included = λ e. absurd (omega arith);
+          not_included = λ e. record {
+            pair = pair;
+            cert = cert;
+            read = read;
+            certificate = certificate;
+            valid = record { formed = certificate.3; form = form; keeps = keeps };
+            apart = subst (λ z. TellsApart pair z sent sent') (sym is) ((all.1.1.0, all.1.1.1.0), sends ∙ ap (λ z. append_known sent z.text) says);
+          };
+          no_limit = λ e. omega arith;
+        }
+    shows_valid pair cert read certificate form keeps (NoWord word) is says =
+        let one : status ≡ 1 = sym number ∙ ap (λ z. status_number z.status) says in
+        let all = subst (λ z. BodyHolds cert.mode pair z) is keeps.1 in
+        record {
+          included = λ e. absurd (omega arith);
+          not_included = λ e. record {
+            pair = pair;
+            cert = cert;
+            read = read;
+            certificate = certificate;
+            valid = record { formed = certificate.3; form = form; keeps = keeps };
+            apart = subst (λ z. TellsApart pair z sent sent') (sym is) ((all.1.0, all.1.1.0), sends ∙ ap (λ z. append_known sent z.text) says);
+          };
+          no_limit = λ e. omega arith;
+        }
+    shows_valid pair cert read certificate form keeps (Listing l) is says = absurd (no_list cert.body (ap has_checked_body is) form)
+
+    pub shows_check : (values : List Value) → ReadInTurn files (check_inputs a b c) values → MeansCheck values r → ShowsCheck files a b c status sent sent'
+    shows_check values reads (one, two, cert, is, (pair, joined, concludes)) =
+        let (first, (second, ((bytes, has, few, (formed, text_is)), end))) = subst (ReadInTurn files (check_inputs a b c)) is reads in
+        elim concludes [
+          | inl unbuilt ↦ (let e = ap (λ z. status_number z.status) unbuilt.1 in shows_high (omega arith))
+          | inr decided ↦
+              elim decided [
+                | inl broken ↦ (let e = ap (λ z. status_number z.status) broken.1.2 in shows_high (omega arith))
+                | inr valid ↦ shows_valid pair cert (one, two, first, second, joined) (bytes, has, few, formed, text_is) valid.0 valid.1 cert.body refl valid.2
+              ]
+        ]

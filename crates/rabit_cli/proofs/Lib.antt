@@ -1,11 +1,9 @@
-pub mod WordLemmas
-pub mod LookLemmas
+pub mod LabelLemmas
 pub mod BackLemmas
-pub mod AnswerLemmas
-pub mod WrittenLemmas
-pub mod OneAnswer
-pub mod RunLemmas
-pub mod TurnLemmas
 pub mod PairLemmas
+pub mod VerdictLemmas
 pub mod CheckLemmas
-pub mod DecidedLemmas
+pub mod IncludeLemmas
+pub mod ReduceLemmas
+pub mod CommandLemmas
+pub mod LawLemmas

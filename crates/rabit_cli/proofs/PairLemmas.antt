@@ -7,14 +7,14 @@ use Rattle.std.specs.List.{list_any}
 use Rattle.auto_core.specs.Automaton.{Automaton}
 use Rattle.ba_format.specs.declared.parts.Named.{Named}
 use Rattle.ba_format.specs.declared.parts.Joined.{Joined}
-use Rattle.ba_format.specs.Reading.{IsWithin}
+use Rattle.ba_format.specs.Reading.{IsWithinLimits}
 use Rattle.ba_format.specs.Joining.{IsJoined, IsRelabelled, relabelled}
 use Rattle.ba_format.specs.Sight.{same_text}
 use Rattle.decide.specs.Answer.{HasFewParts}
 use Rattle.decide.specs.Laws.{CanDecide}
 use Rattle.ba_format.proofs.FaultlessLemmas.{read_is_within}
 use Rattle.shelf_io.specs.Shelf.{FileMap}
-use Rattle.rabit_cli.specs.Command.{check_limits, ReadsPair}
+use Rattle.rabit_cli.specs.Files.{check_limits, ReadsPair}
 
 filter_shorter : {X : Type 0} (p : X → Bool) (xs : List X) → length (filter p xs) ≤ length xs
 filter_shorter p [] = omega arith
@@ -24,7 +24,7 @@ filter_shorter p (x ∷ xs) = let rest = filter_shorter p xs in go (p x) rest
     go true le = omega arith
     go false le = omega arith
 
-few_parts : (named : Named) (joined : List (List ℕ)) (A : Automaton) → IsWithin check_limits named → IsRelabelled named.auto named.labels joined A → HasFewParts A
+few_parts : (named : Named) (joined : List (List ℕ)) (A : Automaton) → IsWithinLimits check_limits named → IsRelabelled named.auto named.labels joined A → HasFewParts A
 few_parts named joined A within is =
     let states = within.states in
     let given = is.states_given in
@@ -33,7 +33,7 @@ few_parts named joined A within is =
     let mapped = length-map named.auto.transitions (relabelled named.labels joined) in
     record { states = omega arith; transitions = omega arith }
 
-pub can_decide : (one two : Named) (pair : Joined) → IsWithin check_limits one → IsWithin check_limits two → IsJoined one two pair → CanDecide pair
+pub can_decide : (one two : Named) (pair : Joined) → IsWithinLimits check_limits one → IsWithinLimits check_limits two → IsJoined one two pair → CanDecide pair
 can_decide one two pair first second joined = record {
   first = joined.first.valid;
   second = joined.second.valid;

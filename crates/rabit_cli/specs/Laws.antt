@@ -1,30 +1,45 @@
 -- What a check says of what a decision wrote.
-use Rattle.std.specs.Prelude.{◌≢◌, ◌≤◌, ◌^◌, ℕ, List, length}
+use Rattle.std.specs.Prelude.{◌≢◌, ◌≤◌, ◌^◌, ℕ, List, [], length}
 use Rattle.std.specs.FinMap as map
 use Rattle.shelf_io.specs.Shelf.{FileMap}
 use Rattle.ba_format.specs.declared.parts.Joined.{Joined}
 use Rattle.cert_text.specs.declared.types.Cert.{Cert}
 use Rattle.cert_text.specs.Text.{text}
+use Rattle.decide.specs.Answer.{IsAnswer}
 use Rattle.decide.specs.Laws.{SaysYesOrNo}
-use Rattle.rabit_cli.specs.Command.{ReadsPair, HoldsCertificate, IsVerdictAnswer, IsIncludeAnswer, IsCheckAnswer}
-use Rattle.rabit_cli.specs.Written.{IsCertFor}
-use Rattle.rabit_cli.specs.declared.answer.Answer.{Answer}
+use Rattle.decide.specs.Terms.{AreBounded}
+use Rattle.decide.specs.declared.terms.Terms.{Terms}
+use Rattle.rabit_frame.specs.declared.parts.Reply.{Reply}
+use Rattle.rabit_frame.specs.Reading.{only_said}
+use Rattle.rabit_frame.specs.Ending.{IsReplyFor}
+use Rattle.rabit_cli.specs.Files.{ReadsPair, HoldsCertificate}
+use Rattle.rabit_cli.specs.Replies.{IsVerdictReply}
+use Rattle.rabit_cli.specs.Check.{check_inputs, MeansCheck}
+use Rattle.rabit_cli.specs.Include.{include_inputs, MeansInclude}
 
--- Where the name of the certificate is none of the two others, and the answer says yes or no in a text of at most 1 GiB, a check of
--- the files that hold it has the answer that the decision had.
+-- The right reply of `check A B CERT` for these files.
+abbrev pub IsCheckReply : FileMap → List ℕ → List ℕ → List ℕ → Reply → Type 0
+IsCheckReply files a b c r = IsReplyFor MeansCheck (check_inputs a b c) files r
+
+-- The right reply of `include A B CERT` for these files.
+abbrev pub IsIncludeReply : FileMap → List ℕ → List ℕ → List ℕ → Terms → Reply → Type 0
+IsIncludeReply files a b c terms r = IsReplyFor (MeansInclude c terms) (include_inputs a b) files r
+
+-- Where the name of the certificate is none of the two others, and the answer for the two automata says yes or no in a text of at most
+-- 1 GiB, a check of the files that hold it says what the decision said.
 abbrev pub CheckAgrees : Type 0
 CheckAgrees =
-    (files : FileMap) (a b c : List ℕ) (pair : Joined) (cert : Cert) (answer : Answer) → c ≢ a → c ≢ b → IsCertFor files a b pair cert → SaysYesOrNo cert.body → length (text cert) ≤ 2 ^ 30 →
-    IsIncludeAnswer files a b answer → IsCheckAnswer (map.insert files c (text cert)) a b c answer
+    (files : FileMap) (a b c : List ℕ) (terms : Terms) (pair : Joined) (cert : Cert) (r : Reply) → c ≢ a → c ≢ b → AreBounded terms → ReadsPair files a b pair → IsAnswer pair terms cert → SaysYesOrNo cert.body → length (text cert) ≤ 2 ^ 30 →
+    IsIncludeReply files a b c terms r → IsCheckReply (map.insert files c (text cert)) a b c (only_said r.status r.text)
 
--- Wherever a file holds the text of what a decision wrote that says yes or no, a check of it for the same two automata has that verdict.
--- The files of the check may have other names, and be on another shelf.
+-- Wherever a file holds the text of an answer that says yes or no, a check of it for the two automata that it answers has that verdict.
 abbrev pub AnswersAreAccepted : Type 0
 AnswersAreAccepted =
-    (files files' : FileMap) (a b a' b' c : List ℕ) (pair : Joined) (cert : Cert) (answer : Answer)
-    → IsCertFor files a b pair cert
+    (files : FileMap) (a b c : List ℕ) (terms : Terms) (pair : Joined) (cert : Cert) (r : Reply)
+    → AreBounded terms
+    → ReadsPair files a b pair
+    → IsAnswer pair terms cert
     → SaysYesOrNo cert.body
-    → ReadsPair files' a' b' pair
-    → HoldsCertificate files' c cert
-    → IsVerdictAnswer pair cert.body answer
-    → IsCheckAnswer files' a' b' c answer
+    → HoldsCertificate files c cert
+    → IsVerdictReply cert.mode pair cert.body [] r
+    → IsCheckReply files a b c r

@@ -1,8 +1,8 @@
-pub mod Question
 pub mod Printed
-pub mod Command
-pub mod Written
-pub mod Prepared
-pub mod Said
+pub mod Files
+pub mod Replies
+pub mod Check
+pub mod Include
+pub mod Reduce
+pub mod Commands
 pub mod Laws
-pub mod Reducing

@@ -1,7 +1,7 @@
 //! Texts of automata: first faults, what is read and written, and joined labels.
 
 ghost use Rattle.std.specs.Prelude.{IfOk};
-ghost use Rattle.ba_format.specs.Reading.{IsWithin};
+ghost use Rattle.ba_format.specs.Reading.{IsWithinLimits};
 
 use auto_core::{Auto, Memory};
 use ba_format::{BaKind, Limits, Named, ReadFault, Texts, join, read, write};
@@ -138,7 +138,7 @@ fn texts_read_by_the_rules(rt: HostRuntime) -> Result<(), Fail> {
 
 /// What a text reads as.
 fn named(alloc: Global, text: &[u8]) -> Result<Named, Fail>
-    ensures { IfOk result (IsWithin (record { states = 3; labels = 2; transitions = 4 })) }
+    ensures { IfOk result (IsWithinLimits (record { states = 3; labels = 2; transitions = 4 })) }
 {
     if text.len() > 1000 {
         return Err(Memory)?;

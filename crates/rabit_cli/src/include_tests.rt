@@ -1,13 +1,9 @@
 //! The decision of an inclusion on files in memory: what it prints, the certificate that it leaves, and what a check says of that.
 
-ghost use Rattle.std.specs.Prelude.{◌≤◌};
-
-use crate::reading;
 use crate::search_tests::looped_ring;
 use crate::tests::{list_of, numbers_of, words_of};
 use crate::top::run;
-use auto_core::{List, Memory, Mode};
-use cert_text::write_cert;
+use auto_core::{List, Memory};
 use shelf_io::{File, MemShelf, MemSink, load};
 use std::alloc::Global;
 use std::test::Fail;
@@ -48,7 +44,7 @@ pub fn shelf_of(
 }
 
 /// The status of the words on the shelf's files, and whether just this text was sent.
-fn says(
+pub fn says(
     alloc: Global,
     words: &[&str],
     shelf: &mut MemShelf,
@@ -145,6 +141,8 @@ fn failing_calls_of_a_decision_are_told(rt: HostRuntime) -> Result<(), Fail> {
         (&[], &[0], 7, ""),
         // the text is given at once, so a second call that would fail is none
         (&[], &[1], 0, "included\n"),
+        // and so is a call of the shelf past the one put: the check's first load is the seventh
+        (&[7], &[], 0, "included\n"),
     ];
     for (fails, sink_fails, status, printed) in rows {
         let mut shelf = shelf_of(alloc, text.as_str(), text.as_str(), fails)?;
@@ -153,9 +151,14 @@ fn failing_calls_of_a_decision_are_told(rt: HostRuntime) -> Result<(), Fail> {
             (status, true)
         );
         if status == 0 {
+            let (checked, told) = if fails.is_empty() {
+                (0, "included\n")
+            } else {
+                (6, "read fault\n")
+            };
             assert_eq!(rt;
-                answers(alloc, "check", &mut shelf, &[], "included\n")?,
-                (0, true)
+                answers(alloc, "check", &mut shelf, &[], told)?,
+                (checked, true)
             );
         }
     }
@@ -205,30 +208,24 @@ fn a_decision_meets_its_limit(rt: HostRuntime) -> Result<(), Fail> {
     Ok(())
 }
 
-/// The text of the certificate for the file and itself at this limit; none where a file is not read.
-fn listed(alloc: Global, text: &str, limit: u32) -> Result<Option<List<u8>>, Memory>
-    requires some { 1 ≤ limit }
-    requires few { limit ≤ 100000 }
-{
-    let mut shelf = shelf_of(alloc, text, text, &[])?;
-    match reading::read_pair(alloc, &mut shelf, "A", "B") {
-        Ok(pair) => {
-            let cert = decide::include(alloc, &pair, Mode::Buchi, 3, limit)?;
-            Ok(Some(write_cert(alloc, &cert)?))
-        }
-        Err(_) => Ok(None),
-    }
-}
-
 #[test]
 fn a_limit_that_is_met_makes_a_list(rt: HostRuntime) -> Result<(), Fail> {
     let alloc = rt.alloc();
     let list =
         "rabit-cert 1 buchi list\nsizes 2 2 2\nlog1 0\nlog2 0\nlimit 1\nelements 2\nbase 0\nbase 1\nend\n";
-    let told = match listed(alloc, PAIR, 1)? {
-        Some(bytes) => bytes.as_slice() == list.as_bytes(),
-        None => false,
-    };
-    assert!(rt; told);
+    let rows = [
+        ("1", 2, "limit 1\n"),
+        ("3", 2, "limit 3\n"),
+        ("4", 0, "included\n"),
+    ];
+    for (limit, status, printed) in rows {
+        let mut shelf = shelf_of(alloc, PAIR, PAIR, &[])?;
+        let words = ["include", "A", "B", "C", "--limit", limit];
+        assert_eq!(rt;
+            says(alloc, &words, &mut shelf, &[], printed)?,
+            (status, true)
+        );
+        assert_eq!(rt; holds(alloc, &mut shelf, list), limit == "1");
+    }
     Ok(())
 }

@@ -2,13 +2,13 @@
 
 ghost use Rattle.rabit_cli.specs.Laws.{CheckAgrees, AnswersAreAccepted};
 
-/// A check of what a decision wrote under a name of its own has the answer that the decision had, where that is yes or no and the file has
+/// A check of the answer that a decision wrote under a name of its own says what the decision said, where that is yes or no and the file has
 /// at most 1 GiB.
 pub fn check_agrees()
     ensures { CheckAgrees }
 {}
 
-/// A check accepts what a decision wrote that says yes or no, wherever a file holds it.
+/// A check accepts each answer for its two automata that says yes or no, wherever a file holds its text.
 pub fn answers_are_accepted()
     ensures { AnswersAreAccepted }
 {}

@@ -1,15 +1,14 @@
 //! The program `rabit`: decides Büchi inclusion, checks certificates of it and reduces automata, over files.
 #![tactic(auto)]
 
-mod answer;
-mod inclusion;
+mod checking;
+mod commands;
+mod files;
+mod including;
 mod laws;
 mod letters;
-mod lines;
-mod question;
-mod reading;
 mod reducing;
-mod replying;
+mod replies;
 mod top;
 
 use shelf_io::{DiskShelf, OutSink};
@@ -41,6 +40,10 @@ mod certificate_text_tests;
 #[cfg(test)]
 mod fault_tests;
 #[cfg(test)]
+mod finite_rule_tests;
+#[cfg(test)]
+mod finite_tests;
+#[cfg(test)]
 mod include_tests;
 #[cfg(test)]
 mod log_tests;
@@ -52,5 +55,7 @@ mod search_tests;
 mod shelf_tests;
 #[cfg(test)]
 mod tests;
+#[cfg(test)]
+mod words_tests;
 #[cfg(test)]
 mod yes_tests;

@@ -1,7 +1,7 @@
 //! The reduction of an automaton in a file in memory: what it prints, and what it leaves.
 
 use crate::search_tests::looped_ring;
-use crate::tests::{answers, numbers_of, shelf_of, words_of};
+use crate::tests::{USAGE, answers, numbers_of, shelf_of, words_of};
 use crate::top::run;
 use auto_core::Memory;
 use shelf_io::{MemSink, load};
@@ -121,15 +121,9 @@ fn faults_and_limits_of_the_file_are_told(rt: HostRuntime) -> Result<(), Fail> {
 fn other_words_and_failing_calls_are_told(rt: HostRuntime) -> Result<(), Fail> {
     let alloc = rt.alloc();
     for look in ["0", "7", "", "10", "a"] {
-        assert_eq!(rt;
-            reduces(alloc, &["--look", look], PAIR, "not built\n")?,
-            (9, true)
-        );
+        assert_eq!(rt; reduces(alloc, &["--look", look], PAIR, USAGE)?, (3, true));
     }
-    assert_eq!(rt;
-        reduces(alloc, &["--deep", "1"], PAIR, "not built\n")?,
-        (9, true)
-    );
+    assert_eq!(rt; reduces(alloc, &["--deep", "1"], PAIR, USAGE)?, (3, true));
     let files = [("A", PAIR)];
     assert_eq!(rt;
         answers(alloc, &["reduce", "X"], &files, &[], &[], "read fault\n")?,
@@ -142,6 +136,12 @@ fn other_words_and_failing_calls_are_told(rt: HostRuntime) -> Result<(), Fail> {
     assert_eq!(rt;
         answers(alloc, &["reduce", "A"], &files, &[], &[0], "")?,
         (7, true)
+    );
+    // one file is loaded once and the text is given at once, so further calls that would fail are none
+    let reduced = "[0]\na,[0]->[1]\nb,[1]->[0]\n[0]\n[1]\n";
+    assert_eq!(rt;
+        answers(alloc, &["reduce", "A"], &files, &[3], &[1], reduced)?,
+        (0, true)
     );
     Ok(())
 }

@@ -1,12 +1,12 @@
 //! The search for a closed set, called on automata in files: each of its ends, with the evidence.
 
 ghost use Rattle.std.specs.Prelude.{◌≡◌, ◌≤◌, ◌<◌, length, IfOk};
-ghost use Rattle.rabit_cli.specs.Command.{HasLabelTexts};
+ghost use Rattle.ba_format.specs.Reading.{IsWithinLimits};
+ghost use Rattle.rabit_cli.specs.Files.{check_limits, HasLabelTexts};
 
-use crate::reading;
-use crate::tests::shelf_of;
+use crate::files::{CHECK_LIMITS, joined};
 use auto_core::{Memory, Origin};
-use ba_format::Joined;
+use ba_format::{Joined, read};
 use cert_text::{Element, Mark, StepLine};
 use ramsey_search::{Outcome, search};
 use std::alloc::Global;
@@ -36,19 +36,26 @@ const NOTHING: &str = "[0]\n[1]\n";
 /// Two states, each left by a letter of its own.
 const PAIR: &str = "a,[5]->[7]\nb,[7]->[5]\n";
 
-/// Both files' automata over their joined labels.
+/// The automaton that the text reads as.
+fn read_text(alloc: Global, text: &str) -> Result<ba_format::Named, Memory>
+    ensures { IfOk result (IsWithinLimits check_limits) }
+{
+    if text.len() > 1_000_000 {
+        return Err(Memory);
+    }
+    match read(alloc, text.as_bytes(), &CHECK_LIMITS) {
+        Ok(named) => Ok(named),
+        Err(_) => Err(Memory),
+    }
+}
+
+/// Both texts' automata over their joined labels.
 fn pair_of(alloc: Global, first: &str, second: &str) -> Result<Joined, Memory>
     ensures { IfOk result HasLabelTexts }
 {
-    let files = [("A", first), ("B", second)];
-    let mut shelf = shelf_of(alloc, &files, &[])?;
-    let Ok(one) = reading::read_automaton(alloc, &mut shelf, "A", 1) else {
-        return Err(Memory);
-    };
-    let Ok(two) = reading::read_automaton(alloc, &mut shelf, "B", 2) else {
-        return Err(Memory);
-    };
-    reading::joined(alloc, &one, &two)
+    let one = read_text(alloc, first)?;
+    let two = read_text(alloc, second)?;
+    joined(alloc, &one, &two)
 }
 
 /// The outcome of the search with the greatest relation of the second automaton.
@@ -63,13 +70,13 @@ fn outcome_of(alloc: Global, first: &str, second: &str, limit: u32) -> Result<Ou
 
 /// The elements that a step line is to name, beside its own.
 #[derive(Clone, Copy)]
-struct Named<'a> {
+struct WantedLine<'a> {
     element: u32,
     by: &'a [u32],
 }
 
 /// Whether the step lines are just these.
-fn are_steps(steps: &[StepLine], wanted: &[Named]) -> bool {
+fn are_steps(steps: &[StepLine], wanted: &[WantedLine]) -> bool {
     for (step, line) in steps.iter().zip(wanted) {
         if step.element != line.element {
             return false;
@@ -88,7 +95,7 @@ fn closes(
     second: &str,
     elements: &[Element],
     cover: &[u32],
-    steps: &[Named],
+    steps: &[WantedLine],
 ) -> Result<bool, Memory> {
     let Outcome::Closed(closure) = outcome_of(alloc, first, second, 20000)? else {
         return Ok(false);
@@ -128,8 +135,8 @@ fn told_apart(
     Ok(lasso.prefix.as_slice() == prefix && lasso.turn.as_slice() == turn)
 }
 
-fn line(element: u32, by: &[u32]) -> Named<'_> {
-    Named { element, by }
+fn line(element: u32, by: &[u32]) -> WantedLine<'_> {
+    WantedLine { element, by }
 }
 
 #[test]

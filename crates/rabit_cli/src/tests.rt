@@ -1,10 +1,17 @@
 //! The top call on files in memory: statuses, printed texts, and calls of the outside that fail.
 
+use crate::commands::Command;
 use crate::top::run;
 use auto_core::{List, Memory};
+use rabit_frame::answer_one;
+use rabit_words::question;
 use shelf_io::{File, MemShelf, MemSink};
 use std::alloc::Global;
 use std::test::Fail;
+
+/// How the program is used.
+pub const USAGE: &str =
+    "usage: rabit include A B CERT [--finite] [--look K] [--limit N] | check A B CERT | reduce A [--finite] [--look K] | drill SEED STATES LABELS\n";
 
 pub const RING: &str = "[0]\na,[0]->[1]\na,[1]->[2]\na,[2]->[0]\n[0]\n";
 
@@ -143,14 +150,14 @@ fn the_first_broken_rule_is_named(rt: HostRuntime) -> Result<(), Fail> {
 #[test]
 fn other_ends_have_their_status(rt: HostRuntime) -> Result<(), Fail> {
     let alloc = rt.alloc();
-    let yes = "rabit-cert 1 finite no\nsizes 1 1 1\nword\nend\n";
-    assert_eq!(rt; check(alloc, ONE_A, ONE_A, yes, "not built\n")?, (9, true));
+    let list = "rabit-cert 1 buchi list\nsizes 1 1 1\nlog1 0\nlog2 0\nlimit 1\nelements 0\nend\n";
+    assert_eq!(rt; check(alloc, ONE_A, ONE_A, list, "not built\n")?, (9, true));
     assert_eq!(rt;
-        check(alloc, "a,[0]-[1]\n", ONE_A, yes, "file 1 line 1: Shape\n")?,
+        check(alloc, "a,[0]-[1]\n", ONE_A, list, "file 1 line 1: Shape\n")?,
         (4, true)
     );
     assert_eq!(rt;
-        check(alloc, ONE_A, "", yes, "file 2 line 0: Empty\n")?,
+        check(alloc, ONE_A, "", list, "file 2 line 0: Empty\n")?,
         (4, true)
     );
     let shape = [("A", "a,[0]-[1]\n"), ("B", ONE_A)];
@@ -193,13 +200,10 @@ fn other_ends_have_their_status(rt: HostRuntime) -> Result<(), Fail> {
         (6, true)
     );
     assert_eq!(rt;
-        answers(alloc, &["check", "A", "B"], &files, &[], &[], "not built\n")?,
-        (9, true)
+        answers(alloc, &["check", "A", "B"], &files, &[], &[], USAGE)?,
+        (3, true)
     );
-    assert_eq!(rt;
-        answers(alloc, &[], &files, &[], &[], "not built\n")?,
-        (9, true)
-    );
+    assert_eq!(rt; answers(alloc, &[], &files, &[], &[], USAGE)?, (3, true));
     Ok(())
 }
 
@@ -264,5 +268,28 @@ fn the_ring_may_be_written_in_many_ways(rt: HostRuntime) -> Result<(), Fail> {
             (1, true)
         );
     }
+    Ok(())
+}
+
+/// The status that the words end with, where nothing is said.
+fn ends(alloc: Global, words: &[&str], shelf: &mut MemShelf) -> Result<u8, Memory> {
+    let words = words_of(alloc, words)?;
+    let command = Command {
+        words: &words,
+        asked: question(alloc, &words),
+    };
+    Ok(answer_one(alloc, &command, shelf))
+}
+
+#[test]
+fn one_question_after_the_other_has_its_status(rt: HostRuntime) -> Result<(), Fail> {
+    let alloc = rt.alloc();
+    let files = [("A", RING), ("B", ONLY_B), ("C", RING_NO)];
+    let mut shelf = shelf_of(alloc, &files, &[])?;
+    assert_eq!(rt; ends(alloc, &["check", "A", "B", "C"], &mut shelf)?, 1);
+    assert_eq!(rt; ends(alloc, &["check", "A", "A", "C"], &mut shelf)?, 5);
+    assert_eq!(rt; ends(alloc, &["reduce", "A"], &mut shelf)?, 0);
+    assert_eq!(rt; ends(alloc, &["reduce", "X"], &mut shelf)?, 6);
+    assert_eq!(rt; ends(alloc, &[], &mut shelf)?, 3);
     Ok(())
 }

@@ -1,100 +1,53 @@
-//! The top call: what the words ask is answered, and the answer is said.
+//! The top call: what the words ask is carried out.
 
-ghost use Rattle.std.specs.Prelude.{◌≡◌, ◌≢◌, ◌⊎◌, ℕ, map, None, IfSome};
+ghost use Rattle.std.specs.Prelude.{◌≡◌, ◌≢◌, ◌≤◌, ◌⊎◌, [], map, None, IfSome};
 ghost use Rattle.std.specs.String.{string_bytes};
 ghost use Rattle.shelf_io.specs.Counts.{Rose};
-ghost use Rattle.rabit_cli.specs.Question.{question_of};
-ghost use Rattle.rabit_cli.specs.Printed.{IsPrintable, text_for};
-ghost use Rattle.rabit_cli.specs.Command.{CountsInTurn, FailsInTurn};
-ghost use Rattle.rabit_cli.specs.Said.{WasSaid, IsAnswered, IsSayable, NeedsMemory, answer_in, ShowsIncluded, ShowsApart, ShowsListed, ShowsReduced, SaysNotBuilt, SaysEachAnswer};
-ghost use Rattle.rabit_cli.specs.Written.{OfBoth, LeavesFiles};
+ghost use Rattle.rabit_frame.specs.Lines.{read_line, memory_line};
+ghost use Rattle.rabit_frame.specs.Statuses.{IsOwn};
+ghost use Rattle.rabit_frame.specs.Reading.{CountsInTurn};
+ghost use Rattle.rabit_frame.specs.Ending.{OfBoth, SaysOnly};
+ghost use Rattle.rabit_frame.specs.Carrying.{IsCarriedOut, SaysEach, ShowsReply, LeavesUnwritten};
+ghost use Rattle.rabit_words.specs.Question.{question_of};
+ghost use Rattle.rabit_cli.specs.Commands.{inputs_of, outputs_of, Means, Shows, LeavesFiles, SaysUsage};
 
-use crate::answer::{Answer, Reply};
-use crate::{lines, replying};
+use crate::commands::Command;
+use rabit_frame::carry_out;
+use rabit_words::question;
 use shelf_io::{Shelf, Sink};
 use std::alloc::Global;
 
-/// Gives the whole text at once. The status tells whether the sink took it.
-fn give_text<K: Sink>(answer: &Answer, text: &[u8], out: &mut K) -> u8
-    requires { text.now ≡ text_for answer.now }
-    ensures { WasSaid answer.now result (K.sent out.old) (K.sent out.new) (K.faults out.old) (K.faults out.new) }
-{
-    match out.give(text) {
-        Ok(()) => answer.status(),
-        Err(_failed) => answer.status_unsent(),
-    }
-}
-
-/// Says the answer; where memory is refused for its text, that is said in its place. The text of a fault of the shelf needs none, and that of an automaton
-/// is made.
-fn say<K: Sink>(alloc: Global, answer: &Answer, out: &mut K) -> u8
-    requires { IsPrintable answer.now }
-    ensures { WasSaid answer.now result (K.sent out.old) (K.sent out.new) (K.faults out.old) (K.faults out.new)
-        ⊎ (NeedsMemory (Reply.Plain answer.now) × WasSaid Answer.OutOfMemory result (K.sent out.old) (K.sent out.new) (K.faults out.old) (K.faults out.new)) }
-{
-    match answer {
-        Answer::ReadFault => return give_text(answer, b"read fault\n", out),
-        Answer::WriteFault => return give_text(answer, b"write fault\n", out),
-        Answer::Reduced(text) => return give_text(answer, text.as_slice(), out),
-        _ => {}
-    }
-    match lines::printed(alloc, answer) {
-        Ok(text) => give_text(answer, &text, out),
-        Err(_refused) => give_text(&Answer::OutOfMemory, b"out of memory\n", out),
-    }
-}
-
-/// Says the reply: its own text, where that was made.
-fn say_reply<K: Sink>(alloc: Global, reply: &Reply, out: &mut K) -> u8
-    requires { IsSayable reply.now }
-    ensures { WasSaid (answer_in reply.now) result (K.sent out.old) (K.sent out.new) (K.faults out.old) (K.faults out.new)
-        ⊎ (NeedsMemory reply.now × WasSaid Answer.OutOfMemory result (K.sent out.old) (K.sent out.new) (K.faults out.old) (K.faults out.new)) }
-{
-    match reply {
-        Reply::Plain(answer) => say(alloc, answer, out),
-        Reply::Ready(answer, text) => give_text(answer, text, out),
-    }
-}
-
 /// Does what the words after the program's name ask, and answers the program's status.
 pub fn run<H: Shelf, K: Sink>(alloc: Global, words: &[String], shelf: &mut H, out: &mut K) -> u8
-    // One answer was said. Where the shelf tells its files it is the right one, or a fault of the shelf or want of memory.
-    ensures answered { IsAnswered (H.held shelf.old) (question_of (map string_bytes words.now)) result
-        (K.sent out.old) (K.sent out.new) (K.faults out.old) (K.faults out.new)
+    // One ending was said. Where the shelf tells its files it is the right reply, or a fault of the outside or want of memory.
+    ensures answered { IsCarriedOut (Means (question_of (map string_bytes words.now))) (inputs_of (question_of (map string_bytes words.now)))
+        (H.held shelf.old) (H.held shelf.new) result (K.sent out.old) (K.sent out.new) (K.faults out.old) (K.faults out.new)
         (H.faults shelf.old) (H.faults shelf.new) (H.put_faults shelf.old) (H.put_faults shelf.new) }
 
-    // The answer to the question, whatever it is, comes with its status and its whole text, unless a count of the outside rose
+    // The right reply, whatever it is, comes with its status, its whole text and its files, unless a count of the outside rose
     // or memory was refused.
     ensures exact { IfSome (H.held shelf.old) (λ files.
-        SaysEachAnswer files (question_of (map string_bytes words.now)) result
-        (K.sent out.old) (K.sent out.new) (K.faults out.old) (K.faults out.new)
+        SaysEach (Means (question_of (map string_bytes words.now))) (inputs_of (question_of (map string_bytes words.now))) files
+        (H.held shelf.new) result (K.sent out.old) (K.sent out.new) (K.faults out.old) (K.faults out.new)
         (H.faults shelf.old) (H.faults shelf.new) (H.put_faults shelf.old) (H.put_faults shelf.new)) }
 
-    // Without a question that is said, or want of memory, whatever the shelf tells.
+    // Status 3 exactly where there is no question: then how the program is used is said, or want of memory, whatever the shelf tells.
+    ensures usage { result ≡ 3 → question_of (map string_bytes words.now) ≡ None }
     ensures unasked { question_of (map string_bytes words.now) ≡ None →
-        SaysNotBuilt result (K.sent out.old) (K.sent out.new) (K.faults out.old) (K.faults out.new) }
+        SaysUsage result (K.sent out.old) (K.sent out.new) (K.faults out.old) (K.faults out.new) }
 
-    // Included, by a check or a decision: the certificate is valid for the two read automata, and then the second accepts each lasso
-    // that the first accepts. A decision wrote it.
-    ensures included { result ≡ 0 → OfBoth (H.held shelf.old) (H.held shelf.new) (λ files files'.
-        ShowsIncluded files (question_of (map string_bytes words.now)) files' (K.sent out.old) (K.sent out.new)) }
+    // What a status up to 2 shows, command by command: an inclusion, a lasso that separates, a list past the limit, a reduced automaton.
+    ensures shows { result ≤ 2 → OfBoth (H.held shelf.old) (H.held shelf.new) (λ files files'.
+        Shows (question_of (map string_bytes words.now)) result files files' (K.sent out.old) (K.sent out.new)) }
 
-    // Not included: the certificate's lasso separates the two read automata, and it was printed. A decision wrote the certificate.
-    ensures not_included { result ≡ 1 → OfBoth (H.held shelf.old) (H.held shelf.new) (λ files files'.
-        ShowsApart files (question_of (map string_bytes words.now)) files' (K.sent out.old) (K.sent out.new)) }
-
-    // The limit of a decision was met: its certificate lists one supergraph more, and was written.
-    ensures limit_met { result ≡ 2 → OfBoth (H.held shelf.old) (H.held shelf.new) (λ files files'.
-        ShowsListed files (question_of (map string_bytes words.now)) files' (K.sent out.old) (K.sent out.new)) }
-
-    // Reduced: the text of the reduced automaton of the read one was printed; it is settled, and accepts the same lassos, as does
-    // what its text reads as.
-    ensures reduced { result ≡ 0 → IfSome (H.held shelf.old) (λ files.
-        ShowsReduced files (question_of (map string_bytes words.now)) (K.sent out.old) (K.sent out.new)) }
+    // A status of a command's own is that of the right reply, whose files are written and whose text was given.
+    ensures shown { IsOwn result → OfBoth (H.held shelf.old) (H.held shelf.new) (λ files files'.
+        ShowsReply (Means (question_of (map string_bytes words.now))) (inputs_of (question_of (map string_bytes words.now)))
+        result (K.sent out.old) (K.sent out.new) (K.faults out.old) (K.faults out.new) files files') }
 
     // What the shelf holds afterwards: only a decision writes, and only the file of its certificate.
     ensures files { OfBoth (H.held shelf.old) (H.held shelf.new) (λ files files'.
-        LeavesFiles files (question_of (map string_bytes words.now)) result (H.put_faults shelf.old) (H.put_faults shelf.new) files') }
+        LeavesFiles (question_of (map string_bytes words.now)) result (H.put_faults shelf.old) (H.put_faults shelf.new) files files') }
 
     // Faults of the outside, each with its count, and what stays.
     ensures read_fault { result ≡ 6 → Rose (H.faults shelf.old) (H.faults shelf.new) }
@@ -102,13 +55,24 @@ pub fn run<H: Shelf, K: Sink>(alloc: Global, words: &[String], shelf: &mut H, ou
     ensures write_fault { result ≡ 7 → Rose (K.faults out.old) (K.faults out.new) ⊎ Rose (H.put_faults shelf.old) (H.put_faults shelf.new) }
     ensures no_write_fault { result ≢ 7 → H.put_faults shelf.new ≡ H.put_faults shelf.old }
 
-    // Without a question no call of the shelf fails, and only a decision may have a failing put.
-    ensures fails { FailsInTurn (question_of (map string_bytes words.now)) (H.faults shelf.old) (H.faults shelf.new) (H.put_faults shelf.old) (H.put_faults shelf.new) }
+    // At 6 and 8 no file changed, and that was said; at 7 the counts tell which call was refused, and so what is left.
+    ensures read_line { result ≡ 6 → (H.held shelf.new ≡ H.held shelf.old) × SaysOnly read_line result (K.sent out.old) (K.sent out.new) (K.faults out.old) (K.faults out.new) }
+    ensures memory { result ≡ 8 → (H.held shelf.new ≡ H.held shelf.old) × SaysOnly memory_line result (K.sent out.old) (K.sent out.new) (K.faults out.old) (K.faults out.new) }
+    ensures unwritten { result ≡ 7 → OfBoth (H.held shelf.old) (H.held shelf.new) (λ files files'.
+        LeavesUnwritten (Means (question_of (map string_bytes words.now))) (inputs_of (question_of (map string_bytes words.now)))
+        (K.sent out.old) (K.sent out.new) (K.faults out.old) (K.faults out.new) (H.put_faults shelf.old) (H.put_faults shelf.new) files files') }
+
+    // A question without files to read has no failing read, and one without files to write has no failing put.
+    ensures reads_none { inputs_of (question_of (map string_bytes words.now)) ≡ [] → H.faults shelf.new ≡ H.faults shelf.old }
+    ensures writes_none { outputs_of (question_of (map string_bytes words.now)) ≡ [] → H.put_faults shelf.new ≡ H.put_faults shelf.old }
 
     // Where the shelf tells its files, a missing one is counted only where the command reads it, after those before it.
     ensures missing { IfSome (H.held shelf.old) (λ files.
-        CountsInTurn files (question_of (map string_bytes words.now)) (H.missed shelf.old) (H.missed shelf.new)) }
+        CountsInTurn files (inputs_of (question_of (map string_bytes words.now))) (H.missed shelf.old) (H.missed shelf.new)) }
 {
-    let reply = replying::reply_to(alloc, words, shelf);
-    say_reply(alloc, &reply, out)
+    let command = Command {
+        words,
+        asked: question(alloc, words),
+    };
+    carry_out(alloc, &command, shelf, out)
 }

@@ -1,4 +1,4 @@
-use Rattle.rabit_cli.proofs.CheckLemmas.{check_agrees as law}
+use Rattle.rabit_cli.proofs.LawLemmas.{check_agrees as law}
 use Rattle.rabit_cli.proofs.laws.check_agrees.Goals as goal
 
 pub returns : goal.returns

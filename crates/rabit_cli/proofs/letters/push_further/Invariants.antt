@@ -3,4 +3,4 @@ use Rattle.rabit_cli.specs.Printed.{further_letters}
 use Rattle.rabit_cli.proofs.letters.push_further.Given as goal
 
 abbrev pub invariant-loop-letter : goal.invariant-loop-letter
-invariant-loop-letter l = l.out.items ≡ l.fn.out.items ++ further_letters l.labels (take l.letter-index l.word)
+invariant-loop-letter l = l.out ≡ l.fn.out ++ further_letters l.labels (take l.letter-index l.word)

@@ -1,9 +1,8 @@
 use Rattle.std.proofs.Common.{◌∙◌, arith}
-use Rattle.auto_core.specs.declared.parts.Mode.TheVariants.{Buchi}
-use Rattle.rabit_cli.proofs.LookLemmas.{reduced_labels}
+use Rattle.rabit_cli.proofs.LabelLemmas.{reduced_labels}
 use Rattle.rabit_cli.proofs.reducing.reduced_text.Goals as goal
 
 pub write-requires : goal.write-requires
 write-requires c =
-    let same = reduced_labels Buchi c.args.look c.args.named.now.auto c.in_ok-reduced.reduced.auto c.in_ok-reduced.ensures.reduced ∙ c.requires.within.labels_named in
+    let same = reduced_labels c.args.mode c.args.look c.args.named.now.auto c.in_ok-reduced.reduced.auto c.in_ok-reduced.ensures.reduced ∙ c.requires.within.labels_named in
     omega arith

@@ -1,75 +1,30 @@
 use Rattle.std.proofs.Common.{map, Global}
 use Rattle.std.specs.String.{string_bytes}
-use Rattle.rabit_cli.specs.Question.{question_of}
-use Rattle.rabit_cli.proofs.RunLemmas.{done_with, answered, shows_included, shows_apart, shows_listed, shows_reduced, leaves_files, read_fault, no_read_fault, write_fault, no_write_fault, says_not_built, says_each_answer}
-use Rattle.rabit_cli.proofs.LookLemmas.{has_look}
+use Rattle.rabit_frame.proofs.EndLemmas.{both_map}
+use Rattle.rabit_words.specs.Question.{question_of}
+use Rattle.rabit_words.proofs.RangeLemmas.{question_in_range}
+use Rattle.rabit_cli.proofs.CommandLemmas.{one_meaning, shows, asked_nothing, says_usage, reads_none, writes_none, leaves}
 use Rattle.rabit_cli.proofs.top.run.Goals as goal
 
-pub returns-clause-answered : goal.returns-clause-answered
-returns-clause-answered g c =
-    answered (g.H.Shelf.held c.args.shelf.now) (g.H.Shelf.held c.reply_to-reply.new.shelf) (question_of (map (string_bytes {Z = Global}) c.args.words.now)) _ _ _ _ _ _ _ _ _
-    (done_with (g.H.Shelf.held c.args.shelf.now) (g.H.Shelf.held c.reply_to-reply.new.shelf) (question_of (map (string_bytes {Z = Global}) c.args.words.now)) _ _ _ _ _ _ _ _ _ c.reply_to-reply.result
-    c.reply_to-reply.ensures.answer c.reply_to-reply.ensures.read_fault c.reply_to-reply.ensures.no_read_fault c.reply_to-reply.ensures.write_fault c.reply_to-reply.ensures.no_write_fault c.reply_to-reply.ensures.leaves c.reply_to-reply.ensures.early c.say_reply.ensures)
+pub carry_out-requires-clause-one : goal.carry_out-requires-clause-one
+carry_out-requires-clause-one g c = let words = map (string_bytes {Z = Global}) c.args.words.now in one_meaning (question_of words) (question_in_range words)
 
-pub returns-clause-exact : goal.returns-clause-exact
-returns-clause-exact g c =
-    says_each_answer (g.H.Shelf.held c.args.shelf.now) (question_of (map (string_bytes {Z = Global}) c.args.words.now)) (has_look (map (string_bytes {Z = Global}) c.args.words.now)) _ _ _ _ _ _ _ _ _ (returns-clause-answered g c)
-
-pub returns-clause-included : goal.returns-clause-included
-returns-clause-included g c =
-    shows_included (g.H.Shelf.held c.args.shelf.now) (g.H.Shelf.held c.reply_to-reply.new.shelf) (question_of (map (string_bytes {Z = Global}) c.args.words.now)) _ _ _ _ _ _ _ _ _
-    (done_with (g.H.Shelf.held c.args.shelf.now) (g.H.Shelf.held c.reply_to-reply.new.shelf) (question_of (map (string_bytes {Z = Global}) c.args.words.now)) _ _ _ _ _ _ _ _ _ c.reply_to-reply.result
-    c.reply_to-reply.ensures.answer c.reply_to-reply.ensures.read_fault c.reply_to-reply.ensures.no_read_fault c.reply_to-reply.ensures.write_fault c.reply_to-reply.ensures.no_write_fault c.reply_to-reply.ensures.leaves c.reply_to-reply.ensures.early c.say_reply.ensures)
-
-pub returns-clause-not_included : goal.returns-clause-not_included
-returns-clause-not_included g c =
-    shows_apart (g.H.Shelf.held c.args.shelf.now) (g.H.Shelf.held c.reply_to-reply.new.shelf) (question_of (map (string_bytes {Z = Global}) c.args.words.now)) _ _ _ _ _ _ _ _ _
-    (done_with (g.H.Shelf.held c.args.shelf.now) (g.H.Shelf.held c.reply_to-reply.new.shelf) (question_of (map (string_bytes {Z = Global}) c.args.words.now)) _ _ _ _ _ _ _ _ _ c.reply_to-reply.result
-    c.reply_to-reply.ensures.answer c.reply_to-reply.ensures.read_fault c.reply_to-reply.ensures.no_read_fault c.reply_to-reply.ensures.write_fault c.reply_to-reply.ensures.no_write_fault c.reply_to-reply.ensures.leaves c.reply_to-reply.ensures.early c.say_reply.ensures)
-
-pub returns-clause-limit_met : goal.returns-clause-limit_met
-returns-clause-limit_met g c =
-    shows_listed (g.H.Shelf.held c.args.shelf.now) (g.H.Shelf.held c.reply_to-reply.new.shelf) (question_of (map (string_bytes {Z = Global}) c.args.words.now)) _ _ _ _ _ _ _ _ _
-    (done_with (g.H.Shelf.held c.args.shelf.now) (g.H.Shelf.held c.reply_to-reply.new.shelf) (question_of (map (string_bytes {Z = Global}) c.args.words.now)) _ _ _ _ _ _ _ _ _ c.reply_to-reply.result
-    c.reply_to-reply.ensures.answer c.reply_to-reply.ensures.read_fault c.reply_to-reply.ensures.no_read_fault c.reply_to-reply.ensures.write_fault c.reply_to-reply.ensures.no_write_fault c.reply_to-reply.ensures.leaves c.reply_to-reply.ensures.early c.say_reply.ensures)
-
-pub returns-clause-reduced : goal.returns-clause-reduced
-returns-clause-reduced g c =
-    shows_reduced (g.H.Shelf.held c.args.shelf.now) (g.H.Shelf.held c.reply_to-reply.new.shelf) (question_of (map (string_bytes {Z = Global}) c.args.words.now)) _ _ _ _ _ _ _ _ _
-    (done_with (g.H.Shelf.held c.args.shelf.now) (g.H.Shelf.held c.reply_to-reply.new.shelf) (question_of (map (string_bytes {Z = Global}) c.args.words.now)) _ _ _ _ _ _ _ _ _ c.reply_to-reply.result
-    c.reply_to-reply.ensures.answer c.reply_to-reply.ensures.read_fault c.reply_to-reply.ensures.no_read_fault c.reply_to-reply.ensures.write_fault c.reply_to-reply.ensures.no_write_fault c.reply_to-reply.ensures.leaves c.reply_to-reply.ensures.early c.say_reply.ensures)
-    (has_look (map (string_bytes {Z = Global}) c.args.words.now))
-
-pub returns-clause-files : goal.returns-clause-files
-returns-clause-files g c =
-    leaves_files (g.H.Shelf.held c.args.shelf.now) (g.H.Shelf.held c.reply_to-reply.new.shelf) (question_of (map (string_bytes {Z = Global}) c.args.words.now)) _ _ _ _ _ _ _ _ _
-    (done_with (g.H.Shelf.held c.args.shelf.now) (g.H.Shelf.held c.reply_to-reply.new.shelf) (question_of (map (string_bytes {Z = Global}) c.args.words.now)) _ _ _ _ _ _ _ _ _ c.reply_to-reply.result
-    c.reply_to-reply.ensures.answer c.reply_to-reply.ensures.read_fault c.reply_to-reply.ensures.no_read_fault c.reply_to-reply.ensures.write_fault c.reply_to-reply.ensures.no_write_fault c.reply_to-reply.ensures.leaves c.reply_to-reply.ensures.early c.say_reply.ensures)
-
-pub returns-clause-read_fault : goal.returns-clause-read_fault
-returns-clause-read_fault g c =
-    read_fault (g.H.Shelf.held c.args.shelf.now) (g.H.Shelf.held c.reply_to-reply.new.shelf) (question_of (map (string_bytes {Z = Global}) c.args.words.now)) _ _ _ _ _ _ _ _ _
-    (done_with (g.H.Shelf.held c.args.shelf.now) (g.H.Shelf.held c.reply_to-reply.new.shelf) (question_of (map (string_bytes {Z = Global}) c.args.words.now)) _ _ _ _ _ _ _ _ _ c.reply_to-reply.result
-    c.reply_to-reply.ensures.answer c.reply_to-reply.ensures.read_fault c.reply_to-reply.ensures.no_read_fault c.reply_to-reply.ensures.write_fault c.reply_to-reply.ensures.no_write_fault c.reply_to-reply.ensures.leaves c.reply_to-reply.ensures.early c.say_reply.ensures)
-
-pub returns-clause-no_read_fault : goal.returns-clause-no_read_fault
-returns-clause-no_read_fault g c =
-    no_read_fault (g.H.Shelf.held c.args.shelf.now) (g.H.Shelf.held c.reply_to-reply.new.shelf) (question_of (map (string_bytes {Z = Global}) c.args.words.now)) _ _ _ _ _ _ _ _ _
-    (done_with (g.H.Shelf.held c.args.shelf.now) (g.H.Shelf.held c.reply_to-reply.new.shelf) (question_of (map (string_bytes {Z = Global}) c.args.words.now)) _ _ _ _ _ _ _ _ _ c.reply_to-reply.result
-    c.reply_to-reply.ensures.answer c.reply_to-reply.ensures.read_fault c.reply_to-reply.ensures.no_read_fault c.reply_to-reply.ensures.write_fault c.reply_to-reply.ensures.no_write_fault c.reply_to-reply.ensures.leaves c.reply_to-reply.ensures.early c.say_reply.ensures)
-
-pub returns-clause-write_fault : goal.returns-clause-write_fault
-returns-clause-write_fault g c =
-    write_fault (g.H.Shelf.held c.args.shelf.now) (g.H.Shelf.held c.reply_to-reply.new.shelf) (question_of (map (string_bytes {Z = Global}) c.args.words.now)) _ _ _ _ _ _ _ _ _
-    (done_with (g.H.Shelf.held c.args.shelf.now) (g.H.Shelf.held c.reply_to-reply.new.shelf) (question_of (map (string_bytes {Z = Global}) c.args.words.now)) _ _ _ _ _ _ _ _ _ c.reply_to-reply.result
-    c.reply_to-reply.ensures.answer c.reply_to-reply.ensures.read_fault c.reply_to-reply.ensures.no_read_fault c.reply_to-reply.ensures.write_fault c.reply_to-reply.ensures.no_write_fault c.reply_to-reply.ensures.leaves c.reply_to-reply.ensures.early c.say_reply.ensures)
-
-pub returns-clause-no_write_fault : goal.returns-clause-no_write_fault
-returns-clause-no_write_fault g c =
-    no_write_fault (g.H.Shelf.held c.args.shelf.now) (g.H.Shelf.held c.reply_to-reply.new.shelf) (question_of (map (string_bytes {Z = Global}) c.args.words.now)) _ _ _ _ _ _ _ _ _
-    (done_with (g.H.Shelf.held c.args.shelf.now) (g.H.Shelf.held c.reply_to-reply.new.shelf) (question_of (map (string_bytes {Z = Global}) c.args.words.now)) _ _ _ _ _ _ _ _ _ c.reply_to-reply.result
-    c.reply_to-reply.ensures.answer c.reply_to-reply.ensures.read_fault c.reply_to-reply.ensures.no_read_fault c.reply_to-reply.ensures.write_fault c.reply_to-reply.ensures.no_write_fault c.reply_to-reply.ensures.leaves c.reply_to-reply.ensures.early c.say_reply.ensures)
+pub returns-clause-usage : goal.returns-clause-usage
+returns-clause-usage g c three = let words = map (string_bytes {Z = Global}) c.args.words.now in asked_nothing _ _ _ _ _ _ _ _ _ _ _ (question_of words) c.carry_out.ensures.carried three
 
 pub returns-clause-unasked : goal.returns-clause-unasked
-returns-clause-unasked g c =
-    says_not_built (question_of (map (string_bytes {Z = Global}) c.args.words.now)) _ _ _ _ _ c.reply_to-reply.result c.reply_to-reply.ensures.unasked c.say_reply.ensures
+returns-clause-unasked g c none = let words = map (string_bytes {Z = Global}) c.args.words.now in says_usage _ _ _ _ _ _ _ _ _ _ _ (question_of words) c.carry_out.ensures.carried none
+
+pub returns-clause-shows : goal.returns-clause-shows
+returns-clause-shows g c low =
+    let words = map (string_bytes {Z = Global}) c.args.words.now in
+    both_map _ _ _ _ (λ files files'. shows _ _ _ (question_of words) (question_in_range words) low files files') (c.carry_out.ensures.shown_whole low)
+
+pub returns-clause-files : goal.returns-clause-files
+returns-clause-files g c = let words = map (string_bytes {Z = Global}) c.args.words.now in leaves _ _ _ _ _ _ _ _ _ _ _ (question_of words) (question_in_range words) c.carry_out.ensures.carried
+
+pub returns-clause-reads_none : goal.returns-clause-reads_none
+returns-clause-reads_none g c none = let words = map (string_bytes {Z = Global}) c.args.words.now in reads_none _ _ _ _ _ _ _ _ _ _ _ (question_of words) c.carry_out.ensures.carried none
+
+pub returns-clause-writes_none : goal.returns-clause-writes_none
+returns-clause-writes_none g c none = let words = map (string_bytes {Z = Global}) c.args.words.now in writes_none _ _ _ _ _ _ _ _ _ _ _ (question_of words) c.carry_out.ensures.carried none

@@ -1,0 +1,111 @@
+-- The questions: one reply to each, what it shows and what it leaves.
+use Rattle.std.proofs.Common.{◌≡◌, ℕ, ◌≤◌, List, [], length, Option, Some, None, IfSome, inl, inr, refl, sym, ◌∙◌, ap, subst, arith}
+use Rattle.shelf_io.specs.Shelf.{FileMap}
+use Rattle.decide.specs.Terms.{terms_of}
+use Rattle.rabit_frame.specs.declared.parts.Value.{Value}
+use Rattle.rabit_frame.specs.declared.parts.Reply.{Reply}
+use Rattle.rabit_frame.specs.declared.parts.Ending.{Ending}
+use Rattle.rabit_frame.specs.declared.parts.Ending.TheVariants as ending
+use Rattle.rabit_frame.specs.Statuses.{status_number}
+use Rattle.rabit_frame.specs.Reading.{AreOfKinds}
+use Rattle.rabit_frame.specs.Ending.{OfBoth, WasSaid}
+use Rattle.rabit_frame.specs.Carrying.{EndsSo, IsCarriedOut, ShowsResult}
+use Rattle.rabit_frame.proofs.EndLemmas.{may_plain, same_status, own_status, both_same, no_inputs, no_puts, no_puts_stay}
+use Rattle.rabit_words.specs.Question.{Question, Include, Check, Reduce, Drill, HasNumbersInRange}
+use Rattle.rabit_cli.specs.Replies.{not_built_reply}
+use Rattle.rabit_cli.specs.Commands.{inputs_of, outputs_of, Means, Shows, LeavesFiles, SaysUsage}
+use Rattle.rabit_cli.proofs.CheckLemmas.{one_check, check_puts, check_asked, shows_check}
+use Rattle.rabit_cli.proofs.IncludeLemmas.{one_include, include_asked, shows_include, leaves_include}
+use Rattle.rabit_cli.proofs.ReduceLemmas.{one_reduce, reduce_puts, reduce_asked, shows_reduce}
+
+-- one row a question
+pub one_meaning : (q : Option Question) → IfSome q HasNumbersInRange → (values : List Value) (r s : Reply) → AreOfKinds (inputs_of q) values → Means q values r → Means q values s → r ≡ s
+one_meaning None range values r s kinds p q = p ∙ sym q
+one_meaning (Some (Check a b c)) range values r s kinds p q = one_check values r s p q
+one_meaning (Some (Include a b c m look limit)) range values r s kinds p q = one_include c (terms_of m look limit) range.0 values r s p q
+one_meaning (Some (Reduce a m look)) range values r s kinds p q = one_reduce a m look range.0 values r s kinds p q
+one_meaning (Some (Drill seed states labels)) range values r s kinds p q = p ∙ sym q
+
+pub no_outputs : (q : Option Question) → outputs_of q ≡ [] → (values : List Value) (r : Reply) → Means q values r → r.puts ≡ []
+no_outputs None none values r p = ap (λ z. z.puts) p
+no_outputs (Some (Check a b c)) none values r p = check_puts values r p
+no_outputs (Some (Include a b c m look limit)) none values r p = absurd (let f = none in cc)
+no_outputs (Some (Reduce a m look)) none values r p = reduce_puts m look values r p
+no_outputs (Some (Drill seed states labels)) none values r p = ap (λ z. z.puts) p
+
+built : (r : Reply) → r ≡ not_built_reply → status_number r.status ≡ 9
+built r p = ap (λ z. status_number z.status) p
+
+usage_alone : (q : Option Question) (values : List Value) (r : Reply) → Means q values r → status_number r.status ≡ 3 → q ≡ None
+usage_alone None values r p three = refl
+usage_alone (Some (Check a b c)) values r p three = absurd (check_asked values r p three)
+usage_alone (Some (Include a b c m look limit)) values r p three = absurd (include_asked c (terms_of m look limit) values r p three)
+usage_alone (Some (Reduce a m look)) values r p three = absurd (reduce_asked m look values r p three)
+usage_alone (Some (Drill seed states labels)) values r p three = (let e = built r p in absurd (omega arith))
+
+module _ (status : ℕ) (sent sent' : Option (List ℕ)) where
+  pub shows : (q : Option Question) → IfSome q HasNumbersInRange → status ≤ 2 → (files files' : FileMap) → ShowsResult (Means q) (inputs_of q) status sent sent' files files' → Shows q status files files' sent sent'
+  shows None range low files files' (r, values, reads, p, number, left, sends) = (let e = ap (λ z. status_number z.status) p in absurd (omega arith))
+  shows (Some (Check a b c)) range low files files' (r, values, reads, p, number, left, sends) = shows_check files a b c status sent sent' r number sends values reads p
+  shows (Some (Include a b c m look limit)) range low files files' (r, values, reads, p, number, left, sends) =
+      shows_include files a b c (terms_of m look limit) (record { look_from = range.0; look_upto = range.1; few = range.3 }) status files' sent sent' r number left sends values reads p
+  shows (Some (Reduce a m look)) range low files files' (r, values, reads, p, number, left, sends) = shows_reduce files a m look status sent sent' r range.0 number sends values reads p
+  shows (Some (Drill seed states labels)) range low files files' (r, values, reads, p, number, left, sends) = (let e = built r p in absurd (omega arith))
+
+module _ (held held' : Option FileMap) (status : ℕ) (sent sent' : Option (List ℕ)) (sink sink' faults faults' puts puts' : ℕ) where
+  abbrev pub Carried : Option Question → Type 0
+  Carried q = IsCarriedOut (Means q) (inputs_of q) held held' status sent sent' sink sink' faults faults' puts puts'
+
+  -- status 3 comes of words that ask nothing
+  asked_at : (q : Option Question) (e : Ending) → EndsSo (Means q) (inputs_of q) e held held' faults faults' puts puts' → WasSaid e status sent sent' sink sink' → status ≡ 3 → q ≡ None
+  asked_at q (ending.Reached r) ends said three =
+      let number = own_status (Means q) (inputs_of q) held held' status sent sent' sink sink' faults faults' puts puts' r said (λ e. omega arith, λ e. omega arith, λ e. omega arith) in
+      elim ends.may [
+        | inl stop ↦ (let high = (may_plain (inputs_of q) r stop).0 in absurd (omega arith))
+        | inr (values, kinds, m) ↦ usage_alone q values r m (number ∙ three)
+      ]
+  asked_at q (ending.ReadFault) ends said three = (let e = same_status (Means q) (inputs_of q) held held' status sent sent' sink sink' faults faults' puts puts' 6 ending.ReadFault refl refl said in absurd (omega arith))
+  asked_at q (ending.WriteFault) ends said three = (let e = same_status (Means q) (inputs_of q) held held' status sent sent' sink sink' faults faults' puts puts' 7 ending.WriteFault refl refl said in absurd (omega arith))
+  asked_at q (ending.OutOfMemory) ends said three = (let e = same_status (Means q) (inputs_of q) held held' status sent sent' sink sink' faults faults' puts puts' 8 ending.OutOfMemory refl refl said in absurd (omega arith))
+
+  pub asked_nothing : (q : Option Question) → Carried q → status ≡ 3 → q ≡ None
+  asked_nothing q c three = asked_at q c.end c.ends c.said three
+
+  -- and then that is said
+  usage_at : (e : Ending) → EndsSo (Means None) [] e held held' faults faults' puts puts' → WasSaid e status sent sent' sink sink' → SaysUsage status sent sent' sink sink'
+  usage_at (ending.Reached r) ends said =
+      elim ends.may [
+        | inl stop ↦ absurd stop
+        | inr (values, kinds, is) ↦
+            let said' = subst (λ z. WasSaid (ending.Reached z) status sent sent' sink sink') is said in
+            elim said' [ inl whole ↦ inl (whole.0, inl (refl, whole.1, whole.2)) | inr front ↦ inl (front.0, inr (refl, front.1, front.2)) ]
+      ]
+  usage_at (ending.ReadFault) ends said = (let some = ends.may in absurd (omega arith))
+  usage_at (ending.WriteFault) ends said =
+      let (r, may, some) = ends.may in
+      elim may [ inl stop ↦ absurd stop | inr (values, kinds, is) ↦ (let none = ap (λ z. length z.puts) is in absurd (omega arith)) ]
+  usage_at (ending.OutOfMemory) ends said = elim said [ inl whole ↦ inr (whole.0, inl (refl, whole.1, whole.2)) | inr front ↦ inr (front.0, inr (refl, front.1, front.2)) ]
+
+  pub says_usage : (q : Option Question) → Carried q → q ≡ None → SaysUsage status sent sent' sink sink'
+  says_usage q c none =
+      let c' : Carried None = subst Carried none c in
+      usage_at c'.end c'.ends c'.said
+
+  pub reads_none : (q : Option Question) → Carried q → inputs_of q ≡ [] → faults' ≡ faults
+  reads_none q c none = no_inputs (Means q) (inputs_of q) held held' status sent sent' sink sink' faults faults' puts puts' c.end c.ends none
+
+  pub writes_none : (q : Option Question) → Carried q → outputs_of q ≡ [] → puts' ≡ puts
+  writes_none q c none = no_puts (Means q) (inputs_of q) held held' status sent sent' sink sink' faults faults' puts puts' c.end c.ends (no_outputs q none)
+
+  stays_with : (q : Option Question) → Carried q → outputs_of q ≡ [] → OfBoth held held' (λ files files'. files' ≡ files)
+  stays_with q c none =
+      both_same held held' (λ files files'. files' ≡ files) (λ files. refl)
+      (no_puts_stay (Means q) (inputs_of q) held held' status sent sent' sink sink' faults faults' puts puts' c.end c.ends (no_outputs q none))
+
+  pub leaves : (q : Option Question) → IfSome q HasNumbersInRange → Carried q → OfBoth held held' (λ files files'. LeavesFiles q status puts puts' files files')
+  leaves None range c = stays_with None c refl
+  leaves (Some (Check a b d)) range c = stays_with (Some (Check a b d)) c refl
+  leaves (Some (Include a b d m look limit)) range c =
+      leaves_include held held' status sent sent' sink sink' faults faults' puts puts' a b d (terms_of m look limit) (record { look_from = range.0; look_upto = range.1; few = range.3 }) c.end c.ends c.said
+  leaves (Some (Reduce a m look)) range c = stays_with (Some (Reduce a m look)) c refl
+  leaves (Some (Drill seed states labels)) range c = stays_with (Some (Drill seed states labels)) c refl

@@ -1,0 +1,100 @@
+-- What a check says of what a decision wrote.
+use Rattle.std.proofs.Common.{◌≡◌, ℕ, List, [], ◌∷◌, cond, Some, inl, inr, refl, sym, ◌∙◌, ap, subst}
+use Rattle.std.proofs.lemmas.Bool.{false_from_ne_true}
+use Rattle.std.proofs.lemmas.Cmp.{nat_list_cmp_total}
+use Rattle.std.proofs.lemmas.Map.Text.{is_eq-slice_cmp}
+use Rattle.std.proofs.lemmas.Slice.Eq.{bytes_eq-Decides}
+use Rattle.std.specs.FinMap as map
+use Rattle.std.specs.FinMap.{get-insert}
+use Rattle.std.specs.Str.{bytes_eq}
+use Rattle.shelf_io.specs.Shelf.{FileMap}
+use Rattle.ba_format.specs.declared.parts.Named.{Named}
+use Rattle.ba_format.specs.declared.parts.Joined.{Joined}
+use Rattle.ba_format.specs.Joining.{IsJoined}
+use Rattle.ba_format.proofs.LawLemmas.{joins_as_one}
+use Rattle.cert_text.specs.declared.types.Cert.{Cert}
+use Rattle.cert_text.specs.declared.types.Body.{Body}
+use Rattle.cert_text.specs.declared.types.Body.TheVariants.{Yes, NoLasso, NoWord, Listing}
+use Rattle.cert_text.specs.Text.{text}
+use Rattle.auto_core.specs.declared.parts.Mode.{Mode}
+use Rattle.decide.specs.declared.terms.Terms.{Terms}
+use Rattle.decide.specs.Answer.{IsAnswer}
+use Rattle.decide.proofs.UniqueLemmas.{one_answer}
+use Rattle.rabit_frame.specs.declared.parts.Value.{Value}
+use Rattle.rabit_frame.specs.declared.parts.Value.TheVariants as value
+use Rattle.rabit_frame.specs.declared.parts.Reply.{Reply}
+use Rattle.rabit_frame.specs.Files.{Output}
+use Rattle.rabit_frame.specs.Reading.{only_said}
+use Rattle.rabit_frame.proofs.OneLemmas.{one_read_in_turn, stop_or_read_in_turn}
+use Rattle.rabit_cli.specs.Files.{FileReadsAs}
+use Rattle.rabit_cli.specs.Replies.{IsVerdictReply}
+use Rattle.rabit_cli.specs.Include.{include_inputs, certificate_put}
+use Rattle.rabit_cli.specs.Laws.{CheckAgrees, AnswersAreAccepted}
+use Rattle.rabit_cli.proofs.IncludeLemmas.{cert_for}
+
+-- what the written name holds, and what the others do
+module _ (files : FileMap) (c bytes : List ℕ) where
+  found : (name : List ℕ) → map.get (map.insert files c bytes) name ≡ cond (bytes_eq name c) (Some bytes) (map.get files name)
+  found name = get-insert nat_list_cmp_total files c bytes name ∙ ap (λ b. cond b (Some bytes) (map.get files name)) (is_eq-slice_cmp name c)
+
+  written : map.get (map.insert files c bytes) c ≡ Some bytes
+  written = found c ∙ ap (λ b. cond b (Some bytes) (map.get files c)) ((bytes_eq-Decides c c).1 refl)
+
+  other : (name : List ℕ) → (c ≡ name → ⊥) → map.get (map.insert files c bytes) name ≡ map.get files name
+  other name differ =
+      found name
+      ∙ ap (λ b. cond b (Some bytes) (map.get files name)) (false_from_ne_true (bytes_eq name c) (λ t. differ (sym ((bytes_eq-Decides name c).0 t))))
+
+  reads_still : (name : List ℕ) (named : Named) → (c ≡ name → ⊥) → FileReadsAs files name named → FileReadsAs (map.insert files c bytes) name named
+  reads_still name named differ (b, has, few, reads) = (b, other name differ ∙ has, few, reads)
+
+-- the verdict without the files that are written
+said_alone : (m : Mode) (pair : Joined) (body : Body) (puts : List Output) (r : Reply) → IsVerdictReply m pair body puts r → IsVerdictReply m pair body [] (only_said r.status r.text)
+said_alone m pair (Yes y) puts r e = ap (λ z. only_said z.status z.text) e
+said_alone m pair (NoLasso l) puts r e = ap (λ z. only_said z.status z.text) e
+said_alone m pair (NoWord w) puts r e = ap (λ z. only_said z.status z.text) e
+said_alone m pair (Listing l) puts r e = ap (λ z. only_said z.status z.text) e
+
+-- an answer has the mode of the terms
+mode_of : {pair : Joined} {terms : Terms} {cert : Cert} → IsAnswer pair terms cert → cert.mode ≡ terms.mode
+mode_of (at, ends, answer) = answer.mode
+
+pub check_agrees : CheckAgrees
+check_agrees files a b c terms pair cert r not_a not_b bounds read answer verdict few right =
+    let is = cert_for files a b c terms bounds pair cert read answer in
+    let (one, two, first, second, joined) = read in
+    let values : List Value = value.Automaton one ∷ value.Automaton two ∷ [] in
+    let valid = is.valid verdict in
+    let says : IsVerdictReply terms.mode pair cert.body (certificate_put c cert ∷ []) r =
+    elim right [
+      | inl stop ↦ absurd (stop_or_read_in_turn files (include_inputs a b) r values stop (first, (second, tt)))
+      | inr (values', reads', (one', two', is', (pair', joined', (cert', answer', says')))) ↦
+          let all = one_read_in_turn files (include_inputs a b) values values' (first, (second, tt)) reads' ∙ is' in
+          let same_one : one ≡ one' = cc in
+          let same_two : two ≡ two' = cc in
+          let P : Named → Type 0 = λ z. IsJoined z two pair in
+          let Q : Named → Type 0 = λ z. IsJoined one' z pair in
+          let same : pair' ≡ pair = sym (joins_as_one one' two' pair pair' (subst Q same_two (subst P same_one joined)) joined') in
+          let A : Joined → Type 0 = λ z. IsAnswer z terms cert' in
+          let same_cert : cert' ≡ cert = one_answer pair terms cert' cert joined.first.valid joined.second.valid bounds.look_from (subst A same answer') is.answer in
+          let C : Joined → Type 0 = λ z. IsVerdictReply terms.mode z cert'.body (certificate_put c cert' ∷ []) r in
+          let D : Cert → Type 0 = λ z. IsVerdictReply terms.mode pair z.body (certificate_put c z ∷ []) r in
+          subst D same_cert (subst C same says')
+    ] in
+    inr (
+      value.Automaton one ∷ value.Automaton two ∷ value.Certificate cert ∷ [],
+      (reads_still files c (text cert) a one not_a first, (reads_still files c (text cert) b two not_b second, ((text cert, written files c (text cert), few, (is.formed, refl)), tt))),
+      (one, two, cert, refl, (pair, joined, inr (inr (valid.form, valid.keeps, said_alone cert.mode pair cert.body (certificate_put c cert ∷ []) r (subst (λ m. IsVerdictReply m pair cert.body (certificate_put c cert ∷ []) r) (sym (mode_of is.answer)) says))))),
+    )
+
+pub answers_accepted : AnswersAreAccepted
+answers_accepted files a b c terms pair cert r bounds read answer verdict held says =
+    let is = cert_for files a b c terms bounds pair cert read answer in
+    let (one, two, first, second, joined) = read in
+    let (bytes, has, few, formed, text_is) = held in
+    let valid = is.valid verdict in
+    inr (
+      value.Automaton one ∷ value.Automaton two ∷ value.Certificate cert ∷ [],
+      (first, (second, ((bytes, has, few, (formed, text_is)), tt))),
+      (one, two, cert, refl, (pair, joined, inr (inr (valid.form, valid.keeps, says)))),
+    )

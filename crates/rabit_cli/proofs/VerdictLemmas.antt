@@ -1,0 +1,57 @@
+-- What a certificate says, and its letters.
+use Rattle.std.proofs.Common.{◌≡◌, ℕ, ◌<◌, ◌≤◌, List, length, All, sym, ◌∙◌, ap, subst, arith}
+use Rattle.auto_core.specs.declared.parts.Lasso.{Lasso}
+use Rattle.auto_core.specs.declared.parts.Mode.{Mode}
+use Rattle.ba_format.specs.declared.parts.Joined.{Joined}
+use Rattle.cert_text.specs.declared.types.Cert.{Cert}
+use Rattle.cert_text.specs.declared.types.Body.{Body}
+use Rattle.cert_text.specs.declared.types.Body.TheVariants.{Yes, NoLasso, NoWord, Listing}
+use Rattle.log_check.specs.Checks.{AllHold}
+use Rattle.cert_check.specs.Rules.{KeepsRules, BodyHolds, lasso_checks, word_checks}
+use Rattle.decide.specs.Laws.{SaysYesOrNo, IsValidVerdict}
+use Rattle.rabit_frame.specs.Files.{Output}
+use Rattle.rabit_frame.specs.declared.parts.Reply.{Reply}
+use Rattle.rabit_frame.specs.Statuses.{status_number}
+use Rattle.rabit_cli.specs.Replies.{IsVerdictReply}
+
+-- the letters of a lasso
+abbrev pub HaveTexts : Joined → Lasso → Type 0
+HaveTexts pair lasso = All (λ a. a < length pair.labels) lasso.prefix × All (λ a. a < length pair.labels) lasso.turn
+
+pub letters_of_kept : (pair : Joined) (cert : Cert) → KeepsRules pair cert → (lasso : Lasso) → cert.body ≡ NoLasso lasso → HaveTexts pair lasso
+letters_of_kept pair cert keeps lasso is =
+    let rules : AllHold (lasso_checks pair lasso) = subst (λ b. BodyHolds cert.mode pair b) is keeps.1 in
+    (rules.0, rules.1.0)
+
+pub letters_of_answer : (pair : Joined) (cert : Cert) → IsValidVerdict pair cert → (lasso : Lasso) → cert.body ≡ NoLasso lasso → HaveTexts pair lasso
+letters_of_answer pair cert valid lasso is = letters_of_kept pair cert (valid (subst SaysYesOrNo (sym is) tt)).keeps lasso is
+
+-- the letters of a word
+pub letters_of_kept_word : (pair : Joined) (cert : Cert) → KeepsRules pair cert → (word : List ℕ) → cert.body ≡ NoWord word → All (λ a. a < length pair.labels) word
+letters_of_kept_word pair cert keeps word is =
+    let rules : AllHold (word_checks pair word) = subst (λ b. BodyHolds cert.mode pair b) is keeps.1 in
+    rules.0
+
+pub letters_of_answer_word : (pair : Joined) (cert : Cert) → IsValidVerdict pair cert → (word : List ℕ) → cert.body ≡ NoWord word → All (λ a. a < length pair.labels) word
+letters_of_answer_word pair cert valid word is = letters_of_kept_word pair cert (valid (subst SaysYesOrNo (sym is) tt)).keeps word is
+
+-- one reply
+pub one_verdict : (m : Mode) (pair : Joined) (body : Body) (puts : List Output) (r s : Reply) → IsVerdictReply m pair body puts r → IsVerdictReply m pair body puts s → r ≡ s
+one_verdict m pair (Yes b) puts r s p q = p ∙ sym q
+one_verdict m pair (NoLasso l) puts r s p q = p ∙ sym q
+one_verdict m pair (NoWord w) puts r s p q = p ∙ sym q
+one_verdict m pair (Listing l) puts r s p q = p ∙ sym q
+
+-- it writes what it was to write
+pub puts_of_verdict : (m : Mode) (pair : Joined) (body : Body) (puts : List Output) (r : Reply) → IsVerdictReply m pair body puts r → r.puts ≡ puts
+puts_of_verdict m pair (Yes b) puts r p = ap (λ z. z.puts) p
+puts_of_verdict m pair (NoLasso l) puts r p = ap (λ z. z.puts) p
+puts_of_verdict m pair (NoWord w) puts r p = ap (λ z. z.puts) p
+puts_of_verdict m pair (Listing l) puts r p = ap (λ z. z.puts) p
+
+-- it is a result
+pub low_verdict : (m : Mode) (pair : Joined) (body : Body) (puts : List Output) (r : Reply) → IsVerdictReply m pair body puts r → status_number r.status ≤ 2
+low_verdict m pair (Yes b) puts r p = subst (λ z. status_number z.status ≤ 2) (sym p) (omega arith)
+low_verdict m pair (NoLasso l) puts r p = subst (λ z. status_number z.status ≤ 2) (sym p) (omega arith)
+low_verdict m pair (NoWord w) puts r p = subst (λ z. status_number z.status ≤ 2) (sym p) (omega arith)
+low_verdict m pair (Listing l) puts r p = subst (λ z. status_number z.status ≤ 2) (sym p) (omega arith)

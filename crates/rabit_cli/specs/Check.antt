@@ -1,0 +1,72 @@
+-- `check A B CERT`
+use Rattle.std.specs.Prelude.{◌≡◌, ℕ, ◌⊎◌, List, [], ◌∷◌, Option, true, false}
+use Rattle.std.specs.Io.KnownBytes.{append_known}
+use Rattle.shelf_io.specs.Shelf.{FileMap}
+use Rattle.auto_core.specs.Accept.{Includes}
+use Rattle.ba_format.specs.declared.parts.Named.{Named}
+use Rattle.ba_format.specs.declared.parts.Joined.{Joined}
+use Rattle.ba_format.specs.Joining.{IsJoined}
+use Rattle.cert_text.specs.declared.types.Cert.{Cert}
+use Rattle.cert_text.specs.declared.types.YesBody.{YesBody}
+use Rattle.cert_text.specs.declared.types.Body.TheVariants.{Yes}
+use Rattle.log_check.specs.declared.faults.Refusal.{Refusal}
+use Rattle.cert_check.specs.Rules.{KeepsRules, BreaksRule, has_checked_form}
+use Rattle.cert_check.specs.Laws.{IsValid}
+use Rattle.rabit_frame.specs.declared.parts.Value.{Value}
+use Rattle.rabit_frame.specs.declared.parts.Value.TheVariants as value
+use Rattle.rabit_frame.specs.declared.parts.Status.TheVariants as status
+use Rattle.rabit_frame.specs.declared.parts.Reply.{Reply}
+use Rattle.rabit_frame.specs.Files.{Input}
+use Rattle.rabit_frame.specs.Reading.{only_said}
+use Rattle.rabit_cli.specs.Printed.{refused_text, included_text}
+use Rattle.rabit_cli.specs.Files.{check_limits, automaton_file, certificate_file, ReadsPair, HoldsCertificate}
+use Rattle.rabit_cli.specs.Replies.{not_built_reply, IsVerdictReply, TellsApart}
+
+-- The files that it reads: the two automata, and then the certificate.
+abbrev pub check_inputs : List ℕ → List ℕ → List ℕ → List Input
+check_inputs a b c = automaton_file 1 check_limits a ∷ automaton_file 2 check_limits b ∷ certificate_file c ∷ []
+
+-- The reply to two joined automata and a certificate: its form is not built, or a rule is broken, the first being this one,
+-- or the certificate is valid.
+abbrev pub Concludes : Joined → Cert → Reply → Type 0
+Concludes pair cert r =
+    ((has_checked_form cert ≡ false) × (r ≡ not_built_reply))
+    ⊎ ((has_checked_form cert ≡ true) × ((refusal : Refusal) × BreaksRule pair cert refusal × (r ≡ only_said status.BadCertificate (refused_text refusal))))
+    ⊎ ((has_checked_form cert ≡ true) × KeepsRules pair cert × IsVerdictReply cert.mode pair cert.body [] r)
+
+-- The reply to what was read.
+abbrev pub MeansCheck : List Value → Reply → Type 0
+MeansCheck values r =
+    (one two : Named)
+    × (cert : Cert)
+    × (values ≡ value.Automaton one ∷ value.Automaton two ∷ value.Certificate cert ∷ [])
+    × ((pair : Joined) × IsJoined one two pair × Concludes pair cert r)
+
+-- It said no: the named files read as two automata, the certificate says no and keeps all rules, the first automaton accepts its
+-- lasso, in finite mode its word, and the second does not, and that was printed.
+pub record IsApart (files : FileMap) (a b c : List ℕ) (sent sent' : Option (List ℕ)) : Type 0 where
+  pub pair : Joined
+  pub cert : Cert
+  pub read : ReadsPair files a b pair
+  pub certificate : HoldsCertificate files c cert
+  pub valid : IsValid pair cert
+  pub apart : TellsApart pair cert.body sent sent'
+
+-- It said yes: the named files read as two automata, the certificate says yes and keeps all rules, the second automaton accepts
+-- each lasso, in finite mode each word, that the first accepts, and that was printed.
+pub record IsIncluded (files : FileMap) (a b c : List ℕ) (sent sent' : Option (List ℕ)) : Type 0 where
+  pub pair : Joined
+  pub cert : Cert
+  pub evidence : YesBody
+  pub read : ReadsPair files a b pair
+  pub certificate : HoldsCertificate files c cert
+  pub says_yes : cert.body ≡ Yes evidence
+  pub valid : IsValid pair cert
+  pub includes : Includes pair.first pair.second cert.mode
+  pub printed : sent' ≡ append_known sent (included_text cert.mode)
+
+-- What a status up to 2 shows: 0 an inclusion, 1 a lasso or a word that separates, and 2 does not come.
+pub record ShowsCheck (files : FileMap) (a b c : List ℕ) (status : ℕ) (sent sent' : Option (List ℕ)) : Type 0 where
+  pub included : status ≡ 0 → IsIncluded files a b c sent sent'
+  pub not_included : status ≡ 1 → IsApart files a b c sent sent'
+  pub no_limit : ¬ (status ≡ 2)

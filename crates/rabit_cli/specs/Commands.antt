@@ -1,0 +1,54 @@
+-- Each question's files, what its reply means, and what its results show: one row a command.
+use Rattle.std.specs.Prelude.{◌≡◌, ℕ, ◌⊎◌, List, [], ◌∷◌, Option, Some, None}
+use Rattle.shelf_io.specs.Shelf.{FileMap}
+use Rattle.decide.specs.Terms.{terms_of}
+use Rattle.rabit_frame.specs.declared.parts.Value.{Value}
+use Rattle.rabit_frame.specs.declared.parts.Reply.{Reply}
+use Rattle.rabit_frame.specs.Files.{Input}
+use Rattle.rabit_frame.specs.Lines.{memory_line}
+use Rattle.rabit_frame.specs.Ending.{SaysOnly}
+use Rattle.rabit_words.specs.Question.{Question, Include, Check, Reduce, Drill}
+use Rattle.rabit_cli.specs.Printed.{usage_text}
+use Rattle.rabit_cli.specs.Replies.{usage_reply, not_built_reply}
+use Rattle.rabit_cli.specs.Check.{check_inputs, MeansCheck, ShowsCheck}
+use Rattle.rabit_cli.specs.Include.{include_inputs, MeansInclude, ShowsInclude, LeavesDecided}
+use Rattle.rabit_cli.specs.Reduce.{reduce_inputs, MeansReduce, ShowsReduce}
+
+-- The files that are read, in order.
+abbrev pub inputs_of : Option Question → List Input
+inputs_of None = []
+inputs_of (Some (Check a b c)) = check_inputs a b c
+inputs_of (Some (Include a b c mode look limit)) = include_inputs a b
+inputs_of (Some (Reduce a mode look)) = reduce_inputs a
+inputs_of (Some (Drill seed states labels)) = []
+
+-- The names of the files that may be written.
+abbrev pub outputs_of : Option Question → List (List ℕ)
+outputs_of (Some (Include a b c mode look limit)) = c ∷ []
+outputs_of question = []
+
+-- Which reply is right for what the files read as. `drill` is not built.
+abbrev pub Means : Option Question → List Value → Reply → Type 0
+Means None values r = r ≡ usage_reply
+Means (Some (Check a b c)) values r = MeansCheck values r
+Means (Some (Include a b c mode look limit)) values r = MeansInclude c (terms_of mode look limit) values r
+Means (Some (Reduce a mode look)) values r = MeansReduce mode look values r
+Means (Some (Drill seed states labels)) values r = r ≡ not_built_reply
+
+-- What a status up to 2 shows of the files before and after, and of what was sent. Words that are no question, and a command that is not
+-- built, have no status up to 2.
+abbrev pub Shows : Option Question → ℕ → FileMap → FileMap → Option (List ℕ) → Option (List ℕ) → Type 0
+Shows (Some (Check a b c)) status files files' sent sent' = ShowsCheck files a b c status sent sent'
+Shows (Some (Include a b c mode look limit)) status files files' sent sent' = ShowsInclude files a b c (terms_of mode look limit) status files' sent sent'
+Shows (Some (Reduce a mode look)) status files files' sent sent' = ShowsReduce files a mode look status sent sent'
+Shows question status files files' sent sent' = ⊥
+
+-- What the files are afterwards: only a decision writes, and only its certificate's file.
+abbrev pub LeavesFiles : Option Question → ℕ → ℕ → ℕ → FileMap → FileMap → Type 0
+LeavesFiles (Some (Include a b c mode look limit)) status puts puts' files files' = LeavesDecided files a b c (terms_of mode look limit) status puts puts' files'
+LeavesFiles question status puts puts' files files' = files' ≡ files
+
+-- The words ask nothing, and how the program is used was said, with status 3; or want of memory was.
+abbrev pub SaysUsage : ℕ → Option (List ℕ) → Option (List ℕ) → ℕ → ℕ → Type 0
+SaysUsage status sent sent' sink sink' =
+    ((status ≡ 3) × SaysOnly usage_text status sent sent' sink sink') ⊎ ((status ≡ 8) × SaysOnly memory_line status sent sent' sink sink')

@@ -1,0 +1,118 @@
+-- `include A B CERT`, with `--finite`, `--look K` and `--limit N`
+use Rattle.std.specs.Prelude.{◌≡◌, ℕ, ◌⊎◌, List, [], ◌∷◌, take, Option}
+use Rattle.std.specs.FinMap as map
+use Rattle.std.specs.Io.KnownBytes.{append_known}
+use Rattle.shelf_io.specs.Shelf.{FileMap}
+use Rattle.auto_core.specs.Accept.{Includes}
+use Rattle.ba_format.specs.declared.parts.Named.{Named}
+use Rattle.ba_format.specs.declared.parts.Joined.{Joined}
+use Rattle.ba_format.specs.Joining.{IsJoined}
+use Rattle.cert_text.specs.declared.types.Cert.{Cert}
+use Rattle.cert_text.specs.declared.types.YesBody.{YesBody}
+use Rattle.cert_text.specs.declared.types.ListBody.{ListBody}
+use Rattle.cert_text.specs.declared.types.Body.TheVariants.{Yes, Listing}
+use Rattle.cert_text.specs.Text.{text}
+use Rattle.cert_text.specs.WellFormed.{WellFormed}
+use Rattle.cert_check.specs.Laws.{IsValid}
+use Rattle.decide.specs.declared.terms.Terms.{Terms}
+use Rattle.decide.specs.Answer.{IsAnswer}
+use Rattle.decide.specs.Laws.{IsValidVerdict, SaysTruth, StandApart, ListsNew}
+use Rattle.rabit_frame.specs.declared.parts.Value.{Value}
+use Rattle.rabit_frame.specs.declared.parts.Value.TheVariants as value
+use Rattle.rabit_frame.specs.declared.parts.Reply.{Reply}
+use Rattle.rabit_frame.specs.Files.{Input, Output}
+use Rattle.rabit_frame.specs.Carrying.{LeavesByStatus}
+use Rattle.rabit_cli.specs.Printed.{included_text, limit_text}
+use Rattle.rabit_cli.specs.Files.{check_limits, automaton_file, ReadsPair}
+use Rattle.rabit_cli.specs.Replies.{IsVerdictReply, TellsApart}
+
+-- The files that it reads: the two automata.
+abbrev pub include_inputs : List ℕ → List ℕ → List Input
+include_inputs a b = automaton_file 1 check_limits a ∷ automaton_file 2 check_limits b ∷ []
+
+-- The file that it writes: the certificate's text, under its name.
+abbrev pub certificate_put : List ℕ → Cert → Output
+certificate_put name cert = record { name = name; bytes = text cert }
+
+-- The reply to two joined automata: the answer of the search on the reduced ones is written, and its verdict is said.
+abbrev pub IsDecided : List ℕ → Terms → Joined → Reply → Type 0
+IsDecided name terms pair r = (cert : Cert) × IsAnswer pair terms cert × IsVerdictReply terms.mode pair cert.body (certificate_put name cert ∷ []) r
+
+-- The reply to what was read.
+abbrev pub MeansInclude : List ℕ → Terms → List Value → Reply → Type 0
+MeansInclude name terms values r =
+    (one two : Named)
+    × (values ≡ value.Automaton one ∷ value.Automaton two ∷ [])
+    × ((pair : Joined) × IsJoined one two pair × IsDecided name terms pair r)
+
+-- The two files read as this pair of automata, and the certificate is the answer for them: it has a text, keeps all rules of the
+-- check where it says yes or no, and what it says is so.
+pub record IsCertFor (files : FileMap) (a b : List ℕ) (terms : Terms) (pair : Joined) (cert : Cert) : Type 0 where
+  pub read : ReadsPair files a b pair
+  pub answer : IsAnswer pair terms cert
+  pub formed : WellFormed cert
+  pub valid : IsValidVerdict pair cert
+  pub truth : SaysTruth pair terms cert.body
+
+-- The name holds the whole text of the answer for the two files, and all other files are as before.
+abbrev pub HoldsAnswer : FileMap → List ℕ → List ℕ → List ℕ → Terms → FileMap → Type 0
+HoldsAnswer files a b c terms files' =
+    (pair : Joined) × (cert : Cert) × IsCertFor files a b terms pair cert × (files' ≡ map.insert files c (text cert))
+
+-- The name holds a front of that text, or what it held before, and all other files are as before.
+abbrev pub HoldsFront : FileMap → List ℕ → List ℕ → List ℕ → Terms → FileMap → Type 0
+HoldsFront files a b c terms files' =
+    (pair : Joined)
+    × (cert : Cert)
+    × IsCertFor files a b terms pair cert
+    × ((files' ≡ files) ⊎ ((n : ℕ) × (files' ≡ map.insert files c (take n (text cert)))))
+
+-- What it leaves, by its status: a verdict comes with the certificate's whole text. A write fault leaves that too where the
+-- verdict could not be sent, and where the shelf's count rose a front of it or what was there before. Nothing else writes a file.
+abbrev pub LeavesDecided : FileMap → List ℕ → List ℕ → List ℕ → Terms → ℕ → ℕ → ℕ → FileMap → Type 0
+LeavesDecided files a b c terms status puts puts' files' =
+    LeavesByStatus (λ before. HoldsAnswer before a b c terms) (λ before. HoldsFront before a b c terms) status puts puts' files files'
+
+-- It said no: the named files read as two automata, the answer is a no and keeps all rules of a check, its lasso, in finite mode its
+-- word, separates the two and was printed, and the certificate's name holds the answer's text; all other files are as before.
+pub record IsDecidedApart (files : FileMap) (a b c : List ℕ) (terms : Terms) (files' : FileMap) (sent sent' : Option (List ℕ)) : Type 0 where
+  pub pair : Joined
+  pub cert : Cert
+  pub read : ReadsPair files a b pair
+  pub answer : IsAnswer pair terms cert
+  pub valid : IsValid pair cert
+  pub apart : TellsApart pair cert.body sent sent'
+  pub held : files' ≡ map.insert files c (text cert)
+
+-- It said yes, with the same of a yes: the logs lead to settled automata, and no live element subsumes another.
+pub record IsDecidedIncluded (files : FileMap) (a b c : List ℕ) (terms : Terms) (files' : FileMap) (sent sent' : Option (List ℕ)) : Type 0 where
+  pub pair : Joined
+  pub cert : Cert
+  pub evidence : YesBody
+  pub read : ReadsPair files a b pair
+  pub answer : IsAnswer pair terms cert
+  pub says_yes : cert.body ≡ Yes evidence
+  pub valid : IsValid pair cert
+  pub includes : Includes pair.first pair.second terms.mode
+  pub apart : StandApart pair terms evidence
+  pub held : files' ≡ map.insert files c (text cert)
+  pub printed : sent' ≡ append_known sent (included_text terms.mode)
+
+-- It met its limit, with the same of a list of one element more: these are different, and of the settled automata that the
+-- logs lead to.
+pub record IsDecidedListed (files : FileMap) (a b c : List ℕ) (terms : Terms) (files' : FileMap) (sent sent' : Option (List ℕ)) : Type 0 where
+  pub pair : Joined
+  pub cert : Cert
+  pub list : ListBody
+  pub read : ReadsPair files a b pair
+  pub answer : IsAnswer pair terms cert
+  pub lists : cert.body ≡ Listing list
+  pub listed : ListsNew pair terms list
+  pub held : files' ≡ map.insert files c (text cert)
+  pub printed : sent' ≡ append_known sent (limit_text terms.limit)
+
+-- What a status up to 2 shows: 0 an inclusion, 1 a lasso or a word that separates, 2 a list of more elements than the limit.
+pub record ShowsInclude (files : FileMap) (a b c : List ℕ) (terms : Terms) (status : ℕ) (files' : FileMap) (sent sent' : Option (List ℕ)) : Type 0 where
+  pub included : status ≡ 0 → IsDecidedIncluded files a b c terms files' sent sent'
+  pub not_included : status ≡ 1 → IsDecidedApart files a b c terms files' sent sent'
+  pub limit_met : status ≡ 2 → IsDecidedListed files a b c terms files' sent sent'

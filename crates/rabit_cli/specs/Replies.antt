@@ -1,0 +1,36 @@
+-- Replies that several commands have.
+use Rattle.std.specs.Prelude.{◌≡◌, ℕ, List, Option}
+use Rattle.std.specs.Io.KnownBytes.{append_known}
+use Rattle.auto_core.specs.declared.parts.Mode.{Mode}
+use Rattle.auto_core.specs.Accept.{SeparatesLasso, SeparatesWord}
+use Rattle.ba_format.specs.declared.parts.Joined.{Joined}
+use Rattle.cert_text.specs.declared.types.Body.{Body}
+use Rattle.cert_text.specs.declared.types.Body.TheVariants.{Yes, NoLasso, NoWord, Listing}
+use Rattle.rabit_frame.specs.declared.parts.Status.TheVariants as status
+use Rattle.rabit_frame.specs.declared.parts.Reply.{Reply}
+use Rattle.rabit_frame.specs.Files.{Output}
+use Rattle.rabit_frame.specs.Reading.{reply_with, only_said}
+use Rattle.rabit_cli.specs.Printed.{usage_text, not_built_text, included_text, not_included_text, word_not_included_text, limit_text}
+
+-- The words ask nothing.
+abbrev pub usage_reply : Reply
+usage_reply = only_said status.Usage usage_text
+
+-- What is asked is not built.
+abbrev pub not_built_reply : Reply
+not_built_reply = only_said status.NotBuilt not_built_text
+
+-- What a right certificate of this mode with this body says, where these files are written before.
+abbrev pub IsVerdictReply : Mode → Joined → Body → List Output → Reply → Type 0
+IsVerdictReply mode pair (Yes evidence) puts r = r ≡ reply_with status.Done (included_text mode) puts
+IsVerdictReply mode pair (NoLasso lasso) puts r = r ≡ reply_with status.Refuted (not_included_text pair.labels lasso) puts
+IsVerdictReply mode pair (NoWord word) puts r = r ≡ reply_with status.Refuted (word_not_included_text pair.labels word) puts
+IsVerdictReply mode pair (Listing list) puts r = r ≡ reply_with status.Limit (limit_text list.limit) puts
+
+-- The body's lasso, in finite mode its word, is accepted by the first automaton and not by the second, and that was printed.
+abbrev pub TellsApart : Joined → Body → Option (List ℕ) → Option (List ℕ) → Type 0
+TellsApart pair (Yes evidence) sent sent' = ⊥
+TellsApart pair (NoLasso lasso) sent sent' =
+    SeparatesLasso pair.first pair.second lasso.prefix lasso.turn × (sent' ≡ append_known sent (not_included_text pair.labels lasso))
+TellsApart pair (NoWord word) sent sent' = SeparatesWord pair.first pair.second word × (sent' ≡ append_known sent (word_not_included_text pair.labels word))
+TellsApart pair (Listing list) sent sent' = ⊥

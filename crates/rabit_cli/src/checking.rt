@@ -1,0 +1,78 @@
+//! `check A B CERT`
+
+ghost use Rattle.std.specs.Prelude.{◌≡◌, ℕ, List as Items, IfOk};
+ghost use Rattle.ba_format.specs.declared.parts.Joined.{Joined as AJoined};
+ghost use Rattle.ba_format.specs.Reading.{IsWithinLimits};
+ghost use Rattle.ba_format.specs.Joining.{IsJoined};
+ghost use Rattle.cert_text.specs.WellFormed.{WellFormed};
+ghost use Rattle.rabit_frame.specs.Reading.{AreOfKinds};
+ghost use Rattle.rabit_cli.specs.Files.{check_limits, HasLabelTexts};
+ghost use Rattle.rabit_cli.specs.Check.{check_inputs, Concludes, MeansCheck};
+
+use crate::files::{automaton, certificate, certificate_slot, checked_automaton, joined};
+use crate::replies;
+use auto_core::{List, Memory};
+use ba_format::{Joined, Named};
+use cert_check::{CheckFault, can_check};
+use cert_text::Cert;
+use rabit_frame::{Reply, Slot, Value};
+use std::alloc::Global;
+
+/// The files that it reads.
+pub fn slots<'a>(
+    alloc: Global,
+    first: &'a str,
+    second: &'a str,
+    cert: &'a str,
+) -> Result<List<Slot<'a>>, Memory>
+    ensures { IfOk result (λ slots. slots ≡ check_inputs first.entry.now second.entry.now cert.entry.now) }
+{
+    let mut slots = List::new(alloc);
+    slots.push(checked_automaton(1, first))?;
+    slots.push(checked_automaton(2, second))?;
+    slots.push(certificate_slot(cert))?;
+    Ok(slots)
+}
+
+/// The reply to the joined automata and the certificate.
+fn concluded<'a>(alloc: Global, pair: &Joined, cert: &Cert) -> Result<Reply<'a>, Memory>
+    requires labels { HasLabelTexts pair.now }
+    requires well_formed { WellFormed cert.now }
+    ensures { IfOk result (Concludes pair.now cert.now) }
+{
+    if !can_check(cert) {
+        return replies::not_built(alloc);
+    }
+    match cert_check::check(alloc, pair, cert) {
+        Ok(_verdict) => replies::verdict(alloc, cert.mode, pair, &cert.body, List::new(alloc)),
+        Err(CheckFault::Refused(refusal)) => replies::refused(alloc, refusal),
+        Err(CheckFault::Memory) => Err(Memory),
+    }
+}
+
+/// The reply to the automata and the certificate.
+fn checked<'a>(alloc: Global, one: &Named, two: &Named, cert: &Cert) -> Result<Reply<'a>, Memory>
+    requires one { IsWithinLimits check_limits one.now }
+    requires two { IsWithinLimits check_limits two.now }
+    requires well_formed { WellFormed cert.now }
+    ensures { IfOk result (λ reply. (pair : AJoined) × IsJoined one.now two.now pair × Concludes pair cert.now reply) }
+{
+    let pair = joined(alloc, one, two)?;
+    concluded(alloc, &pair, cert)
+}
+
+/// The reply to what was read.
+pub fn reply<'a>(alloc: Global, values: &[Value]) -> Result<Reply<'a>, Memory>
+    requires { (a b c : Items ℕ) × AreOfKinds (check_inputs a b c) values.now }
+    ensures { IfOk result (MeansCheck values.now) }
+{
+    match values {
+        [first, second, third] => checked(
+            alloc,
+            automaton(first),
+            automaton(second),
+            certificate(third),
+        ),
+        _ => unreachable!(),
+    }
+}

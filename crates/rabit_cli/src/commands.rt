@@ -1,0 +1,114 @@
+//! From the question to its files and its reply: one arm a command.
+
+ghost use Rattle.std.specs.Prelude.{◌≡◌, Some, map, option_map, IfOk, IfSome};
+ghost use Rattle.std.specs.String.{string_bytes};
+ghost use Rattle.rabit_frame.specs.Reading.{AreOfKinds};
+ghost use Rattle.rabit_words.specs.Question.{told, question_of, HasNumbersInRange};
+ghost use Rattle.rabit_cli.specs.Commands.{inputs_of, Means};
+
+use crate::{checking, including, reducing, replies};
+use auto_core::{List, Memory};
+use decide::Terms;
+use rabit_frame::{Reply, Slot, Value, Work};
+use rabit_words::Question;
+use std::alloc::Global;
+
+/// The files that the question reads, in order.
+fn slots_of<'a>(alloc: Global, question: &'a Question) -> Result<List<Slot<'a>>, Memory>
+    ensures { IfOk result (λ slots. slots ≡ inputs_of (Some (told question.entry.now))) }
+{
+    match question {
+        Question::Check {
+            first,
+            second,
+            certificate,
+        } => {
+            return checking::slots(alloc, first.as_str(), second.as_str(), certificate.as_str());
+        },
+        Question::Include { first, second, .. } => {
+            return including::slots(alloc, first.as_str(), second.as_str());
+        },
+        Question::Reduce { name, .. } => {
+            return reducing::slots(alloc, name.as_str());
+        },
+        _ => Ok(List::new(alloc)),
+    }
+}
+
+/// The reply to what the question's files read as.
+fn reply_to<'a>(
+    alloc: Global,
+    question: &'a Question,
+    values: &[Value],
+) -> Result<Reply<'a>, Memory>
+    requires range { HasNumbersInRange (told question.now) }
+    requires kinds { AreOfKinds (inputs_of (Some (told question.now))) values.now }
+    ensures { IfOk result (Means (Some (told question.entry.now)) values.now) }
+{
+    match question {
+        Question::Check { .. } => {
+            return checking::reply(alloc, values);
+        },
+        Question::Include {
+            certificate,
+            mode,
+            look,
+            limit,
+            ..
+        } => {
+            let terms = Terms {
+                mode: *mode,
+                look: *look,
+                limit: *limit,
+            };
+            return including::reply(alloc, certificate.as_str(), terms, values);
+        },
+        Question::Reduce { mode, look, .. } => {
+            return reducing::reply(alloc, *mode, *look, values);
+        },
+        _ => {
+            return replies::not_built(alloc);
+        },
+    }
+}
+
+/// The words, and the question that was found in them, unless memory was refused.
+#[derive(Debug, Drop)]
+pub struct Command<'a> {
+    /// The words after the program's name.
+    pub words: &'a [String],
+    /// What they ask, if anything.
+    pub asked: Result<Option<Question>, Memory>,
+}
+
+impl<'a> Work for Command<'a> {
+    ghost inputs = { λ c. inputs_of (question_of (map string_bytes c.words.now)) };
+
+    ghost means = { λ c. Means (question_of (map string_bytes c.words.now)) };
+
+    ghost is_fit = { λ c. IfOk c.asked (λ asked. (option_map told asked ≡ question_of (map string_bytes c.words.now)) × IfSome asked (λ q. HasNumbersInRange (told q))) };
+
+    fn slots(&self, alloc: Global) -> Result<List<Slot<'_>>, Memory> {
+        match &self.asked {
+            Ok(Some(question)) => {
+                return slots_of(alloc, question);
+            },
+            Ok(None) => Ok(List::new(alloc)),
+            Err(_refused) => Err(Memory),
+        }
+    }
+
+    fn answer(&self, alloc: Global, values: &[Value]) -> Result<Reply<'_>, Memory> {
+        match &self.asked {
+            Ok(Some(question)) => {
+                return reply_to(alloc, question, values);
+            },
+            Ok(None) => {
+                return replies::usage(alloc);
+            },
+            Err(_refused) => {
+                return Err(Memory);
+            },
+        }
+    }
+}

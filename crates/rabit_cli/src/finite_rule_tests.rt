@@ -1,0 +1,160 @@
+//! Certificates of finite words: valid ones, and one line changed so that each rule in turn is the first that is broken.
+
+use crate::tests::check;
+use crate::yes_tests::with_lines;
+use std::alloc::Global;
+use std::test::Fail;
+
+/// Two states that take turns, the initial one accepting.
+const TURNS: &str = "[0]\na,[0]->[1]\na,[1]->[0]\n[0]\n";
+
+const ONE_A: &str = "[0]\na,[0]->[0]\n[0]\n";
+
+/// A valid certificate that the words of `TURNS` are words of `ONE_A`.
+const LINES: [&str; 13] = [
+    "rabit-cert 1 finite yes\n",
+    "sizes 2 1 1\n",
+    "log1 0\n",
+    "log2 0\n",
+    "rel 1\n",
+    "row 0 0\n",
+    "elements 2\n",
+    "live start\n",
+    "live next 0 0\n",
+    "cover 0\n",
+    "step 0 1\n",
+    "step 1 0\n",
+    "end\n",
+];
+
+#[test]
+fn valid_certificates_of_words_show_inclusion(rt: HostRuntime) -> Result<(), Fail> {
+    let alloc = rt.alloc();
+    let rows: [&[(usize, &str)]; 3] = [
+        &[],
+        // the useful states of the second are all of them
+        &[(3, "log2 1\ntrim 0\n")],
+        // an element under one that subsumes it
+        &[
+            (6, "elements 3\n"),
+            (8, "live next 0 0\nunder 0 next 1 1\n"),
+        ],
+    ];
+    for changes in rows {
+        let text = with_lines(alloc, &LINES, changes)?;
+        assert_eq!(rt;
+            check(alloc, TURNS, ONE_A, text.as_str(), "included, finite\n")?,
+            (0, true)
+        );
+    }
+    Ok(())
+}
+
+#[test]
+fn each_rule_of_words_is_tested(rt: HostRuntime) -> Result<(), Fail> {
+    let alloc = rt.alloc();
+    let rows: [(&[(usize, &str)], &str); 6] = [
+        (&[(1, "sizes 3 1 1\n")], "certificate item 0: rule 1\n"),
+        (&[(8, "live next 0 1\n")], "certificate item 3: rule 11\n"),
+        (
+            &[
+                (6, "elements 3\n"),
+                (8, "live next 0 0\nunder 1 next 1 1\n"),
+            ],
+            "certificate item 4: rule 12\n",
+        ),
+        (&[(9, "cover 1\n")], "certificate item 4: rule 13\n"),
+        (&[(10, "step 0 0\n")], "certificate item 5: rule 14\n"),
+        (&[(8, "live start\n")], "certificate item 5: rule 14\n"),
+    ];
+    for (changes, printed) in rows {
+        let text = with_lines(alloc, &LINES, changes)?;
+        assert_eq!(rt;
+            check(alloc, TURNS, ONE_A, text.as_str(), printed)?,
+            (5, true)
+        );
+    }
+    Ok(())
+}
+
+#[test]
+fn other_files_break_rules_of_words(rt: HostRuntime) -> Result<(), Fail> {
+    let alloc = rt.alloc();
+    // the initial state of the second accepts nothing
+    let silent = "[0]\na,[0]->[0]\n[1]\n";
+    let text = with_lines(
+        alloc,
+        &LINES,
+        &[(1, "sizes 2 2 1\n"), (3, "log2 1\ntrim 0\n")],
+    )?;
+    assert_eq!(rt;
+        check(
+            alloc,
+            TURNS,
+            silent,
+            text.as_str(),
+            "certificate item 3: rule 15\n"
+        )?,
+        (5, true)
+    );
+    let text = with_lines(
+        alloc,
+        &LINES,
+        &[
+            (1, "sizes 2 2 1\n"),
+            (4, "rel 2\n"),
+            (5, "row 0 0 1\nrow 1 1\n"),
+        ],
+    )?;
+    assert_eq!(rt;
+        check(
+            alloc,
+            TURNS,
+            TURNS,
+            text.as_str(),
+            "certificate item 1: rule 9\n"
+        )?,
+        (5, true)
+    );
+    // a state of the first is left that is of no use for words
+    let further = "[0]\na,[0]->[1]\na,[1]->[0]\na,[0]->[2]\n[0]\n";
+    let text = with_lines(
+        alloc,
+        &LINES,
+        &[(1, "sizes 3 1 1\n"), (2, "log1 1\ntrim 0\n")],
+    )?;
+    assert_eq!(rt;
+        check(
+            alloc,
+            further,
+            ONE_A,
+            text.as_str(),
+            "certificate item 1: rule 2\n"
+        )?,
+        (5, true)
+    );
+    Ok(())
+}
+
+#[test]
+fn words_that_do_not_separate_are_refused(rt: HostRuntime) -> Result<(), Fail> {
+    let alloc = rt.alloc();
+    let rows = [
+        (
+            "rabit-cert 1 finite no\nsizes 1 1 1\nword 0 0\nend\n",
+            "certificate item 0: rule 1\n",
+        ),
+        (
+            "rabit-cert 1 finite no\nsizes 2 1 1\nword 0\nend\n",
+            "certificate item 1: rule 16\n",
+        ),
+        (
+            "rabit-cert 1 finite no\nsizes 2 1 1\nword 0 0\nend\n",
+            "certificate item 1: rule 17\n",
+        ),
+    ];
+    for (text, printed) in rows {
+        assert_eq!(rt; check(alloc, TURNS, ONE_A, text, printed)?, (5, true));
+    }
+    Ok(())
+}

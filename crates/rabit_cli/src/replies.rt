@@ -1,0 +1,141 @@
+//! Replies that several commands have.
+
+ghost use Rattle.std.specs.Prelude.{◌≡◌, ◌<◌, IfOk, All, List as Items, ℕ, length};
+ghost use Rattle.auto_core.specs.declared.parts.Lasso.{Lasso as ALasso};
+ghost use Rattle.ba_format.specs.declared.parts.Joined.{Joined};
+ghost use Rattle.cert_text.specs.declared.types.Body.TheVariants as form;
+ghost use Rattle.rabit_frame.specs.Reading.{only_said, reply_with};
+ghost use Rattle.rabit_cli.specs.Printed.{refused_text, included_text, not_included_text, word_not_included_text, limit_text};
+ghost use Rattle.rabit_cli.specs.Replies.{usage_reply, not_built_reply, IsVerdictReply};
+
+use crate::letters::push_word;
+use auto_core::{Lasso, List, Memory, Mode, Word};
+use ba_format::{Joined, Texts};
+use cert_check::Refusal;
+use cert_text::Body;
+use rabit_frame::{Put, Reply, Status, append, line};
+use std::alloc::Global;
+
+/// How the program is used.
+const USAGE: &str =
+    "usage: rabit include A B CERT [--finite] [--look K] [--limit N] | check A B CERT | reduce A [--finite] [--look K] | drill SEED STATES LABELS\n";
+
+/// The words ask nothing.
+pub fn usage<'a>(alloc: Global) -> Result<Reply<'a>, Memory>
+    ensures { IfOk result (λ reply. reply ≡ usage_reply) }
+{
+    let text = line(alloc, USAGE)?;
+    Ok(Reply::saying(alloc, Status::Usage, text))
+}
+
+/// What is asked is not built.
+pub fn not_built<'a>(alloc: Global) -> Result<Reply<'a>, Memory>
+    ensures { IfOk result (λ reply. reply ≡ not_built_reply) }
+{
+    let text = line(alloc, "not built\n")?;
+    Ok(Reply::saying(alloc, Status::NotBuilt, text))
+}
+
+/// A certificate breaks the rule.
+pub fn refused<'a>(alloc: Global, refusal: Refusal) -> Result<Reply<'a>, Memory>
+    ensures { IfOk result (λ reply. reply ≡ only_said Status.BadCertificate (refused_text refusal)) }
+{
+    let item = refusal.item;
+    let rule = refusal.rule;
+    let text = format!(in alloc; "certificate item {item}: rule {rule}\n")?;
+    let text = line(alloc, text.as_str())?;
+    Ok(Reply::saying(alloc, Status::BadCertificate, text))
+}
+
+/// The first automaton accepts the lasso, and the second does not.
+fn not_included(alloc: Global, labels: &Texts, lasso: &Lasso) -> Result<List<u8>, Memory>
+    requires prefix { All (λ a. a < length labels.now) lasso.now.prefix }
+    requires turn { All (λ a. a < length labels.now) lasso.now.turn }
+    ensures { IfOk result (λ text. text ≡ not_included_text labels.now lasso.now) }
+{
+    let mut text = List::new(alloc);
+    append(&mut text, b"not included\nprefix:")?;
+    push_word(&mut text, labels, lasso.prefix.as_slice())?;
+    append(&mut text, b"\nloop:")?;
+    push_word(&mut text, labels, lasso.turn.as_slice())?;
+    append(&mut text, b"\n")?;
+    Ok(text)
+}
+
+/// The first automaton accepts the word, and the second does not.
+fn word_not_included(alloc: Global, labels: &Texts, word: &Word) -> Result<List<u8>, Memory>
+    requires { All (λ a. a < length labels.now) word.now }
+    ensures { IfOk result (λ text. text ≡ word_not_included_text labels.now word.now) }
+{
+    let mut text = List::new(alloc);
+    append(&mut text, b"not included, finite\nword:")?;
+    push_word(&mut text, labels, word.as_slice())?;
+    append(&mut text, b"\n")?;
+    Ok(text)
+}
+
+/// The second automaton accepts each lasso, in finite mode each word, that the first accepts.
+fn included(alloc: Global, mode: Mode) -> Result<List<u8>, Memory>
+    ensures { IfOk result (λ text. text ≡ included_text mode) }
+{
+    match mode {
+        Mode::Buchi => line(alloc, "included\n"),
+        Mode::Finite => line(alloc, "included, finite\n"),
+    }
+}
+
+/// The search met its limit.
+fn limit_met(alloc: Global, limit: u32) -> Result<List<u8>, Memory>
+    ensures { IfOk result (λ text. text ≡ limit_text limit) }
+{
+    let text = format!(in alloc; "limit {limit}\n")?;
+    line(alloc, text.as_str())
+}
+
+/// What a right certificate of this mode with this body says, where these files are written before.
+pub fn verdict<'a>(
+    alloc: Global,
+    mode: Mode,
+    pair: &Joined,
+    body: &Body,
+    puts: List<Put<'a>>,
+) -> Result<Reply<'a>, Memory>
+    requires letters { (lasso : ALasso) → body.now ≡ form.NoLasso lasso → All (λ a. a < length pair.now.labels) lasso.prefix × All (λ a. a < length pair.now.labels) lasso.turn }
+    requires word { (word : Items ℕ) → body.now ≡ form.NoWord word → All (λ a. a < length pair.now.labels) word }
+    ensures { IfOk result (IsVerdictReply mode pair.now body.now puts.entry) }
+{
+    match body {
+        Body::Yes(_) => {
+            let text = included(alloc, mode)?;
+            Ok(Reply {
+                status: Status::Done,
+                text,
+                puts,
+            })
+        },
+        Body::NoLasso(lasso) => {
+            let text = not_included(alloc, &pair.labels, lasso)?;
+            Ok(Reply {
+                status: Status::Refuted,
+                text,
+                puts,
+            })
+        },
+        Body::Listing(list) => {
+            let text = limit_met(alloc, list.limit)?;
+            Ok(Reply {
+                status: Status::Limit,
+                text,
+                puts,
+            })
+        },
+        Body::NoWord(word) => {
+            let text = word_not_included(alloc, &pair.labels, word)?;
+            Ok(Reply {
+                status: Status::Refuted,
+                text,
+                puts,
+            })
+        },
+    }
+}
