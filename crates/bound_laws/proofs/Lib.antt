@@ -1,0 +1,4 @@
+pub mod CountLemmas
+pub mod DecisionLemmas
+pub mod CodeLemmas
+pub mod BoundLemmas
