@@ -11,8 +11,7 @@ use Rattle.search_laws.proofs.PlaceLemmas.{at_same, at_within, at_some, at_cases
 use Rattle.search_laws.proofs.SearchLemmas.{HasClosed}
 use Rattle.search_laws.proofs.EntryLemmas.{base_starts, next_extends}
 use Rattle.search_laws.proofs.OutcomeLemmas.{closed_end, met_is_subsumed}
-use Rattle.ramsey_search.specs.declared.parts.Held.{Held}
-use Rattle.ramsey_search.specs.declared.family.Family.{Family}
+use Rattle.ramsey_search.specs.Views.{Seen, View}
 use Rattle.ramsey_search.specs.Kept.{IsKept, IsFamily, IsWhole, entries_held, NoneSubsumes, held_super}
 use Rattle.ramsey_search.specs.Marks.{IsCovererOf, HasCoverer, IsHeldMark, AreMarked, numbers_beside}
 use Rattle.evidence.specs.Evidence.{IsMarked}
@@ -20,19 +19,19 @@ use Rattle.ramsey_search.proofs.MeetLemmas.{none_at_all, first_is_least}
 use Rattle.ramsey_search.proofs.TurnLemmas.{held_in_range}
 
 -- An element that some element subsumes has a coverer, and that is its least live subsumer.
-module _ (A B : Automaton) (S : List (ℕ × ℕ)) (greatest : IsGreatestForward B 1 S) (n : ℕ) (same : n ≡ B.states) (f : Family) (es : List Entry) (family : IsFamily A B S f es)
-    (h : Held) (c : Entry) (kept : IsKept B S h c) (from_in : h.arc.from < A.states) (to_in : h.arc.to < A.states)
+module _ (A B : Automaton) (S : List (ℕ × ℕ)) (greatest : IsGreatestForward B 1 S) (n : ℕ) (same : n ≡ B.states) (f : View) (es : List Entry) (family : IsFamily A B S f es)
+    (h : Seen) (c : Entry) (kept : IsKept B S h c) (from_in : h.arc.from < A.states) (to_in : h.arc.to < A.states)
   where
     pub has_coverer : HasSubsumer (supergraph_rules A B S) es c → HasCoverer n S f h
     has_coverer has none =
-        none_at_all A B S greatest f es h c family kept from_in to_in (subst (λ m. NoneSubsumes m S f.held.items (numbers_beside f h) (held_super m h)) same none) has.0 has.1 has.2 has.3
+        none_at_all A B S greatest f es h c family kept from_in to_in (subst (λ m. NoneSubsumes m S f.held (numbers_beside f h) (held_super m h)) same none) has.0 has.1 has.2 has.3
 
     pub coverer_is_least : (j : ℕ) → IsCovererOf n S f h j → IsLeastSubsumer (supergraph_rules A B S) es c j
     coverer_is_least j covers = first_is_least A B S greatest f es h c family kept from_in to_in j (subst (λ m. IsCovererOf m S f h j) same covers)
 
 -- One more mark.
-pub marked_more : (n : ℕ) (S : List (ℕ × ℕ)) (f : Family) (count : ℕ) (elements : List Element) (m : Element) (h : Held) → At f.held.items count h → m.origin ≡ h.origin →
-    IsHeldMark n S f h (slice_index_or f.live.items count false) m.mark → AreMarked n S f count elements → AreMarked n S f (count + 1) (elements ++ m ∷ [])
+pub marked_more : (n : ℕ) (S : List (ℕ × ℕ)) (f : View) (count : ℕ) (elements : List Element) (m : Element) (h : Seen) → At f.held count h → m.origin ≡ h.origin →
+    IsHeldMark n S f h (slice_index_or f.live count false) m.mark → AreMarked n S f count elements → AreMarked n S f (count + 1) (elements ++ m ∷ [])
 marked_more n S f count elements m h h_is origin mark marked =
     let more = length-append elements (m ∷ []) in
     let size = marked.size in
@@ -42,17 +41,17 @@ marked_more n S f count elements m h h_is origin mark marked =
         | inl old ↦ marked.each i k g old g_is
         | inr new ↦
             let here : i ≡ count = new.0 ∙ marked.size in
-            let one : g ≡ h = at_same f.held.items count g h (subst (λ a. At f.held.items a g) here g_is) h_is in
+            let one : g ≡ h = at_same f.held count g h (subst (λ a. At f.held a g) here g_is) h_is in
             let is : k ≡ m = new.1 in (
-              ap (λ (z : Element). z.origin) is ∙ origin ∙ ap (λ (z : Held). z.origin) (sym one),
-              subst (λ a. IsHeldMark n S f g (slice_index_or f.live.items a false) k.mark) (sym here)
-                  (subst (λ z. IsHeldMark n S f g (slice_index_or f.live.items count false) z.mark) (sym is) (subst (λ z. IsHeldMark n S f z (slice_index_or f.live.items count false) m.mark) (sym one) mark)),
+              ap (λ (z : Element). z.origin) is ∙ origin ∙ ap (λ (z : Seen). z.origin) (sym one),
+              subst (λ a. IsHeldMark n S f g (slice_index_or f.live a false) k.mark) (sym here)
+                  (subst (λ z. IsHeldMark n S f g (slice_index_or f.live count false) z.mark) (sym is) (subst (λ z. IsHeldMark n S f z (slice_index_or f.live count false) m.mark) (sym one) mark)),
             )
       ];
     }
 
 -- What a closed family's elements have.
-module _ (A B : Automaton) (S : List (ℕ × ℕ)) (limit : ℕ) (valid_A : IsAutomaton A) (valid : IsAutomaton B) (greatest : IsGreatestForward B 1 S) (f : Family) (whole : IsWhole A B S f)
+module _ (A B : Automaton) (S : List (ℕ × ℕ)) (limit : ℕ) (valid_A : IsAutomaton A) (valid : IsAutomaton B) (greatest : IsGreatestForward B 1 S) (f : View) (whole : IsWhole A B S f)
     (ends : SearchEnds A B S limit (Closed (entries_held A f)))
   where
     abbrev es : List Entry
@@ -64,15 +63,15 @@ module _ (A B : Automaton) (S : List (ℕ × ℕ)) (limit : ℕ) (valid_A : IsAu
     pub starts_have : (t : ℕ) → t < length A.transitions → HasSubsumer (supergraph_rules A B S) es (base_entry A t)
     starts_have t lt = met_is_subsumed A B S valid greatest es whole.origins (base_entry A t) (has.starts (base_entry A t) (base_starts A B S t lt))
 
-    pub steps_have : (e t : ℕ) (x : Entry) → slice_index_or f.live.items e false ≡ true → At es e x → t < length A.transitions → (trans_at A t).source ≡ x.arc.to →
+    pub steps_have : (e t : ℕ) (x : Entry) → slice_index_or f.live e false ≡ true → At es e x → t < length A.transitions → (trans_at A t).source ≡ x.arc.to →
         HasSubsumer (supergraph_rules A B S) es (next_entry A e x t)
     steps_have e t x live x_is lt leaves =
         let stays = whole.tells.stays e (at_within es e x x_is) live in
         met_is_subsumed A B S valid greatest es whole.origins (next_entry A e x t) (has.steps e x (next_entry A e x t) x_is stays (next_extends A B S e t x lt leaves))
 
-    pub dropped_have : (n : ℕ) → n ≡ B.states → (i : ℕ) (h : Held) → At f.held.items i h → slice_index_or f.live.items i false ≡ false → HasCoverer n S f h
+    pub dropped_have : (n : ℕ) → n ≡ B.states → (i : ℕ) (h : Seen) → At f.held i h → slice_index_or f.live i false ≡ false → HasCoverer n S f h
     dropped_have n same i h h_is gone =
-        let within = at_within f.held.items i h h_is in
+        let within = at_within f.held i h h_is in
         let size = whole.size in
         let x = at_some es i (omega arith) in
         let kept = whole.kept i h x.0 h_is x.1 in
@@ -82,12 +81,12 @@ module _ (A B : Automaton) (S : List (ℕ × ℕ)) (limit : ℕ) (valid_A : IsAu
         has_coverer A B S greatest n same f es whole h x.0 kept range.0 range.1 (d.place, d.by, d.by_is, subst (λ z. (supergraph_rules A B S).subsumes d.by z) one d.subsumes)
 
     -- The marks of the elements.
-    module _ (n : ℕ) (same : n ≡ B.states) (elements : List Element) (marked : AreMarked n S f (length f.held.items) elements) where
-      held_at : (i : ℕ) (x : Entry) → At es i x → (h : Held) × At f.held.items i h × IsKept B S h x
+    module _ (n : ℕ) (same : n ≡ B.states) (elements : List Element) (marked : AreMarked n S f (length f.held) elements) where
+      held_at : (i : ℕ) (x : Entry) → At es i x → (h : Seen) × At f.held i h × IsKept B S h x
       held_at i x x_is =
           let within = at_within es i x x_is in
           let size = whole.size in
-          let k = at_some f.held.items i (omega arith) in
+          let k = at_some f.held i (omega arith) in
           (k.0, k.1, whole.kept i k.0 x k.1 x_is)
 
       pub marks_are : (i : ℕ) (x : Entry) (m : Element) → At es i x → At elements i m → IsMarked (supergraph_rules A B S) es i x m.mark
@@ -98,7 +97,7 @@ module _ (A B : Automaton) (S : List (ℕ × ℕ)) (limit : ℕ) (valid_A : IsAu
           let told = (marked.each i m h.0 m_is h.1).1 in
           go m.mark told within h.0 h.2 range.0 range.1
         where
-          go : (mark : Mark) → IsHeldMark n S f (held_at i x x_is).0 (slice_index_or f.live.items i false) mark → i < length es → (h : Held) → IsKept B S h x → h.arc.from < A.states → h.arc.to < A.states → IsMarked (supergraph_rules A B S) es i x mark
+          go : (mark : Mark) → IsHeldMark n S f (held_at i x x_is).0 (slice_index_or f.live i false) mark → i < length es → (h : Seen) → IsKept B S h x → h.arc.from < A.states → h.arc.to < A.states → IsMarked (supergraph_rules A B S) es i x mark
           go Live flag within h kept from_in to_in = whole.tells.stays i within flag
           go (Under j) told within h kept from_in to_in =
               let own = held_at i x x_is in

@@ -14,8 +14,7 @@ use Rattle.auto_core.proofs.PathLemmas.{Contains-here, Contains-cons_cases, none
 use Rattle.search_laws.proofs.PlaceLemmas.{at_same, at_within, at_some, at_more, at_new, at_cases, at_before}
 use Rattle.search_laws.proofs.ListLemmas.{in_filter, filter_has}
 use Rattle.search_laws.proofs.EntryLemmas.{FitsBehind, origins_more}
-use Rattle.ramsey_search.specs.declared.parts.Held.{Held}
-use Rattle.ramsey_search.specs.declared.family.Family.{Family}
+use Rattle.ramsey_search.specs.Views.{Seen, View}
 use Rattle.evidence.specs.Tables.{numbers_at}
 use Rattle.ramsey_search.specs.Kept.{IsKept, LiesBetween, AreBetween, IsFamily, IsSubsumedOf, HasEntered, held_super}
 use Rattle.ramsey_search.proofs.KeptLemmas.{to_entries, to_held}
@@ -28,7 +27,7 @@ flag_before flags i lt = get_or_append_left flags (true ∷ []) false i lt
 flag_last : (flags : List Bool) (i : ℕ) → i ≡ length flags → slice_index_or (flags ++ true ∷ []) i false ≡ true
 flag_last flags i e = let there : i ≡ length flags + 0 = omega arith in ap (λ k. slice_index_or (flags ++ true ∷ []) k false) there ∙ get_or-append-add flags (true ∷ []) 0 false
 
-module _ (A B : Automaton) (S : List (ℕ × ℕ)) (greatest : IsGreatestForward B 1 S) (old now : Family) (es : List Entry) (h : Held) (c : Entry)
+module _ (A B : Automaton) (S : List (ℕ × ℕ)) (greatest : IsGreatestForward B 1 S) (old now : View) (es : List Entry) (h : Seen) (c : Entry)
     (family : IsFamily A B S old es) (kept : IsKept B S h c) (fits : FitsBehind A es c)
     (from_in : h.arc.from < A.states) (to_in : h.arc.to < A.states) (entered : HasEntered B.states S h old now)
   where
@@ -44,26 +43,26 @@ module _ (A B : Automaton) (S : List (ℕ × ℕ)) (greatest : IsGreatestForward
     next_size : length next ≡ length es + 1
     next_size = length-append es (c ∷ [])
 
-    held_size : length now.held.items ≡ length es + 1
-    held_size = let size = family.size in let more = length-append old.held.items (h ∷ []) in let e = ap length entered.held in omega arith
+    held_size : length now.held ≡ length es + 1
+    held_size = let size = family.size in let more = length-append old.held (h ∷ []) in let e = ap length entered.held in omega arith
 
     flags_size : length flags ≡ length es
     flags_size = entered.dropped.size ∙ family.live_size
 
-    live_size : length now.live.items ≡ length es + 1
+    live_size : length now.live ≡ length es + 1
     live_size = let more = length-append flags (true ∷ []) in let e = ap length entered.live in let size = flags_size in omega arith
 
-    is_kept : (i : ℕ) (k : Held) (x : Entry) → At now.held.items i k → At next i x → IsKept B S k x
+    is_kept : (i : ℕ) (k : Seen) (x : Entry) → At now.held i k → At next i x → IsKept B S k x
     is_kept i k x k_is x_is =
         let size = family.size in
         elim (at_cases es c i x x_is) [
           | inl x_old ↦
               let within = at_within es i x x_old in
-              family.kept i k x (at_before old.held.items h i k (omega arith) (subst (λ l. At l i k) entered.held k_is)) x_old
+              family.kept i k x (at_before old.held h i k (omega arith) (subst (λ l. At l i k) entered.held k_is)) x_old
           | inr new ↦
-              let last : At (old.held.items ++ h ∷ []) i k = subst (λ l. At l i k) entered.held k_is in
-              elim (at_cases old.held.items h i k last) [
-                | inl k_old ↦ let within = at_within old.held.items i k k_old in let e = new.0 in absurd (omega arith)
+              let last : At (old.held ++ h ∷ []) i k = subst (λ l. At l i k) entered.held k_is in
+              elim (at_cases old.held h i k last) [
+                | inl k_old ↦ let within = at_within old.held i k k_old in let e = new.0 in absurd (omega arith)
                 | inr both ↦ subst (λ z. IsKept B S k z) (sym new.1) (subst (λ z. IsKept B S z c) (sym both.1) kept)
               ]
         ]
@@ -81,27 +80,27 @@ module _ (A B : Automaton) (S : List (ℕ × ℕ)) (greatest : IsGreatestForward
     place_is = ap (λ n. h.arc.from * n + h.arc.to) family.states
 
     -- The old numbers between the ends of the new element.
-    among : AreBetween es old.live.items h.arc.from h.arc.to (numbers_at old.ends.items place)
-    among = subst (λ k. AreBetween es old.live.items h.arc.from h.arc.to (numbers_at old.ends.items k)) (sym place_is) (family.between h.arc.from h.arc.to from_in to_in)
+    among : AreBetween es old.live h.arc.from h.arc.to (numbers_at old.ends place)
+    among = subst (λ k. AreBetween es old.live h.arc.from h.arc.to (numbers_at old.ends k)) (sym place_is) (family.between h.arc.from h.arc.to from_in to_in)
 
     -- What is dropped was between the ends and is subsumed.
-    dropped_is : (j : ℕ) → IsSubsumedOf B.states S old.held.items (numbers_at old.ends.items place) (held_super B.states h) j → LiesBetween es old.live.items h.arc.from h.arc.to j
-    dropped_is j of = among.only j (contains_of_at (numbers_at old.ends.items place) of.place j of.is)
+    dropped_is : (j : ℕ) → IsSubsumedOf B.states S old.held (numbers_at old.ends place) (held_super B.states h) j → LiesBetween es old.live h.arc.from h.arc.to j
+    dropped_is j of = among.only j (contains_of_at (numbers_at old.ends place) of.place j of.is)
 
-    held_at : (i : ℕ) (x : Entry) → At es i x → (k : Held) × At old.held.items i k × IsKept B S k x
+    held_at : (i : ℕ) (x : Entry) → At es i x → (k : Seen) × At old.held i k × IsKept B S k x
     held_at i x x_is =
         let within = at_within es i x x_is in
         let size = family.size in
-        let k = at_some old.held.items i (omega arith) in
+        let k = at_some old.held i (omega arith) in
         (k.0, k.1, family.kept i k.0 x k.1 x_is)
 
     -- A live old element that the new one subsumes is dropped.
-    is_dropped : (i : ℕ) (x : Entry) → At es i x → slice_index_or old.live.items i false ≡ true → R.subsumes c x → slice_index_or flags i false ≡ false
+    is_dropped : (i : ℕ) (x : Entry) → At es i x → slice_index_or old.live i false ≡ true → R.subsumes c x → slice_index_or flags i false ≡ false
     is_dropped i x x_is was_live subsumes =
         let k = held_at i x x_is in
-        let lies : LiesBetween es old.live.items h.arc.from h.arc.to i =
+        let lies : LiesBetween es old.live h.arc.from h.arc.to i =
         record { element = x; is = x_is; stays = was_live; from = sym (from_is ∙ subsumes.from); to = sym (to_is ∙ subsumes.to) } in
-        let at = at_of_contains (numbers_at old.ends.items place) i (among.all i lies) in
+        let at = at_of_contains (numbers_at old.ends place) i (among.all i lies) in
         entered.dropped.all i (record {
           place = at.0;
           is = at.1;
@@ -110,7 +109,7 @@ module _ (A B : Automaton) (S : List (ℕ × ℕ)) (greatest : IsGreatestForward
           subsumes = to_held B S greatest h k.0 c x kept k.2 subsumes;
         })
 
-    flag_was : (i : ℕ) → slice_index_or flags i false ≡ true → slice_index_or old.live.items i false ≡ true
+    flag_was : (i : ℕ) → slice_index_or flags i false ≡ true → slice_index_or old.live i false ≡ true
     flag_was i is = elim (entered.dropped.each i) [ inl same ↦ sym same ∙ is | inr gone ↦ absurd (false≢true (sym gone.0 ∙ is)) ]
 
     stays : (i : ℕ) → i < length next → slice_index_or (flags ++ true ∷ []) i false ≡ true → StaysLive R next i
@@ -137,7 +136,7 @@ module _ (A B : Automaton) (S : List (ℕ × ℕ)) (greatest : IsGreatestForward
           | inr last ↦ absurd (false≢true (sym is ∙ flag_last flags i (omega arith)))
           | inl within ↦ elim (entered.dropped.each i) [
             | inl same ↦
-                let was : slice_index_or old.live.items i false ≡ false = sym same ∙ sym (flag_before flags i (omega arith)) ∙ is in
+                let was : slice_index_or old.live i false ≡ false = sym same ∙ sym (flag_before flags i (omega arith)) ∙ is in
                 let d = family.tells.drops i within was in
                 record {
                   place = d.place;
@@ -164,17 +163,17 @@ module _ (A B : Automaton) (S : List (ℕ × ℕ)) (greatest : IsGreatestForward
           ]
         ]
 
-    tells : TellsLive R next (λ i. slice_index_or now.live.items i false)
+    tells : TellsLive R next (λ i. slice_index_or now.live i false)
     tells = subst (λ l. TellsLive R next (λ i. slice_index_or l i false)) (sym entered.live) (record { stays = stays; drops = drops })
 
     -- Between other ends the same elements lie.
-    new_lies : (p q j : ℕ) → LiesBetween es old.live.items p q j → slice_index_or flags j false ≡ true → LiesBetween next (flags ++ true ∷ []) p q j
+    new_lies : (p q j : ℕ) → LiesBetween es old.live p q j → slice_index_or flags j false ≡ true → LiesBetween next (flags ++ true ∷ []) p q j
     new_lies p q j lies flag =
         let within = at_within es j lies.element lies.is in
         let count = flags_size in
         record { element = lies.element; is = at_more es (c ∷ []) j lies.element lies.is; stays = flag_before flags j (omega arith) ∙ flag; from = lies.from; to = lies.to }
 
-    old_lies : (p q j : ℕ) → LiesBetween next (flags ++ true ∷ []) p q j → ((slice_index_or flags j false ≡ true) × LiesBetween es old.live.items p q j) ⊎ ((j ≡ length es) × (c.arc.from ≡ p) × (c.arc.to ≡ q))
+    old_lies : (p q j : ℕ) → LiesBetween next (flags ++ true ∷ []) p q j → ((slice_index_or flags j false ≡ true) × LiesBetween es old.live p q j) ⊎ ((j ≡ length es) × (c.arc.from ≡ p) × (c.arc.to ≡ q))
     old_lies p q j lies =
         let count = flags_size in
         elim (at_cases es c j lies.element lies.is) [
@@ -185,11 +184,11 @@ module _ (A B : Automaton) (S : List (ℕ × ℕ)) (greatest : IsGreatestForward
           | inr new ↦ inr (new.0, sym (ap (λ (z : Entry). z.arc.from) new.1) ∙ lies.from, sym (ap (λ (z : Entry). z.arc.to) new.1) ∙ lies.to)
         ]
 
-    between_others : (p q : ℕ) → p < A.states → q < A.states → (((p ≡ h.arc.from) × (q ≡ h.arc.to)) → ⊥) → AreBetween next (flags ++ true ∷ []) p q (numbers_at now.ends.items (p * A.states + q))
+    between_others : (p q : ℕ) → p < A.states → q < A.states → (((p ≡ h.arc.from) × (q ≡ h.arc.to)) → ⊥) → AreBetween next (flags ++ true ∷ []) p q (numbers_at now.ends (p * A.states + q))
     between_others p q p_in q_in other =
         let differs : p * A.states + q ≡ place → ⊥ = λ e. other (same_from_place p q h.arc.from h.arc.to A.states q_in to_in (e ∙ place_is)) in
-        let was : AreBetween es old.live.items p q (numbers_at old.ends.items (p * A.states + q)) = family.between p q p_in q_in in
-        let same : numbers_at now.ends.items (p * A.states + q) ≡ numbers_at old.ends.items (p * A.states + q) = entered.others (p * A.states + q) differs in
+        let was : AreBetween es old.live p q (numbers_at old.ends (p * A.states + q)) = family.between p q p_in q_in in
+        let same : numbers_at now.ends (p * A.states + q) ≡ numbers_at old.ends (p * A.states + q) = entered.others (p * A.states + q) differs in
         subst (AreBetween next (flags ++ true ∷ []) p q) (sym same) (record {
           ascending = was.ascending;
           only = λ j has.
@@ -207,18 +206,18 @@ module _ (A B : Automaton) (S : List (ℕ × ℕ)) (greatest : IsGreatestForward
           ];
         })
 
-    between_here : AreBetween next (flags ++ true ∷ []) h.arc.from h.arc.to (numbers_at now.ends.items place)
+    between_here : AreBetween next (flags ++ true ∷ []) h.arc.from h.arc.to (numbers_at now.ends place)
     between_here =
-        let numbers : List ℕ = numbers_at old.ends.items place in
+        let numbers : List ℕ = numbers_at old.ends place in
         let live : ℕ → Bool = λ j. slice_index_or flags j false in
         let size = family.size in
         let count = flags_size in
         subst (AreBetween next (flags ++ true ∷ []) h.arc.from h.arc.to) (sym entered.here) (record {
-          ascending = increasing_push (filter live numbers) (length old.held.items) (IsStrictlyIncreasing-filter live numbers among.ascending)
+          ascending = increasing_push (filter live numbers) (length old.held) (IsStrictlyIncreasing-filter live numbers among.ascending)
               (λ j has. let lies = among.only j (filter_has live numbers j has).0 in let within = at_within es j lies.element lies.is in omega arith);
-          only = λ j has. elim (Contains-append_cases (filter live numbers) (length old.held.items ∷ []) j has) [
+          only = λ j has. elim (Contains-append_cases (filter live numbers) (length old.held ∷ []) j has) [
             | inl before ↦ let kept_one = filter_has live numbers j before in new_lies h.arc.from h.arc.to j (among.only j kept_one.0) kept_one.1
-            | inr last ↦ elim (Contains-cons_cases (length old.held.items) j [] last) [
+            | inr last ↦ elim (Contains-cons_cases (length old.held) j [] last) [
               | inr none ↦ absurd (none_in_nil j none)
               | inl e ↦
                   let here : j ≡ length es = sym e ∙ size in
@@ -232,20 +231,20 @@ module _ (A B : Automaton) (S : List (ℕ × ℕ)) (greatest : IsGreatestForward
             ]
           ];
           all = λ j lies. elim (old_lies h.arc.from h.arc.to j lies) [
-            | inl before ↦ Contains-append_left (filter live numbers) (length old.held.items ∷ []) j (in_filter live numbers j (among.all j before.1) before.0)
-            | inr new ↦ Contains-append_right (filter live numbers) (length old.held.items ∷ []) j (Contains-here (length old.held.items) j [] (size ∙ sym new.0))
+            | inl before ↦ Contains-append_left (filter live numbers) (length old.held ∷ []) j (in_filter live numbers j (among.all j before.1) before.0)
+            | inr new ↦ Contains-append_right (filter live numbers) (length old.held ∷ []) j (Contains-here (length old.held) j [] (size ∙ sym new.0))
           ];
         })
 
-    between : (p q : ℕ) → p < A.states → q < A.states → AreBetween next (flags ++ true ∷ []) p q (numbers_at now.ends.items (p * A.states + q))
+    between : (p q : ℕ) → p < A.states → q < A.states → AreBetween next (flags ++ true ∷ []) p q (numbers_at now.ends (p * A.states + q))
     between p q p_in q_in = elim (cases_eq p h.arc.from) [
       | inr other ↦ between_others p q p_in q_in (λ both. other both.0)
       | inl same_from ↦ elim (cases_eq q h.arc.to) [
         | inr other ↦ between_others p q p_in q_in (λ both. other both.1)
         | inl same_to ↦
-            subst (λ r. AreBetween next (flags ++ true ∷ []) r q (numbers_at now.ends.items (r * A.states + q))) (sym same_from)
-            (subst (λ r. AreBetween next (flags ++ true ∷ []) h.arc.from r (numbers_at now.ends.items (h.arc.from * A.states + r))) (sym same_to)
-            (subst (λ k. AreBetween next (flags ++ true ∷ []) h.arc.from h.arc.to (numbers_at now.ends.items k)) place_is between_here))
+            subst (λ r. AreBetween next (flags ++ true ∷ []) r q (numbers_at now.ends (r * A.states + q))) (sym same_from)
+            (subst (λ r. AreBetween next (flags ++ true ∷ []) h.arc.from r (numbers_at now.ends (h.arc.from * A.states + r))) (sym same_to)
+            (subst (λ k. AreBetween next (flags ++ true ∷ []) h.arc.from h.arc.to (numbers_at now.ends k)) place_is between_here))
       ]
     ]
 
@@ -258,5 +257,5 @@ module _ (A B : Automaton) (S : List (ℕ × ℕ)) (greatest : IsGreatestForward
       origins = origins_more A es c family.origins fits;
       kept = is_kept;
       tells = tells;
-      between = λ p q p_in q_in. subst (λ l. AreBetween next l p q (numbers_at now.ends.items (p * A.states + q))) (sym entered.live) (between p q p_in q_in);
+      between = λ p q p_in q_in. subst (λ l. AreBetween next l p q (numbers_at now.ends (p * A.states + q))) (sym entered.live) (between p q p_in q_in);
     }

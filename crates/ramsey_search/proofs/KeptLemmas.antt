@@ -11,15 +11,15 @@ use Rattle.supergraph.specs.Stands.{with_word}
 use Rattle.search_laws.proofs.OrderLemmas.{greatest_transitive}
 use Rattle.search_laws.proofs.EntryLemmas.{word_covers_itself}
 use Rattle.ramsey_search.specs.Kept.{IsKept, HeldSubsumes, held_super}
-use Rattle.ramsey_search.specs.declared.parts.Held.{Held}
+use Rattle.ramsey_search.specs.Views.{Seen}
 
-pub base_kept : (A B : Automaton) (S : List (ℕ × ℕ)) → IsAutomaton B → IsGreatestForward B 1 S → (t : ℕ) (h : Held) → h.origin ≡ Base t →
-    with_word h.arc ((trans_at A t).label ∷ []) ≡ base_arc A (trans_at A t) → IsFormed B.states h.graph.items →
-    SameGraph (block_graph B.states h.graph.items) (letter_graph B (trans_at A t).label) → IsKept B S h (base_entry A t)
+pub base_kept : (A B : Automaton) (S : List (ℕ × ℕ)) → IsAutomaton B → IsGreatestForward B 1 S → (t : ℕ) (h : Seen) → h.origin ≡ Base t →
+    with_word h.arc ((trans_at A t).label ∷ []) ≡ base_arc A (trans_at A t) → IsFormed B.states h.graph →
+    SameGraph (block_graph B.states h.graph) (letter_graph B (trans_at A t).label) → IsKept B S h (base_entry A t)
 base_kept A B S valid greatest t h origin arc formed same =
     let a : ℕ = (trans_at A t).label in
     let w : List ℕ = a ∷ [] in
-    let block : Graph = block_graph B.states h.graph.items in
+    let block : Graph = block_graph B.states h.graph in
     let own : Covers (Holds S) (graph_of B w) (graph_of B w) = word_covers_itself B S valid greatest w (omega arith) in
     let stands : SameGraph (graph_of B w) block = same_trans (graph_of B w) (letter_graph B a) block (graph_of_letter B a) (same_sym block (letter_graph B a) same) in
     record {
@@ -30,14 +30,14 @@ base_kept A B S valid greatest t h origin arc formed same =
       covered = covers_between (Holds S) (graph_of B w) (graph_of B w) (graph_of B w) block (same_refl (graph_of B w)) stands own;
     }
 
-pub next_kept : (A B : Automaton) (S : List (ℕ × ℕ)) → IsGreatestForward B 1 S → (e t : ℕ) (from h : Held) (x : Entry) → IsKept B S from x → h.origin ≡ Next e t →
-    ((w : List ℕ) → with_word h.arc (w ++ (trans_at A t).label ∷ []) ≡ extended_arc A (with_word from.arc w) (trans_at A t)) → IsFormed B.states h.graph.items →
-    SameGraph (block_graph B.states h.graph.items) (extended B (block_graph B.states from.graph.items) (trans_at A t).label) → IsKept B S h (next_entry A e x t)
+pub next_kept : (A B : Automaton) (S : List (ℕ × ℕ)) → IsGreatestForward B 1 S → (e t : ℕ) (from h : Seen) (x : Entry) → IsKept B S from x → h.origin ≡ Next e t →
+    ((w : List ℕ) → with_word h.arc (w ++ (trans_at A t).label ∷ []) ≡ extended_arc A (with_word from.arc w) (trans_at A t)) → IsFormed B.states h.graph →
+    SameGraph (block_graph B.states h.graph) (extended B (block_graph B.states from.graph) (trans_at A t).label) → IsKept B S h (next_entry A e x t)
 next_kept A B S greatest e t from h x kept origin arc formed same =
     let a : ℕ = (trans_at A t).label in
     let w : List ℕ = x.arc.word in
-    let block : Graph = block_graph B.states h.graph.items in
-    let old : Graph = block_graph B.states from.graph.items in
+    let block : Graph = block_graph B.states h.graph in
+    let old : Graph = block_graph B.states from.graph in
     let word_is : SameGraph (extended B (graph_of B w) a) (graph_of B (w ++ a ∷ [])) =
     same_sym (graph_of B (w ++ a ∷ [])) (extended B (graph_of B w) a) (graph_of_more B w a) in
     let block_is : SameGraph (extended B old a) block = same_sym block (extended B old a) same in
@@ -52,7 +52,7 @@ next_kept A B S greatest e t from h x kept origin arc formed same =
     }
 
 -- The kept supergraph and that of the entry subsume each other.
-pub kept_above : (B : Automaton) (S : List (ℕ × ℕ)) (h : Held) (x : Entry) → IsKept B S h x → Subsumes (Holds S) (held_super B.states h) (super_entry B x)
+pub kept_above : (B : Automaton) (S : List (ℕ × ℕ)) (h : Seen) (x : Entry) → IsKept B S h x → Subsumes (Holds S) (held_super B.states h) (super_entry B x)
 kept_above B S h x kept = record {
   from = ap (λ (y : WordArc). y.from) kept.arc;
   to = ap (λ (y : WordArc). y.to) kept.arc;
@@ -60,7 +60,7 @@ kept_above B S h x kept = record {
   covers = kept.covers;
 }
 
-pub kept_below : (B : Automaton) (S : List (ℕ × ℕ)) (h : Held) (x : Entry) → IsKept B S h x → Subsumes (Holds S) (super_entry B x) (held_super B.states h)
+pub kept_below : (B : Automaton) (S : List (ℕ × ℕ)) (h : Seen) (x : Entry) → IsKept B S h x → Subsumes (Holds S) (super_entry B x) (held_super B.states h)
 kept_below B S h x kept = record {
   from = sym (ap (λ (y : WordArc). y.from) kept.arc);
   to = sym (ap (λ (y : WordArc). y.to) kept.arc);
@@ -69,7 +69,7 @@ kept_below B S h x kept = record {
 }
 
 -- So kept elements subsume one another where the entries do.
-module _ (B : Automaton) (S : List (ℕ × ℕ)) (greatest : IsGreatestForward B 1 S) (h k : Held) (x y : Entry) (h_kept : IsKept B S h x) (k_kept : IsKept B S k y) where
+module _ (B : Automaton) (S : List (ℕ × ℕ)) (greatest : IsGreatestForward B 1 S) (h k : Seen) (x y : Entry) (h_kept : IsKept B S h x) (k_kept : IsKept B S k y) where
   joins : (a b c : Supergraph) → Subsumes (Holds S) a b → Subsumes (Holds S) b c → Subsumes (Holds S) a c
   joins = subsumes_trans (Holds S) (greatest_transitive B S greatest)
 

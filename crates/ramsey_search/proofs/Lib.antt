@@ -1,3 +1,6 @@
+pub mod MemoLemmas
+pub mod GraphsLemmas
+pub mod SeenLemmas
 pub mod KeptLemmas
 pub mod MeetingLemmas
 pub mod EntriesLemmas

@@ -9,30 +9,29 @@ use Rattle.graph_laws.proofs.GraphLemmas.{subsumes_trans}
 use Rattle.search_laws.proofs.OrderLemmas.{greatest_transitive}
 use Rattle.search_laws.proofs.PlaceLemmas.{at_within, at_some}
 use Rattle.search_laws.proofs.LiveLemmas.{live_one}
-use Rattle.ramsey_search.specs.declared.parts.Held.{Held}
-use Rattle.ramsey_search.specs.declared.family.Family.{Family}
+use Rattle.ramsey_search.specs.Views.{Seen, View}
 use Rattle.evidence.specs.Tables.{numbers_at}
 use Rattle.ramsey_search.specs.Kept.{IsKept, AreBetween, IsFamily, NoneSubsumes, IsFirstSubsumer, held_super}
 use Rattle.ramsey_search.proofs.KeptLemmas.{to_entries, to_held}
 use Rattle.evidence.proofs.NumberLemmas.{at_of_contains, contains_of_at, earlier_is_less}
 
-module _ (A B : Automaton) (S : List (ℕ × ℕ)) (greatest : IsGreatestForward B 1 S) (f : Family) (es : List Entry) (h : Held) (c : Entry)
+module _ (A B : Automaton) (S : List (ℕ × ℕ)) (greatest : IsGreatestForward B 1 S) (f : View) (es : List Entry) (h : Seen) (c : Entry)
     (family : IsFamily A B S f es) (kept : IsKept B S h c) (from_in : h.arc.from < A.states) (to_in : h.arc.to < A.states)
   where
     abbrev R : Rules Entry
     R = supergraph_rules A B S
 
     abbrev numbers : List ℕ
-    numbers = numbers_at f.ends.items (h.arc.from * f.states + h.arc.to)
+    numbers = numbers_at f.ends (h.arc.from * f.states + h.arc.to)
 
-    among : AreBetween es f.live.items h.arc.from h.arc.to numbers
-    among = subst (λ n. AreBetween es f.live.items h.arc.from h.arc.to (numbers_at f.ends.items (h.arc.from * n + h.arc.to))) (sym family.states) (family.between h.arc.from h.arc.to from_in to_in)
+    among : AreBetween es f.live h.arc.from h.arc.to numbers
+    among = subst (λ n. AreBetween es f.live h.arc.from h.arc.to (numbers_at f.ends (h.arc.from * n + h.arc.to))) (sym family.states) (family.between h.arc.from h.arc.to from_in to_in)
 
     joins : (x y z : Entry) → R.subsumes x y → R.subsumes y z → R.subsumes x z
     joins x y z = subsumes_trans (Holds S) (greatest_transitive B S greatest) (super_entry B x) (super_entry B y) (super_entry B z)
 
     -- A live element that subsumes it has one of the numbers.
-    has_number : (i : ℕ) (x : Entry) → At es i x → slice_index_or f.live.items i false ≡ true → R.subsumes x c → (k : ℕ) × At numbers k i
+    has_number : (i : ℕ) (x : Entry) → At es i x → slice_index_or f.live i false ≡ true → R.subsumes x c → (k : ℕ) × At numbers k i
     has_number i x x_is live subsumes =
         at_of_contains numbers i (among.all i (record {
           element = x;
@@ -42,22 +41,22 @@ module _ (A B : Automaton) (S : List (ℕ × ℕ)) (greatest : IsGreatestForward
           to = subsumes.to ∙ sym (ap (λ (a : WordArc). a.to) kept.arc);
         }))
 
-    held_at : (i : ℕ) (x : Entry) → At es i x → (k : Held) × At f.held.items i k × IsKept B S k x
+    held_at : (i : ℕ) (x : Entry) → At es i x → (k : Seen) × At f.held i k × IsKept B S k x
     held_at i x x_is =
         let within = at_within es i x x_is in
         let size = family.size in
-        let k = at_some f.held.items i (omega arith) in
+        let k = at_some f.held i (omega arith) in
         (k.0, k.1, family.kept i k.0 x k.1 x_is)
 
-    pub none_at_all : NoneSubsumes B.states S f.held.items numbers (held_super B.states h) → HasNoSubsumer R es c
+    pub none_at_all : NoneSubsumes B.states S f.held numbers (held_super B.states h) → HasNoSubsumer R es c
     none_at_all none i y y_is subsumes =
-        let one = live_one Entry R joins es (λ k. slice_index_or f.live.items k false) family.tells c (i, y, y_is, subsumes) in
+        let one = live_one Entry R joins es (λ k. slice_index_or f.live k false) family.tells c (i, y, y_is, subsumes) in
         let x : Entry = one.2.element in
         let k = held_at one.0 x one.2.is in
         let at = has_number one.0 x one.2.is one.1 one.2.subsumes in
         none at.0 one.0 k.0 at.1 k.1 (to_held B S greatest k.0 h x c k.2 kept one.2.subsumes)
 
-    pub first_is_least : (j : ℕ) → IsFirstSubsumer B.states S f.held.items numbers (held_super B.states h) j → IsLeastSubsumer R es c j
+    pub first_is_least : (j : ℕ) → IsFirstSubsumer B.states S f.held numbers (held_super B.states h) j → IsLeastSubsumer R es c j
     first_is_least j first =
         let lies = among.only j (contains_of_at numbers first.place j first.is) in
         let x : Entry = lies.element in
@@ -67,7 +66,7 @@ module _ (A B : Automaton) (S : List (ℕ × ℕ)) (greatest : IsGreatestForward
           here = record { element = x; is = lies.is; live = family.tells.stays j within lies.stays; subsumes = to_entries B S greatest first.element h x c own kept first.subsumes };
           least = λ i less other.
               let i_in = at_within es i other.element other.is in
-              elim (cases_Bool (slice_index_or f.live.items i false)) [
+              elim (cases_Bool (slice_index_or f.live i false)) [
                 | inr gone ↦
                     let d = family.tells.drops i i_in gone in
                     other.live d.place d.element d.by d.later d.is d.by_is d.subsumes
@@ -79,5 +78,5 @@ module _ (A B : Automaton) (S : List (ℕ × ℕ)) (greatest : IsGreatestForward
               ];
         }
 
-    pub first_subsumes : (j : ℕ) → IsFirstSubsumer B.states S f.held.items numbers (held_super B.states h) j → HasSubsumer R es c
+    pub first_subsumes : (j : ℕ) → IsFirstSubsumer B.states S f.held numbers (held_super B.states h) j → HasSubsumer R es c
     first_subsumes j first = let least = first_is_least j first in (j, least.here.element, least.here.is, least.here.subsumes)

@@ -8,7 +8,7 @@ use Rattle.auto_core.specs.Game.{Holds}
 use Rattle.auto_core.specs.Graph.{Supergraph, Subsumes}
 use Rattle.auto_core.specs.Outcome.{At}
 use Rattle.search_laws.proofs.PlaceLemmas.{at_same, at_within}
-use Rattle.ramsey_search.specs.declared.parts.Held.{Held}
+use Rattle.ramsey_search.specs.Views.{Seen}
 use Rattle.ramsey_search.specs.Kept.{held_super, IsSubsumedOf, AreDropped}
 
 -- What is read at a place is there.
@@ -16,12 +16,12 @@ pub read_at : {X : Type 0} (xs : List X) (i : ℕ) (d x : X) → i < length xs �
 read_at xs i d x lt is = slice_get-get_or xs i d lt ∙ ap Some (sym is)
 
 -- The flags so far.
-pub record AreDroppedSoFar (n : ℕ) (S : List (ℕ × ℕ)) (held : List Held) (numbers : List ℕ) (x : Supergraph) (old new : List Bool) (count : ℕ) : Type 0 where
+pub record AreDroppedSoFar (n : ℕ) (S : List (ℕ × ℕ)) (held : List Seen) (numbers : List ℕ) (x : Supergraph) (old new : List Bool) (count : ℕ) : Type 0 where
   pub size : length new ≡ length old
   pub each : (j : ℕ) → (slice_index_or new j false ≡ slice_index_or old j false) ⊎ ((slice_index_or new j false ≡ false) × IsSubsumedOf n S held numbers x j)
-  pub all : (k j : ℕ) (h : Held) → k < count → At numbers k j → At held j h → Subsumes (Holds S) x (held_super n h) → slice_index_or new j false ≡ false
+  pub all : (k j : ℕ) (h : Seen) → k < count → At numbers k j → At held j h → Subsumes (Holds S) x (held_super n h) → slice_index_or new j false ≡ false
 
-module _ (n : ℕ) (S : List (ℕ × ℕ)) (held : List Held) (numbers : List ℕ) (x : Supergraph) (old : List Bool) where
+module _ (n : ℕ) (S : List (ℕ × ℕ)) (held : List Seen) (numbers : List ℕ) (x : Supergraph) (old : List Bool) where
   pub dropped_first : AreDroppedSoFar n S held numbers x old old 0
   dropped_first = record { size = refl; each = λ j. inl refl; all = λ k j h lt is there subsumes. absurd (omega arith) }
 
@@ -33,7 +33,7 @@ module _ (n : ℕ) (S : List (ℕ × ℕ)) (held : List Held) (numbers : List �
   }
 
   -- The next number is dropped, or it is kept.
-  pub dropped_more : (new : List Bool) (count j : ℕ) (h : Held) → At numbers count j → At held j h → j < length old → Subsumes (Holds S) x (held_super n h) →
+  pub dropped_more : (new : List Bool) (count j : ℕ) (h : Seen) → At numbers count j → At held j h → j < length old → Subsumes (Holds S) x (held_super n h) →
       AreDroppedSoFar n S held numbers x old new count → AreDroppedSoFar n S held numbers x old (slice_set new j false) (count + 1)
   dropped_more new count j h is there within subsumes so_far =
       let sizes = so_far.size in
@@ -55,7 +55,7 @@ module _ (n : ℕ) (S : List (ℕ × ℕ)) (held : List Held) (numbers : List �
         ];
       }
 
-  pub kept_more : (new : List Bool) (count j : ℕ) (h : Held) → At numbers count j → At held j h → (Subsumes (Holds S) x (held_super n h) → ⊥) →
+  pub kept_more : (new : List Bool) (count j : ℕ) (h : Seen) → At numbers count j → At held j h → (Subsumes (Holds S) x (held_super n h) → ⊥) →
       AreDroppedSoFar n S held numbers x old new count → AreDroppedSoFar n S held numbers x old new (count + 1)
   kept_more new count j h is there not so_far = record {
     size = so_far.size;

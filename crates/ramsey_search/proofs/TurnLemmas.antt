@@ -14,8 +14,11 @@ use Rattle.search_laws.proofs.PlaceLemmas.{at_within, at_some, at_more, at_new}
 use Rattle.search_laws.proofs.EntryLemmas.{FitsBehind, origins_more, entry_is_real, arc_here}
 use Rattle.evidence.proofs.RangeLemmas.{extensions_from, steps_out_are, range_more, range_over}
 use Rattle.evidence.specs.Entries.{entry_of, entries_of}
-use Rattle.ramsey_search.specs.declared.parts.Held.{Held}
 use Rattle.ramsey_search.specs.declared.family.Family.{Family}
+use Rattle.ramsey_search.specs.declared.graphs.Graph.{Graph}
+use Rattle.ramsey_search.specs.Graphs.{HasGrown}
+use Rattle.ramsey_search.specs.Views.{Seen, View, view}
+use Rattle.ramsey_search.proofs.GraphsLemmas.{view_stays}
 use Rattle.ramsey_search.specs.declared.parts.Fate.{Fate}
 use Rattle.ramsey_search.specs.declared.parts.Fate.TheVariants as fates
 use Rattle.evidence.specs.Tables.{numbers_at}
@@ -34,7 +37,7 @@ real_in_range A valid p (a ∷ b ∷ w) q flag some (next, later, move, rest, e)
 pub entry_in_range : (A : Automaton) → IsAutomaton A → (es : List Entry) → HaveOrigins A es → (i : ℕ) (x : Entry) → At es i x → (x.arc.from < A.states) × (x.arc.to < A.states)
 entry_in_range A valid es have i x is = let real = entry_is_real A es have i x is in real_in_range A valid x.arc.from x.arc.word x.arc.to x.arc.flag real.reads real.run
 
-pub held_in_range : (A B : Automaton) (S : List (ℕ × ℕ)) → IsAutomaton A → (es : List Entry) → HaveOrigins A es → (i : ℕ) (x : Entry) (h : Held) → At es i x → IsKept B S h x → (h.arc.from < A.states) × (h.arc.to < A.states)
+pub held_in_range : (A B : Automaton) (S : List (ℕ × ℕ)) → IsAutomaton A → (es : List Entry) → HaveOrigins A es → (i : ℕ) (x : Entry) (h : Seen) → At es i x → IsKept B S h x → (h.arc.from < A.states) × (h.arc.to < A.states)
 held_in_range A B S valid es have i x h is kept =
     let ends = entry_in_range A valid es have i x is in (
       subst (λ k. k < A.states) (sym (ap (λ (a : WordArc). a.from) kept.arc)) ends.0,
@@ -42,36 +45,36 @@ held_in_range A B S valid es have i x h is kept =
     )
 
 -- A family's parts fit together.
-pub fits_together : (A B : Automaton) (S : List (ℕ × ℕ)) (n : ℕ) (f : Family) (es : List Entry) → n ≡ B.states → IsFamily A B S f es → FitsTogether n f
+pub fits_together : (A B : Automaton) (S : List (ℕ × ℕ)) (n : ℕ) (f : View) (es : List Entry) → n ≡ B.states → IsFamily A B S f es → FitsTogether n f
 fits_together A B S n f es same family = record {
   live_size = family.live_size ∙ sym family.size;
   ends_size = family.ends_size ∙ ap (λ k. k * k) (sym family.states);
   there = λ p q p_in q_in k j is.
-      let numbers : List ℕ = numbers_at f.ends.items (p * A.states + q) in
+      let numbers : List ℕ = numbers_at f.ends (p * A.states + q) in
       let among = family.between p q (subst (λ m. p < m) family.states p_in) (subst (λ m. q < m) family.states q_in) in
-      let here : At numbers k j = subst (λ m. At (numbers_at f.ends.items (p * m + q)) k j) family.states is in
+      let here : At numbers k j = subst (λ m. At (numbers_at f.ends (p * m + q)) k j) family.states is in
       let lies = among.only j (contains_of_at numbers k j here) in
       let within = at_within es j lies.element lies.is in
       let size = family.size in
       omega arith;
   formed = λ i h h_is.
-      let within = at_within f.held.items i h h_is in
+      let within = at_within f.held i h h_is in
       let size = family.size in
       let x = at_some es i (omega arith) in
-      subst (λ m. IsFormed m h.graph.items) (sym same) (family.kept i h x.0 h_is x.1).formed;
+      subst (λ m. IsFormed m h.graph) (sym same) (family.kept i h x.0 h_is x.1).formed;
 }
 
 -- The candidate's arc is between states.
-fits_behind : (A B : Automaton) (S : List (ℕ × ℕ)) (es : List Entry) (h : Held) → IsCandidate A B S es h → FitsBehind A es (entry_of A es h.origin)
+fits_behind : (A B : Automaton) (S : List (ℕ × ℕ)) (es : List Entry) (h : Seen) → IsCandidate A B S es h → FitsBehind A es (entry_of A es h.origin)
 fits_behind A B S es h candidate = record { placed = candidate.placed; is = refl }
 
-pub candidate_in_range : (A B : Automaton) (S : List (ℕ × ℕ)) → IsAutomaton A → (es : List Entry) → HaveOrigins A es → (h : Held) → IsCandidate A B S es h → (h.arc.from < A.states) × (h.arc.to < A.states)
+pub candidate_in_range : (A B : Automaton) (S : List (ℕ × ℕ)) → IsAutomaton A → (es : List Entry) → HaveOrigins A es → (h : Seen) → IsCandidate A B S es h → (h.arc.from < A.states) × (h.arc.to < A.states)
 candidate_in_range A B S valid es have h candidate =
     let c : Entry = entry_of A es h.origin in
     held_in_range A B S valid (es ++ c ∷ []) (origins_more A es c have (fits_behind A B S es h candidate)) (length es) c h (at_new es c) candidate.kept
 
 -- After the candidate has entered.
-pub entered_whole : (A B : Automaton) (S : List (ℕ × ℕ)) → IsAutomaton A → IsGreatestForward B 1 S → (n : ℕ) → n ≡ B.states → (old now : Family) (h : Held) → IsWhole A B S old → IsCandidate A B S (entries_held A old) h →
+pub entered_whole : (A B : Automaton) (S : List (ℕ × ℕ)) → IsAutomaton A → IsGreatestForward B 1 S → (n : ℕ) → n ≡ B.states → (old now : View) (h : Seen) → IsWhole A B S old → IsCandidate A B S (entries_held A old) h →
     HasEntered n S h old now → IsFamily A B S now (entries_held A old ++ entry_of A (entries_held A old) h.origin ∷ [])
 entered_whole A B S valid greatest n same old now h whole candidate has =
     let es : List Entry = entries_held A old in
@@ -85,7 +88,7 @@ leads_then A B S limit es mid now cs mid_cs left turn mid_turn later fates.GoesO
 leads_then A B S limit es mid now cs mid_cs left turn mid_turn later (fates.Apart i j) first second = (second.0, second.1, second.2, second.3, first (Apart second.0 second.1) second.4)
 leads_then A B S limit es mid now cs mid_cs left turn mid_turn later fates.Full first second = first (Limit now) second
 
-pub come_then : (A B : Automaton) (S : List (ℕ × ℕ)) (limit : ℕ) (old mid now : Family) (cs mid_cs left : List Entry) (turn mid_turn later : ℕ) (fate : Fate) →
+pub come_then : (A B : Automaton) (S : List (ℕ × ℕ)) (limit : ℕ) (old mid now : View) (cs mid_cs left : List Entry) (turn mid_turn later : ℕ) (fate : Fate) →
     HasCome A B S limit old mid fates.GoesOn cs mid_cs turn mid_turn → HasCome A B S limit mid now fate mid_cs left mid_turn later → HasCome A B S limit old now fate cs left turn later
 come_then A B S limit old mid now cs mid_cs left turn mid_turn later fate first second = record {
   whole = second.whole;
@@ -94,20 +97,27 @@ come_then A B S limit old mid now cs mid_cs left turn mid_turn later fate first 
   leads = leads_then A B S limit (entries_held A old) (entries_held A mid) (entries_held A now) cs mid_cs left turn mid_turn later fate first.leads second.leads;
 }
 
+-- The search has come as far when more graphs are there.
+pub come_stays : (A B : Automaton) (S : List (ℕ × ℕ)) (limit : ℕ) (before : View) (old now : List Graph) (f : Family) (cs left : List Entry) (turn later : ℕ) (fate : Fate) → IsAutomaton B → HasGrown old now →
+    HasCome A B S limit before (view old f) fate cs left turn later → HasCome A B S limit before (view now f) fate cs left turn later
+come_stays A B S limit before old now f cs left turn later fate valid grown come =
+    let some = valid.initial_is_state in
+    subst (λ v. HasCome A B S limit before v fate cs left turn later) (sym (view_stays A B S old now f (entries_held A (view old f)) (omega arith) grown come.whole)) come
+
 -- Nothing has happened yet.
-pub come_first : (A B : Automaton) (S : List (ℕ × ℕ)) (limit : ℕ) (f : Family) (cs : List Entry) (turn : ℕ) → IsWhole A B S f → length f.held.items ≤ limit → HasCome A B S limit f f fates.GoesOn cs cs turn turn
+pub come_first : (A B : Automaton) (S : List (ℕ × ℕ)) (limit : ℕ) (f : View) (cs : List Entry) (turn : ℕ) → IsWhole A B S f → length f.held ≤ limit → HasCome A B S limit f f fates.GoesOn cs cs turn turn
 come_first A B S limit f cs turn whole few = record { whole = whole; few = λ e. few; grown = λ i x is. is; leads = λ o rest. rest }
 
 -- A candidate that an element subsumes.
-pub come_past : (A B : Automaton) (S : List (ℕ × ℕ)) (limit : ℕ) (f : Family) (c : Entry) (cs : List Entry) (turn : ℕ) → IsWhole A B S f → length f.held.items ≤ limit →
+pub come_past : (A B : Automaton) (S : List (ℕ × ℕ)) (limit : ℕ) (f : View) (c : Entry) (cs : List Entry) (turn : ℕ) → IsWhole A B S f → length f.held ≤ limit →
     HasSubsumer (supergraph_rules A B S) (entries_held A f) c → HasCome A B S limit f f fates.GoesOn (c ∷ cs) cs turn turn
 come_past A B S limit f c cs turn whole few has = record { whole = whole; few = λ e. few; grown = λ i x is. is; leads = λ o rest. passed_over has rest }
 
 -- A candidate that enters.
-module _ (A B : Automaton) (S : List (ℕ × ℕ)) (limit : ℕ) (old now : Family) (h : Held) (cs : List Entry) (turn : ℕ)
+module _ (A B : Automaton) (S : List (ℕ × ℕ)) (limit : ℕ) (old now : View) (h : Seen) (cs : List Entry) (turn : ℕ)
     (family : IsFamily A B S now (entries_held A old ++ entry_of A (entries_held A old) h.origin ∷ []))
-    (held : now.held.items ≡ old.held.items ++ h ∷ [])
-    (size : length old.held.items ≡ length (entries_held A old))
+    (held : now.held ≡ old.held ++ h ∷ [])
+    (size : length old.held ≡ length (entries_held A old))
     (none : HasNoSubsumer (supergraph_rules A B S) (entries_held A old) (entry_of A (entries_held A old) h.origin))
   where
     abbrev es : List Entry
@@ -125,7 +135,7 @@ module _ (A B : Automaton) (S : List (ℕ × ℕ)) (limit : ℕ) (old now : Fami
     grows : (i : ℕ) (x : Entry) → At es i x → At (entries_held A now) i x
     grows i x is = subst (λ l. At l i x) (sym now_is) (at_more es (c ∷ []) i x is)
 
-    pub come_full : length old.held.items ≡ limit → HasCome A B S limit old now fates.Full (c ∷ cs) cs turn turn
+    pub come_full : length old.held ≡ limit → HasCome A B S limit old now fates.Full (c ∷ cs) cs turn turn
     come_full full = record {
       whole = is_whole;
       few = λ e. absurd (cc);
@@ -133,10 +143,10 @@ module _ (A B : Automaton) (S : List (ℕ × ℕ)) (limit : ℕ) (old now : Fami
       leads = limit_met none (sym size ∙ full) (ap Limit now_is);
     }
 
-    pub come_in : length old.held.items < limit → (fate : Fate) → IsTold A B S (entries_held A now) c fate → HasCome A B S limit old now fate (c ∷ cs) cs turn turn
+    pub come_in : length old.held < limit → (fate : Fate) → IsTold A B S (entries_held A now) c fate → HasCome A B S limit old now fate (c ∷ cs) cs turn turn
     come_in few fates.GoesOn told = record {
       whole = is_whole;
-      few = λ e. let more = length-append old.held.items (h ∷ []) in let total = ap length held in omega arith;
+      few = λ e. let more = length-append old.held (h ∷ []) in let total = ap length held in omega arith;
       grown = grows;
       leads = λ o rest.
           entered none (subst (λ k. k < limit) size few) (subst (λ l. PassesBefore (supergraph_rules A B S) l c (length l)) now_is told)
@@ -161,21 +171,21 @@ pub starts_over : (A : Automaton) (t : ℕ) → length A.transitions ≤ t → s
 starts_over A t le = ap (map (base_entry A)) (range_over t (length A.transitions) le)
 
 -- Where the search has ended, what was left does not matter.
-pub come_ends : (A B : Automaton) (S : List (ℕ × ℕ)) (limit : ℕ) (old now : Family) (fate : Fate) (cs left other : List Entry) (turn later last : ℕ) → (fate ≡ fates.GoesOn → ⊥) →
+pub come_ends : (A B : Automaton) (S : List (ℕ × ℕ)) (limit : ℕ) (old now : View) (fate : Fate) (cs left other : List Entry) (turn later last : ℕ) → (fate ≡ fates.GoesOn → ⊥) →
     HasCome A B S limit old now fate cs left turn later → HasCome A B S limit old now fate cs other turn last
 come_ends A B S limit old now fates.GoesOn cs left other turn later last not come = absurd (not refl)
 come_ends A B S limit old now (fates.Apart i j) cs left other turn later last not come = record { whole = come.whole; few = come.few; grown = come.grown; leads = come.leads }
 come_ends A B S limit old now fates.Full cs left other turn later last not come = record { whole = come.whole; few = come.few; grown = come.grown; leads = come.leads }
 
 -- The candidates of the start and of a turn.
-pub base_is_candidate : (A B : Automaton) (S : List (ℕ × ℕ)) (es : List Entry) (t : ℕ) (h : Held) → t < length A.transitions → IsKept B S h (base_entry A t) →
+pub base_is_candidate : (A B : Automaton) (S : List (ℕ × ℕ)) (es : List Entry) (t : ℕ) (h : Seen) → t < length A.transitions → IsKept B S h (base_entry A t) →
     IsCandidate A B S es h × (entry_of A es h.origin ≡ base_entry A t)
 base_is_candidate A B S es t h lt kept =
     let is : h.origin ≡ Base t = kept.origin in
     let same : entry_of A es h.origin ≡ base_entry A t = ap (entry_of A es) is in
     (record { placed = subst (IsPlacedAt A (arcs_in es) (length es)) (sym is) lt; kept = subst (IsKept B S h) (sym same) kept }, same)
 
-pub next_is_candidate : (A B : Automaton) (S : List (ℕ × ℕ)) (es : List Entry) (e t : ℕ) (x : Entry) (h : Held) → At es e x → t < length A.transitions → (trans_at A t).source ≡ x.arc.to → IsKept B S h (next_entry A e x t) →
+pub next_is_candidate : (A B : Automaton) (S : List (ℕ × ℕ)) (es : List Entry) (e t : ℕ) (x : Entry) (h : Seen) → At es e x → t < length A.transitions → (trans_at A t).source ≡ x.arc.to → IsKept B S h (next_entry A e x t) →
     IsCandidate A B S es h × (entry_of A es h.origin ≡ next_entry A e x t)
 next_is_candidate A B S es e t x h x_is lt leaves kept =
     let is : h.origin ≡ Next e t = kept.origin in
@@ -185,8 +195,8 @@ next_is_candidate A B S es e t x h x_is lt leaves kept =
     (record { placed = subst (IsPlacedAt A (arcs_in es) (length es)) (sym is) placed; kept = subst (IsKept B S h) (sym same) kept }, same)
 
 -- A turn begins.
-pub turn_begins : (A B : Automaton) (S : List (ℕ × ℕ)) (limit : ℕ) (f : Family) (turn begin end : ℕ) (x : Entry) → IsWhole A B S f → length f.held.items ≤ limit → At (entries_held A f) turn x →
-    slice_index_or f.live.items turn false ≡ true → IsOutgoing A x.arc.to begin end → HasCome A B S limit f f fates.GoesOn [] (extensions_from A turn x begin end) turn (turn + 1)
+pub turn_begins : (A B : Automaton) (S : List (ℕ × ℕ)) (limit : ℕ) (f : View) (turn begin end : ℕ) (x : Entry) → IsWhole A B S f → length f.held ≤ limit → At (entries_held A f) turn x →
+    slice_index_or f.live turn false ≡ true → IsOutgoing A x.arc.to begin end → HasCome A B S limit f f fates.GoesOn [] (extensions_from A turn x begin end) turn (turn + 1)
 turn_begins A B S limit f turn begin end x whole few x_is live out =
     let within = at_within (entries_held A f) turn x x_is in
     let stays = whole.tells.stays turn within live in
@@ -201,8 +211,8 @@ turn_begins A B S limit f turn begin end x whole few x_is live out =
           (subst (λ l. Comes Entry (supergraph_rules A B S) limit (entries_held A f) l (turn + 1) o) (sym extensions) rest));
     }
 
-pub turn_passes : (A B : Automaton) (S : List (ℕ × ℕ)) (limit : ℕ) (f : Family) (turn : ℕ) → IsWhole A B S f → length f.held.items ≤ limit → turn < length f.held.items →
-    slice_index_or f.live.items turn false ≡ false → HasCome A B S limit f f fates.GoesOn [] [] turn (turn + 1)
+pub turn_passes : (A B : Automaton) (S : List (ℕ × ℕ)) (limit : ℕ) (f : View) (turn : ℕ) → IsWhole A B S f → length f.held ≤ limit → turn < length f.held →
+    slice_index_or f.live turn false ≡ false → HasCome A B S limit f f fates.GoesOn [] [] turn (turn + 1)
 turn_passes A B S limit f turn whole few lt gone =
     let size = whole.size in
     let dropped = whole.tells.drops turn (omega arith) gone in
@@ -215,10 +225,10 @@ turn_passes A B S limit f turn whole few lt gone =
     }
 
 -- The whole search.
-pub entries_none : (A : Automaton) (f : Family) → f.held.items ≡ [] → entries_held A f ≡ []
-entries_none A f none = ap (λ l. entries_of A (map (λ (h : Held). h.origin) l)) none
+pub entries_none : (A : Automaton) (f : View) → f.held ≡ [] → entries_held A f ≡ []
+entries_none A f none = ap (λ l. entries_of A (map (λ (h : Seen). h.origin) l)) none
 
-pub has_ended : (A B : Automaton) (S : List (ℕ × ℕ)) (limit : ℕ) (old now : Family) (fate : Fate) (turn : ℕ) → old.held.items ≡ [] → (fate ≡ fates.GoesOn → length now.held.items ≤ turn) →
+pub has_ended : (A B : Automaton) (S : List (ℕ × ℕ)) (limit : ℕ) (old now : View) (fate : Fate) (turn : ℕ) → old.held ≡ [] → (fate ≡ fates.GoesOn → length now.held ≤ turn) →
     HasCome A B S limit old now fate (supergraph_rules A B S).starts [] 0 turn → HasEnded A B S limit fate (entries_held A now)
 has_ended A B S limit old now fates.GoesOn turn none over come =
     let size = come.whole.size in

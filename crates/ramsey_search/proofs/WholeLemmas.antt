@@ -10,8 +10,7 @@ use Rattle.auto_core.proofs.PathLemmas.{none_in_nil}
 use Rattle.supergraph.specs.Words.{NamesWhatIsThere, NameWhatIsThere, word_at}
 use Rattle.search_laws.proofs.PlaceLemmas.{at_within}
 use Rattle.search_laws.proofs.EntryLemmas.{origins_of_none, arc_here}
-use Rattle.ramsey_search.specs.declared.parts.Held.{Held}
-use Rattle.ramsey_search.specs.declared.family.Family.{Family}
+use Rattle.ramsey_search.specs.Views.{Seen, View}
 use Rattle.evidence.specs.Tables.{numbers_at}
 use Rattle.ramsey_search.specs.Kept.{AreBetween, IsFamily, IsWhole, entries_held}
 use Rattle.ramsey_search.proofs.TurnLemmas.{entries_none}
@@ -24,7 +23,7 @@ nothing_between live p q = record {
   all = λ j lies. let within = at_within [] j lies.element lies.is in absurd (omega arith);
 }
 
-pub whole_first : (A B : Automaton) (S : List (ℕ × ℕ)) (f : Family) → f.states ≡ A.states → f.held.items ≡ [] → f.live.items ≡ [] → length f.ends.items ≡ A.states * A.states → ((k : ℕ) → numbers_at f.ends.items k ≡ []) →
+pub whole_first : (A B : Automaton) (S : List (ℕ × ℕ)) (f : View) → f.states ≡ A.states → f.held ≡ [] → f.live ≡ [] → length f.ends ≡ A.states * A.states → ((k : ℕ) → numbers_at f.ends k ≡ []) →
     IsWhole A B S f
 whole_first A B S f states held live ends_size ends =
     let none : entries_held A f ≡ [] = entries_none A f held in
@@ -36,7 +35,7 @@ whole_first A B S f states held live ends_size ends =
       origins = origins_of_none A;
       kept = λ i h x h_is x_is. let within = at_within [] i x x_is in absurd (omega arith);
       tells = record { stays = λ i lt e. absurd (omega arith); drops = λ i lt e. absurd (omega arith) };
-      between = λ p q p_in q_in. subst (AreBetween [] f.live.items p q) (sym (ends (p * A.states + q))) (nothing_between f.live.items p q);
+      between = λ p q p_in q_in. subst (AreBetween [] f.live p q) (sym (ends (p * A.states + q))) (nothing_between f.live p q);
     })
 
 names_of_placed : (A : Automaton) (arcs : List WordArc) (e : ℕ) (o : Origin) → IsPlacedAt A arcs e o → NamesWhatIsThere A e o
@@ -44,25 +43,25 @@ names_of_placed A arcs e Start placed = tt
 names_of_placed A arcs e (Base t) placed = placed
 names_of_placed A arcs e (Next p t) placed = (placed.0, placed.1)
 
-pub held_names : (A B : Automaton) (S : List (ℕ × ℕ)) (f : Family) → IsWhole A B S f → (origins : List Origin) → origins ≡ map (λ (h : Held). h.origin) f.held.items → NameWhatIsThere A origins
+pub held_names : (A B : Automaton) (S : List (ℕ × ℕ)) (f : View) → IsWhole A B S f → (origins : List Origin) → origins ≡ map (λ (h : Seen). h.origin) f.held → NameWhatIsThere A origins
 held_names A B S f whole origins is =
-    let same : origins_in (entries_held A f) ≡ origins = origins_of_entries A (map (λ (h : Held). h.origin) f.held.items) ∙ sym is in
+    let same : origins_in (entries_held A f) ≡ origins = origins_of_entries A (map (λ (h : Seen). h.origin) f.held) ∙ sym is in
     let placed : ArePlaced A origins = subst (ArePlaced A) same whole.origins.placed in
     λ e lt. names_of_placed A (arcs_of A origins) e (slice_index_or origins e Start) (placed e lt)
 
-pub word_is : (A B : Automaton) (S : List (ℕ × ℕ)) (f : Family) → IsWhole A B S f → (origins : List Origin) → origins ≡ map (λ (h : Held). h.origin) f.held.items → (i : ℕ) (x : Entry) → At (entries_held A f) i x →
+pub word_is : (A B : Automaton) (S : List (ℕ × ℕ)) (f : View) → IsWhole A B S f → (origins : List Origin) → origins ≡ map (λ (h : Seen). h.origin) f.held → (i : ℕ) (x : Entry) → At (entries_held A f) i x →
     word_at A origins i ≡ x.arc.word
 word_is A B S f whole origins is i x x_is =
-    let same : origins ≡ origins_in (entries_held A f) = is ∙ sym (origins_of_entries A (map (λ (h : Held). h.origin) f.held.items)) in
+    let same : origins ≡ origins_in (entries_held A f) = is ∙ sym (origins_of_entries A (map (λ (h : Seen). h.origin) f.held)) in
     ap (λ l. word_at A l i) same ∙ ap (λ (l : List WordArc). (arc_at A l i).word) whole.origins.arcs ∙ ap (λ (a : WordArc). a.word) (arc_here A (entries_held A f) i x x_is)
 
-pub inside : (A B : Automaton) (S : List (ℕ × ℕ)) (f : Family) → IsWhole A B S f → (origins : List Origin) → origins ≡ map (λ (h : Held). h.origin) f.held.items → (i : ℕ) (x : Entry) → At (entries_held A f) i x → i < length origins
+pub inside : (A B : Automaton) (S : List (ℕ × ℕ)) (f : View) → IsWhole A B S f → (origins : List Origin) → origins ≡ map (λ (h : Seen). h.origin) f.held → (i : ℕ) (x : Entry) → At (entries_held A f) i x → i < length origins
 inside A B S f whole origins is i x x_is =
     let within = at_within (entries_held A f) i x x_is in
     let size = whole.size in
     let count = ap length is in
-    let more = length-map f.held.items (λ (h : Held). h.origin) in
+    let more = length-map f.held (λ (h : Seen). h.origin) in
     omega arith
 
-pub origins_are : (A : Automaton) (f : Family) (origins : List Origin) → origins ≡ map (λ (h : Held). h.origin) f.held.items → origins ≡ origins_in (entries_held A f)
-origins_are A f origins is = is ∙ sym (origins_of_entries A (map (λ (h : Held). h.origin) f.held.items))
+pub origins_are : (A : Automaton) (f : View) (origins : List Origin) → origins ≡ map (λ (h : Seen). h.origin) f.held → origins ≡ origins_in (entries_held A f)
+origins_are A f origins is = is ∙ sym (origins_of_entries A (map (λ (h : Seen). h.origin) f.held))

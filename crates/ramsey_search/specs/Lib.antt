@@ -1,3 +1,7 @@
+pub mod Memo
+pub mod Graphs
+pub mod GraphPairs
+pub mod Views
 pub mod Kept
 pub mod Ends
 pub mod Marks

@@ -4,29 +4,28 @@ use Rattle.auto_core.specs.Outcome.{At}
 use Rattle.cert_text.specs.declared.types.Element.{Element}
 use Rattle.cert_text.specs.declared.types.Mark.{Mark}
 use Rattle.cert_text.specs.declared.types.Mark.TheVariants.{Live, Under}
-use Rattle.ramsey_search.specs.declared.parts.Held.{Held}
-use Rattle.ramsey_search.specs.declared.family.Family.{Family}
+use Rattle.ramsey_search.specs.Views.{Seen, View}
 use Rattle.evidence.specs.Tables.{numbers_at}
 use Rattle.ramsey_search.specs.Kept.{IsFirstSubsumer, NoneSubsumes, held_super}
 
 -- The numbers of the live elements with the ends of the kept element.
-abbrev pub numbers_beside : Family → Held → List ℕ
-numbers_beside f h = numbers_at f.ends.items (h.arc.from * f.states + h.arc.to)
+abbrev pub numbers_beside : View → Seen → List ℕ
+numbers_beside f h = numbers_at f.ends (h.arc.from * f.states + h.arc.to)
 
 -- Of the live elements this is the first that subsumes the kept one.
-abbrev pub IsCovererOf : ℕ → List (ℕ × ℕ) → Family → Held → ℕ → Type 0
-IsCovererOf n S f h j = IsFirstSubsumer n S f.held.items (numbers_beside f h) (held_super n h) j
+abbrev pub IsCovererOf : ℕ → List (ℕ × ℕ) → View → Seen → ℕ → Type 0
+IsCovererOf n S f h j = IsFirstSubsumer n S f.held (numbers_beside f h) (held_super n h) j
 
 -- There is one.
-abbrev pub HasCoverer : ℕ → List (ℕ × ℕ) → Family → Held → Type 0
-HasCoverer n S f h = NoneSubsumes n S f.held.items (numbers_beside f h) (held_super n h) → ⊥
+abbrev pub HasCoverer : ℕ → List (ℕ × ℕ) → View → Seen → Type 0
+HasCoverer n S f h = NoneSubsumes n S f.held (numbers_beside f h) (held_super n h) → ⊥
 
 -- The mark of the kept element, by its flag.
-abbrev pub IsHeldMark : ℕ → List (ℕ × ℕ) → Family → Held → Bool → Mark → Type 0
+abbrev pub IsHeldMark : ℕ → List (ℕ × ℕ) → View → Seen → Bool → Mark → Type 0
 IsHeldMark n S f h flag Live = flag ≡ true
 IsHeldMark n S f h flag (Under j) = (flag ≡ false) × IsCovererOf n S f h j
 
 -- The first so many elements have the origins and the marks of the kept ones.
-pub record AreMarked (n : ℕ) (S : List (ℕ × ℕ)) (f : Family) (count : ℕ) (elements : List Element) : Type 0 where
+pub record AreMarked (n : ℕ) (S : List (ℕ × ℕ)) (f : View) (count : ℕ) (elements : List Element) : Type 0 where
   pub size : length elements ≡ count
-  pub each : (i : ℕ) (m : Element) (h : Held) → At elements i m → At f.held.items i h → (m.origin ≡ h.origin) × IsHeldMark n S f h (slice_index_or f.live.items i false) m.mark
+  pub each : (i : ℕ) (m : Element) (h : Seen) → At elements i m → At f.held i h → (m.origin ≡ h.origin) × IsHeldMark n S f h (slice_index_or f.live i false) m.mark

@@ -8,12 +8,18 @@ ghost use Rattle.auto_core.specs.Outcome.{At, Closed, Entry, HasSubsumer, IsLeas
 ghost use Rattle.graph_rows.specs.Block.{IsFormed};
 ghost use Rattle.cert_text.specs.declared.types.StepLine.{StepLine};
 ghost use Rattle.ramsey_search.specs.declared.parts.Held.{Held};
+ghost use Rattle.ramsey_search.specs.Graphs.{HasGrown, IsStock, block_at};
+ghost use Rattle.ramsey_search.specs.Memo.{AllTold};
+ghost use Rattle.ramsey_search.specs.GraphPairs.{FitsCovering};
+ghost use Rattle.ramsey_search.specs.Views.{seen, view};
 ghost use Rattle.ramsey_search.specs.Kept.{FitsTogether, IsWhole, entries_held};
 ghost use Rattle.evidence.specs.Evidence.{IsEvidenceOf, IsStepOf};
 ghost use Rattle.ramsey_search.specs.Marks.{AreMarked, HasCoverer, IsCovererOf};
 
 use crate::candidates::{base_candidate, next_candidate};
 use crate::family::Family;
+use crate::graphs::Graphs;
+use crate::memo::Memo;
 use crate::parts::Held;
 use auto_core::{Auto, List, Memory};
 use bit_rel::Rel;
@@ -22,26 +28,37 @@ use evidence::Closure;
 use std::alloc::Global;
 
 /// The least live element that subsumes this one; there is one.
-fn coverer(order: &Rel, family: &Family, of: &Held) -> u32
+fn coverer(order: &Rel, graphs: &Graphs, told: &mut Memo, family: &Family, of: &Held) -> u32
     requires from { of.now.arc.from < family.now.states }
     requires to { of.now.arc.to < family.now.states }
-    requires fits { FitsTogether order.now.size family.now }
-    requires formed { IsFormed order.now.size of.now.graph.items }
-    requires some { HasCoverer order.now.size order.now.pairs family.now of.now }
-    ensures { IsCovererOf order.now.size order.now.pairs family.now of.now result }
+    requires fits { FitsTogether order.now.size (view graphs.now.graphs.items family.now) }
+    requires formed { IsFormed order.now.size (block_at graphs.now.graphs.items of.now.graph) }
+    requires some { HasCoverer order.now.size order.now.pairs (view graphs.now.graphs.items family.now) (seen graphs.now.graphs.items of.now) }
+    requires told { AllTold (FitsCovering order.now.size order.now.pairs graphs.now.graphs.items) told.old.told.items }
+    ensures told { AllTold (FitsCovering order.now.size order.now.pairs graphs.now.graphs.items) told.new.told.items }
+    ensures coverer { IsCovererOf order.now.size order.now.pairs (view graphs.now.graphs.items family.now) (seen graphs.now.graphs.items of.now) result }
 {
-    match family.least(order, &of.arc, &of.graph) {
+    match family.least(order, graphs, told, &of.arc, of.graph) {
         Some(number) => number,
         None => unreachable!(),
     }
 }
 
 /// The elements with their marks.
-fn elements(alloc: Global, order: &Rel, family: &Family) -> Result<List<Element>, Memory>
-    requires fits { FitsTogether order.now.size family.now }
+fn elements(
+    alloc: Global,
+    order: &Rel,
+    graphs: &Graphs,
+    told: &mut Memo,
+    family: &Family,
+) -> Result<List<Element>, Memory>
+    requires fits { FitsTogether order.now.size (view graphs.now.graphs.items family.now) }
     requires ends { (i : ℕ) (h : Held) → At family.now.held.items i h → (h.arc.from < family.now.states) × (h.arc.to < family.now.states) }
-    requires some { (i : ℕ) (h : Held) → At family.now.held.items i h → slice_index_or family.now.live.items i false ≡ false → HasCoverer order.now.size order.now.pairs family.now h }
-    ensures { IfOk result (AreMarked order.now.size order.now.pairs family.now (length family.now.held.items)) }
+    requires some { (i : ℕ) (h : Held) → At family.now.held.items i h → slice_index_or family.now.live.items i false ≡ false
+        → HasCoverer order.now.size order.now.pairs (view graphs.now.graphs.items family.now) (seen graphs.now.graphs.items h) }
+    requires told { AllTold (FitsCovering order.now.size order.now.pairs graphs.now.graphs.items) told.old.told.items }
+    ensures told { AllTold (FitsCovering order.now.size order.now.pairs graphs.now.graphs.items) told.new.told.items }
+    ensures elements { IfOk result (AreMarked order.now.size order.now.pairs (view graphs.now.graphs.items family.now) (length family.now.held.items)) }
 {
     let mut elements = List::new(alloc);
     for number in 0..family.held.len() {
@@ -49,7 +66,7 @@ fn elements(alloc: Global, order: &Rel, family: &Family) -> Result<List<Element>
         let mark = if family.live[number] {
             Mark::Live
         } else {
-            Mark::Under(coverer(order, family, element))
+            Mark::Under(coverer(order, graphs, told, family, element))
         };
         elements.push(Element {
             mark,
@@ -65,20 +82,28 @@ fn cover(
     first: &Auto,
     second: &Auto,
     order: &Rel,
+    graphs: &mut Graphs,
+    told: &mut Memo,
     family: &Family,
 ) -> Result<List<u32>, Memory>
     requires first_valid { IsAutomaton first.now }
+    requires second_valid { IsAutomaton second.now }
     requires greatest { IsGreatestForward second.now 1 order.now.pairs }
     requires order_size { order.now.size ≡ second.now.states }
-    requires whole { IsWhole first.now second.now order.now.pairs family.now }
-    requires some { (t : ℕ) → t < length first.now.transitions → HasSubsumer (supergraph_rules first.now second.now order.now.pairs) (entries_held first.now family.now) (base_entry first.now t) }
+    requires whole { IsWhole first.now second.now order.now.pairs (view graphs.old.graphs.items family.now) }
+    requires some { (t : ℕ) → t < length first.now.transitions → HasSubsumer (supergraph_rules first.now second.now order.now.pairs) (entries_held first.now (view graphs.old.graphs.items family.now)) (base_entry first.now t) }
+    requires stock { IsStock second.now graphs.old }
+    requires told { AllTold (FitsCovering second.now.states order.now.pairs graphs.old.graphs.items) told.old.told.items }
+    ensures stock { IfOk result (λ _. IsStock second.now graphs.new) }
+    ensures told { IfOk result (λ _. AllTold (FitsCovering second.now.states order.now.pairs graphs.new.graphs.items) told.new.told.items) }
+    ensures grown { IfOk result (λ _. HasGrown graphs.old.graphs.items graphs.new.graphs.items) }
     ensures size { IfOk result (λ cover. length cover ≡ length first.now.transitions) }
-    ensures each { IfOk result (λ cover. (t j : ℕ) → At cover t j → IsLeastSubsumer (supergraph_rules first.now second.now order.now.pairs) (entries_held first.now family.now) (base_entry first.now t) j) }
+    ensures each { IfOk result (λ cover. (t j : ℕ) → At cover t j → IsLeastSubsumer (supergraph_rules first.now second.now order.now.pairs) (entries_held first.now (view graphs.old.graphs.items family.now)) (base_entry first.now t) j) }
 {
     let mut cover = List::new(alloc);
     for t in 0..first.transitions().len() as u32 {
-        let start = base_candidate(alloc, first, second, t)?;
-        cover.push(coverer(order, family, &start))?;
+        let start = base_candidate(alloc, first, second, t, graphs)?;
+        cover.push(coverer(order, graphs, told, family, &start))?;
     }
     Ok(cover)
 }
@@ -89,25 +114,33 @@ fn step_line(
     first: &Auto,
     second: &Auto,
     order: &Rel,
+    graphs: &mut Graphs,
+    told: &mut Memo,
     family: &Family,
     element: u32,
 ) -> Result<StepLine, Memory>
     requires first_valid { IsAutomaton first.now }
+    requires second_valid { IsAutomaton second.now }
     requires greatest { IsGreatestForward second.now 1 order.now.pairs }
     requires order_size { order.now.size ≡ second.now.states }
-    requires whole { IsWhole first.now second.now order.now.pairs family.now }
+    requires whole { IsWhole first.now second.now order.now.pairs (view graphs.old.graphs.items family.now) }
     requires element { element < length family.now.held.items }
-    requires some { (x : Entry) (t : ℕ) → At (entries_held first.now family.now) element x → t < length first.now.transitions → (trans_at first.now t).source ≡ x.arc.to
-        → HasSubsumer (supergraph_rules first.now second.now order.now.pairs) (entries_held first.now family.now) (next_entry first.now element x t) }
-    ensures step { IfOk result (IsStepOf (supergraph_rules first.now second.now order.now.pairs) (entries_held first.now family.now)) }
+    requires some { (x : Entry) (t : ℕ) → At (entries_held first.now (view graphs.old.graphs.items family.now)) element x → t < length first.now.transitions → (trans_at first.now t).source ≡ x.arc.to
+        → HasSubsumer (supergraph_rules first.now second.now order.now.pairs) (entries_held first.now (view graphs.old.graphs.items family.now)) (next_entry first.now element x t) }
+    requires stock { IsStock second.now graphs.old }
+    requires told { AllTold (FitsCovering second.now.states order.now.pairs graphs.old.graphs.items) told.old.told.items }
+    ensures stock { IfOk result (λ _. IsStock second.now graphs.new) }
+    ensures told { IfOk result (λ _. AllTold (FitsCovering second.now.states order.now.pairs graphs.new.graphs.items) told.new.told.items) }
+    ensures grown { IfOk result (λ _. HasGrown graphs.old.graphs.items graphs.new.graphs.items) }
+    ensures step { IfOk result (IsStepOf (supergraph_rules first.now second.now order.now.pairs) (entries_held first.now (view graphs.old.graphs.items family.now))) }
     ensures element { IfOk result (λ line. line.element ≡ element) }
 {
     let from = &family.held[element as usize];
     let out = first.outgoing(from.arc.to);
     let mut by = List::new(alloc);
     for t in out.begin..out.end {
-        let next = next_candidate(alloc, first, second, element, from, t)?;
-        by.push(coverer(order, family, &next))?;
+        let next = next_candidate(alloc, first, second, element, from, t, graphs)?;
+        by.push(coverer(order, graphs, told, family, &next))?;
     }
     Ok(StepLine { element, by })
 }
@@ -118,23 +151,31 @@ fn steps(
     first: &Auto,
     second: &Auto,
     order: &Rel,
+    graphs: &mut Graphs,
+    told: &mut Memo,
     family: &Family,
 ) -> Result<List<StepLine>, Memory>
     requires first_valid { IsAutomaton first.now }
+    requires second_valid { IsAutomaton second.now }
     requires greatest { IsGreatestForward second.now 1 order.now.pairs }
     requires order_size { order.now.size ≡ second.now.states }
-    requires whole { IsWhole first.now second.now order.now.pairs family.now }
+    requires whole { IsWhole first.now second.now order.now.pairs (view graphs.old.graphs.items family.now) }
     requires few { length family.now.held.items < 2 ^ 32 }
-    requires some { (e t : ℕ) (x : Entry) → slice_index_or family.now.live.items e false ≡ true → At (entries_held first.now family.now) e x → t < length first.now.transitions
+    requires some { (e t : ℕ) (x : Entry) → slice_index_or family.now.live.items e false ≡ true → At (entries_held first.now (view graphs.old.graphs.items family.now)) e x → t < length first.now.transitions
         → (trans_at first.now t).source ≡ x.arc.to
-        → HasSubsumer (supergraph_rules first.now second.now order.now.pairs) (entries_held first.now family.now) (next_entry first.now e x t) }
+        → HasSubsumer (supergraph_rules first.now second.now order.now.pairs) (entries_held first.now (view graphs.old.graphs.items family.now)) (next_entry first.now e x t) }
+    requires stock { IsStock second.now graphs.old }
+    requires told { AllTold (FitsCovering second.now.states order.now.pairs graphs.old.graphs.items) told.old.told.items }
+    ensures stock { IfOk result (λ _. IsStock second.now graphs.new) }
+    ensures told { IfOk result (λ _. AllTold (FitsCovering second.now.states order.now.pairs graphs.new.graphs.items) told.new.told.items) }
+    ensures grown { IfOk result (λ _. HasGrown graphs.old.graphs.items graphs.new.graphs.items) }
     ensures lines { IfOk result (λ steps. map (λ (l : StepLine). l.element) steps ≡ filter (λ e. slice_index_or family.now.live.items e false) (range_with_len 0 (length family.now.held.items))) }
-    ensures each { IfOk result (λ steps. (k : ℕ) (l : StepLine) → At steps k l → IsStepOf (supergraph_rules first.now second.now order.now.pairs) (entries_held first.now family.now) l) }
+    ensures each { IfOk result (λ steps. (k : ℕ) (l : StepLine) → At steps k l → IsStepOf (supergraph_rules first.now second.now order.now.pairs) (entries_held first.now (view graphs.old.graphs.items family.now)) l) }
 {
     let mut steps = List::new(alloc);
     for element in 0..family.held.len() as u32 {
         if family.live[element as usize] {
-            steps.push(step_line(alloc, first, second, order, family, element)?)?;
+            steps.push(step_line(alloc, first, second, order, graphs, told, family, element)?)?;
         }
     }
     Ok(steps)
@@ -146,20 +187,24 @@ pub(crate) fn closure(
     first: &Auto,
     second: &Auto,
     order: &Rel,
+    graphs: &mut Graphs,
+    told: &mut Memo,
     family: &Family,
 ) -> Result<Closure, Memory>
     requires first_valid { IsAutomaton first.now }
     requires second_valid { IsAutomaton second.now }
     requires greatest { IsGreatestForward second.now 1 order.now.pairs }
     requires order_size { order.now.size ≡ second.now.states }
-    requires whole { IsWhole first.now second.now order.now.pairs family.now }
-    requires closed { (limit : ℕ) × SearchEnds first.now second.now order.now.pairs limit (Closed (entries_held first.now family.now)) }
+    requires whole { IsWhole first.now second.now order.now.pairs (view graphs.old.graphs.items family.now) }
+    requires closed { (limit : ℕ) × SearchEnds first.now second.now order.now.pairs limit (Closed (entries_held first.now (view graphs.old.graphs.items family.now))) }
     requires few { length family.now.held.items < 2 ^ 32 }
-    ensures { IfOk result (IsEvidenceOf (supergraph_rules first.now second.now order.now.pairs) (entries_held first.now family.now)) }
+    requires stock { IsStock second.now graphs.old }
+    requires told { AllTold (FitsCovering second.now.states order.now.pairs graphs.old.graphs.items) told.old.told.items }
+    ensures { IfOk result (IsEvidenceOf (supergraph_rules first.now second.now order.now.pairs) (entries_held first.now (view graphs.old.graphs.items family.now))) }
 {
     Ok(Closure {
-        elements: elements(alloc, order, family)?,
-        cover: cover(alloc, first, second, order, family)?,
-        steps: steps(alloc, first, second, order, family)?,
+        elements: elements(alloc, order, graphs, told, family)?,
+        cover: cover(alloc, first, second, order, graphs, told, family)?,
+        steps: steps(alloc, first, second, order, graphs, told, family)?,
     })
 }

@@ -1,12 +1,18 @@
 //! The elements that have entered.
 
-ghost use Rattle.std.specs.Prelude.{◌≡◌, ◌+◌, ◌*◌, ◌^◌, ◌<◌, ◌≤◌, ℕ, [], length, MatchOption, IfOk, OnOk};
+ghost use Rattle.std.specs.Prelude.{◌≡◌, ◌+◌, ◌*◌, ◌^◌, ◌<◌, ◌≤◌, ℕ, [], ◌∷◌, ◌++◌, length, MatchOption, IfOk, OnOk};
 ghost use Rattle.graph_rows.specs.Block.{IsFormed, block_graph};
 ghost use Rattle.supergraph.specs.Stands.{with_graph};
 ghost use Rattle.evidence.specs.Tables.{numbers_at};
+ghost use Rattle.ramsey_search.specs.Graphs.{block_at};
+ghost use Rattle.ramsey_search.specs.Memo.{AllTold};
+ghost use Rattle.ramsey_search.specs.GraphPairs.{FitsCovering};
+ghost use Rattle.ramsey_search.specs.Views.{seen, view};
 ghost use Rattle.ramsey_search.specs.Kept.{FitsTogether, HasEntered, NoneSubsumes, IsFirstSubsumer};
 
+use crate::graphs::Graphs;
 use crate::meeting::{drop_subsumed, least_subsumer, still_live};
+use crate::memo::Memo;
 use crate::parts::Held;
 use auto_core::Memory;
 use bit_rel::Rel;
@@ -64,18 +70,30 @@ impl Family {
         &self.ends[self.place(from, to)]
     }
 
-    /// The least live element that subsumes the supergraph.
-    pub(crate) fn least(&self, order: &Rel, arc: &Arc, graph: &[u64]) -> Option<u32>
+    /// The least live element that subsumes the arc with the graph.
+    pub(crate) fn least(
+        &self,
+        order: &Rel,
+        graphs: &Graphs,
+        told: &mut Memo,
+        arc: &Arc,
+        graph: u32,
+    ) -> Option<u32>
         requires from { arc.now.from < self.now.states }
         requires to { arc.now.to < self.now.states }
-        requires fits { FitsTogether order.now.size self.now }
-        requires formed { IsFormed order.now.size graph.now }
-        ensures { let x = with_graph arc.now (block_graph order.now.size graph.now) in
+        requires fits { FitsTogether order.now.size (view graphs.now.graphs.items self.now) }
+        requires formed { IsFormed order.now.size (block_at graphs.now.graphs.items graph) }
+        requires told { AllTold (FitsCovering order.now.size order.now.pairs graphs.now.graphs.items) told.old.told.items }
+        ensures told { AllTold (FitsCovering order.now.size order.now.pairs graphs.now.graphs.items) told.new.told.items }
+        ensures found { let x = with_graph arc.now (block_graph order.now.size (block_at graphs.now.graphs.items graph)) in
+            let held = (view graphs.now.graphs.items self.now).held in
             let numbers = numbers_at self.now.ends.items (arc.now.from * self.now.states + arc.now.to) in
-            MatchOption result (NoneSubsumes order.now.size order.now.pairs self.now.held.items numbers x) (IsFirstSubsumer order.now.size order.now.pairs self.now.held.items numbers x) }
+            MatchOption result (NoneSubsumes order.now.size order.now.pairs held numbers x) (IsFirstSubsumer order.now.size order.now.pairs held numbers x) }
     {
         least_subsumer(
             order,
+            &graphs.graphs,
+            told,
             &self.held,
             self.between(arc.from, arc.to),
             arc,
@@ -84,17 +102,36 @@ impl Family {
     }
 
     /// The element enters and is live; those that it subsumes are dropped.
-    pub(crate) fn enter(&mut self, alloc: Global, order: &Rel, new: Held) -> Result<(), Memory>
+    pub(crate) fn enter(
+        &mut self,
+        alloc: Global,
+        order: &Rel,
+        graphs: &Graphs,
+        told: &mut Memo,
+        new: Held,
+    ) -> Result<(), Memory>
         requires from { new.arc.from < self.old.states }
         requires to { new.arc.to < self.old.states }
-        requires fits { FitsTogether order.now.size self.old }
-        requires formed { IsFormed order.now.size new.graph.items }
+        requires fits { FitsTogether order.now.size (view graphs.now.graphs.items self.old) }
+        requires formed { IsFormed order.now.size (block_at graphs.now.graphs.items new.graph) }
         requires few { length self.old.held.items < 2 ^ 32 }
-        ensures { OnOk result (HasEntered order.now.size order.now.pairs new self.old self.new) }
+        requires told { AllTold (FitsCovering order.now.size order.now.pairs graphs.now.graphs.items) told.old.told.items }
+        ensures told { AllTold (FitsCovering order.now.size order.now.pairs graphs.now.graphs.items) told.new.told.items }
+        ensures entered { OnOk result (HasEntered order.now.size order.now.pairs (seen graphs.now.graphs.items new)
+            (view graphs.now.graphs.items self.old) (view graphs.now.graphs.items self.new)) }
+        ensures held { OnOk result (self.new.held.items ≡ self.old.held.items ++ new ∷ []) }
     {
         let place = self.place(new.arc.from, new.arc.to);
         let number = self.held.len() as u32;
-        drop_subsumed(order, &self.held, &self.ends[place], &new, &mut self.live);
+        drop_subsumed(
+            order,
+            &graphs.graphs,
+            told,
+            &self.held,
+            &self.ends[place],
+            &new,
+            &mut self.live,
+        );
         let mut kept = still_live(alloc, &self.ends[place], &self.live)?;
         kept.push(number)?;
         self.ends[place] = kept;

@@ -4,7 +4,10 @@
 mod candidates;
 mod closing;
 mod family;
+mod graph_pairs;
+mod graphs;
 mod meeting;
+mod memo;
 mod pairs;
 mod parts;
 mod searching;

@@ -1,33 +1,45 @@
 //! A candidate meets the live elements that have its ends.
 
-ghost use Rattle.std.specs.Prelude.{◌≡◌, length, vec_len, MatchOption, IfOk, filter, slice_index_or, false};
+ghost use Rattle.std.specs.Prelude.{◌≡◌, length, map, vec_len, MatchOption, IfOk, filter, slice_index_or, false};
 ghost use Rattle.graph_rows.specs.Block.{IsFormed, block_graph};
 ghost use Rattle.supergraph.specs.Stands.{with_graph};
+ghost use Rattle.ramsey_search.specs.Graphs.{block_at};
+ghost use Rattle.ramsey_search.specs.Memo.{AllTold};
+ghost use Rattle.ramsey_search.specs.GraphPairs.{FitsCovering};
+ghost use Rattle.ramsey_search.specs.Views.{seen};
 ghost use Rattle.ramsey_search.specs.Kept.{AreFormed, AreThere, NoneSubsumes, IsFirstSubsumer, AreDropped, held_super};
 
+use crate::graph_pairs::subsumes;
+use crate::graphs::Graph;
+use crate::memo::Memo;
 use crate::parts::Held;
 use auto_core::Memory;
 use bit_rel::Rel;
 use std::alloc::Global;
 use supergraph::Arc;
 
-/// The first of these elements that subsumes the supergraph.
+/// The first of these elements that subsumes the arc with the graph.
 pub(crate) fn least_subsumer(
     order: &Rel,
+    graphs: &[Graph],
+    told: &mut Memo,
     held: &[Held],
     among: &[u32],
     arc: &Arc,
-    graph: &[u64],
+    graph: u32,
 ) -> Option<u32>
     requires there { AreThere among.now (length held.now) }
-    requires formed { AreFormed order.now.size held.now }
-    requires graph { IsFormed order.now.size graph.now }
-    ensures { let x = with_graph arc.now (block_graph order.now.size graph.now) in
-        MatchOption result (NoneSubsumes order.now.size order.now.pairs held.now among.now x) (IsFirstSubsumer order.now.size order.now.pairs held.now among.now x) }
+    requires formed { AreFormed order.now.size (map (seen graphs.now) held.now) }
+    requires graph { IsFormed order.now.size (block_at graphs.now graph) }
+    requires told { AllTold (FitsCovering order.now.size order.now.pairs graphs.now) told.old.told.items }
+    ensures told { AllTold (FitsCovering order.now.size order.now.pairs graphs.now) told.new.told.items }
+    ensures found { let x = with_graph arc.now (block_graph order.now.size (block_at graphs.now graph)) in
+        let held = map (seen graphs.now) held.now in
+        MatchOption result (NoneSubsumes order.now.size order.now.pairs held among.now x) (IsFirstSubsumer order.now.size order.now.pairs held among.now x) }
 {
     for number in among {
         let element = &held[*number as usize];
-        if supergraph::subsumes(order, &element.arc, &element.graph, arc, graph) {
+        if subsumes(order, graphs, told, &element.arc, element.graph, arc, graph) {
             return Some(*number);
         }
     }
@@ -37,20 +49,32 @@ pub(crate) fn least_subsumer(
 /// Drops those of these elements that the new one subsumes.
 pub(crate) fn drop_subsumed(
     order: &Rel,
+    graphs: &[Graph],
+    told: &mut Memo,
     held: &[Held],
     among: &[u32],
     new: &Held,
     live: &mut Vec<bool>,
 )
     requires there { AreThere among.now (length held.now) }
-    requires formed { AreFormed order.now.size held.now }
-    requires graph { IsFormed order.now.size new.now.graph.items }
+    requires formed { AreFormed order.now.size (map (seen graphs.now) held.now) }
+    requires graph { IsFormed order.now.size (block_at graphs.now new.now.graph) }
     requires flags { vec_len live.old ≡ length held.now }
-    ensures { AreDropped order.now.size order.now.pairs held.now among.now (held_super order.now.size new.now) live.old.items live.new.items }
+    requires told { AllTold (FitsCovering order.now.size order.now.pairs graphs.now) told.old.told.items }
+    ensures told { AllTold (FitsCovering order.now.size order.now.pairs graphs.now) told.new.told.items }
+    ensures dropped { AreDropped order.now.size order.now.pairs (map (seen graphs.now) held.now) among.now (held_super order.now.size (seen graphs.now new.now)) live.old.items live.new.items }
 {
     for number in among {
         let element = &held[*number as usize];
-        if supergraph::subsumes(order, &new.arc, &new.graph, &element.arc, &element.graph) {
+        if subsumes(
+            order,
+            graphs,
+            told,
+            &new.arc,
+            new.graph,
+            &element.arc,
+            element.graph,
+        ) {
             live[*number as usize] = false;
         }
     }

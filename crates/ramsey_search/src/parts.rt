@@ -15,12 +15,12 @@ pub enum Outcome {
     Limit(List<Origin>),
 }
 
-/// An element as it is kept: where it comes from, its arc, and the graph of its word.
-#[derive(Debug, Drop)]
+/// An element as it is kept: where it comes from, its arc, and the number of the graph of its word.
+#[derive(Clone, Copy, Debug)]
 pub(crate) struct Held {
     pub(crate) origin: Origin,
     pub(crate) arc: Arc,
-    pub(crate) graph: Vec<u64>,
+    pub(crate) graph: u32,
 }
 
 /// Whether the search goes on after a candidate.

@@ -8,11 +8,12 @@ ghost use Rattle.ramsey_search.specs.Ends.{IsOutcomeOf, IsTrueOutcome};
 
 use crate::closing::closure;
 use crate::family::Family;
+use crate::graph_pairs::GraphPairs;
+use crate::graphs::Graphs;
 use crate::parts::{Fate, Held, Outcome};
 use crate::turns::run;
 use auto_core::{Auto, Lasso, List, Memory, Origin};
 use bit_rel::Rel;
-use lasso_test::Scratch;
 use std::alloc::Global;
 use supergraph::word_of;
 
@@ -65,18 +66,24 @@ pub fn search(
     ensures truth { IfOk result (IsTrueOutcome first.now second.now order.now.pairs limit) }
 {
     let mut family = Family::new(alloc, first.states())?;
-    let mut scratch = Scratch::new(alloc, second.states())?;
+    let mut graphs = Graphs::new(alloc)?;
+    let mut answers = GraphPairs::new(alloc, second.states())?;
     let fate = run(
         alloc,
         first,
         second,
         order,
         limit,
+        &mut graphs,
         &mut family,
-        &mut scratch,
+        &mut answers,
     )?;
     match fate {
-        Fate::GoesOn => Ok(Outcome::Closed(closure(alloc, first, second, order, &family)?)),
+        Fate::GoesOn => {
+            let told = &mut answers.covers;
+            let closure = closure(alloc, first, second, order, &mut graphs, told, &family)?;
+            Ok(Outcome::Closed(closure))
+        }
         Fate::Apart(x, y) => {
             let origins = origins_of(alloc, &family.held)?;
             Ok(Outcome::Apart(lasso_of(alloc, first, origins.as_slice(), x, y)?))

@@ -1,14 +1,37 @@
 use Rattle.std.proofs.Common.{◌≡◌, ℕ, ◌<◌, List, [], ◌∷◌, ◌++◌, length, sym, ap, ◌∙◌, subst, inl, inr, arith, length-append}
 use Rattle.auto_core.specs.Automaton.{Automaton}
-use Rattle.auto_core.specs.Outcome.{At, Entry, IsLeastSubsumer, base_entry, supergraph_rules}
+use Rattle.auto_core.specs.Outcome.{At, Entry, HasSubsumer, IsLeastSubsumer, base_entry, supergraph_rules}
 use Rattle.graph_rows.specs.Block.{IsFormed}
-use Rattle.search_laws.proofs.PlaceLemmas.{at_cases}
+use Rattle.search_laws.proofs.PlaceLemmas.{at_within, at_cases}
 use Rattle.ramsey_search.specs.declared.parts.Held.{Held}
 use Rattle.ramsey_search.specs.declared.family.Family.{Family}
-use Rattle.ramsey_search.specs.Kept.{IsKept, entries_held}
+use Rattle.ramsey_search.specs.declared.graphs.Graph.{Graph}
+use Rattle.ramsey_search.specs.Graphs.{HasGrown}
+use Rattle.ramsey_search.specs.Memo.{AllTold}
+use Rattle.ramsey_search.specs.GraphPairs.{FitsCovering}
+use Rattle.ramsey_search.specs.Views.{View, seen, view}
+use Rattle.ramsey_search.specs.Kept.{IsKept, IsWhole, entries_held}
+use Rattle.ramsey_search.proofs.GraphsLemmas.{grown_none, grown_more, coverings_stay, view_stays}
 use Rattle.ramsey_search.proofs.TurnLemmas.{fits_together, base_is_candidate, candidate_in_range}
 use Rattle.ramsey_search.proofs.ClosureLemmas.{has_coverer, coverer_is_least}
 use Rattle.ramsey_search.proofs.closing.cover.Goals as goal
+
+pub loop-t-init : goal.loop-t-init
+loop-t-init c =
+    let A : Automaton = c.args.first.now in
+    let B : Automaton = c.args.second.now in
+    let S : List (ℕ × ℕ) = c.args.order.now.pairs in
+    let n : ℕ = c.args.order.now.size in
+    let f : Family = c.args.family.now in
+    let g : List Graph = c.args.graphs.now.graphs.items in
+    let old : View = view g f in
+    record {
+      stock = c.requires.stock;
+      told = c.requires.told;
+      grown = grown_none g;
+      size = ap length c.new-cover.ensures;
+      each = λ t j is. let within = at_within [] t j (subst (λ l. At l t j) c.new-cover.ensures is) in absurd (omega arith);
+    }
 
 pub coverer-requires-clause-from : goal.coverer-requires-clause-from
 coverer-requires-clause-from c =
@@ -17,16 +40,25 @@ coverer-requires-clause-from c =
     let S : List (ℕ × ℕ) = c.args.order.now.pairs in
     let n : ℕ = c.args.order.now.size in
     let f : Family = c.args.family.now in
-    let es : List Entry = entries_held A f in
+    let g : List Graph = c.args.graphs.now.graphs.items in
+    let old : View = view g f in
+    let g_mid : List Graph = c.loop-t.graphs.graphs.items in
+    let g_now : List Graph = c.base_candidate.new.graphs.graphs.items in
+    let grown : HasGrown g g_now = grown_more g g_mid g_now c.loop-t.invariant.grown c.in_ok-start.ensures.grown in
+    let initial = c.requires.second_valid.initial_is_state in
+    let same : view g_now f ≡ old = view_stays A B S g g_now f (entries_held A old) (omega arith) grown c.requires.whole in
+    let now : View = view g_now f in
+    let whole : IsWhole A B S now = subst (IsWhole A B S) (sym same) c.requires.whole in
+    let es : List Entry = entries_held A now in
     let t : ℕ = c.loop-t.t in
     let h : Held = c.in_ok-start.start in
-    let kept : IsKept B S h (base_entry A t) = c.in_ok-start.ensures S c.requires.greatest in
+    let kept : IsKept B S (seen g_now h) (base_entry A t) = c.in_ok-start.ensures.candidate S c.requires.greatest in
     let size : length c.transitions.result.now ≡ length A.transitions = ap length c.transitions.ensures.list in
     let test = c.loop-t-test.true in
     let lt : t < length A.transitions = omega arith in
-    let candidate = base_is_candidate A B S es t h lt kept in
-    let range = candidate_in_range A B S c.requires.first_valid es c.requires.whole.origins h candidate.0 in
-    subst (λ m. h.arc.from < m) (sym c.requires.whole.states) range.0
+    let candidate = base_is_candidate A B S es t (seen g_now h) lt kept in
+    let range = candidate_in_range A B S c.requires.first_valid es whole.origins (seen g_now h) candidate.0 in
+    subst (λ m. h.arc.from < m) (sym whole.states) range.0
 
 pub coverer-requires-clause-to : goal.coverer-requires-clause-to
 coverer-requires-clause-to c =
@@ -35,16 +67,25 @@ coverer-requires-clause-to c =
     let S : List (ℕ × ℕ) = c.args.order.now.pairs in
     let n : ℕ = c.args.order.now.size in
     let f : Family = c.args.family.now in
-    let es : List Entry = entries_held A f in
+    let g : List Graph = c.args.graphs.now.graphs.items in
+    let old : View = view g f in
+    let g_mid : List Graph = c.loop-t.graphs.graphs.items in
+    let g_now : List Graph = c.base_candidate.new.graphs.graphs.items in
+    let grown : HasGrown g g_now = grown_more g g_mid g_now c.loop-t.invariant.grown c.in_ok-start.ensures.grown in
+    let initial = c.requires.second_valid.initial_is_state in
+    let same : view g_now f ≡ old = view_stays A B S g g_now f (entries_held A old) (omega arith) grown c.requires.whole in
+    let now : View = view g_now f in
+    let whole : IsWhole A B S now = subst (IsWhole A B S) (sym same) c.requires.whole in
+    let es : List Entry = entries_held A now in
     let t : ℕ = c.loop-t.t in
     let h : Held = c.in_ok-start.start in
-    let kept : IsKept B S h (base_entry A t) = c.in_ok-start.ensures S c.requires.greatest in
+    let kept : IsKept B S (seen g_now h) (base_entry A t) = c.in_ok-start.ensures.candidate S c.requires.greatest in
     let size : length c.transitions.result.now ≡ length A.transitions = ap length c.transitions.ensures.list in
     let test = c.loop-t-test.true in
     let lt : t < length A.transitions = omega arith in
-    let candidate = base_is_candidate A B S es t h lt kept in
-    let range = candidate_in_range A B S c.requires.first_valid es c.requires.whole.origins h candidate.0 in
-    subst (λ m. h.arc.to < m) (sym c.requires.whole.states) range.1
+    let candidate = base_is_candidate A B S es t (seen g_now h) lt kept in
+    let range = candidate_in_range A B S c.requires.first_valid es whole.origins (seen g_now h) candidate.0 in
+    subst (λ m. h.arc.to < m) (sym whole.states) range.1
 
 pub coverer-requires-clause-fits : goal.coverer-requires-clause-fits
 coverer-requires-clause-fits c =
@@ -53,8 +94,17 @@ coverer-requires-clause-fits c =
     let S : List (ℕ × ℕ) = c.args.order.now.pairs in
     let n : ℕ = c.args.order.now.size in
     let f : Family = c.args.family.now in
-    let es : List Entry = entries_held A f in
-    fits_together A B S n f es c.requires.order_size c.requires.whole
+    let g : List Graph = c.args.graphs.now.graphs.items in
+    let old : View = view g f in
+    let g_mid : List Graph = c.loop-t.graphs.graphs.items in
+    let g_now : List Graph = c.base_candidate.new.graphs.graphs.items in
+    let grown : HasGrown g g_now = grown_more g g_mid g_now c.loop-t.invariant.grown c.in_ok-start.ensures.grown in
+    let initial = c.requires.second_valid.initial_is_state in
+    let same : view g_now f ≡ old = view_stays A B S g g_now f (entries_held A old) (omega arith) grown c.requires.whole in
+    let now : View = view g_now f in
+    let whole : IsWhole A B S now = subst (IsWhole A B S) (sym same) c.requires.whole in
+    let es : List Entry = entries_held A now in
+    fits_together A B S n now es c.requires.order_size whole
 
 pub coverer-requires-clause-formed : goal.coverer-requires-clause-formed
 coverer-requires-clause-formed c =
@@ -63,16 +113,25 @@ coverer-requires-clause-formed c =
     let S : List (ℕ × ℕ) = c.args.order.now.pairs in
     let n : ℕ = c.args.order.now.size in
     let f : Family = c.args.family.now in
-    let es : List Entry = entries_held A f in
+    let g : List Graph = c.args.graphs.now.graphs.items in
+    let old : View = view g f in
+    let g_mid : List Graph = c.loop-t.graphs.graphs.items in
+    let g_now : List Graph = c.base_candidate.new.graphs.graphs.items in
+    let grown : HasGrown g g_now = grown_more g g_mid g_now c.loop-t.invariant.grown c.in_ok-start.ensures.grown in
+    let initial = c.requires.second_valid.initial_is_state in
+    let same : view g_now f ≡ old = view_stays A B S g g_now f (entries_held A old) (omega arith) grown c.requires.whole in
+    let now : View = view g_now f in
+    let whole : IsWhole A B S now = subst (IsWhole A B S) (sym same) c.requires.whole in
+    let es : List Entry = entries_held A now in
     let t : ℕ = c.loop-t.t in
     let h : Held = c.in_ok-start.start in
-    let kept : IsKept B S h (base_entry A t) = c.in_ok-start.ensures S c.requires.greatest in
+    let kept : IsKept B S (seen g_now h) (base_entry A t) = c.in_ok-start.ensures.candidate S c.requires.greatest in
     let size : length c.transitions.result.now ≡ length A.transitions = ap length c.transitions.ensures.list in
     let test = c.loop-t-test.true in
     let lt : t < length A.transitions = omega arith in
-    let candidate = base_is_candidate A B S es t h lt kept in
-    let range = candidate_in_range A B S c.requires.first_valid es c.requires.whole.origins h candidate.0 in
-    subst (λ m. IsFormed m h.graph.items) (sym c.requires.order_size) kept.formed
+    let candidate = base_is_candidate A B S es t (seen g_now h) lt kept in
+    let range = candidate_in_range A B S c.requires.first_valid es whole.origins (seen g_now h) candidate.0 in
+    subst (λ m. IsFormed m (seen g_now h).graph) (sym c.requires.order_size) kept.formed
 
 pub coverer-requires-clause-some : goal.coverer-requires-clause-some
 coverer-requires-clause-some c =
@@ -81,16 +140,46 @@ coverer-requires-clause-some c =
     let S : List (ℕ × ℕ) = c.args.order.now.pairs in
     let n : ℕ = c.args.order.now.size in
     let f : Family = c.args.family.now in
-    let es : List Entry = entries_held A f in
+    let g : List Graph = c.args.graphs.now.graphs.items in
+    let old : View = view g f in
+    let g_mid : List Graph = c.loop-t.graphs.graphs.items in
+    let g_now : List Graph = c.base_candidate.new.graphs.graphs.items in
+    let grown : HasGrown g g_now = grown_more g g_mid g_now c.loop-t.invariant.grown c.in_ok-start.ensures.grown in
+    let initial = c.requires.second_valid.initial_is_state in
+    let same : view g_now f ≡ old = view_stays A B S g g_now f (entries_held A old) (omega arith) grown c.requires.whole in
+    let now : View = view g_now f in
+    let whole : IsWhole A B S now = subst (IsWhole A B S) (sym same) c.requires.whole in
+    let es : List Entry = entries_held A now in
     let t : ℕ = c.loop-t.t in
     let h : Held = c.in_ok-start.start in
-    let kept : IsKept B S h (base_entry A t) = c.in_ok-start.ensures S c.requires.greatest in
+    let kept : IsKept B S (seen g_now h) (base_entry A t) = c.in_ok-start.ensures.candidate S c.requires.greatest in
     let size : length c.transitions.result.now ≡ length A.transitions = ap length c.transitions.ensures.list in
     let test = c.loop-t-test.true in
     let lt : t < length A.transitions = omega arith in
-    let candidate = base_is_candidate A B S es t h lt kept in
-    let range = candidate_in_range A B S c.requires.first_valid es c.requires.whole.origins h candidate.0 in
-    has_coverer A B S c.requires.greatest n c.requires.order_size f es c.requires.whole h (base_entry A t) kept range.0 range.1 (c.requires.some t lt)
+    let candidate = base_is_candidate A B S es t (seen g_now h) lt kept in
+    let range = candidate_in_range A B S c.requires.first_valid es whole.origins (seen g_now h) candidate.0 in
+    has_coverer A B S c.requires.greatest n c.requires.order_size now es whole (seen g_now h) (base_entry A t) kept range.0 range.1
+    (subst (λ v. HasSubsumer (supergraph_rules A B S) (entries_held A v) (base_entry A t)) (sym same) (c.requires.some t lt))
+
+pub coverer-requires-clause-told : goal.coverer-requires-clause-told
+coverer-requires-clause-told c =
+    let A : Automaton = c.args.first.now in
+    let B : Automaton = c.args.second.now in
+    let S : List (ℕ × ℕ) = c.args.order.now.pairs in
+    let n : ℕ = c.args.order.now.size in
+    let f : Family = c.args.family.now in
+    let g : List Graph = c.args.graphs.now.graphs.items in
+    let old : View = view g f in
+    let g_mid : List Graph = c.loop-t.graphs.graphs.items in
+    let g_now : List Graph = c.base_candidate.new.graphs.graphs.items in
+    let grown : HasGrown g g_now = grown_more g g_mid g_now c.loop-t.invariant.grown c.in_ok-start.ensures.grown in
+    let initial = c.requires.second_valid.initial_is_state in
+    let same : view g_now f ≡ old = view_stays A B S g g_now f (entries_held A old) (omega arith) grown c.requires.whole in
+    let now : View = view g_now f in
+    let whole : IsWhole A B S now = subst (IsWhole A B S) (sym same) c.requires.whole in
+    let es : List Entry = entries_held A now in
+    subst (λ m. AllTold (FitsCovering m S g_now) c.loop-t.told.told.items) (sym c.requires.order_size)
+    (coverings_stay g_mid g_now c.in_ok-start.ensures.grown B.states S c.loop-t.told.told.items c.loop-t.invariant.told)
 
 pub loop-t-preserved : goal.loop-t-preserved
 loop-t-preserved c =
@@ -99,26 +188,41 @@ loop-t-preserved c =
     let S : List (ℕ × ℕ) = c.args.order.now.pairs in
     let n : ℕ = c.args.order.now.size in
     let f : Family = c.args.family.now in
-    let es : List Entry = entries_held A f in
+    let g : List Graph = c.args.graphs.now.graphs.items in
+    let old : View = view g f in
+    let g_mid : List Graph = c.loop-t.graphs.graphs.items in
+    let g_now : List Graph = c.base_candidate.new.graphs.graphs.items in
+    let grown : HasGrown g g_now = grown_more g g_mid g_now c.loop-t.invariant.grown c.in_ok-start.ensures.grown in
+    let initial = c.requires.second_valid.initial_is_state in
+    let same : view g_now f ≡ old = view_stays A B S g g_now f (entries_held A old) (omega arith) grown c.requires.whole in
+    let now : View = view g_now f in
+    let whole : IsWhole A B S now = subst (IsWhole A B S) (sym same) c.requires.whole in
+    let es : List Entry = entries_held A now in
     let t : ℕ = c.loop-t.t in
     let h : Held = c.in_ok-start.start in
-    let kept : IsKept B S h (base_entry A t) = c.in_ok-start.ensures S c.requires.greatest in
+    let kept : IsKept B S (seen g_now h) (base_entry A t) = c.in_ok-start.ensures.candidate S c.requires.greatest in
     let size : length c.transitions.result.now ≡ length A.transitions = ap length c.transitions.ensures.list in
     let test = c.loop-t-test.true in
     let lt : t < length A.transitions = omega arith in
-    let candidate = base_is_candidate A B S es t h lt kept in
-    let range = candidate_in_range A B S c.requires.first_valid es c.requires.whole.origins h candidate.0 in
+    let candidate = base_is_candidate A B S es t (seen g_now h) lt kept in
+    let range = candidate_in_range A B S c.requires.first_valid es whole.origins (seen g_now h) candidate.0 in
     let pushed : c.push.new.self ≡ c.loop-t.cover ++ c.coverer.result ∷ [] = c.in_ok-push.ensures.ok in
-    let least = coverer_is_least A B S c.requires.greatest n c.requires.order_size f es c.requires.whole h (base_entry A t) kept range.0 range.1 c.coverer.result c.coverer.ensures in
+    let found : IsLeastSubsumer (supergraph_rules A B S) es (base_entry A t) c.coverer.result =
+    coverer_is_least A B S c.requires.greatest n c.requires.order_size now es whole (seen g_now h) (base_entry A t) kept range.0 range.1 c.coverer.result c.coverer.ensures.coverer in
+    let least : IsLeastSubsumer (supergraph_rules A B S) (entries_held A old) (base_entry A t) c.coverer.result =
+    subst (λ v. IsLeastSubsumer (supergraph_rules A B S) (entries_held A v) (base_entry A t) c.coverer.result) same found in
     let was : length c.loop-t.cover ≡ t = c.loop-t.invariant.size in
     let more = length-append c.loop-t.cover (c.coverer.result ∷ []) in
     let total = ap length pushed in
     record {
+      stock = c.in_ok-start.ensures.stock;
+      told = subst (λ m. AllTold (FitsCovering m S g_now) c.coverer.new.told.told.items) c.requires.order_size c.coverer.ensures.told;
+      grown = grown;
       size = omega arith;
       each = λ k j is. elim (at_cases c.loop-t.cover c.coverer.result k j (subst (λ l. At l k j) pushed is)) [
-        | inl old ↦ c.loop-t.invariant.each k j old
+        | inl before ↦ c.loop-t.invariant.each k j before
         | inr new ↦
-            subst (λ m. IsLeastSubsumer (supergraph_rules A B S) es (base_entry A m) j) (sym (new.0 ∙ was))
-            (subst (λ m. IsLeastSubsumer (supergraph_rules A B S) es (base_entry A t) m) (sym new.1) least)
+            subst (λ m. IsLeastSubsumer (supergraph_rules A B S) (entries_held A old) (base_entry A m) j) (sym (new.0 ∙ was))
+            (subst (λ m. IsLeastSubsumer (supergraph_rules A B S) (entries_held A old) (base_entry A t) m) (sym new.1) least)
       ];
     }

@@ -1,5 +1,11 @@
+use Rattle.ramsey_search.specs.Memo.{AllTold}
+use Rattle.ramsey_search.specs.GraphPairs.{FitsCovering}
+use Rattle.ramsey_search.specs.Views.{view}
 use Rattle.ramsey_search.specs.Marks.{AreMarked}
 use Rattle.ramsey_search.proofs.closing.elements.Given as goal
 
 abbrev pub invariant-loop-number : goal.invariant-loop-number
-invariant-loop-number l = AreMarked l.order.size l.order.pairs l.family l.number l.elements
+invariant-loop-number l = record {
+  told : AllTold (FitsCovering l.order.size l.order.pairs l.graphs.graphs.items) l.told.told.items;
+  marked : AreMarked l.order.size l.order.pairs (view l.graphs.graphs.items l.family) l.number l.elements;
+}

@@ -1,16 +1,23 @@
 use Rattle.std.proofs.Common.{◌≡◌, ℕ, ◌+◌, ◌<◌, ◌≤◌, List, [], ◌∷◌, ◌++◌, length, refl, sym, ap, ◌∙◌, subst, inl, inr, arith, length-append}
 use Rattle.auto_core.specs.Automaton.{Automaton, trans_at, IsOutgoing}
 use Rattle.auto_core.specs.Graph.{WordArc}
-use Rattle.auto_core.specs.Outcome.{At, Entry, IsLeastSubsumer, next_entry, supergraph_rules}
+use Rattle.auto_core.specs.Outcome.{At, Entry, HasSubsumer, IsLeastSubsumer, next_entry, supergraph_rules}
 use Rattle.graph_rows.specs.Block.{IsFormed}
 use Rattle.cert_text.specs.declared.types.StepLine.{StepLine}
-use Rattle.search_laws.proofs.PlaceLemmas.{at_same, at_within, at_some, at_cases}
+use Rattle.search_laws.proofs.PlaceLemmas.{at_same, at_within, at_cases}
 use Rattle.ramsey_search.specs.declared.parts.Held.{Held}
 use Rattle.ramsey_search.specs.declared.family.Family.{Family}
-use Rattle.ramsey_search.specs.Kept.{IsKept, entries_held}
+use Rattle.ramsey_search.specs.declared.graphs.Graph.{Graph}
+use Rattle.ramsey_search.specs.Graphs.{HasGrown}
+use Rattle.ramsey_search.specs.Memo.{AllTold}
+use Rattle.ramsey_search.specs.GraphPairs.{FitsCovering}
+use Rattle.ramsey_search.specs.Views.{View, seen, view}
+use Rattle.ramsey_search.specs.Kept.{IsKept, IsWhole, entries_held}
 use Rattle.evidence.proofs.ListLemmas.{read_at}
-use Rattle.ramsey_search.proofs.TurnLemmas.{held_in_range, fits_together, next_is_candidate, candidate_in_range}
 use Rattle.evidence.proofs.StepLemmas.{step_is}
+use Rattle.ramsey_search.proofs.GraphsLemmas.{grown_none, grown_more, coverings_stay, view_stays}
+use Rattle.ramsey_search.proofs.SeenLemmas.{entry_at, held_stands}
+use Rattle.ramsey_search.proofs.TurnLemmas.{held_in_range, fits_together, next_is_candidate, candidate_in_range}
 use Rattle.ramsey_search.proofs.ClosureLemmas.{has_coverer, coverer_is_least}
 use Rattle.ramsey_search.proofs.closing.step_line.Goals as goal
 
@@ -21,22 +28,31 @@ outgoing-out-requires c =
     let S : List (ℕ × ℕ) = c.args.order.now.pairs in
     let n : ℕ = c.args.order.now.size in
     let f : Family = c.args.family.now in
-    let es : List Entry = entries_held A f in
+    let g : List Graph = c.args.graphs.now.graphs.items in
+    let old : View = view g f in
     let e : ℕ = c.args.element in
     let from : Held = c.index-from.result.now in
-    let from_in : e < length f.held.items = c.requires.element in
-    let from_is : At f.held.items e from = read_at f.held.items e from from from_in c.index-from.ensures in
-    let size : length f.held.items ≡ length es = c.requires.whole.size in
-    let some_x = at_some es e (omega arith) in
+    let from_is : At f.held.items e from = read_at f.held.items e from from c.requires.element c.index-from.ensures in
+    let some_x = entry_at A B S g f c.requires.whole e c.requires.element in
     let x : Entry = some_x.0 in
-    let x_is : At es e x = some_x.1 in
-    let from_kept : IsKept B S from x = c.requires.whole.kept e from x from_is x_is in
+    let x_is : At (entries_held A old) e x = some_x.1 in
+    let from_kept : IsKept B S (seen g from) x = held_stands A B S g f c.requires.whole e from x from_is x_is in
     let to : from.arc.to ≡ x.arc.to = ap (λ (a : WordArc). a.to) from_kept.arc in
-    (held_in_range A B S c.requires.first_valid es c.requires.whole.origins e x from x_is from_kept).1
+    (held_in_range A B S c.requires.first_valid (entries_held A old) c.requires.whole.origins e x (seen g from) x_is from_kept).1
 
 pub loop-t-init : goal.loop-t-init
 loop-t-init c =
+    let A : Automaton = c.args.first.now in
+    let B : Automaton = c.args.second.now in
+    let S : List (ℕ × ℕ) = c.args.order.now.pairs in
+    let n : ℕ = c.args.order.now.size in
+    let f : Family = c.args.family.now in
+    let g : List Graph = c.args.graphs.now.graphs.items in
+    let old : View = view g f in
     record {
+      stock = c.requires.stock;
+      told = c.requires.told;
+      grown = grown_none g;
       size = (let e : c.outgoing-out.result.begin + 0 ≡ c.outgoing-out.result.begin = omega arith in ap (λ l. c.outgoing-out.result.begin + length l) c.new-by.ensures ∙ e);
       each = λ k j x is x_is. let within = at_within [] k j (subst (λ l. At l k j) c.new-by.ensures is) in absurd (omega arith);
     }
@@ -48,18 +64,24 @@ next_candidate-requires-clause-formed c =
     let S : List (ℕ × ℕ) = c.args.order.now.pairs in
     let n : ℕ = c.args.order.now.size in
     let f : Family = c.args.family.now in
-    let es : List Entry = entries_held A f in
+    let g : List Graph = c.args.graphs.now.graphs.items in
+    let old : View = view g f in
     let e : ℕ = c.args.element in
     let from : Held = c.index-from.result.now in
-    let from_in : e < length f.held.items = c.requires.element in
-    let from_is : At f.held.items e from = read_at f.held.items e from from from_in c.index-from.ensures in
-    let size : length f.held.items ≡ length es = c.requires.whole.size in
-    let some_x = at_some es e (omega arith) in
+    let from_is : At f.held.items e from = read_at f.held.items e from from c.requires.element c.index-from.ensures in
+    let some_x = entry_at A B S g f c.requires.whole e c.requires.element in
     let x : Entry = some_x.0 in
-    let x_is : At es e x = some_x.1 in
-    let from_kept : IsKept B S from x = c.requires.whole.kept e from x from_is x_is in
+    let x_is : At (entries_held A old) e x = some_x.1 in
+    let from_kept : IsKept B S (seen g from) x = held_stands A B S g f c.requires.whole e from x from_is x_is in
     let to : from.arc.to ≡ x.arc.to = ap (λ (a : WordArc). a.to) from_kept.arc in
-    from_kept.formed
+    let g_mid : List Graph = c.loop-t.graphs.graphs.items in
+    let initial = c.requires.second_valid.initial_is_state in
+    let mid : View = view g_mid f in
+    let mid_same : mid ≡ old = view_stays A B S g g_mid f (entries_held A old) (omega arith) c.loop-t.invariant.grown c.requires.whole in
+    let mid_whole : IsWhole A B S mid = subst (IsWhole A B S) (sym mid_same) c.requires.whole in
+    let mid_is : At (entries_held A mid) e x = subst (λ v. At (entries_held A v) e x) (sym mid_same) x_is in
+    let mid_kept : IsKept B S (seen g_mid from) x = held_stands A B S g_mid f mid_whole e from x from_is mid_is in
+    mid_kept.formed
 
 pub coverer-requires-clause-from : goal.coverer-requires-clause-from
 coverer-requires-clause-from c =
@@ -68,17 +90,29 @@ coverer-requires-clause-from c =
     let S : List (ℕ × ℕ) = c.args.order.now.pairs in
     let n : ℕ = c.args.order.now.size in
     let f : Family = c.args.family.now in
-    let es : List Entry = entries_held A f in
+    let g : List Graph = c.args.graphs.now.graphs.items in
+    let old : View = view g f in
     let e : ℕ = c.args.element in
     let from : Held = c.index-from.result.now in
-    let from_in : e < length f.held.items = c.requires.element in
-    let from_is : At f.held.items e from = read_at f.held.items e from from from_in c.index-from.ensures in
-    let size : length f.held.items ≡ length es = c.requires.whole.size in
-    let some_x = at_some es e (omega arith) in
+    let from_is : At f.held.items e from = read_at f.held.items e from from c.requires.element c.index-from.ensures in
+    let some_x = entry_at A B S g f c.requires.whole e c.requires.element in
     let x : Entry = some_x.0 in
-    let x_is : At es e x = some_x.1 in
-    let from_kept : IsKept B S from x = c.requires.whole.kept e from x from_is x_is in
+    let x_is : At (entries_held A old) e x = some_x.1 in
+    let from_kept : IsKept B S (seen g from) x = held_stands A B S g f c.requires.whole e from x from_is x_is in
     let to : from.arc.to ≡ x.arc.to = ap (λ (a : WordArc). a.to) from_kept.arc in
+    let g_mid : List Graph = c.loop-t.graphs.graphs.items in
+    let g_now : List Graph = c.next_candidate.new.graphs.graphs.items in
+    let grown : HasGrown g g_now = grown_more g g_mid g_now c.loop-t.invariant.grown c.in_ok-next.ensures.grown in
+    let initial = c.requires.second_valid.initial_is_state in
+    let same : view g_now f ≡ old = view_stays A B S g g_now f (entries_held A old) (omega arith) grown c.requires.whole in
+    let now : View = view g_now f in
+    let whole : IsWhole A B S now = subst (IsWhole A B S) (sym same) c.requires.whole in
+    let es : List Entry = entries_held A now in
+    let mid : View = view g_mid f in
+    let mid_same : mid ≡ old = view_stays A B S g g_mid f (entries_held A old) (omega arith) c.loop-t.invariant.grown c.requires.whole in
+    let mid_whole : IsWhole A B S mid = subst (IsWhole A B S) (sym mid_same) c.requires.whole in
+    let mid_is : At (entries_held A mid) e x = subst (λ v. At (entries_held A v) e x) (sym mid_same) x_is in
+    let mid_kept : IsKept B S (seen g_mid from) x = held_stands A B S g_mid f mid_whole e from x from_is mid_is in
     let t : ℕ = c.loop-t.t in
     let end : ℕ = c.outgoing-out.result.end in
     let begin : ℕ = c.outgoing-out.result.begin in
@@ -88,10 +122,11 @@ coverer-requires-clause-from c =
     let most : end ≤ length A.transitions = c.outgoing-out.ensures.range.within in
     let lt : t < length A.transitions = omega arith in
     let h : Held = c.in_ok-next.next in
-    let kept : IsKept B S h (next_entry A e x t) = c.in_ok-next.ensures S x c.requires.greatest from_kept in
-    let candidate = next_is_candidate A B S es e t x h x_is lt (source ∙ to) kept in
-    let range = candidate_in_range A B S c.requires.first_valid es c.requires.whole.origins h candidate.0 in
-    subst (λ m. h.arc.from < m) (sym c.requires.whole.states) range.0
+    let kept : IsKept B S (seen g_now h) (next_entry A e x t) = c.in_ok-next.ensures.candidate S x c.requires.greatest mid_kept in
+    let now_is : At es e x = subst (λ v. At (entries_held A v) e x) (sym same) x_is in
+    let candidate = next_is_candidate A B S es e t x (seen g_now h) now_is lt (source ∙ to) kept in
+    let range = candidate_in_range A B S c.requires.first_valid es whole.origins (seen g_now h) candidate.0 in
+    subst (λ m. h.arc.from < m) (sym whole.states) range.0
 
 pub coverer-requires-clause-to : goal.coverer-requires-clause-to
 coverer-requires-clause-to c =
@@ -100,17 +135,29 @@ coverer-requires-clause-to c =
     let S : List (ℕ × ℕ) = c.args.order.now.pairs in
     let n : ℕ = c.args.order.now.size in
     let f : Family = c.args.family.now in
-    let es : List Entry = entries_held A f in
+    let g : List Graph = c.args.graphs.now.graphs.items in
+    let old : View = view g f in
     let e : ℕ = c.args.element in
     let from : Held = c.index-from.result.now in
-    let from_in : e < length f.held.items = c.requires.element in
-    let from_is : At f.held.items e from = read_at f.held.items e from from from_in c.index-from.ensures in
-    let size : length f.held.items ≡ length es = c.requires.whole.size in
-    let some_x = at_some es e (omega arith) in
+    let from_is : At f.held.items e from = read_at f.held.items e from from c.requires.element c.index-from.ensures in
+    let some_x = entry_at A B S g f c.requires.whole e c.requires.element in
     let x : Entry = some_x.0 in
-    let x_is : At es e x = some_x.1 in
-    let from_kept : IsKept B S from x = c.requires.whole.kept e from x from_is x_is in
+    let x_is : At (entries_held A old) e x = some_x.1 in
+    let from_kept : IsKept B S (seen g from) x = held_stands A B S g f c.requires.whole e from x from_is x_is in
     let to : from.arc.to ≡ x.arc.to = ap (λ (a : WordArc). a.to) from_kept.arc in
+    let g_mid : List Graph = c.loop-t.graphs.graphs.items in
+    let g_now : List Graph = c.next_candidate.new.graphs.graphs.items in
+    let grown : HasGrown g g_now = grown_more g g_mid g_now c.loop-t.invariant.grown c.in_ok-next.ensures.grown in
+    let initial = c.requires.second_valid.initial_is_state in
+    let same : view g_now f ≡ old = view_stays A B S g g_now f (entries_held A old) (omega arith) grown c.requires.whole in
+    let now : View = view g_now f in
+    let whole : IsWhole A B S now = subst (IsWhole A B S) (sym same) c.requires.whole in
+    let es : List Entry = entries_held A now in
+    let mid : View = view g_mid f in
+    let mid_same : mid ≡ old = view_stays A B S g g_mid f (entries_held A old) (omega arith) c.loop-t.invariant.grown c.requires.whole in
+    let mid_whole : IsWhole A B S mid = subst (IsWhole A B S) (sym mid_same) c.requires.whole in
+    let mid_is : At (entries_held A mid) e x = subst (λ v. At (entries_held A v) e x) (sym mid_same) x_is in
+    let mid_kept : IsKept B S (seen g_mid from) x = held_stands A B S g_mid f mid_whole e from x from_is mid_is in
     let t : ℕ = c.loop-t.t in
     let end : ℕ = c.outgoing-out.result.end in
     let begin : ℕ = c.outgoing-out.result.begin in
@@ -120,14 +167,38 @@ coverer-requires-clause-to c =
     let most : end ≤ length A.transitions = c.outgoing-out.ensures.range.within in
     let lt : t < length A.transitions = omega arith in
     let h : Held = c.in_ok-next.next in
-    let kept : IsKept B S h (next_entry A e x t) = c.in_ok-next.ensures S x c.requires.greatest from_kept in
-    let candidate = next_is_candidate A B S es e t x h x_is lt (source ∙ to) kept in
-    let range = candidate_in_range A B S c.requires.first_valid es c.requires.whole.origins h candidate.0 in
-    subst (λ m. h.arc.to < m) (sym c.requires.whole.states) range.1
+    let kept : IsKept B S (seen g_now h) (next_entry A e x t) = c.in_ok-next.ensures.candidate S x c.requires.greatest mid_kept in
+    let now_is : At es e x = subst (λ v. At (entries_held A v) e x) (sym same) x_is in
+    let candidate = next_is_candidate A B S es e t x (seen g_now h) now_is lt (source ∙ to) kept in
+    let range = candidate_in_range A B S c.requires.first_valid es whole.origins (seen g_now h) candidate.0 in
+    subst (λ m. h.arc.to < m) (sym whole.states) range.1
 
 pub coverer-requires-clause-fits : goal.coverer-requires-clause-fits
 coverer-requires-clause-fits c =
-    fits_together c.args.first.now c.args.second.now c.args.order.now.pairs c.args.order.now.size c.args.family.now (entries_held c.args.first.now c.args.family.now) c.requires.order_size c.requires.whole
+    let A : Automaton = c.args.first.now in
+    let B : Automaton = c.args.second.now in
+    let S : List (ℕ × ℕ) = c.args.order.now.pairs in
+    let n : ℕ = c.args.order.now.size in
+    let f : Family = c.args.family.now in
+    let g : List Graph = c.args.graphs.now.graphs.items in
+    let old : View = view g f in
+    let e : ℕ = c.args.element in
+    let from : Held = c.index-from.result.now in
+    let from_is : At f.held.items e from = read_at f.held.items e from from c.requires.element c.index-from.ensures in
+    let some_x = entry_at A B S g f c.requires.whole e c.requires.element in
+    let x : Entry = some_x.0 in
+    let x_is : At (entries_held A old) e x = some_x.1 in
+    let from_kept : IsKept B S (seen g from) x = held_stands A B S g f c.requires.whole e from x from_is x_is in
+    let to : from.arc.to ≡ x.arc.to = ap (λ (a : WordArc). a.to) from_kept.arc in
+    let g_mid : List Graph = c.loop-t.graphs.graphs.items in
+    let g_now : List Graph = c.next_candidate.new.graphs.graphs.items in
+    let grown : HasGrown g g_now = grown_more g g_mid g_now c.loop-t.invariant.grown c.in_ok-next.ensures.grown in
+    let initial = c.requires.second_valid.initial_is_state in
+    let same : view g_now f ≡ old = view_stays A B S g g_now f (entries_held A old) (omega arith) grown c.requires.whole in
+    let now : View = view g_now f in
+    let whole : IsWhole A B S now = subst (IsWhole A B S) (sym same) c.requires.whole in
+    let es : List Entry = entries_held A now in
+    fits_together A B S n now es c.requires.order_size whole
 
 pub coverer-requires-clause-formed : goal.coverer-requires-clause-formed
 coverer-requires-clause-formed c =
@@ -136,17 +207,29 @@ coverer-requires-clause-formed c =
     let S : List (ℕ × ℕ) = c.args.order.now.pairs in
     let n : ℕ = c.args.order.now.size in
     let f : Family = c.args.family.now in
-    let es : List Entry = entries_held A f in
+    let g : List Graph = c.args.graphs.now.graphs.items in
+    let old : View = view g f in
     let e : ℕ = c.args.element in
     let from : Held = c.index-from.result.now in
-    let from_in : e < length f.held.items = c.requires.element in
-    let from_is : At f.held.items e from = read_at f.held.items e from from from_in c.index-from.ensures in
-    let size : length f.held.items ≡ length es = c.requires.whole.size in
-    let some_x = at_some es e (omega arith) in
+    let from_is : At f.held.items e from = read_at f.held.items e from from c.requires.element c.index-from.ensures in
+    let some_x = entry_at A B S g f c.requires.whole e c.requires.element in
     let x : Entry = some_x.0 in
-    let x_is : At es e x = some_x.1 in
-    let from_kept : IsKept B S from x = c.requires.whole.kept e from x from_is x_is in
+    let x_is : At (entries_held A old) e x = some_x.1 in
+    let from_kept : IsKept B S (seen g from) x = held_stands A B S g f c.requires.whole e from x from_is x_is in
     let to : from.arc.to ≡ x.arc.to = ap (λ (a : WordArc). a.to) from_kept.arc in
+    let g_mid : List Graph = c.loop-t.graphs.graphs.items in
+    let g_now : List Graph = c.next_candidate.new.graphs.graphs.items in
+    let grown : HasGrown g g_now = grown_more g g_mid g_now c.loop-t.invariant.grown c.in_ok-next.ensures.grown in
+    let initial = c.requires.second_valid.initial_is_state in
+    let same : view g_now f ≡ old = view_stays A B S g g_now f (entries_held A old) (omega arith) grown c.requires.whole in
+    let now : View = view g_now f in
+    let whole : IsWhole A B S now = subst (IsWhole A B S) (sym same) c.requires.whole in
+    let es : List Entry = entries_held A now in
+    let mid : View = view g_mid f in
+    let mid_same : mid ≡ old = view_stays A B S g g_mid f (entries_held A old) (omega arith) c.loop-t.invariant.grown c.requires.whole in
+    let mid_whole : IsWhole A B S mid = subst (IsWhole A B S) (sym mid_same) c.requires.whole in
+    let mid_is : At (entries_held A mid) e x = subst (λ v. At (entries_held A v) e x) (sym mid_same) x_is in
+    let mid_kept : IsKept B S (seen g_mid from) x = held_stands A B S g_mid f mid_whole e from x from_is mid_is in
     let t : ℕ = c.loop-t.t in
     let end : ℕ = c.outgoing-out.result.end in
     let begin : ℕ = c.outgoing-out.result.begin in
@@ -156,10 +239,11 @@ coverer-requires-clause-formed c =
     let most : end ≤ length A.transitions = c.outgoing-out.ensures.range.within in
     let lt : t < length A.transitions = omega arith in
     let h : Held = c.in_ok-next.next in
-    let kept : IsKept B S h (next_entry A e x t) = c.in_ok-next.ensures S x c.requires.greatest from_kept in
-    let candidate = next_is_candidate A B S es e t x h x_is lt (source ∙ to) kept in
-    let range = candidate_in_range A B S c.requires.first_valid es c.requires.whole.origins h candidate.0 in
-    subst (λ m. IsFormed m h.graph.items) (sym c.requires.order_size) kept.formed
+    let kept : IsKept B S (seen g_now h) (next_entry A e x t) = c.in_ok-next.ensures.candidate S x c.requires.greatest mid_kept in
+    let now_is : At es e x = subst (λ v. At (entries_held A v) e x) (sym same) x_is in
+    let candidate = next_is_candidate A B S es e t x (seen g_now h) now_is lt (source ∙ to) kept in
+    let range = candidate_in_range A B S c.requires.first_valid es whole.origins (seen g_now h) candidate.0 in
+    subst (λ m. IsFormed m (seen g_now h).graph) (sym c.requires.order_size) kept.formed
 
 pub coverer-requires-clause-some : goal.coverer-requires-clause-some
 coverer-requires-clause-some c =
@@ -168,17 +252,29 @@ coverer-requires-clause-some c =
     let S : List (ℕ × ℕ) = c.args.order.now.pairs in
     let n : ℕ = c.args.order.now.size in
     let f : Family = c.args.family.now in
-    let es : List Entry = entries_held A f in
+    let g : List Graph = c.args.graphs.now.graphs.items in
+    let old : View = view g f in
     let e : ℕ = c.args.element in
     let from : Held = c.index-from.result.now in
-    let from_in : e < length f.held.items = c.requires.element in
-    let from_is : At f.held.items e from = read_at f.held.items e from from from_in c.index-from.ensures in
-    let size : length f.held.items ≡ length es = c.requires.whole.size in
-    let some_x = at_some es e (omega arith) in
+    let from_is : At f.held.items e from = read_at f.held.items e from from c.requires.element c.index-from.ensures in
+    let some_x = entry_at A B S g f c.requires.whole e c.requires.element in
     let x : Entry = some_x.0 in
-    let x_is : At es e x = some_x.1 in
-    let from_kept : IsKept B S from x = c.requires.whole.kept e from x from_is x_is in
+    let x_is : At (entries_held A old) e x = some_x.1 in
+    let from_kept : IsKept B S (seen g from) x = held_stands A B S g f c.requires.whole e from x from_is x_is in
     let to : from.arc.to ≡ x.arc.to = ap (λ (a : WordArc). a.to) from_kept.arc in
+    let g_mid : List Graph = c.loop-t.graphs.graphs.items in
+    let g_now : List Graph = c.next_candidate.new.graphs.graphs.items in
+    let grown : HasGrown g g_now = grown_more g g_mid g_now c.loop-t.invariant.grown c.in_ok-next.ensures.grown in
+    let initial = c.requires.second_valid.initial_is_state in
+    let same : view g_now f ≡ old = view_stays A B S g g_now f (entries_held A old) (omega arith) grown c.requires.whole in
+    let now : View = view g_now f in
+    let whole : IsWhole A B S now = subst (IsWhole A B S) (sym same) c.requires.whole in
+    let es : List Entry = entries_held A now in
+    let mid : View = view g_mid f in
+    let mid_same : mid ≡ old = view_stays A B S g g_mid f (entries_held A old) (omega arith) c.loop-t.invariant.grown c.requires.whole in
+    let mid_whole : IsWhole A B S mid = subst (IsWhole A B S) (sym mid_same) c.requires.whole in
+    let mid_is : At (entries_held A mid) e x = subst (λ v. At (entries_held A v) e x) (sym mid_same) x_is in
+    let mid_kept : IsKept B S (seen g_mid from) x = held_stands A B S g_mid f mid_whole e from x from_is mid_is in
     let t : ℕ = c.loop-t.t in
     let end : ℕ = c.outgoing-out.result.end in
     let begin : ℕ = c.outgoing-out.result.begin in
@@ -188,10 +284,40 @@ coverer-requires-clause-some c =
     let most : end ≤ length A.transitions = c.outgoing-out.ensures.range.within in
     let lt : t < length A.transitions = omega arith in
     let h : Held = c.in_ok-next.next in
-    let kept : IsKept B S h (next_entry A e x t) = c.in_ok-next.ensures S x c.requires.greatest from_kept in
-    let candidate = next_is_candidate A B S es e t x h x_is lt (source ∙ to) kept in
-    let range = candidate_in_range A B S c.requires.first_valid es c.requires.whole.origins h candidate.0 in
-    has_coverer A B S c.requires.greatest n c.requires.order_size f es c.requires.whole h (next_entry A e x t) kept range.0 range.1 (c.requires.some x t x_is lt (source ∙ to))
+    let kept : IsKept B S (seen g_now h) (next_entry A e x t) = c.in_ok-next.ensures.candidate S x c.requires.greatest mid_kept in
+    let now_is : At es e x = subst (λ v. At (entries_held A v) e x) (sym same) x_is in
+    let candidate = next_is_candidate A B S es e t x (seen g_now h) now_is lt (source ∙ to) kept in
+    let range = candidate_in_range A B S c.requires.first_valid es whole.origins (seen g_now h) candidate.0 in
+    has_coverer A B S c.requires.greatest n c.requires.order_size now es whole (seen g_now h) (next_entry A e x t) kept range.0 range.1
+    (subst (λ v. HasSubsumer (supergraph_rules A B S) (entries_held A v) (next_entry A e x t)) (sym same) (c.requires.some x t x_is lt (source ∙ to)))
+
+pub coverer-requires-clause-told : goal.coverer-requires-clause-told
+coverer-requires-clause-told c =
+    let A : Automaton = c.args.first.now in
+    let B : Automaton = c.args.second.now in
+    let S : List (ℕ × ℕ) = c.args.order.now.pairs in
+    let n : ℕ = c.args.order.now.size in
+    let f : Family = c.args.family.now in
+    let g : List Graph = c.args.graphs.now.graphs.items in
+    let old : View = view g f in
+    let e : ℕ = c.args.element in
+    let from : Held = c.index-from.result.now in
+    let from_is : At f.held.items e from = read_at f.held.items e from from c.requires.element c.index-from.ensures in
+    let some_x = entry_at A B S g f c.requires.whole e c.requires.element in
+    let x : Entry = some_x.0 in
+    let x_is : At (entries_held A old) e x = some_x.1 in
+    let from_kept : IsKept B S (seen g from) x = held_stands A B S g f c.requires.whole e from x from_is x_is in
+    let to : from.arc.to ≡ x.arc.to = ap (λ (a : WordArc). a.to) from_kept.arc in
+    let g_mid : List Graph = c.loop-t.graphs.graphs.items in
+    let g_now : List Graph = c.next_candidate.new.graphs.graphs.items in
+    let grown : HasGrown g g_now = grown_more g g_mid g_now c.loop-t.invariant.grown c.in_ok-next.ensures.grown in
+    let initial = c.requires.second_valid.initial_is_state in
+    let same : view g_now f ≡ old = view_stays A B S g g_now f (entries_held A old) (omega arith) grown c.requires.whole in
+    let now : View = view g_now f in
+    let whole : IsWhole A B S now = subst (IsWhole A B S) (sym same) c.requires.whole in
+    let es : List Entry = entries_held A now in
+    subst (λ m. AllTold (FitsCovering m S g_now) c.loop-t.told.told.items) (sym c.requires.order_size)
+    (coverings_stay g_mid g_now c.in_ok-next.ensures.grown B.states S c.loop-t.told.told.items c.loop-t.invariant.told)
 
 pub loop-t-preserved : goal.loop-t-preserved
 loop-t-preserved c =
@@ -200,17 +326,29 @@ loop-t-preserved c =
     let S : List (ℕ × ℕ) = c.args.order.now.pairs in
     let n : ℕ = c.args.order.now.size in
     let f : Family = c.args.family.now in
-    let es : List Entry = entries_held A f in
+    let g : List Graph = c.args.graphs.now.graphs.items in
+    let old : View = view g f in
     let e : ℕ = c.args.element in
     let from : Held = c.index-from.result.now in
-    let from_in : e < length f.held.items = c.requires.element in
-    let from_is : At f.held.items e from = read_at f.held.items e from from from_in c.index-from.ensures in
-    let size : length f.held.items ≡ length es = c.requires.whole.size in
-    let some_x = at_some es e (omega arith) in
+    let from_is : At f.held.items e from = read_at f.held.items e from from c.requires.element c.index-from.ensures in
+    let some_x = entry_at A B S g f c.requires.whole e c.requires.element in
     let x : Entry = some_x.0 in
-    let x_is : At es e x = some_x.1 in
-    let from_kept : IsKept B S from x = c.requires.whole.kept e from x from_is x_is in
+    let x_is : At (entries_held A old) e x = some_x.1 in
+    let from_kept : IsKept B S (seen g from) x = held_stands A B S g f c.requires.whole e from x from_is x_is in
     let to : from.arc.to ≡ x.arc.to = ap (λ (a : WordArc). a.to) from_kept.arc in
+    let g_mid : List Graph = c.loop-t.graphs.graphs.items in
+    let g_now : List Graph = c.next_candidate.new.graphs.graphs.items in
+    let grown : HasGrown g g_now = grown_more g g_mid g_now c.loop-t.invariant.grown c.in_ok-next.ensures.grown in
+    let initial = c.requires.second_valid.initial_is_state in
+    let same : view g_now f ≡ old = view_stays A B S g g_now f (entries_held A old) (omega arith) grown c.requires.whole in
+    let now : View = view g_now f in
+    let whole : IsWhole A B S now = subst (IsWhole A B S) (sym same) c.requires.whole in
+    let es : List Entry = entries_held A now in
+    let mid : View = view g_mid f in
+    let mid_same : mid ≡ old = view_stays A B S g g_mid f (entries_held A old) (omega arith) c.loop-t.invariant.grown c.requires.whole in
+    let mid_whole : IsWhole A B S mid = subst (IsWhole A B S) (sym mid_same) c.requires.whole in
+    let mid_is : At (entries_held A mid) e x = subst (λ v. At (entries_held A v) e x) (sym mid_same) x_is in
+    let mid_kept : IsKept B S (seen g_mid from) x = held_stands A B S g_mid f mid_whole e from x from_is mid_is in
     let t : ℕ = c.loop-t.t in
     let end : ℕ = c.outgoing-out.result.end in
     let begin : ℕ = c.outgoing-out.result.begin in
@@ -220,25 +358,31 @@ loop-t-preserved c =
     let most : end ≤ length A.transitions = c.outgoing-out.ensures.range.within in
     let lt : t < length A.transitions = omega arith in
     let h : Held = c.in_ok-next.next in
-    let kept : IsKept B S h (next_entry A e x t) = c.in_ok-next.ensures S x c.requires.greatest from_kept in
-    let candidate = next_is_candidate A B S es e t x h x_is lt (source ∙ to) kept in
-    let range = candidate_in_range A B S c.requires.first_valid es c.requires.whole.origins h candidate.0 in
+    let kept : IsKept B S (seen g_now h) (next_entry A e x t) = c.in_ok-next.ensures.candidate S x c.requires.greatest mid_kept in
+    let now_is : At es e x = subst (λ v. At (entries_held A v) e x) (sym same) x_is in
+    let candidate = next_is_candidate A B S es e t x (seen g_now h) now_is lt (source ∙ to) kept in
+    let range = candidate_in_range A B S c.requires.first_valid es whole.origins (seen g_now h) candidate.0 in
     let pushed : c.push.new.self ≡ c.loop-t.by ++ c.coverer.result ∷ [] = c.in_ok-push.ensures.ok in
-    let least : IsLeastSubsumer (supergraph_rules A B S) es (next_entry A e x t) c.coverer.result =
-    coverer_is_least A B S c.requires.greatest n c.requires.order_size f es c.requires.whole h (next_entry A e x t) kept range.0 range.1 c.coverer.result c.coverer.ensures in
+    let found : IsLeastSubsumer (supergraph_rules A B S) es (next_entry A e x t) c.coverer.result =
+    coverer_is_least A B S c.requires.greatest n c.requires.order_size now es whole (seen g_now h) (next_entry A e x t) kept range.0 range.1 c.coverer.result c.coverer.ensures.coverer in
+    let least : IsLeastSubsumer (supergraph_rules A B S) (entries_held A old) (next_entry A e x t) c.coverer.result =
+    subst (λ v. IsLeastSubsumer (supergraph_rules A B S) (entries_held A v) (next_entry A e x t) c.coverer.result) same found in
     let was : begin + length c.loop-t.by ≡ t = c.loop-t.invariant.size in
     let more = length-append c.loop-t.by (c.coverer.result ∷ []) in
     let total = ap length pushed in
     record {
+      stock = c.in_ok-next.ensures.stock;
+      told = subst (λ m. AllTold (FitsCovering m S g_now) c.coverer.new.told.told.items) c.requires.order_size c.coverer.ensures.told;
+      grown = grown;
       size = omega arith;
       each = λ k j y is y_is. elim (at_cases c.loop-t.by c.coverer.result k j (subst (λ l. At l k j) pushed is)) [
-        | inl old ↦ c.loop-t.invariant.each k j y old y_is
+        | inl before ↦ c.loop-t.invariant.each k j y before y_is
         | inr new ↦
             let here : begin + k ≡ t = ap (λ m. begin + m) new.0 ∙ was in
-            let one : x ≡ y = at_same es e x y x_is y_is in
-            subst (λ m. IsLeastSubsumer (supergraph_rules A B S) es (next_entry A e y m) j) (sym here)
-            (subst (λ z. IsLeastSubsumer (supergraph_rules A B S) es (next_entry A e z t) j) one
-            (subst (λ m. IsLeastSubsumer (supergraph_rules A B S) es (next_entry A e x t) m) (sym new.1) least))
+            let one : x ≡ y = at_same (entries_held A old) e x y x_is y_is in
+            subst (λ m. IsLeastSubsumer (supergraph_rules A B S) (entries_held A old) (next_entry A e y m) j) (sym here)
+            (subst (λ z. IsLeastSubsumer (supergraph_rules A B S) (entries_held A old) (next_entry A e z t) j) one
+            (subst (λ m. IsLeastSubsumer (supergraph_rules A B S) (entries_held A old) (next_entry A e x t) m) (sym new.1) least))
       ];
     }
 
@@ -249,16 +393,15 @@ returns-clause-step c =
     let S : List (ℕ × ℕ) = c.args.order.now.pairs in
     let n : ℕ = c.args.order.now.size in
     let f : Family = c.args.family.now in
-    let es : List Entry = entries_held A f in
+    let g : List Graph = c.args.graphs.now.graphs.items in
+    let old : View = view g f in
     let e : ℕ = c.args.element in
     let from : Held = c.index-from.result.now in
-    let from_in : e < length f.held.items = c.requires.element in
-    let from_is : At f.held.items e from = read_at f.held.items e from from from_in c.index-from.ensures in
-    let size : length f.held.items ≡ length es = c.requires.whole.size in
-    let some_x = at_some es e (omega arith) in
+    let from_is : At f.held.items e from = read_at f.held.items e from from c.requires.element c.index-from.ensures in
+    let some_x = entry_at A B S g f c.requires.whole e c.requires.element in
     let x : Entry = some_x.0 in
-    let x_is : At es e x = some_x.1 in
-    let from_kept : IsKept B S from x = c.requires.whole.kept e from x from_is x_is in
+    let x_is : At (entries_held A old) e x = some_x.1 in
+    let from_kept : IsKept B S (seen g from) x = held_stands A B S g f c.requires.whole e from x from_is x_is in
     let to : from.arc.to ≡ x.arc.to = ap (λ (a : WordArc). a.to) from_kept.arc in
     let end : ℕ = c.outgoing-out.result.end in
     let begin : ℕ = c.outgoing-out.result.begin in
@@ -267,4 +410,4 @@ returns-clause-step c =
     let order : begin ≤ end = c.outgoing-out.ensures.range.is_range in
     let most : c.loop-t.t ≤ end = c.loop-t.auto.t-end order in
     let reached : c.loop-t.t ≡ end = omega arith in
-    step_is (supergraph_rules A B S) A es line x begin end refl x_is (subst (λ p. IsOutgoing A p begin end) to c.outgoing-out.ensures.range) (c.loop-t.invariant.size ∙ reached) (λ k j is. c.loop-t.invariant.each k j x is x_is)
+    step_is (supergraph_rules A B S) A (entries_held A old) line x begin end refl x_is (subst (λ p. IsOutgoing A p begin end) to c.outgoing-out.ensures.range) (c.loop-t.invariant.size ∙ reached) (λ k j is. c.loop-t.invariant.each k j x is x_is)

@@ -3,38 +3,99 @@ use Rattle.std.specs.Prelude.{filter}
 use Rattle.std.specs.List.{range_with_len}
 use Rattle.std.proofs.lemmas.List.{get_or_default, map-append}
 use Rattle.auto_core.specs.Automaton.{Automaton}
-use Rattle.auto_core.specs.Outcome.{At, Entry, supergraph_rules}
+use Rattle.auto_core.specs.Outcome.{At, HasSubsumer, next_entry, supergraph_rules}
 use Rattle.cert_text.specs.declared.types.StepLine.{StepLine}
-use Rattle.search_laws.proofs.PlaceLemmas.{at_cases}
+use Rattle.search_laws.proofs.PlaceLemmas.{at_cases, at_within}
 use Rattle.ramsey_search.specs.declared.family.Family.{Family}
-use Rattle.ramsey_search.specs.Kept.{entries_held}
+use Rattle.ramsey_search.specs.declared.graphs.Graph.{Graph}
+use Rattle.ramsey_search.specs.declared.graphs.Graphs.{Graphs}
+use Rattle.ramsey_search.specs.declared.memo.Memo.{Memo}
+use Rattle.ramsey_search.specs.Graphs.{HasGrown, IsStock}
+use Rattle.ramsey_search.specs.Memo.{AllTold}
+use Rattle.ramsey_search.specs.GraphPairs.{FitsCovering}
+use Rattle.ramsey_search.specs.Views.{View, view}
+use Rattle.ramsey_search.specs.Kept.{IsWhole, entries_held}
 use Rattle.evidence.specs.Evidence.{IsStepOf}
 use Rattle.evidence.proofs.RangeLemmas.{filter_range_more}
+use Rattle.ramsey_search.proofs.GraphsLemmas.{grown_none, grown_more, view_stays}
+use Rattle.ramsey_search.proofs.SeenLemmas.{live_count}
 use Rattle.ramsey_search.proofs.closing.steps.Goals as goal
 use Rattle.ramsey_search.proofs.closing.steps.Goals.{then-index+in_ok-step_line+in_ok-push, else-index}
+
+pub loop-element-init : goal.loop-element-init
+loop-element-init c =
+    record {
+      stock = c.requires.stock;
+      told = c.requires.told;
+      grown = grown_none c.args.graphs.now.graphs.items;
+      lines = ap (map (λ (s : StepLine). s.element)) c.new-steps.ensures;
+      each = λ k l is. let within = at_within [] k l (subst (λ z. At z k l) c.new-steps.ensures is) in absurd (omega arith);
+    }
+
+pub step_line-requires-clause-whole : goal.step_line-requires-clause-whole
+step_line-requires-clause-whole c =
+    let A : Automaton = c.args.first.now in
+    let B : Automaton = c.args.second.now in
+    let S : List (ℕ × ℕ) = c.args.order.now.pairs in
+    let f : Family = c.args.family.now in
+    let g : List Graph = c.args.graphs.now.graphs.items in
+    let old : View = view g f in
+    let g_mid : List Graph = c.loop-element.graphs.graphs.items in
+    let initial = c.requires.second_valid.initial_is_state in
+    let same : view g_mid f ≡ old = view_stays A B S g g_mid f (entries_held A old) (omega arith) c.loop-element.invariant.grown c.requires.whole in
+    subst (IsWhole A B S) (sym same) c.requires.whole
+
+pub step_line-requires-clause-some : goal.step_line-requires-clause-some
+step_line-requires-clause-some c =
+    λ x t x_is lt leaves.
+    let A : Automaton = c.args.first.now in
+    let B : Automaton = c.args.second.now in
+    let S : List (ℕ × ℕ) = c.args.order.now.pairs in
+    let f : Family = c.args.family.now in
+    let g : List Graph = c.args.graphs.now.graphs.items in
+    let old : View = view g f in
+    let g_mid : List Graph = c.loop-element.graphs.graphs.items in
+    let initial = c.requires.second_valid.initial_is_state in
+    let same : view g_mid f ≡ old = view_stays A B S g g_mid f (entries_held A old) (omega arith) c.loop-element.invariant.grown c.requires.whole in
+    let count = c.len-element-end.ensures in
+    let items : vec_len f.held ≡ length f.held.items = f.held.ok.0 in
+    let test = c.loop-element-test.true in
+    let size : length f.live.items ≡ length f.held.items = live_count A B S g f c.requires.whole in
+    let e : ℕ = c.loop-element.element in
+    let flag : slice_index_or f.live.items e false ≡ c.index.result.now = get_or_default f.live.items e false c.index.result.now (omega arith) ∙ sym c.index.ensures in
+    let was_is : At (entries_held A old) e x = subst (λ v. At (entries_held A v) e x) same x_is in
+    subst (λ v. HasSubsumer (supergraph_rules A B S) (entries_held A v) (next_entry A e x t)) (sym same) (c.requires.some e t x (flag ∙ c.if-index.true) was_is lt leaves)
 
 pub loop-element-preserved : goal.loop-element-preserved
 loop-element-preserved c =
     let A : Automaton = c.args.first.now in
     let B : Automaton = c.args.second.now in
     let S : List (ℕ × ℕ) = c.args.order.now.pairs in
-    let n : ℕ = c.args.order.now.size in
     let f : Family = c.args.family.now in
-    let es : List Entry = entries_held A f in
-    let e : ℕ = c.loop-element.element in
-    let live : ℕ → Bool = λ k. slice_index_or f.live.items k false in
+    let g : List Graph = c.args.graphs.now.graphs.items in
+    let old : View = view g f in
+    let g_mid : List Graph = c.loop-element.graphs.graphs.items in
+    let initial = c.requires.second_valid.initial_is_state in
+    let same : view g_mid f ≡ old = view_stays A B S g g_mid f (entries_held A old) (omega arith) c.loop-element.invariant.grown c.requires.whole in
     let count = c.len-element-end.ensures in
     let items : vec_len f.held ≡ length f.held.items = f.held.ok.0 in
     let test = c.loop-element-test.true in
-    let size : length f.live.items ≡ length f.held.items = c.requires.whole.live_size ∙ sym c.requires.whole.size in
-    let flag : live e ≡ c.index.result.now = get_or_default f.live.items e false c.index.result.now (omega arith) ∙ sym c.index.ensures in
+    let size : length f.live.items ≡ length f.held.items = live_count A B S g f c.requires.whole in
+    let e : ℕ = c.loop-element.element in
+    let flag : slice_index_or f.live.items e false ≡ c.index.result.now = get_or_default f.live.items e false c.index.result.now (omega arith) ∙ sym c.index.ensures in
+    let live : ℕ → Bool = λ k. slice_index_or f.live.items k false in
     let before : map (λ (s : StepLine). s.element) c.loop-element.steps ≡ filter live (range_with_len 0 e) = c.loop-element.invariant.lines in
     elim c.if-index.branch [
       | then-index+in_ok-step_line+in_ok-push w ↦
           let line : StepLine = w.in_ok-step_line.field-0 in
           let pushed : c.if-index.steps ≡ c.loop-element.steps ++ line ∷ [] = w.steps-is ∙ w.in_ok-push.ensures.ok in
           let on : live e ≡ true = flag ∙ w.if-index.true in
+          let step : IsStepOf (supergraph_rules A B S) (entries_held A old) line = subst (λ v. IsStepOf (supergraph_rules A B S) (entries_held A v) line) same w.in_ok-step_line.ensures.step in
           record {
+            stock = subst (IsStock B) (sym w.graphs-is) w.in_ok-step_line.ensures.stock;
+            told = subst (λ (m : Graphs). AllTold (FitsCovering B.states S m.graphs.items) c.if-index.told.told.items) (sym w.graphs-is)
+                (subst (λ (m : Memo). AllTold (FitsCovering B.states S w.step_line.new.graphs.graphs.items) m.told.items) (sym w.told-is) w.in_ok-step_line.ensures.told);
+            grown = subst (λ (m : Graphs). HasGrown g m.graphs.items) (sym w.graphs-is) (grown_more g g_mid w.step_line.new.graphs.graphs.items c.loop-element.invariant.grown w.in_ok-step_line.ensures.grown);
             lines = ap (map (λ (s : StepLine). s.element)) pushed
                 ∙ map-append (λ (s : StepLine). s.element) c.loop-element.steps (line ∷ [])
                 ∙ ap (λ l. l ++ line.element ∷ []) before
@@ -42,19 +103,23 @@ loop-element-preserved c =
                 ∙ ap (λ b. filter live (range_with_len 0 e) ++ cond b (e ∷ []) []) (sym on)
                 ∙ sym (filter_range_more live e);
             each = λ k l is. elim (at_cases c.loop-element.steps line k l (subst (λ z. At z k l) pushed is)) [
-              | inl old ↦ c.loop-element.invariant.each k l old
-              | inr new ↦ subst (IsStepOf (supergraph_rules A B S) es) (sym new.1) w.in_ok-step_line.ensures.step
+              | inl was ↦ c.loop-element.invariant.each k l was
+              | inr new ↦ subst (IsStepOf (supergraph_rules A B S) (entries_held A old)) (sym new.1) step
             ];
           }
       | else-index w ↦
-          let same : c.if-index.steps ≡ c.loop-element.steps = w.steps-is in
+          let unchanged : c.if-index.steps ≡ c.loop-element.steps = w.steps-is in
           let off : live e ≡ false = flag ∙ w.if-index.false in
           record {
-            lines = ap (map (λ (s : StepLine). s.element)) same
+            stock = subst (IsStock B) (sym w.graphs-is) c.loop-element.invariant.stock;
+            told = subst (λ (m : Graphs). AllTold (FitsCovering B.states S m.graphs.items) c.if-index.told.told.items) (sym w.graphs-is)
+                (subst (λ (m : Memo). AllTold (FitsCovering B.states S g_mid) m.told.items) (sym w.told-is) c.loop-element.invariant.told);
+            grown = subst (λ (m : Graphs). HasGrown g m.graphs.items) (sym w.graphs-is) c.loop-element.invariant.grown;
+            lines = ap (map (λ (s : StepLine). s.element)) unchanged
                 ∙ before
                 ∙ sym (append-nil (filter live (range_with_len 0 e)))
                 ∙ ap (λ b. filter live (range_with_len 0 e) ++ cond b (e ∷ []) []) (sym off)
                 ∙ sym (filter_range_more live e);
-            each = λ k l is. c.loop-element.invariant.each k l (subst (λ z. At z k l) same is);
+            each = λ k l is. c.loop-element.invariant.each k l (subst (λ z. At z k l) unchanged is);
           }
     ]

@@ -1,14 +1,14 @@
-use Rattle.std.proofs.Common.{◌≡◌, ℕ, ◌+◌, ◌<◌, false, List, vec_len, length, slice_index_or, slice_set, refl, sym, ap, subst, arith}
+use Rattle.std.proofs.Common.{◌≡◌, ℕ, ◌+◌, ◌<◌, false, List, vec_len, length, map, slice_index_or, slice_set, refl, sym, ap, subst, arith}
 use Rattle.std.proofs.lemmas.Bool.{false≢true}
 use Rattle.auto_core.specs.Game.{Holds}
 use Rattle.auto_core.specs.Graph.{Subsumes, Supergraph}
 use Rattle.auto_core.specs.Outcome.{At}
-use Rattle.graph_rows.specs.Block.{block_graph, IsFormed}
-use Rattle.supergraph.specs.Stands.{with_graph}
-use Rattle.ramsey_search.specs.declared.parts.Held.{Held}
+use Rattle.ramsey_search.specs.declared.graphs.Graph.{Graph}
+use Rattle.ramsey_search.specs.Views.{Seen, seen}
 use Rattle.ramsey_search.specs.Kept.{held_super}
 use Rattle.evidence.proofs.ListLemmas.{read_at}
 use Rattle.ramsey_search.proofs.MeetingLemmas.{AreDroppedSoFar, dropped_all, dropped_more, kept_more}
+use Rattle.ramsey_search.proofs.SeenLemmas.{held_of, seen_is, seen_formed}
 use Rattle.ramsey_search.proofs.meeting.drop_subsumed.Goals as goal
 use Rattle.ramsey_search.proofs.meeting.drop_subsumed.Goals.{then-subsumes, else-subsumes}
 
@@ -16,16 +16,14 @@ pub subsumes-requires-clause-second : goal.subsumes-requires-clause-second
 subsumes-requires-clause-second c =
     let j : ℕ = slice_index_or c.args.among.now c.loop-number.number-index 0 in
     let is : At c.args.among.now c.loop-number.number-index j = read_at c.args.among.now c.loop-number.number-index 0 j c.loop-number-test.true refl in
-    let h : Held = c.index-held-number.result in
-    let there : At c.args.held.now j h = read_at c.args.held.now j h h (c.requires.there c.loop-number.number-index j is) c.index-held-number.is in
-    subst (IsFormed c.args.order.now.size) (sym c.deref-in-loop-number.ensures.value) (c.requires.formed j h there)
+    seen_formed c.args.order.now.size c.args.graphs.now c.args.held.now j (c.requires.there c.loop-number.number-index j is) c.requires.formed
 
 pub index_mut-requires : goal.index_mut-requires
 index_mut-requires c =
     let j : ℕ = slice_index_or c.args.among.now c.loop-number.number-index 0 in
     let is : At c.args.among.now c.loop-number.number-index j = read_at c.args.among.now c.loop-number.number-index 0 j c.loop-number-test.true refl in
     let lt : j < length c.args.held.now = c.requires.there c.loop-number.number-index j is in
-    let size : length c.loop-number.live.items ≡ length c.args.live.now.items = c.loop-number.invariant.size in
+    let size : length c.loop-number.live.items ≡ length c.args.live.now.items = c.loop-number.invariant.dropped.size in
     let flags : vec_len c.args.live.now ≡ length c.args.held.now = c.requires.flags in
     let now : vec_len c.loop-number.live ≡ length c.loop-number.live.items = c.loop-number.live.ok.0 in
     let then : vec_len c.args.live.now ≡ length c.args.live.now.items = c.args.live.now.ok.0 in
@@ -35,32 +33,33 @@ pub loop-number-preserved : goal.loop-number-preserved
 loop-number-preserved c =
     let n : ℕ = c.args.order.now.size in
     let S : List (ℕ × ℕ) = c.args.order.now.pairs in
-    let new : Supergraph = held_super n c.args.new.now in
+    let graphs : List Graph = c.args.graphs.now in
+    let held : List Seen = map (seen graphs) c.args.held.now in
+    let new : Supergraph = held_super n (seen graphs c.args.new.now) in
     let j : ℕ = slice_index_or c.args.among.now c.loop-number.number-index 0 in
     let is : At c.args.among.now c.loop-number.number-index j = read_at c.args.among.now c.loop-number.number-index 0 j c.loop-number-test.true refl in
-    let h : Held = c.index-held-number.result in
+    let h : Seen = seen graphs (held_of c.args.held.now j) in
     let lt : j < length c.args.held.now = c.requires.there c.loop-number.number-index j is in
-    let there : At c.args.held.now j h = read_at c.args.held.now j h h lt c.index-held-number.is in
+    let there : At held j h = seen_is graphs c.args.held.now j lt in
     let flags : vec_len c.args.live.now ≡ length c.args.held.now = c.requires.flags in
     let then : vec_len c.args.live.now ≡ length c.args.live.now.items = c.args.live.now.ok.0 in
-    let Sub : List ℕ → List ℕ → Type 0 = λ l k. Subsumes (Holds S) (with_graph c.args.new.now.arc (block_graph n l)) (with_graph h.arc (block_graph n k)) in
-    let first : c.deref.result.now ≡ c.args.new.now.graph.items = c.deref.ensures.value in
-    let second : c.deref-in-loop-number.result.now ≡ h.graph.items = c.deref-in-loop-number.ensures.value in
-    elim c.if-subsumes.branch [
-      | then-subsumes w ↦
-          let is_so : Subsumes (Holds S) new (held_super n h) = subst (λ l. Sub l h.graph.items) first (subst (Sub c.deref.result.now) second (w.if-subsumes.ensures.0 refl)) in
-          let items : c.if-subsumes.live.items ≡ slice_set c.loop-number.live.items j false = ap (λ v. v.items) w.live-is in
-          subst (λ l. AreDroppedSoFar n S c.args.held.now c.args.among.now new c.args.live.now.items l (c.loop-number.number-index + 1)) (sym items)
-          (dropped_more n S c.args.held.now c.args.among.now new c.args.live.now.items c.loop-number.live.items c.loop-number.number-index j h is there (omega arith) is_so c.loop-number.invariant)
-      | else-subsumes w ↦
-          let not_so : Subsumes (Holds S) new (held_super n h) → ⊥ = λ sub.
-          false≢true (w.if-subsumes.ensures.1 (subst (Sub c.deref.result.now) (sym second) (subst (λ l. Sub l h.graph.items) (sym first) sub))) in
-          let items : c.if-subsumes.live.items ≡ c.loop-number.live.items = ap (λ v. v.items) w.live-is in
-          subst (λ l. AreDroppedSoFar n S c.args.held.now c.args.among.now new c.args.live.now.items l (c.loop-number.number-index + 1)) (sym items)
-          (kept_more n S c.args.held.now c.args.among.now new c.args.live.now.items c.loop-number.live.items c.loop-number.number-index j h is there not_so c.loop-number.invariant)
-    ]
+    record {
+      told = c.subsumes.ensures.told;
+      dropped = elim c.if-subsumes.branch [
+        | then-subsumes w ↦
+            let is_so : Subsumes (Holds S) new (held_super n h) = w.if-subsumes.ensures.subsumes.0 refl in
+            let items : c.if-subsumes.live.items ≡ slice_set c.loop-number.live.items j false = ap (λ v. v.items) w.live-is in
+            subst (λ l. AreDroppedSoFar n S held c.args.among.now new c.args.live.now.items l (c.loop-number.number-index + 1)) (sym items)
+            (dropped_more n S held c.args.among.now new c.args.live.now.items c.loop-number.live.items c.loop-number.number-index j h is there (omega arith) is_so c.loop-number.invariant.dropped)
+        | else-subsumes w ↦
+            let not_so : Subsumes (Holds S) new (held_super n h) → ⊥ = λ sub. false≢true (w.if-subsumes.ensures.subsumes.1 sub) in
+            let items : c.if-subsumes.live.items ≡ c.loop-number.live.items = ap (λ v. v.items) w.live-is in
+            subst (λ l. AreDroppedSoFar n S held c.args.among.now new c.args.live.now.items l (c.loop-number.number-index + 1)) (sym items)
+            (kept_more n S held c.args.among.now new c.args.live.now.items c.loop-number.live.items c.loop-number.number-index j h is there not_so c.loop-number.invariant.dropped)
+      ];
+    }
 
-pub returns : goal.returns
-returns c =
-    dropped_all c.args.order.now.size c.args.order.now.pairs c.args.held.now c.args.among.now (held_super c.args.order.now.size c.args.new.now) c.args.live.now.items c.loop-number.live.items
-    c.loop-number.number-index (let past = c.loop-number-test.false in omega arith) c.loop-number.invariant
+pub returns-clause-dropped : goal.returns-clause-dropped
+returns-clause-dropped c =
+    dropped_all c.args.order.now.size c.args.order.now.pairs (map (seen c.args.graphs.now) c.args.held.now) c.args.among.now (held_super c.args.order.now.size (seen c.args.graphs.now c.args.new.now))
+    c.args.live.now.items c.loop-number.live.items c.loop-number.number-index (let past = c.loop-number-test.false in omega arith) c.loop-number.invariant.dropped

@@ -1,85 +1,197 @@
-use Rattle.std.proofs.Common.{◌≡◌, ℕ, ◌<◌, List, [], ◌∷◌, ◌++◌, length, refl, sym, ◌∙◌, subst, arith}
+use Rattle.std.proofs.Common.{◌≡◌, ℕ, ◌<◌, ◌≤◌, List, [], ◌∷◌, ◌++◌, length, refl, sym, ◌∙◌, subst, arith}
+use Rattle.std.proofs.lemmas.List.{length-map}
 use Rattle.auto_core.specs.Automaton.{Automaton}
 use Rattle.auto_core.specs.Outcome.{At, Entry}
-use Rattle.search_laws.proofs.PlaceLemmas.{at_within, at_some, at_new}
-use Rattle.ramsey_search.specs.declared.parts.Held.{Held}
-use Rattle.ramsey_search.specs.declared.family.Family.{Family}
+use Rattle.graph_rows.specs.Block.{IsFormed}
+use Rattle.search_laws.proofs.PlaceLemmas.{at_new, at_within}
+use Rattle.ramsey_search.specs.declared.memo.Memo.{Memo}
+use Rattle.ramsey_search.specs.declared.graphs.Graph.{Graph}
 use Rattle.evidence.specs.Entries.{entry_of}
+use Rattle.ramsey_search.specs.Memo.{AllTold}
+use Rattle.ramsey_search.specs.GraphPairs.{FitsCovering}
+use Rattle.ramsey_search.specs.Views.{Seen, View, seen, view}
 use Rattle.ramsey_search.specs.Kept.{IsFamily, HasEntered, IsTold, entries_held, IsWhole}
 use Rattle.ramsey_search.proofs.EntriesLemmas.{entries_entered}
+use Rattle.ramsey_search.proofs.SeenLemmas.{entry_at, held_stands}
 use Rattle.ramsey_search.proofs.TurnLemmas.{candidate_in_range, held_in_range, fits_together, entered_whole, come_full, come_in, is_whole}
 use Rattle.ramsey_search.proofs.turns.admit.Goals as goal
 
 pub enter-requires-clause-from : goal.enter-requires-clause-from
 enter-requires-clause-from c =
-    let es : List Entry = entries_held c.args.first.now c.args.family.now in
-    subst (λ n. c.args.new.arc.from < n) (sym c.requires.whole.states)
-    (candidate_in_range c.args.first.now c.args.second.now c.args.order.now.pairs c.requires.first_valid es c.requires.whole.origins c.args.new c.requires.candidate).0
-
-pub enter-requires-clause-fits : goal.enter-requires-clause-fits
-enter-requires-clause-fits c =
-    let es : List Entry = entries_held c.args.first.now c.args.family.now in
-    fits_together c.args.first.now c.args.second.now c.args.order.now.pairs c.args.order.now.size c.args.family.now es c.requires.order_size c.requires.whole
-
-pub returns-then-number-limit-clause-come : goal.returns-then-number-limit-clause-come
-returns-then-number-limit-clause-come c = λ cs turn.
     let A : Automaton = c.args.first.now in
     let B : Automaton = c.args.second.now in
     let S : List (ℕ × ℕ) = c.args.order.now.pairs in
-    let old : Family = c.args.family.now in
-    let now : Family = c.enter.new.self in
-    let h : Held = c.args.new in
-    let has : HasEntered c.args.order.now.size S h old now = c.in_ok-enter.ensures in
-    let family = entered_whole A B S c.requires.first_valid c.requires.greatest c.args.order.now.size c.requires.order_size old now h c.requires.whole c.requires.candidate has in
-    let count : c.len-number.result ≡ length old.held.items = c.len-number.ensures ∙ old.held.ok.0 in
+    let graphs : List Graph = c.args.graphs.now.graphs.items in
+    let old : View = view graphs c.args.family.now in
+    let h : Seen = seen graphs c.args.new in
+    let es : List Entry = entries_held A old in
+    subst (λ n. h.arc.from < n) (sym c.requires.whole.states) (candidate_in_range A B S c.requires.first_valid es c.requires.whole.origins h c.requires.candidate).0
+
+pub enter-requires-clause-to : goal.enter-requires-clause-to
+enter-requires-clause-to c =
+    let A : Automaton = c.args.first.now in
+    let B : Automaton = c.args.second.now in
+    let S : List (ℕ × ℕ) = c.args.order.now.pairs in
+    let graphs : List Graph = c.args.graphs.now.graphs.items in
+    let old : View = view graphs c.args.family.now in
+    let h : Seen = seen graphs c.args.new in
+    let es : List Entry = entries_held A old in
+    subst (λ n. h.arc.to < n) (sym c.requires.whole.states) (candidate_in_range A B S c.requires.first_valid es c.requires.whole.origins h c.requires.candidate).1
+
+pub enter-requires-clause-fits : goal.enter-requires-clause-fits
+enter-requires-clause-fits c =
+    let A : Automaton = c.args.first.now in
+    let B : Automaton = c.args.second.now in
+    let S : List (ℕ × ℕ) = c.args.order.now.pairs in
+    let graphs : List Graph = c.args.graphs.now.graphs.items in
+    let old : View = view graphs c.args.family.now in
+    let h : Seen = seen graphs c.args.new in
+    let es : List Entry = entries_held A old in
+    fits_together A B S c.args.order.now.size old es c.requires.order_size c.requires.whole
+
+pub enter-requires-clause-formed : goal.enter-requires-clause-formed
+enter-requires-clause-formed c =
+    let A : Automaton = c.args.first.now in
+    let B : Automaton = c.args.second.now in
+    let S : List (ℕ × ℕ) = c.args.order.now.pairs in
+    let graphs : List Graph = c.args.graphs.now.graphs.items in
+    let old : View = view graphs c.args.family.now in
+    let h : Seen = seen graphs c.args.new in
+    let es : List Entry = entries_held A old in
+    subst (λ n. IsFormed n h.graph) (sym c.requires.order_size) c.requires.candidate.kept.formed
+
+pub enter-requires-clause-told : goal.enter-requires-clause-told
+enter-requires-clause-told c =
+    let A : Automaton = c.args.first.now in
+    let B : Automaton = c.args.second.now in
+    let S : List (ℕ × ℕ) = c.args.order.now.pairs in
+    let graphs : List Graph = c.args.graphs.now.graphs.items in
+    let old : View = view graphs c.args.family.now in
+    let h : Seen = seen graphs c.args.new in
+    let es : List Entry = entries_held A old in
+    subst (λ n. AllTold (FitsCovering n S graphs) c.args.answers.now.covers.told.items) (sym c.requires.order_size) c.requires.answers.covers
+
+pub returns-then-number-limit-clause-come : goal.returns-then-number-limit-clause-come
+returns-then-number-limit-clause-come c =
+    λ cs turn.
+    let A : Automaton = c.args.first.now in
+    let B : Automaton = c.args.second.now in
+    let S : List (ℕ × ℕ) = c.args.order.now.pairs in
+    let graphs : List Graph = c.args.graphs.now.graphs.items in
+    let old : View = view graphs c.args.family.now in
+    let h : Seen = seen graphs c.args.new in
+    let es : List Entry = entries_held A old in
+    let now : View = view graphs c.enter.new.self in
+    let x : Entry = entry_of A es h.origin in
+    let has : HasEntered c.args.order.now.size S h old now = c.in_ok-enter.ensures.entered in
+    let family : IsFamily A B S now (es ++ x ∷ []) = entered_whole A B S c.requires.first_valid c.requires.greatest c.args.order.now.size c.requires.order_size old now h c.requires.whole c.requires.candidate has in
+    let same : length old.held ≡ length c.args.family.now.held.items = length-map c.args.family.now.held.items (seen graphs) in
+    let count : c.len-number.result ≡ length old.held = c.len-number.ensures ∙ c.args.family.now.held.ok.0 ∙ sym same in
     come_full A B S c.args.limit old now h cs turn family has.held c.requires.whole.size c.requires.unmet (sym count ∙ c.if-number-limit.true)
+
+pub returns-then-number-limit-clause-answers : goal.returns-then-number-limit-clause-answers
+returns-then-number-limit-clause-answers c =
+    let A : Automaton = c.args.first.now in
+    let B : Automaton = c.args.second.now in
+    let S : List (ℕ × ℕ) = c.args.order.now.pairs in
+    let graphs : List Graph = c.args.graphs.now.graphs.items in
+    let old : View = view graphs c.args.family.now in
+    let h : Seen = seen graphs c.args.new in
+    let es : List Entry = entries_held A old in
+    record {
+      covers = subst (λ n. AllTold (FitsCovering n S graphs) c.enter.new.told.told.items) c.requires.order_size c.enter.ensures.told;
+      lassos = record { lassos = c.requires.answers.lassos.lassos; room = c.requires.answers.lassos.room };
+    }
 
 pub first_failing-requires-clause-fits : goal.first_failing-requires-clause-fits
 first_failing-requires-clause-fits c =
     let A : Automaton = c.args.first.now in
     let B : Automaton = c.args.second.now in
     let S : List (ℕ × ℕ) = c.args.order.now.pairs in
-    let old : Family = c.args.family.now in
-    let now : Family = c.enter.new.self in
-    let h : Held = c.args.new in
-    let has : HasEntered c.args.order.now.size S h old now = c.in_ok-enter.ensures in
-    let family = entered_whole A B S c.requires.first_valid c.requires.greatest c.args.order.now.size c.requires.order_size old now h c.requires.whole c.requires.candidate has in
-    fits_together A B S B.states now (entries_held A old ++ entry_of A (entries_held A old) h.origin ∷ []) refl family
+    let graphs : List Graph = c.args.graphs.now.graphs.items in
+    let old : View = view graphs c.args.family.now in
+    let h : Seen = seen graphs c.args.new in
+    let es : List Entry = entries_held A old in
+    let now : View = view graphs c.enter.new.self in
+    let x : Entry = entry_of A es h.origin in
+    let has : HasEntered c.args.order.now.size S h old now = c.in_ok-enter.ensures.entered in
+    let family : IsFamily A B S now (es ++ x ∷ []) = entered_whole A B S c.requires.first_valid c.requires.greatest c.args.order.now.size c.requires.order_size old now h c.requires.whole c.requires.candidate has in
+    let same : length old.held ≡ length c.args.family.now.held.items = length-map c.args.family.now.held.items (seen graphs) in
+    let count : c.len-number.result ≡ length old.held = c.len-number.ensures ∙ c.args.family.now.held.ok.0 ∙ sym same in
+    fits_together A B S B.states now (es ++ x ∷ []) refl family
 
 pub first_failing-requires-clause-ends : goal.first_failing-requires-clause-ends
-first_failing-requires-clause-ends c = λ k k_is.
+first_failing-requires-clause-ends c =
+    λ k k_is.
     let A : Automaton = c.args.first.now in
     let B : Automaton = c.args.second.now in
     let S : List (ℕ × ℕ) = c.args.order.now.pairs in
-    let old : Family = c.args.family.now in
-    let now : Family = c.enter.new.self in
-    let h : Held = c.args.new in
-    let es : List Entry = entries_held A old ++ entry_of A (entries_held A old) h.origin ∷ [] in
-    let has : HasEntered c.args.order.now.size S h old now = c.in_ok-enter.ensures in
-    let family : IsFamily A B S now es = entered_whole A B S c.requires.first_valid c.requires.greatest c.args.order.now.size c.requires.order_size old now h c.requires.whole c.requires.candidate has in
-    let within = at_within now.held.items c.len-number.result k k_is in
-    let size = family.size in
-    let x = at_some es c.len-number.result (omega arith) in
-    held_in_range A B S c.requires.first_valid es family.origins c.len-number.result x.0 k x.1 (family.kept c.len-number.result k x.0 k_is x.1)
+    let graphs : List Graph = c.args.graphs.now.graphs.items in
+    let old : View = view graphs c.args.family.now in
+    let h : Seen = seen graphs c.args.new in
+    let es : List Entry = entries_held A old in
+    let now : View = view graphs c.enter.new.self in
+    let x : Entry = entry_of A es h.origin in
+    let has : HasEntered c.args.order.now.size S h old now = c.in_ok-enter.ensures.entered in
+    let family : IsFamily A B S now (es ++ x ∷ []) = entered_whole A B S c.requires.first_valid c.requires.greatest c.args.order.now.size c.requires.order_size old now h c.requires.whole c.requires.candidate has in
+    let same : length old.held ≡ length c.args.family.now.held.items = length-map c.args.family.now.held.items (seen graphs) in
+    let count : c.len-number.result ≡ length old.held = c.len-number.ensures ∙ c.args.family.now.held.ok.0 ∙ sym same in
+    let now_is : entries_held A now ≡ es ++ x ∷ [] = entries_entered A old now h has.held in
+    let whole : IsWhole A B S now = subst (IsFamily A B S now) (sym now_is) family in
+    let within = at_within c.enter.new.self.held.items c.len-number.result k k_is in
+    let e = entry_at A B S graphs c.enter.new.self whole c.len-number.result within in
+    held_in_range A B S c.requires.first_valid (entries_held A now) whole.origins c.len-number.result e.0 (seen graphs k) e.1 (held_stands A B S graphs c.enter.new.self whole c.len-number.result k e.0 k_is e.1)
+
+pub first_failing-requires-clause-told : goal.first_failing-requires-clause-told
+first_failing-requires-clause-told c =
+    let A : Automaton = c.args.first.now in
+    let B : Automaton = c.args.second.now in
+    let S : List (ℕ × ℕ) = c.args.order.now.pairs in
+    let graphs : List Graph = c.args.graphs.now.graphs.items in
+    let old : View = view graphs c.args.family.now in
+    let h : Seen = seen graphs c.args.new in
+    let es : List Entry = entries_held A old in
+    record { lassos = c.requires.answers.lassos.lassos; room = c.requires.answers.lassos.room }
 
 pub returns-clause-come : goal.returns-clause-come
-returns-clause-come c = λ cs turn.
+returns-clause-come c =
+    λ cs turn.
     let A : Automaton = c.args.first.now in
     let B : Automaton = c.args.second.now in
     let S : List (ℕ × ℕ) = c.args.order.now.pairs in
-    let old : Family = c.args.family.now in
-    let now : Family = c.enter.new.self in
-    let h : Held = c.args.new in
+    let graphs : List Graph = c.args.graphs.now.graphs.items in
+    let old : View = view graphs c.args.family.now in
+    let h : Seen = seen graphs c.args.new in
     let es : List Entry = entries_held A old in
+    let now : View = view graphs c.enter.new.self in
     let x : Entry = entry_of A es h.origin in
-    let has : HasEntered c.args.order.now.size S h old now = c.in_ok-enter.ensures in
+    let has : HasEntered c.args.order.now.size S h old now = c.in_ok-enter.ensures.entered in
     let family : IsFamily A B S now (es ++ x ∷ []) = entered_whole A B S c.requires.first_valid c.requires.greatest c.args.order.now.size c.requires.order_size old now h c.requires.whole c.requires.candidate has in
-    let count : c.len-number.result ≡ length old.held.items = c.len-number.ensures ∙ old.held.ok.0 in
-    let size : length old.held.items ≡ length es = c.requires.whole.size in
+    let same : length old.held ≡ length c.args.family.now.held.items = length-map c.args.family.now.held.items (seen graphs) in
+    let count : c.len-number.result ≡ length old.held = c.len-number.ensures ∙ c.args.family.now.held.ok.0 ∙ sym same in
+    let size : length old.held ≡ length es = c.requires.whole.size in
     let now_is : entries_held A now ≡ es ++ x ∷ [] = entries_entered A old now h has.held in
     let whole : IsWhole A B S now = is_whole A B S c.args.limit old now h cs turn family has.held size c.requires.unmet in
     let there : At (entries_held A now) c.len-number.result x = subst (λ l. At l c.len-number.result x) (sym now_is) (subst (λ k. At (es ++ x ∷ []) k x) (sym size ∙ sym count) (at_new es x)) in
-    let told : IsTold A B S (entries_held A now) x c.first_failing.result = c.first_failing.ensures.told S x c.requires.greatest whole there in
+    let told : IsTold A B S (entries_held A now) x c.first_failing.result = c.first_failing.ensures.failing S x c.requires.greatest whole there in
     let few = c.requires.few in
     let not_full : c.len-number.result ≡ c.args.limit → ⊥ = c.if-number-limit.false in
-    come_in A B S c.args.limit old now h cs turn family has.held size c.requires.unmet (omega arith) c.first_failing.result told
+    come_in A B S c.args.limit old now h cs turn family has.held size c.requires.unmet (below c.len-number.result (length old.held) (length c.args.family.now.held.items) c.args.limit count same few not_full) c.first_failing.result told
+  where
+    below : (number seen_count held_count limit : ℕ) → number ≡ seen_count → seen_count ≡ held_count → held_count ≤ limit → (number ≡ limit → ⊥) → seen_count < limit
+    below number seen_count held_count limit a b few other = omega arith
+
+pub returns-clause-answers : goal.returns-clause-answers
+returns-clause-answers c =
+    let A : Automaton = c.args.first.now in
+    let B : Automaton = c.args.second.now in
+    let S : List (ℕ × ℕ) = c.args.order.now.pairs in
+    let graphs : List Graph = c.args.graphs.now.graphs.items in
+    let old : View = view graphs c.args.family.now in
+    let h : Seen = seen graphs c.args.new in
+    let es : List Entry = entries_held A old in
+    record {
+      covers = subst (λ (m : Memo). AllTold (FitsCovering B.states S graphs) m.told.items) (sym c.first_failing.ensures.covers)
+          (subst (λ n. AllTold (FitsCovering n S graphs) c.enter.new.told.told.items) c.requires.order_size c.enter.ensures.told);
+      lassos = c.first_failing.ensures.told;
+    }
