@@ -19,10 +19,13 @@ use Rattle.search_laws.proofs.PairEntryLemmas.{placed_pairs_are_reached}
 use Rattle.cert_text.specs.declared.types.YesBody.{YesBody}
 use Rattle.cert_text.specs.declared.types.Element.{Element}
 use Rattle.cert_text.specs.declared.types.StepLine.{StepLine}
-use Rattle.cert_text.specs.WellFormed.{WellFormed, is_short, are_short, is_body, is_yes, is_block, are_logs, is_live, is_element, are_steps, is_step_of, is_first_step, is_second_step}
+use Rattle.cert_text.specs.WellFormed.{WellFormed, is_short, are_short, is_body, is_yes, is_listing, is_block, are_logs, is_live, is_origin, is_element, are_steps, is_step_of, is_first_step, is_second_step}
 use Rattle.ba_format.specs.declared.parts.Joined.{Joined}
 use Rattle.cert_text.specs.declared.types.Cert.{Cert}
-use Rattle.cert_text.specs.declared.types.Body.TheVariants.{Yes}
+use Rattle.cert_text.specs.declared.types.Body.TheVariants.{Yes, Listing}
+use Rattle.cert_text.specs.declared.types.ListBody.{ListBody}
+use Rattle.cert_text.specs.declared.types.FirstStep.{FirstStep}
+use Rattle.cert_text.specs.declared.types.SecondStep.{SecondStep}
 use Rattle.cert_check.specs.Laws.{ValidYesIncludes, ValidNoSeparates, ValidNoSeparatesByWord}
 use Rattle.cert_check.specs.Rules.{lasso_checks, word_checks, YesHolds, BodyHolds, KeepsRules}
 use Rattle.log_check.specs.Ends.{item_after}
@@ -97,7 +100,7 @@ over_at m A B evidence js xs i x over lt is = subst (IsOver m A B evidence (slic
 -- The five lists of checks after those of the relation.
 module _ (m : Mode) (n : ℕ) (A B : Automaton) (evidence : YesBody) where
   abbrev pub elements_part : List Check
-  elements_part = checks_of_each (element_checks A evidence (n + 1)) 0 evidence.elements
+  elements_part = checks_of_each (element_checks A evidence.elements (n + 1)) 0 evidence.elements
 
   abbrev pub under_part : List Check
   under_part = checks_of_each (under_checks m A B evidence (n + 1)) 0 evidence.elements
@@ -134,29 +137,29 @@ module _ (m : Mode) (n : ℕ) (A B : Automaton) (evidence : YesBody) where
       }
 
   -- Each element is placed, live or not.
-  placed : list_all (is_element m) evidence.elements ≡ true → Parts → (e : ℕ) → e < length (origins_of evidence) → IsPlacedIn m A (element_arcs A evidence) e (slice_index_or (origins_of evidence) e Start)
+  placed : list_all (is_element m) evidence.elements ≡ true → Parts → (e : ℕ) → e < length (origins_of evidence) → IsPlacedIn m A (element_arcs A evidence.elements) e (slice_index_or (origins_of evidence) e Start)
   placed fits p e lt =
       let lt' : e < length evidence.elements = omega (arith, length-map evidence.elements (λ (x : Element). x.origin)) in
-      let h = each_of (element_checks A evidence (n + 1)) e evidence.elements no_element lt' p.elements in
+      let h = each_of (element_checks A evidence.elements (n + 1)) e evidence.elements no_element lt' p.elements in
       let is : slice_index_or (origins_of evidence) e Start ≡ (slice_index_or evidence.elements e no_element).origin =
       get_or-map (λ (x : Element). x.origin) evidence.elements e no_element Start lt' in
-      subst (IsPlacedIn m A (element_arcs A evidence) e) (sym is)
-      (placed_one m A (element_arcs A evidence) (length evidence.elements) e (slice_index_or evidence.elements e no_element).origin
+      subst (IsPlacedIn m A (element_arcs A evidence.elements) e) (sym is)
+      (placed_one m A (element_arcs A evidence.elements) (length evidence.elements) e (slice_index_or evidence.elements e no_element).origin
       (origin_fits m evidence.elements e no_element fits lt') h.0.0 h.1.0 h.1.1.0)
 
   no_line : StepLine
   no_line = record { element = 0; by = [] }
 
   -- Each extension of a live element has one over it.
-  step_over : are_steps 0 evidence.elements evidence.steps ≡ true → Parts → (e t : ℕ) → IsLive (element_arcs A evidence) (live_in evidence) e → t < length A.transitions →
-      (trans_at A t).source ≡ (arc_at A (element_arcs A evidence) e).to → (j : ℕ) × IsOver m A B evidence j (extended_arc A (arc_at A (element_arcs A evidence) e) (trans_at A t))
+  step_over : are_steps 0 evidence.elements evidence.steps ≡ true → Parts → (e t : ℕ) → IsLive (element_arcs A evidence.elements) (live_in evidence) e → t < length A.transitions →
+      (trans_at A t).source ≡ (arc_at A (element_arcs A evidence.elements) e).to → (j : ℕ) × IsOver m A B evidence j (extended_arc A (arc_at A (element_arcs A evidence.elements) e) (trans_at A t))
   step_over lined p e t live lt leaves =
-      let size = arcs_count A evidence in
+      let size = arcs_count A evidence.elements in
       let (k, k_in, is) = line_from_start no_line e evidence.elements evidence.steps lined (omega (arith, live.0, size)) live.1 in
       let step : StepLine = slice_index_or evidence.steps k no_line in
       let h = each_of (step_checks m A B evidence (n + 2 + length evidence.elements)) k evidence.steps no_line k_in p.steps in
-      let x : WordArc = arc_at A (element_arcs A evidence) e in
-      let over : AreOver m A B evidence step.by (extensions_of A x) = subst (λ z. AreOver m A B evidence step.by (extensions_of A (arc_at A (element_arcs A evidence) z))) is h.1.0 in
+      let x : WordArc = arc_at A (element_arcs A evidence.elements) e in
+      let over : AreOver m A B evidence step.by (extensions_of A x) = subst (λ z. AreOver m A B evidence step.by (extensions_of A (arc_at A (element_arcs A evidence.elements) z))) is h.1.0 in
       let (i, i_in, same) = kept_at (λ (u : Trans). u.source == x.to) A.transitions t (trans 0 0 0) lt (eq-eqb (trans_at A t).source x.to leaves) in (
         slice_index step.by i,
         over_at m A B evidence step.by (extensions_of A x) i (extended_arc A x (trans_at A t)) over
@@ -165,12 +168,12 @@ module _ (m : Mode) (n : ℕ) (A B : Automaton) (evidence : YesBody) where
       )
 
   -- Each live element passes.
-  passes_one : Parts → (e : ℕ) → IsLive (element_arcs A evidence) (live_in evidence) e → PassesBy m A B evidence e
-  passes_one p e live = let size = arcs_count A evidence in (each_of (pair_checks m A B evidence (n + 1)) e evidence.elements no_element (omega (arith, live.0, size)) p.pairs).0
+  passes_one : Parts → (e : ℕ) → IsLive (element_arcs A evidence.elements) (live_in evidence) e → PassesBy m A B evidence e
+  passes_one p e live = let size = arcs_count A evidence.elements in (each_of (pair_checks m A B evidence (n + 1)) e evidence.elements no_element (omega (arith, live.0, size)) p.pairs).0
 
 -- In a Büchi file they are a closed set of supergraphs.
 pub closed : (n : ℕ) (A B : Automaton) (evidence : YesBody) → list_all (is_element Buchi) evidence.elements ≡ true → are_steps 0 evidence.elements evidence.steps ≡ true →
-    AllHold (inclusion_checks Buchi n A B evidence) → ClosedSet A B (pairs_of evidence.order) (element_arcs A evidence) (live_in evidence)
+    AllHold (inclusion_checks Buchi n A B evidence) → ClosedSet A B (pairs_of evidence.order) (element_arcs A evidence.elements) (live_in evidence)
 closed n A B evidence fits lined hold =
     let p = parts Buchi n A B evidence hold in
     record {
@@ -187,7 +190,7 @@ closed n A B evidence fits lined hold =
 
 -- In a finite file they are a closed set of pairs.
 pub closed_pairs : (n : ℕ) (A B : Automaton) (evidence : YesBody) → list_all (is_element Finite) evidence.elements ≡ true → are_steps 0 evidence.elements evidence.steps ≡ true →
-    AllHold (inclusion_checks Finite n A B evidence) → ClosedPairs A B (pairs_of evidence.order) (element_arcs A evidence) (live_in evidence)
+    AllHold (inclusion_checks Finite n A B evidence) → ClosedPairs A B (pairs_of evidence.order) (element_arcs A evidence.elements) (live_in evidence)
 closed_pairs n A B evidence fits lined hold =
     let p = parts Finite n A B evidence hold in
     record {
@@ -202,20 +205,41 @@ closed_pairs n A B evidence fits lined hold =
 pub included : (m : Mode) (n : ℕ) (A B : Automaton) (evidence : YesBody) → IsAutomaton B → list_all (is_element m) evidence.elements ≡ true → are_steps 0 evidence.elements evidence.steps ≡ true →
     AllHold (inclusion_checks m n A B evidence) → Includes A B m
 included Buchi n A B evidence valid fits lined hold =
-    closed_set_includes A B (pairs_of evidence.order) (element_arcs A evidence) (live_in evidence) valid (closed n A B evidence fits lined hold)
+    closed_set_includes A B (pairs_of evidence.order) (element_arcs A evidence.elements) (live_in evidence) valid (closed n A B evidence fits lined hold)
 included Finite n A B evidence valid fits lined hold =
-    closed_pairs_include A B (pairs_of evidence.order) (element_arcs A evidence) (live_in evidence) (closed_pairs n A B evidence fits lined hold)
+    closed_pairs_include A B (pairs_of evidence.order) (element_arcs A evidence.elements) (live_in evidence) (closed_pairs n A B evidence fits lined hold)
 
--- The parts of a well-formed certificate of inclusion.
-yes_formed : (cert : Cert) (evidence : YesBody) → cert.body ≡ Yes evidence → WellFormed cert → is_yes cert.mode evidence ≡ true
-yes_formed cert evidence is formed =
+-- The steps of the logs.
+pub record LogParts (m : Mode) (firsts : List FirstStep) (seconds : List SecondStep) : Type 0 where
+  pub few_first : length firsts < 10 ^ 9
+  pub first_steps : list_all is_first_step firsts ≡ true
+  pub few_second : length seconds < 10 ^ 9
+  pub second_steps : list_all (is_second_step m) seconds ≡ true
+
+pub log_parts : (m : Mode) (firsts : List FirstStep) (seconds : List SecondStep) → are_logs m firsts seconds ≡ true → LogParts m firsts seconds
+log_parts m firsts seconds h =
+    let a = and_parts (is_short (length firsts)) (list_all is_first_step firsts && (is_short (length seconds) && list_all (is_second_step m) seconds)) h in
+    let b = and_parts (list_all is_first_step firsts) (is_short (length seconds) && list_all (is_second_step m) seconds) a.1 in
+    let c = and_parts (is_short (length seconds)) (list_all (is_second_step m) seconds) b.1 in
+    record { few_first = grind (arith, a.0); first_steps = b.0; few_second = grind (arith, c.0); second_steps = c.1 }
+
+-- The body of a well-formed certificate.
+body_formed : (cert : Cert) → WellFormed cert → is_body cert.mode cert.body ≡ true
+body_formed cert formed =
     let short : (is_short cert.second_states && (is_short cert.labels && is_body cert.mode cert.body)) ≡ true =
     (and_parts (is_short cert.first_states) (is_short cert.second_states && (is_short cert.labels && is_body cert.mode cert.body)) formed).1 in
     let labels : (is_short cert.labels && is_body cert.mode cert.body) ≡ true = (and_parts (is_short cert.second_states) (is_short cert.labels && is_body cert.mode cert.body) short).1 in
-    let fits : is_body cert.mode cert.body ≡ true = (and_parts (is_short cert.labels) (is_body cert.mode cert.body) labels).1 in
-    subst (λ b. is_body cert.mode b ≡ true) is fits
+    (and_parts (is_short cert.labels) (is_body cert.mode cert.body) labels).1
 
+yes_formed : (cert : Cert) (evidence : YesBody) → cert.body ≡ Yes evidence → WellFormed cert → is_yes cert.mode evidence ≡ true
+yes_formed cert evidence is formed = subst (λ b. is_body cert.mode b ≡ true) is (body_formed cert formed)
+
+pub list_formed : (cert : Cert) (list : ListBody) → cert.body ≡ Listing list → WellFormed cert → is_listing cert.mode list ≡ true
+list_formed cert list is formed = subst (λ b. is_body cert.mode b ≡ true) is (body_formed cert formed)
+
+-- The parts of a well-formed certificate of inclusion.
 pub record YesParts (m : Mode) (evidence : YesBody) : Type 0 where
+  pub logs : are_logs m evidence.first evidence.second ≡ true
   pub few : length evidence.elements < 10 ^ 9
   pub elements : list_all (is_element m) evidence.elements ≡ true
   pub lined : are_steps 0 evidence.elements evidence.steps ≡ true
@@ -227,25 +251,24 @@ yes_parts m evidence h =
     let c = and_parts (is_short (length evidence.elements)) (list_all (is_element m) evidence.elements && (are_short evidence.cover && are_steps 0 evidence.elements evidence.steps)) b in
     let d = and_parts (list_all (is_element m) evidence.elements) (are_short evidence.cover && are_steps 0 evidence.elements evidence.steps) c.1 in
     record {
+      logs = (and_parts (are_logs m evidence.first evidence.second) (is_block evidence.order && (is_short (length evidence.elements) && (list_all (is_element m) evidence.elements && (are_short evidence.cover && are_steps 0 evidence.elements evidence.steps)))) h).0;
       few = grind (arith, c.0);
       elements = d.0;
       lined = (and_parts (are_short evidence.cover) (are_steps 0 evidence.elements evidence.steps) d.1).1;
     }
 
--- The steps of its logs.
-pub record LogParts (m : Mode) (evidence : YesBody) : Type 0 where
-  pub few_first : length evidence.first < 10 ^ 9
-  pub firsts : list_all is_first_step evidence.first ≡ true
-  pub few_second : length evidence.second < 10 ^ 9
-  pub seconds : list_all (is_second_step m) evidence.second ≡ true
+-- The parts of a well-formed list.
+pub record ListParts (m : Mode) (list : ListBody) : Type 0 where
+  pub logs : are_logs m list.first list.second ≡ true
+  pub few : length list.elements < 10 ^ 9
+  pub origins : list_all (is_origin m) list.elements ≡ true
 
-pub log_parts : (m : Mode) (evidence : YesBody) → is_yes m evidence ≡ true → LogParts m evidence
-log_parts m evidence h =
-    let logs = (and_parts (are_logs m evidence.first evidence.second) (is_block evidence.order && (is_short (length evidence.elements) && (list_all (is_element m) evidence.elements && (are_short evidence.cover && are_steps 0 evidence.elements evidence.steps)))) h).0 in
-    let a = and_parts (is_short (length evidence.first)) (list_all is_first_step evidence.first && (is_short (length evidence.second) && list_all (is_second_step m) evidence.second)) logs in
-    let b = and_parts (list_all is_first_step evidence.first) (is_short (length evidence.second) && list_all (is_second_step m) evidence.second) a.1 in
-    let c = and_parts (is_short (length evidence.second)) (list_all (is_second_step m) evidence.second) b.1 in
-    record { few_first = grind (arith, a.0); firsts = b.0; few_second = grind (arith, c.0); seconds = c.1 }
+pub list_parts : (m : Mode) (list : ListBody) → is_listing m list ≡ true → ListParts m list
+list_parts m list h =
+    let a = and_parts (are_logs m list.first list.second) (is_short list.limit && (is_short (length list.elements) && list_all (is_origin m) list.elements)) h in
+    let b = and_parts (is_short list.limit) (is_short (length list.elements) && list_all (is_origin m) list.elements) a.1 in
+    let c = and_parts (is_short (length list.elements)) (list_all (is_origin m) list.elements) b.1 in
+    record { logs = a.0; few = grind (arith, c.0); origins = c.1 }
 
 -- There are no more step lines than elements.
 pub lines_fit : (n : ℕ) (es : List Element) (steps : List StepLine) → are_steps n es steps ≡ true → length steps ≤ length es
@@ -269,10 +292,10 @@ pub through_logs : (m : Mode) (pair : Joined) (evidence : YesBody) → IsAutomat
     Includes pair.first pair.second m
 through_logs m pair evidence valid valid' formed h =
     let p = yes_parts m evidence formed in
-    let logs = log_parts m evidence formed in
-    let grows = first_log_grows m pair.first h.ends.first 1 evidence.first valid logs.firsts h.logs.first in
-    let shrinks = second_log_shrinks m pair.second h.ends.second (1 + length evidence.first) evidence.second valid' logs.seconds h.logs.second in
-    let middle = included m (item_after evidence.first evidence.second) h.ends.first h.ends.second evidence shrinks.1.valid p.elements p.lined h.closed in
+    let logs = log_parts m evidence.first evidence.second p.logs in
+    let grows = first_log_grows m pair.first h.ends.first 1 evidence.first valid logs.first_steps h.logs.first in
+    let shrinks = second_log_shrinks m pair.second h.ends.second (1 + length evidence.first) evidence.second valid' logs.second_steps h.logs.second in
+    let middle = included m (item_after evidence.first evidence.second) h.ends.first h.ends.second evidence shrinks.1.valid p.elements p.lined h.hold in
     through m pair.first h.ends.first h.ends.second pair.second grows.0 middle shrinks.0
 
 -- A valid certificate that says yes shows an inclusion.

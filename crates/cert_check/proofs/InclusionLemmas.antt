@@ -2,13 +2,15 @@
 use Rattle.std.proofs.Common.{ℕ, List, ◌++◌, Result, Ok, Err, inl, inr}
 use Rattle.auto_core.specs.Automaton.{Automaton}
 use Rattle.cert_text.specs.declared.types.YesBody.{YesBody}
+use Rattle.cert_text.specs.declared.types.FirstStep.{FirstStep}
+use Rattle.cert_text.specs.declared.types.SecondStep.{SecondStep}
 use Rattle.auto_core.specs.declared.parts.Mode.{Mode}
 use Rattle.ba_format.specs.declared.parts.Joined.{Joined}
 use Rattle.log_check.specs.declared.faults.CheckFault.{CheckFault}
 use Rattle.log_check.specs.declared.faults.CheckFault.TheVariants.{Refused, Memory}
 use Rattle.log_check.specs.declared.ends.Ends.{Ends}
 use Rattle.log_check.specs.Ends.{TellsBothLogs, item_after}
-use Rattle.cert_check.specs.Rules.{TellsYes}
+use Rattle.cert_check.specs.Rules.{TellsAfterLogs}
 use Rattle.log_check.specs.Checks.{Check, AllHold, Tells}
 use Rattle.cert_check.specs.Inclusion.{order_checks, inclusion_checks}
 use Rattle.log_check.proofs.CheckLemmas.{tells_fault, tells_after}
@@ -65,14 +67,9 @@ pairs_last m n A B evidence r order elements under cover steps h =
     (tells_after (Unit {0}) U (C ++ (S ++ P)) r under
     (tells_after (Unit {0}) C (S ++ P) r cover (tells_after (Unit {0}) S P r steps h))))
 
--- A yes whose logs are refused.
-pub fault_in_logs : (mode : Mode) (pair : Joined) (evidence : YesBody) (e : CheckFault) → TellsBothLogs mode pair.first pair.second evidence.first evidence.second (Err e) → TellsYes mode pair evidence (Err e)
-fault_in_logs mode pair evidence (Refused refusal) h = inl h
-fault_in_logs mode pair evidence Memory h = tt
-
--- A yes whose logs lead to two automata.
-pub after_logs : (mode : Mode) (pair : Joined) (evidence : YesBody) (ends : Ends) (r : Result (Unit {0}) CheckFault) → TellsBothLogs mode pair.first pair.second evidence.first evidence.second (Ok ends) →
-    Tells (inclusion_checks mode (item_after evidence.first evidence.second) ends.first ends.second evidence) r → TellsYes mode pair evidence r
-after_logs mode pair evidence ends (Ok x) lead h = record { ends = ends; logs = lead; closed = h }
-after_logs mode pair evidence ends (Err (Refused refusal)) lead h = inr (ends, lead, h)
-after_logs mode pair evidence ends (Err Memory) lead h = tt
+-- Logs that lead to two automata, and a test of these.
+pub after_logs : (mode : Mode) (pair : Joined) (firsts : List FirstStep) (seconds : List SecondStep) (checks : ℕ → Automaton → Automaton → List Check) (ends : Ends) (r : Result (Unit {0}) CheckFault) →
+    TellsBothLogs mode pair.first pair.second firsts seconds (Ok ends) → Tells (checks (item_after firsts seconds) ends.first ends.second) r → TellsAfterLogs mode pair firsts seconds checks r
+after_logs mode pair firsts seconds checks ends (Ok x) lead h = record { ends = ends; logs = lead; hold = h }
+after_logs mode pair firsts seconds checks ends (Err (Refused refusal)) lead h = inr (ends, lead, h)
+after_logs mode pair firsts seconds checks ends (Err Memory) lead h = tt

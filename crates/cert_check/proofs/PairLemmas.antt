@@ -10,7 +10,7 @@ use Rattle.auto_core.specs.declared.parts.Mode.TheVariants.{Buchi}
 use Rattle.graph_rows.specs.Block.{block_graph}
 use Rattle.cert_text.specs.declared.types.YesBody.{YesBody}
 use Rattle.cert_check.specs.Inclusion.{element_arcs, live_in, PassesWithAll}
-use Rattle.cert_check.specs.Supers.{AreSupers, block_at, block_len, held_arc, IsTurn, ListsJust, AddsIf, AreTurnsByState}
+use Rattle.cert_check.specs.Supers.{AreSupers, held_block, held_arc, IsTurn, ListsJust, AddsIf, AreTurnsByState}
 use Rattle.cert_check.specs.declared.elements.Supers.{Supers}
 use Rattle.cert_check.proofs.SuperLemmas.{arcs_count, lassos_alike}
 
@@ -83,11 +83,11 @@ turns_more evidence supers n all list before has just chosen = record {
     )
 
 -- The test of one element against the turns at its end.
-module _ (A B : Automaton) (evidence : YesBody) (supers : Supers) (are : AreSupers Buchi A B evidence (length evidence.elements) supers) where
-  turn_of_tested : (e f : ℕ) → e < length evidence.elements → IsLive (element_arcs A evidence) (live_in evidence) f →
-      IsTested A (super_of B (arc_at A (element_arcs A evidence) e)) (super_of B (arc_at A (element_arcs A evidence) f)) → IsTurn evidence supers f × ((held_arc supers f).from ≡ (held_arc supers e).to)
+module _ (A B : Automaton) (evidence : YesBody) (supers : Supers) (are : AreSupers Buchi A B evidence.elements (length evidence.elements) supers) where
+  turn_of_tested : (e f : ℕ) → e < length evidence.elements → IsLive (element_arcs A evidence.elements) (live_in evidence) f →
+      IsTested A (super_of B (arc_at A (element_arcs A evidence.elements) e)) (super_of B (arc_at A (element_arcs A evidence.elements) f)) → IsTurn evidence supers f × ((held_arc supers f).from ≡ (held_arc supers e).to)
   turn_of_tested e f e_in live tested =
-      let f_in : f < length evidence.elements = omega (arith, live.0, arcs_count A evidence) in
+      let f_in : f < length evidence.elements = omega (arith, live.0, arcs_count A evidence.elements) in
       let x = are.each e e_in in
       let y = are.each f f_in in
       let y_from = ap (λ (z : WordArc). z.from) y.arc in
@@ -102,7 +102,7 @@ module _ (A B : Automaton) (evidence : YesBody) (supers : Supers) (are : AreSupe
       )
 
   tested_of_turn : (e f : ℕ) → e < length evidence.elements → (held_arc supers e).from ≡ A.initial → IsTurn evidence supers f → (held_arc supers f).from ≡ (held_arc supers e).to →
-      IsTested A (super_of B (arc_at A (element_arcs A evidence) e)) (super_of B (arc_at A (element_arcs A evidence) f))
+      IsTested A (super_of B (arc_at A (element_arcs A evidence.elements) e)) (super_of B (arc_at A (element_arcs A evidence.elements) f))
   tested_of_turn e f e_in starts turn meets =
       let x = are.each e e_in in
       let y = are.each f turn.is in
@@ -116,15 +116,15 @@ module _ (A B : Automaton) (evidence : YesBody) (supers : Supers) (are : AreSupe
       }
 
   blocks_of_words : (e f : ℕ) → e < length evidence.elements → f < length evidence.elements →
-      LassoIn (block_graph B.states (block_at (block_len Buchi B.states) supers.blocks.items e)) (block_graph B.states (block_at (block_len Buchi B.states) supers.blocks.items f)) B.initial
-      ↔ LassoIn (graph_of B (arc_at A (element_arcs A evidence) e).word) (graph_of B (arc_at A (element_arcs A evidence) f).word) B.initial
+      LassoIn (block_graph B.states (held_block supers e)) (block_graph B.states (held_block supers f)) B.initial
+      ↔ LassoIn (graph_of B (arc_at A (element_arcs A evidence.elements) e).word) (graph_of B (arc_at A (element_arcs A evidence.elements) f).word) B.initial
   blocks_of_words e f e_in f_in =
-      lassos_alike A B (held_arc supers e) (held_arc supers f) (block_at (block_len Buchi B.states) supers.blocks.items e) (block_at (block_len Buchi B.states) supers.blocks.items f)
-      (arc_at A (element_arcs A evidence) e) (arc_at A (element_arcs A evidence) f) B.initial (are.each e e_in) (are.each f f_in)
+      lassos_alike A B (held_arc supers e) (held_arc supers f) (held_block supers e) (held_block supers f)
+      (arc_at A (element_arcs A evidence.elements) e) (arc_at A (element_arcs A evidence.elements) f) B.initial (are.each e e_in) (are.each f f_in)
 
   pub passes_told : (e : ℕ) (turns : List ℕ) (told : Bool) → e < length evidence.elements → live_in evidence e ≡ true → (held_arc supers e).from ≡ A.initial →
       ListsJust turns (λ f. IsTurn evidence supers f × ((held_arc supers f).from ≡ (held_arc supers e).to)) →
-      ((told ≡ true) ↔ ((f : ℕ) → Contains turns f → LassoIn (block_graph B.states (block_at (block_len Buchi B.states) supers.blocks.items e)) (block_graph B.states (block_at (block_len Buchi B.states) supers.blocks.items f)) B.initial)) →
+      ((told ≡ true) ↔ ((f : ℕ) → Contains turns f → LassoIn (block_graph B.states (held_block supers e)) (block_graph B.states (held_block supers f)) B.initial)) →
       (told ≡ true) ↔ PassesWithAll A B evidence e
   passes_told e turns told e_in live starts just asked = (
     λ is. λ _ f live_f. λ tested.
@@ -132,8 +132,8 @@ module _ (A B : Automaton) (evidence : YesBody) (supers : Supers) (are : AreSupe
         (blocks_of_words e f e_in turn.0.is).0 (asked.0 is f ((just f).1 turn)),
     λ passes. asked.1 (λ f there.
         let turn = (just f).0 there in
-        let live_e : IsLive (element_arcs A evidence) (live_in evidence) e = (omega (arith, e_in, arcs_count A evidence), live) in
-        let live_f : IsLive (element_arcs A evidence) (live_in evidence) f = (omega (arith, turn.0.is, arcs_count A evidence), turn.0.live) in
+        let live_e : IsLive (element_arcs A evidence.elements) (live_in evidence) e = (omega (arith, e_in, arcs_count A evidence.elements), live) in
+        let live_f : IsLive (element_arcs A evidence.elements) (live_in evidence) f = (omega (arith, turn.0.is, arcs_count A evidence.elements), turn.0.live) in
         (blocks_of_words e f e_in turn.0.is).1 (passes live_e f live_f (tested_of_turn e f e_in starts turn.0 turn.1))),
   )
 

@@ -1,34 +1,43 @@
 -- A certificate breaks one rule first, and none where it keeps them all.
-use Rattle.std.proofs.Common.{◌≡◌, inl, inr, [], ◌∷◌, subst}
+use Rattle.std.proofs.Common.{◌≡◌, ℕ, inl, inr, List, [], ◌∷◌, subst}
+use Rattle.auto_core.specs.Automaton.{Automaton}
 use Rattle.auto_core.specs.declared.parts.Mode.{Mode}
 use Rattle.ba_format.specs.declared.parts.Joined.{Joined}
 use Rattle.cert_text.specs.declared.types.Body.{Body}
 use Rattle.cert_text.specs.declared.types.Body.TheVariants.{Yes, NoLasso, NoWord, Listing}
-use Rattle.cert_text.specs.declared.types.YesBody.{YesBody}
+use Rattle.cert_text.specs.declared.types.FirstStep.{FirstStep}
+use Rattle.cert_text.specs.declared.types.SecondStep.{SecondStep}
 use Rattle.log_check.specs.declared.ends.Ends.{Ends}
 use Rattle.log_check.specs.declared.faults.Refusal.{Refusal}
-use Rattle.log_check.specs.Checks.{FirstBroken, rule_at}
+use Rattle.log_check.specs.Checks.{Check, FirstBroken, rule_at}
 use Rattle.log_check.specs.Ends.{item_after}
 use Rattle.log_check.proofs.LawOneLemmas.{broken_one, broken_or_all, ends_one, break_one, none_breaks}
-use Rattle.cert_check.specs.Inclusion.{inclusion_checks}
-use Rattle.cert_check.specs.Rules.{HasSizes, lasso_checks, word_checks, YesHolds, YesBreaks, BodyHolds, BodyBreaks}
+use Rattle.cert_check.specs.Rules.{HasSizes, lasso_checks, word_checks, yes_checks, list_checks, HoldsAfterLogs, BreaksAfterLogs, BodyHolds, BodyBreaks}
 use Rattle.cert_check.specs.Laws.{OneRuleBreaks, NoneBreaksWhereKept}
 
-one_of_yes : (mode : Mode) (pair : Joined) (evidence : YesBody) (refusal other : Refusal) → YesBreaks mode pair evidence refusal → YesBreaks mode pair evidence other → refusal ≡ other
-one_of_yes mode pair evidence refusal other (inl h) (inl k) = break_one mode pair.first pair.second evidence.first evidence.second refusal other h k
-one_of_yes mode pair evidence refusal other (inl h) (inr (ends, are, k)) = absurd (none_breaks mode pair.first pair.second evidence.first evidence.second refusal ends h are)
-one_of_yes mode pair evidence refusal other (inr (ends, are, h)) (inl k) = absurd (none_breaks mode pair.first pair.second evidence.first evidence.second other ends k are)
-one_of_yes mode pair evidence refusal other (inr (ends, are, h)) (inr (ends', are', k)) =
-    let n = item_after evidence.first evidence.second in
-    let same = ends_one mode pair.first pair.second evidence.first evidence.second ends' ends are' are in
-    broken_one (inclusion_checks mode n ends.first ends.second evidence) refusal other h
-    (subst (λ (z : Ends). FirstBroken (inclusion_checks mode n z.first z.second evidence) other) same k)
+module _ (mode : Mode) (pair : Joined) (firsts : List FirstStep) (seconds : List SecondStep) (checks : ℕ → Automaton → Automaton → List Check) where
+  abbrev n : ℕ
+  n = item_after firsts seconds
+
+  one_after_logs : (refusal other : Refusal) → BreaksAfterLogs mode pair firsts seconds checks refusal → BreaksAfterLogs mode pair firsts seconds checks other → refusal ≡ other
+  one_after_logs refusal other (inl h) (inl k) = break_one mode pair.first pair.second firsts seconds refusal other h k
+  one_after_logs refusal other (inl h) (inr (ends, are, k)) = absurd (none_breaks mode pair.first pair.second firsts seconds refusal ends h are)
+  one_after_logs refusal other (inr (ends, are, h)) (inl k) = absurd (none_breaks mode pair.first pair.second firsts seconds other ends k are)
+  one_after_logs refusal other (inr (ends, are, h)) (inr (ends', are', k)) =
+      let same = ends_one mode pair.first pair.second firsts seconds ends' ends are' are in
+      broken_one (checks n ends.first ends.second) refusal other h (subst (λ (z : Ends). FirstBroken (checks n z.first z.second) other) same k)
+
+  none_after_logs : (refusal : Refusal) → BreaksAfterLogs mode pair firsts seconds checks refusal → HoldsAfterLogs mode pair firsts seconds checks → ⊥
+  none_after_logs refusal (inl h) holds = none_breaks mode pair.first pair.second firsts seconds refusal holds.ends h holds.logs
+  none_after_logs refusal (inr (ends, are, h)) holds =
+      let same = ends_one mode pair.first pair.second firsts seconds ends holds.ends are holds.logs in
+      broken_or_all (checks n holds.ends.first holds.ends.second) refusal (subst (λ (z : Ends). FirstBroken (checks n z.first z.second) refusal) same h) holds.hold
 
 one_of_body : (mode : Mode) (pair : Joined) (body : Body) (refusal other : Refusal) → BodyBreaks mode pair body refusal → BodyBreaks mode pair body other → refusal ≡ other
-one_of_body mode pair (Yes evidence) refusal other h k = one_of_yes mode pair evidence refusal other h k
+one_of_body mode pair (Yes evidence) refusal other h k = one_after_logs mode pair evidence.first evidence.second (yes_checks mode evidence) refusal other h k
 one_of_body mode pair (NoLasso lasso) refusal other h k = broken_one (lasso_checks pair lasso) refusal other h k
 one_of_body mode pair (NoWord word) refusal other h k = broken_one (word_checks pair word) refusal other h k
-one_of_body mode pair (Listing list) refusal other h k = absurd h
+one_of_body mode pair (Listing list) refusal other h k = one_after_logs mode pair list.first list.second (list_checks mode list) refusal other h k
 
 pub one_rule : OneRuleBreaks
 one_rule pair cert refusal other (inl h) (inl k) = broken_one (rule_at 1 0 (HasSizes pair cert) ∷ []) refusal other h k
@@ -36,19 +45,11 @@ one_rule pair cert refusal other (inl h) (inr k) = absurd (broken_or_all (rule_a
 one_rule pair cert refusal other (inr h) (inl k) = absurd (broken_or_all (rule_at 1 0 (HasSizes pair cert) ∷ []) other k (h.0, tt))
 one_rule pair cert refusal other (inr h) (inr k) = one_of_body cert.mode pair cert.body refusal other h.1 k.1
 
-none_of_yes : (mode : Mode) (pair : Joined) (evidence : YesBody) (refusal : Refusal) → YesBreaks mode pair evidence refusal → YesHolds mode pair evidence → ⊥
-none_of_yes mode pair evidence refusal (inl h) holds = none_breaks mode pair.first pair.second evidence.first evidence.second refusal holds.ends h holds.logs
-none_of_yes mode pair evidence refusal (inr (ends, are, h)) holds =
-    let n = item_after evidence.first evidence.second in
-    let same = ends_one mode pair.first pair.second evidence.first evidence.second ends holds.ends are holds.logs in
-    broken_or_all (inclusion_checks mode n holds.ends.first holds.ends.second evidence) refusal
-    (subst (λ (z : Ends). FirstBroken (inclusion_checks mode n z.first z.second evidence) refusal) same h) holds.closed
-
 none_of_body : (mode : Mode) (pair : Joined) (body : Body) (refusal : Refusal) → BodyBreaks mode pair body refusal → BodyHolds mode pair body → ⊥
-none_of_body mode pair (Yes evidence) refusal h holds = none_of_yes mode pair evidence refusal h holds
+none_of_body mode pair (Yes evidence) refusal h holds = none_after_logs mode pair evidence.first evidence.second (yes_checks mode evidence) refusal h holds
 none_of_body mode pair (NoLasso lasso) refusal h holds = broken_or_all (lasso_checks pair lasso) refusal h holds
 none_of_body mode pair (NoWord word) refusal h holds = broken_or_all (word_checks pair word) refusal h holds
-none_of_body mode pair (Listing list) refusal h holds = h
+none_of_body mode pair (Listing list) refusal h holds = none_after_logs mode pair list.first list.second (list_checks mode list) refusal h holds
 
 pub none_kept : NoneBreaksWhereKept
 none_kept pair cert refusal (inl h) keeps = broken_or_all (rule_at 1 0 (HasSizes pair cert) ∷ []) refusal h (keeps.0, tt)

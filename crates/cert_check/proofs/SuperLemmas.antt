@@ -1,5 +1,5 @@
 -- What stands for an element: its arc and its block, in a table of them, and what they are compared by.
-use Rattle.std.proofs.Common.{◌≡◌, ◌↔◌, ℕ, zero, suc, false, refl, ◌+◌, ◌-◌, ◌*◌, ◌<◌, ◌≤◌, ◌==◌, map, Result, Ok, Err, IfOk, List, [], ◌∷◌, ◌++◌, length, take, drop, slice_index_or, sym, ap, ◌∙◌, subst, arith, length-append, inl, inr}
+use Rattle.std.proofs.Common.{◌≡◌, ◌↔◌, ℕ, zero, suc, false, refl, ◌+◌, ◌-◌, ◌*◌, ◌<◌, ◌≤◌, ◌==◌, map, Result, Ok, Err, IfOk, List, [], ◌∷◌, ◌++◌, length, take, drop, slice_index_or, sym, ap, ◌∙◌, subst, arith, length-append, inl, inr, Vec, Global}
 use Rattle.std.specs.List.{filter}
 use Rattle.std.proofs.lemmas.Bool.{cases_lt, eq-eqb, ne_eqb}
 use Rattle.look_round.proofs.SegmentLemmas.{filter_segment}
@@ -23,61 +23,43 @@ use Rattle.set_rows.specs.Sets.{IsRow, IsCovered}
 use Rattle.graph_rows.specs.Block.{block_graph, IsFormed}
 use Rattle.supergraph.specs.declared.arcs.Arc.{Arc}
 use Rattle.supergraph.specs.Stands.{with_word, with_graph}
-use Rattle.cert_text.specs.declared.types.YesBody.{YesBody}
 use Rattle.cert_text.specs.declared.types.Element.{Element}
-use Rattle.cert_check.specs.Inclusion.{element_arcs, origins_of, starts_of, extensions_of, SubsumesIn}
-use Rattle.cert_check.specs.Supers.{block_len, block_at, no_arc, IsBlock, IsArcIn, HasWord, StandFor, AreSupers}
+use Rattle.cert_check.specs.Inclusion.{element_arcs, starts_of, extensions_of, SubsumesIn}
+use Rattle.cert_check.specs.Supers.{held_arc, held_block, blocks_of, no_arc, IsBlock, IsArcIn, HasWord, StandFor, AreSupers}
 use Rattle.cert_check.specs.declared.elements.Supers.{Supers}
 
--- Blocks of L words one after another.
-pub blocks_fit : (e n L : ℕ) → e < n → e * L + L ≤ n * L
-blocks_fit e zero L lt = absurd (omega arith)
-blocks_fit e (suc n) L lt = elim (cases_lt e n) [
-  | inl before ↦ let h = blocks_fit e n L before in omega arith
-  | inr after ↦ let is : e ≡ n = omega arith in subst (λ m. m * L + L ≤ suc n * L) (sym is) (omega arith)
-]
-
-block_kept : (L at : ℕ) (xs ys : List ℕ) → at + L ≤ length xs → take L (drop at (xs ++ ys)) ≡ take L (drop at xs)
-block_kept L at xs ys fits = same_lists _ _ (grind (arith, places)) (λ k d h. grind (arith, places))
-
-block_last : (L at : ℕ) (xs ys : List ℕ) → length xs ≡ at → length ys ≡ L → take L (drop at (xs ++ ys)) ≡ ys
-block_last L at xs ys is size = same_lists _ _ (grind (arith, places)) (λ k d h. grind (arith, places))
+-- The blocks, each as the list of its words, are as many as the blocks.
+pub blocks_count : (supers : Supers) → length (blocks_of supers) ≡ length supers.blocks.items
+blocks_count supers = length-map supers.blocks.items (λ (b : Vec ℕ Global). b.items)
 
 -- One more arc and block.
-module _ (m : Mode) (A B : Automaton) (evidence : YesBody) (n : ℕ) (old new : Supers) (arc : Arc) (block : List ℕ)
-    (words : new.words ≡ old.words) (arcs : new.arcs.items ≡ old.arcs.items ++ arc ∷ []) (blocks : new.blocks.items ≡ old.blocks.items ++ block)
-    (size : length block ≡ block_len m B.states) where
-  stands_more : AreSupers m A B evidence n old → StandFor m A B arc block (arc_at A (element_arcs A evidence) n) → (e : ℕ) → e < n + 1 →
-      StandFor m A B (slice_index_or new.arcs.items e no_arc) (block_at (block_len m B.states) new.blocks.items e) (arc_at A (element_arcs A evidence) e)
+module _ (m : Mode) (A B : Automaton) (elements : List Element) (n : ℕ) (old new : Supers) (arc : Arc) (block : List ℕ)
+    (arcs : new.arcs.items ≡ old.arcs.items ++ arc ∷ []) (blocks : blocks_of new ≡ blocks_of old ++ block ∷ []) where
+  stands_more : AreSupers m A B elements n old → StandFor m A B arc block (arc_at A (element_arcs A elements) n) → (e : ℕ) → e < n + 1 →
+      StandFor m A B (held_arc new e) (held_block new e) (arc_at A (element_arcs A elements) e)
   stands_more supers stands e lt = elim (cases_lt e n) [
     | inl before ↦
-        let fits = blocks_fit e n (block_len m B.states) before in
-        let same_arc : slice_index_or new.arcs.items e no_arc ≡ slice_index_or old.arcs.items e no_arc =
+        let same_arc : held_arc new e ≡ held_arc old e =
         ap (λ xs. slice_index_or xs e no_arc) arcs ∙ get_or_append_left old.arcs.items (arc ∷ []) no_arc e (omega (arith, supers.count)) in
-        let same_block : block_at (block_len m B.states) new.blocks.items e ≡ block_at (block_len m B.states) old.blocks.items e =
-        ap (λ xs. block_at (block_len m B.states) xs e) blocks ∙ block_kept (block_len m B.states) (e * block_len m B.states) old.blocks.items block (subst (λ k. e * block_len m B.states + block_len m B.states ≤ k) (sym supers.size) fits) in
-        subst (λ b. StandFor m A B (slice_index_or new.arcs.items e no_arc) b (arc_at A (element_arcs A evidence) e)) (sym same_block)
-        (subst (λ a. StandFor m A B a (block_at (block_len m B.states) old.blocks.items e) (arc_at A (element_arcs A evidence) e)) (sym same_arc) (supers.each e before))
+        let same_block : held_block new e ≡ held_block old e =
+        ap (λ xs. slice_index_or xs e []) blocks ∙ get_or_append_left (blocks_of old) (block ∷ []) [] e (omega (arith, supers.size, blocks_count old)) in
+        subst (λ b. StandFor m A B (held_arc new e) b (arc_at A (element_arcs A elements) e)) (sym same_block)
+        (subst (λ a. StandFor m A B a (held_block old e) (arc_at A (element_arcs A elements) e)) (sym same_arc) (supers.each e before))
     | inr after ↦
         let is : e ≡ n = omega arith in
-        let last_arc : slice_index_or new.arcs.items n no_arc ≡ arc =
-        ap (λ xs. slice_index_or xs n no_arc) arcs ∙ get_or_push old.arcs.items arc no_arc n supers.count in
-        let last_block : block_at (block_len m B.states) new.blocks.items n ≡ block =
-        ap (λ xs. block_at (block_len m B.states) xs n) blocks ∙ block_last (block_len m B.states) (n * block_len m B.states) old.blocks.items block supers.size size in
-        subst (λ k. StandFor m A B (slice_index_or new.arcs.items k no_arc) (block_at (block_len m B.states) new.blocks.items k) (arc_at A (element_arcs A evidence) k)) (sym is)
-        (subst (λ b. StandFor m A B (slice_index_or new.arcs.items n no_arc) b (arc_at A (element_arcs A evidence) n)) (sym last_block)
-        (subst (λ a. StandFor m A B a block (arc_at A (element_arcs A evidence) n)) (sym last_arc) stands))
+        let last_arc : held_arc new n ≡ arc = ap (λ xs. slice_index_or xs n no_arc) arcs ∙ get_or_push old.arcs.items arc no_arc n supers.count in
+        let last_block : held_block new n ≡ block = ap (λ xs. slice_index_or xs n []) blocks ∙ get_or_push (blocks_of old) block [] n (blocks_count old ∙ supers.size) in
+        subst (λ k. StandFor m A B (held_arc new k) (held_block new k) (arc_at A (element_arcs A elements) k)) (sym is)
+        (subst (λ b. StandFor m A B (held_arc new n) b (arc_at A (element_arcs A elements) n)) (sym last_block)
+        (subst (λ a. StandFor m A B a block (arc_at A (element_arcs A elements) n)) (sym last_arc) stands))
   ]
 
-  pub supers_more : AreSupers m A B evidence n old → StandFor m A B arc block (arc_at A (element_arcs A evidence) n) → AreSupers m A B evidence (n + 1) new
-  supers_more supers stands =
-      let more : (n + 1) * block_len m B.states ≡ n * block_len m B.states + block_len m B.states = omega arith in
-      record {
-        words = words ∙ supers.words;
-        count = ap length arcs ∙ length-append old.arcs.items (arc ∷ []) ∙ ap (λ k. k + 1) supers.count;
-        size = ap length blocks ∙ length-append old.blocks.items block ∙ ap (λ k. k + length block) supers.size ∙ ap (λ k. n * block_len m B.states + k) size ∙ sym more;
-        each = stands_more supers stands;
-      }
+  pub supers_more : AreSupers m A B elements n old → StandFor m A B arc block (arc_at A (element_arcs A elements) n) → AreSupers m A B elements (n + 1) new
+  supers_more supers stands = record {
+    count = ap length arcs ∙ length-append old.arcs.items (arc ∷ []) ∙ ap (λ k. k + 1) supers.count;
+    size = sym (blocks_count new) ∙ ap length blocks ∙ length-append (blocks_of old) (block ∷ []) ∙ ap (λ k. k + 1) (blocks_count old ∙ supers.size);
+    each = stands_more supers stands;
+  }
 
 -- The first arc of a transition.
 pub base_stands : (A B : Automaton) (arc : Arc) (block : List ℕ) (t : ℕ) →
@@ -180,8 +162,8 @@ pub lassos_alike : (A B : Automaton) (a b : Arc) (g h : List ℕ) (x y : WordArc
 lassos_alike A B a b g h x y i s t = lassos_both_ways (block_graph B.states g) (block_graph B.states h) (graph_of B x.word) (graph_of B y.word) i s.word t.word
 
 -- Each element has an arc.
-pub arcs_count : (A : Automaton) (evidence : YesBody) → length (element_arcs A evidence) ≡ length evidence.elements
-arcs_count A evidence = length-arcs_of A (origins_of evidence) ∙ length-map evidence.elements (λ (x : Element). x.origin)
+pub arcs_count : (A : Automaton) (elements : List Element) → length (element_arcs A elements) ≡ length elements
+arcs_count A elements = length-arcs_of A (map (λ (x : Element). x.origin) elements) ∙ length-map elements (λ (x : Element). x.origin)
 
 -- Real arcs end in states.
 pub ends_in_state : (A : Automaton) → IsAutomaton A → (x : WordArc) → IsReal A x → x.to < A.states

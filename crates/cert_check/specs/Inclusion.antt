@@ -26,8 +26,8 @@ abbrev pub origins_of : YesBody → List Origin
 origins_of evidence = map (λ (e : Element). e.origin) evidence.elements
 
 -- The arcs of the elements, each with its word.
-abbrev pub element_arcs : Automaton → YesBody → List WordArc
-element_arcs A evidence = arcs_of A (origins_of evidence)
+abbrev pub element_arcs : Automaton → List Element → List WordArc
+element_arcs A elements = arcs_of A (map (λ (e : Element). e.origin) elements)
 
 -- Past the end there are no elements; what stands there is not live.
 abbrev pub no_element : Element
@@ -68,12 +68,12 @@ SubsumesIn Finite B S x y = PairSubsumes (Holds S) (pair_of B x) (pair_of B y)
 -- The element j is live, and it subsumes x by exactly the listed pairs.
 abbrev pub IsOver : Mode → Automaton → Automaton → YesBody → ℕ → WordArc → Type 0
 IsOver mode A B evidence j x =
-    IsLive (element_arcs A evidence) (live_in evidence) j × SubsumesIn mode B (pairs_of evidence.order) (arc_at A (element_arcs A evidence) j) x
+    IsLive (element_arcs A evidence.elements) (live_in evidence) j × SubsumesIn mode B (pairs_of evidence.order) (arc_at A (element_arcs A evidence.elements) j) x
 
 -- An element that is not live is under the one that it names.
 abbrev pub IsUnder : Mode → Automaton → Automaton → YesBody → ℕ → Mark → Type 0
 IsUnder mode A B evidence e Live = Unit {0}
-IsUnder mode A B evidence e (Under j) = IsOver mode A B evidence j (arc_at A (element_arcs A evidence) e)
+IsUnder mode A B evidence e (Under j) = IsOver mode A B evidence j (arc_at A (element_arcs A evidence.elements) e)
 
 -- There are as many elements named as there are arcs, each of them over the arc at its place.
 pub record AreOver (mode : Mode) (A B : Automaton) (evidence : YesBody) (js : List ℕ) (xs : List WordArc) : Type 0 where
@@ -96,12 +96,12 @@ extensions_of A x = map (extended_arc A x) (filter (λ (t : Trans). t.source == 
 -- The element, if it is live, passes with each live one.
 abbrev pub PassesWithAll : Automaton → Automaton → YesBody → ℕ → Type 0
 PassesWithAll A B evidence e =
-    IsLive (element_arcs A evidence) (live_in evidence) e → (f : ℕ) → IsLive (element_arcs A evidence) (live_in evidence) f →
-    Passes A B (super_of B (arc_at A (element_arcs A evidence) e)) (super_of B (arc_at A (element_arcs A evidence) f))
+    IsLive (element_arcs A evidence.elements) (live_in evidence) e → (f : ℕ) → IsLive (element_arcs A evidence.elements) (live_in evidence) f →
+    Passes A B (super_of B (arc_at A (element_arcs A evidence.elements) e)) (super_of B (arc_at A (element_arcs A evidence.elements) f))
 
 -- The element, if it is live, passes: if its state is accepting, a member of its set is.
 abbrev pub PassesAlone : Automaton → Automaton → YesBody → ℕ → Type 0
-PassesAlone A B evidence e = IsLive (element_arcs A evidence) (live_in evidence) e → PairPasses A B (pair_of B (arc_at A (element_arcs A evidence) e))
+PassesAlone A B evidence e = IsLive (element_arcs A evidence.elements) (live_in evidence) e → PairPasses A B (pair_of B (arc_at A (element_arcs A evidence.elements) e))
 
 -- What is asked of the live elements: their pairs pass, in finite mode each passes by itself.
 abbrev pub PassesBy : Mode → Automaton → Automaton → YesBody → ℕ → Type 0
@@ -120,11 +120,11 @@ order_checks B evidence item =
     ∷ []
 
 -- What an element names is there, its parent stands before it, and its transition goes on from the parent.
-abbrev pub element_checks : Automaton → YesBody → ℕ → ℕ → Element → List Check
-element_checks A evidence item e element =
-    rule_at 1 (item + e) (NamesOrigin A (length evidence.elements) element.origin × NamesElement (length evidence.elements) element.mark)
+abbrev pub element_checks : Automaton → List Element → ℕ → ℕ → Element → List Check
+element_checks A elements item e element =
+    rule_at 1 (item + e) (NamesOrigin A (length elements) element.origin × NamesElement (length elements) element.mark)
     ∷ rule_at 10 (item + e) (HasEarlierParent e element.origin)
-    ∷ rule_at 11 (item + e) (GoesOn A (element_arcs A evidence) element.origin)
+    ∷ rule_at 11 (item + e) (GoesOn A (element_arcs A elements) element.origin)
     ∷ []
 
 -- It is under the element that it names.
@@ -142,7 +142,7 @@ cover_checks mode A B evidence item =
 abbrev pub step_checks : Mode → Automaton → Automaton → YesBody → ℕ → ℕ → StepLine → List Check
 step_checks mode A B evidence item k step =
     rule_at 1 (item + k) ((step.element < length evidence.elements) × AreElements evidence step.by)
-    ∷ rule_at 14 (item + k) (AreOver mode A B evidence step.by (extensions_of A (arc_at A (element_arcs A evidence) step.element)))
+    ∷ rule_at 14 (item + k) (AreOver mode A B evidence step.by (extensions_of A (arc_at A (element_arcs A evidence.elements) step.element)))
     ∷ []
 
 -- It passes.
@@ -153,7 +153,7 @@ pair_checks mode A B evidence item e element = rule_at 15 (item + e) (PassesBy m
 abbrev pub inclusion_checks : Mode → ℕ → Automaton → Automaton → YesBody → List Check
 inclusion_checks mode item A B evidence =
     order_checks B evidence item
-    ++ (checks_of_each (element_checks A evidence (item + 1)) 0 evidence.elements
+    ++ (checks_of_each (element_checks A evidence.elements (item + 1)) 0 evidence.elements
     ++ (checks_of_each (under_checks mode A B evidence (item + 1)) 0 evidence.elements
     ++ (cover_checks mode A B evidence (item + 1 + length evidence.elements)
     ++ (checks_of_each (step_checks mode A B evidence (item + 2 + length evidence.elements)) 0 evidence.steps

@@ -1,20 +1,20 @@
 -- What valid certificates show.
-use Rattle.std.specs.Prelude.{◌≡◌, ℕ, List, true}
+use Rattle.std.specs.Prelude.{◌≡◌, ℕ, ◌+◌, List}
 use Rattle.auto_core.specs.Automaton.{IsAutomaton}
 use Rattle.auto_core.specs.Accept.{Includes, SeparatesLasso, SeparatesWord}
 use Rattle.auto_core.specs.declared.parts.Lasso.{Lasso}
 use Rattle.ba_format.specs.declared.parts.Joined.{Joined}
 use Rattle.cert_text.specs.declared.types.Cert.{Cert}
 use Rattle.cert_text.specs.declared.types.YesBody.{YesBody}
-use Rattle.cert_text.specs.declared.types.Body.TheVariants.{Yes, NoLasso, NoWord}
+use Rattle.cert_text.specs.declared.types.ListBody.{ListBody}
+use Rattle.cert_text.specs.declared.types.Body.TheVariants.{Yes, NoLasso, NoWord, Listing}
 use Rattle.cert_text.specs.WellFormed.{WellFormed}
 use Rattle.log_check.specs.declared.faults.Refusal.{Refusal}
-use Rattle.cert_check.specs.Rules.{KeepsRules, BreaksRule, has_checked_form}
+use Rattle.cert_check.specs.Rules.{KeepsRules, BreaksRule, ListsDifferent}
 
--- The certificate is valid for the two automata: it is well-formed, of a form whose rules are tested, and keeps all of them.
+-- The certificate is valid for the two automata: it is well-formed and keeps all rules.
 pub record IsValid (pair : Joined) (cert : Cert) : Type 0 where
   pub formed : WellFormed cert
-  pub form : has_checked_form cert ≡ true
   pub keeps : KeepsRules pair cert
 
 -- If a valid certificate says yes, the second automaton accepts each lasso, in finite mode each word, that the first accepts.
@@ -28,6 +28,11 @@ ValidNoSeparates = (pair : Joined) (cert : Cert) (lasso : Lasso) → cert.body �
 -- If it says no by a word, the first automaton accepts that and the second does not.
 abbrev pub ValidNoSeparatesByWord : Type 0
 ValidNoSeparatesByWord = (pair : Joined) (cert : Cert) (word : List ℕ) → cert.body ≡ NoWord word → IsValid pair cert → SeparatesWord pair.first pair.second word
+
+-- A valid list has, of the automata that its logs lead to, one more than its limit of pairwise different supergraphs, in finite mode pairs of
+-- a state and a set.
+abbrev pub ValidListShows : Type 0
+ValidListShows = (pair : Joined) (cert : Cert) (list : ListBody) → cert.body ≡ Listing list → IsValid pair cert → ListsDifferent cert.mode pair (list.limit + 1) list
 
 -- A certificate breaks one rule first, at most.
 abbrev pub OneRuleBreaks : Type 0

@@ -1,4 +1,5 @@
 pub mod Rules
 pub mod Inclusion
+pub mod Listing
 pub mod Supers
 pub mod Laws

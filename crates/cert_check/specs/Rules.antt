@@ -1,5 +1,5 @@
 -- What each rule asks of a certificate, in the order in which the rules are tested.
-use Rattle.std.specs.Prelude.{◌≡◌, ◌⊎◌, ℕ, ◌<◌, Bool, true, false, List, [], ◌∷◌, length, All, Result, Ok, Err}
+use Rattle.std.specs.Prelude.{◌≡◌, ◌⊎◌, ℕ, ◌+◌, ◌<◌, List, [], ◌∷◌, length, All, Result, Ok, Err}
 use Rattle.auto_core.specs.Automaton.{Automaton}
 use Rattle.auto_core.specs.Accept.{AcceptsLasso, AcceptsWord, SeparatesLasso, SeparatesWord, Includes}
 use Rattle.auto_core.specs.declared.parts.Lasso.{Lasso}
@@ -8,6 +8,9 @@ use Rattle.ba_format.specs.declared.parts.Joined.{Joined}
 use Rattle.cert_text.specs.declared.types.Cert.{Cert}
 use Rattle.cert_text.specs.declared.types.Body.{Body}
 use Rattle.cert_text.specs.declared.types.YesBody.{YesBody}
+use Rattle.cert_text.specs.declared.types.ListBody.{ListBody}
+use Rattle.cert_text.specs.declared.types.FirstStep.{FirstStep}
+use Rattle.cert_text.specs.declared.types.SecondStep.{SecondStep}
 use Rattle.cert_text.specs.declared.types.Body.TheVariants.{Yes, NoLasso, NoWord, Listing}
 use Rattle.cert_check.specs.declared.faults.Verdict.{Verdict}
 use Rattle.cert_check.specs.declared.faults.Verdict.TheVariants.{Included, Apart, ApartWord, Listed}
@@ -18,6 +21,7 @@ use Rattle.log_check.specs.declared.ends.Ends.{Ends}
 use Rattle.log_check.specs.Checks.{Check, AllHold, FirstBroken, rule_at}
 use Rattle.log_check.specs.Ends.{AreEnds, LogsBreak, item_after}
 use Rattle.cert_check.specs.Inclusion.{inclusion_checks}
+use Rattle.cert_check.specs.Listing.{AreListedIn, listing_checks}
 
 -- Each letter of the word is a label.
 abbrev pub AreLabels : ℕ → List ℕ → Type 0
@@ -45,50 +49,56 @@ word_checks pair word =
     ∷ rule_at 17 1 (AcceptsWord pair.second word → ⊥)
     ∷ []
 
--- A yes keeps its rules: the steps of both logs keep theirs, and then the evidence keeps those on the two automata that the logs lead to.
-pub record YesHolds (mode : Mode) (pair : Joined) (evidence : YesBody) : Type 0 where
+-- The steps of both logs keep their rules, and these checks, from the item after the steps on, hold of the two automata that the logs
+-- lead to.
+pub record HoldsAfterLogs (mode : Mode) (pair : Joined) (firsts : List FirstStep) (seconds : List SecondStep) (checks : ℕ → Automaton → Automaton → List Check) : Type 0 where
   pub ends : Ends
-  pub logs : AreEnds mode pair.first pair.second evidence.first evidence.second ends
-  pub closed : AllHold (inclusion_checks mode (item_after evidence.first evidence.second) ends.first ends.second evidence)
+  pub logs : AreEnds mode pair.first pair.second firsts seconds ends
+  pub hold : AllHold (checks (item_after firsts seconds) ends.first ends.second)
 
--- The refusal is the first rule that a yes breaks.
-abbrev pub YesBreaks : Mode → Joined → YesBody → Refusal → Type 0
-YesBreaks mode pair evidence refusal =
-    LogsBreak mode pair.first pair.second evidence.first evidence.second refusal
+-- The refusal is the first rule that a step of the logs breaks, or the first of these checks that does not hold where none does.
+abbrev pub BreaksAfterLogs : Mode → Joined → List FirstStep → List SecondStep → (ℕ → Automaton → Automaton → List Check) → Refusal → Type 0
+BreaksAfterLogs mode pair firsts seconds checks refusal =
+    LogsBreak mode pair.first pair.second firsts seconds refusal
     ⊎ ((ends : Ends)
-    × AreEnds mode pair.first pair.second evidence.first evidence.second ends
-    × FirstBroken (inclusion_checks mode (item_after evidence.first evidence.second) ends.first ends.second evidence) refusal)
+    × AreEnds mode pair.first pair.second firsts seconds ends
+    × FirstBroken (checks (item_after firsts seconds) ends.first ends.second) refusal)
 
--- A test of a yes: it keeps its rules, or the refusal is the first that it breaks. Memory may be refused.
-abbrev pub TellsYes : Mode → Joined → YesBody → Result (Unit {0}) CheckFault → Type 0
-TellsYes mode pair evidence (Ok x) = YesHolds mode pair evidence
-TellsYes mode pair evidence (Err (Refused refusal)) = YesBreaks mode pair evidence refusal
-TellsYes mode pair evidence (Err Memory) = Unit {0}
+-- A test of logs and of what comes after them: all is kept, or the refusal is the first rule that is broken. Memory may be refused.
+abbrev pub TellsAfterLogs : Mode → Joined → List FirstStep → List SecondStep → (ℕ → Automaton → Automaton → List Check) → Result (Unit {0}) CheckFault → Type 0
+TellsAfterLogs mode pair firsts seconds checks (Ok x) = HoldsAfterLogs mode pair firsts seconds checks
+TellsAfterLogs mode pair firsts seconds checks (Err (Refused refusal)) = BreaksAfterLogs mode pair firsts seconds checks refusal
+TellsAfterLogs mode pair firsts seconds checks (Err Memory) = Unit {0}
 
--- The body is of a form whose rules are tested: all but lists.
-abbrev pub has_checked_body : Body → Bool
-has_checked_body (Yes evidence) = true
-has_checked_body (NoLasso lasso) = true
-has_checked_body (NoWord word) = true
-has_checked_body (Listing body) = false
+-- The checks of a yes after its logs: those of its evidence.
+abbrev pub yes_checks : Mode → YesBody → ℕ → Automaton → Automaton → List Check
+yes_checks mode evidence item A B = inclusion_checks mode item A B evidence
 
--- The certificate is of such a form.
-abbrev pub has_checked_form : Cert → Bool
-has_checked_form cert = has_checked_body cert.body
+-- The checks of a list after its logs.
+abbrev pub list_checks : Mode → ListBody → ℕ → Automaton → Automaton → List Check
+list_checks mode list item A B = listing_checks mode item A B list
 
--- The body keeps its rules. A list is asked nothing yet: its form keeps it out of a check.
+-- A yes keeps its rules: the steps of both logs keep theirs, and then the evidence keeps those on the two automata that the logs lead to.
+abbrev pub YesHolds : Mode → Joined → YesBody → Type 0
+YesHolds mode pair evidence = HoldsAfterLogs mode pair evidence.first evidence.second (yes_checks mode evidence)
+
+-- A list keeps its rules: the steps of both logs keep theirs, and then its elements keep those on the two automata that the logs lead to.
+abbrev pub ListHolds : Mode → Joined → ListBody → Type 0
+ListHolds mode pair list = HoldsAfterLogs mode pair list.first list.second (list_checks mode list)
+
+-- The body keeps its rules.
 abbrev pub BodyHolds : Mode → Joined → Body → Type 0
 BodyHolds mode pair (Yes evidence) = YesHolds mode pair evidence
 BodyHolds mode pair (NoLasso lasso) = AllHold (lasso_checks pair lasso)
 BodyHolds mode pair (NoWord word) = AllHold (word_checks pair word)
-BodyHolds mode pair (Listing body) = Unit {0}
+BodyHolds mode pair (Listing list) = ListHolds mode pair list
 
 -- The refusal is the first rule that the body breaks.
 abbrev pub BodyBreaks : Mode → Joined → Body → Refusal → Type 0
-BodyBreaks mode pair (Yes evidence) refusal = YesBreaks mode pair evidence refusal
+BodyBreaks mode pair (Yes evidence) refusal = BreaksAfterLogs mode pair evidence.first evidence.second (yes_checks mode evidence) refusal
 BodyBreaks mode pair (NoLasso lasso) refusal = FirstBroken (lasso_checks pair lasso) refusal
 BodyBreaks mode pair (NoWord word) refusal = FirstBroken (word_checks pair word) refusal
-BodyBreaks mode pair (Listing body) refusal = ⊥
+BodyBreaks mode pair (Listing list) refusal = BreaksAfterLogs mode pair list.first list.second (list_checks mode list) refusal
 
 -- A certificate keeps all its rules for these automata.
 abbrev pub KeepsRules : Joined → Cert → Type 0
@@ -107,9 +117,21 @@ IsVerdictOf (NoLasso lasso) verdict = verdict ≡ Apart lasso
 IsVerdictOf (NoWord word) verdict = verdict ≡ ApartWord word
 IsVerdictOf (Listing body) verdict = verdict ≡ Listed body.limit
 
--- What a verdict says of the two automata: of their lassos, in finite mode of their words. No check gives the verdict of a list yet.
-abbrev pub SaysTruly : Mode → Automaton → Automaton → Verdict → Type 0
-SaysTruly mode A B Included = Includes A B mode
-SaysTruly mode A B (Apart lasso) = SeparatesLasso A B lasso.prefix lasso.turn
-SaysTruly mode A B (ApartWord word) = SeparatesWord A B word
-SaysTruly mode A B (Listed limit) = ⊥
+-- What a list shows: both logs lead to two automata, and it has so many pairwise different supergraphs of these, in finite mode pairs of a
+-- state and a set.
+pub record ListsDifferent (mode : Mode) (pair : Joined) (count : ℕ) (list : ListBody) : Type 0 where
+  pub ends : Ends
+  pub logs : AreEnds mode pair.first pair.second list.first list.second ends
+  pub listed : AreListedIn mode ends.first ends.second count list.elements
+
+-- The certificate is a list, and shows limit + 1 different ones.
+abbrev pub ListsPastLimit : Joined → Cert → ℕ → Type 0
+ListsPastLimit pair cert limit = (list : ListBody) × (cert.body ≡ Listing list) × ListsDifferent cert.mode pair (limit + 1) list
+
+-- What a verdict on the certificate says: of the lassos of the two automata, in finite mode of their words, and where the certificate is a
+-- list, of the supergraphs of the automata that its logs lead to.
+abbrev pub SaysTruly : Joined → Cert → Verdict → Type 0
+SaysTruly pair cert Included = Includes pair.first pair.second cert.mode
+SaysTruly pair cert (Apart lasso) = SeparatesLasso pair.first pair.second lasso.prefix lasso.turn
+SaysTruly pair cert (ApartWord word) = SeparatesWord pair.first pair.second word
+SaysTruly pair cert (Listed limit) = ListsPastLimit pair cert limit

@@ -1,5 +1,9 @@
--- What the check holds of a certificate of inclusion: of each element the arc, and its word's graph, in finite mode its word's set.
-use Rattle.std.specs.Prelude.{◌≡◌, ℕ, ◌+◌, ◌*◌, ◌/◌, ◌<◌, ◌↔◌, ◌⊎◌, true, false, List, [], length, take, drop, slice_index_or, Contains}
+-- What the check holds of a certificate's elements: of each the arc, and its word's graph, in finite mode its word's set.
+use Rattle.std.specs.Prelude.{◌≡◌, ℕ, ◌+◌, ◌*◌, ◌/◌, ◌^◌, ◌<◌, ◌↔◌, ◌⊎◌, Bool, true, false, List, [], ◌∷◌, ◌++◌, length, map, slice_index_or, Contains, Vec}
+use Rattle.std.specs.Global.{Global}
+use Rattle.std.specs.BTreeSet.{BTreeSet, contains}
+use Rattle.std.specs.Cmp.Lexicographic.{slice_cmp}
+use Rattle.std.specs.Ordering.{nat_cmp}
 use Rattle.auto_core.specs.Automaton.{Automaton}
 use Rattle.auto_core.specs.Graph.{SameGraph, graph_of, WordArc, IsReal, arc_at}
 use Rattle.auto_core.specs.Pairs.{set_of}
@@ -11,6 +15,7 @@ use Rattle.set_rows.specs.Sets.{IsRow}
 use Rattle.supergraph.specs.declared.arcs.Arc.{Arc}
 use Rattle.supergraph.specs.Stands.{with_word}
 use Rattle.cert_text.specs.declared.types.YesBody.{YesBody}
+use Rattle.cert_text.specs.declared.types.Element.{Element}
 use Rattle.cert_check.specs.Inclusion.{element_arcs, live_in}
 use Rattle.cert_check.specs.declared.elements.Supers.{Supers}
 
@@ -18,10 +23,6 @@ use Rattle.cert_check.specs.declared.elements.Supers.{Supers}
 abbrev pub block_len : Mode → ℕ → ℕ
 block_len Buchi n = 2 * n * width_of n
 block_len Finite n = (n + 63) / 64
-
--- The block of the element with this number; each block has so many words.
-abbrev pub block_at : ℕ → List ℕ → ℕ → List ℕ
-block_at words blocks e = take words (drop (e * words) blocks)
 
 -- No arc.
 abbrev pub no_arc : Arc
@@ -49,17 +50,33 @@ pub record StandFor (mode : Mode) (A B : Automaton) (held : Arc) (block : List �
   pub formed : IsBlock mode B.states block
   pub word : HasWord mode B block x.word
 
--- The arcs and blocks of the first n elements.
-pub record AreSupers (mode : Mode) (A B : Automaton) (evidence : YesBody) (n : ℕ) (supers : Supers) : Type 0 where
-  pub words : supers.words ≡ block_len mode B.states
-  pub count : length supers.arcs.items ≡ n
-  pub size : length supers.blocks.items ≡ n * block_len mode B.states
-  pub each : (e : ℕ) → e < n →
-      StandFor mode A B (slice_index_or supers.arcs.items e no_arc) (block_at (block_len mode B.states) supers.blocks.items e) (arc_at A (element_arcs A evidence) e)
-
 -- The arc of the element with this number.
 abbrev pub held_arc : Supers → ℕ → Arc
 held_arc supers e = slice_index_or supers.arcs.items e no_arc
+
+-- The blocks, each as the list of its words.
+abbrev pub blocks_of : Supers → List (List ℕ)
+blocks_of supers = map (λ block. block.items) supers.blocks.items
+
+-- The block of the element with this number.
+abbrev pub held_block : Supers → ℕ → List ℕ
+held_block supers e = slice_index_or (blocks_of supers) e []
+
+-- The arcs and blocks of the first n of the elements.
+pub record AreSupers (mode : Mode) (A B : Automaton) (elements : List Element) (n : ℕ) (supers : Supers) : Type 0 where
+  pub count : length supers.arcs.items ≡ n
+  pub size : length supers.blocks.items ≡ n
+  pub each : (e : ℕ) → e < n → StandFor mode A B (held_arc supers e) (held_block supers e) (arc_at A (element_arcs A elements) e)
+
+-- The word for a flag.
+abbrev pub flag_word : Bool → ℕ
+flag_word false = 0
+flag_word true = 1
+
+-- By what elements are compared: the words of the block, and behind them the ends and the flag of the arc, in finite mode its end alone.
+abbrev pub key_of : Mode → Arc → List ℕ → List ℕ
+key_of Buchi arc block = block ++ arc.from ∷ arc.to ∷ flag_word arc.accepting ∷ []
+key_of Finite arc block = block ++ arc.to ∷ []
 
 -- The element is live and leads from its state back to it, past an accepting state.
 pub record IsTurn (evidence : YesBody) (supers : Supers) (e : ℕ) : Type 0 where
@@ -80,3 +97,18 @@ AddsIf P e old new = (f : ℕ) → Contains new f ↔ (Contains old f ⊎ ((f �
 pub record AreTurnsByState (evidence : YesBody) (supers : Supers) (n : ℕ) (turns : List (List ℕ)) : Type 0 where
   pub count : length turns ≡ n
   pub each : (p : ℕ) → p < n → ListsJust (slice_index_or turns p []) (λ e. IsTurn evidence supers e × ((held_arc supers e).from ≡ p))
+
+-- The words fit in 64 bits.
+abbrev pub Fit : List ℕ → Type 0
+Fit words = (k : ℕ) → slice_index_or words k 0 < 2 ^ 64
+
+-- The words of a key, as they are held.
+abbrev pub Key : Type 0
+Key = Vec ℕ Global
+
+-- Whether the key is among those seen.
+abbrev pub has_key : BTreeSet Key → Key → Bool
+has_key seen key = contains (λ v w. slice_cmp nat_cmp v.items w.items) seen key
+
+abbrev pub HasKey : BTreeSet Key → Key → Type 0
+HasKey seen key = has_key seen key ≡ true

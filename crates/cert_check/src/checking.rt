@@ -2,26 +2,17 @@
 
 ghost use Rattle.std.specs.Prelude.{◌≡◌, ◌↔◌, IfOk, IsTrue, length, true, Err};
 ghost use Rattle.auto_core.specs.Automaton.{IsAutomaton};
-ghost use Rattle.cert_check.specs.Rules.{has_checked_form, HasSizes, TellsYes, KeepsRules, BreaksRule, IsVerdictOf, SaysTruly};
-ghost use Rattle.cert_text.specs.WellFormed.{WellFormed, is_yes};
+ghost use Rattle.cert_check.specs.Rules.{HasSizes, TellsAfterLogs, yes_checks, list_checks, KeepsRules, BreaksRule, IsVerdictOf, SaysTruly};
+ghost use Rattle.cert_text.specs.WellFormed.{WellFormed, are_logs, is_yes, is_listing};
+ghost use Rattle.log_check.specs.Ends.{TellsBothLogs, item_after};
 
 use crate::faults::Verdict;
-use crate::{inclusion, lassos, words};
-use auto_core::Mode;
+use crate::{inclusion, lassos, listing, words};
+use auto_core::{List, Mode};
 use ba_format::Joined;
-use cert_text::{Body, Cert, YesBody};
-use log_check::{CheckFault, Refusal, log_ends};
+use cert_text::{Body, Cert, FirstStep, ListBody, SecondStep, YesBody};
+use log_check::{CheckFault, Ends, Refusal, log_ends};
 use std::alloc::Global;
-
-/// Tells whether the certificate is of a form whose rules are tested: of any but a list.
-pub fn can_check(cert: &Cert) -> bool
-    ensures { result ≡ has_checked_form cert.now }
-{
-    match &cert.body {
-        Body::Listing(_) => false,
-        _ => true,
-    }
-}
 
 fn has_sizes(pair: &Joined, cert: &Cert) -> bool
     ensures told { IsTrue result ↔ HasSizes pair.now cert.now }
@@ -32,29 +23,68 @@ fn has_sizes(pair: &Joined, cert: &Cert) -> bool
         && cert.labels == pair.labels.count()
 }
 
+/// The automata that the logs lead to.
+fn ends_of(
+    alloc: Global,
+    pair: &Joined,
+    mode: Mode,
+    firsts: &List<FirstStep>,
+    seconds: &List<SecondStep>,
+) -> Result<Ends, CheckFault>
+    requires formed { are_logs mode firsts.now seconds.now ≡ true }
+    ensures { TellsBothLogs mode pair.now.first pair.now.second firsts.now seconds.now result }
+{
+    let first_steps = firsts.as_slice();
+    let second_steps = seconds.as_slice();
+    log_ends(
+        alloc,
+        mode,
+        &pair.first,
+        &pair.second,
+        first_steps,
+        second_steps,
+    )
+}
+
+/// The number of the item after the steps of both logs.
+fn next_item(mode: Mode, firsts: &List<FirstStep>, seconds: &List<SecondStep>) -> u32
+    requires formed { are_logs mode firsts.now seconds.now ≡ true }
+    ensures { result ≡ item_after firsts.now seconds.now }
+{
+    1 + firsts.as_slice().len() as u32 + seconds.as_slice().len() as u32
+}
+
 /// Tests a yes: its logs, and then its evidence on the automata that they lead to, whose items come after those of the logs' steps.
 fn check_yes(alloc: Global, pair: &Joined, mode: Mode, evidence: &YesBody) -> Result<(), CheckFault>
     requires formed { is_yes mode evidence.now ≡ true }
-    ensures { TellsYes mode pair.now evidence.now result }
+    ensures { TellsAfterLogs mode pair.now evidence.now.first evidence.now.second (yes_checks mode evidence.now) result }
 {
-    let firsts = evidence.first.as_slice();
-    let seconds = evidence.second.as_slice();
-    let ends = log_ends(alloc, mode, &pair.first, &pair.second, firsts, seconds)?;
-    let item = 1 + firsts.len() as u32 + seconds.len() as u32;
+    let ends = ends_of(alloc, pair, mode, &evidence.first, &evidence.second)?;
+    let item = next_item(mode, &evidence.first, &evidence.second);
     inclusion::check_inclusion(alloc, mode, &ends.first, &ends.second, evidence, item)
 }
 
-/// The verdict of a certificate that is valid for the two automata, which is true of them; otherwise the first broken rule,
-/// or want of memory. The certificate is well-formed and of a form that `can_check` tells; both automata have as many labels as
-/// `pair.labels` has texts.
+/// Tests a list: its logs, and then its elements on the automata that they lead to. The item of its limit comes after those of the logs'
+/// steps.
+fn check_list(alloc: Global, pair: &Joined, mode: Mode, list: &ListBody) -> Result<(), CheckFault>
+    requires formed { is_listing mode list.now ≡ true }
+    ensures { TellsAfterLogs mode pair.now list.now.first list.now.second (list_checks mode list.now) result }
+{
+    let ends = ends_of(alloc, pair, mode, &list.first, &list.second)?;
+    let item = next_item(mode, &list.first, &list.second);
+    listing::check_listing(alloc, mode, &ends.first, &ends.second, list, item)
+}
+
+/// The verdict of a certificate that is valid for the two automata, or the first rule that it breaks, or want of memory. What a verdict
+/// says is true of the two automata, and what a list's says, of those that its logs lead to. The certificate is well-formed; both
+/// automata have as many labels as `pair.labels` has texts.
 pub fn check(alloc: Global, pair: &Joined, cert: &Cert) -> Result<Verdict, CheckFault>
     requires well_formed { WellFormed cert.now }
-    requires form { has_checked_form cert.now ≡ true }
     requires first_labels { pair.now.first.labels ≡ length pair.now.labels }
     requires second_labels { pair.now.second.labels ≡ length pair.now.labels }
     ensures valid { IfOk result (λ verdict. KeepsRules pair.now cert.now) }
     ensures verdict { IfOk result (IsVerdictOf cert.now.body) }
-    ensures truth { IfOk result (SaysTruly cert.now.mode pair.now.first pair.now.second) }
+    ensures truth { IfOk result (SaysTruly pair.now cert.now) }
     ensures refused { (refusal : Refusal) → result ≡ Err (CheckFault.Refused refusal) → BreaksRule pair.now cert.now refusal }
 {
     if !has_sizes(pair, cert) {
@@ -67,6 +97,9 @@ pub fn check(alloc: Global, pair: &Joined, cert: &Cert) -> Result<Verdict, Check
         }
         Body::NoLasso(lasso) => lassos::check_lasso(alloc, pair, lasso),
         Body::NoWord(word) => words::check_word(alloc, pair, word),
-        Body::Listing(_) => unreachable!(),
+        Body::Listing(list) => {
+            check_list(alloc, pair, cert.mode, list)?;
+            Ok(Verdict::Listed(list.limit))
+        }
     }
 }

@@ -36,7 +36,7 @@ pub fn is_over(
     arc: &Arc,
     block: &[u64],
 ) -> bool
-    requires supers { AreSupers mode first.now second.now evidence.now (length evidence.now.elements) supers.now }
+    requires supers { AreSupers mode first.now second.now evidence.now.elements (length evidence.now.elements) supers.now }
     requires order { IsBlockRelation second.now.states evidence.now.order order.now }
     requires element { j < length evidence.now.elements }
     requires formed { IsBlock mode second.now.states block.now }
@@ -72,7 +72,7 @@ fn is_under(
     e: usize,
     mark: &Mark,
 ) -> bool
-    requires supers { AreSupers mode first.now second.now evidence.now (length evidence.now.elements) supers.now }
+    requires supers { AreSupers mode first.now second.now evidence.now.elements (length evidence.now.elements) supers.now }
     requires order { IsBlockRelation second.now.states evidence.now.order order.now }
     requires number { e < length evidence.now.elements }
     requires names { NamesElement (length evidence.now.elements) mark.now }
@@ -104,7 +104,7 @@ pub fn check_under(
     order: &Rel,
     supers: &Supers,
 ) -> Result<(), CheckFault>
-    requires supers { AreSupers mode first.now second.now evidence.now (length evidence.now.elements) supers.now }
+    requires supers { AreSupers mode first.now second.now evidence.now.elements (length evidence.now.elements) supers.now }
     requires order { IsBlockRelation second.now.states evidence.now.order order.now }
     requires few { length evidence.now.elements < 10 ^ 9 }
     requires few_items { item + length evidence.now.elements < 2 ^ 32 }
@@ -141,7 +141,7 @@ fn covers_letters(
     supers: &Supers,
     fresh: &mut [u64],
 ) -> bool
-    requires supers { AreSupers Buchi first.now second.now evidence.now (length evidence.now.elements) supers.now }
+    requires supers { AreSupers Buchi first.now second.now evidence.now.elements (length evidence.now.elements) supers.now }
     requires order { IsBlockRelation second.now.states evidence.now.order order.now }
     requires names { AreElements evidence.now evidence.now.cover }
     requires room { length fresh.old ≡ block_len Buchi second.now.states }
@@ -181,7 +181,7 @@ fn covers_start(
     supers: &Supers,
     fresh: &mut [u64],
 ) -> bool
-    requires supers { AreSupers Finite first.now second.now evidence.now (length evidence.now.elements) supers.now }
+    requires supers { AreSupers Finite first.now second.now evidence.now.elements (length evidence.now.elements) supers.now }
     requires order { IsBlockRelation second.now.states evidence.now.order order.now }
     requires names { AreElements evidence.now evidence.now.cover }
     requires room { length fresh.old ≡ block_len Finite second.now.states }
@@ -216,7 +216,7 @@ fn covers_all(
     supers: &Supers,
     fresh: &mut [u64],
 ) -> bool
-    requires supers { AreSupers mode first.now second.now evidence.now (length evidence.now.elements) supers.now }
+    requires supers { AreSupers mode first.now second.now evidence.now.elements (length evidence.now.elements) supers.now }
     requires order { IsBlockRelation second.now.states evidence.now.order order.now }
     requires names { AreElements evidence.now evidence.now.cover }
     requires room { length fresh.old ≡ block_len mode second.now.states }
@@ -240,7 +240,7 @@ pub fn check_cover(
     supers: &Supers,
     fresh: &mut [u64],
 ) -> Result<(), CheckFault>
-    requires supers { AreSupers mode first.now second.now evidence.now (length evidence.now.elements) supers.now }
+    requires supers { AreSupers mode first.now second.now evidence.now.elements (length evidence.now.elements) supers.now }
     requires order { IsBlockRelation second.now.states evidence.now.order order.now }
     requires room { length fresh.old ≡ block_len mode second.now.states }
     ensures tells { Tells (cover_checks mode first.now second.now evidence.now item) result }

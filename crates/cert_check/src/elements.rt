@@ -1,37 +1,35 @@
-//! The elements of a certificate of inclusion: where they come from, their arcs, and their words' graphs or sets.
+//! The elements of an inclusion or a list: where they come from, their arcs, and their words' graphs or sets.
 
 ghost use Rattle.std.specs.Prelude.{◌≡◌, ◌+◌, ◌++◌, [], ◌∷◌, ◌*◌, ◌^◌, ◌<◌, ◌≤◌, ◌↔◌, ℕ, true, All, length, slice_index_or, IfOk, IsTrue, MatchOption};
 ghost use Rattle.auto_core.specs.Graph.{arc_of};
 ghost use Rattle.cert_text.specs.WellFormed.{is_origin};
 ghost use Rattle.log_check.specs.Checks.{AllHold, FirstBroken, Tells, checks_of_each};
 ghost use Rattle.cert_check.specs.Inclusion.{element_arcs, NamesOrigin, NamesElement, HasEarlierParent, GoesOn, no_element, element_checks};
-ghost use Rattle.cert_check.specs.Supers.{block_at, block_len, StandFor, AreSupers};
+ghost use Rattle.cert_check.specs.Supers.{blocks_of, held_block, block_len, StandFor, AreSupers};
 
 use crate::blocks;
-use auto_core::{Auto, Memory, Mode, Origin};
-use cert_text::{Element, Mark, YesBody};
+use auto_core::{Auto, List, Memory, Mode, Origin};
+use cert_text::{Element, Mark};
 use log_check::{CheckFault, Refusal};
 use std::alloc::Global;
 use supergraph::Arc;
 
-/// The arcs of the first elements, and their blocks one after another.
+/// The arcs of the first elements, and their blocks, each in a piece of its own: together they can be as large as the memory.
 #[derive(Drop)]
 pub struct Supers {
-    /// How many words a block has.
-    pub words: usize,
     /// The arc of each element.
     pub arcs: Vec<Arc>,
     /// The block of each element.
-    pub blocks: Vec<u64>,
+    pub blocks: Vec<Vec<u64>>,
 }
 
 impl Supers {
     /// The block of the element with this number.
     pub fn block(&self, e: usize) -> &[u64]
-        requires { e * self.now.words + self.now.words ≤ length self.now.blocks.items }
-        ensures { result.now ≡ block_at self.now.words self.now.blocks.items e }
+        requires { e < length self.now.blocks.items }
+        ensures { result.now ≡ held_block self.now e }
     {
-        &self.blocks[e * self.words..e * self.words + self.words]
+        &self.blocks[e]
     }
 }
 
@@ -69,15 +67,15 @@ fn goes_on(
     mode: Mode,
     first: &Auto,
     second: &Auto,
-    evidence: &YesBody,
+    elements: &List<Element>,
     supers: &Supers,
     e: usize,
     origin: &Origin,
 ) -> bool
-    requires supers { AreSupers mode first.now second.now evidence.now e supers.now }
-    requires names { NamesOrigin first.now (length evidence.now.elements) origin.now }
+    requires supers { AreSupers mode first.now second.now elements.now e supers.now }
+    requires names { NamesOrigin first.now (length elements.now) origin.now }
     requires earlier { HasEarlierParent e origin.now }
-    ensures { IsTrue result ↔ GoesOn first.now (element_arcs first.now evidence.now) origin.now }
+    ensures { IsTrue result ↔ GoesOn first.now (element_arcs first.now elements.now) origin.now }
 {
     match origin {
         Origin::Next(p, t) => {
@@ -92,17 +90,17 @@ fn broken_rule(
     mode: Mode,
     first: &Auto,
     second: &Auto,
-    evidence: &YesBody,
+    elements: &List<Element>,
     supers: &Supers,
     e: usize,
     element: &Element,
 ) -> Option<u32>
-    requires supers { AreSupers mode first.now second.now evidence.now e supers.now }
+    requires supers { AreSupers mode first.now second.now elements.now e supers.now }
     ensures { (item : ℕ) → MatchOption result
-        (AllHold (element_checks first.now evidence.now item e element.now))
-        (λ rule. FirstBroken (element_checks first.now evidence.now item e element.now) (record { rule = rule; item = item + e })) }
+        (AllHold (element_checks first.now elements.now item e element.now))
+        (λ rule. FirstBroken (element_checks first.now elements.now item e element.now) (record { rule = rule; item = item + e })) }
 {
-    let count = evidence.elements.as_slice().len();
+    let count = elements.as_slice().len();
     if !names_origin(first, count, &element.origin) {
         return Some(1);
     }
@@ -112,7 +110,7 @@ fn broken_rule(
     if !has_earlier_parent(e, &element.origin) {
         return Some(10);
     }
-    if !goes_on(mode, first, second, evidence, supers, e, &element.origin) {
+    if !goes_on(mode, first, second, elements, supers, e, &element.origin) {
         return Some(11);
     }
     None
@@ -123,19 +121,19 @@ fn compute(
     mode: Mode,
     first: &Auto,
     second: &Auto,
-    evidence: &YesBody,
+    elements: &List<Element>,
     supers: &Supers,
     e: usize,
     origin: &Origin,
     fresh: &mut [u64],
 ) -> Arc
-    requires supers { AreSupers mode first.now second.now evidence.now e supers.now }
+    requires supers { AreSupers mode first.now second.now elements.now e supers.now }
     requires begun { is_origin mode origin.now ≡ true }
-    requires names { NamesOrigin first.now (length evidence.now.elements) origin.now }
+    requires names { NamesOrigin first.now (length elements.now) origin.now }
     requires earlier { HasEarlierParent e origin.now }
-    requires leaves { GoesOn first.now (element_arcs first.now evidence.now) origin.now }
+    requires leaves { GoesOn first.now (element_arcs first.now elements.now) origin.now }
     requires room { length fresh.old ≡ block_len mode second.now.states }
-    ensures stands { StandFor mode first.now second.now result fresh.new (arc_of first.now (element_arcs first.now evidence.now) origin.now) }
+    ensures stands { StandFor mode first.now second.now result fresh.new (arc_of first.now (element_arcs first.now elements.now) origin.now) }
     ensures room { length fresh.new ≡ length fresh.old }
 {
     match origin {
@@ -157,63 +155,67 @@ fn compute(
 }
 
 /// Adds an arc and a block.
-fn add(supers: &mut Supers, arc: Arc, block: &[u64]) -> Result<(), Memory>
-    ensures words { supers.new.words ≡ supers.old.words }
+fn add(alloc: Global, supers: &mut Supers, arc: Arc, block: &[u64]) -> Result<(), Memory>
     ensures arcs { IfOk result (λ _. supers.new.arcs.items ≡ supers.old.arcs.items ++ arc ∷ []) }
-    ensures blocks { IfOk result (λ _. supers.new.blocks.items ≡ supers.old.blocks.items ++ block.now) }
+    ensures blocks { IfOk result (λ _. blocks_of supers.new ≡ blocks_of supers.old ++ block.now ∷ []) }
 {
     supers.arcs.push(arc)?;
-    supers.blocks.extend_from_slice(block)?;
+    // a key has up to three words more
+    let mut held = Vec::with_capacity(alloc, block.len() + 3)?;
+    held.extend_from_slice(block)?;
+    supers.blocks.push(held)?;
     Ok(())
 }
 
 /// Adds the arc and the block of the element `e` with this origin.
 fn add_element(
+    alloc: Global,
     mode: Mode,
     first: &Auto,
     second: &Auto,
-    evidence: &YesBody,
+    elements: &List<Element>,
     supers: &mut Supers,
     e: usize,
     origin: &Origin,
     fresh: &mut [u64],
 ) -> Result<(), Memory>
-    requires supers { AreSupers mode first.now second.now evidence.now e supers.old }
-    requires element { e < length evidence.now.elements }
-    requires is { origin.now ≡ (slice_index_or evidence.now.elements e no_element).origin }
+    requires supers { AreSupers mode first.now second.now elements.now e supers.old }
+    requires element { e < length elements.now }
+    requires is { origin.now ≡ (slice_index_or elements.now e no_element).origin }
     requires begun { is_origin mode origin.now ≡ true }
-    requires names { NamesOrigin first.now (length evidence.now.elements) origin.now }
+    requires names { NamesOrigin first.now (length elements.now) origin.now }
     requires earlier { HasEarlierParent e origin.now }
-    requires leaves { GoesOn first.now (element_arcs first.now evidence.now) origin.now }
+    requires leaves { GoesOn first.now (element_arcs first.now elements.now) origin.now }
     requires room { length fresh.old ≡ block_len mode second.now.states }
-    ensures supers { IfOk result (λ _. AreSupers mode first.now second.now evidence.now (e + 1) supers.new) }
+    ensures supers { IfOk result (λ _. AreSupers mode first.now second.now elements.now (e + 1) supers.new) }
     ensures room { length fresh.new ≡ length fresh.old }
 {
-    let arc = compute(mode, first, second, evidence, supers, e, origin, fresh);
-    add(supers, arc, fresh)
+    let arc = compute(mode, first, second, elements, supers, e, origin, fresh);
+    add(alloc, supers, arc, fresh)
 }
 
 /// Adds the arcs and the blocks of all elements, up to one that does not name what is there or go on from an earlier one.
 fn fill(
+    alloc: Global,
     mode: Mode,
     first: &Auto,
     second: &Auto,
-    evidence: &YesBody,
+    elements: &List<Element>,
     item: u32,
     supers: &mut Supers,
     fresh: &mut [u64],
 ) -> Result<(), CheckFault>
-    requires few { length evidence.now.elements < 10 ^ 9 }
-    requires few_items { item + length evidence.now.elements < 2 ^ 32 }
-    requires begun { All (λ element. is_origin mode element.origin ≡ true) evidence.now.elements }
-    requires none { AreSupers mode first.now second.now evidence.now 0 supers.old }
+    requires few { length elements.now < 10 ^ 9 }
+    requires few_items { item + length elements.now < 2 ^ 32 }
+    requires begun { All (λ element. is_origin mode element.origin ≡ true) elements.now }
+    requires none { AreSupers mode first.now second.now elements.now 0 supers.old }
     requires room { length fresh.old ≡ block_len mode second.now.states }
-    ensures tells { Tells (checks_of_each (element_checks first.now evidence.now item) 0 evidence.now.elements) result }
-    ensures supers { IfOk result (λ _. AreSupers mode first.now second.now evidence.now (length evidence.now.elements) supers.new) }
+    ensures tells { Tells (checks_of_each (element_checks first.now elements.now item) 0 elements.now) result }
+    ensures supers { IfOk result (λ _. AreSupers mode first.now second.now elements.now (length elements.now) supers.new) }
 {
-    let elements = evidence.elements.as_slice();
-    for e in 0..elements.len() {
-        match broken_rule(mode, first, second, evidence, supers, e, &elements[e]) {
+    let items = elements.as_slice();
+    for e in 0..items.len() {
+        match broken_rule(mode, first, second, elements, supers, e, &items[e]) {
             Some(rule) => {
                 return Err(CheckFault::Refused(Refusal {
                     rule,
@@ -223,13 +225,14 @@ fn fill(
             None => {}
         }
         add_element(
+            alloc,
             mode,
             first,
             second,
-            evidence,
+            elements,
             supers,
             e,
-            &elements[e].origin,
+            &items[e].origin,
             fresh,
         )?;
     }
@@ -243,22 +246,30 @@ pub fn checked_elements(
     mode: Mode,
     first: &Auto,
     second: &Auto,
-    evidence: &YesBody,
+    elements: &List<Element>,
     item: u32,
 ) -> Result<Supers, CheckFault>
-    requires few { length evidence.now.elements < 10 ^ 9 }
-    requires few_items { item + length evidence.now.elements < 2 ^ 32 }
-    requires begun { All (λ element. is_origin mode element.origin ≡ true) evidence.now.elements }
-    ensures tells { Tells (checks_of_each (element_checks first.now evidence.now item) 0 evidence.now.elements) result }
-    ensures supers { IfOk result (AreSupers mode first.now second.now evidence.now (length evidence.now.elements)) }
+    requires few { length elements.now < 10 ^ 9 }
+    requires few_items { item + length elements.now < 2 ^ 32 }
+    requires begun { All (λ element. is_origin mode element.origin ≡ true) elements.now }
+    ensures tells { Tells (checks_of_each (element_checks first.now elements.now item) 0 elements.now) result }
+    ensures supers { IfOk result (AreSupers mode first.now second.now elements.now (length elements.now)) }
 {
     let states = second.states();
     let mut supers = Supers {
-        words: blocks::words_of(mode, states),
         arcs: Vec::new(alloc),
         blocks: Vec::new(alloc),
     };
     let mut fresh = blocks::empty_block(alloc, mode, states)?;
-    fill(mode, first, second, evidence, item, &mut supers, &mut fresh)?;
+    fill(
+        alloc,
+        mode,
+        first,
+        second,
+        elements,
+        item,
+        &mut supers,
+        &mut fresh,
+    )?;
     Ok(supers)
 }

@@ -30,7 +30,14 @@ pub fn check_inclusion(
 {
     let count = evidence.elements.as_slice().len() as u32;
     let order = orders::checked_order(alloc, second, evidence, item)?;
-    let supers = elements::checked_elements(alloc, mode, first, second, evidence, item + 1)?;
+    let supers = elements::checked_elements(
+        alloc,
+        mode,
+        first,
+        second,
+        &evidence.elements,
+        item + 1,
+    )?;
     let mut fresh = blocks::empty_block(alloc, mode, second.states())?;
     covers::check_under(mode, first, second, evidence, item + 1, &order, &supers)?;
     covers::check_cover(

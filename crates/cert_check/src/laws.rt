@@ -1,6 +1,6 @@
 //! What valid certificates show, and which rule others break first: each law is the contract of a function that does nothing.
 
-ghost use Rattle.cert_check.specs.Laws.{ValidYesIncludes, ValidNoSeparates, ValidNoSeparatesByWord, OneRuleBreaks, NoneBreaksWhereKept};
+ghost use Rattle.cert_check.specs.Laws.{ValidYesIncludes, ValidNoSeparates, ValidNoSeparatesByWord, ValidListShows, OneRuleBreaks, NoneBreaksWhereKept};
 
 /// A valid certificate that says yes shows an inclusion.
 pub fn valid_yes_includes()
@@ -15,6 +15,11 @@ pub fn valid_no_separates()
 /// A valid certificate that says no by a word shows that it separates the two automata.
 pub fn valid_no_separates_by_word()
     ensures { ValidNoSeparatesByWord }
+{}
+
+/// A valid list shows more different supergraphs than its limit, in finite mode pairs of a state and a set.
+pub fn valid_list_shows()
+    ensures { ValidListShows }
 {}
 
 /// A certificate breaks one rule first, at most.

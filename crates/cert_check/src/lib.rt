@@ -7,14 +7,16 @@ mod covers;
 mod elements;
 mod faults;
 mod inclusion;
+mod keys;
 mod lassos;
 pub mod laws;
+mod listing;
 mod orders;
 mod pairs;
 mod passing;
 mod steps;
 mod words;
 
-pub use checking::{can_check, check};
+pub use checking::check;
 pub use faults::Verdict;
 pub use log_check::{CheckFault, Refusal};

@@ -6,7 +6,7 @@ ghost use Rattle.auto_core.specs.declared.parts.Mode.TheVariants.{Buchi};
 ghost use Rattle.graph_rows.specs.Block.{block_graph};
 ghost use Rattle.log_check.specs.Checks.{Tells, checks_of_each};
 ghost use Rattle.cert_check.specs.Inclusion.{PassesWithAll, pair_checks};
-ghost use Rattle.cert_check.specs.Supers.{block_at, block_len, held_arc, IsTurn, ListsJust, AddsIf, AreTurnsByState, AreSupers};
+ghost use Rattle.cert_check.specs.Supers.{held_block, block_len, held_arc, IsTurn, ListsJust, AddsIf, AreTurnsByState, AreSupers};
 
 use crate::covers;
 use crate::elements::Supers;
@@ -110,12 +110,12 @@ fn has_lassos(
     others: &[u32],
     scratch: &mut Scratch,
 ) -> bool
-    requires supers { AreSupers Buchi first.now second.now evidence.now (length evidence.now.elements) supers.now }
+    requires supers { AreSupers Buchi first.now second.now evidence.now.elements (length evidence.now.elements) supers.now }
     requires element { e < length evidence.now.elements }
     requires others { All (λ f. f < length evidence.now.elements) others.now }
     requires room { scratch.old ≡ second.now.states }
     ensures told { IsTrue result ↔ ((f : ℕ) → Contains others.now f
-        → LassoIn (block_graph second.now.states (block_at (block_len Buchi second.now.states) supers.now.blocks.items e)) (block_graph second.now.states (block_at (block_len Buchi second.now.states) supers.now.blocks.items f)) second.now.initial) }
+        → LassoIn (block_graph second.now.states (held_block supers.now e)) (block_graph second.now.states (held_block supers.now f)) second.now.initial) }
     ensures room { scratch.new ≡ scratch.old }
 {
     let states = second.states();
@@ -144,7 +144,7 @@ fn passes_with_all(
     scratch: &mut Scratch,
 ) -> bool
     requires few { length evidence.now.elements < 10 ^ 9 }
-    requires supers { AreSupers Buchi first.now second.now evidence.now (length evidence.now.elements) supers.now }
+    requires supers { AreSupers Buchi first.now second.now evidence.now.elements (length evidence.now.elements) supers.now }
     requires turns { AreTurnsByState evidence.now supers.now first.now.states (map (λ list. list.items) turns.now) }
     requires element { e < length evidence.now.elements }
     requires room { scratch.old ≡ second.now.states }
@@ -178,7 +178,7 @@ pub fn check_pairs(
     item: u32,
     supers: &Supers,
 ) -> Result<(), CheckFault>
-    requires supers { AreSupers Buchi first.now second.now evidence.now (length evidence.now.elements) supers.now }
+    requires supers { AreSupers Buchi first.now second.now evidence.now.elements (length evidence.now.elements) supers.now }
     requires few { length evidence.now.elements < 10 ^ 9 }
     requires few_items { item + length evidence.now.elements < 2 ^ 32 }
     ensures { Tells (checks_of_each (pair_checks Buchi first.now second.now evidence.now item) 0 evidence.now.elements) result }

@@ -25,12 +25,12 @@ fn covers_extensions(
     step: &StepLine,
     fresh: &mut [u64],
 ) -> bool
-    requires supers { AreSupers mode first.now second.now evidence.now (length evidence.now.elements) supers.now }
+    requires supers { AreSupers mode first.now second.now evidence.now.elements (length evidence.now.elements) supers.now }
     requires order { IsBlockRelation second.now.states evidence.now.order order.now }
     requires element { step.now.element < length evidence.now.elements }
     requires names { AreElements evidence.now step.now.by }
     requires room { length fresh.old ≡ block_len mode second.now.states }
-    ensures told { IsTrue result ↔ AreOver mode first.now second.now evidence.now step.now.by (extensions_of first.now (arc_at first.now (element_arcs first.now evidence.now) step.now.element)) }
+    ensures told { IsTrue result ↔ AreOver mode first.now second.now evidence.now step.now.by (extensions_of first.now (arc_at first.now (element_arcs first.now evidence.now.elements) step.now.element)) }
     ensures room { length fresh.new ≡ length fresh.old }
 {
     let by = step.by.as_slice();
@@ -72,7 +72,7 @@ fn broken_rule(
     step: &StepLine,
     fresh: &mut [u64],
 ) -> Option<u32>
-    requires supers { AreSupers mode first.now second.now evidence.now (length evidence.now.elements) supers.now }
+    requires supers { AreSupers mode first.now second.now evidence.now.elements (length evidence.now.elements) supers.now }
     requires order { IsBlockRelation second.now.states evidence.now.order order.now }
     requires room { length fresh.old ≡ block_len mode second.now.states }
     ensures told { (item k : ℕ) → MatchOption result
@@ -103,7 +103,7 @@ pub fn check_steps(
     supers: &Supers,
     fresh: &mut [u64],
 ) -> Result<(), CheckFault>
-    requires supers { AreSupers mode first.now second.now evidence.now (length evidence.now.elements) supers.now }
+    requires supers { AreSupers mode first.now second.now evidence.now.elements (length evidence.now.elements) supers.now }
     requires order { IsBlockRelation second.now.states evidence.now.order order.now }
     requires few_steps { length evidence.now.steps < 10 ^ 9 }
     requires few_items { item + length evidence.now.steps < 2 ^ 32 }

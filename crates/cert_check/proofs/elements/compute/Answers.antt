@@ -8,7 +8,7 @@ use Rattle.auto_core.specs.declared.parts.Origin.{Origin}
 use Rattle.supergraph.specs.declared.arcs.Arc.{Arc}
 use Rattle.cert_text.specs.WellFormed.{is_origin}
 use Rattle.cert_check.specs.Inclusion.{element_arcs, HasEarlierParent}
-use Rattle.cert_check.specs.Supers.{IsBlock, StandFor, block_len, no_arc, block_at}
+use Rattle.cert_check.specs.Supers.{IsBlock, StandFor, block_len, no_arc, held_block}
 use Rattle.cert_check.proofs.PlaceLemmas.{is_finite, is_buchi}
 use Rattle.cert_check.proofs.elements.compute.Goals as goal
 
@@ -23,7 +23,7 @@ returns-in-Start-clause-stands c =
     let A = c.args.first.now in
     let B = c.args.second.now in
     let m : Mode = c.args.mode in
-    let W : List WordArc = element_arcs A c.args.evidence.now in
+    let W : List WordArc = element_arcs A c.args.elements.now in
     let fin : m ≡ Finite = is_finite m (subst (λ (o : Origin). is_origin m o ≡ true) c.in-Start.is c.requires.begun) in
     subst (λ (o : Origin). StandFor m A B c.start.result c.start.new.fresh (arc_of A W o)) (sym c.in-Start.is)
     (subst (λ (k : Mode). StandFor k A B c.start.result c.start.new.fresh (start_arc A)) (sym fin) c.start.ensures.stands)
@@ -40,7 +40,7 @@ returns-in-Base-clause-stands c =
     let B = c.args.second.now in
     let m : Mode = c.args.mode in
     let t : ℕ = c.in-Base.t in
-    let W : List WordArc = element_arcs A c.args.evidence.now in
+    let W : List WordArc = element_arcs A c.args.elements.now in
     let buchi : m ≡ Buchi = is_buchi m t (subst (λ (o : Origin). is_origin m o ≡ true) c.in-Base.is c.requires.begun) in
     subst (λ (o : Origin). StandFor m A B c.base.result c.base.new.fresh (arc_of A W o)) (sym c.in-Base.is)
     (subst (λ (k : Mode). StandFor k A B c.base.result c.base.new.fresh (base_arc A (trans_at A t))) (sym buchi) c.base.ensures.stands)
@@ -51,8 +51,7 @@ extend-requires-clause-formed c =
     let m : Mode = c.args.mode in
     let p : ℕ = c.in-Next.p in
     let earlier : p < c.args.e = subst (λ (o : Origin). HasEarlierParent c.args.e o) c.in-Next.is c.requires.earlier in
-    let is_block : c.block.result.now ≡ block_at (block_len m B.states) c.args.supers.now.blocks.items p =
-    c.block.ensures ∙ ap (λ n. block_at n c.args.supers.now.blocks.items p) c.requires.supers.words in
+    let is_block : c.block.result.now ≡ held_block c.args.supers.now p = c.block.ensures in
     subst (IsBlock m B.states) (sym is_block) (c.requires.supers.each p earlier).formed
 
 pub returns-in-Next-clause-stands : goal.returns-in-Next-clause-stands
@@ -60,16 +59,14 @@ returns-in-Next-clause-stands c =
     let A = c.args.first.now in
     let B = c.args.second.now in
     let m : Mode = c.args.mode in
-    let W : List WordArc = element_arcs A c.args.evidence.now in
+    let W : List WordArc = element_arcs A c.args.elements.now in
     let p : ℕ = c.in-Next.p in
     let t : ℕ = c.in-Next.t in
-    let words : ℕ = block_len m B.states in
     let earlier : p < c.args.e = subst (λ (o : Origin). HasEarlierParent c.args.e o) c.in-Next.is c.requires.earlier in
-    let from : StandFor m A B (slice_index_or c.args.supers.now.arcs.items p no_arc) (block_at words c.args.supers.now.blocks.items p) (arc_at A W p) = c.requires.supers.each p earlier in
+    let from : StandFor m A B (slice_index_or c.args.supers.now.arcs.items p no_arc) (held_block c.args.supers.now p) (arc_at A W p) = c.requires.supers.each p earlier in
     let is_arc : c.index-arc.result.now ≡ slice_index_or c.args.supers.now.arcs.items p no_arc =
     c.index-arc.ensures ∙ get_or_default c.args.supers.now.arcs.items p c.index-arc.result.now no_arc (omega (arith, c.requires.supers.count)) in
-    let is_block : c.block.result.now ≡ block_at words c.args.supers.now.blocks.items p =
-    c.block.ensures ∙ ap (λ n. block_at n c.args.supers.now.blocks.items p) c.requires.supers.words in
+    let is_block : c.block.result.now ≡ held_block c.args.supers.now p = c.block.ensures in
     let old : StandFor m A B c.index-arc.result.now c.block.result.now (arc_at A W p) =
     subst (λ (a : Arc). StandFor m A B a c.block.result.now (arc_at A W p)) (sym is_arc)
     (subst (λ (b : List ℕ). StandFor m A B (slice_index_or c.args.supers.now.arcs.items p no_arc) b (arc_at A W p)) (sym is_block) from) in

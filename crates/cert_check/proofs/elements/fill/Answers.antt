@@ -5,13 +5,13 @@ use Rattle.cert_check.proofs.elements.fill.Goals as goal
 
 pub returns-in-Some-clause-tells : goal.returns-in-Some-clause-tells
 returns-in-Some-clause-tells c =
-    broken_of (element_checks c.args.first.now c.args.evidence.now c.args.item) c.loop-e.e c.args.evidence.now.elements c.as_slice-elements.result.now _
-    (record { rule = c.in-Some.rule; item = c.args.item + c.loop-e.e }) c.as_slice-elements.ensures c.loop-e-test.true c.loop-e.invariant.0 (c.in-Some.ensures c.args.item)
+    broken_of (element_checks c.args.first.now c.args.elements.now c.args.item) c.loop-e.e c.args.elements.now c.as_slice-items.result.now _
+    (record { rule = c.in-Some.rule; item = c.args.item + c.loop-e.e }) c.as_slice-items.ensures c.loop-e-test.true c.loop-e.invariant.0 (c.in-Some.ensures c.args.item)
 
 pub loop-e-preserved : goal.loop-e-preserved
 loop-e-preserved c = (
-  more_of (element_checks c.args.first.now c.args.evidence.now c.args.item) c.loop-e.e c.args.evidence.now.elements c.as_slice-elements.result.now _
-      c.as_slice-elements.ensures c.loop-e-test.true c.loop-e.invariant.0 (c.in-None.ensures c.args.item),
+  more_of (element_checks c.args.first.now c.args.elements.now c.args.item) c.loop-e.e c.args.elements.now c.as_slice-items.result.now _
+      c.as_slice-items.ensures c.loop-e-test.true c.loop-e.invariant.0 (c.in-None.ensures c.args.item),
   c.in_ok-add_element.ensures.supers,
   c.add_element.ensures.room ∙ c.loop-e.invariant.2,
 )

@@ -6,6 +6,6 @@ use Rattle.cert_check.proofs.elements.fill.Given as goal
 
 abbrev pub invariant-loop-e : goal.invariant-loop-e
 invariant-loop-e l =
-    AllHold (checks_of_each (element_checks l.first l.evidence l.item) 0 (take l.e l.evidence.elements))
-    × AreSupers l.mode l.first l.second l.evidence l.e l.supers
+    AllHold (checks_of_each (element_checks l.first l.elements l.item) 0 (take l.e l.elements))
+    × AreSupers l.mode l.first l.second l.elements l.e l.supers
     × (length l.fresh ≡ length l.fn.fresh)

@@ -18,7 +18,7 @@ returns-in_err-supers c =
 
 pub check_under-requires-clause-names : goal.check_under-requires-clause-names
 check_under-requires-clause-names c = λ e lt.
-    (each_of (element_checks c.args.first.now c.args.evidence.now (c.args.item + 1)) e c.args.evidence.now.elements no_element lt c.in_ok-supers.ensures.tells).0.1
+    (each_of (element_checks c.args.first.now c.args.evidence.now.elements (c.args.item + 1)) e c.args.evidence.now.elements no_element lt c.in_ok-supers.ensures.tells).0.1
 
 pub returns-in_err-check_under : goal.returns-in_err-check_under
 returns-in_err-check_under c =

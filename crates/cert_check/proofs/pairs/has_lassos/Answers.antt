@@ -5,17 +5,17 @@ use Rattle.std.proofs.lemmas.List.Elements.{Contains-get_or, Contains-push_cases
 use Rattle.auto_core.specs.Graph.{LassoIn}
 use Rattle.auto_core.specs.declared.parts.Mode.TheVariants.{Buchi}
 use Rattle.graph_rows.specs.Block.{block_graph}
-use Rattle.cert_check.specs.Supers.{block_at, block_len}
+use Rattle.cert_check.specs.Supers.{held_block}
 use Rattle.cert_check.proofs.PairLemmas.{lassos_named}
 use Rattle.cert_check.proofs.pairs.has_lassos.Goals as goal
 
 pub returns-then-not-passes-clause-told : goal.returns-then-not-passes-clause-told
 returns-then-not-passes-clause-told c =
     let n : ℕ = c.args.second.now.states in
-    let blocks : List ℕ = c.args.supers.now.blocks.items in
+    let held : ℕ → List ℕ = held_block c.args.supers.now in
     let f : ℕ = slice_index_or c.args.others.now c.loop-f.f-index 0 in
-    let told = lassos_named c.states-states.result n c.block.result.now (block_at (block_len Buchi n) blocks c.args.e) c.block-in-loop-f.result.now (block_at (block_len Buchi n) blocks f) c.initial.result c.args.second.now.initial c.passes.result
-    c.states-states.ensures.count (c.block.ensures ∙ ap (λ k. block_at k blocks c.args.e) c.requires.supers.words) (c.block-in-loop-f.ensures ∙ ap (λ k. block_at k blocks f) c.requires.supers.words)
+    let told = lassos_named c.states-states.result n c.block.result.now (held c.args.e) c.block-in-loop-f.result.now (held f) c.initial.result c.args.second.now.initial c.passes.result
+    c.states-states.ensures.count (c.block.ensures) (c.block-in-loop-f.ensures)
     c.initial.ensures.state c.passes.ensures.told in
     let is : c.passes.result ≡ false = search rules in (
       λ h. absurd (false≢true h),
@@ -25,16 +25,16 @@ returns-then-not-passes-clause-told c =
 pub loop-f-preserved : goal.loop-f-preserved
 loop-f-preserved c =
     let n : ℕ = c.args.second.now.states in
-    let blocks : List ℕ = c.args.supers.now.blocks.items in
+    let held : ℕ → List ℕ = held_block c.args.supers.now in
     let k : ℕ = c.loop-f.f-index in
     let f : ℕ = slice_index_or c.args.others.now k 0 in
-    let told = lassos_named c.states-states.result n c.block.result.now (block_at (block_len Buchi n) blocks c.args.e) c.block-in-loop-f.result.now (block_at (block_len Buchi n) blocks f) c.initial.result c.args.second.now.initial c.passes.result
-    c.states-states.ensures.count (c.block.ensures ∙ ap (λ k. block_at k blocks c.args.e) c.requires.supers.words) (c.block-in-loop-f.ensures ∙ ap (λ k. block_at k blocks f) c.requires.supers.words)
+    let told = lassos_named c.states-states.result n c.block.result.now (held c.args.e) c.block-in-loop-f.result.now (held f) c.initial.result c.args.second.now.initial c.passes.result
+    c.states-states.ensures.count (c.block.ensures) (c.block-in-loop-f.ensures)
     c.initial.ensures.state c.passes.ensures.told in
     let is : c.passes.result ≡ true = search rules in (
       λ g there. elim (Contains-push_cases (take k c.args.others.now) f g (subst (λ (l : List ℕ). Contains l g) (take_more c.args.others.now k 0 c.loop-f-test.true) there)) [
         | inl before ↦ c.loop-f.invariant.0 g before
-        | inr same ↦ subst (λ m. LassoIn (block_graph n (block_at (block_len Buchi n) blocks c.args.e)) (block_graph n (block_at (block_len Buchi n) blocks m)) c.args.second.now.initial) same (told.0 is)
+        | inr same ↦ subst (λ m. LassoIn (block_graph n (held c.args.e)) (block_graph n (held m)) c.args.second.now.initial) same (told.0 is)
       ],
       c.passes.ensures.kept ∙ c.states-states.ensures.count ∙ sym c.requires.room,
     )

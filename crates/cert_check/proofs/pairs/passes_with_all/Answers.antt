@@ -5,7 +5,7 @@ use Rattle.auto_core.specs.Graph.{arc_at}
 use Rattle.auto_core.specs.declared.parts.Mode.TheVariants.{Buchi}
 use Rattle.supergraph.specs.declared.arcs.Arc.{Arc}
 use Rattle.cert_check.specs.Inclusion.{element_arcs, live_in}
-use Rattle.cert_check.specs.Supers.{no_arc, block_at, block_len, held_arc, IsTurn, ListsJust}
+use Rattle.cert_check.specs.Supers.{no_arc, held_block, held_arc, IsTurn, ListsJust}
 use Rattle.cert_check.proofs.SuperLemmas.{held_ends}
 use Rattle.cert_check.proofs.PairLemmas.{passes_told}
 use Rattle.cert_check.proofs.pairs.passes_with_all.Goals as goal
@@ -19,7 +19,7 @@ bounds-turns-arc c =
     let is_arc : c.index-arc.result.now ≡ held_arc c.args.supers.now e =
     c.index-arc.ensures ∙ get_or_default c.args.supers.now.arcs.items e c.index-arc.result.now no_arc (omega (arith, c.requires.supers.count, c.requires.element)) in
     let ends : (held_arc c.args.supers.now e).to < A.states =
-    held_ends Buchi A B (held_arc c.args.supers.now e) (block_at (block_len Buchi B.states) c.args.supers.now.blocks.items e) (arc_at A (element_arcs A c.args.evidence.now) e) c.initial.ensures.valid (c.requires.supers.each e c.requires.element) in
+    held_ends Buchi A B (held_arc c.args.supers.now e) (held_block c.args.supers.now e) (arc_at A (element_arcs A c.args.evidence.now.elements) e) c.initial.ensures.valid (c.requires.supers.each e c.requires.element) in
     let here : c.index-arc.result.now.to < A.states = subst (λ (a : Arc). a.to < A.states) (sym is_arc) ends in
     omega (arith, here, c.requires.turns.count, length-map c.args.turns.now items)
 
@@ -33,7 +33,7 @@ has_lassos-requires-clause-others c = λ k d lt.
     let is_arc : c.index-arc.result.now ≡ held_arc c.args.supers.now e =
     c.index-arc.ensures ∙ get_or_default c.args.supers.now.arcs.items e c.index-arc.result.now no_arc (omega (arith, c.requires.supers.count, c.requires.element)) in
     let ends : (held_arc c.args.supers.now e).to < A.states =
-    held_ends Buchi A B (held_arc c.args.supers.now e) (block_at (block_len Buchi B.states) c.args.supers.now.blocks.items e) (arc_at A (element_arcs A c.args.evidence.now) e) c.initial.ensures.valid (c.requires.supers.each e c.requires.element) in
+    held_ends Buchi A B (held_arc c.args.supers.now e) (held_block c.args.supers.now e) (arc_at A (element_arcs A c.args.evidence.now.elements) e) c.initial.ensures.valid (c.requires.supers.each e c.requires.element) in
     let here : p < A.states = subst (λ (a : Arc). a.to < A.states) (sym is_arc) ends in
     let p_in : p < length c.args.turns.now = omega (arith, here, c.requires.turns.count, length-map c.args.turns.now items) in
     let list : slice_index_or (map items c.args.turns.now) p [] ≡ c.deref.result.now =
@@ -52,7 +52,7 @@ returns-clause-told c =
     let is_arc : c.index-arc.result.now ≡ held_arc c.args.supers.now e =
     c.index-arc.ensures ∙ get_or_default c.args.supers.now.arcs.items e c.index-arc.result.now no_arc (omega (arith, c.requires.supers.count, c.requires.element)) in
     let ends : (held_arc c.args.supers.now e).to < A.states =
-    held_ends Buchi A B (held_arc c.args.supers.now e) (block_at (block_len Buchi B.states) c.args.supers.now.blocks.items e) (arc_at A (element_arcs A c.args.evidence.now) e) c.initial.ensures.valid (c.requires.supers.each e c.requires.element) in
+    held_ends Buchi A B (held_arc c.args.supers.now e) (held_block c.args.supers.now e) (arc_at A (element_arcs A c.args.evidence.now.elements) e) c.initial.ensures.valid (c.requires.supers.each e c.requires.element) in
     let here : p < A.states = subst (λ (a : Arc). a.to < A.states) (sym is_arc) ends in
     let p_in : p < length c.args.turns.now = omega (arith, here, c.requires.turns.count, length-map c.args.turns.now items) in
     let list : slice_index_or (map items c.args.turns.now) p [] ≡ c.deref.result.now =

@@ -7,7 +7,7 @@ use Rattle.auto_core.specs.declared.parts.Mode.{Mode}
 use Rattle.supergraph.specs.declared.arcs.Arc.{Arc}
 use Rattle.cert_text.specs.declared.types.YesBody.{YesBody}
 use Rattle.cert_check.specs.Inclusion.{IsOver, element_arcs, extensions_of}
-use Rattle.cert_check.specs.Supers.{StandFor, block_len, no_arc, block_at}
+use Rattle.cert_check.specs.Supers.{StandFor, no_arc, held_block}
 use Rattle.log_check.proofs.BlockLemmas.{below_more}
 use Rattle.cert_check.proofs.SuperLemmas.{held_ends, extensions_count, extension_at}
 use Rattle.cert_check.proofs.steps.covers_extensions.Goals as goal
@@ -22,13 +22,13 @@ outgoing-span-requires c =
     let is_arc : c.index-arc.result.now ≡ slice_index_or c.args.supers.now.arcs.items j no_arc =
     c.index-arc.ensures ∙ get_or_default c.args.supers.now.arcs.items j c.index-arc.result.now no_arc (omega (arith, c.requires.supers.count, c.requires.element)) in
     subst (λ (a : Arc). a.to < A.states) (sym is_arc)
-    (held_ends m A B (slice_index_or c.args.supers.now.arcs.items j no_arc) (block_at (block_len m B.states) c.args.supers.now.blocks.items j) (arc_at A (element_arcs A c.args.evidence.now) j) c.states-states.ensures.valid held)
+    (held_ends m A B (slice_index_or c.args.supers.now.arcs.items j no_arc) (held_block c.args.supers.now j) (arc_at A (element_arcs A c.args.evidence.now.elements) j) c.states-states.ensures.valid held)
 
 pub returns-then-by-span-clause-told : goal.returns-then-by-span-clause-told
 returns-then-by-span-clause-told c =
     let A = c.args.first.now in
     let j : ℕ = c.args.step.now.element in
-    let x : WordArc = arc_at A (element_arcs A c.args.evidence.now) j in
+    let x : WordArc = arc_at A (element_arcs A c.args.evidence.now.elements) j in
     let held = c.requires.supers.each j c.requires.element in
     let is_arc : c.index-arc.result.now ≡ slice_index_or c.args.supers.now.arcs.items j no_arc =
     c.index-arc.ensures ∙ get_or_default c.args.supers.now.arcs.items j c.index-arc.result.now no_arc (omega (arith, c.requires.supers.count, c.requires.element)) in
@@ -49,12 +49,12 @@ returns-then-not-is_over-clause-told c =
     let by : List ℕ = c.args.step.now.by in
     let j : ℕ = c.args.step.now.element in
     let i : ℕ = c.loop-i.i in
-    let x : WordArc = arc_at A (element_arcs A E) j in
+    let x : WordArc = arc_at A (element_arcs A E.elements) j in
     let held = c.requires.supers.each j c.requires.element in
     let is_arc : c.index-arc.result.now ≡ slice_index_or c.args.supers.now.arcs.items j no_arc =
     c.index-arc.ensures ∙ get_or_default c.args.supers.now.arcs.items j c.index-arc.result.now no_arc (omega (arith, c.requires.supers.count, c.requires.element)) in
-    let is_block : c.block-block.result.now ≡ block_at (block_len m B.states) c.args.supers.now.blocks.items j =
-    c.block-block.ensures ∙ ap (λ n. block_at n c.args.supers.now.blocks.items j) c.requires.supers.words in
+    let is_block : c.block-block.result.now ≡ held_block c.args.supers.now j =
+    c.block-block.ensures in
     let from : StandFor m A B c.index-arc.result.now c.block-block.result.now x =
     subst (λ (a : Arc). StandFor m A B a c.block-block.result.now x) (sym is_arc)
     (subst (λ (l : List ℕ). StandFor m A B (slice_index_or c.args.supers.now.arcs.items j no_arc) l x) (sym is_block) held) in
@@ -85,12 +85,12 @@ loop-i-preserved c =
     let by : List ℕ = c.args.step.now.by in
     let j : ℕ = c.args.step.now.element in
     let i : ℕ = c.loop-i.i in
-    let x : WordArc = arc_at A (element_arcs A E) j in
+    let x : WordArc = arc_at A (element_arcs A E.elements) j in
     let held = c.requires.supers.each j c.requires.element in
     let is_arc : c.index-arc.result.now ≡ slice_index_or c.args.supers.now.arcs.items j no_arc =
     c.index-arc.ensures ∙ get_or_default c.args.supers.now.arcs.items j c.index-arc.result.now no_arc (omega (arith, c.requires.supers.count, c.requires.element)) in
-    let is_block : c.block-block.result.now ≡ block_at (block_len m B.states) c.args.supers.now.blocks.items j =
-    c.block-block.ensures ∙ ap (λ n. block_at n c.args.supers.now.blocks.items j) c.requires.supers.words in
+    let is_block : c.block-block.result.now ≡ held_block c.args.supers.now j =
+    c.block-block.ensures in
     let from : StandFor m A B c.index-arc.result.now c.block-block.result.now x =
     subst (λ (a : Arc). StandFor m A B a c.block-block.result.now x) (sym is_arc)
     (subst (λ (l : List ℕ). StandFor m A B (slice_index_or c.args.supers.now.arcs.items j no_arc) l x) (sym is_block) held) in
@@ -115,7 +115,7 @@ pub returns-clause-told : goal.returns-clause-told
 returns-clause-told c =
     let A = c.args.first.now in
     let j : ℕ = c.args.step.now.element in
-    let x : WordArc = arc_at A (element_arcs A c.args.evidence.now) j in
+    let x : WordArc = arc_at A (element_arcs A c.args.evidence.now.elements) j in
     let held = c.requires.supers.each j c.requires.element in
     let is_arc : c.index-arc.result.now ≡ slice_index_or c.args.supers.now.arcs.items j no_arc =
     c.index-arc.ensures ∙ get_or_default c.args.supers.now.arcs.items j c.index-arc.result.now no_arc (omega (arith, c.requires.supers.count, c.requires.element)) in

@@ -6,5 +6,5 @@ use Rattle.cert_check.proofs.steps.covers_extensions.Given as goal
 abbrev pub invariant-loop-i : goal.invariant-loop-i
 invariant-loop-i l =
     ((k : ℕ) → k < l.i →
-    IsOver l.mode l.first l.second l.evidence (slice_index l.step.by k) (slice_index_or (extensions_of l.first (arc_at l.first (element_arcs l.first l.evidence) l.step.element)) k (start_arc l.first)))
+    IsOver l.mode l.first l.second l.evidence (slice_index l.step.by k) (slice_index_or (extensions_of l.first (arc_at l.first (element_arcs l.first l.evidence.elements) l.step.element)) k (start_arc l.first)))
     × (length l.fresh ≡ length l.fn.fresh)

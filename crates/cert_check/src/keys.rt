@@ -1,0 +1,101 @@
+//! What elements are compared by, and whether each differs from those before it.
+
+ghost use Rattle.std.specs.Prelude.{◌≡◌, ◌⊎◌, ◌↔◌, ◌+◌, ◌^◌, ◌<◌, ℕ, not, length, IfOk};
+ghost use Rattle.log_check.specs.Checks.{Tells, checks_of_each};
+ghost use Rattle.cert_check.specs.Listing.{difference_checks};
+ghost use Rattle.cert_check.specs.Supers.{held_arc, held_block, key_of, flag_word, Fit, Key, has_key, HasKey, AreSupers};
+
+use crate::elements::Supers;
+use auto_core::{Auto, List, Memory, Mode};
+use cert_text::Element;
+use log_check::{CheckFault, Refusal};
+use std::alloc::Global;
+use std::collections::BTreeSet;
+use std::mem;
+use supergraph::Arc;
+
+/// The word for the arc's flag.
+fn flag_of(arc: &Arc) -> u64
+    ensures { result ≡ flag_word arc.now.accepting }
+{
+    if arc.accepting { 1 } else { 0 }
+}
+
+/// Adds the ends and the flag of the arc behind the words of its block, in finite mode its end alone.
+fn add_arc(mode: Mode, arc: &Arc, key: &mut Vec<u64>) -> Result<(), Memory>
+    ensures { IfOk result (λ _. key.new.items ≡ key_of mode arc.now key.old.items) }
+{
+    match mode {
+        Mode::Buchi => {
+            let words = [arc.from as u64, arc.to as u64, flag_of(arc)];
+            key.extend_from_slice(&words)?;
+            Ok(())
+        }
+        Mode::Finite => {
+            let words = [arc.to as u64];
+            key.extend_from_slice(&words)?;
+            Ok(())
+        }
+    }
+}
+
+/// Does nothing; its contract says what the type does of the words.
+fn note_fit(words: &[u64])
+    ensures { Fit words.now }
+{}
+
+/// Takes the block of the element `e` out and makes it its key.
+fn take_key(alloc: Global, mode: Mode, supers: &mut Supers, e: usize) -> Result<Vec<u64>, Memory>
+    requires arcs { e < length supers.old.arcs.items }
+    requires blocks { e < length supers.old.blocks.items }
+    ensures key { IfOk result (λ key. key.items ≡ key_of mode (held_arc supers.old e) (held_block supers.old e)) }
+    ensures fits { IfOk result (λ key. Fit key.items) }
+    ensures arcs { supers.new.arcs.items ≡ supers.old.arcs.items }
+    ensures size { length supers.new.blocks.items ≡ length supers.old.blocks.items }
+    ensures others { (d : ℕ) → e < d → held_block supers.new d ≡ held_block supers.old d }
+{
+    let mut key = mem::replace(&mut supers.blocks[e], Vec::new(alloc));
+    add_arc(mode, &supers.arcs[e], &mut key)?;
+    note_fit(&key);
+    Ok(key)
+}
+
+/// Adds the key, and tells whether it was not there.
+fn is_new(seen: &mut BTreeSet<Vec<u64>>, key: Vec<u64>) -> Result<bool, Memory>
+    ensures told { IfOk result (λ new. new ≡ not (has_key seen.old key)) }
+    ensures added { IfOk result (λ _. (other : Key) → HasKey seen.new other ↔ (HasKey seen.old other ⊎ (other.items ≡ key.items))) }
+{
+    match seen.insert(key) {
+        Ok(new) => Ok(new),
+        Err(_refused) => Err(Memory),
+    }
+}
+
+/// Tests that each element differs from those before it, in order; the blocks are taken out. `item` is the number of the first one's item.
+pub fn check_differences(
+    alloc: Global,
+    mode: Mode,
+    first: &Auto,
+    second: &Auto,
+    elements: &List<Element>,
+    item: u32,
+    supers: &mut Supers,
+) -> Result<(), CheckFault>
+    requires supers { AreSupers mode first.now second.now elements.now (length elements.now) supers.old }
+    requires few { length elements.now < 10 ^ 9 }
+    requires few_items { item + length elements.now < 2 ^ 32 }
+    ensures { Tells (checks_of_each (difference_checks mode first.now second.now elements.now item) 0 elements.now) result }
+{
+    let mut seen = BTreeSet::new(alloc);
+    let items = elements.as_slice();
+    for e in 0..items.len() {
+        let key = take_key(alloc, mode, supers, e)?;
+        if !is_new(&mut seen, key)? {
+            return Err(CheckFault::Refused(Refusal {
+                rule: 18,
+                item: item + e as u32,
+            }));
+        }
+    }
+    Ok(())
+}
