@@ -1,4 +1,4 @@
--- What answers are: each has a text, a yes and a no keep all rules of the check, and what an answer says is so.
+-- What answers are: each has a text and keeps all rules of the check, and what it says is so.
 use Rattle.std.proofs.Common.{◌≡◌, ℕ, ◌+◌, ◌<◌, ◌≤◌, ◌&&◌, Bool, true, List, [], ◌∷◌, length, Contains, slice_index_or, refl, sym, subst, inl, inr, arith}
 use Rattle.std.specs.List.{list_all}
 use Rattle.std.proofs.lemmas.Bool.{and_from, lt-ltb}
@@ -33,17 +33,21 @@ use Rattle.cert_text.specs.WellFormed.{WellFormed, is_short, are_short, is_body,
 use Rattle.cert_check.specs.Inclusion.{origins_of, live_in}
 use Rattle.evidence.specs.Evidence.{LiveStandApart}
 use Rattle.log_check.specs.Ends.{item_after}
-use Rattle.cert_check.specs.Rules.{AreLabels, BodyHolds, has_checked_body}
+use Rattle.cert_check.specs.Rules.{AreLabels, BodyHolds}
+use Rattle.cert_check.specs.Laws.{IsValid}
+use Rattle.cert_check.specs.Listing.{AreListedIn}
+use Rattle.cert_check.proofs.ListingLemmas.{listed_in}
 use Rattle.decide.specs.declared.terms.Terms.{Terms}
 use Rattle.decide.specs.Terms.{AreBounded}
-use Rattle.decide.specs.Searches.{rules_in, AreListedIn, NoneSubsumedEarlier}
+use Rattle.bound_laws.proofs.BoundLemmas.{listed_supergraphs_are_few, listed_pairs_are_few}
+use Rattle.decide.specs.Searches.{rules_in, bound_in, NoneSubsumedBeforeIn}
 use Rattle.decide.specs.Answer.{IsOrder, Reductions, IsYesOf, IsListOf, IsLassoOf, IsWordOf, IsBodyOf, IsAnswer, IsAnswerBy}
-use Rattle.decide.specs.Laws.{CanDecide, SaysYesOrNo, IsValidVerdict, AreSettledEnds, StandApart, ListsNew, SaysTruth, AnswersAreFormed, AnswersAreValid, AnswersAreTrue}
+use Rattle.decide.specs.Laws.{CanDecide, AreSettledEnds, StandApart, ListsNew, SaysTruth, AnswersAreFormed, AnswersAreValid, AnswersAreTrue}
 use Rattle.decide.proofs.EndLemmas.{AreGoodEnds, ends_in, good_ends}
 use Rattle.decide.proofs.PlaceLemmas.{all_from_places, pass_from_places}
 use Rattle.decide.proofs.RowLemmas.{all_short}
 use Rattle.decide.proofs.YesLemmas.{rules_hold, elements_formed, cover_formed, count_formed, steps_formed, includes, stand_apart, parts_of_placed, IsPlacedIn}
-use Rattle.decide.proofs.UniqueLemmas.{one_order}
+use Rattle.decide.proofs.ListLemmas.{list_holds, listed_differ}
 
 -- The letters of a run are labels.
 run_letters : (A : Automaton) → IsAutomaton A → (w : List ℕ) (p q : ℕ) (flag : Bool) → Run A p w q flag → (a : ℕ) → Contains w a → a < A.labels
@@ -75,15 +79,20 @@ record IsListing (m : Mode) (A B : Automaton) (S : List (ℕ × ℕ)) (limit : �
   listed : AreListedIn m A B (limit + 1) origins
   size : length origins ≡ limit + 1
   placed : (e : ℕ) → e < length origins → IsPlacedIn m A (arcs_of A origins) e (slice_index_or origins e Start)
-  fresh : NoneSubsumedEarlier (rules_in m A B S) A origins
+  fresh : NoneSubsumedBeforeIn (rules_in m A B S) A origins
 
 listing : (m : Mode) (A B : Automaton) (S : List (ℕ × ℕ)) (limit : ℕ) (es : List Entry) → IsAutomaton B → IsGreatestForward B 1 S → ComesOut (rules_in m A B S) limit (Limit es) → IsListing m A B S limit (origins_in es)
 listing Buchi A B S limit es valid greatest ends =
     let lists = limit_lists A B S limit es valid greatest ends in
-    record { listed = lists.0; size = lists.0.size; placed = lists.0.placed; fresh = lists.1 }
+    record { listed = listed_in Buchi A B (limit + 1) (origins_in es) lists.0; size = lists.0.size; placed = lists.0.placed; fresh = lists.1 }
 listing Finite A B S limit es valid greatest ends =
     let lists = limit_lists_pairs A B S limit es valid greatest ends in
-    record { listed = lists.0; size = lists.0.size; placed = lists.0.placed; fresh = lists.1 }
+    record { listed = listed_in Finite A B (limit + 1) (origins_in es) lists.0; size = lists.0.size; placed = lists.0.placed; fresh = lists.1 }
+
+-- Different elements are no more than the bound.
+listing_few : (m : Mode) (A B : Automaton) (a b count : ℕ) (origins : List Origin) → IsAutomaton A → IsAutomaton B → A.states ≤ a → B.states ≤ b → AreListedIn m A B count origins → count ≤ bound_in m a b
+listing_few Buchi A B a b count origins first second few_first few_second l = listed_supergraphs_are_few A B a b count origins first second few_first few_second l.different
+listing_few Finite A B a b count origins first second few_first few_second l = listed_pairs_are_few A B a b count origins first second few_first few_second l.different
 
 -- What separates the reduced automata separates the read ones.
 lasso_separates : (A B C D : Automaton) → Same A C Buchi → Same B D Buchi → (u v : List ℕ) → SeparatesLasso C D u v → SeparatesLasso A B u v
@@ -160,10 +169,10 @@ module _ (pair : Joined) (terms : Terms) (can : CanDecide pair) (few : terms.lim
   few_labels : A.labels ≤ 512
   few_labels = let e = good.first_labels in let n = can.few_labels in omega arith
 
-  -- What is shown of a body: it has a text, it keeps the rules where it says yes or no, and it says what is so.
+  -- What is shown of a body: it has a text, it keeps the rules, and it says what is so.
   record Shown (body : Body) : Type 0 where
     formed : is_body m body ≡ true
-    checked : SaysYesOrNo body → (has_checked_body body ≡ true) × BodyHolds m pair body
+    checked : BodyHolds m pair body
     truth : SaysTruth pair terms body
 
   logs_formed : (firsts : List FirstStep) (seconds : List SecondStep) → firsts ≡ at.first_log → seconds ≡ at.second_log → are_logs m firsts seconds ≡ true
@@ -185,22 +194,20 @@ module _ (pair : Joined) (terms : Terms) (can : CanDecide pair) (few : terms.lim
         (and_from (are_short y.cover) (are_steps 0 y.elements y.steps)
         (cover_formed m A B S limit es y good.first good.second good.few_transitions few order.greatest ends is.closure is.order.formed is.order.pairs)
         (steps_formed m A B S limit es y good.first good.second good.few_transitions few order.greatest ends is.closure is.order.formed is.order.pairs)))));
-    checked = λ _. (
-      refl,
-      record {
-        ends = ends_in at;
-        logs = (logs_settled y.first y.second is.first_log is.second_log).lead;
-        closed = rules_hold m A B S limit es y good.first good.second good.few_transitions few order.greatest ends is.closure is.order.formed is.order.pairs (item_after y.first y.second);
-      },
-    );
+    checked = record {
+      ends = ends_in at;
+      logs = (logs_settled y.first y.second is.first_log is.second_log).lead;
+      hold = rules_hold m A B S limit es y good.first good.second good.few_transitions few order.greatest ends is.closure is.order.formed is.order.pairs (item_after y.first y.second);
+    };
     truth = (
       includes_back m pair.first pair.second A B good.first_same good.second_same
           (includes m A B S limit es y good.first good.second good.few_transitions few order.greatest ends is.closure is.order.formed is.order.pairs),
       record {
         ends = ends_in at;
         settled = logs_settled y.first y.second is.first_log is.second_log;
-        apart = λ T other. subst (λ U. LiveStandApart (rules_in m A B U) A (origins_of y) (live_in y)) (one_order B S T order other)
-            (stand_apart m A B S limit es y good.first good.second good.few_transitions few order.greatest ends is.closure is.order.formed is.order.pairs);
+        order = S;
+        ordered = order;
+        apart = stand_apart m A B S limit es y good.first good.second good.few_transitions few order.greatest ends is.closure is.order.formed is.order.pairs;
       },
     );
   }
@@ -211,12 +218,9 @@ module _ (pair : Joined) (terms : Terms) (can : CanDecide pair) (few : terms.lim
       record {
         formed = lasso_formed m x z lasso is (short_word A.labels lasso.prefix few_labels lasso_is.prefix) (short_word A.labels lasso.turn few_labels lasso_is.turn)
             (lt-ltb 0 (length lasso.turn) (let n = lasso_is.some in omega arith));
-        checked = λ _. (
-          refl,
-          (
-            subst (λ n. AreLabels n lasso.prefix) good.first_labels (labels_of A.labels lasso.prefix lasso_is.prefix),
-            (subst (λ n. AreLabels n lasso.turn) good.first_labels (labels_of A.labels lasso.turn lasso_is.turn), (lasso_is.apart.0, (lasso_is.apart.1, tt))),
-          ),
+        checked = (
+          subst (λ n. AreLabels n lasso.prefix) good.first_labels (labels_of A.labels lasso.prefix lasso_is.prefix),
+          (subst (λ n. AreLabels n lasso.turn) good.first_labels (labels_of A.labels lasso.turn lasso_is.turn), (lasso_is.apart.0, (lasso_is.apart.1, tt))),
         );
         truth = lasso_is.apart;
       }
@@ -226,7 +230,7 @@ module _ (pair : Joined) (terms : Terms) (can : CanDecide pair) (few : terms.lim
       let word_is = good_word m pair.first pair.second A B S limit x z word good.first good.first_same good.second_same ends is in
       record {
         formed = word_formed m x word is (short_word A.labels word few_labels word_is.letters);
-        checked = λ _. (refl, (subst (λ n. AreLabels n word) good.first_labels (labels_of A.labels word word_is.letters), (word_is.apart.0, (word_is.apart.1, tt))));
+        checked = (subst (λ n. AreLabels n word) good.first_labels (labels_of A.labels word word_is.letters), (word_is.apart.0, (word_is.apart.1, tt)));
         truth = word_is.apart;
       }
 
@@ -244,12 +248,19 @@ module _ (pair : Joined) (terms : Terms) (can : CanDecide pair) (few : terms.lim
             let within = at_within l.elements e o o_is in
             let here : IsPlacedIn m A (arcs_of A l.elements) e o = subst (IsPlacedIn m A (arcs_of A l.elements) e) (get_or_from_slice_get l.elements e o Start o_is) (lists.placed e within) in
             (parts_of_placed m A (arcs_of A l.elements) (length l.elements) e o within (omega arith) good.few_transitions here).short))));
-        checked = λ none. absurd none;
+        checked = record {
+          ends = ends_in at;
+          logs = (logs_settled l.first l.second is.first_log is.second_log).lead;
+          hold = list_holds m (item_after l.first l.second) A B l (omega arith) good.few_transitions lists.placed (omega arith) (listed_differ m A B (limit + 1) l.elements lists.listed);
+        };
         truth = record {
           ends = ends_in at;
           settled = logs_settled l.first l.second is.first_log is.second_log;
           listed = lists.listed;
-          fresh = λ T other. subst (λ U. NoneSubsumedEarlier (rules_in m A B U) A l.elements) (one_order B S T order other) lists.fresh;
+          order = S;
+          ordered = order;
+          fresh = lists.fresh;
+          below = (let n = listing_few m A B pair.first.states pair.second.states (limit + 1) l.elements good.first good.second good.first_fewer good.second_fewer lists.listed in omega arith);
         };
       }
 
@@ -285,14 +296,11 @@ module _ (pair : Joined) (terms : Terms) (cert : Cert) (can : CanDecide pair) (f
       (and_from (is_short cert.labels) (is_body cert.mode cert.body) (lt-ltb cert.labels 1000000000 (omega arith))
       (subst (λ m. is_body m cert.body ≡ true) (sym answer.mode) body_shown.formed)))
 
-  is_valid : IsValidVerdict pair cert
-  is_valid verdict =
-      let checked = body_shown.checked verdict in
-      record {
-        formed = is_formed;
-        form = checked.0;
-        keeps = (answer.sizes, subst (λ m. BodyHolds m pair cert.body) (sym answer.mode) checked.1);
-      }
+  is_valid : IsValid pair cert
+  is_valid = record {
+    formed = is_formed;
+    keeps = (answer.sizes, subst (λ m. BodyHolds m pair cert.body) (sym answer.mode) body_shown.checked);
+  }
 
   is_true : SaysTruth pair terms cert.body
   is_true = body_shown.truth
@@ -325,3 +333,6 @@ module _ (pair : Joined) (terms : Terms) (cert : Cert) (can : CanDecide pair) (b
 
   pub list_is_new : (l : ListBody) → cert.body ≡ Listing l → ListsNew pair terms l
   list_is_new l is = says (Listing l) is
+
+  pub no_list_at_bound : bound_in terms.mode pair.first.states pair.second.states ≤ terms.limit → (l : ListBody) → cert.body ≡ Listing l → ⊥
+  no_list_at_bound high l is = (let below = (list_is_new l is).below in omega arith)

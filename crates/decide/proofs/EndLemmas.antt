@@ -41,6 +41,8 @@ pub record AreGoodEnds (pair : Joined) (terms : Terms) (at : Reductions) : Type 
   pub first : IsAutomaton at.first
   pub second : IsAutomaton at.second
   pub first_labels : at.first.labels ≡ length pair.labels
+  pub first_fewer : at.first.states ≤ pair.first.states
+  pub second_fewer : at.second.states ≤ pair.second.states
   pub few_transitions : length at.first.transitions ≤ 65536
   pub first_same : Same pair.first at.first terms.mode
   pub second_same : Same pair.second at.second terms.mode
@@ -106,6 +108,8 @@ good_ends pair terms at can some low ends =
       first = log_end_valid A at.first terms.mode terms.look ends.first_steps can.first ends.first_reduced;
       second = log_end_valid B at.second terms.mode terms.look ends.second_steps can.second ends.second_reduced;
       first_labels = less.labels ∙ can.first_labels;
+      first_fewer = less.states;
+      second_fewer = (reduced_no_larger B at.second terms.mode terms.look can.second some second_is).states;
       few_transitions = omega arith;
       first_same = reduced_same A at.first terms.mode terms.look can.first some first_is;
       second_same = reduced_same B at.second terms.mode terms.look can.second some second_is;

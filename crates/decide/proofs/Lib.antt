@@ -6,6 +6,7 @@ pub mod BlockUniqueLemmas
 pub mod EndUniqueLemmas
 pub mod UniqueLemmas
 pub mod YesLemmas
+pub mod ListLemmas
 pub mod FollowLemmas
 pub mod FollowFirstLemmas
 pub mod FollowSecondLemmas

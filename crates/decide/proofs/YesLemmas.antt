@@ -178,7 +178,7 @@ searched Finite A B S limit es valid greatest ends =
       apart = live_pairs_stand_apart A B S limit es ends;
     }
 
-passes_by : (m : Mode) (A B : Automaton) (S : List (ℕ × ℕ)) (y : YesBody) → IsClosedIn m A B S (element_arcs A y) (live_in y) → (e : ℕ) → PassesBy m A B y e
+passes_by : (m : Mode) (A B : Automaton) (S : List (ℕ × ℕ)) (y : YesBody) → IsClosedIn m A B S (element_arcs A y.elements) (live_in y) → (e : ℕ) → PassesBy m A B y e
 passes_by Buchi A B S y closed e = λ live f live_f. closed.passes e f live live_f
 passes_by Finite A B S y closed e = λ live. closed.passes e live
 
@@ -213,13 +213,13 @@ module _ (m : Mode) (A B : Automaton) (S : List (ℕ × ℕ)) (limit : ℕ) (es 
     has : IsSearched m A B S limit es
     has = searched m A B S limit es valid greatest ends
 
-    arcs : element_arcs A y ≡ arcs_in es
+    arcs : element_arcs A y.elements ≡ arcs_in es
     arcs = ap (arcs_of A) closure.origins ∙ has.arcs
 
     size : length y.elements ≡ length es
     size = elements_size R es (closure_in y) closure
 
-    arcs_count : length (element_arcs A y) ≡ length y.elements
+    arcs_count : length (element_arcs A y.elements) ≡ length y.elements
     arcs_count = ap length arcs ∙ arcs_size es ∙ sym size
 
     bounded : length y.elements ≤ 100000
@@ -253,10 +253,10 @@ module _ (m : Mode) (A B : Automaton) (S : List (ℕ × ℕ)) (limit : ℕ) (es 
     pub includes : Includes A B m
     includes = has.includes (live_in y) tells
 
-    closed : IsClosedIn m A B S (element_arcs A y) (live_in y)
+    closed : IsClosedIn m A B S (element_arcs A y.elements) (live_in y)
     closed = subst (λ l. IsClosedIn m A B S l (live_in y)) (sym arcs) (has.closed (live_in y) tells)
 
-    arc_is : (j : ℕ) (x : Entry) → At es j x → arc_at A (element_arcs A y) j ≡ x.arc
+    arc_is : (j : ℕ) (x : Entry) → At es j x → arc_at A (element_arcs A y.elements) j ≡ x.arc
     arc_is j x is = ap (λ l. arc_at A l j) arcs ∙ arc_here A es j x is
 
     live_at : (j : ℕ) (x : Entry) → At es j x → StaysLive R es j → live_in y j ≡ true
@@ -272,7 +272,7 @@ module _ (m : Mode) (A B : Automaton) (S : List (ℕ × ℕ)) (limit : ℕ) (es 
         let within = least_within x j least in
         let n = arcs_count in (
           (omega arith, live_at j here.element here.is here.live),
-          subst (λ T. SubsumesIn m B T (arc_at A (element_arcs A y) j) x.arc) (sym pairs)
+          subst (λ T. SubsumesIn m B T (arc_at A (element_arcs A y.elements) j) x.arc) (sym pairs)
               (subst (λ a. SubsumesIn m B S a x.arc) (sym (arc_is j here.element here.is)) (subsumes_in m A B S here.element x here.subsumes)),
         )
 
@@ -296,15 +296,15 @@ module _ (m : Mode) (A B : Automaton) (S : List (ℕ × ℕ)) (limit : ℕ) (es 
           (subst (IsOver m A B y j.0) (sym (read_map (λ (x : Entry). x.arc) cs k c.0 (start_arc A) c.1)) (over c.0 j.0 (least.each k j.0 c.0 c.1 j.1)));
     }
 
-    placed : (e : ℕ) (x : Element) → At y.elements e x → PlacedParts m A (element_arcs A y) (length y.elements) e x.origin
+    placed : (e : ℕ) (x : Element) → At y.elements e x → PlacedParts m A (element_arcs A y.elements) (length y.elements) e x.origin
     placed e x is =
         let within = at_within y.elements e x is in
         let all : (i : ℕ) → i < length (origins_of y) → IsPlacedIn m A (arcs_of A (origins_of y)) i (slice_index_or (origins_of y) i Start) =
         subst (λ l. (i : ℕ) → i < length l → IsPlacedIn m A (arcs_of A l) i (slice_index_or l i Start)) (sym closure.origins) has.placed in
         let count = length-map y.elements (λ (x : Element). x.origin) in
         let n = bounded in
-        parts_of_placed m A (element_arcs A y) (length y.elements) e x.origin within (omega arith) few_transitions
-        (subst (IsPlacedIn m A (element_arcs A y) e) (read_map (λ (x : Element). x.origin) y.elements e x Start is) (all e (omega arith)))
+        parts_of_placed m A (element_arcs A y.elements) (length y.elements) e x.origin within (omega arith) few_transitions
+        (subst (IsPlacedIn m A (element_arcs A y.elements) e) (read_map (λ (x : Element). x.origin) y.elements e x Start is) (all e (omega arith)))
 
     -- The order, the elements, and those under others.
     order_holds : (n : ℕ) → AllHold (order_checks B y n)
@@ -319,7 +319,7 @@ module _ (m : Mode) (A B : Automaton) (S : List (ℕ × ℕ)) (limit : ℕ) (es 
     names_of i x (Under j) marked = least_within x j marked.1
 
     elements_hold : (n : ℕ) → AllHold (elements_part m n A B y)
-    elements_hold n = checks_from_places (element_checks A y (n + 1)) y.elements (λ e k is.
+    elements_hold n = checks_from_places (element_checks A y.elements (n + 1)) y.elements (λ e k is.
         let x = entry_of e k is in
         let p = placed e k is in
         ((p.names, names_of e x.0 k.mark (closure.marks e x.0 k x.1 is)), (p.earlier, (p.goes, tt))))
@@ -400,5 +400,5 @@ module _ (m : Mode) (A B : Automaton) (S : List (ℕ × ℕ)) (limit : ℕ) (es 
         has.apart i j x.0 z.0 other x.1 z.1 (tells.stays i (at_within es i x.0 x.1) i_live) (tells.stays j (at_within es j z.0 z.1) j_live)
         (subsumes_back m A B S x.0 z.0
         (subst (λ a. SubsumesIn m B S a z.0.arc) (arc_is i x.0 x.1)
-        (subst (λ b. SubsumesIn m B S (arc_at A (element_arcs A y) i) b) (arc_is j z.0 z.1)
+        (subst (λ b. SubsumesIn m B S (arc_at A (element_arcs A y.elements) i) b) (arc_is j z.0 z.1)
         (subsumes_in m A B S (entry_at A (origins_of y) i) (entry_at A (origins_of y) j) subsumes))))

@@ -1,5 +1,5 @@
 -- What the answers of a decision are.
-use Rattle.std.specs.Prelude.{◌≡◌, ℕ, ◌+◌, ◌≤◌, List, length}
+use Rattle.std.specs.Prelude.{◌≡◌, ℕ, ◌+◌, ◌<◌, ◌≤◌, List, length}
 use Rattle.auto_core.specs.Automaton.{IsAutomaton}
 use Rattle.auto_core.specs.Accept.{Includes, SeparatesLasso, SeparatesWord}
 use Rattle.auto_core.specs.Outcome.{Outcome, Entry}
@@ -20,7 +20,8 @@ use Rattle.cert_check.specs.Laws.{IsValid}
 use Rattle.evidence.specs.Evidence.{LiveStandApart}
 use Rattle.decide.specs.declared.terms.Terms.{Terms}
 use Rattle.decide.specs.Terms.{AreBounded}
-use Rattle.decide.specs.Searches.{rules_in, AreListedIn, NoneSubsumedEarlier}
+use Rattle.cert_check.specs.Listing.{AreListedIn}
+use Rattle.decide.specs.Searches.{rules_in, bound_in, NoneSubsumedBeforeIn}
 use Rattle.decide.specs.Answer.{HasFewParts, IsOrder, Decides, IsAnswer, Reductions, AreReductions}
 
 -- The two automata are valid, over as many labels as there are texts, and small enough to be decided.
@@ -33,17 +34,6 @@ pub record CanDecide (pair : Joined) : Type 0 where
   pub first_parts : HasFewParts pair.first
   pub second_parts : HasFewParts pair.second
 
--- The body says yes or no.
-abbrev pub SaysYesOrNo : Body → Type 0
-SaysYesOrNo (Yes evidence) = Unit {0}
-SaysYesOrNo (NoLasso lasso) = Unit {0}
-SaysYesOrNo (NoWord word) = Unit {0}
-SaysYesOrNo (Listing list) = ⊥
-
--- If the certificate says yes or no, it is valid for the two automata: it keeps all rules of the check.
-abbrev pub IsValidVerdict : Joined → Cert → Type 0
-IsValidVerdict pair cert = SaysYesOrNo cert.body → IsValid pair cert
-
 -- The logs lead from the read automata to these two, in which no step of the reduction has anything left to do.
 pub record AreSettledEnds (pair : Joined) (terms : Terms) (firsts : List FirstStep) (seconds : List SecondStep) (ends : Ends) : Type 0 where
   pub lead : AreEnds terms.mode pair.first pair.second firsts seconds ends
@@ -54,16 +44,21 @@ pub record AreSettledEnds (pair : Joined) (terms : Terms) (firsts : List FirstSt
 pub record StandApart (pair : Joined) (terms : Terms) (evidence : YesBody) : Type 0 where
   pub ends : Ends
   pub settled : AreSettledEnds pair terms evidence.first evidence.second ends
-  pub apart : (S : List (ℕ × ℕ)) → IsOrder ends.second S →
-      LiveStandApart (rules_in terms.mode ends.first ends.second S) ends.first (origins_of evidence) (live_in evidence)
+  pub order : List (ℕ × ℕ)
+  pub ordered : IsOrder ends.second order
+  pub apart : LiveStandApart (rules_in terms.mode ends.first ends.second order) ends.first (origins_of evidence) (live_in evidence)
 
 -- The logs of the list lead to settled automata. It has limit + 1 different supergraphs of these, in finite mode pairs of a state and a
--- set, and none is subsumed by an earlier one.
+-- set, and none is subsumed by an earlier one, by the order that the search of these goes by. The limit is below the bound on different
+-- ones of the read automata.
 pub record ListsNew (pair : Joined) (terms : Terms) (list : ListBody) : Type 0 where
   pub ends : Ends
   pub settled : AreSettledEnds pair terms list.first list.second ends
   pub listed : AreListedIn terms.mode ends.first ends.second (terms.limit + 1) list.elements
-  pub fresh : (S : List (ℕ × ℕ)) → IsOrder ends.second S → NoneSubsumedEarlier (rules_in terms.mode ends.first ends.second S) ends.first list.elements
+  pub order : List (ℕ × ℕ)
+  pub ordered : IsOrder ends.second order
+  pub fresh : NoneSubsumedBeforeIn (rules_in terms.mode ends.first ends.second order) ends.first list.elements
+  pub below : terms.limit < bound_in terms.mode pair.first.states pair.second.states
 
 -- What the body says is so.
 abbrev pub SaysTruth : Joined → Terms → Body → Type 0
@@ -92,14 +87,14 @@ AnswersAreFormed =
     → IsAnswer pair terms cert
     → WellFormed cert
 
--- An answer that says yes or no keeps all rules of the check.
+-- An answer is valid for the two automata: it keeps all rules of the check.
 abbrev pub AnswersAreValid : Type 0
 AnswersAreValid =
     (pair : Joined) (terms : Terms) (cert : Cert)
     → CanDecide pair
     → AreBounded terms
     → IsAnswer pair terms cert
-    → IsValidVerdict pair cert
+    → IsValid pair cert
 
 -- What an answer says is so.
 abbrev pub AnswersAreTrue : Type 0

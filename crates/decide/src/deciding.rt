@@ -9,7 +9,9 @@ ghost use Rattle.cert_text.specs.declared.types.ListBody.{ListBody};
 ghost use Rattle.cert_text.specs.declared.types.Body.TheVariants as body;
 ghost use Rattle.decide.specs.Answer.{IsAnswer, HasFewParts};
 ghost use Rattle.decide.specs.Terms.{terms_of};
-ghost use Rattle.decide.specs.Laws.{IsValidVerdict, StandApart, ListsNew};
+ghost use Rattle.cert_check.specs.Laws.{IsValid};
+ghost use Rattle.decide.specs.Laws.{StandApart, ListsNew};
+ghost use Rattle.decide.specs.Searches.{bound_in};
 
 use crate::bodies::body_of;
 use crate::logs::logs_of;
@@ -44,9 +46,9 @@ pub fn include(
     // The certificate is the answer: what it has to hold for the outcome of the search on the reduced automata.
     ensures answer { IfOk result (IsAnswer pair.now (terms_of mode look limit)) }
 
-    // It has a text, and a yes and a no keep all rules of the check.
+    // It has a text, and it is valid for the two automata: it keeps all rules of the check.
     ensures formed { IfOk result WellFormed }
-    ensures valid { IfOk result (IsValidVerdict pair.now) }
+    ensures valid { IfOk result (IsValid pair.now) }
 
     // A yes says an inclusion. Its logs lead to settled automata, and no live element of it subsumes another there.
     ensures included { IfOk result (λ cert. (evidence : YesBody) → cert.body ≡ body.Yes evidence → Includes pair.now.first pair.now.second mode) }
@@ -59,6 +61,9 @@ pub fn include(
     // The logs of a list lead to settled automata. It has limit + 1 different supergraphs of these, in finite mode pairs of a state and a
     // set, none subsumed by an earlier one.
     ensures listed { IfOk result (λ cert. (list : ListBody) → cert.body ≡ body.Listing list → ListsNew pair.now (terms_of mode look limit) list) }
+
+    // At a limit of at least the bound on different ones of the two automata no list comes.
+    ensures no_list { bound_in mode pair.now.first.states pair.now.second.states ≤ limit → IfOk result (λ cert. (list : ListBody) → cert.body ≡ body.Listing list → ⊥) }
 {
     let first_states = pair.first.states();
     let second_states = pair.second.states();

@@ -12,7 +12,7 @@ pub fn answers_are_formed()
     ensures { AnswersAreFormed }
 {}
 
-/// Such an answer, if it says yes or no, keeps all rules of the check.
+/// Such an answer keeps all rules of the check.
 pub fn answers_are_valid()
     ensures { AnswersAreValid }
 {}

@@ -9,7 +9,7 @@ use Rattle.decide.specs.Laws.{CanDecide}
 use Rattle.decide.specs.Logs.{AreStepsOnFew, AreLogsOf}
 use Rattle.decide.proofs.EndLemmas.{log_few}
 use Rattle.decide.proofs.MadeLemmas.{answer_made}
-use Rattle.decide.proofs.AnswerLemmas.{answers_are_formed, answers_are_valid, yes_includes, yes_stands_apart, no_separates, word_tells_apart, list_is_new}
+use Rattle.decide.proofs.AnswerLemmas.{answers_are_formed, answers_are_valid, yes_includes, yes_stands_apart, no_separates, word_tells_apart, list_is_new, no_list_at_bound}
 use Rattle.decide.proofs.deciding.include.Goals as goal
 
 pub body_of-requires-clause-labels : goal.body_of-requires-clause-labels
@@ -150,3 +150,17 @@ returns-clause-listed c =
     } in
     let bounds : AreBounded (terms_of c.args.mode c.args.look c.args.limit) = record { look_from = c.requires.look_from; look_upto = c.requires.look_upto; few = c.requires.few } in
     list_is_new c.args.pair.now (terms_of c.args.mode c.args.look c.args.limit) _ can bounds (returns-clause-answer c)
+
+pub returns-clause-no_list : goal.returns-clause-no_list
+returns-clause-no_list c high =
+    let can : CanDecide c.args.pair.now = record {
+      first = c.states-first_states.ensures.valid;
+      second = c.states-second_states.ensures.valid;
+      first_labels = c.requires.first_labels;
+      second_labels = c.requires.second_labels;
+      few_labels = c.requires.few_labels;
+      first_parts = c.requires.first_parts;
+      second_parts = c.requires.second_parts;
+    } in
+    let bounds : AreBounded (terms_of c.args.mode c.args.look c.args.limit) = record { look_from = c.requires.look_from; look_upto = c.requires.look_upto; few = c.requires.few } in
+    no_list_at_bound c.args.pair.now (terms_of c.args.mode c.args.look c.args.limit) _ can bounds (returns-clause-answer c) high
