@@ -27,7 +27,6 @@ own_number (status.Limit) = (λ e. omega arith, λ e. omega arith, λ e. omega a
 own_number (status.Usage) = (λ e. omega arith, λ e. omega arith, λ e. omega arith)
 own_number (status.BadFile) = (λ e. omega arith, λ e. omega arith, λ e. omega arith)
 own_number (status.BadCertificate) = (λ e. omega arith, λ e. omega arith, λ e. omega arith)
-own_number (status.NotBuilt) = (λ e. omega arith, λ e. omega arith, λ e. omega arith)
 
 -- unsent, it is 7, or stays and is above 2
 pub unsent_number : (s : Status) → (number_unsent s ≡ 7) ⊎ ((number_unsent s ≡ status_number s) × (3 ≤ status_number s))
@@ -37,7 +36,6 @@ unsent_number (status.Limit) = inl refl
 unsent_number (status.Usage) = inr (refl, omega arith)
 unsent_number (status.BadFile) = inr (refl, omega arith)
 unsent_number (status.BadCertificate) = inr (refl, omega arith)
-unsent_number (status.NotBuilt) = inr (refl, omega arith)
 
 -- only a result turns into a write fault
 pub unsent_low : (s : Status) → number_unsent s ≡ 7 → status_number s ≤ 2
@@ -47,7 +45,6 @@ unsent_low (status.Limit) e = omega arith
 unsent_low (status.Usage) e = absurd (omega arith)
 unsent_low (status.BadFile) e = absurd (omega arith)
 unsent_low (status.BadCertificate) e = absurd (omega arith)
-unsent_low (status.NotBuilt) e = absurd (omega arith)
 
 -- a file that is not read has a status above 3, and writes nothing
 abbrev pub IsPlainStop : Reply → Type 0
@@ -101,13 +98,13 @@ module _ (means : List Value → Reply → Type 0) (inputs : List Input) (held h
   says_each_on None e leaves ends said one = tt
   says_each_on (Some files) (ending.Reached s) (files', is, (right, left)) ends said one = λ r of.
       let same : s ≡ r = one_reply files means inputs one s r right of in
-      elim said [
-        | inl whole ↦ inl (whole.0 ∙ ap (λ z. status_number z.status) same, whole.1 ∙ ap (λ z. append_known sent z.text) same, is ∙ ap Some (left ∙ ap (λ z. filed files z.puts) same))
-        | inr front ↦ inr (inr (inl front.1))
-      ]
+      inl (
+        subst (λ z. WasGiven z.text (status_number z.status) (number_unsent z.status) status sent sent' sink sink') same said,
+        is ∙ ap Some (left ∙ ap (λ z. filed files z.puts) same),
+      )
   says_each_on (Some files) (ending.ReadFault) leaves ends said one = λ r of. inr (inl (ends.read_fault refl))
-  says_each_on (Some files) (ending.WriteFault) leaves ends said one = λ r of. inr (inr (inr (inl (ends.write_fault refl))))
-  says_each_on (Some files) (ending.OutOfMemory) leaves ends said one = λ r of. inr (inr (inr (inr (elim said [ inl whole ↦ whole.0 | inr front ↦ front.0 ]))))
+  says_each_on (Some files) (ending.WriteFault) leaves ends said one = λ r of. inr (inr (inl (ends.write_fault refl)))
+  says_each_on (Some files) (ending.OutOfMemory) leaves ends said one = λ r of. inr (inr (inr (elim said [ inl whole ↦ whole.0 | inr front ↦ front.0 ])))
 
   pub says_each : (e : Ending) → Ends e → Said e → ((vs : List Value) (r s : Reply) → AreOfKinds inputs vs → means vs r → means vs s → r ≡ s) →
       IfSome held (λ files. SaysEach means inputs files held' status sent sent' sink sink' faults faults' puts puts')

@@ -29,15 +29,14 @@ pub record IsCarriedOut (means : List Value → Reply → Type 0) (inputs : List
   pub ends : EndsSo means inputs end held held' read_faults read_faults' put_faults put_faults'
   pub said : WasSaid end status sent sent' give_faults give_faults'
 
--- Whatever is the right reply: it was carried out whole, with its status, its text and its files, unless a count of the outside rose or memory was
--- refused.
+-- Whatever is the right reply: its files are written and its text was given, with its status, or where the sink's count rose a front of it with the
+-- status for that; unless a call of the shelf failed or memory was refused.
 abbrev pub SaysEach : (List Value → Reply → Type 0) → List Input → FileMap → Option FileMap → ℕ → Option (List ℕ) → Option (List ℕ) → ℕ → ℕ → ℕ → ℕ → ℕ → ℕ → Type 0
 SaysEach means inputs files held' status sent sent' give_faults give_faults' read_faults read_faults' put_faults put_faults' =
     (r : Reply)
     → IsReplyFor means inputs files r
-    → ((status ≡ status_number r.status) × (sent' ≡ append_known sent r.text) × (held' ≡ Some (filed files r.puts)))
+    → (WasGiven r.text (status_number r.status) (number_unsent r.status) status sent sent' give_faults give_faults' × (held' ≡ Some (filed files r.puts)))
     ⊎ Rose read_faults read_faults'
-    ⊎ Rose give_faults give_faults'
     ⊎ Rose put_faults put_faults'
     ⊎ (status ≡ 8)
 

@@ -11,7 +11,6 @@ status_number (status.Limit) = 2
 status_number (status.Usage) = 3
 status_number (status.BadFile) = 4
 status_number (status.BadCertificate) = 5
-status_number (status.NotBuilt) = 9
 
 -- The status where the sink refused the text: a result turns into a write fault, a fault stays what it is.
 abbrev pub number_unsent : Status → ℕ
@@ -21,7 +20,6 @@ number_unsent (status.Limit) = 7
 number_unsent (status.Usage) = 3
 number_unsent (status.BadFile) = 4
 number_unsent (status.BadCertificate) = 5
-number_unsent (status.NotBuilt) = 9
 
 -- The status comes of no fault of the outside: no read fault, no write fault, no want of memory.
 abbrev pub IsOwn : ℕ → Type 0

@@ -124,7 +124,7 @@ pub fn carry_out<W: Work, H: Shelf, K: Sink>(
         (K.sent out.old) (K.sent out.new) (K.faults out.old) (K.faults out.new)
         (H.faults shelf.old) (H.faults shelf.new) (H.put_faults shelf.old) (H.put_faults shelf.new) }
 
-    // The right reply, whatever it is, comes with its status, its whole text and its files, unless a count of the outside rose or memory was refused.
+    // The right reply, whatever it is, has its files written and its text given, unless a call of the shelf failed or memory was refused.
     ensures exact { IfSome (H.held shelf.old) (λ files. SaysEach (W.means work.now) (W.inputs work.now) files (H.held shelf.new) result
         (K.sent out.old) (K.sent out.new) (K.faults out.old) (K.faults out.new)
         (H.faults shelf.old) (H.faults shelf.new) (H.put_faults shelf.old) (H.put_faults shelf.new)) }

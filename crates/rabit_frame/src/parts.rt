@@ -82,8 +82,6 @@ pub enum Status {
     BadFile,
     /// 5: a certificate has a fault, or breaks a rule.
     BadCertificate,
-    /// 9: what is asked is not built.
-    NotBuilt,
 }
 
 impl Status {
@@ -98,7 +96,6 @@ impl Status {
             Status::Usage => 3,
             Status::BadFile => 4,
             Status::BadCertificate => 5,
-            Status::NotBuilt => 9,
         }
     }
 
