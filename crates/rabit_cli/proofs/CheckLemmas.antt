@@ -1,6 +1,5 @@
 -- `check`: one reply, and what it shows.
-use Rattle.std.proofs.Common.{◌≡◌, ℕ, ◌≤◌, List, [], Option, true, false, inl, inr, refl, sym, ◌∙◌, ap, subst, arith}
-use Rattle.std.proofs.lemmas.Bool.{false≢true}
+use Rattle.std.proofs.Common.{◌≡◌, ℕ, ◌≤◌, ◌⊎◌, List, [], Option, inl, inr, refl, sym, ◌∙◌, ap, subst, arith}
 use Rattle.std.specs.Io.KnownBytes.{append_known}
 use Rattle.shelf_io.specs.Shelf.{FileMap}
 use Rattle.ba_format.specs.declared.parts.Named.{Named}
@@ -10,8 +9,9 @@ use Rattle.ba_format.proofs.LawLemmas.{joins_as_one}
 use Rattle.cert_text.specs.declared.types.Cert.{Cert}
 use Rattle.cert_text.specs.declared.types.Body.{Body}
 use Rattle.cert_text.specs.declared.types.Body.TheVariants.{Yes, NoLasso, NoWord, Listing}
-use Rattle.cert_check.specs.Rules.{KeepsRules, BodyHolds, has_checked_body, has_checked_form}
+use Rattle.cert_check.specs.Rules.{KeepsRules, BodyHolds}
 use Rattle.cert_check.proofs.ClosedLemmas.{valid_yes_includes}
+use Rattle.cert_check.proofs.ListingLemmas.{kept_list_shows}
 use Rattle.cert_check.proofs.RuleLemmas.{one_rule, none_kept}
 use Rattle.rabit_frame.specs.declared.parts.Value.{Value}
 use Rattle.rabit_frame.specs.declared.parts.Status.TheVariants as status
@@ -22,41 +22,14 @@ use Rattle.rabit_cli.specs.Printed.{refused_text}
 use Rattle.rabit_cli.specs.Files.{ReadsPair, HoldsCertificate}
 use Rattle.rabit_cli.specs.Replies.{IsVerdictReply, TellsApart}
 use Rattle.rabit_cli.specs.Check.{check_inputs, Concludes, MeansCheck, ShowsCheck}
-use Rattle.rabit_cli.proofs.VerdictLemmas.{one_verdict, puts_of_verdict}
+use Rattle.rabit_cli.proofs.VerdictLemmas.{one_verdict, puts_of_verdict, low_verdict}
 
 one_conclusion : (pair : Joined) (cert : Cert) (r s : Reply) → Concludes pair cert r → Concludes pair cert s → r ≡ s
-one_conclusion pair cert r s p q =
-    elim p [
-      | inl unbuilt ↦
-          elim q [
-            | inl unbuilt' ↦ unbuilt.1 ∙ sym unbuilt'.1
-            | inr decided ↦ elim decided [ inl broken ↦ absurd (false≢true (sym unbuilt.0 ∙ broken.0)) | inr valid ↦ absurd (false≢true (sym unbuilt.0 ∙ valid.0)) ]
-          ]
-      | inr decided ↦
-          elim decided [
-            | inl broken ↦
-                elim q [
-                  | inl unbuilt ↦ absurd (false≢true (sym unbuilt.0 ∙ broken.0))
-                  | inr decided' ↦
-                      elim decided' [
-                        | inl broken' ↦
-                            let b = broken.1 in
-                            let b' = broken'.1 in
-                            b.2 ∙ ap (λ z. only_said status.BadCertificate (refused_text z)) (one_rule pair cert b.0 b'.0 b.1 b'.1) ∙ sym b'.2
-                        | inr valid ↦ let b = broken.1 in absurd (none_kept pair cert b.0 b.1 valid.1)
-                      ]
-                ]
-            | inr valid ↦
-                elim q [
-                  | inl unbuilt ↦ absurd (false≢true (sym unbuilt.0 ∙ valid.0))
-                  | inr decided' ↦
-                      elim decided' [
-                        | inl broken ↦ let b = broken.1 in absurd (none_kept pair cert b.0 b.1 valid.1)
-                        | inr valid' ↦ one_verdict cert.mode pair cert.body [] r s valid.2 valid'.2
-                      ]
-                ]
-          ]
-    ]
+one_conclusion pair cert r s (inl (refusal, breaks, is)) (inl (other, breaks', is')) =
+    is ∙ ap (λ z. only_said status.BadCertificate (refused_text z)) (one_rule pair cert refusal other breaks breaks') ∙ sym is'
+one_conclusion pair cert r s (inl (refusal, breaks, is)) (inr (keeps, says)) = absurd (none_kept pair cert refusal breaks keeps)
+one_conclusion pair cert r s (inr (keeps, says)) (inl (refusal, breaks, is)) = absurd (none_kept pair cert refusal breaks keeps)
+one_conclusion pair cert r s (inr (keeps, says)) (inr (keeps', says')) = one_verdict cert.mode pair cert.body [] r s says says'
 
 pub one_check : (values : List Value) (r s : Reply) → MeansCheck values r → MeansCheck values s → r ≡ s
 one_check values r s (one, two, cert, is, (pair, joined, concludes)) (one', two', cert', is', (pair', joined', concludes')) =
@@ -74,18 +47,17 @@ one_check values r s (one, two, cert, is, (pair, joined, concludes)) (one', two'
 -- a check writes nothing
 pub check_puts : (values : List Value) (r : Reply) → MeansCheck values r → r.puts ≡ []
 check_puts values r (one, two, cert, is, (pair, joined, concludes)) =
-    elim concludes [
-      | inl unbuilt ↦ ap (λ z. z.puts) unbuilt.1
-      | inr decided ↦ elim decided [ inl broken ↦ ap (λ z. z.puts) broken.1.2 | inr valid ↦ puts_of_verdict cert.mode pair cert.body [] r valid.2 ]
-    ]
+    elim concludes [ inl broken ↦ ap (λ z. z.puts) broken.2 | inr valid ↦ puts_of_verdict cert.mode pair cert.body [] r valid.1 ]
+
+-- it has a verdict, or refuses the certificate
+pub check_answers : (values : List Value) (r : Reply) → MeansCheck values r → (status_number r.status ≤ 2) ⊎ (status_number r.status ≡ 5)
+check_answers values r (one, two, cert, is, (pair, joined, concludes)) =
+    elim concludes [ inl broken ↦ inr (ap (λ z. status_number z.status) broken.2) | inr valid ↦ inl (low_verdict cert.mode pair cert.body [] r valid.1) ]
 
 -- its status is none of the words'
 pub check_asked : (values : List Value) (r : Reply) → MeansCheck values r → status_number r.status ≡ 3 → ⊥
 check_asked values r (one, two, cert, is, (pair, joined, concludes)) three =
-    elim concludes [
-      | inl unbuilt ↦ (let e = ap (λ z. status_number z.status) unbuilt.1 in omega arith)
-      | inr decided ↦ elim decided [ inl broken ↦ (let e = ap (λ z. status_number z.status) broken.1.2 in omega arith) | inr valid ↦ go cert.body valid.2 ]
-    ]
+    elim concludes [ inl broken ↦ (let e = ap (λ z. status_number z.status) broken.2 in omega arith) | inr valid ↦ go cert.body valid.1 ]
   where
     go : (body : Body) → IsVerdictReply cert.mode pair body [] r → ⊥
     go (Yes b) e = (let f = ap (λ z. status_number z.status) e in omega arith)
@@ -93,17 +65,13 @@ check_asked values r (one, two, cert, is, (pair, joined, concludes)) three =
     go (NoWord w) e = (let f = ap (λ z. status_number z.status) e in omega arith)
     go (Listing l) e = (let f = ap (λ z. status_number z.status) e in omega arith)
 
--- no list is checked yet
-no_list : (body : Body) → has_checked_body body ≡ false → has_checked_body body ≡ true → ⊥
-no_list body p q = false≢true (sym p ∙ q)
-
 module _ (files : FileMap) (a b c : List ℕ) (status : ℕ) (sent sent' : Option (List ℕ)) (r : Reply) where
   shows_high : 3 ≤ status → ShowsCheck files a b c status sent sent'
-  shows_high high = record { included = λ e. absurd (omega arith); not_included = λ e. absurd (omega arith); no_limit = λ e. omega arith }
+  shows_high high = record { included = λ e. absurd (omega arith); not_included = λ e. absurd (omega arith); listed = λ e. absurd (omega arith) }
 
   module _ (number : status_number r.status ≡ status) (sends : sent' ≡ append_known sent r.text) where
-    shows_valid : (pair : Joined) (cert : Cert) → ReadsPair files a b pair → HoldsCertificate files c cert → has_checked_form cert ≡ true → KeepsRules pair cert → (body : Body) → cert.body ≡ body → IsVerdictReply cert.mode pair body [] r → ShowsCheck files a b c status sent sent'
-    shows_valid pair cert read certificate form keeps (Yes evidence) is says =
+    shows_valid : (pair : Joined) (cert : Cert) → ReadsPair files a b pair → HoldsCertificate files c cert → KeepsRules pair cert → (body : Body) → cert.body ≡ body → IsVerdictReply cert.mode pair body [] r → ShowsCheck files a b c status sent sent'
+    shows_valid pair cert read certificate keeps (Yes evidence) is says =
         let zero : status ≡ 0 = sym number ∙ ap (λ z. status_number z.status) says in
         record {
           included = λ e. record {
@@ -113,14 +81,14 @@ module _ (files : FileMap) (a b c : List ℕ) (status : ℕ) (sent sent' : Optio
             read = read;
             certificate = certificate;
             says_yes = is;
-            valid = record { formed = certificate.3; form = form; keeps = keeps };
+            valid = record { formed = certificate.3; keeps = keeps };
             includes = valid_yes_includes pair cert evidence is certificate.3 read.4.first.valid read.4.second.valid keeps;
             printed = sends ∙ ap (λ z. append_known sent z.text) says;
           };
           not_included = λ e. absurd (omega arith);
-          no_limit = λ e. omega arith;
+          listed = λ e. absurd (omega arith);
         }
-    shows_valid pair cert read certificate form keeps (NoLasso lasso) is says =
+    shows_valid pair cert read certificate keeps (NoLasso lasso) is says =
         let one : status ≡ 1 = sym number ∙ ap (λ z. status_number z.status) says in
         let all = subst (λ z. BodyHolds cert.mode pair z) is keeps.1 in
         record {
@@ -130,12 +98,12 @@ module _ (files : FileMap) (a b c : List ℕ) (status : ℕ) (sent sent' : Optio
             cert = cert;
             read = read;
             certificate = certificate;
-            valid = record { formed = certificate.3; form = form; keeps = keeps };
+            valid = record { formed = certificate.3; keeps = keeps };
             apart = subst (λ z. TellsApart pair z sent sent') (sym is) ((all.1.1.0, all.1.1.1.0), sends ∙ ap (λ z. append_known sent z.text) says);
           };
-          no_limit = λ e. omega arith;
+          listed = λ e. absurd (omega arith);
         }
-    shows_valid pair cert read certificate form keeps (NoWord word) is says =
+    shows_valid pair cert read certificate keeps (NoWord word) is says =
         let one : status ≡ 1 = sym number ∙ ap (λ z. status_number z.status) says in
         let all = subst (λ z. BodyHolds cert.mode pair z) is keeps.1 in
         record {
@@ -145,21 +113,33 @@ module _ (files : FileMap) (a b c : List ℕ) (status : ℕ) (sent sent' : Optio
             cert = cert;
             read = read;
             certificate = certificate;
-            valid = record { formed = certificate.3; form = form; keeps = keeps };
+            valid = record { formed = certificate.3; keeps = keeps };
             apart = subst (λ z. TellsApart pair z sent sent') (sym is) ((all.1.0, all.1.1.0), sends ∙ ap (λ z. append_known sent z.text) says);
           };
-          no_limit = λ e. omega arith;
+          listed = λ e. absurd (omega arith);
         }
-    shows_valid pair cert read certificate form keeps (Listing l) is says = absurd (no_list cert.body (ap has_checked_body is) form)
+    shows_valid pair cert read certificate keeps (Listing l) is says =
+        let two : status ≡ 2 = sym number ∙ ap (λ z. status_number z.status) says in
+        record {
+          included = λ e. absurd (omega arith);
+          not_included = λ e. absurd (omega arith);
+          listed = λ e. record {
+            pair = pair;
+            cert = cert;
+            list = l;
+            read = read;
+            certificate = certificate;
+            lists = is;
+            valid = record { formed = certificate.3; keeps = keeps };
+            different = kept_list_shows pair cert l is certificate.3 keeps;
+            printed = sends ∙ ap (λ z. append_known sent z.text) says;
+          };
+        }
 
     pub shows_check : (values : List Value) → ReadInTurn files (check_inputs a b c) values → MeansCheck values r → ShowsCheck files a b c status sent sent'
     shows_check values reads (one, two, cert, is, (pair, joined, concludes)) =
         let (first, (second, ((bytes, has, few, (formed, text_is)), end))) = subst (ReadInTurn files (check_inputs a b c)) is reads in
         elim concludes [
-          | inl unbuilt ↦ (let e = ap (λ z. status_number z.status) unbuilt.1 in shows_high (omega arith))
-          | inr decided ↦
-              elim decided [
-                | inl broken ↦ (let e = ap (λ z. status_number z.status) broken.1.2 in shows_high (omega arith))
-                | inr valid ↦ shows_valid pair cert (one, two, first, second, joined) (bytes, has, few, formed, text_is) valid.0 valid.1 cert.body refl valid.2
-              ]
+          | inl broken ↦ (let e = ap (λ z. status_number z.status) broken.2 in shows_high (omega arith))
+          | inr valid ↦ shows_valid pair cert (one, two, first, second, joined) (bytes, has, few, formed, text_is) valid.0 cert.body refl valid.1
         ]

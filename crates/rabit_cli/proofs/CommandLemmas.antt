@@ -12,11 +12,20 @@ use Rattle.rabit_frame.specs.Ending.{OfBoth, WasSaid}
 use Rattle.rabit_frame.specs.Carrying.{EndsSo, IsCarriedOut, ShowsResult}
 use Rattle.rabit_frame.proofs.EndLemmas.{may_plain, same_status, own_status, both_same, no_inputs, no_puts, no_puts_stay}
 use Rattle.rabit_words.specs.Question.{Question, Include, Check, Reduce, Drill, HasNumbersInRange}
-use Rattle.rabit_cli.specs.Replies.{not_built_reply}
-use Rattle.rabit_cli.specs.Commands.{inputs_of, outputs_of, Means, Shows, LeavesFiles, SaysUsage}
+use Rattle.drawing.specs.declared.parts.Drill.{Drill as Drawing}
+use Rattle.drawing.specs.Drawn.{IsInBounds}
+use Rattle.rabit_cli.specs.Commands.{inputs_of, outputs_of, Means, Shows, Drills, LeavesFiles, SaysUsage}
 use Rattle.rabit_cli.proofs.CheckLemmas.{one_check, check_puts, check_asked, shows_check}
 use Rattle.rabit_cli.proofs.IncludeLemmas.{one_include, include_asked, shows_include, leaves_include}
 use Rattle.rabit_cli.proofs.ReduceLemmas.{one_reduce, reduce_puts, reduce_asked, shows_reduce}
+use Rattle.rabit_cli.proofs.DrillLemmas.{one_drill, drill_puts, drill_asked, shows_drill, says_drill}
+
+-- the drill of a question
+abbrev drawing : ℕ → ℕ → ℕ → Drawing
+drawing seed states labels = record { seed = seed; states = states; labels = labels }
+
+in_bounds : (seed states labels : ℕ) → HasNumbersInRange (Drill seed states labels) → IsInBounds (drawing seed states labels)
+in_bounds seed states labels (few, from, upto, some, most) = record { states_from = from; states_upto = upto; labels_from = some; labels_upto = most }
 
 -- one row a question
 pub one_meaning : (q : Option Question) → IfSome q HasNumbersInRange → (values : List Value) (r s : Reply) → AreOfKinds (inputs_of q) values → Means q values r → Means q values s → r ≡ s
@@ -24,24 +33,21 @@ one_meaning None range values r s kinds p q = p ∙ sym q
 one_meaning (Some (Check a b c)) range values r s kinds p q = one_check values r s p q
 one_meaning (Some (Include a b c m look limit)) range values r s kinds p q = one_include c (terms_of m look limit) range.0 values r s p q
 one_meaning (Some (Reduce a m look)) range values r s kinds p q = one_reduce a m look range.0 values r s kinds p q
-one_meaning (Some (Drill seed states labels)) range values r s kinds p q = p ∙ sym q
+one_meaning (Some (Drill seed states labels)) range values r s kinds p q = one_drill (drawing seed states labels) values r s p q
 
 pub no_outputs : (q : Option Question) → outputs_of q ≡ [] → (values : List Value) (r : Reply) → Means q values r → r.puts ≡ []
 no_outputs None none values r p = ap (λ z. z.puts) p
 no_outputs (Some (Check a b c)) none values r p = check_puts values r p
 no_outputs (Some (Include a b c m look limit)) none values r p = absurd (let f = none in cc)
 no_outputs (Some (Reduce a m look)) none values r p = reduce_puts m look values r p
-no_outputs (Some (Drill seed states labels)) none values r p = ap (λ z. z.puts) p
-
-built : (r : Reply) → r ≡ not_built_reply → status_number r.status ≡ 9
-built r p = ap (λ z. status_number z.status) p
+no_outputs (Some (Drill seed states labels)) none values r p = drill_puts (drawing seed states labels) values r p
 
 usage_alone : (q : Option Question) (values : List Value) (r : Reply) → Means q values r → status_number r.status ≡ 3 → q ≡ None
 usage_alone None values r p three = refl
 usage_alone (Some (Check a b c)) values r p three = absurd (check_asked values r p three)
 usage_alone (Some (Include a b c m look limit)) values r p three = absurd (include_asked c (terms_of m look limit) values r p three)
 usage_alone (Some (Reduce a m look)) values r p three = absurd (reduce_asked m look values r p three)
-usage_alone (Some (Drill seed states labels)) values r p three = (let e = built r p in absurd (omega arith))
+usage_alone (Some (Drill seed states labels)) values r p three = absurd (drill_asked (drawing seed states labels) values r p three)
 
 module _ (status : ℕ) (sent sent' : Option (List ℕ)) where
   pub shows : (q : Option Question) → IfSome q HasNumbersInRange → status ≤ 2 → (files files' : FileMap) → ShowsResult (Means q) (inputs_of q) status sent sent' files files' → Shows q status files files' sent sent'
@@ -50,7 +56,8 @@ module _ (status : ℕ) (sent sent' : Option (List ℕ)) where
   shows (Some (Include a b c m look limit)) range low files files' (r, values, reads, p, number, left, sends) =
       shows_include files a b c (terms_of m look limit) (record { look_from = range.0; look_upto = range.1; few = range.3 }) status files' sent sent' r number left sends values reads p
   shows (Some (Reduce a m look)) range low files files' (r, values, reads, p, number, left, sends) = shows_reduce files a m look status sent sent' r range.0 number sends values reads p
-  shows (Some (Drill seed states labels)) range low files files' (r, values, reads, p, number, left, sends) = (let e = built r p in absurd (omega arith))
+  shows (Some (Drill seed states labels)) range low files files' (r, values, reads, p, number, left, sends) =
+      shows_drill (drawing seed states labels) status sent sent' r (in_bounds seed states labels range) number sends values p
 
 module _ (held held' : Option FileMap) (status : ℕ) (sent sent' : Option (List ℕ)) (sink sink' faults faults' puts puts' : ℕ) where
   abbrev pub Carried : Option Question → Type 0
@@ -90,6 +97,14 @@ module _ (held held' : Option FileMap) (status : ℕ) (sent sent' : Option (List
   says_usage q c none =
       let c' : Carried None = subst Carried none c in
       usage_at c'.end c'.ends c'.said
+
+  pub drills : (q : Option Question) → IfSome q HasNumbersInRange → Carried q → IfSome q (λ asked. Drills asked status sent sent' sink sink')
+  drills None range c = tt
+  drills (Some (Check a b d)) range c = tt
+  drills (Some (Include a b d m look limit)) range c = tt
+  drills (Some (Reduce a m look)) range c = tt
+  drills (Some (Drill seed states labels)) range c =
+      says_drill held held' status sent sent' sink sink' faults faults' puts puts' (drawing seed states labels) (in_bounds seed states labels range) c.end c.ends c.said
 
   pub reads_none : (q : Option Question) → Carried q → inputs_of q ≡ [] → faults' ≡ faults
   reads_none q c none = no_inputs (Means q) (inputs_of q) held held' status sent sent' sink sink' faults faults' puts puts' c.end c.ends none

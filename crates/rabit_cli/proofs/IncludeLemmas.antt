@@ -18,7 +18,7 @@ use Rattle.cert_text.specs.Text.{text}
 use Rattle.decide.specs.Answer.{Reductions, IsAnswer, IsBodyOf}
 use Rattle.decide.specs.declared.terms.Terms.{Terms}
 use Rattle.decide.specs.Terms.{AreBounded}
-use Rattle.decide.specs.Laws.{SaysYesOrNo, SaysTruth}
+use Rattle.decide.specs.Laws.{SaysTruth}
 use Rattle.decide.proofs.AnswerLemmas.{answers_are_formed, answers_are_true, answers_are_valid}
 use Rattle.decide.proofs.UniqueLemmas.{one_answer}
 use Rattle.rabit_frame.specs.declared.parts.Value.{Value}
@@ -33,7 +33,7 @@ use Rattle.rabit_frame.proofs.EndLemmas.{leaves_by_status}
 use Rattle.rabit_cli.specs.Printed.{limit_text}
 use Rattle.rabit_cli.specs.Files.{check_limits, ReadsPair}
 use Rattle.rabit_cli.specs.Replies.{IsVerdictReply, TellsApart}
-use Rattle.rabit_cli.specs.Include.{include_inputs, certificate_put, MeansInclude, IsCertFor, HoldsAnswer, HoldsFront, LeavesDecided, ShowsInclude}
+use Rattle.rabit_cli.specs.Include.{pair_inputs, certificate_put, MeansInclude, IsCertFor, HoldsAnswer, HoldsFront, LeavesDecided, ShowsInclude}
 use Rattle.rabit_cli.proofs.PairLemmas.{can_decide}
 use Rattle.rabit_cli.proofs.VerdictLemmas.{one_verdict, puts_of_verdict, low_verdict}
 
@@ -52,7 +52,7 @@ one_include name terms from values r s (one, two, is, (pair, joined, (cert, answ
     one_verdict terms.mode pair' cert'.body (certificate_put name cert' ∷ []) r s (subst D same_cert (subst C same says)) says'
 
 -- it is a result: so its status is none of the words', and only results write
-include_low : (name : List ℕ) (terms : Terms) (values : List Value) (r : Reply) → MeansInclude name terms values r → status_number r.status ≤ 2
+pub include_low : (name : List ℕ) (terms : Terms) (values : List Value) (r : Reply) → MeansInclude name terms values r → status_number r.status ≤ 2
 include_low name terms values r (one, two, is, (pair, joined, (cert, answer, says))) = low_verdict terms.mode pair cert.body (certificate_put name cert ∷ []) r says
 
 pub include_asked : (name : List ℕ) (terms : Terms) (values : List Value) (r : Reply) → MeansInclude name terms values r → status_number r.status ≡ 3 → ⊥
@@ -84,10 +84,10 @@ module _ (files : FileMap) (a b c : List ℕ) (terms : Terms) (bounds : AreBound
         truth = answers_are_true pair terms cert can bounds answer;
       }
 
-  pub reads_cert : (values : List Value) (r : Reply) → ReadInTurn files (include_inputs a b) values → MeansInclude c terms values r →
+  pub reads_cert : (values : List Value) (r : Reply) → ReadInTurn files (pair_inputs a b) values → MeansInclude c terms values r →
       (pair : Joined) × (cert : Cert) × IsCertFor files a b terms pair cert × IsVerdictReply terms.mode pair cert.body (certificate_put c cert ∷ []) r
   reads_cert values r reads (one, two, is, (pair, joined, (cert, answer, says))) =
-      let (first, (second, end)) = subst (ReadInTurn files (include_inputs a b)) is reads in
+      let (first, (second, end)) = subst (ReadInTurn files (pair_inputs a b)) is reads in
       (pair, cert, cert_for pair cert (one, two, first, second, joined) answer, says)
 
   module _ (status : ℕ) (files' : FileMap) (sent sent' : Option (List ℕ)) (r : Reply) (number : status_number r.status ≡ status) (left : files' ≡ filed files r.puts) (sends : sent' ≡ append_known sent r.text) where
@@ -102,9 +102,9 @@ module _ (files : FileMap) (a b c : List ℕ) (terms : Terms) (bounds : AreBound
             read = is.read;
             answer = is.answer;
             says_yes = body;
-            valid = is.valid (subst SaysYesOrNo (sym body) tt);
+            valid = is.valid;
             includes = (subst (SaysTruth pair terms) body is.truth).0;
-            apart = (subst (SaysTruth pair terms) body is.truth).1;
+            apart_live = (subst (SaysTruth pair terms) body is.truth).1;
             held = held;
             printed = sends ∙ ap (λ z. append_known sent z.text) says;
           };
@@ -120,7 +120,7 @@ module _ (files : FileMap) (a b c : List ℕ) (terms : Terms) (bounds : AreBound
             cert = cert;
             read = is.read;
             answer = is.answer;
-            valid = is.valid (subst SaysYesOrNo (sym body) tt);
+            valid = is.valid;
             apart = subst (λ b. TellsApart pair b sent sent') (sym body) (subst (SaysTruth pair terms) body is.truth, sends ∙ ap (λ z. append_known sent z.text) says);
             held = held;
           };
@@ -135,7 +135,7 @@ module _ (files : FileMap) (a b c : List ℕ) (terms : Terms) (bounds : AreBound
             cert = cert;
             read = is.read;
             answer = is.answer;
-            valid = is.valid (subst SaysYesOrNo (sym body) tt);
+            valid = is.valid;
             apart = subst (λ b. TellsApart pair b sent sent') (sym body) (subst (SaysTruth pair terms) body is.truth, sends ∙ ap (λ z. append_known sent z.text) says);
             held = held;
           };
@@ -153,25 +153,26 @@ module _ (files : FileMap) (a b c : List ℕ) (terms : Terms) (bounds : AreBound
             read = is.read;
             answer = is.answer;
             lists = body;
+            valid = is.valid;
             listed = subst (SaysTruth pair terms) body is.truth;
             held = held;
             printed = sends ∙ ap (λ z. append_known sent z.text) says ∙ ap (λ n. append_known sent (limit_text n)) (limit_in pair terms cert is.answer list body);
           };
         }
 
-    pub shows_include : (values : List Value) → ReadInTurn files (include_inputs a b) values → MeansInclude c terms values r → ShowsInclude files a b c terms status files' sent sent'
+    pub shows_include : (values : List Value) → ReadInTurn files (pair_inputs a b) values → MeansInclude c terms values r → ShowsInclude files a b c terms status files' sent sent'
     shows_include values reads means =
         let (pair, cert, is, says) = reads_cert values r reads means in
         let puts = puts_of_verdict terms.mode pair cert.body (certificate_put c cert ∷ []) r says in
         shows_body pair cert is (left ∙ ap (filed files) puts) (certificate_put c cert ∷ []) cert.body refl says
 
   -- what its reply leaves once it is written, and where that was refused
-  pub holds_answer : (files' : FileMap) (values : List Value) (r : Reply) → ReadInTurn files (include_inputs a b) values → MeansInclude c terms values r → files' ≡ filed files r.puts → HoldsAnswer files a b c terms files'
+  pub holds_answer : (files' : FileMap) (values : List Value) (r : Reply) → ReadInTurn files (pair_inputs a b) values → MeansInclude c terms values r → files' ≡ filed files r.puts → HoldsAnswer files a b c terms files'
   holds_answer files' values r reads means left =
       let (pair, cert, is, says) = reads_cert values r reads means in
       (pair, cert, is, left ∙ ap (filed files) (puts_of_verdict terms.mode pair cert.body (certificate_put c cert ∷ []) r says))
 
-  pub holds_front : (files' : FileMap) (values : List Value) (r : Reply) → ReadInTurn files (include_inputs a b) values → MeansInclude c terms values r → IsCutShort files r.puts files' → HoldsFront files a b c terms files'
+  pub holds_front : (files' : FileMap) (values : List Value) (r : Reply) → ReadInTurn files (pair_inputs a b) values → MeansInclude c terms values r → IsCutShort files r.puts files' → HoldsFront files a b c terms files'
   holds_front files' values r reads means cut =
       let (pair, cert, is, says) = reads_cert values r reads means in
       let cut' = subst (λ ps. IsCutShort files ps files') (puts_of_verdict terms.mode pair cert.body (certificate_put c cert ∷ []) r says) cut in
@@ -179,8 +180,8 @@ module _ (files : FileMap) (a b c : List ℕ) (terms : Terms) (bounds : AreBound
 
 -- what it leaves
 module _ (held held' : Option FileMap) (status : ℕ) (sent sent' : Option (List ℕ)) (sink sink' faults faults' puts puts' : ℕ) (a b c : List ℕ) (terms : Terms) (bounds : AreBounded terms) where
-  pub leaves_include : (e : Ending) → EndsSo (MeansInclude c terms) (include_inputs a b) e held held' faults faults' puts puts' → WasSaid e status sent sent' sink sink' → OfBoth held held' (λ files files'. LeavesDecided files a b c terms status puts puts' files')
+  pub leaves_include : (e : Ending) → EndsSo (MeansInclude c terms) (pair_inputs a b) e held held' faults faults' puts puts' → WasSaid e status sent sent' sink sink' → OfBoth held held' (λ files files'. LeavesDecided files a b c terms status puts puts' files')
   leaves_include e ends said =
-      leaves_by_status (MeansInclude c terms) (include_inputs a b) held held' status sent sent' sink sink' faults faults' puts puts' _ _ (include_writes c terms)
+      leaves_by_status (MeansInclude c terms) (pair_inputs a b) held held' status sent sent' sink sink' faults faults' puts puts' _ _ (include_writes c terms)
       (λ files files' values r reads means low left. holds_answer files a b c terms bounds files' values r reads means left)
       (λ files files' values r reads means cut. holds_front files a b c terms bounds files' values r reads means cut) e ends said

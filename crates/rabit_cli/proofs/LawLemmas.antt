@@ -28,7 +28,7 @@ use Rattle.rabit_frame.specs.Reading.{only_said}
 use Rattle.rabit_frame.proofs.OneLemmas.{one_read_in_turn, stop_or_read_in_turn}
 use Rattle.rabit_cli.specs.Files.{FileReadsAs}
 use Rattle.rabit_cli.specs.Replies.{IsVerdictReply}
-use Rattle.rabit_cli.specs.Include.{include_inputs, certificate_put}
+use Rattle.rabit_cli.specs.Include.{pair_inputs, certificate_put}
 use Rattle.rabit_cli.specs.Laws.{CheckAgrees, AnswersAreAccepted}
 use Rattle.rabit_cli.proofs.IncludeLemmas.{cert_for}
 
@@ -60,16 +60,15 @@ mode_of : {pair : Joined} {terms : Terms} {cert : Cert} → IsAnswer pair terms 
 mode_of (at, ends, answer) = answer.mode
 
 pub check_agrees : CheckAgrees
-check_agrees files a b c terms pair cert r not_a not_b bounds read answer verdict few right =
+check_agrees files a b c terms pair cert r not_a not_b bounds read answer few right =
     let is = cert_for files a b c terms bounds pair cert read answer in
     let (one, two, first, second, joined) = read in
     let values : List Value = value.Automaton one ∷ value.Automaton two ∷ [] in
-    let valid = is.valid verdict in
     let says : IsVerdictReply terms.mode pair cert.body (certificate_put c cert ∷ []) r =
     elim right [
-      | inl stop ↦ absurd (stop_or_read_in_turn files (include_inputs a b) r values stop (first, (second, tt)))
+      | inl stop ↦ absurd (stop_or_read_in_turn files (pair_inputs a b) r values stop (first, (second, tt)))
       | inr (values', reads', (one', two', is', (pair', joined', (cert', answer', says')))) ↦
-          let all = one_read_in_turn files (include_inputs a b) values values' (first, (second, tt)) reads' ∙ is' in
+          let all = one_read_in_turn files (pair_inputs a b) values values' (first, (second, tt)) reads' ∙ is' in
           let same_one : one ≡ one' = cc in
           let same_two : two ≡ two' = cc in
           let P : Named → Type 0 = λ z. IsJoined z two pair in
@@ -84,17 +83,16 @@ check_agrees files a b c terms pair cert r not_a not_b bounds read answer verdic
     inr (
       value.Automaton one ∷ value.Automaton two ∷ value.Certificate cert ∷ [],
       (reads_still files c (text cert) a one not_a first, (reads_still files c (text cert) b two not_b second, ((text cert, written files c (text cert), few, (is.formed, refl)), tt))),
-      (one, two, cert, refl, (pair, joined, inr (inr (valid.form, valid.keeps, said_alone cert.mode pair cert.body (certificate_put c cert ∷ []) r (subst (λ m. IsVerdictReply m pair cert.body (certificate_put c cert ∷ []) r) (sym (mode_of is.answer)) says))))),
+      (one, two, cert, refl, (pair, joined, inr (is.valid.keeps, said_alone cert.mode pair cert.body (certificate_put c cert ∷ []) r (subst (λ m. IsVerdictReply m pair cert.body (certificate_put c cert ∷ []) r) (sym (mode_of is.answer)) says)))),
     )
 
 pub answers_accepted : AnswersAreAccepted
-answers_accepted files a b c terms pair cert r bounds read answer verdict held says =
+answers_accepted files a b c terms pair cert r bounds read answer held says =
     let is = cert_for files a b c terms bounds pair cert read answer in
     let (one, two, first, second, joined) = read in
     let (bytes, has, few, formed, text_is) = held in
-    let valid = is.valid verdict in
     inr (
       value.Automaton one ∷ value.Automaton two ∷ value.Certificate cert ∷ [],
       (first, (second, ((bytes, has, few, (formed, text_is)), tt))),
-      (one, two, cert, refl, (pair, joined, inr (inr (valid.form, valid.keeps, says)))),
+      (one, two, cert, refl, (pair, joined, inr (is.valid.keeps, says))),
     )

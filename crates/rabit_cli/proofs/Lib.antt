@@ -5,5 +5,7 @@ pub mod VerdictLemmas
 pub mod CheckLemmas
 pub mod IncludeLemmas
 pub mod ReduceLemmas
+pub mod DrillLemmas
 pub mod CommandLemmas
+pub mod CompleteLemmas
 pub mod LawLemmas

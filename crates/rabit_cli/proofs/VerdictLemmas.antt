@@ -8,7 +8,7 @@ use Rattle.cert_text.specs.declared.types.Body.{Body}
 use Rattle.cert_text.specs.declared.types.Body.TheVariants.{Yes, NoLasso, NoWord, Listing}
 use Rattle.log_check.specs.Checks.{AllHold}
 use Rattle.cert_check.specs.Rules.{KeepsRules, BodyHolds, lasso_checks, word_checks}
-use Rattle.decide.specs.Laws.{SaysYesOrNo, IsValidVerdict}
+use Rattle.cert_check.specs.Laws.{IsValid}
 use Rattle.rabit_frame.specs.Files.{Output}
 use Rattle.rabit_frame.specs.declared.parts.Reply.{Reply}
 use Rattle.rabit_frame.specs.Statuses.{status_number}
@@ -23,8 +23,8 @@ letters_of_kept pair cert keeps lasso is =
     let rules : AllHold (lasso_checks pair lasso) = subst (λ b. BodyHolds cert.mode pair b) is keeps.1 in
     (rules.0, rules.1.0)
 
-pub letters_of_answer : (pair : Joined) (cert : Cert) → IsValidVerdict pair cert → (lasso : Lasso) → cert.body ≡ NoLasso lasso → HaveTexts pair lasso
-letters_of_answer pair cert valid lasso is = letters_of_kept pair cert (valid (subst SaysYesOrNo (sym is) tt)).keeps lasso is
+pub letters_of_answer : (pair : Joined) (cert : Cert) → IsValid pair cert → (lasso : Lasso) → cert.body ≡ NoLasso lasso → HaveTexts pair lasso
+letters_of_answer pair cert valid lasso is = letters_of_kept pair cert valid.keeps lasso is
 
 -- the letters of a word
 pub letters_of_kept_word : (pair : Joined) (cert : Cert) → KeepsRules pair cert → (word : List ℕ) → cert.body ≡ NoWord word → All (λ a. a < length pair.labels) word
@@ -32,8 +32,8 @@ letters_of_kept_word pair cert keeps word is =
     let rules : AllHold (word_checks pair word) = subst (λ b. BodyHolds cert.mode pair b) is keeps.1 in
     rules.0
 
-pub letters_of_answer_word : (pair : Joined) (cert : Cert) → IsValidVerdict pair cert → (word : List ℕ) → cert.body ≡ NoWord word → All (λ a. a < length pair.labels) word
-letters_of_answer_word pair cert valid word is = letters_of_kept_word pair cert (valid (subst SaysYesOrNo (sym is) tt)).keeps word is
+pub letters_of_answer_word : (pair : Joined) (cert : Cert) → IsValid pair cert → (word : List ℕ) → cert.body ≡ NoWord word → All (λ a. a < length pair.labels) word
+letters_of_answer_word pair cert valid word is = letters_of_kept_word pair cert valid.keeps word is
 
 -- one reply
 pub one_verdict : (m : Mode) (pair : Joined) (body : Body) (puts : List Output) (r s : Reply) → IsVerdictReply m pair body puts r → IsVerdictReply m pair body puts s → r ≡ s

@@ -1,5 +1,5 @@
 -- `check A B CERT`
-use Rattle.std.specs.Prelude.{◌≡◌, ℕ, ◌⊎◌, List, [], ◌∷◌, Option, true, false}
+use Rattle.std.specs.Prelude.{◌≡◌, ℕ, ◌+◌, ◌⊎◌, List, [], ◌∷◌, Option}
 use Rattle.std.specs.Io.KnownBytes.{append_known}
 use Rattle.shelf_io.specs.Shelf.{FileMap}
 use Rattle.auto_core.specs.Accept.{Includes}
@@ -8,9 +8,10 @@ use Rattle.ba_format.specs.declared.parts.Joined.{Joined}
 use Rattle.ba_format.specs.Joining.{IsJoined}
 use Rattle.cert_text.specs.declared.types.Cert.{Cert}
 use Rattle.cert_text.specs.declared.types.YesBody.{YesBody}
-use Rattle.cert_text.specs.declared.types.Body.TheVariants.{Yes}
+use Rattle.cert_text.specs.declared.types.ListBody.{ListBody}
+use Rattle.cert_text.specs.declared.types.Body.TheVariants.{Yes, Listing}
 use Rattle.log_check.specs.declared.faults.Refusal.{Refusal}
-use Rattle.cert_check.specs.Rules.{KeepsRules, BreaksRule, has_checked_form}
+use Rattle.cert_check.specs.Rules.{KeepsRules, BreaksRule, ListsDifferent}
 use Rattle.cert_check.specs.Laws.{IsValid}
 use Rattle.rabit_frame.specs.declared.parts.Value.{Value}
 use Rattle.rabit_frame.specs.declared.parts.Value.TheVariants as value
@@ -18,21 +19,19 @@ use Rattle.rabit_frame.specs.declared.parts.Status.TheVariants as status
 use Rattle.rabit_frame.specs.declared.parts.Reply.{Reply}
 use Rattle.rabit_frame.specs.Files.{Input}
 use Rattle.rabit_frame.specs.Reading.{only_said}
-use Rattle.rabit_cli.specs.Printed.{refused_text, included_text}
+use Rattle.rabit_cli.specs.Printed.{refused_text, included_text, limit_text}
 use Rattle.rabit_cli.specs.Files.{check_limits, automaton_file, certificate_file, ReadsPair, HoldsCertificate}
-use Rattle.rabit_cli.specs.Replies.{not_built_reply, IsVerdictReply, TellsApart}
+use Rattle.rabit_cli.specs.Replies.{IsVerdictReply, TellsApart}
 
 -- The files that it reads: the two automata, and then the certificate.
 abbrev pub check_inputs : List ℕ → List ℕ → List ℕ → List Input
 check_inputs a b c = automaton_file 1 check_limits a ∷ automaton_file 2 check_limits b ∷ certificate_file c ∷ []
 
--- The reply to two joined automata and a certificate: its form is not built, or a rule is broken, the first being this one,
--- or the certificate is valid.
+-- The reply to two joined automata and a certificate: a rule is broken, the first being this one, or the certificate is valid.
 abbrev pub Concludes : Joined → Cert → Reply → Type 0
 Concludes pair cert r =
-    ((has_checked_form cert ≡ false) × (r ≡ not_built_reply))
-    ⊎ ((has_checked_form cert ≡ true) × ((refusal : Refusal) × BreaksRule pair cert refusal × (r ≡ only_said status.BadCertificate (refused_text refusal))))
-    ⊎ ((has_checked_form cert ≡ true) × KeepsRules pair cert × IsVerdictReply cert.mode pair cert.body [] r)
+    ((refusal : Refusal) × BreaksRule pair cert refusal × (r ≡ only_said status.BadCertificate (refused_text refusal)))
+    ⊎ (KeepsRules pair cert × IsVerdictReply cert.mode pair cert.body [] r)
 
 -- The reply to what was read.
 abbrev pub MeansCheck : List Value → Reply → Type 0
@@ -65,8 +64,22 @@ pub record IsIncluded (files : FileMap) (a b c : List ℕ) (sent sent' : Option 
   pub includes : Includes pair.first pair.second cert.mode
   pub printed : sent' ≡ append_known sent (included_text cert.mode)
 
--- What a status up to 2 shows: 0 an inclusion, 1 a lasso or a word that separates, and 2 does not come.
+-- It said that a list is longer than its limit: the named files read as two automata, the certificate is a list and keeps all rules, it has of the automata
+-- that its logs lead to one more than its limit of pairwise different supergraphs, in finite mode pairs of a state and a set, and the limit
+-- was printed.
+pub record IsListed (files : FileMap) (a b c : List ℕ) (sent sent' : Option (List ℕ)) : Type 0 where
+  pub pair : Joined
+  pub cert : Cert
+  pub list : ListBody
+  pub read : ReadsPair files a b pair
+  pub certificate : HoldsCertificate files c cert
+  pub lists : cert.body ≡ Listing list
+  pub valid : IsValid pair cert
+  pub different : ListsDifferent cert.mode pair (list.limit + 1) list
+  pub printed : sent' ≡ append_known sent (limit_text list.limit)
+
+-- What a status up to 2 shows: 0 an inclusion, 1 a lasso or a word that separates, 2 a list of more elements than its limit.
 pub record ShowsCheck (files : FileMap) (a b c : List ℕ) (status : ℕ) (sent sent' : Option (List ℕ)) : Type 0 where
   pub included : status ≡ 0 → IsIncluded files a b c sent sent'
   pub not_included : status ≡ 1 → IsApart files a b c sent sent'
-  pub no_limit : ¬ (status ≡ 2)
+  pub listed : status ≡ 2 → IsListed files a b c sent sent'

@@ -9,16 +9,17 @@ use Rattle.rabit_frame.specs.Lines.{memory_line}
 use Rattle.rabit_frame.specs.Ending.{SaysOnly}
 use Rattle.rabit_words.specs.Question.{Question, Include, Check, Reduce, Drill}
 use Rattle.rabit_cli.specs.Printed.{usage_text}
-use Rattle.rabit_cli.specs.Replies.{usage_reply, not_built_reply}
+use Rattle.rabit_cli.specs.Replies.{usage_reply}
 use Rattle.rabit_cli.specs.Check.{check_inputs, MeansCheck, ShowsCheck}
-use Rattle.rabit_cli.specs.Include.{include_inputs, MeansInclude, ShowsInclude, LeavesDecided}
+use Rattle.rabit_cli.specs.Include.{pair_inputs, MeansInclude, ShowsInclude, LeavesDecided}
 use Rattle.rabit_cli.specs.Reduce.{reduce_inputs, MeansReduce, ShowsReduce}
+use Rattle.rabit_cli.specs.Drill.{MeansDrill, ShowsDrill, SaysDrill}
 
 -- The files that are read, in order.
 abbrev pub inputs_of : Option Question → List Input
 inputs_of None = []
 inputs_of (Some (Check a b c)) = check_inputs a b c
-inputs_of (Some (Include a b c mode look limit)) = include_inputs a b
+inputs_of (Some (Include a b c mode look limit)) = pair_inputs a b
 inputs_of (Some (Reduce a mode look)) = reduce_inputs a
 inputs_of (Some (Drill seed states labels)) = []
 
@@ -27,21 +28,26 @@ abbrev pub outputs_of : Option Question → List (List ℕ)
 outputs_of (Some (Include a b c mode look limit)) = c ∷ []
 outputs_of question = []
 
--- Which reply is right for what the files read as. `drill` is not built.
+-- Which reply is right for what the files read as.
 abbrev pub Means : Option Question → List Value → Reply → Type 0
 Means None values r = r ≡ usage_reply
 Means (Some (Check a b c)) values r = MeansCheck values r
 Means (Some (Include a b c mode look limit)) values r = MeansInclude c (terms_of mode look limit) values r
 Means (Some (Reduce a mode look)) values r = MeansReduce mode look values r
-Means (Some (Drill seed states labels)) values r = r ≡ not_built_reply
+Means (Some (Drill seed states labels)) values r = MeansDrill (record { seed = seed; states = states; labels = labels }) values r
 
--- What a status up to 2 shows of the files before and after, and of what was sent. Words that are no question, and a command that is not
--- built, have no status up to 2.
+-- What a status up to 2 shows of the files before and after, and of what was sent. Words that are no question have no status up to 2.
 abbrev pub Shows : Option Question → ℕ → FileMap → FileMap → Option (List ℕ) → Option (List ℕ) → Type 0
 Shows (Some (Check a b c)) status files files' sent sent' = ShowsCheck files a b c status sent sent'
 Shows (Some (Include a b c mode look limit)) status files files' sent sent' = ShowsInclude files a b c (terms_of mode look limit) status files' sent sent'
 Shows (Some (Reduce a mode look)) status files files' sent sent' = ShowsReduce files a mode look status sent sent'
-Shows question status files files' sent sent' = ⊥
+Shows (Some (Drill seed states labels)) status files files' sent sent' = ShowsDrill (record { seed = seed; states = states; labels = labels }) status sent sent'
+Shows None status files files' sent sent' = ⊥
+
+-- What a drill says, whatever the shelf tells.
+abbrev pub Drills : Question → ℕ → Option (List ℕ) → Option (List ℕ) → ℕ → ℕ → Type 0
+Drills (Drill seed states labels) status sent sent' sink sink' = SaysDrill (record { seed = seed; states = states; labels = labels }) status sent sent' sink sink'
+Drills question status sent sent' sink sink' = Unit {0}
 
 -- What the files are afterwards: only a decision writes, and only its certificate's file.
 abbrev pub LeavesFiles : Option Question → ℕ → ℕ → ℕ → FileMap → FileMap → Type 0

@@ -16,7 +16,7 @@ use Rattle.cert_text.specs.WellFormed.{WellFormed}
 use Rattle.cert_check.specs.Laws.{IsValid}
 use Rattle.decide.specs.declared.terms.Terms.{Terms}
 use Rattle.decide.specs.Answer.{IsAnswer}
-use Rattle.decide.specs.Laws.{IsValidVerdict, SaysTruth, StandApart, ListsNew}
+use Rattle.decide.specs.Laws.{SaysTruth, StandApart, ListsNew}
 use Rattle.rabit_frame.specs.declared.parts.Value.{Value}
 use Rattle.rabit_frame.specs.declared.parts.Value.TheVariants as value
 use Rattle.rabit_frame.specs.declared.parts.Reply.{Reply}
@@ -27,8 +27,8 @@ use Rattle.rabit_cli.specs.Files.{check_limits, automaton_file, ReadsPair}
 use Rattle.rabit_cli.specs.Replies.{IsVerdictReply, TellsApart}
 
 -- The files that it reads: the two automata.
-abbrev pub include_inputs : List ℕ → List ℕ → List Input
-include_inputs a b = automaton_file 1 check_limits a ∷ automaton_file 2 check_limits b ∷ []
+abbrev pub pair_inputs : List ℕ → List ℕ → List Input
+pair_inputs a b = automaton_file 1 check_limits a ∷ automaton_file 2 check_limits b ∷ []
 
 -- The file that it writes: the certificate's text, under its name.
 abbrev pub certificate_put : List ℕ → Cert → Output
@@ -46,12 +46,12 @@ MeansInclude name terms values r =
     × ((pair : Joined) × IsJoined one two pair × IsDecided name terms pair r)
 
 -- The two files read as this pair of automata, and the certificate is the answer for them: it has a text, keeps all rules of the
--- check where it says yes or no, and what it says is so.
+-- check, and what it says is so.
 pub record IsCertFor (files : FileMap) (a b : List ℕ) (terms : Terms) (pair : Joined) (cert : Cert) : Type 0 where
   pub read : ReadsPair files a b pair
   pub answer : IsAnswer pair terms cert
   pub formed : WellFormed cert
-  pub valid : IsValidVerdict pair cert
+  pub valid : IsValid pair cert
   pub truth : SaysTruth pair terms cert.body
 
 -- The name holds the whole text of the answer for the two files, and all other files are as before.
@@ -94,12 +94,12 @@ pub record IsDecidedIncluded (files : FileMap) (a b c : List ℕ) (terms : Terms
   pub says_yes : cert.body ≡ Yes evidence
   pub valid : IsValid pair cert
   pub includes : Includes pair.first pair.second terms.mode
-  pub apart : StandApart pair terms evidence
+  pub apart_live : StandApart pair terms evidence
   pub held : files' ≡ map.insert files c (text cert)
   pub printed : sent' ≡ append_known sent (included_text terms.mode)
 
--- It met its limit, with the same of a list of one element more: these are different, and of the settled automata that the
--- logs lead to.
+-- It met its limit, with the same of a list of one element more, which keeps all rules of a check: these are different, and of the settled
+-- automata that the logs lead to.
 pub record IsDecidedListed (files : FileMap) (a b c : List ℕ) (terms : Terms) (files' : FileMap) (sent sent' : Option (List ℕ)) : Type 0 where
   pub pair : Joined
   pub cert : Cert
@@ -107,6 +107,7 @@ pub record IsDecidedListed (files : FileMap) (a b c : List ℕ) (terms : Terms) 
   pub read : ReadsPair files a b pair
   pub answer : IsAnswer pair terms cert
   pub lists : cert.body ≡ Listing list
+  pub valid : IsValid pair cert
   pub listed : ListsNew pair terms list
   pub held : files' ≡ map.insert files c (text cert)
   pub printed : sent' ≡ append_known sent (limit_text terms.limit)

@@ -6,7 +6,6 @@ use Rattle.ba_format.specs.declared.parts.Joined.{Joined}
 use Rattle.cert_text.specs.declared.types.Cert.{Cert}
 use Rattle.cert_text.specs.Text.{text}
 use Rattle.decide.specs.Answer.{IsAnswer}
-use Rattle.decide.specs.Laws.{SaysYesOrNo}
 use Rattle.decide.specs.Terms.{AreBounded}
 use Rattle.decide.specs.declared.terms.Terms.{Terms}
 use Rattle.rabit_frame.specs.declared.parts.Reply.{Reply}
@@ -15,7 +14,7 @@ use Rattle.rabit_frame.specs.Ending.{IsReplyFor}
 use Rattle.rabit_cli.specs.Files.{ReadsPair, HoldsCertificate}
 use Rattle.rabit_cli.specs.Replies.{IsVerdictReply}
 use Rattle.rabit_cli.specs.Check.{check_inputs, MeansCheck}
-use Rattle.rabit_cli.specs.Include.{include_inputs, MeansInclude}
+use Rattle.rabit_cli.specs.Include.{pair_inputs, MeansInclude}
 
 -- The right reply of `check A B CERT` for these files.
 abbrev pub IsCheckReply : FileMap → List ℕ → List ℕ → List ℕ → Reply → Type 0
@@ -23,23 +22,22 @@ IsCheckReply files a b c r = IsReplyFor MeansCheck (check_inputs a b c) files r
 
 -- The right reply of `include A B CERT` for these files.
 abbrev pub IsIncludeReply : FileMap → List ℕ → List ℕ → List ℕ → Terms → Reply → Type 0
-IsIncludeReply files a b c terms r = IsReplyFor (MeansInclude c terms) (include_inputs a b) files r
+IsIncludeReply files a b c terms r = IsReplyFor (MeansInclude c terms) (pair_inputs a b) files r
 
--- Where the name of the certificate is none of the two others, and the answer for the two automata says yes or no in a text of at most
--- 1 GiB, a check of the files that hold it says what the decision said.
+-- Where the name of the certificate is none of the two others, and the answer for the two automata has a text of at most 1 GiB, a check of
+-- the files that hold it says what the decision said.
 abbrev pub CheckAgrees : Type 0
 CheckAgrees =
-    (files : FileMap) (a b c : List ℕ) (terms : Terms) (pair : Joined) (cert : Cert) (r : Reply) → c ≢ a → c ≢ b → AreBounded terms → ReadsPair files a b pair → IsAnswer pair terms cert → SaysYesOrNo cert.body → length (text cert) ≤ 2 ^ 30 →
+    (files : FileMap) (a b c : List ℕ) (terms : Terms) (pair : Joined) (cert : Cert) (r : Reply) → c ≢ a → c ≢ b → AreBounded terms → ReadsPair files a b pair → IsAnswer pair terms cert → length (text cert) ≤ 2 ^ 30 →
     IsIncludeReply files a b c terms r → IsCheckReply (map.insert files c (text cert)) a b c (only_said r.status r.text)
 
--- Wherever a file holds the text of an answer that says yes or no, a check of it for the two automata that it answers has that verdict.
+-- Wherever a file of at most 1 GiB holds the text of an answer, a check of it for the two automata that it answers has that verdict.
 abbrev pub AnswersAreAccepted : Type 0
 AnswersAreAccepted =
     (files : FileMap) (a b c : List ℕ) (terms : Terms) (pair : Joined) (cert : Cert) (r : Reply)
     → AreBounded terms
     → ReadsPair files a b pair
     → IsAnswer pair terms cert
-    → SaysYesOrNo cert.body
     → HoldsCertificate files c cert
     → IsVerdictReply cert.mode pair cert.body [] r
     → IsCheckReply files a b c r

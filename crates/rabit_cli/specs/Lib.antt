@@ -4,5 +4,7 @@ pub mod Replies
 pub mod Check
 pub mod Include
 pub mod Reduce
+pub mod Drill
 pub mod Commands
+pub mod Complete
 pub mod Laws

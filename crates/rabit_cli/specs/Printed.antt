@@ -25,10 +25,6 @@ abbrev pub usage_text : List ℕ
 usage_text =
     codes "usage: rabit include A B CERT [--finite] [--look K] [--limit N] | check A B CERT | reduce A [--finite] [--look K] | drill SEED STATES LABELS" ++ line_end
 
--- What is asked is not built.
-abbrev pub not_built_text : List ℕ
-not_built_text = codes "not built" ++ line_end
-
 -- A certificate breaks a rule.
 abbrev pub refused_text : Refusal → List ℕ
 refused_text refusal = codes "certificate item " ++ (decimal refusal.item ++ (codes ": rule " ++ (decimal refusal.rule ++ line_end)))

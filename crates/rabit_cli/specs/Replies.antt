@@ -10,15 +10,11 @@ use Rattle.rabit_frame.specs.declared.parts.Status.TheVariants as status
 use Rattle.rabit_frame.specs.declared.parts.Reply.{Reply}
 use Rattle.rabit_frame.specs.Files.{Output}
 use Rattle.rabit_frame.specs.Reading.{reply_with, only_said}
-use Rattle.rabit_cli.specs.Printed.{usage_text, not_built_text, included_text, not_included_text, word_not_included_text, limit_text}
+use Rattle.rabit_cli.specs.Printed.{usage_text, included_text, not_included_text, word_not_included_text, limit_text}
 
 -- The words ask nothing.
 abbrev pub usage_reply : Reply
 usage_reply = only_said status.Usage usage_text
-
--- What is asked is not built.
-abbrev pub not_built_reply : Reply
-not_built_reply = only_said status.NotBuilt not_built_text
 
 -- What a right certificate of this mode with this body says, where these files are written before.
 abbrev pub IsVerdictReply : Mode → Joined → Body → List Output → Reply → Type 0

@@ -13,7 +13,7 @@ use crate::files::{automaton, certificate, certificate_slot, checked_automaton, 
 use crate::replies;
 use auto_core::{List, Memory};
 use ba_format::{Joined, Named};
-use cert_check::{CheckFault, can_check};
+use cert_check::CheckFault;
 use cert_text::Cert;
 use rabit_frame::{Reply, Slot, Value};
 use std::alloc::Global;
@@ -40,9 +40,6 @@ fn concluded<'a>(alloc: Global, pair: &Joined, cert: &Cert) -> Result<Reply<'a>,
     requires well_formed { WellFormed cert.now }
     ensures { IfOk result (Concludes pair.now cert.now) }
 {
-    if !can_check(cert) {
-        return replies::not_built(alloc);
-    }
     match cert_check::check(alloc, pair, cert) {
         Ok(_verdict) => replies::verdict(alloc, cert.mode, pair, &cert.body, List::new(alloc)),
         Err(CheckFault::Refused(refusal)) => replies::refused(alloc, refusal),

@@ -6,9 +6,10 @@ ghost use Rattle.rabit_frame.specs.Reading.{AreOfKinds};
 ghost use Rattle.rabit_words.specs.Question.{told, question_of, HasNumbersInRange};
 ghost use Rattle.rabit_cli.specs.Commands.{inputs_of, Means};
 
-use crate::{checking, including, reducing, replies};
+use crate::{checking, drilling, including, reducing, replies};
 use auto_core::{List, Memory};
 use decide::Terms;
+use drawing::Drill;
 use rabit_frame::{Reply, Slot, Value, Work};
 use rabit_words::Question;
 use std::alloc::Global;
@@ -31,7 +32,7 @@ fn slots_of<'a>(alloc: Global, question: &'a Question) -> Result<List<Slot<'a>>,
         Question::Reduce { name, .. } => {
             return reducing::slots(alloc, name.as_str());
         },
-        _ => Ok(List::new(alloc)),
+        Question::Drill { .. } => Ok(List::new(alloc)),
     }
 }
 
@@ -66,8 +67,17 @@ fn reply_to<'a>(
         Question::Reduce { mode, look, .. } => {
             return reducing::reply(alloc, *mode, *look, values);
         },
-        _ => {
-            return replies::not_built(alloc);
+        Question::Drill {
+            seed,
+            states,
+            labels,
+        } => {
+            let drill = Drill {
+                seed: *seed,
+                states: *states,
+                labels: *labels,
+            };
+            return drilling::reply(alloc, drill);
         },
     }
 }

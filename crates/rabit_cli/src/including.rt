@@ -7,7 +7,7 @@ ghost use Rattle.ba_format.specs.Joining.{IsJoined};
 ghost use Rattle.decide.specs.Laws.{CanDecide};
 ghost use Rattle.rabit_frame.specs.Reading.{AreOfKinds};
 ghost use Rattle.rabit_cli.specs.Files.{check_limits};
-ghost use Rattle.rabit_cli.specs.Include.{include_inputs, IsDecided, MeansInclude};
+ghost use Rattle.rabit_cli.specs.Include.{pair_inputs, IsDecided, MeansInclude};
 
 use crate::files::{checked_automaton, joined};
 use crate::replies;
@@ -20,7 +20,7 @@ use std::alloc::Global;
 
 /// The files that it reads.
 pub fn slots<'a>(alloc: Global, first: &'a str, second: &'a str) -> Result<List<Slot<'a>>, Memory>
-    ensures { IfOk result (λ slots. slots ≡ include_inputs first.entry.now second.entry.now) }
+    ensures { IfOk result (λ slots. slots ≡ pair_inputs first.entry.now second.entry.now) }
 {
     let mut slots = List::new(alloc);
     slots.push(checked_automaton(1, first))?;
@@ -76,7 +76,7 @@ pub fn reply<'a>(
     terms: Terms,
     values: &[Value],
 ) -> Result<Reply<'a>, Memory>
-    requires kinds { (a b : Items ℕ) × AreOfKinds (include_inputs a b) values.now }
+    requires kinds { (a b : Items ℕ) × AreOfKinds (pair_inputs a b) values.now }
     requires look_from { 1 ≤ terms.look }
     requires look_upto { terms.look ≤ 6 }
     requires limit_from { 1 ≤ terms.limit }

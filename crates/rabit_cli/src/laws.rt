@@ -2,13 +2,12 @@
 
 ghost use Rattle.rabit_cli.specs.Laws.{CheckAgrees, AnswersAreAccepted};
 
-/// A check of the answer that a decision wrote under a name of its own says what the decision said, where that is yes or no and the file has
-/// at most 1 GiB.
+/// A check of the answer that a decision wrote under a name of its own says what the decision said, where the file has at most 1 GiB.
 pub fn check_agrees()
     ensures { CheckAgrees }
 {}
 
-/// A check accepts each answer for its two automata that says yes or no, wherever a file holds its text.
+/// A check accepts each answer for its two automata, wherever a file of at most 1 GiB holds its text.
 pub fn answers_are_accepted()
     ensures { AnswersAreAccepted }
 {}

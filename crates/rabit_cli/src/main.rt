@@ -3,6 +3,7 @@
 
 mod checking;
 mod commands;
+mod drilling;
 mod files;
 mod including;
 mod laws;
@@ -45,6 +46,8 @@ mod finite_rule_tests;
 mod finite_tests;
 #[cfg(test)]
 mod include_tests;
+#[cfg(test)]
+mod list_tests;
 #[cfg(test)]
 mod log_tests;
 #[cfg(test)]

@@ -6,7 +6,7 @@ ghost use Rattle.ba_format.specs.declared.parts.Joined.{Joined};
 ghost use Rattle.cert_text.specs.declared.types.Body.TheVariants as form;
 ghost use Rattle.rabit_frame.specs.Reading.{only_said, reply_with};
 ghost use Rattle.rabit_cli.specs.Printed.{refused_text, included_text, not_included_text, word_not_included_text, limit_text};
-ghost use Rattle.rabit_cli.specs.Replies.{usage_reply, not_built_reply, IsVerdictReply};
+ghost use Rattle.rabit_cli.specs.Replies.{usage_reply, IsVerdictReply};
 
 use crate::letters::push_word;
 use auto_core::{Lasso, List, Memory, Mode, Word};
@@ -26,14 +26,6 @@ pub fn usage<'a>(alloc: Global) -> Result<Reply<'a>, Memory>
 {
     let text = line(alloc, USAGE)?;
     Ok(Reply::saying(alloc, Status::Usage, text))
-}
-
-/// What is asked is not built.
-pub fn not_built<'a>(alloc: Global) -> Result<Reply<'a>, Memory>
-    ensures { IfOk result (λ reply. reply ≡ not_built_reply) }
-{
-    let text = line(alloc, "not built\n")?;
-    Ok(Reply::saying(alloc, Status::NotBuilt, text))
 }
 
 /// A certificate breaks the rule.

@@ -151,7 +151,10 @@ fn the_first_broken_rule_is_named(rt: HostRuntime) -> Result<(), Fail> {
 fn other_ends_have_their_status(rt: HostRuntime) -> Result<(), Fail> {
     let alloc = rt.alloc();
     let list = "rabit-cert 1 buchi list\nsizes 1 1 1\nlog1 0\nlog2 0\nlimit 1\nelements 0\nend\n";
-    assert_eq!(rt; check(alloc, ONE_A, ONE_A, list, "not built\n")?, (9, true));
+    assert_eq!(rt;
+        check(alloc, ONE_A, ONE_A, list, "certificate item 1: rule 18\n")?,
+        (5, true)
+    );
     assert_eq!(rt;
         check(alloc, "a,[0]-[1]\n", ONE_A, list, "file 1 line 1: Shape\n")?,
         (4, true)

@@ -9,7 +9,8 @@ ghost use Rattle.rabit_frame.specs.Reading.{CountsInTurn};
 ghost use Rattle.rabit_frame.specs.Ending.{OfBoth, SaysOnly};
 ghost use Rattle.rabit_frame.specs.Carrying.{IsCarriedOut, SaysEach, ShowsReply, LeavesUnwritten};
 ghost use Rattle.rabit_words.specs.Question.{question_of};
-ghost use Rattle.rabit_cli.specs.Commands.{inputs_of, outputs_of, Means, Shows, LeavesFiles, SaysUsage};
+ghost use Rattle.rabit_cli.specs.Complete.{AnswersWhatReads};
+ghost use Rattle.rabit_cli.specs.Commands.{inputs_of, outputs_of, Means, Shows, Drills, LeavesFiles, SaysUsage};
 
 use crate::commands::Command;
 use rabit_frame::carry_out;
@@ -24,8 +25,8 @@ pub fn run<H: Shelf, K: Sink>(alloc: Global, words: &[String], shelf: &mut H, ou
         (H.held shelf.old) (H.held shelf.new) result (K.sent out.old) (K.sent out.new) (K.faults out.old) (K.faults out.new)
         (H.faults shelf.old) (H.faults shelf.new) (H.put_faults shelf.old) (H.put_faults shelf.new) }
 
-    // The right reply, whatever it is, comes with its status, its whole text and its files, unless a count of the outside rose
-    // or memory was refused.
+    // The right reply, whatever it is, has its files written and its text given, unless a call of the shelf failed or memory was
+    // refused.
     ensures exact { IfSome (H.held shelf.old) (λ files.
         SaysEach (Means (question_of (map string_bytes words.now))) (inputs_of (question_of (map string_bytes words.now))) files
         (H.held shelf.new) result (K.sent out.old) (K.sent out.new) (K.faults out.old) (K.faults out.new)
@@ -36,7 +37,12 @@ pub fn run<H: Shelf, K: Sink>(alloc: Global, words: &[String], shelf: &mut H, ou
     ensures unasked { question_of (map string_bytes words.now) ≡ None →
         SaysUsage result (K.sent out.old) (K.sent out.new) (K.faults out.old) (K.faults out.new) }
 
-    // What a status up to 2 shows, command by command: an inclusion, a lasso that separates, a list past the limit, a reduced automaton.
+    // A drill asks nothing of the shelf: whatever that tells, its two answers are said, or where the sink's count rose a front of them at
+    // status 7, or want of memory.
+    ensures drills { IfSome (question_of (map string_bytes words.now)) (λ asked.
+        Drills asked result (K.sent out.old) (K.sent out.new) (K.faults out.old) (K.faults out.new)) }
+
+    // What a status up to 2 shows, command by command: an inclusion, a lasso that separates, a list past the limit, a reduced automaton, what a drill found.
     ensures shows { result ≤ 2 → OfBoth (H.held shelf.old) (H.held shelf.new) (λ files files'.
         Shows (question_of (map string_bytes words.now)) result files files' (K.sent out.old) (K.sent out.new)) }
 
@@ -44,6 +50,12 @@ pub fn run<H: Shelf, K: Sink>(alloc: Global, words: &[String], shelf: &mut H, ou
     ensures shown { IsOwn result → OfBoth (H.held shelf.old) (H.held shelf.new) (λ files files'.
         ShowsReply (Means (question_of (map string_bytes words.now))) (inputs_of (question_of (map string_bytes words.now)))
         result (K.sent out.old) (K.sent out.new) (K.faults out.old) (K.faults out.new) files files') }
+
+    // A question whose automata all read is answered: by a result of its command, unless a count of the outside rose or memory was refused.
+    // With `exact` and the law `answers_are_accepted` a check of an answer's file has the verdict of the answer.
+    ensures complete { IfSome (question_of (map string_bytes words.now)) (λ asked. IfSome (H.held shelf.old) (λ files.
+        AnswersWhatReads asked files result (K.faults out.old) (K.faults out.new) (H.faults shelf.old) (H.faults shelf.new)
+        (H.put_faults shelf.old) (H.put_faults shelf.new))) }
 
     // What the shelf holds afterwards: only a decision writes, and only the file of its certificate.
     ensures files { OfBoth (H.held shelf.old) (H.held shelf.new) (λ files files'.

@@ -3,7 +3,8 @@ use Rattle.std.specs.String.{string_bytes}
 use Rattle.rabit_frame.proofs.EndLemmas.{both_map}
 use Rattle.rabit_words.specs.Question.{question_of}
 use Rattle.rabit_words.proofs.RangeLemmas.{question_in_range}
-use Rattle.rabit_cli.proofs.CommandLemmas.{one_meaning, shows, asked_nothing, says_usage, reads_none, writes_none, leaves}
+use Rattle.rabit_cli.proofs.CommandLemmas.{one_meaning, shows, asked_nothing, says_usage, drills, reads_none, writes_none, leaves}
+use Rattle.rabit_cli.proofs.CompleteLemmas.{answers_what_reads}
 use Rattle.rabit_cli.proofs.top.run.Goals as goal
 
 pub carry_out-requires-clause-one : goal.carry_out-requires-clause-one
@@ -14,6 +15,9 @@ returns-clause-usage g c three = let words = map (string_bytes {Z = Global}) c.a
 
 pub returns-clause-unasked : goal.returns-clause-unasked
 returns-clause-unasked g c none = let words = map (string_bytes {Z = Global}) c.args.words.now in says_usage _ _ _ _ _ _ _ _ _ _ _ (question_of words) c.carry_out.ensures.carried none
+
+pub returns-clause-drills : goal.returns-clause-drills
+returns-clause-drills g c = let words = map (string_bytes {Z = Global}) c.args.words.now in drills _ _ _ _ _ _ _ _ _ _ _ (question_of words) (question_in_range words) c.carry_out.ensures.carried
 
 pub returns-clause-shows : goal.returns-clause-shows
 returns-clause-shows g c low =
@@ -28,3 +32,6 @@ returns-clause-reads_none g c none = let words = map (string_bytes {Z = Global})
 
 pub returns-clause-writes_none : goal.returns-clause-writes_none
 returns-clause-writes_none g c none = let words = map (string_bytes {Z = Global}) c.args.words.now in writes_none _ _ _ _ _ _ _ _ _ _ _ (question_of words) c.carry_out.ensures.carried none
+
+pub returns-clause-complete : goal.returns-clause-complete
+returns-clause-complete g c = let words = map (string_bytes {Z = Global}) c.args.words.now in answers_what_reads _ _ _ _ _ _ _ _ _ _ _ (question_of words) c.carry_out.ensures.carried

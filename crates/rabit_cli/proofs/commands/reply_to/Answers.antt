@@ -1,0 +1,16 @@
+use Rattle.std.proofs.Common.{Some, IfOk, List, sym, subst}
+use Rattle.std.proofs.lemmas.Result.{IfOk-weaker}
+use Rattle.drawing.specs.declared.parts.Drill.{Drill}
+use Rattle.rabit_frame.specs.declared.parts.Value.{Value}
+use Rattle.rabit_frame.specs.declared.parts.Reply.{Reply}
+use Rattle.rabit_words.specs.Question.{told}
+use Rattle.rabit_cli.specs.Commands.{Means}
+use Rattle.rabit_cli.specs.Drill.{MeansDrill}
+use Rattle.rabit_cli.proofs.commands.reply_to.Goals as goal
+
+pub returns-in-Drill : goal.returns-in-Drill
+returns-in-Drill c =
+    let d : Drill = record { seed = c.in-Drill.seed; states = c.in-Drill.states; labels = c.in-Drill.labels } in
+    let values = c.args.values.now in
+    subst (λ q. IfOk c.reply-in-Drill.result (Means (Some (told q)) values)) (sym c.in-Drill.is)
+    (IfOk-weaker c.reply-in-Drill.result (λ (r : Reply). (vs : List Value) → MeansDrill d vs r) (λ (r : Reply). MeansDrill d values r) (λ r means. means values) c.reply-in-Drill.ensures)
