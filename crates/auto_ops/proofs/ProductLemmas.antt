@@ -1,0 +1,626 @@
+-- The intersection while it is made.
+use Rattle.std.proofs.Common.{◌≡◌, ℕ, zero, suc, ◌+◌, ◌-◌, ◌<◌, ◌≤◌, ◌⊎◌, ◌↔◌, inl, inr, Bool, true, false, not, cond, ◌&&◌, List, [], ◌∷◌, ◌++◌, length, get_or, take, drop, map, filter, All, Contains, eqb, Some, refl, sym, ap, ◌∙◌, subst, arith, length-append, append_assoc, if◌then◌else◌}
+use Rattle.std.specs.List.{flat_map, list_any}
+use Rattle.std.proofs.lemmas.Bool.{false≢true, eq-eqb, eqb-true, ne_eqb, and_parts, and_from, cases_lt}
+use Rattle.std.proofs.lemmas.List.{length_push, get_or_push, map_push, map-append, append-nil, take_more, take_all, take-append-le, take-append-drop, take-take, length-drop, get_or-drop, flat_map_more}
+use Rattle.std.proofs.lemmas.List.Elements.{All-contains, All-push, All-take, All-cons, All-nil, Contains-append_left, Contains-append_right, Contains-append_cases}
+use Rattle.std.proofs.lemmas.List.Folds.{list_any_at}
+use Rattle.std.proofs.lemmas.List.Concat.{flat_map-append}
+use Rattle.std.proofs.lemmas.List.Sorted.{Contains-permutation, IsPermutation-sym, length_permutation}
+use Rattle.std.proofs.lemmas.Option.{slice_get-get_or, slice_get_within, get_or_from_slice_get}
+use Rattle.auto_core.specs.Automaton.{Automaton, IsAutomaton, Moves, IsOutgoing, IsSuccessors, IsBelowPair, IsAbovePair, trans, trans_at, HasRepeat}
+use Rattle.auto_core.specs.Build.{IsBuilt}
+use Rattle.auto_core.specs.Parts.{AreParts}
+use Rattle.auto_core.specs.Outcome.{At}
+use Rattle.auto_core.specs.declared.parts.Mode.{Mode}
+use Rattle.auto_core.specs.declared.parts.Trans.{Trans}
+use Rattle.auto_core.proofs.PathLemmas.{Contains-here, Contains-later, Contains-cons_cases, none_in_nil}
+use Rattle.auto_core.proofs.MoveLemmas.{move_in_range}
+use Rattle.auto_core.proofs.MemberLemmas.{Rises, filter_has, filter_from, map_has, map_from}
+use Rattle.ba_format.specs.Sight.{noted, first_seen}
+use Rattle.auto_ops.specs.declared.triples.Triple.{Triple}
+use Rattle.auto_ops.specs.Limits.{IsWithinLimits}
+use Rattle.auto_ops.specs.Intersection.{triple, start_of, awaits_after, GoesBeside, IsReachedBy, IsReached, AcceptsBoth, JointMove, joint, goes_from, goes_with, moves_beside, moves_of, moves_from, same_triple, seen_by, IsIntersection, IsIntersectionTooLarge}
+use Rattle.auto_ops.specs.UnderWay.{IsNumbered, AreMoves, IsInside, IsUnderWay, AreTooMany, IsRoomy, IsExplored, IsExploredUpto}
+use Rattle.auto_ops.proofs.SightLemmas.{Differ, apart_append, apart_map, apart_filter, apart_flat, apart_front, apart_once, noted_more, flat_from, flat_has, at_member, at_one, at_place, at_front, all_from, filter_part, fold_append, first_more, seen_start, first_apart, first_from, first_has}
+use Rattle.auto_ops.proofs.UnionLemmas.{same_parts, transitions_apart}
+
+-- ---- the same triple
+
+flags_same : (a b : Bool) → cond a b (not b) ≡ true → a ≡ b
+flags_same true true h = refl
+flags_same true false h = absurd (false≢true h)
+flags_same false true h = absurd (false≢true h)
+flags_same false false h = refl
+
+flag_itself : (a : Bool) → cond a a (not a) ≡ true
+flag_itself true = refl
+flag_itself false = refl
+
+pub same_equal : (t u : Triple) → same_triple t u ≡ true → t ≡ u
+same_equal t u h =
+    let (front, flags) = and_parts (eqb t.first u.first && eqb t.second u.second) (cond t.awaits_second u.awaits_second (not u.awaits_second)) h in
+    let (one, two) = and_parts (eqb t.first u.first) (eqb t.second u.second) front in
+    let p = eqb-true t.first u.first one in
+    let q = eqb-true t.second u.second two in
+    let r = flags_same t.awaits_second u.awaits_second flags in
+    λ i. triple (p i) (q i) (r i)
+
+pub same_itself : (t : Triple) → same_triple t t ≡ true
+same_itself t = and_from (eqb t.first t.first && eqb t.second t.second) (cond t.awaits_second t.awaits_second (not t.awaits_second))
+    (and_from (eqb t.first t.first) (eqb t.second t.second) (eq-eqb t.first t.first refl) (eq-eqb t.second t.second refl)) (flag_itself t.awaits_second)
+
+-- a triple that is there needs no new number
+pub noted_there : (triples : List Triple) (n : ℕ) (t : Triple) → At triples n t → noted same_triple triples t ≡ triples
+noted_there triples n t h =
+    let lt = slice_get_within triples n t h in
+    let hit : list_any (same_triple t) triples ≡ true = list_any_at (same_triple t) triples n t lt (ap (same_triple t) (get_or_from_slice_get triples n t t h) ∙ same_itself t) in
+    ap (λ b. if b then triples else triples ++ t ∷ []) hit
+
+-- a new one stands at the end
+pub at_end : (triples : List Triple) (n : ℕ) (t : Triple) → n ≡ length triples → At (triples ++ t ∷ []) n t
+at_end triples n t e =
+    slice_get-get_or (triples ++ t ∷ []) n t (omega (arith, length_push triples t)) ∙ ap (λ x. Some x) (get_or_push triples t t n (sym e))
+
+-- ---- the moves from a triple
+
+module _ (mode : Mode) (A B : Automaton) where
+  beside_from : (t : Triple) (x : Trans) (m : JointMove) → Contains (moves_beside mode A B t x) m → (y : Trans) × Contains B.transitions y × (y.source ≡ t.second) × (y.label ≡ x.label) × (joint mode A B t x y ≡ m)
+  beside_from t x m h =
+      let (y, there, is) = map_from (joint mode A B t x) (filter (goes_with t.second x.label) B.transitions) m h in
+      let (y_in, test) = filter_from (goes_with t.second x.label) B.transitions y there in
+      let (s, a) = and_parts (eqb y.source t.second) (eqb y.label x.label) test in
+      (y, y_in, eqb-true y.source t.second s, eqb-true y.label x.label a, is)
+
+  pub move_from : (t : Triple) (m : JointMove) → Contains (moves_of mode A B t) m → (m.source ≡ t) × GoesBeside mode A B t m.label m.target
+  move_from t m h =
+      let (x, x_there, near) = flat_from (moves_beside mode A B t) (filter (goes_from t.first) A.transitions) m h in
+      let (x_in, x_test) = filter_from (goes_from t.first) A.transitions x x_there in
+      let (y, y_in, s, a, is) = beside_from t x m near in
+      let first : Moves A t.first x.label x.target = subst (λ p. Moves A p x.label x.target) (eqb-true x.source t.first x_test) x_in in
+      let second : Moves B t.second x.label y.target = subst (λ p. Moves B p x.label y.target) s (subst (λ b. Moves B y.source b y.target) a y_in) in
+      let goes : GoesBeside mode A B t x.label (triple x.target y.target (awaits_after mode A B t)) = record { first = first; second = second; awaits = refl } in
+      let P : JointMove → Type 0 = λ n. GoesBeside mode A B t n.label n.target in
+      (ap (λ (n : JointMove). n.source) (sym is), subst P is goes)
+
+  pub move_has : (t : Triple) (a : ℕ) (u : Triple) → GoesBeside mode A B t a u → Contains (moves_of mode A B t) (record { source = t; label = a; target = u })
+  move_has t a u goes =
+      let x = trans t.first a u.first in
+      let y = trans t.second a u.second in
+      let x_there = filter_has (goes_from t.first) A.transitions x goes.first (eq-eqb t.first t.first refl) in
+      let y_there = filter_has (goes_with t.second a) B.transitions y goes.second (and_from (eqb t.second t.second) (eqb a a) (eq-eqb t.second t.second refl) (eq-eqb a a refl)) in
+      let there : Contains (moves_beside mode A B t x) (joint mode A B t x y) = map_has (joint mode A B t x) (filter (goes_with t.second a) B.transitions) y y_there in
+      let whole : Contains (moves_of mode A B t) (joint mode A B t x y) = flat_has (moves_beside mode A B t) (filter (goes_from t.first) A.transitions) x (joint mode A B t x y) x_there there in
+      let P : Bool → Type 0 = λ b. Contains (moves_of mode A B t) (record { source = t; label = a; target = triple u.first u.second b }) in
+      subst P (sym goes.awaits) whole
+
+  pub moves_apart : (t : Triple) → IsAutomaton A → IsAutomaton B → Rises Differ (moves_of mode A B t)
+  moves_apart t a_valid b_valid =
+      apart_flat (moves_beside mode A B t) (filter (goes_from t.first) A.transitions)
+      (λ x. apart_map (joint mode A B t x) (filter (goes_with t.second x.label) B.transitions)
+      (λ y z y_in z_in e.
+      let (_, y_test) = filter_from (goes_with t.second x.label) B.transitions y y_in in
+      let (_, z_test) = filter_from (goes_with t.second x.label) B.transitions z z_in in
+      let (y_s, y_a) = and_parts (eqb y.source t.second) (eqb y.label x.label) y_test in
+      let (z_s, z_a) = and_parts (eqb z.source t.second) (eqb z.label x.label) z_test in
+      same_parts y z
+      (eqb-true y.source t.second y_s ∙ sym (eqb-true z.source t.second z_s))
+      (eqb-true y.label x.label y_a ∙ sym (eqb-true z.label x.label z_a))
+      (ap (λ (m : JointMove). m.target.second) e))
+      (apart_filter (goes_with t.second x.label) B.transitions (transitions_apart B b_valid)))
+      (λ x z m x_in z_in near far.
+      let (_, x_test) = filter_from (goes_from t.first) A.transitions x x_in in
+      let (_, z_test) = filter_from (goes_from t.first) A.transitions z z_in in
+      let (y, _, _, _, is) = beside_from t x m near in
+      let (y', _, _, _, is') = beside_from t z m far in
+      let e = is ∙ sym is' in
+      same_parts x z
+      (eqb-true x.source t.first x_test ∙ sym (eqb-true z.source t.first z_test))
+      (ap (λ (n : JointMove). n.label) e)
+      (ap (λ (n : JointMove). n.target.first) e))
+      (apart_filter (goes_from t.first) A.transitions (transitions_apart A a_valid))
+
+  pub all_apart : (ts : List Triple) → IsAutomaton A → IsAutomaton B → Rises Differ ts → Rises Differ (moves_from mode A B ts)
+  all_apart ts a_valid b_valid apart =
+      apart_flat (moves_of mode A B) ts (λ t. moves_apart t a_valid b_valid)
+      (λ t u m t_in u_in near far. sym (move_from t m near).0 ∙ (move_from u m far).0) apart
+
+-- ---- transitions as moves
+
+moves_grow : (triples rest : List Triple) (ts : List Trans) (ms : List JointMove) → AreMoves triples ts ms → AreMoves (triples ++ rest) ts ms
+moves_grow triples rest [] [] h = tt
+moves_grow triples rest [] (m ∷ ms) h = absurd h
+moves_grow triples rest (t ∷ ts) [] h = absurd h
+moves_grow triples rest (t ∷ ts) (m ∷ ms) (here, later) = (
+  (at_front triples rest t.source m.source here.0, here.1, at_front triples rest t.target m.target here.2),
+  moves_grow triples rest ts ms later,
+)
+
+moves_push : (triples : List Triple) (ts : List Trans) (ms : List JointMove) (t : Trans) (m : JointMove) → AreMoves triples ts ms → IsNumbered triples t m → AreMoves triples (ts ++ t ∷ []) (ms ++ m ∷ [])
+moves_push triples [] [] t m h n = (n, tt)
+moves_push triples [] (m' ∷ ms) t m h n = absurd h
+moves_push triples (t' ∷ ts) [] t m h n = absurd h
+moves_push triples (t' ∷ ts) (m' ∷ ms) t m (here, later) n = (here, moves_push triples ts ms t m later n)
+
+pub moves_length : (triples : List Triple) (ts : List Trans) (ms : List JointMove) → AreMoves triples ts ms → length ts ≡ length ms
+moves_length triples [] [] h = refl
+moves_length triples [] (m ∷ ms) h = absurd h
+moves_length triples (t ∷ ts) [] h = absurd h
+moves_length triples (t ∷ ts) (m ∷ ms) (here, later) = let e = moves_length triples ts ms later in omega arith
+
+move_of : (triples : List Triple) (ts : List Trans) (ms : List JointMove) → AreMoves triples ts ms → (t : Trans) → Contains ts t → (m : JointMove) × Contains ms m × IsNumbered triples t m
+move_of triples [] ms h t there = absurd (none_in_nil t there)
+move_of triples (t' ∷ ts) [] h t there = absurd h
+move_of triples (t' ∷ ts) (m' ∷ ms) (here, later) t there = elim (Contains-cons_cases t' t ts there) [
+  | inl e ↦ let P : Trans → Type 0 = λ x. IsNumbered triples x m' in (m', Contains-here m' m' ms refl, subst P e here)
+  | inr far ↦ let (m, m_in, n) = move_of triples ts ms later t far in (m, Contains-later m' m ms m_in, n)
+]
+
+trans_of : (triples : List Triple) (ts : List Trans) (ms : List JointMove) → AreMoves triples ts ms → (m : JointMove) → Contains ms m → (t : Trans) × Contains ts t × IsNumbered triples t m
+trans_of triples ts [] h m there = absurd (none_in_nil m there)
+trans_of triples [] (m' ∷ ms) h m there = absurd h
+trans_of triples (t' ∷ ts) (m' ∷ ms) (here, later) m there = elim (Contains-cons_cases m' m ms there) [
+  | inl e ↦ let P : JointMove → Type 0 = λ x. IsNumbered triples t' x in (t', Contains-here t' t' ts refl, subst P e here)
+  | inr far ↦ let (t, t_in, n) = trans_of triples ts ms later m far in (t, Contains-later t' t ts t_in, n)
+]
+
+one_move : (triples : List Triple) (t : Trans) (m n : JointMove) → IsNumbered triples t m → IsNumbered triples t n → m ≡ n
+one_move triples t m n a b =
+    let p = at_one triples t.source m.source n.source a.0 b.0 in
+    let q = sym a.1 ∙ b.1 in
+    let r = at_one triples t.target m.target n.target a.2 b.2 in
+    λ i. record { source = p i; label = q i; target = r i }
+
+trans_apart : (triples : List Triple) (ts : List Trans) (ms : List JointMove) → AreMoves triples ts ms → Rises Differ ms → Rises Differ ts
+trans_apart triples [] ms h a = tt
+trans_apart triples (t ∷ ts) [] h a = absurd h
+trans_apart triples (t ∷ ts) (m ∷ ms) (here, later) a = (
+  λ u there e.
+      let (n, n_in, is) = move_of triples ts ms later u there in
+      let P : Trans → Type 0 = λ x. IsNumbered triples x n in
+      a.0 n n_in (one_move triples t m n here (subst P (sym e) is)),
+  trans_apart triples ts ms later a.1,
+)
+
+-- ---- one step
+
+module _ (A B : Automaton) where
+  seen_append : (ms more : List JointMove) → seen_by A B (ms ++ more) ≡ seen_by A B ms ++ map (λ (m : JointMove). m.target) more
+  seen_append ms more = ap (λ l. start_of A B ∷ l) (map-append (λ (m : JointMove). m.target) ms more)
+
+  -- with more moves, the triples seen before stay in front
+  pub seen_grows : (ms more : List JointMove) → (rest : List Triple) × (first_seen same_triple (seen_by A B (ms ++ more)) ≡ first_seen same_triple (seen_by A B ms) ++ rest)
+  seen_grows ms more =
+      let (rest, e) = first_more same_triple (seen_by A B ms) (map (λ (m : JointMove). m.target) more) in
+      (rest, ap (first_seen same_triple) (seen_append ms more) ∙ e)
+
+  pub noted_next : (ms : List JointMove) (m : JointMove) → noted same_triple (first_seen same_triple (seen_by A B ms)) m.target ≡ first_seen same_triple (seen_by A B (ms ++ m ∷ []))
+  noted_next ms m =
+      sym (fold_append (noted same_triple) [] (seen_by A B ms) (m.target ∷ [])) ∙ ap (first_seen same_triple) (sym (seen_append ms (m ∷ [])))
+
+  noted_grows : (ms : List JointMove) (m : JointMove) (triples new : List Triple) → triples ≡ first_seen same_triple (seen_by A B ms) → new ≡ noted same_triple triples m.target
+      → (new ≡ first_seen same_triple (seen_by A B (ms ++ m ∷ []))) × ((rest : List Triple) × (new ≡ triples ++ rest))
+  noted_grows ms m triples new is is_new =
+      let next : new ≡ first_seen same_triple (seen_by A B (ms ++ m ∷ [])) = is_new ∙ ap (λ l. noted same_triple l m.target) is ∙ noted_next ms m in
+      let (rest, e) = seen_grows ms (m ∷ []) in
+      (next, (rest, next ∙ e ∙ ap (λ l. l ++ rest) (sym is)))
+
+  pub step : (ms : List JointMove) (m : JointMove) (triples new : List Triple) (ts next : List Trans) (number target : ℕ)
+      → IsUnderWay A B ms triples ts
+      → At triples number m.source
+      → new ≡ noted same_triple triples m.target
+      → At new target m.target
+      → next ≡ ts ++ trans number m.label target ∷ []
+      → IsUnderWay A B (ms ++ m ∷ []) new next × At new number m.source
+  step ms m triples new ts next number target under at_source is_new at_target is_next =
+      let (seen, (rest, grown)) = noted_grows ms m triples new under.seen is_new in
+      let P : List Triple → Type 0 = λ l. AreMoves l ts ms in
+      let Q : List Triple → Type 0 = λ l. At l number m.source in
+      let all : AreMoves new ts ms = subst P (sym grown) (moves_grow triples rest ts ms under.numbered) in
+      let here : At new number m.source = subst Q (sym grown) (at_front triples rest number m.source at_source) in
+      let R : List Trans → Type 0 = λ l. AreMoves new l (ms ++ m ∷ []) in
+      (record { seen = seen; numbered = subst R (sym is_next) (moves_push new ts ms (trans number m.label target) m all (here, refl, at_target)) }, here)
+
+  -- too many stay too many
+  pub more_too_many : (ms more : List JointMove) → AreTooMany A B ms → AreTooMany A B (ms ++ more)
+  more_too_many ms more (inl many) = let (rest, e) = seen_grows ms more in inl (omega (arith, ap (λ (l : List Triple). length l) e, length-append (first_seen same_triple (seen_by A B ms)) rest))
+  more_too_many ms more (inr many) = inr (omega (arith, length-append ms more))
+
+  pub step_too_many : (ms : List JointMove) (m : JointMove) (triples : List Triple) (ts : List Trans)
+      → IsUnderWay A B ms triples ts
+      → (2048 < length (noted same_triple triples m.target)) ⊎ (65536 < length ts + 1)
+      → AreTooMany A B (ms ++ m ∷ [])
+  step_too_many ms m triples ts under (inl many) =
+      let (seen, _) = noted_grows ms m triples (noted same_triple triples m.target) under.seen refl in
+      inl (omega (arith, ap (λ (l : List Triple). length l) seen))
+  step_too_many ms m triples ts under (inr many) =
+      let e = moves_length triples ts ms under.numbered in
+      let f = length-append ms (m ∷ []) in
+      inr (omega arith)
+
+  -- a triple inside more
+  pub inside_noted : (triples : List Triple) (u : Triple) → All (IsInside A B) triples → IsInside A B u → All (IsInside A B) (noted same_triple triples u)
+  inside_noted triples u all here = by (list_any (same_triple u) triples)
+    where
+      by : (b : Bool) → All (IsInside A B) (if b then triples else triples ++ u ∷ [])
+      by true = all
+      by false = All-push (IsInside A B) triples u all here
+
+-- ---- stretches of transitions
+
+pub outgoing_part : (A : Automaton) (p b e : ℕ) → IsOutgoing A p b e → filter (goes_from p) A.transitions ≡ take (e - b) (drop b A.transitions)
+outgoing_part A p b e s =
+    let within = s.within in
+    let range = s.is_range in
+    filter_part (goes_from p) (trans 0 0 0) A.transitions b (e - b) (omega arith)
+    (λ i lt. ne_eqb (trans_at A i).source p (λ is. let l = s.before i lt in omega arith))
+    (λ i from lt. eq-eqb (trans_at A i).source p (s.inside i from (omega arith)))
+    (λ i from lt. ne_eqb (trans_at A i).source p (λ is. let l = s.after i (omega arith) lt in omega arith))
+
+not_with : (p a : ℕ) (y : Trans) → ((y.source ≡ p) → (y.label ≡ a) → ⊥) → goes_with p a y ≡ false
+not_with p a y differs = by (eqb y.source p) (eqb y.label a) refl refl
+  where
+    by : (s l : Bool) → eqb y.source p ≡ s → eqb y.label a ≡ l → (s && l) ≡ false
+    by true true e f = absurd (differs (eqb-true y.source p e) (eqb-true y.label a f))
+    by true false e f = refl
+    by false l e f = refl
+
+pub successors_part : (B : Automaton) (p a b e : ℕ) → IsSuccessors B p a b e → filter (goes_with p a) B.transitions ≡ take (e - b) (drop b B.transitions)
+successors_part B p a b e s =
+    let within = s.within in
+    let range = s.is_range in
+    filter_part (goes_with p a) (trans 0 0 0) B.transitions b (e - b) (omega arith)
+    (λ i lt. not_with p a (trans_at B i) (below (trans_at B i) (s.before i lt)))
+    (λ i from lt. let (one, two) = s.inside i from (omega arith) in and_from (eqb (trans_at B i).source p) (eqb (trans_at B i).label a) (eq-eqb (trans_at B i).source p one) (eq-eqb (trans_at B i).label a two))
+    (λ i from lt. not_with p a (trans_at B i) (above (trans_at B i) (s.after i (omega arith) lt)))
+  where
+    below : (y : Trans) → IsBelowPair y p a → y.source ≡ p → y.label ≡ a → ⊥
+    below y h q r = omega arith
+
+    above : (y : Trans) → IsAbovePair y p a → y.source ≡ p → y.label ≡ a → ⊥
+    above y h q r = omega arith
+
+-- ---- the loops over stretches
+
+part_more : {X : Type 0} (xs : List X) (b at : ℕ) (d : X) → b ≤ at → at < length xs → take (at + 1 - b) (drop b xs) ≡ take (at - b) (drop b xs) ++ get_or xs at d ∷ []
+part_more {X} xs b at d from within =
+    let e : at + 1 - b ≡ (at - b) + 1 = omega arith in
+    let k : b + (at - b) ≡ at = omega arith in
+    let P : ℕ → X = λ i. get_or xs i d in
+    ap (λ n. take n (drop b xs)) e
+    ∙ take_more (drop b xs) (at - b) d (omega (arith, length-drop b xs))
+    ∙ ap (λ x. take (at - b) (drop b xs) ++ x ∷ []) (get_or-drop b xs (at - b) d ∙ ap P k)
+
+mapped_more : {X Y : Type 0} (f : X → Y) (ms : List Y) (xs : List X) (b at : ℕ) (d : X) → b ≤ at → at < length xs → ms ++ map f (take (at + 1 - b) (drop b xs)) ≡ (ms ++ map f (take (at - b) (drop b xs))) ++ f (get_or xs at d) ∷ []
+mapped_more f ms xs b at d from within =
+    ap (λ l. ms ++ map f l) (part_more xs b at d from within)
+    ∙ ap (λ l. ms ++ l) (map_push f (take (at - b) (drop b xs)) (get_or xs at d))
+    ∙ sym (append_assoc ms (map f (take (at - b) (drop b xs))) (f (get_or xs at d) ∷ []))
+
+pub flat_more : {X Y : Type 0} (f : X → List Y) (ms : List Y) (xs : List X) (b at : ℕ) (d : X) → b ≤ at → at < length xs → ms ++ flat_map f (take (at + 1 - b) (drop b xs)) ≡ (ms ++ flat_map f (take (at - b) (drop b xs))) ++ f (get_or xs at d)
+flat_more f ms xs b at d from within =
+    ap (λ l. ms ++ flat_map f l) (part_more xs b at d from within)
+    ∙ sym (flat_map_more f ms (take (at - b) (drop b xs)) (get_or xs at d))
+
+-- a longer front of a list goes on from a shorter one
+pub front_of : {X : Type 0} (n m : ℕ) (xs : List X) → n ≤ m → (rest : List X) × (take m xs ≡ take n xs ++ rest)
+front_of n m xs h = (drop n (take m xs), sym (take-append-drop n (take m xs)) ∙ ap (λ l. l ++ drop n (take m xs)) (take-take n m xs h))
+
+pub at_noted : (triples : List Triple) (u : Triple) (n : ℕ) (t : Triple) → At triples n t → At (noted same_triple triples u) n t
+at_noted triples u n t h =
+    let (rest, e) = noted_more same_triple triples u in
+    let P : List Triple → Type 0 = λ l. At l n t in
+    subst P (sym e) (at_front triples rest n t h)
+
+module _ (mode : Mode) (A B : Automaton) (t : Triple) (x : Trans) (ts : List Trans) (b at : ℕ) (awaits : Bool) (triples : List Triple) (done : List Trans) (ms : List JointMove)
+    (list : ts ≡ B.transitions) (from : b ≤ at) (within : at < length B.transitions) (is : awaits ≡ awaits_after mode A B t)
+    (under : IsUnderWay A B (ms ++ map (joint mode A B t x) (take (at - b) (drop b B.transitions))) triples done) where
+  -- the triple that the move leads to
+  leads_to : triple x.target (get_or ts at (trans 0 0 0)).target awaits ≡ triple x.target (trans_at B at).target (awaits_after mode A B t)
+  leads_to = λ i. triple x.target (get_or (list i) at (trans 0 0 0)).target (is i)
+
+  pub beside_more : (new : List Triple) (next : List Trans) (number target : ℕ)
+      → At triples number t
+      → new ≡ noted same_triple triples (triple x.target (get_or ts at (trans 0 0 0)).target awaits)
+      → At new target (triple x.target (get_or ts at (trans 0 0 0)).target awaits)
+      → next ≡ done ++ trans number x.label target ∷ []
+      → IsUnderWay A B (ms ++ map (joint mode A B t x) (take (at + 1 - b) (drop b B.transitions))) new next
+  beside_more new next number target at_t is_new at_target is_next =
+      let m = joint mode A B t x (trans_at B at) in
+      let before = ms ++ map (joint mode A B t x) (take (at - b) (drop b B.transitions)) in
+      let P : Triple → Type 0 = λ u. new ≡ noted same_triple triples u in
+      let Q : Triple → Type 0 = λ u. At new target u in
+      let R : List JointMove → Type 0 = λ l. IsUnderWay A B l new next in
+      subst R (sym (mapped_more (joint mode A B t x) ms B.transitions b at (trans 0 0 0) from within))
+      (step A B before m triples new done next number target under at_t (subst P leads_to is_new) (subst Q leads_to at_target) is_next).0
+
+  pub beside_too_many : (e : ℕ) → IsSuccessors B t.second x.label b e → at < e
+      → (2048 < length (noted same_triple triples (triple x.target (get_or ts at (trans 0 0 0)).target awaits))) ⊎ (65536 < length done + 1)
+      → AreTooMany A B (ms ++ moves_beside mode A B t x)
+  beside_too_many e s lt many =
+      let J = joint mode A B t x in
+      let m = J (trans_at B at) in
+      let before = ms ++ map J (take (at - b) (drop b B.transitions)) in
+      let P : Triple → Type 0 = λ u. (2048 < length (noted same_triple triples u)) ⊎ (65536 < length done + 1) in
+      let Q : List JointMove → Type 0 = λ l. AreTooMany A B l in
+      let here : AreTooMany A B (ms ++ map J (take (at + 1 - b) (drop b B.transitions))) =
+      subst Q (sym (mapped_more J ms B.transitions b at (trans 0 0 0) from within)) (step_too_many A B before m triples done under (subst P leads_to many)) in
+      let (rest, grown) = front_of (at + 1 - b) (e - b) (drop b B.transitions) (omega arith) in
+      let whole : ms ++ moves_beside mode A B t x ≡ (ms ++ map J (take (at + 1 - b) (drop b B.transitions))) ++ map J rest =
+      ap (λ l. ms ++ map J l) (successors_part B t.second x.label b e s ∙ grown)
+      ∙ ap (λ l. ms ++ l) (map-append J (take (at + 1 - b) (drop b B.transitions)) rest)
+      ∙ sym (append_assoc ms (map J (take (at + 1 - b) (drop b B.transitions))) (map J rest)) in
+      subst Q (sym whole) (more_too_many A B (ms ++ map J (take (at + 1 - b) (drop b B.transitions))) (map J rest) here)
+
+module _ (mode : Mode) (A B : Automaton) (t : Triple) (b at e : ℕ) (ms : List JointMove) (from : b ≤ at) (within : at < length A.transitions) where
+  pub from_too_many : IsOutgoing A t.first b e → at < e
+      → AreTooMany A B ((ms ++ flat_map (moves_beside mode A B t) (take (at - b) (drop b A.transitions))) ++ moves_beside mode A B t (trans_at A at))
+      → AreTooMany A B (ms ++ moves_of mode A B t)
+  from_too_many s lt many =
+      let F = moves_beside mode A B t in
+      let Q : List JointMove → Type 0 = λ l. AreTooMany A B l in
+      let front = take (at + 1 - b) (drop b A.transitions) in
+      let here : AreTooMany A B (ms ++ flat_map F front) = subst Q (sym (flat_more F ms A.transitions b at (trans 0 0 0) from within)) many in
+      let (rest, grown) = front_of (at + 1 - b) (e - b) (drop b A.transitions) (omega arith) in
+      let whole : ms ++ moves_of mode A B t ≡ (ms ++ flat_map F front) ++ flat_map F rest =
+      ap (λ l. ms ++ flat_map F l) (outgoing_part A t.first b e s ∙ grown)
+      ∙ ap (λ l. ms ++ l) (flat_map-append F front rest)
+      ∙ sym (append_assoc ms (flat_map F front) (flat_map F rest)) in
+      subst Q (sym whole) (more_too_many A B (ms ++ flat_map F front) (flat_map F rest) here)
+
+-- ---- all triples
+
+reached_members : (mode : Mode) (A B : Automaton) (ts : List Triple) → All (IsReached mode A B) ts → (u : Triple) → Contains (seen_by A B (moves_from mode A B ts)) u → IsReached mode A B u
+reached_members mode A B ts all u h = elim (Contains-cons_cases (start_of A B) u (map (λ (m : JointMove). m.target) (moves_from mode A B ts)) h) [
+  | inl e ↦ (0, sym e)
+  | inr later ↦
+      let (m, m_in, is) = map_from (λ (n : JointMove). n.target) (moves_from mode A B ts) u later in
+      let (t, t_in, near) = flat_from (moves_of mode A B) ts m m_in in
+      let (n, by) = All-contains (IsReached mode A B) ts t all t_in in
+      let (_, goes) = move_from mode A B t m near in
+      let P : Triple → Type 0 = λ v. IsReached mode A B v in
+      subst P is (suc n, (t, m.label, by, goes))
+]
+
+module _ (mode : Mode) (A B : Automaton) where
+  -- the triples up to one more
+  pub from_more : (triples : List Triple) (done : ℕ) (d : Triple) → done < length triples → moves_from mode A B (take (done + 1) triples) ≡ moves_from mode A B (take done triples) ++ moves_of mode A B (get_or triples done d)
+  from_more triples done d lt =
+      ap (moves_from mode A B) (take_more triples done d lt)
+      ∙ flat_map-append (moves_of mode A B) (take done triples) (get_or triples done d ∷ [])
+      ∙ ap (λ l. moves_from mode A B (take done triples) ++ l) (append-nil (moves_of mode A B (get_or triples done d)))
+
+  pub explored_more : (done : ℕ) (triples new : List Triple) (ts next : List Trans) (d : Triple)
+      → done < length triples
+      → IsExploredUpto mode A B done triples ts
+      → IsUnderWay A B (moves_from mode A B (take done triples) ++ moves_of mode A B (get_or triples done d)) new next
+      → IsRoomy A B new next
+      → IsExploredUpto mode A B (done + 1) new next
+  explored_more done triples new ts next d lt upto under roomy =
+      let before = moves_from mode A B (take done triples) in
+      let more = moves_of mode A B (get_or triples done d) in
+      let (rest, e) = seen_grows A B before more in
+      let grown : new ≡ triples ++ rest = under.seen ∙ e ∙ ap (λ l. l ++ rest) (sym upto.so_far.seen) in
+      let len : length new ≡ length triples + length rest = ap (λ (l : List Triple). length l) grown ∙ length-append triples rest in
+      let P : List JointMove → Type 0 = λ l. IsUnderWay A B l new next in
+      let front : take (done + 1) new ≡ take (done + 1) triples = ap (take (done + 1)) grown ∙ take-append-le (done + 1) triples rest (omega arith) in
+      let whole : moves_from mode A B (take (done + 1) new) ≡ before ++ more = ap (moves_from mode A B) front ∙ from_more triples done d lt in
+      let near : All (IsReached mode A B) (take (done + 1) triples) = All-take (IsReached mode A B) (done + 1) triples upto.reached in
+      let Q : List JointMove → Type 0 = λ l. (u : Triple) → Contains (first_seen same_triple (seen_by A B l)) u → IsReached mode A B u in
+      let told = subst Q (from_more triples done d lt) (λ u h. reached_members mode A B (take (done + 1) triples) near u (first_from same_triple same_equal same_itself (seen_by A B (moves_from mode A B (take (done + 1) triples))) u h)) in
+      let R : List Triple → Type 0 = λ l. (u : Triple) → Contains l u → IsReached mode A B u in
+      record {
+        within = omega arith;
+        so_far = subst P (sym whole) under;
+        reached = all_from (IsReached mode A B) new (subst R (sym under.seen) told);
+        roomy = roomy;
+      }
+
+  pub explored_start : (triples : List Triple) (ts : List Trans) → triples ≡ start_of A B ∷ [] → ts ≡ [] → IsAutomaton A → IsAutomaton B → IsExploredUpto mode A B 0 triples ts
+  explored_start triples ts is none a_valid b_valid =
+      let P : List Triple → Type 0 = λ l. IsExploredUpto mode A B 0 l ts in
+      let Q : List Trans → Type 0 = λ l. IsExploredUpto mode A B 0 (start_of A B ∷ []) l in
+      subst P (sym is) (subst Q (sym none) (record {
+        within = omega arith;
+        so_far = record { seen = refl; numbered = tt };
+        reached = All-cons (IsReached mode A B) (start_of A B) [] (0, refl) (All-nil (IsReached mode A B));
+        roomy = record {
+          few = omega arith;
+          few_transitions = omega arith;
+          inside = All-cons (IsInside A B) (start_of A B) [] (a_valid.initial_is_state, b_valid.initial_is_state) (All-nil (IsInside A B));
+        };
+      }))
+
+  pub explored_all : (done : ℕ) (triples : List Triple) (ts : List Trans) → length triples ≤ done → IsExploredUpto mode A B done triples ts → IsExplored mode A B triples ts
+  explored_all done triples ts over upto =
+      let whole : take done triples ≡ triples = take_all done triples over in
+      let P : List Triple → Type 0 = λ l. IsUnderWay A B (moves_from mode A B l) triples ts in
+      let under : IsUnderWay A B (moves_from mode A B triples) triples ts = subst P whole upto.so_far in
+      record {
+        numbered = record {
+          reached = λ t. (λ h. All-contains (IsReached mode A B) triples t upto.reached h, λ h. found under h.0 t h.1);
+          in_order = under.seen;
+        };
+        all = under.numbered;
+        roomy = upto.roomy;
+      }
+    where
+      found : IsUnderWay A B (moves_from mode A B triples) triples ts → (n : ℕ) (u : Triple) → IsReachedBy mode A B n u → Contains triples u
+      found under zero u h =
+          let R : List Triple → Type 0 = λ l. Contains l u in
+          subst R (sym under.seen) (first_has same_triple same_equal same_itself (seen_by A B (moves_from mode A B triples)) u
+          (Contains-here (start_of A B) u (map (λ (m : JointMove). m.target) (moves_from mode A B triples)) (sym h)))
+      found under (suc n) u (t, a, by, goes) =
+          let R : List Triple → Type 0 = λ l. Contains l u in
+          let t_in = found under n t by in
+          let m : JointMove = record { source = t; label = a; target = u } in
+          let m_in : Contains (moves_from mode A B triples) m = flat_has (moves_of mode A B) triples t m t_in (move_has mode A B t a u goes) in
+          subst R (sym under.seen) (first_has same_triple same_equal same_itself (seen_by A B (moves_from mode A B triples)) u
+          (Contains-later (start_of A B) u (map (λ (n : JointMove). n.target) (moves_from mode A B triples)) (map_has (λ (n : JointMove). n.target) (moves_from mode A B triples) m m_in)))
+
+  pub explored_too_many : IsAutomaton A → IsAutomaton B → (done : ℕ) (triples : List Triple) (ts : List Trans) (d : Triple)
+      → done < length triples
+      → IsExploredUpto mode A B done triples ts
+      → AreTooMany A B (moves_from mode A B (take done triples) ++ moves_of mode A B (get_or triples done d))
+      → IsIntersectionTooLarge mode A B
+  explored_too_many a_valid b_valid done triples ts d lt upto many =
+      let front = take (done + 1) triples in
+      let Q : List JointMove → Type 0 = λ l. AreTooMany A B l in
+      let Same = first_apart same_triple same_equal same_itself in
+      let R : List Triple → Type 0 = λ l. Rises Differ l in
+      let apart : Rises Differ triples = subst R (sym upto.so_far.seen) (Same (seen_by A B (moves_from mode A B (take done triples)))) in
+      let near : All (IsReached mode A B) front = All-take (IsReached mode A B) (done + 1) triples upto.reached in
+      let front_apart : Rises Differ front = apart_front front (drop (done + 1) triples) (subst R (sym (take-append-drop (done + 1) triples)) apart) in
+      counted front near front_apart (subst Q (sym (from_more triples done d lt)) many)
+    where
+      counted : (front : List Triple) → All (IsReached mode A B) front → Rises Differ front → AreTooMany A B (moves_from mode A B front) → IsIntersectionTooLarge mode A B
+      counted front near apart (inl many) = inr (inl (record {
+        things = first_seen same_triple (seen_by A B (moves_from mode A B front));
+        different = apart_once (first_seen same_triple (seen_by A B (moves_from mode A B front))) (first_apart same_triple same_equal same_itself (seen_by A B (moves_from mode A B front)));
+        each = all_from (IsReached mode A B) (first_seen same_triple (seen_by A B (moves_from mode A B front)))
+            (λ u h. reached_members mode A B front near u (first_from same_triple same_equal same_itself (seen_by A B (moves_from mode A B front)) u h));
+        many = many;
+      }))
+      counted front near apart (inr many) = inr (inr (record {
+        things = moves_from mode A B front;
+        different = apart_once (moves_from mode A B front) (all_apart mode A B front a_valid b_valid apart);
+        each = all_from (λ (m : JointMove). IsReached mode A B m.source × GoesBeside mode A B m.source m.label m.target) (moves_from mode A B front) (λ m h.
+            let (t, t_in, there) = flat_from (moves_of mode A B) front m h in
+            let (is, goes) = move_from mode A B t m there in
+            let P : Triple → Type 0 = λ s. IsReached mode A B s × GoesBeside mode A B s m.label m.target in
+            subst P (sym is) (All-contains (IsReached mode A B) front t near t_in, goes));
+        many = many;
+      }))
+
+  -- ---- the automaton
+
+  module _ (triples : List Triple) (ts : List Trans) (accepting : List ℕ) (explored : IsExplored mode A B triples ts) (a_valid : IsAutomaton A) (b_valid : IsAutomaton B)
+      (members : (n : ℕ) → Contains accepting n ↔ ((t : Triple) × At triples n t × AcceptsBoth mode A B t)) where
+    triples_apart : Rises Differ triples
+    triples_apart =
+        let R : List Triple → Type 0 = λ l. Rises Differ l in
+        subst R (sym explored.numbered.in_order) (first_apart same_triple same_equal same_itself (seen_by A B (moves_from mode A B triples)))
+
+    ts_apart : Rises Differ ts
+    ts_apart = trans_apart triples ts (moves_from mode A B triples) explored.all (all_apart mode A B triples a_valid b_valid triples_apart)
+
+    moves_to : (p a q : ℕ) → Contains ts (trans p a q) → (t : Triple) × (u : Triple) × At triples p t × At triples q u × GoesBeside mode A B t a u
+    moves_to p a q h =
+        let (m, m_in, (at_p, same, at_q)) = move_of triples ts (moves_from mode A B triples) explored.all (trans p a q) h in
+        let (t, t_in, near) = flat_from (moves_of mode A B) triples m m_in in
+        let (is, goes) = move_from mode A B t m near in
+        let P : Triple → Type 0 = λ s. GoesBeside mode A B s m.label m.target in
+        let Q : ℕ → Type 0 = λ b. GoesBeside mode A B m.source b m.target in
+        (m.source, m.target, at_p, at_q, subst Q (sym same) (subst P (sym is) goes))
+
+    moves_back : (p a q : ℕ) → ((t : Triple) × (u : Triple) × At triples p t × At triples q u × GoesBeside mode A B t a u) → Contains ts (trans p a q)
+    moves_back p a q (t, u, at_p, at_q, goes) =
+        let m : JointMove = record { source = t; label = a; target = u } in
+        let m_in : Contains (moves_from mode A B triples) m = flat_has (moves_of mode A B) triples t m (at_member triples p t at_p) (move_has mode A B t a u goes) in
+        let (x, x_in, (at_s, same, at_t)) = trans_of triples ts (moves_from mode A B triples) explored.all m m_in in
+        let e = at_place triples x.source p t triples_apart at_s at_p in
+        let f = at_place triples x.target q u triples_apart at_t at_q in
+        let P : Trans → Type 0 = λ y. Contains ts y in
+        subst P (same_parts x (trans p a q) e same f) x_in
+
+    pub intersection_parts : (HasRepeat accepting → ⊥) → AreParts (length triples) A.labels 0 ts accepting
+    intersection_parts once = record {
+      few = omega (arith, explored.roomy.few_transitions);
+      in_states = (
+        start_in,
+        all_from (λ (t : Trans). (t.source < length triples) × (t.target < length triples)) ts (λ x h.
+            let (t, u, at_p, at_q, goes) = moves_to x.source x.label x.target h in
+            (slice_get_within triples x.source t at_p, slice_get_within triples x.target u at_q)),
+        all_from (λ n. n < length triples) accepting (λ n h. let (t, at_n, both) = (members n).0 h in slice_get_within triples n t at_n),
+      );
+      in_labels = all_from (λ (t : Trans). t.label < A.labels) ts (λ x h.
+          let (t, u, at_p, at_q, goes) = moves_to x.source x.label x.target h in
+          (move_in_range A a_valid t.first x.label u.first goes.first).2);
+      no_transition_twice = apart_once ts ts_apart;
+      no_state_twice = once;
+    }
+      where
+        start_in : 0 < length triples
+        start_in =
+            let P : List Triple → Type 0 = λ l. At l 0 (start_of A B) in
+            slice_get_within triples 0 (start_of A B) (subst P (sym explored.numbered.in_order) (seen_start same_triple (start_of A B) (map (λ (m : JointMove). m.target) (moves_from mode A B triples))))
+
+    pub intersection_built : (C : Automaton) → IsBuilt (length triples) A.labels 0 ts accepting C → IsIntersection mode A B C
+    intersection_built C b = record {
+      valid = b.valid;
+      triples = triples;
+      numbered = explored.numbered;
+      states = b.states_given;
+      labels = b.labels_given;
+      initial = b.initial_given;
+      moves = λ p a q. (
+        λ m. moves_to p a q (Contains-permutation C.transitions ts (trans p a q) (IsPermutation-sym ts C.transitions b.transitions_given) m),
+        λ m. Contains-permutation ts C.transitions (trans p a q) b.transitions_given (moves_back p a q m),
+      );
+      accepting = λ p. (
+        λ h. (members p).0 (Contains-permutation C.accepting accepting p (IsPermutation-sym accepting C.accepting b.accepting_given) h),
+        λ h. Contains-permutation accepting C.accepting p b.accepting_given ((members p).1 h),
+      );
+    }
+
+    pub intersection_small : A.labels ≤ 256 → (C : Automaton) → IsBuilt (length triples) A.labels 0 ts accepting C → IsWithinLimits C
+    intersection_small few C b = record {
+      states = omega (arith, b.states_given, explored.roomy.few);
+      transitions = omega (arith, length_permutation ts C.transitions b.transitions_given, explored.roomy.few_transitions);
+      labels = omega (arith, b.labels_given);
+    }
+
+-- ---- the numbers of the accepting triples
+
+-- Just the numbers below `at` of accepting triples are in the list.
+abbrev pub HasAccepting : Mode → Automaton → Automaton → List Triple → ℕ → List ℕ → Type 0
+HasAccepting mode A B triples at made = (n : ℕ) → Contains made n ↔ ((t : Triple) × (n < at) × At triples n t × AcceptsBoth mode A B t)
+
+module _ (mode : Mode) (A B : Automaton) (triples : List Triple) (at : ℕ) (made : List ℕ) (d : Triple) (lt : at < length triples) (members : HasAccepting mode A B triples at made) where
+  here : At triples at (get_or triples at d)
+  here = slice_get-get_or triples at d lt
+
+  pub accepting_more : AcceptsBoth mode A B (get_or triples at d) → Rises Differ made → HasAccepting mode A B triples (at + 1) (made ++ at ∷ []) × Rises Differ (made ++ at ∷ [])
+  accepting_more acc apart = (
+    λ n. (
+      λ h. elim (Contains-append_cases made (at ∷ []) n h) [
+        | inl old ↦ let (t, below, at_n, both) = (members n).0 old in (t, omega arith, at_n, both)
+        | inr new ↦ elim (Contains-cons_cases at n [] new) [
+          | inl e ↦ (
+            get_or triples at d,
+            omega arith,
+            subst (λ k. At triples k (get_or triples at d)) e here,
+            acc,
+          )
+          | inr none ↦ absurd (none_in_nil n none)
+        ]
+      ],
+      λ (t, below, at_n, both). elim (cases_lt n at) [
+        | inl lower ↦ Contains-append_left made (at ∷ []) n ((members n).1 (t, lower, at_n, both))
+        | inr up ↦ Contains-append_right made (at ∷ []) n (Contains-here at n [] (omega arith))
+      ],
+    ),
+    apart_append made (at ∷ []) apart (λ y h. absurd (none_in_nil y h), tt) (λ n old new. elim (Contains-cons_cases at n [] new) [
+      | inl e ↦ let (t, below, _, _) = (members n).0 old in omega arith
+      | inr none ↦ none_in_nil n none
+    ]),
+  )
+
+  pub accepting_same : (AcceptsBoth mode A B (get_or triples at d) → ⊥) → HasAccepting mode A B triples (at + 1) made
+  accepting_same refused n = (
+    λ h. let (t, below, at_n, both) = (members n).0 h in (t, omega arith, at_n, both),
+    λ (t, below, at_n, both). elim (cases_lt n at) [
+      | inl lower ↦ (members n).1 (t, lower, at_n, both)
+      | inr up ↦
+          let e : at ≡ n = omega arith in
+          let P : Triple → Type 0 = λ u. AcceptsBoth mode A B u in
+          absurd (refused (subst P (at_one triples n t (get_or triples at d) at_n (subst (λ k. At triples k (get_or triples at d)) e here)) both))
+    ],
+  )
+
+pub accepting_all : (mode : Mode) (A B : Automaton) (triples : List Triple) (at : ℕ) (made : List ℕ) → length triples ≤ at → HasAccepting mode A B triples at made
+    → (n : ℕ) → Contains made n ↔ ((t : Triple) × At triples n t × AcceptsBoth mode A B t)
+accepting_all mode A B triples at made over members n = (
+  λ h. let (t, _, at_n, both) = (members n).0 h in (t, at_n, both),
+  λ (t, at_n, both). let lt = slice_get_within triples n t at_n in (members n).1 (t, omega arith, at_n, both),
+)
