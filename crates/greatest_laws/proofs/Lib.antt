@@ -1,0 +1,6 @@
+pub mod DecisionLemmas
+pub mod MoveLemmas
+pub mod RoundLemmas
+pub mod GreatestLemmas
+pub mod RankLemmas
+pub mod DelayedLemmas

@@ -1,0 +1,4 @@
+pub mod MapLemmas
+pub mod SameLemmas
+pub mod StateLemmas
+pub mod TellLemmas
