@@ -3,7 +3,7 @@ _rabit() {
     local word=${COMP_WORDS[COMP_CWORD]} before=${COMP_WORDS[COMP_CWORD - 1]} options=
     COMPREPLY=()
     if [ "$COMP_CWORD" -eq 1 ]; then
-        mapfile -t COMPREPLY < <(compgen -W "include check reduce" -- "$word")
+        mapfile -t COMPREPLY < <(compgen -W "include check reduce drill" -- "$word")
         return
     fi
     case $before in
