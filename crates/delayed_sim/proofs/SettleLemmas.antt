@@ -24,16 +24,6 @@ pub record HasTried (old now : Relation) (p : ℕ) (P : ℕ → Type 0) (changed
   pub some : changed ≡ true → length now.pairs < length old.pairs
   pub same : changed ≡ false → now ≡ old
 
--- each pair of p passes
-pub filtered_whole : (R : Relation) (p : ℕ) (P : ℕ → Type 0) → IsRelation R → ((q : ℕ) → Holds R.pairs p q → P q) → IsFiltered R R p P false
-filtered_whole R p P valid all = record {
-  size = refl;
-  valid = valid;
-  pairs = λ r s. (λ h. (h, λ e. all s (subst (λ x. Holds R.pairs x s) e h)), λ both. both.0);
-  some = λ yes. absurd (false≢true yes);
-  same = λ no. refl;
-}
-
 module _ (old : Relation) (p : ℕ) (P : ℕ → Type 0) where
   pub tried_none : IsRelation old → HasTried old old p P false 0
   tried_none valid = record {
@@ -132,6 +122,67 @@ module _ (old : Relation) (p : ℕ) (P : ℕ → Type 0) where
         ],
       ),
       λ both. (h.pairs r s).1 (both.0, λ e lt. both.1 e),
+    );
+    some = h.some;
+    same = h.same;
+  }
+
+-- one pair fewer
+pub removed_fewer : (now new : Relation) (p q : ℕ) → IsRelation now → IsRelation new → Removes now new p q → Holds now.pairs p q → length new.pairs < length now.pairs
+removed_fewer now new p q was valid removes held = fewer now new p q was valid (λ r s k. ((removes.pairs r s).0 k).0) held (λ k. ((removes.pairs p q).0 k).1 (refl, refl))
+
+-- Pairs of p went whose right state does not pass.
+pub record HasTaken (old now : Relation) (p : ℕ) (P : ℕ → Type 0) (changed : Bool) : Type 0 where
+  pub size : now.size ≡ old.size
+  pub valid : IsRelation now
+  pub within : (r s : ℕ) → Holds now.pairs r s → Holds old.pairs r s
+  pub stays : (r s : ℕ) → Holds old.pairs r s → (r ≡ p → P s) → Holds now.pairs r s
+  pub upto : length now.pairs ≤ length old.pairs
+  pub some : changed ≡ true → length now.pairs < length old.pairs
+  pub same : changed ≡ false → now ≡ old
+
+module _ (old : Relation) (p : ℕ) (P : ℕ → Type 0) where
+  pub taken_none : IsRelation old → HasTaken old old p P false
+  taken_none valid = record {
+    size = refl;
+    valid = valid;
+    within = λ r s h. h;
+    stays = λ r s h passes. h;
+    upto = omega arith;
+    some = λ e. absurd (false≢true e);
+    same = λ e. refl;
+  }
+
+  -- one more pair goes
+  pub taken_more :
+      (now new : Relation) (changed : Bool) (q : ℕ)
+      → HasTaken old now p P changed
+      → Holds now.pairs p q
+      → (P q → ⊥)
+      → Removes now new p q
+      → IsRelation new
+      → HasTaken old new p P true
+  taken_more now new changed q h held fails removes valid =
+      let fell = removed_fewer now new p q h.valid valid removes held in
+      let upto = h.upto in
+      record {
+        size = removes.size ∙ h.size;
+        valid = valid;
+        within = λ r s k. h.within r s ((removes.pairs r s).0 k).0;
+        stays = λ r s was passes. (removes.pairs r s).1 (h.stays r s was passes, λ is. fails (subst P is.1 (passes is.0)));
+        upto = omega arith;
+        some = λ e. omega arith;
+        same = λ e. absurd (false≢true (sym e));
+      }
+
+  -- no other pair has to go
+  pub taken_all : (now : Relation) (changed : Bool) → HasTaken old now p P changed → ((s : ℕ) → Holds now.pairs p s → P s) → IsFiltered old now p P changed
+  taken_all now changed h passes = record {
+    size = h.size;
+    valid = h.valid;
+    pairs = λ r s. (
+      λ held. (h.within r s held, λ e. passes s (subst (λ x. Holds now.pairs x s) e held)),
+      λ both. h.stays r s both.0 both.1,
     );
     some = h.some;
     same = h.same;

@@ -11,20 +11,6 @@ ghost use Rattle.delayed_sim.specs.Settling.{HasAnswers, IsAnsweredInto, IsAnswe
 use crate::before::write_before;
 use auto_core::{Auto, rows};
 use bit_rel::Rel;
-use row_steps::next_bit;
-
-/// Tells whether the row has the right state of each pair of the left state.
-fn has_all(rel: &Rel, p: u32, row: &[u64]) -> bool
-    requires left { p < rel.now.size }
-    requires few { rel.now.size < 2 ^ 32 }
-    requires len { length row.now ≡ (rel.now.size + 63) / 64 }
-    ensures { result ≡ true → (q : ℕ) → Holds rel.now.pairs p q → HasBit row.now q }
-{
-    match rows::first_missing(rel.row(p), row) {
-        None => true,
-        Some(_missing) => false,
-    }
-}
 
 /// Takes away the pairs of the left state whose right state the row has not, and tells whether there were any.
 fn keep_in_row(rel: &mut Rel, p: u32, row: &[u64]) -> bool
@@ -34,17 +20,10 @@ fn keep_in_row(rel: &mut Rel, p: u32, row: &[u64]) -> bool
     requires len { length row.now ≡ (rel.old.size + 63) / 64 }
     ensures { IsFiltered rel.old rel.new p (λ q. HasBit row.now q) result }
 {
-    if has_all(rel, p, row) {
-        return false;
-    }
     let mut changed = false;
-    let mut at = 0;
-    while let Some(q) = next_bit(rel.row(p), at) {
-        if !rows::has_bit(row, q) {
-            rel.clear(p, q as u32);
-            changed = true;
-        }
-        at = q + 1;
+    while let Some(q) = rows::first_missing(rel.row(p), row) {
+        rel.clear(p, q as u32);
+        changed = true;
     }
     changed
 }

@@ -18,7 +18,7 @@ use std::alloc::Global;
 const MOST_LETTERS: u32 = 64;
 
 /// At most so many words are tried.
-const MOST_WORDS: u32 = 256;
+const MOST_WORDS: u32 = 1024;
 
 /// Tells whether the row has no bit but its own.
 fn has_no_other(row: &[u64], own: usize) -> bool
@@ -39,17 +39,21 @@ fn has_no_other(row: &[u64], own: usize) -> bool
     }
 }
 
-/// Takes from row p what the column has not, if the column has p.
-fn narrow_by(table: &mut [u64], width: usize, p: usize, column: &[u64])
+/// Takes from row p what the column has not, if the column has p, and tells whether the row is left with its own place alone by that.
+fn narrow_by(table: &mut [u64], width: usize, p: usize, column: &[u64]) -> bool
     requires row { p * width + width ≤ length table.old }
     requires column { length column.now ≡ width }
     requires place { p / 64 < width }
+    requires few { width < 2 ^ 32 }
+    ensures alone { result ≡ true → (q : ℕ) → q < width * 64 → HasCell table.new width p q → q ≡ p }
     ensures here { (q : ℕ) → q < width * 64 → HasCell table.new width p q ↔ (HasCell table.old width p q × (HasBit column.now p → HasBit column.now q)) }
     ensures others { (r q : ℕ) → q < width * 64 → ¬ (r ≡ p) → cell_of table.new width r q ≡ cell_of table.old width r q }
 {
-    if rows::has_bit(column, p) {
-        and_row(table, width, p, column);
+    if !rows::has_bit(column, p) {
+        return false;
     }
+    and_row(table, width, p, column);
+    has_no_other(rows::row_at(table, width, p), p)
 }
 
 /// Takes from row p what a column has not that has p. A row that is left with its own place alone has each column that it needs.
@@ -62,8 +66,7 @@ fn narrow_row(table: &mut [u64], width: usize, p: usize, columns: &[u64], words:
     ensures others { (r q : ℕ) → q < width * 64 → ¬ (r ≡ p) → cell_of table.new width r q ≡ cell_of table.old width r q }
 {
     for i in 0..words {
-        narrow_by(table, width, p, rows::row_at(columns, width, i));
-        if has_no_other(rows::row_at(table, width, p), p) {
+        if narrow_by(table, width, p, rows::row_at(columns, width, i)) {
             return;
         }
     }
@@ -152,7 +155,7 @@ pub fn bound<S: Side>(alloc: Global, side: &S, automaton: &Auto) -> Result<Rel, 
 {
     let count = automaton.states();
     let width = rows::words_for(count);
-    let room = (count / 4 + 16).min(MOST_WORDS) as usize;
+    let room = (count / 2 + 16).min(MOST_WORDS) as usize;
     let letters = automaton.labels().min(MOST_LETTERS) as usize;
     let mut table = vec![in alloc; 0; count as usize * width]?;
     let mut columns = vec![in alloc; 0; room * width]?;

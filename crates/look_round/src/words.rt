@@ -1,6 +1,6 @@
 //! Short words that states have, as columns of bits: a column is on the states that have its word.
 
-ghost use Rattle.std.specs.Prelude.{◌≡◌, ◌+◌, ◌*◌, ◌/◌, ◌<◌, ◌≤◌, ◌↔◌, ◌⊎◌, ℕ, length, All};
+ghost use Rattle.std.specs.Prelude.{◌≡◌, ◌+◌, ◌*◌, ◌/◌, ◌^◌, ◌<◌, ◌≤◌, ◌↔◌, ◌⊎◌, ℕ, length, All};
 ghost use Rattle.auto_core.specs.Automaton.{IsAutomaton};
 ghost use Rattle.auto_core.specs.Rows.{cell_of, HasBit, HasCell};
 ghost use Rattle.look_round.specs.Words.{LeadsInto, AddsColumns, AreColumns, AreMatches};
@@ -133,8 +133,113 @@ fn lengthen<S: Side>(
     count
 }
 
-/// Writes columns of words of the letters below `letters`, the shortest words first, as far as there is room for columns, and
-/// tells how many they are. `ends` is room for one row, `made` for a row for each letter.
+/// Tells whether the row has most of the states, some three of four or more.
+fn has_most(row: &[u64], states: u32) -> bool
+    requires { length row.now < 2 ^ 32 }
+{
+    let mut count = 0;
+    for i in 0..row.len() {
+        count += row[i].count_ones() as usize;
+    }
+    count / 3 > states as usize / 4
+}
+
+/// Tells whether the words of the column with this row are lengthened. A first walk, before which no column was walked, passes over those
+/// that most states have, since they tell little; a second one takes these and the new ones.
+fn has_turn(row: &[u64], states: u32, at: usize, walked: usize) -> bool
+    requires { length row.now < 2 ^ 32 }
+{
+    if walked == 0 {
+        return at == 0 || !has_most(row, states);
+    }
+    at >= walked || has_most(row, states)
+}
+
+/// Lengthens the words of column `at` if it is their turn.
+fn lengthen_in_turn<S: Side>(
+    side: &S,
+    automaton: &Auto,
+    matches: &[u64],
+    kinds: &[u32],
+    columns: &mut [u64],
+    width: usize,
+    at: usize,
+    walked: usize,
+    count: usize,
+    room: usize,
+    letters: usize,
+    ends: &mut [u64],
+    made: &mut [u64],
+) -> usize
+    requires valid { IsAutomaton automaton.now }
+    requires few { width < 2 ^ 32 }
+    requires width { width ≡ (automaton.now.states + 63) / 64 }
+    requires size { length matches.now ≡ automaton.now.states * width }
+    requires matches { AreMatches (S.keeps side.now automaton.now) automaton.now.states matches.now width automaton.now.states }
+    requires kinds { All (λ s. s < automaton.now.states) kinds.now }
+    requires room { length columns.old ≡ room * width }
+    requires count { count ≤ room }
+    requires at { at < count }
+    requires columns { AreColumns (S.goes side.now automaton.now) (S.keeps side.now automaton.now) automaton.now.states columns.old width count }
+    requires ends { length ends.old ≡ width }
+    requires made { length made.old ≡ letters * width }
+    ensures columns { AreColumns (S.goes side.now automaton.now) (S.keeps side.now automaton.now) automaton.now.states columns.new width result }
+    ensures room { result ≤ room }
+{
+    ends.copy_from_slice(rows::row_at(columns, width, at));
+    let turn = kinds.len() < 2 || has_turn(ends, automaton.states(), at, walked);
+    if !turn {
+        return count;
+    }
+    lengthen(
+        side, automaton, matches, kinds, columns, width, at, count, room, letters, ends, made,
+    )
+}
+
+/// Adds columns of words, each one letter longer than that of a column whose turn it is, as far as there is room, and tells how many
+/// columns there are then. A former walk tried the first `walked` columns.
+fn walk_columns<S: Side>(
+    side: &S,
+    automaton: &Auto,
+    matches: &[u64],
+    kinds: &[u32],
+    columns: &mut [u64],
+    width: usize,
+    walked: usize,
+    count: usize,
+    room: usize,
+    letters: usize,
+    ends: &mut [u64],
+    made: &mut [u64],
+) -> usize
+    requires valid { IsAutomaton automaton.now }
+    requires few { width < 2 ^ 32 }
+    requires width { width ≡ (automaton.now.states + 63) / 64 }
+    requires size { length matches.now ≡ automaton.now.states * width }
+    requires matches { AreMatches (S.keeps side.now automaton.now) automaton.now.states matches.now width automaton.now.states }
+    requires kinds { All (λ s. s < automaton.now.states) kinds.now }
+    requires room { length columns.old ≡ room * width }
+    requires count { count ≤ room }
+    requires columns { AreColumns (S.goes side.now automaton.now) (S.keeps side.now automaton.now) automaton.now.states columns.old width count }
+    requires ends { length ends.old ≡ width }
+    requires made { length made.old ≡ letters * width }
+    ensures columns { AreColumns (S.goes side.now automaton.now) (S.keeps side.now automaton.now) automaton.now.states columns.new width result }
+    ensures room { result ≤ room }
+{
+    let mut count = count;
+    for at in 0..room {
+        if at < count && count < room {
+            count = lengthen_in_turn(
+                side, automaton, matches, kinds, columns, width, at, walked, count, room, letters,
+                ends, made,
+            );
+        }
+    }
+    count
+}
+
+/// Writes columns of words of the letters below `letters`, as far as there is room for columns, and tells how many they are.
+/// `ends` is room for one row, `made` for a row for each letter.
 pub(crate) fn write_columns<S: Side>(
     side: &S,
     automaton: &Auto,
@@ -152,6 +257,7 @@ pub(crate) fn write_columns<S: Side>(
     requires size { length matches.now ≡ automaton.now.states * width }
     requires matches { AreMatches (S.keeps side.now automaton.now) automaton.now.states matches.now width automaton.now.states }
     requires kinds { All (λ s. s < automaton.now.states) kinds.now }
+    requires few { width < 2 ^ 32 }
     requires some { 1 ≤ room }
     requires room { length columns.old ≡ room * width }
     requires ends { length ends.old ≡ width }
@@ -161,14 +267,13 @@ pub(crate) fn write_columns<S: Side>(
 {
     mark_below(ends, automaton.states());
     write_row(columns, width, 0, ends);
-    let mut count = 1;
-    for at in 0..room {
-        if at < count && count < room {
-            count = lengthen(
-                side, automaton, matches, kinds, columns, width, at, count, room, letters, ends,
-                made,
-            );
-        }
+    let count = walk_columns(
+        side, automaton, matches, kinds, columns, width, 0, 1, room, letters, ends, made,
+    );
+    if kinds.len() < 2 {
+        return count;
     }
-    count
+    walk_columns(
+        side, automaton, matches, kinds, columns, width, count, count, room, letters, ends, made,
+    )
 }

@@ -3,8 +3,8 @@ use Rattle.look_round.specs.Words.{IsRowNarrowed}
 use Rattle.look_round.proofs.ColumnLemmas.{row_narrowed_more, row_narrowed_alone}
 use Rattle.look_round.proofs.bounding.narrow_row.Goals as goal
 
-pub returns-then-has_no_other-clause-here : goal.returns-then-has_no_other-clause-here
-returns-then-has_no_other-clause-here c =
+pub returns-then-narrow_by-clause-here : goal.returns-then-narrow_by-clause-here
+returns-then-narrow_by-clause-here c =
     let old = c.args.table.now in
     let new = c.narrow_by.new.table in
     let w : ℕ = c.args.width in
@@ -15,7 +15,7 @@ returns-then-has_no_other-clause-here c =
     let near : p < w * 64 = omega arith in
     let more = row_narrowed_more old c.loop-i.table new w columns c.row_at.result.now p i near c.loop-i.invariant.0 c.row_at.ensures.bits c.narrow_by.ensures.here in
     row_narrowed_alone old new w columns p (i + 1) c.args.words (omega (arith, c.loop-i-test.true)) more
-    (λ q q_near cell. c.has_no_other.ensures c.if-has_no_other.true q (c.row_at-in-loop-i.ensures.bits q q_near ∙ cell))
+    (c.narrow_by.ensures.alone c.if-narrow_by.true)
 
 pub loop-i-preserved : goal.loop-i-preserved
 loop-i-preserved c =

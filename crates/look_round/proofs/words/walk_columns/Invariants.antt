@@ -1,6 +1,6 @@
 use Rattle.std.proofs.Common.{◌≤◌}
 use Rattle.look_round.specs.Words.{AreColumns}
-use Rattle.look_round.proofs.words.write_columns.Given as goal
+use Rattle.look_round.proofs.words.walk_columns.Given as goal
 
 abbrev pub invariant-loop-at : goal.invariant-loop-at
 invariant-loop-at g l =
