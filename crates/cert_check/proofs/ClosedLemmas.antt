@@ -30,7 +30,7 @@ use Rattle.cert_check.specs.Laws.{ValidYesIncludes, ValidNoSeparates, ValidNoSep
 use Rattle.cert_check.specs.Rules.{lasso_checks, word_checks, YesHolds, BodyHolds, KeepsRules}
 use Rattle.log_check.specs.Ends.{item_after}
 use Rattle.log_check.proofs.LawLemmas.{first_log_grows, second_log_shrinks}
-use Rattle.log_check.specs.Checks.{Check, AllHold, checks_of_each}
+use Rattle.log_check.specs.Checks.{RuleCheck, AllHold, checks_of_each}
 use Rattle.log_check.specs.Blocks.{pairs_of}
 use Rattle.cert_check.specs.Inclusion.{origins_of, element_arcs, live_in, no_element, AreOver, IsOver, PassesBy, starts_of, extensions_of, order_checks, element_checks, under_checks, cover_checks, step_checks, pair_checks, inclusion_checks}
 use Rattle.log_check.proofs.CheckLemmas.{all_front, all_back, each_of}
@@ -99,19 +99,19 @@ over_at m A B evidence js xs i x over lt is = subst (IsOver m A B evidence (slic
 
 -- The five lists of checks after those of the relation.
 module _ (m : Mode) (n : ℕ) (A B : Automaton) (evidence : YesBody) where
-  abbrev pub elements_part : List Check
+  abbrev pub elements_part : List RuleCheck
   elements_part = checks_of_each (element_checks A evidence.elements (n + 1)) 0 evidence.elements
 
-  abbrev pub under_part : List Check
+  abbrev pub under_part : List RuleCheck
   under_part = checks_of_each (under_checks m A B evidence (n + 1)) 0 evidence.elements
 
-  abbrev pub cover_part : List Check
+  abbrev pub cover_part : List RuleCheck
   cover_part = cover_checks m A B evidence (n + 1 + length evidence.elements)
 
-  abbrev pub steps_part : List Check
+  abbrev pub steps_part : List RuleCheck
   steps_part = checks_of_each (step_checks m A B evidence (n + 2 + length evidence.elements)) 0 evidence.steps
 
-  abbrev pub pairs_part : List Check
+  abbrev pub pairs_part : List RuleCheck
   pairs_part = checks_of_each (pair_checks m A B evidence (n + 1)) 0 evidence.elements
 
   record Parts : Type 0 where
@@ -121,7 +121,7 @@ module _ (m : Mode) (n : ℕ) (A B : Automaton) (evidence : YesBody) where
     steps : AllHold steps_part
     pairs : AllHold pairs_part
 
-  parts : AllHold (inclusion_checks m n A B evidence) → Parts
+  parts : AllHold (inclusion_checks m evidence n A B) → Parts
   parts hold =
       let a : AllHold (elements_part ++ (under_part ++ (cover_part ++ (steps_part ++ pairs_part)))) =
       all_back (order_checks B evidence n) (elements_part ++ (under_part ++ (cover_part ++ (steps_part ++ pairs_part)))) hold in
@@ -173,7 +173,7 @@ module _ (m : Mode) (n : ℕ) (A B : Automaton) (evidence : YesBody) where
 
 -- In a Büchi file they are a closed set of supergraphs.
 pub closed : (n : ℕ) (A B : Automaton) (evidence : YesBody) → list_all (is_element Buchi) evidence.elements ≡ true → are_steps 0 evidence.elements evidence.steps ≡ true →
-    AllHold (inclusion_checks Buchi n A B evidence) → ClosedSet A B (pairs_of evidence.order) (element_arcs A evidence.elements) (live_in evidence)
+    AllHold (inclusion_checks Buchi evidence n A B) → ClosedSet A B (pairs_of evidence.order) (element_arcs A evidence.elements) (live_in evidence)
 closed n A B evidence fits lined hold =
     let p = parts Buchi n A B evidence hold in
     record {
@@ -190,7 +190,7 @@ closed n A B evidence fits lined hold =
 
 -- In a finite file they are a closed set of pairs.
 pub closed_pairs : (n : ℕ) (A B : Automaton) (evidence : YesBody) → list_all (is_element Finite) evidence.elements ≡ true → are_steps 0 evidence.elements evidence.steps ≡ true →
-    AllHold (inclusion_checks Finite n A B evidence) → ClosedPairs A B (pairs_of evidence.order) (element_arcs A evidence.elements) (live_in evidence)
+    AllHold (inclusion_checks Finite evidence n A B) → ClosedPairs A B (pairs_of evidence.order) (element_arcs A evidence.elements) (live_in evidence)
 closed_pairs n A B evidence fits lined hold =
     let p = parts Finite n A B evidence hold in
     record {
@@ -203,7 +203,7 @@ closed_pairs n A B evidence fits lined hold =
 
 -- So the second automaton accepts each lasso, in a finite file each word, that the first accepts.
 pub included : (m : Mode) (n : ℕ) (A B : Automaton) (evidence : YesBody) → IsAutomaton B → list_all (is_element m) evidence.elements ≡ true → are_steps 0 evidence.elements evidence.steps ≡ true →
-    AllHold (inclusion_checks m n A B evidence) → Includes A B m
+    AllHold (inclusion_checks m evidence n A B) → Includes A B m
 included Buchi n A B evidence valid fits lined hold =
     closed_set_includes A B (pairs_of evidence.order) (element_arcs A evidence.elements) (live_in evidence) valid (closed n A B evidence fits lined hold)
 included Finite n A B evidence valid fits lined hold =

@@ -17,15 +17,15 @@ use Rattle.cert_text.specs.declared.types.Element.{Element}
 use Rattle.cert_text.specs.declared.types.ListBody.{ListBody}
 use Rattle.cert_text.specs.declared.types.Mark.TheVariants.{Live}
 use Rattle.cert_text.specs.WellFormed.{WellFormed, is_origin, is_listing}
-use Rattle.log_check.specs.Checks.{Check, AllHold, FirstBroken, Tells, checks_of_each}
+use Rattle.log_check.specs.Checks.{RuleCheck, AllHold, FirstBroken, Tells, checks_of_each}
 use Rattle.log_check.specs.Ends.{item_after}
 use Rattle.log_check.proofs.CheckLemmas.{all_front, all_back, broken_back, tells_fault, tells_after, each_of}
 use Rattle.cert_check.specs.Inclusion.{element_arcs, element_checks, no_element, NamesOrigin, HasEarlierParent, GoesOn}
 use Rattle.cert_check.specs.Laws.{ValidListShows}
 use Rattle.graph_laws.proofs.OriginLemmas.{placed_arcs_are_real}
 use Rattle.search_laws.proofs.PairEntryLemmas.{placed_pairs_are_reached}
-use Rattle.cert_check.specs.Listing.{AreDifferentIn, AreListedIn, as_elements, SameIn, count_checks, difference_checks, listing_checks}
-use Rattle.cert_check.specs.Rules.{BodyHolds, KeepsRules, ListHolds, ListsDifferent}
+use Rattle.cert_check.specs.Listing.{AreListedIn, AreListedRuns, as_elements, SameIn, count_checks, difference_checks, listing_checks}
+use Rattle.cert_check.specs.Rules.{BodyHolds, KeepsRules, ListHolds, ListsRuns}
 use Rattle.cert_check.proofs.ClosedLemmas.{list_parts, list_formed}
 use Rattle.cert_check.proofs.PlaceLemmas.{IsPlacedIn, placed_one}
 
@@ -48,14 +48,14 @@ origin_passes m [] e h lt = absurd (omega arith)
 origin_passes m (o ∷ origins) zero h lt = (and_parts (is_origin m o) (list_all (is_origin m) origins) h).0
 origin_passes m (o ∷ origins) (suc e) h lt = origin_passes m origins e (and_parts (is_origin m o) (list_all (is_origin m) origins) h).1 (omega arith)
 
-module _ (m : Mode) (n : ℕ) (A B : Automaton) (list : ListBody) (fits : list_all (is_origin m) list.elements ≡ true) (hold : AllHold (listing_checks m n A B list)) where
+module _ (m : Mode) (n : ℕ) (A B : Automaton) (list : ListBody) (fits : list_all (is_origin m) list.elements ≡ true) (hold : AllHold (listing_checks m list n A B)) where
   abbrev es : List Element
   es = as_elements list.elements
 
-  abbrev E : List Check
+  abbrev E : List RuleCheck
   E = checks_of_each (element_checks A es (n + 1)) 0 es
 
-  abbrev N : List Check
+  abbrev N : List RuleCheck
   N = checks_of_each (difference_checks m A B es (n + 1)) 0 es
 
   size : length list.elements ≡ list.limit + 1
@@ -86,34 +86,34 @@ live_fit m origins elements is fits k d lt =
 
 -- The parts of what is asked of a list, tested one after another.
 module _ (m : Mode) (n : ℕ) (A B : Automaton) (list : ListBody) (elements : List Element) (is : elements ≡ as_elements list.elements) where
-  abbrev held : List Element → List Check
+  abbrev held : List Element → List RuleCheck
   held l = checks_of_each (element_checks A l (n + 1)) 0 l
 
-  abbrev new : List Element → List Check
+  abbrev new : List Element → List RuleCheck
   new l = checks_of_each (difference_checks m A B l (n + 1)) 0 l
 
-  abbrev asked : List Element → List Check
+  abbrev asked : List Element → List RuleCheck
   asked l = held l ++ (count_checks list n ++ new l)
 
-  pub fault_in_elements : (X : Type 0) (e : CheckFault) → Tells {X = X} (held elements) (Err e) → Tells {X = Unit {0}} (listing_checks m n A B list) (Err e)
+  pub fault_in_elements : (X : Type 0) (e : CheckFault) → Tells {X = X} (held elements) (Err e) → Tells {X = Unit {0}} (listing_checks m list n A B) (Err e)
   fault_in_elements X e h = subst (λ (l : List Element). Tells {X = Unit {0}} (asked l) (Err e)) is (tells_fault X (Unit {0}) (held elements) (count_checks list n ++ new elements) e h)
 
-  pub count_broken : AllHold (held elements) → (length list.elements ≡ list.limit + 1 → ⊥) → FirstBroken (listing_checks m n A B list) (record { rule = 18; item = n })
+  pub count_broken : AllHold (held elements) → (length list.elements ≡ list.limit + 1 → ⊥) → FirstBroken (listing_checks m list n A B) (record { rule = 18; item = n })
   count_broken h wrong = subst (λ (l : List Element). FirstBroken (asked l) (record { rule = 18; item = n })) is
       (broken_back (held elements) (count_checks list n ++ new elements) (record { rule = 18; item = n }) h (inl (wrong, refl)))
 
-  pub new_last : (r : Result (Unit {0}) CheckFault) → AllHold (held elements) → length list.elements ≡ list.limit + 1 → Tells (new elements) r → Tells (listing_checks m n A B list) r
+  pub new_last : (r : Result (Unit {0}) CheckFault) → AllHold (held elements) → length list.elements ≡ list.limit + 1 → Tells (new elements) r → Tells (listing_checks m list n A B) r
   new_last r h count told = subst (λ (l : List Element). Tells (asked l) r) is
       (tells_after (Unit {0}) (held elements) (count_checks list n ++ new elements) r h (tells_after (Unit {0}) (count_checks list n) (new elements) r (count, tt) told))
 
 -- The arcs of different origins are those of runs.
-pub listed_in : (m : Mode) (A B : Automaton) (count : ℕ) (origins : List Origin) → AreDifferentIn m A B count origins → AreListedIn m A B count origins
-listed_in Buchi A B count origins d = record { different = d; real = placed_arcs_are_real A origins d.placed }
-listed_in Finite A B count origins d = record { different = d; real = placed_pairs_are_reached A origins d.placed }
+pub listed_in : (m : Mode) (A B : Automaton) (count : ℕ) (origins : List Origin) → AreListedIn m A B count origins → AreListedRuns m A B count origins
+listed_in Buchi A B count origins d = record { listed = d; real = placed_arcs_are_real A origins d.placed }
+listed_in Finite A B count origins d = record { listed = d; real = placed_pairs_are_reached A origins d.placed }
 
 -- What the elements of a list show of the automata that the logs lead to.
-pub listed : (m : Mode) (n : ℕ) (A B : Automaton) (list : ListBody) → list_all (is_origin m) list.elements ≡ true → AllHold (listing_checks m n A B list) →
-    AreListedIn m A B (list.limit + 1) list.elements
+pub listed : (m : Mode) (n : ℕ) (A B : Automaton) (list : ListBody) → list_all (is_origin m) list.elements ≡ true → AllHold (listing_checks m list n A B) →
+    AreListedRuns m A B (list.limit + 1) list.elements
 listed Buchi n A B list fits hold =
     listed_in Buchi A B (list.limit + 1) list.elements
     (record { size = size Buchi n A B list fits hold; placed = placed Buchi n A B list fits hold; differ = differ Buchi n A B list fits hold })
@@ -122,14 +122,14 @@ listed Finite n A B list fits hold =
     (record { size = size Finite n A B list fits hold; placed = placed Finite n A B list fits hold; differ = differ Finite n A B list fits hold })
 
 -- What a list shows that keeps its rules.
-pub list_shows : (m : Mode) (pair : Joined) (list : ListBody) → is_listing m list ≡ true → ListHolds m pair list → ListsDifferent m pair (list.limit + 1) list
+pub list_shows : (m : Mode) (pair : Joined) (list : ListBody) → is_listing m list ≡ true → ListHolds m pair list → ListsRuns m pair (list.limit + 1) list
 list_shows m pair list formed h = record {
   ends = h.ends;
   logs = h.logs;
   listed = listed m (item_after list.first list.second) h.ends.first h.ends.second list (list_parts m list formed).origins h.hold;
 }
 
-pub kept_list_shows : (pair : Joined) (cert : Cert) (list : ListBody) → cert.body ≡ Listing list → WellFormed cert → KeepsRules pair cert → ListsDifferent cert.mode pair (list.limit + 1) list
+pub kept_list_shows : (pair : Joined) (cert : Cert) (list : ListBody) → cert.body ≡ Listing list → WellFormed cert → KeepsRules pair cert → ListsRuns cert.mode pair (list.limit + 1) list
 kept_list_shows pair cert list is formed hold = list_shows cert.mode pair list (list_formed cert list is formed) (subst (λ b. BodyHolds cert.mode pair b) is hold.1)
 
 pub valid_list : ValidListShows

@@ -9,13 +9,15 @@ use Rattle.cert_text.specs.declared.types.FirstStep.{FirstStep}
 use Rattle.cert_text.specs.declared.types.SecondStep.{SecondStep}
 use Rattle.log_check.specs.declared.ends.Ends.{Ends}
 use Rattle.log_check.specs.declared.faults.Refusal.{Refusal}
-use Rattle.log_check.specs.Checks.{Check, FirstBroken, rule_at}
+use Rattle.log_check.specs.Checks.{RuleCheck, FirstBroken, rule_at}
 use Rattle.log_check.specs.Ends.{item_after}
 use Rattle.log_check.proofs.LawOneLemmas.{broken_one, broken_or_all, ends_one, break_one, none_breaks}
-use Rattle.cert_check.specs.Rules.{HasSizes, lasso_checks, word_checks, yes_checks, list_checks, HoldsAfterLogs, BreaksAfterLogs, BodyHolds, BodyBreaks}
+use Rattle.cert_check.specs.Inclusion.{inclusion_checks}
+use Rattle.cert_check.specs.Listing.{listing_checks}
+use Rattle.cert_check.specs.Rules.{HasSizes, lasso_checks, word_checks, HoldsAfterLogs, BreaksAfterLogs, BodyHolds, BodyBreaks}
 use Rattle.cert_check.specs.Laws.{OneRuleBreaks, NoneBreaksWhereKept}
 
-module _ (mode : Mode) (pair : Joined) (firsts : List FirstStep) (seconds : List SecondStep) (checks : ℕ → Automaton → Automaton → List Check) where
+module _ (mode : Mode) (pair : Joined) (firsts : List FirstStep) (seconds : List SecondStep) (checks : ℕ → Automaton → Automaton → List RuleCheck) where
   abbrev n : ℕ
   n = item_after firsts seconds
 
@@ -34,10 +36,10 @@ module _ (mode : Mode) (pair : Joined) (firsts : List FirstStep) (seconds : List
       broken_or_all (checks n holds.ends.first holds.ends.second) refusal (subst (λ (z : Ends). FirstBroken (checks n z.first z.second) refusal) same h) holds.hold
 
 one_of_body : (mode : Mode) (pair : Joined) (body : Body) (refusal other : Refusal) → BodyBreaks mode pair body refusal → BodyBreaks mode pair body other → refusal ≡ other
-one_of_body mode pair (Yes evidence) refusal other h k = one_after_logs mode pair evidence.first evidence.second (yes_checks mode evidence) refusal other h k
+one_of_body mode pair (Yes evidence) refusal other h k = one_after_logs mode pair evidence.first evidence.second (inclusion_checks mode evidence) refusal other h k
 one_of_body mode pair (NoLasso lasso) refusal other h k = broken_one (lasso_checks pair lasso) refusal other h k
 one_of_body mode pair (NoWord word) refusal other h k = broken_one (word_checks pair word) refusal other h k
-one_of_body mode pair (Listing list) refusal other h k = one_after_logs mode pair list.first list.second (list_checks mode list) refusal other h k
+one_of_body mode pair (Listing list) refusal other h k = one_after_logs mode pair list.first list.second (listing_checks mode list) refusal other h k
 
 pub one_rule : OneRuleBreaks
 one_rule pair cert refusal other (inl h) (inl k) = broken_one (rule_at 1 0 (HasSizes pair cert) ∷ []) refusal other h k
@@ -46,10 +48,10 @@ one_rule pair cert refusal other (inr h) (inl k) = absurd (broken_or_all (rule_a
 one_rule pair cert refusal other (inr h) (inr k) = one_of_body cert.mode pair cert.body refusal other h.1 k.1
 
 none_of_body : (mode : Mode) (pair : Joined) (body : Body) (refusal : Refusal) → BodyBreaks mode pair body refusal → BodyHolds mode pair body → ⊥
-none_of_body mode pair (Yes evidence) refusal h holds = none_after_logs mode pair evidence.first evidence.second (yes_checks mode evidence) refusal h holds
+none_of_body mode pair (Yes evidence) refusal h holds = none_after_logs mode pair evidence.first evidence.second (inclusion_checks mode evidence) refusal h holds
 none_of_body mode pair (NoLasso lasso) refusal h holds = broken_or_all (lasso_checks pair lasso) refusal h holds
 none_of_body mode pair (NoWord word) refusal h holds = broken_or_all (word_checks pair word) refusal h holds
-none_of_body mode pair (Listing list) refusal h holds = none_after_logs mode pair list.first list.second (list_checks mode list) refusal h holds
+none_of_body mode pair (Listing list) refusal h holds = none_after_logs mode pair list.first list.second (listing_checks mode list) refusal h holds
 
 pub none_kept : NoneBreaksWhereKept
 none_kept pair cert refusal (inl h) keeps = broken_or_all (rule_at 1 0 (HasSizes pair cert) ∷ []) refusal h (keeps.0, tt)

@@ -18,7 +18,7 @@ use Rattle.cert_text.specs.declared.types.Mark.{Mark}
 use Rattle.cert_text.specs.declared.types.Mark.TheVariants.{Live, Under}
 use Rattle.cert_text.specs.declared.types.StepLine.{StepLine}
 use Rattle.cert_text.specs.WellFormed.{is_live}
-use Rattle.log_check.specs.Checks.{Check, rule_at, checks_of_each}
+use Rattle.log_check.specs.Checks.{RuleCheck, rule_at, checks_of_each}
 use Rattle.log_check.specs.Blocks.{pairs_of, IsBlockBelow}
 
 -- Where the elements come from.
@@ -113,14 +113,14 @@ abbrev pub AreElements : YesBody → List ℕ → Type 0
 AreElements evidence js = All (λ j. j < length evidence.elements) js
 
 -- The relation names states of the second automaton, and is stable forward at lookahead 1.
-abbrev pub order_checks : Automaton → YesBody → ℕ → List Check
+abbrev pub order_checks : Automaton → YesBody → ℕ → List RuleCheck
 order_checks B evidence item =
     rule_at 1 item (IsBlockBelow B.states evidence.order)
     ∷ rule_at 9 item (StableForward B 1 (pairs_of evidence.order))
     ∷ []
 
 -- What an element names is there, its parent stands before it, and its transition goes on from the parent.
-abbrev pub element_checks : Automaton → List Element → ℕ → ℕ → Element → List Check
+abbrev pub element_checks : Automaton → List Element → ℕ → ℕ → Element → List RuleCheck
 element_checks A elements item e element =
     rule_at 1 (item + e) (NamesOrigin A (length elements) element.origin × NamesElement (length elements) element.mark)
     ∷ rule_at 10 (item + e) (HasEarlierParent e element.origin)
@@ -128,30 +128,30 @@ element_checks A elements item e element =
     ∷ []
 
 -- It is under the element that it names.
-abbrev pub under_checks : Mode → Automaton → Automaton → YesBody → ℕ → ℕ → Element → List Check
+abbrev pub under_checks : Mode → Automaton → Automaton → YesBody → ℕ → ℕ → Element → List RuleCheck
 under_checks mode A B evidence item e element = rule_at 12 (item + e) (IsUnder mode A B evidence e element.mark) ∷ []
 
 -- The cover names elements, and these are over the arcs that it is for.
-abbrev pub cover_checks : Mode → Automaton → Automaton → YesBody → ℕ → List Check
+abbrev pub cover_checks : Mode → Automaton → Automaton → YesBody → ℕ → List RuleCheck
 cover_checks mode A B evidence item =
     rule_at 1 item (AreElements evidence evidence.cover)
     ∷ rule_at 13 item (AreOver mode A B evidence evidence.cover (covered_in mode A))
     ∷ []
 
 -- A step line names elements, and these are over the extensions of its element.
-abbrev pub step_checks : Mode → Automaton → Automaton → YesBody → ℕ → ℕ → StepLine → List Check
+abbrev pub step_checks : Mode → Automaton → Automaton → YesBody → ℕ → ℕ → StepLine → List RuleCheck
 step_checks mode A B evidence item k step =
     rule_at 1 (item + k) ((step.element < length evidence.elements) × AreElements evidence step.by)
     ∷ rule_at 14 (item + k) (AreOver mode A B evidence step.by (extensions_of A (arc_at A (element_arcs A evidence.elements) step.element)))
     ∷ []
 
 -- It passes.
-abbrev pub pair_checks : Mode → Automaton → Automaton → YesBody → ℕ → ℕ → Element → List Check
+abbrev pub pair_checks : Mode → Automaton → Automaton → YesBody → ℕ → ℕ → Element → List RuleCheck
 pair_checks mode A B evidence item e element = rule_at 15 (item + e) (PassesBy mode A B evidence e) ∷ []
 
 -- The items, from this number on: the relation, then each element, then the cover, then each step line.
-abbrev pub inclusion_checks : Mode → ℕ → Automaton → Automaton → YesBody → List Check
-inclusion_checks mode item A B evidence =
+abbrev pub inclusion_checks : Mode → YesBody → ℕ → Automaton → Automaton → List RuleCheck
+inclusion_checks mode evidence item A B =
     order_checks B evidence item
     ++ (checks_of_each (element_checks A evidence.elements (item + 1)) 0 evidence.elements
     ++ (checks_of_each (under_checks mode A B evidence (item + 1)) 0 evidence.elements

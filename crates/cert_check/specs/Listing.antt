@@ -11,13 +11,13 @@ use Rattle.auto_core.specs.declared.parts.Origin.{Origin}
 use Rattle.cert_text.specs.declared.types.Element.{Element}
 use Rattle.cert_text.specs.declared.types.ListBody.{ListBody}
 use Rattle.cert_text.specs.declared.types.Mark.TheVariants.{Live}
-use Rattle.log_check.specs.Checks.{Check, rule_at, checks_of_each}
+use Rattle.log_check.specs.Checks.{RuleCheck, rule_at, checks_of_each}
 use Rattle.cert_check.specs.Inclusion.{element_arcs, element_checks}
 
 -- The origins are so many, fit, and stand for pairwise different supergraphs, in finite mode pairs of a state and a set.
-abbrev pub AreDifferentIn : Mode → Automaton → Automaton → ℕ → List Origin → Type 0
-AreDifferentIn Buchi A B count origins = AreListed A B count origins
-AreDifferentIn Finite A B count origins = ArePairsListed A B count origins
+abbrev pub AreListedIn : Mode → Automaton → Automaton → ℕ → List Origin → Type 0
+AreListedIn Buchi A B count origins = AreListed A B count origins
+AreListedIn Finite A B count origins = ArePairsListed A B count origins
 
 -- The arc is that of a run over a word with a letter, in finite mode of a run from the initial state.
 abbrev pub IsRunIn : Mode → Automaton → WordArc → Type 0
@@ -26,8 +26,8 @@ IsRunIn Finite A x = IsReached A x
 
 -- The origins are so many, fit, and stand for pairwise different supergraphs, in finite mode pairs of a state and a set; the arc of each is
 -- that of a run of the first automaton.
-pub record AreListedIn (mode : Mode) (A B : Automaton) (count : ℕ) (origins : List Origin) : Type 0 where
-  pub different : AreDifferentIn mode A B count origins
+pub record AreListedRuns (mode : Mode) (A B : Automaton) (count : ℕ) (origins : List Origin) : Type 0 where
+  pub listed : AreListedIn mode A B count origins
   pub real : (e : ℕ) → e < length origins → IsRunIn mode A (arc_at A (arcs_of A origins) e)
 
 -- The origins of a list as elements, so that what is asked of the elements of a yes is asked of them too. Their mark says nothing.
@@ -44,17 +44,17 @@ abbrev pub DiffersFromEarlier : Mode → Automaton → Automaton → List Elemen
 DiffersFromEarlier mode A B elements e = (d : ℕ) → d < e → SameIn mode B (arc_at A (element_arcs A elements) d) (arc_at A (element_arcs A elements) e) → ⊥
 
 -- There is one element more than the limit.
-abbrev pub count_checks : ListBody → ℕ → List Check
+abbrev pub count_checks : ListBody → ℕ → List RuleCheck
 count_checks list item = rule_at 18 item (length list.elements ≡ list.limit + 1) ∷ []
 
 -- It is the same as no earlier one.
-abbrev pub difference_checks : Mode → Automaton → Automaton → List Element → ℕ → ℕ → Element → List Check
+abbrev pub difference_checks : Mode → Automaton → Automaton → List Element → ℕ → ℕ → Element → List RuleCheck
 difference_checks mode A B elements item e element = rule_at 18 (item + e) (DiffersFromEarlier mode A B elements e) ∷ []
 
 -- The items, from this number on: the limit, then each element. What each names is asked first, then the number of elements, which is the
 -- item of the limit, and then that they differ.
-abbrev pub listing_checks : Mode → ℕ → Automaton → Automaton → ListBody → List Check
-listing_checks mode item A B list =
+abbrev pub listing_checks : Mode → ListBody → ℕ → Automaton → Automaton → List RuleCheck
+listing_checks mode list item A B =
     checks_of_each (element_checks A (as_elements list.elements) (item + 1)) 0 (as_elements list.elements)
     ++ (count_checks list item
     ++ checks_of_each (difference_checks mode A B (as_elements list.elements) (item + 1)) 0 (as_elements list.elements))

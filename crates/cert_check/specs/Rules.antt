@@ -18,10 +18,10 @@ use Rattle.log_check.specs.declared.faults.Refusal.{Refusal}
 use Rattle.log_check.specs.declared.faults.CheckFault.{CheckFault}
 use Rattle.log_check.specs.declared.faults.CheckFault.TheVariants.{Refused, Memory}
 use Rattle.log_check.specs.declared.ends.Ends.{Ends}
-use Rattle.log_check.specs.Checks.{Check, AllHold, FirstBroken, rule_at}
+use Rattle.log_check.specs.Checks.{RuleCheck, AllHold, FirstBroken, rule_at}
 use Rattle.log_check.specs.Ends.{AreEnds, LogsBreak, item_after}
 use Rattle.cert_check.specs.Inclusion.{inclusion_checks}
-use Rattle.cert_check.specs.Listing.{AreListedIn, listing_checks}
+use Rattle.cert_check.specs.Listing.{AreListedRuns, listing_checks}
 
 -- Each letter of the word is a label.
 abbrev pub AreLabels : ℕ → List ℕ → Type 0
@@ -33,7 +33,7 @@ HasSizes pair cert =
     (cert.first_states ≡ pair.first.states) × (cert.second_states ≡ pair.second.states) × (cert.labels ≡ length pair.labels)
 
 -- A lasso that is said to separate: its letters are labels, the first automaton accepts it and the second does not.
-abbrev pub lasso_checks : Joined → Lasso → List Check
+abbrev pub lasso_checks : Joined → Lasso → List RuleCheck
 lasso_checks pair lasso =
     rule_at 1 1 (AreLabels (length pair.labels) lasso.prefix)
     ∷ rule_at 1 2 (AreLabels (length pair.labels) lasso.turn)
@@ -42,7 +42,7 @@ lasso_checks pair lasso =
     ∷ []
 
 -- A word that is said to separate, in the same way.
-abbrev pub word_checks : Joined → List ℕ → List Check
+abbrev pub word_checks : Joined → List ℕ → List RuleCheck
 word_checks pair word =
     rule_at 1 1 (AreLabels (length pair.labels) word)
     ∷ rule_at 16 1 (AcceptsWord pair.first word)
@@ -51,13 +51,13 @@ word_checks pair word =
 
 -- The steps of both logs keep their rules, and these checks, from the item after the steps on, hold of the two automata that the logs
 -- lead to.
-pub record HoldsAfterLogs (mode : Mode) (pair : Joined) (firsts : List FirstStep) (seconds : List SecondStep) (checks : ℕ → Automaton → Automaton → List Check) : Type 0 where
+pub record HoldsAfterLogs (mode : Mode) (pair : Joined) (firsts : List FirstStep) (seconds : List SecondStep) (checks : ℕ → Automaton → Automaton → List RuleCheck) : Type 0 where
   pub ends : Ends
   pub logs : AreEnds mode pair.first pair.second firsts seconds ends
   pub hold : AllHold (checks (item_after firsts seconds) ends.first ends.second)
 
 -- The refusal is the first rule that a step of the logs breaks, or the first of these checks that does not hold where none does.
-abbrev pub BreaksAfterLogs : Mode → Joined → List FirstStep → List SecondStep → (ℕ → Automaton → Automaton → List Check) → Refusal → Type 0
+abbrev pub BreaksAfterLogs : Mode → Joined → List FirstStep → List SecondStep → (ℕ → Automaton → Automaton → List RuleCheck) → Refusal → Type 0
 BreaksAfterLogs mode pair firsts seconds checks refusal =
     LogsBreak mode pair.first pair.second firsts seconds refusal
     ⊎ ((ends : Ends)
@@ -65,26 +65,18 @@ BreaksAfterLogs mode pair firsts seconds checks refusal =
     × FirstBroken (checks (item_after firsts seconds) ends.first ends.second) refusal)
 
 -- A test of logs and of what comes after them: all is kept, or the refusal is the first rule that is broken. Memory may be refused.
-abbrev pub TellsAfterLogs : Mode → Joined → List FirstStep → List SecondStep → (ℕ → Automaton → Automaton → List Check) → Result (Unit {0}) CheckFault → Type 0
+abbrev pub TellsAfterLogs : Mode → Joined → List FirstStep → List SecondStep → (ℕ → Automaton → Automaton → List RuleCheck) → Result (Unit {0}) CheckFault → Type 0
 TellsAfterLogs mode pair firsts seconds checks (Ok x) = HoldsAfterLogs mode pair firsts seconds checks
 TellsAfterLogs mode pair firsts seconds checks (Err (Refused refusal)) = BreaksAfterLogs mode pair firsts seconds checks refusal
 TellsAfterLogs mode pair firsts seconds checks (Err Memory) = Unit {0}
 
--- The checks of a yes after its logs: those of its evidence.
-abbrev pub yes_checks : Mode → YesBody → ℕ → Automaton → Automaton → List Check
-yes_checks mode evidence item A B = inclusion_checks mode item A B evidence
-
--- The checks of a list after its logs.
-abbrev pub list_checks : Mode → ListBody → ℕ → Automaton → Automaton → List Check
-list_checks mode list item A B = listing_checks mode item A B list
-
 -- A yes keeps its rules: the steps of both logs keep theirs, and then the evidence keeps those on the two automata that the logs lead to.
 abbrev pub YesHolds : Mode → Joined → YesBody → Type 0
-YesHolds mode pair evidence = HoldsAfterLogs mode pair evidence.first evidence.second (yes_checks mode evidence)
+YesHolds mode pair evidence = HoldsAfterLogs mode pair evidence.first evidence.second (inclusion_checks mode evidence)
 
 -- A list keeps its rules: the steps of both logs keep theirs, and then its elements keep those on the two automata that the logs lead to.
 abbrev pub ListHolds : Mode → Joined → ListBody → Type 0
-ListHolds mode pair list = HoldsAfterLogs mode pair list.first list.second (list_checks mode list)
+ListHolds mode pair list = HoldsAfterLogs mode pair list.first list.second (listing_checks mode list)
 
 -- The body keeps its rules.
 abbrev pub BodyHolds : Mode → Joined → Body → Type 0
@@ -95,10 +87,10 @@ BodyHolds mode pair (Listing list) = ListHolds mode pair list
 
 -- The refusal is the first rule that the body breaks.
 abbrev pub BodyBreaks : Mode → Joined → Body → Refusal → Type 0
-BodyBreaks mode pair (Yes evidence) refusal = BreaksAfterLogs mode pair evidence.first evidence.second (yes_checks mode evidence) refusal
+BodyBreaks mode pair (Yes evidence) refusal = BreaksAfterLogs mode pair evidence.first evidence.second (inclusion_checks mode evidence) refusal
 BodyBreaks mode pair (NoLasso lasso) refusal = FirstBroken (lasso_checks pair lasso) refusal
 BodyBreaks mode pair (NoWord word) refusal = FirstBroken (word_checks pair word) refusal
-BodyBreaks mode pair (Listing list) refusal = BreaksAfterLogs mode pair list.first list.second (list_checks mode list) refusal
+BodyBreaks mode pair (Listing list) refusal = BreaksAfterLogs mode pair list.first list.second (listing_checks mode list) refusal
 
 -- A certificate keeps all its rules for these automata.
 abbrev pub KeepsRules : Joined → Cert → Type 0
@@ -119,14 +111,14 @@ IsVerdictOf (Listing body) verdict = verdict ≡ Listed body.limit
 
 -- What a list shows: both logs lead to two automata, and it has so many pairwise different supergraphs of these, in finite mode pairs of a
 -- state and a set.
-pub record ListsDifferent (mode : Mode) (pair : Joined) (count : ℕ) (list : ListBody) : Type 0 where
+pub record ListsRuns (mode : Mode) (pair : Joined) (count : ℕ) (list : ListBody) : Type 0 where
   pub ends : Ends
   pub logs : AreEnds mode pair.first pair.second list.first list.second ends
-  pub listed : AreListedIn mode ends.first ends.second count list.elements
+  pub listed : AreListedRuns mode ends.first ends.second count list.elements
 
 -- The certificate is a list, and shows limit + 1 different ones.
 abbrev pub ListsPastLimit : Joined → Cert → ℕ → Type 0
-ListsPastLimit pair cert limit = (list : ListBody) × (cert.body ≡ Listing list) × ListsDifferent cert.mode pair (limit + 1) list
+ListsPastLimit pair cert limit = (list : ListBody) × (cert.body ≡ Listing list) × ListsRuns cert.mode pair (limit + 1) list
 
 -- What a verdict on the certificate says: of the lassos of the two automata, in finite mode of their words, and where the certificate is a
 -- list, of the supergraphs of the automata that its logs lead to.

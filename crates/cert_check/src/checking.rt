@@ -2,7 +2,9 @@
 
 ghost use Rattle.std.specs.Prelude.{◌≡◌, ◌↔◌, IfOk, IsTrue, length, true, Err};
 ghost use Rattle.auto_core.specs.Automaton.{IsAutomaton};
-ghost use Rattle.cert_check.specs.Rules.{HasSizes, TellsAfterLogs, yes_checks, list_checks, KeepsRules, BreaksRule, IsVerdictOf, SaysTruly};
+ghost use Rattle.cert_check.specs.Inclusion.{inclusion_checks};
+ghost use Rattle.cert_check.specs.Listing.{listing_checks};
+ghost use Rattle.cert_check.specs.Rules.{HasSizes, TellsAfterLogs, KeepsRules, BreaksRule, IsVerdictOf, SaysTruly};
 ghost use Rattle.cert_text.specs.WellFormed.{WellFormed, are_logs, is_yes, is_listing};
 ghost use Rattle.log_check.specs.Ends.{TellsBothLogs, item_after};
 
@@ -57,7 +59,7 @@ fn next_item(mode: Mode, firsts: &List<FirstStep>, seconds: &List<SecondStep>) -
 /// Tests a yes: its logs, and then its evidence on the automata that they lead to, whose items come after those of the logs' steps.
 fn check_yes(alloc: Global, pair: &Joined, mode: Mode, evidence: &YesBody) -> Result<(), CheckFault>
     requires formed { is_yes mode evidence.now ≡ true }
-    ensures { TellsAfterLogs mode pair.now evidence.now.first evidence.now.second (yes_checks mode evidence.now) result }
+    ensures { TellsAfterLogs mode pair.now evidence.now.first evidence.now.second (inclusion_checks mode evidence.now) result }
 {
     let ends = ends_of(alloc, pair, mode, &evidence.first, &evidence.second)?;
     let item = next_item(mode, &evidence.first, &evidence.second);
@@ -68,7 +70,7 @@ fn check_yes(alloc: Global, pair: &Joined, mode: Mode, evidence: &YesBody) -> Re
 /// steps.
 fn check_list(alloc: Global, pair: &Joined, mode: Mode, list: &ListBody) -> Result<(), CheckFault>
     requires formed { is_listing mode list.now ≡ true }
-    ensures { TellsAfterLogs mode pair.now list.now.first list.now.second (list_checks mode list.now) result }
+    ensures { TellsAfterLogs mode pair.now list.now.first list.now.second (listing_checks mode list.now) result }
 {
     let ends = ends_of(alloc, pair, mode, &list.first, &list.second)?;
     let item = next_item(mode, &list.first, &list.second);

@@ -25,7 +25,7 @@ pub fn check_inclusion(
     requires few_items { item + 2 + length evidence.now.elements + length evidence.now.steps < 2 ^ 32 }
     requires few_steps { length evidence.now.steps < 10 ^ 9 }
     requires begun { All (λ element. is_origin mode element.origin ≡ true) evidence.now.elements }
-    ensures tells { Tells (inclusion_checks mode item first.now second.now evidence.now) result }
+    ensures tells { Tells (inclusion_checks mode evidence.now item first.now second.now) result }
     ensures automaton { IfOk result (λ _. IsAutomaton second.now) }
 {
     let count = evidence.elements.as_slice().len() as u32;

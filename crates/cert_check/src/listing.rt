@@ -38,7 +38,7 @@ pub fn check_listing(
     requires few { length list.now.elements < 10 ^ 9 }
     requires few_items { item + 1 + length list.now.elements < 2 ^ 32 }
     requires begun { list_all (is_origin mode) list.now.elements ≡ true }
-    ensures { Tells (listing_checks mode item first.now second.now list.now) result }
+    ensures { Tells (listing_checks mode list.now item first.now second.now) result }
 {
     let elements = elements_from(alloc, list.elements.as_slice())?;
     let mut supers = elements::checked_elements(alloc, mode, first, second, &elements, item + 1)?;

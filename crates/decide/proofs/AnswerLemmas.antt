@@ -35,7 +35,7 @@ use Rattle.evidence.specs.Evidence.{LiveStandApart}
 use Rattle.log_check.specs.Ends.{item_after}
 use Rattle.cert_check.specs.Rules.{AreLabels, BodyHolds}
 use Rattle.cert_check.specs.Laws.{IsValid}
-use Rattle.cert_check.specs.Listing.{AreListedIn}
+use Rattle.cert_check.specs.Listing.{AreListedRuns}
 use Rattle.cert_check.proofs.ListingLemmas.{listed_in}
 use Rattle.decide.specs.declared.terms.Terms.{Terms}
 use Rattle.decide.specs.Terms.{AreBounded}
@@ -76,7 +76,7 @@ labels_of labels w letters = all_from_places (λ a. a < labels) w (λ k a is. le
 
 -- What a list of the search of a mode has.
 record IsListing (m : Mode) (A B : Automaton) (S : List (ℕ × ℕ)) (limit : ℕ) (origins : List Origin) : Type 0 where
-  listed : AreListedIn m A B (limit + 1) origins
+  listed : AreListedRuns m A B (limit + 1) origins
   size : length origins ≡ limit + 1
   placed : (e : ℕ) → e < length origins → IsPlacedIn m A (arcs_of A origins) e (slice_index_or origins e Start)
   fresh : NoneSubsumedBeforeIn (rules_in m A B S) A origins
@@ -90,9 +90,9 @@ listing Finite A B S limit es valid greatest ends =
     record { listed = listed_in Finite A B (limit + 1) (origins_in es) lists.0; size = lists.0.size; placed = lists.0.placed; fresh = lists.1 }
 
 -- Different elements are no more than the bound.
-listing_few : (m : Mode) (A B : Automaton) (a b count : ℕ) (origins : List Origin) → IsAutomaton A → IsAutomaton B → A.states ≤ a → B.states ≤ b → AreListedIn m A B count origins → count ≤ bound_in m a b
-listing_few Buchi A B a b count origins first second few_first few_second l = listed_supergraphs_are_few A B a b count origins first second few_first few_second l.different
-listing_few Finite A B a b count origins first second few_first few_second l = listed_pairs_are_few A B a b count origins first second few_first few_second l.different
+listing_few : (m : Mode) (A B : Automaton) (a b count : ℕ) (origins : List Origin) → IsAutomaton A → IsAutomaton B → A.states ≤ a → B.states ≤ b → AreListedRuns m A B count origins → count ≤ bound_in m a b
+listing_few Buchi A B a b count origins first second few_first few_second l = listed_supergraphs_are_few A B a b count origins first second few_first few_second l.listed
+listing_few Finite A B a b count origins first second few_first few_second l = listed_pairs_are_few A B a b count origins first second few_first few_second l.listed
 
 -- What separates the reduced automata separates the read ones.
 lasso_separates : (A B C D : Automaton) → Same A C Buchi → Same B D Buchi → (u v : List ℕ) → SeparatesLasso C D u v → SeparatesLasso A B u v

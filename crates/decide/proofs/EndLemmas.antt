@@ -18,7 +18,7 @@ use Rattle.reduce_loop.specs.declared.steps.Step.{Step}
 use Rattle.reduce_loop.specs.declared.steps.Kind.{Kind}
 use Rattle.reduce_loop.specs.declared.steps.Kind.TheVariants.{Trim, Forward, Backward, Delayed, Prune}
 use Rattle.reduce_loop.specs.Kinds.{kinds_of}
-use Rattle.reduce_loop.specs.Logs.{IsLog, LogPasses, IsRelationOf, IsGivenWhere, IsEntry}
+use Rattle.reduce_loop.specs.Logs.{IsLog, LogPasses, IsRelationOf, IsGivenWhere, IsStepEntry}
 use Rattle.reduce_loop.proofs.PassLemmas.{through_valid, log_through, log_of_reduced, reduced_same, reduced_settled, reduced_no_larger}
 use Rattle.decide.specs.declared.terms.Terms.{Terms}
 use Rattle.decide.specs.Answer.{Reductions, AreReductions}
@@ -66,7 +66,7 @@ given_few : (A : Automaton) (Greatest : List (ℕ × ℕ) → Type 0) (wanted : 
 given_few A Greatest wanted None few is = _
 given_few A Greatest wanted (Some rel) few is = relation_few A Greatest rel few is.1
 
-entry_few : (A : Automaton) (m : Mode) (k : ℕ) (kind : Kind) (entry : Step) → A.states ≤ 512 → IsEntry A m k kind entry → IsStepOnFew entry
+entry_few : (A : Automaton) (m : Mode) (k : ℕ) (kind : Kind) (entry : Step) → A.states ≤ 512 → IsStepEntry A m k kind entry → IsStepOnFew entry
 entry_few A m k Trim entry few (kept, e, is) = subst IsStepOnFew (sym e) tt
 entry_few A m k Forward entry few (rel, classes, e, is) = subst IsStepOnFew (sym e) (relation_few A (IsGreatestForward A k) rel few is.relation)
 entry_few A m k Backward entry few (rel, classes, e, is) = subst IsStepOnFew (sym e) (relation_few A (IsGreatestBackward A k) rel few is.relation)

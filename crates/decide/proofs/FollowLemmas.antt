@@ -23,7 +23,7 @@ use Rattle.reduce_loop.specs.declared.steps.Kind.{Kind}
 use Rattle.reduce_loop.specs.declared.steps.Kind.TheVariants.{Trim, Forward, Backward, Delayed, Prune}
 use Rattle.reduce_loop.specs.declared.steps.Step.{Step}
 use Rattle.reduce_loop.specs.Kinds.{kinds_of, AreDelayedPairs, IsMerged, After}
-use Rattle.reduce_loop.specs.Logs.{IsUsefulList, IsMergeOf, IsDelayedMergeOf, IsBackOf, IsAheadOf, IsCutOf, IsEntry, LogThrough, LogPasses, pairs_given as relation_pairs}
+use Rattle.reduce_loop.specs.Logs.{IsUsefulList, IsMergeOf, IsDelayedMergeOf, IsBackOf, IsAheadOf, IsCutOf, IsStepEntry, LogThrough, LogPasses, pairs_given as relation_pairs}
 use Rattle.reduce_loop.proofs.DelayedLemmas.{same_pairs}
 use Rattle.reduce_loop.proofs.MergeLemmas.{same_classes, same_closure}
 use Rattle.reduce_loop.proofs.StepLemmas.{after_valid}
@@ -62,7 +62,7 @@ module _ (S T : Type 0) (W : S → T → Type 0) where
 
 module _
     (T : Type 0) (rules : LogRules T) (W : Step → T → Type 0) (mode : Mode) (k : ℕ)
-    (keeps : (A B : Automaton) (item : ℕ) (kind : Kind) (entry : Step) (t : T) → IsAutomaton A → Contains (kinds_of mode) kind → After A mode k kind B → IsEntry A mode k kind entry → W entry t → StepFollows T rules A item t B)
+    (keeps : (A B : Automaton) (item : ℕ) (kind : Kind) (entry : Step) (t : T) → IsAutomaton A → Contains (kinds_of mode) kind → After A mode k kind B → IsStepEntry A mode k kind entry → W entry t → StepFollows T rules A item t B)
   where
     -- What is logged of some kinds of steps leads on, if what is logged after them does.
     follows_through :

@@ -15,7 +15,7 @@ use Rattle.reduce_loop.specs.declared.steps.Kind.{Kind}
 use Rattle.reduce_loop.specs.declared.steps.Kind.TheVariants.{Trim, Forward, Backward, Delayed, Prune}
 use Rattle.reduce_loop.specs.declared.steps.Step.{Step}
 use Rattle.reduce_loop.specs.Kinds.{kinds_of, After}
-use Rattle.reduce_loop.specs.Logs.{IsMergeOf, IsDelayedMergeOf, IsEntry, IsLog, pairs_given as relation_pairs}
+use Rattle.reduce_loop.specs.Logs.{IsMergeOf, IsDelayedMergeOf, IsStepEntry, IsLog, pairs_given as relation_pairs}
 use Rattle.reduce_loop.proofs.MakingLemmas.{useful_below}
 use Rattle.cert_text.specs.declared.types.SecondStep.{SecondStep}
 use Rattle.cert_text.specs.declared.types.SecondStep.TheVariants as second
@@ -74,7 +74,7 @@ second_keeps :
     → IsAutomaton A
     → Contains (kinds_of mode) kind
     → After A mode k kind B
-    → IsEntry A mode k kind entry
+    → IsStepEntry A mode k kind entry
     → IsSecondWritten entry t
     → StepFollows SecondStep second_rules A item t B
 second_keeps mode k look A B item Trim entry t valid listed after (kept, e, list) written =

@@ -15,7 +15,7 @@ use Rattle.cert_text.specs.declared.types.Mark.TheVariants.{Live}
 use Rattle.log_check.specs.Checks.{AllHold, checks_of_each}
 use Rattle.log_check.proofs.CheckLemmas.{all_join}
 use Rattle.cert_check.specs.Inclusion.{no_element, element_checks, NamesOrigin}
-use Rattle.cert_check.specs.Listing.{AreListedIn, as_elements, SameIn, count_checks, difference_checks, listing_checks}
+use Rattle.cert_check.specs.Listing.{AreListedRuns, as_elements, SameIn, count_checks, difference_checks, listing_checks}
 use Rattle.cert_check.proofs.ListingLemmas.{origins_of_live, live_count, live_at}
 use Rattle.decide.proofs.PlaceLemmas.{checks_from_places}
 use Rattle.decide.proofs.YesLemmas.{parts_of_placed, PlacedParts, IsPlacedIn}
@@ -24,9 +24,9 @@ use Rattle.decide.proofs.YesLemmas.{parts_of_placed, PlacedParts, IsPlacedIn}
 abbrev pub AllDiffer : Mode → Automaton → Automaton → List Origin → Type 0
 AllDiffer m A B origins = (i j : ℕ) → i < j → j < length origins → SameIn m B (arc_at A (arcs_of A origins) i) (arc_at A (arcs_of A origins) j) → ⊥
 
-pub listed_differ : (m : Mode) (A B : Automaton) (count : ℕ) (origins : List Origin) → AreListedIn m A B count origins → AllDiffer m A B origins
-listed_differ Buchi A B count origins listed = listed.different.differ
-listed_differ Finite A B count origins listed = listed.different.differ
+pub listed_differ : (m : Mode) (A B : Automaton) (count : ℕ) (origins : List Origin) → AreListedRuns m A B count origins → AllDiffer m A B origins
+listed_differ Buchi A B count origins listed = listed.listed.differ
+listed_differ Finite A B count origins listed = listed.listed.differ
 
 module _ (m : Mode) (n : ℕ) (A B : Automaton) (list : ListBody) (few : length list.elements ≤ 100001) (few_transitions : length A.transitions ≤ 65536)
     (placed : (e : ℕ) → e < length list.elements → IsPlacedIn m A (arcs_of A list.elements) e (slice_index_or list.elements e Start)) where
@@ -55,7 +55,7 @@ module _ (m : Mode) (n : ℕ) (A B : Automaton) (list : ListBody) (few : length 
       (λ q. ((subst (λ k. NamesOrigin A k o) (sym (live_count list.elements)) q.names, tt), (q.earlier, (q.goes, tt)))) p in
       subst (λ y. AllHold (element_checks A es (n + 1) e y)) (sym x_is) all)
 
-  pub list_holds : length list.elements ≡ list.limit + 1 → AllDiffer m A B list.elements → AllHold (listing_checks m n A B list)
+  pub list_holds : length list.elements ≡ list.limit + 1 → AllDiffer m A B list.elements → AllHold (listing_checks m list n A B)
   list_holds count differ =
       let new : AllHold (checks_of_each (difference_checks m A B es (n + 1)) 0 es) =
       checks_from_places (difference_checks m A B es (n + 1)) es (λ e x is. (

@@ -6,7 +6,7 @@ use Rattle.std.proofs.lemmas.Bool.{and_from}
 use Rattle.std.proofs.lemmas.Option.{get_or_from_slice_get}
 use Rattle.auto_core.specs.Outcome.{At}
 use Rattle.search_laws.proofs.PlaceLemmas.{at_some}
-use Rattle.log_check.specs.Checks.{Check, AllHold, checks_of_each}
+use Rattle.log_check.specs.Checks.{RuleCheck, AllHold, checks_of_each}
 use Rattle.log_check.proofs.CheckLemmas.{all_join}
 
 pub all_from_places : {X : Type 0} (P : X → Type 0) (xs : List X) → ((k : ℕ) (x : X) → At xs k x → P x) → All P xs
@@ -16,13 +16,13 @@ pub pass_from_places : {X : Type 0} (p : X → Bool) (xs : List X) → ((k : ℕ
 pass_from_places p [] each = refl
 pass_from_places p (x ∷ xs) each = and_from (p x) (list_all p xs) (each 0 x refl) (pass_from_places p xs (λ k y is. each (suc k) y is))
 
-checks_from : {X : Type 0} (f : ℕ → X → List Check) (n : ℕ) (xs : List X) → ((k : ℕ) (x : X) → At xs k x → AllHold (f (n + k) x)) → AllHold (checks_of_each f n xs)
+checks_from : {X : Type 0} (f : ℕ → X → List RuleCheck) (n : ℕ) (xs : List X) → ((k : ℕ) (x : X) → At xs k x → AllHold (f (n + k) x)) → AllHold (checks_of_each f n xs)
 checks_from f n [] each = tt
 checks_from f n (x ∷ xs) each =
     all_join (f n x) (checks_of_each f (suc n) xs) (let e : n + 0 ≡ n = omega arith in subst (λ m. AllHold (f m x)) e (each 0 x refl))
     (checks_from f (suc n) xs (λ k y is. let e : n + suc k ≡ suc n + k = omega arith in subst (λ m. AllHold (f m y)) e (each (suc k) y is)))
 
-pub checks_from_places : {X : Type 0} (f : ℕ → X → List Check) (xs : List X) → ((k : ℕ) (x : X) → At xs k x → AllHold (f k x)) → AllHold (checks_of_each f 0 xs)
+pub checks_from_places : {X : Type 0} (f : ℕ → X → List RuleCheck) (xs : List X) → ((k : ℕ) (x : X) → At xs k x → AllHold (f k x)) → AllHold (checks_of_each f 0 xs)
 checks_from_places f xs each = checks_from f 0 xs (λ k x is. let e : k ≡ 0 + k = omega arith in subst (λ m. AllHold (f m x)) e (each k x is))
 
 -- Filtering what a function gives.

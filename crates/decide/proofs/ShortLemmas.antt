@@ -23,7 +23,7 @@ use Rattle.reduce_loop.specs.declared.steps.Kind.{Kind}
 use Rattle.reduce_loop.specs.declared.steps.Kind.TheVariants.{Trim, Forward, Backward, Delayed, Prune}
 use Rattle.reduce_loop.specs.declared.steps.Step.{Step}
 use Rattle.reduce_loop.specs.Kinds.{kinds_of, After}
-use Rattle.reduce_loop.specs.Logs.{IsUsefulList, IsCutOf, IsEntry, IsLogged, LogThrough, LogPasses, IsLog, pairs_given as relation_pairs}
+use Rattle.reduce_loop.specs.Logs.{IsUsefulList, IsCutOf, IsStepEntry, IsLogged, LogThrough, LogPasses, IsLog, pairs_given as relation_pairs}
 use Rattle.reduce_loop.specs.Size.{size_of, IsNoLarger}
 use Rattle.reduce_loop.proofs.DelayedLemmas.{none_in_finite}
 use Rattle.reduce_loop.proofs.MakingLemmas.{useful_below}
@@ -134,7 +134,7 @@ pub record IsEntryOf (A : Automaton) (mode : Mode) (k : ℕ) (entry : Step) : Ty
   pub listed : Contains (kinds_of mode) kind
   pub after : After at mode k kind next
   pub changed : next ≡ at → ⊥
-  pub is : IsEntry at mode k kind entry
+  pub is : IsStepEntry at mode k kind entry
 
 no_larger_itself : (A : Automaton) → IsNoLarger A A
 no_larger_itself A = record { labels = refl; states = omega arith; transitions = omega arith }
@@ -173,7 +173,7 @@ module _ (mode : Mode) (k : ℕ) (entry : Step) where
       listed = listed;
       after = after;
       changed = changed;
-      is = subst (IsEntry A mode k kind) e is;
+      is = subst (IsStepEntry A mode k kind) e is;
     }
     | inr none ↦ absurd (none_in_nil entry none)
   ]
@@ -315,7 +315,7 @@ first_step_formed :
     → Contains (kinds_of mode) kind
     → After A mode k kind B
     → (B ≡ A → ⊥)
-    → IsEntry A mode k kind entry
+    → IsStepEntry A mode k kind entry
     → IsFirstWritten entry t
     → is_first_step t ≡ true
 first_step_formed A B mode k Trim entry t valid small low listed after changed (kept, e, list) written =
@@ -365,7 +365,7 @@ second_step_formed :
     → Contains (kinds_of mode) kind
     → After A mode k kind B
     → (B ≡ A → ⊥)
-    → IsEntry A mode k kind entry
+    → IsStepEntry A mode k kind entry
     → IsSecondWritten entry t
     → is_second_step mode t ≡ true
 second_step_formed A B mode k Trim entry t valid small low listed after changed (kept, e, list) written =

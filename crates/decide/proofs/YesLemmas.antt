@@ -355,7 +355,7 @@ module _ (m : Mode) (A B : Automaton) (S : List (ℕ × ℕ)) (limit : ℕ) (es 
     pairs_hold : (n : ℕ) → AllHold (pairs_part m n A B y)
     pairs_hold n = checks_from_places (pair_checks m A B y (n + 1)) y.elements (λ e k is. (passes_by m A B S y closed e, tt))
 
-    pub rules_hold : (n : ℕ) → AllHold (inclusion_checks m n A B y)
+    pub rules_hold : (n : ℕ) → AllHold (inclusion_checks m y n A B)
     rules_hold n =
         all_join (order_checks B y n) (elements_part m n A B y ++ (under_part m n A B y ++ (cover_part m n A B y ++ (steps_part m n A B y ++ pairs_part m n A B y)))) (order_holds n)
         (all_join (elements_part m n A B y) (under_part m n A B y ++ (cover_part m n A B y ++ (steps_part m n A B y ++ pairs_part m n A B y))) (elements_hold n)

@@ -20,7 +20,7 @@ use Rattle.cert_check.specs.Laws.{IsValid}
 use Rattle.evidence.specs.Evidence.{LiveStandApart}
 use Rattle.decide.specs.declared.terms.Terms.{Terms}
 use Rattle.decide.specs.Terms.{AreBounded}
-use Rattle.cert_check.specs.Listing.{AreListedIn}
+use Rattle.cert_check.specs.Listing.{AreListedRuns}
 use Rattle.decide.specs.Searches.{rules_in, bound_in, NoneSubsumedBeforeIn}
 use Rattle.decide.specs.Answer.{HasFewParts, IsOrder, Decides, IsAnswer, Reductions, AreReductions}
 
@@ -54,7 +54,7 @@ pub record StandApart (pair : Joined) (terms : Terms) (evidence : YesBody) : Typ
 pub record ListsNew (pair : Joined) (terms : Terms) (list : ListBody) : Type 0 where
   pub ends : Ends
   pub settled : AreSettledEnds pair terms list.first list.second ends
-  pub listed : AreListedIn terms.mode ends.first ends.second (terms.limit + 1) list.elements
+  pub listed : AreListedRuns terms.mode ends.first ends.second (terms.limit + 1) list.elements
   pub order : List (ℕ × ℕ)
   pub ordered : IsOrder ends.second order
   pub fresh : NoneSubsumedBeforeIn (rules_in terms.mode ends.first ends.second order) ends.first list.elements

@@ -11,7 +11,7 @@ use Rattle.cert_text.specs.declared.types.SecondStep.TheVariants as second
 use Rattle.cert_text.specs.WellFormed.{gone_of}
 use Rattle.log_check.specs.declared.faults.Refusal.{Refusal}
 use Rattle.log_check.specs.declared.ends.Ends.{Ends}
-use Rattle.log_check.specs.Checks.{Check, AllHold, FirstBroken}
+use Rattle.log_check.specs.Checks.{RuleCheck, AllHold, FirstBroken}
 use Rattle.log_check.specs.Follows.{LogRules, Follows, Breaks}
 use Rattle.log_check.specs.FirstLog.{FirstStepLeads, first_rules}
 use Rattle.log_check.specs.SecondLog.{SecondStepLeads, second_rules}
@@ -19,14 +19,14 @@ use Rattle.log_check.specs.Laws.{EndsAreOne, BreakIsOne, NoneBreaksWithEnds}
 
 -- ---- checks
 
-pub broken_one : (checks : List Check) (refusal other : Refusal) → FirstBroken checks refusal → FirstBroken checks other → refusal ≡ other
+pub broken_one : (checks : List RuleCheck) (refusal other : Refusal) → FirstBroken checks refusal → FirstBroken checks other → refusal ≡ other
 broken_one [] refusal other h k = absurd h
 broken_one (c ∷ cs) refusal other (inl h) (inl k) = h.1 ∙ sym k.1
 broken_one (c ∷ cs) refusal other (inl h) (inr k) = absurd (h.0 k.0)
 broken_one (c ∷ cs) refusal other (inr h) (inl k) = absurd (k.0 h.0)
 broken_one (c ∷ cs) refusal other (inr h) (inr k) = broken_one cs refusal other h.1 k.1
 
-pub broken_or_all : (checks : List Check) (refusal : Refusal) → FirstBroken checks refusal → AllHold checks → ⊥
+pub broken_or_all : (checks : List RuleCheck) (refusal : Refusal) → FirstBroken checks refusal → AllHold checks → ⊥
 broken_or_all [] refusal h k = h
 broken_or_all (c ∷ cs) refusal (inl h) k = h.0 k.0
 broken_or_all (c ∷ cs) refusal (inr h) k = broken_or_all cs refusal h.1 k.1

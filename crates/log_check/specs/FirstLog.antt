@@ -12,7 +12,7 @@ use Rattle.cert_text.specs.declared.types.GoneBy.{GoneBy}
 use Rattle.cert_text.specs.declared.types.RelBlock.{RelBlock}
 use Rattle.cert_text.specs.WellFormed.{gone_of}
 use Rattle.log_check.specs.declared.faults.Refusal.{Refusal}
-use Rattle.log_check.specs.Checks.{Check, rule_at}
+use Rattle.log_check.specs.Checks.{RuleCheck, rule_at}
 use Rattle.log_check.specs.Blocks.{pairs_of, IsBlockBelow}
 use Rattle.log_check.specs.Parts.{AreStates, IsLook, AreClassesFor}
 use Rattle.log_check.specs.Follows.{LogRules, Follows, Breaks}
@@ -74,7 +74,7 @@ AreStable A pair look blocks = IsStableBack A pair look (back_of pair blocks) ×
 
 -- What is asked of a step: a trim names states and leaves out no useful one; a merge has its classes in shape; a cut names what is there, its
 -- relations are stable, and what goes has a better one in each case.
-abbrev pub first_checks : Mode → Automaton → ℕ → FirstStep → List Check
+abbrev pub first_checks : Mode → Automaton → ℕ → FirstStep → List RuleCheck
 first_checks mode A item (Trim kept) =
     rule_at 1 item (AreStates A kept)
     ∷ rule_at 2 item ((q : ℕ) → IsUseful A mode q → Contains kept q)

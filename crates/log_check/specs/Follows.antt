@@ -4,12 +4,12 @@ use Rattle.auto_core.specs.Automaton.{Automaton}
 use Rattle.log_check.specs.declared.faults.Refusal.{Refusal}
 use Rattle.log_check.specs.declared.faults.CheckFault.{CheckFault}
 use Rattle.log_check.specs.declared.faults.CheckFault.TheVariants.{Refused, Memory}
-use Rattle.log_check.specs.Checks.{Check, AllHold, FirstBroken}
+use Rattle.log_check.specs.Checks.{RuleCheck, AllHold, FirstBroken}
 
 -- A kind of log: what the rules ask of a step with this item number, on the automaton that it is taken on; and whether the step, carried
 -- out on the automaton, leads to another one.
 pub record LogRules (S : Type 0) : Type 1 where
-  pub checks : Automaton → ℕ → S → List Check
+  pub checks : Automaton → ℕ → S → List RuleCheck
   pub Leads : Automaton → S → Automaton → Type 0
 
 -- The step keeps its rules on A, and leads to B.

@@ -13,7 +13,7 @@ use Rattle.cert_text.specs.declared.types.Grounds.{Grounds}
 use Rattle.cert_text.specs.declared.types.Grounds.TheVariants.{Forward, Backward, Delayed}
 use Rattle.cert_text.specs.declared.types.RelBlock.{RelBlock}
 use Rattle.log_check.specs.declared.faults.Refusal.{Refusal}
-use Rattle.log_check.specs.Checks.{Check, rule_at}
+use Rattle.log_check.specs.Checks.{RuleCheck, rule_at}
 use Rattle.log_check.specs.Blocks.{pairs_of, IsBlockBelow, ranked_pairs_of, IsRankBlockBelow}
 use Rattle.log_check.specs.Parts.{AreStates, AreTransitions, IsLook, AreClassesFor}
 use Rattle.log_check.specs.Follows.{LogRules, Follows, Breaks}
@@ -24,7 +24,7 @@ IsBlockIn A look block = IsLook look × IsBlockBelow A.states block
 
 -- What is asked of a merge: what its grounds name is there, its classes are in shape, its relation is stable, or right with its ranks, and
 -- its closure relates any two members of a class.
-abbrev pub merge_checks : Automaton → ℕ → Grounds → List ℕ → List Check
+abbrev pub merge_checks : Automaton → ℕ → Grounds → List ℕ → List RuleCheck
 merge_checks A item (Forward look block) classes =
     rule_at 1 item (IsBlockIn A look block)
     ∷ rule_at 3 item (AreClassesFor A classes)
@@ -45,7 +45,7 @@ merge_checks A item (Delayed ranks) classes =
     ∷ []
 
 -- What is asked of a step: a trim and a cut name what is there, and need nothing more.
-abbrev pub second_checks : Automaton → ℕ → SecondStep → List Check
+abbrev pub second_checks : Automaton → ℕ → SecondStep → List RuleCheck
 second_checks A item (Trim kept) = rule_at 1 item (AreStates A kept) ∷ []
 second_checks A item (Merge by classes) = merge_checks A item by classes
 second_checks A item (Cut gone) = rule_at 1 item (AreTransitions A gone) ∷ []

@@ -22,7 +22,7 @@ use Rattle.reduce_loop.specs.declared.steps.MergeBy.TheVariants as by
 use Rattle.reduce_loop.specs.declared.steps.Step.{Step}
 use Rattle.reduce_loop.specs.declared.steps.Step.TheVariants as step
 use Rattle.reduce_loop.specs.Kinds.{kinds_of}
-use Rattle.reduce_loop.specs.Logs.{IsRelationOf, IsMergeOf, IsDelayedMergeOf, IsGivenWhere, pairs_given, IsCutOf, IsEntry, IsLogged, LogThrough, LogPasses}
+use Rattle.reduce_loop.specs.Logs.{IsRelationOf, IsMergeOf, IsDelayedMergeOf, IsGivenWhere, pairs_given, IsCutOf, IsStepEntry, IsLogged, LogThrough, LogPasses}
 use Rattle.reduce_loop.specs.Laws.{LogIsOne}
 use Rattle.reduce_loop.proofs.RelationLemmas.{same_relation}
 use Rattle.reduce_loop.proofs.MergeLemmas.{same_classes, same_closure}
@@ -74,7 +74,7 @@ cut_entry_one A n k gone these back back' ahead ahead' is also =
     let same_gone : gone ≡ these = least_one A n (Close (Holds (pairs_given back'))) (Close (Holds (pairs_given ahead'))) gone these moved also.least in
     λ i. step.Cut n k (same_gone i) (same_back i) (same_ahead i)
 
-entry_one : (A : Automaton) (mode : Mode) (k : ℕ) (kind : Kind) (entry other : Step) → IsEntry A mode k kind entry → IsEntry A mode k kind other → entry ≡ other
+entry_one : (A : Automaton) (mode : Mode) (k : ℕ) (kind : Kind) (entry other : Step) → IsStepEntry A mode k kind entry → IsStepEntry A mode k kind other → entry ≡ other
 entry_one A mode k Trim entry other (kept, e, is) (these, f, also) =
     e
     ∙ ap step.Trim (same_numbers kept these is.ascending also.ascending (λ q. ((λ h. (also.useful q).1 ((is.useful q).0 h)), (λ h. (is.useful q).1 ((also.useful q).0 h)))))

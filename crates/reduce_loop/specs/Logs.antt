@@ -69,22 +69,22 @@ pub record IsCutOf (A : Automaton) (n k : ℕ) (gone : List Gone) (back ahead : 
 
 -- The entry tells of a step of this kind on A at lookahead k: the useful states, ascending; which relation, the greatest as it is,
 -- without being closed, joined the states by its closure, with the class of each; which transitions are gone and by which relations.
-abbrev pub IsEntry : Automaton → Mode → ℕ → Kind → Step → Type 0
-IsEntry A mode k Trim entry = (kept : List ℕ) × (entry ≡ step.Trim kept) × IsUsefulList A mode kept
-IsEntry A mode k Forward entry =
+abbrev pub IsStepEntry : Automaton → Mode → ℕ → Kind → Step → Type 0
+IsStepEntry A mode k Trim entry = (kept : List ℕ) × (entry ≡ step.Trim kept) × IsUsefulList A mode kept
+IsStepEntry A mode k Forward entry =
     (rel : Relation) × (classes : List ℕ) × (entry ≡ step.Merge (by.Forward k rel) classes) × IsMergeOf A (IsGreatestForward A k) rel classes
-IsEntry A mode k Backward entry =
+IsStepEntry A mode k Backward entry =
     (rel : Relation) × (classes : List ℕ) × (entry ≡ step.Merge (by.Backward k rel) classes) × IsMergeOf A (IsGreatestBackward A k) rel classes
-IsEntry A mode k Delayed entry =
+IsStepEntry A mode k Delayed entry =
     (ranks : Ranking) × (classes : List ℕ) × (entry ≡ step.Merge (by.Delayed ranks) classes) × IsDelayedMergeOf A ranks classes
-IsEntry A mode k (Prune n) entry =
+IsStepEntry A mode k (Prune n) entry =
     (gone : List Gone) × (back ahead : Option Relation) × (entry ≡ step.Cut n k gone back ahead) × IsCutOf A n k gone back ahead
 
 -- What is logged of a step from A to B: nothing where it changed nothing, and else its entry alone.
 abbrev pub IsLogged : Automaton → Mode → ℕ → Kind → Automaton → List Step → Type 0
 IsLogged A mode k kind B log =
     ((B ≡ A) × (log ≡ []))
-    ⊎ ((B ≡ A → ⊥) × ((entry : Step) × IsEntry A mode k kind entry × (log ≡ entry ∷ [])))
+    ⊎ ((B ≡ A → ⊥) × ((entry : Step) × IsStepEntry A mode k kind entry × (log ≡ entry ∷ [])))
 
 -- Steps of these kinds lead from A to C, and this is logged of them.
 abbrev pub LogThrough : Automaton → Mode → ℕ → List Kind → Automaton → List Step → Type 0

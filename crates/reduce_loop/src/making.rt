@@ -4,7 +4,7 @@ ghost use Rattle.std.specs.Prelude.{◌≡◌, ◌<◌, ◌≤◌, ◌↔◌, �
 ghost use Rattle.std.specs.List.Sorted.{IsStrictlyIncreasing};
 ghost use Rattle.reduce_loop.specs.Kinds.{After, kinds_of};
 ghost use Rattle.reduce_loop.specs.Known.{IsKnown};
-ghost use Rattle.reduce_loop.specs.Logs.{IsEntry};
+ghost use Rattle.reduce_loop.specs.Logs.{IsStepEntry};
 
 use crate::joining::join_states;
 use crate::knowing::{Known, backward, forward};
@@ -33,7 +33,7 @@ fn members(alloc: Global, set: &StateSet, states: u32) -> Result<List<u32>, Memo
 /// The useful states and the initial one.
 fn trim(alloc: Global, automaton: &Auto, mode: Mode, look: u32) -> Result<Made, Memory>
     ensures after { IfOk result (λ made. After automaton.now mode look Kind.Trim made.automaton) }
-    ensures entry { IfOk result (λ made. IsEntry automaton.now mode look Kind.Trim made.entry) }
+    ensures entry { IfOk result (λ made. IsStepEntry automaton.now mode look Kind.Trim made.entry) }
 {
     let states = automaton.states();
     let set = useful(alloc, automaton, mode)?;
@@ -57,7 +57,7 @@ fn merge_forward(
     requires look_upto { look ≤ 6 }
     requires known { IsKnown automaton.now look known.old }
     ensures after { IfOk result (λ made. After automaton.now mode look Kind.Forward made.automaton) }
-    ensures entry { IfOk result (λ made. IsEntry automaton.now mode look Kind.Forward made.entry) }
+    ensures entry { IfOk result (λ made. IsStepEntry automaton.now mode look Kind.Forward made.entry) }
     ensures known { IfOk result (λ _. IsKnown automaton.now look known.new) }
 {
     let rel = forward(alloc, automaton, &mut known.forward, look)?;
@@ -83,7 +83,7 @@ fn merge_backward(
     requires look_upto { look ≤ 6 }
     requires known { IsKnown automaton.now look known.old }
     ensures after { IfOk result (λ made. After automaton.now mode look Kind.Backward made.automaton) }
-    ensures entry { IfOk result (λ made. IsEntry automaton.now mode look Kind.Backward made.entry) }
+    ensures entry { IfOk result (λ made. IsStepEntry automaton.now mode look Kind.Backward made.entry) }
     ensures known { IfOk result (λ _. IsKnown automaton.now look known.new) }
 {
     let rel = backward(alloc, automaton, &mut known.backward, look)?;
@@ -101,7 +101,7 @@ fn merge_backward(
 fn merge_delayed(alloc: Global, automaton: &Auto, mode: Mode, look: u32) -> Result<Made, Memory>
     requires { automaton.now.states ≤ 65535 }
     ensures after { IfOk result (λ made. After automaton.now mode look Kind.Delayed made.automaton) }
-    ensures entry { IfOk result (λ made. IsEntry automaton.now mode look Kind.Delayed made.entry) }
+    ensures entry { IfOk result (λ made. IsStepEntry automaton.now mode look Kind.Delayed made.entry) }
 {
     let ranks = delayed_sim::greatest(alloc, automaton)?;
     let rel = ranks.relation(alloc)?;
@@ -130,7 +130,7 @@ pub(crate) fn make(
     requires look_upto { look ≤ 6 }
     requires known { IsKnown automaton.now look known.old }
     ensures after { IfOk result (λ made. After automaton.now mode look kind made.automaton) }
-    ensures entry { IfOk result (λ made. IsEntry automaton.now mode look kind made.entry) }
+    ensures entry { IfOk result (λ made. IsStepEntry automaton.now mode look kind made.entry) }
     ensures known { IfOk result (λ _. IsKnown automaton.now look known.new) }
 {
     match kind {

@@ -7,7 +7,7 @@ ghost use Rattle.bit_rel.specs.Relation.{IsClosed};
 ghost use Rattle.prune_pairs.specs.Least.{AreLeastBetter, numbers_of};
 ghost use Rattle.reduce_loop.specs.Kinds.{After};
 ghost use Rattle.reduce_loop.specs.Known.{IsKnown};
-ghost use Rattle.reduce_loop.specs.Logs.{IsBackOf, IsAheadOf, IsEntry, pairs_given};
+ghost use Rattle.reduce_loop.specs.Logs.{IsBackOf, IsAheadOf, IsStepEntry, pairs_given};
 ghost use Rattle.std.specs.List.Sorted.{IsStrictlyIncreasing};
 
 use crate::joining::closure;
@@ -84,7 +84,7 @@ pub(crate) fn prune(
     requires look_upto { look ≤ 6 }
     requires known { IsKnown automaton.now look known.old }
     ensures after { IfOk result (λ made. After automaton.now mode look (Kind.Prune pair) made.automaton) }
-    ensures entry { IfOk result (λ made. IsEntry automaton.now mode look (Kind.Prune pair) made.entry) }
+    ensures entry { IfOk result (λ made. IsStepEntry automaton.now mode look (Kind.Prune pair) made.entry) }
     ensures known { IfOk result (λ _. IsKnown automaton.now look known.new) }
 {
     let back = back_of(alloc, automaton, known, pair, look)?;

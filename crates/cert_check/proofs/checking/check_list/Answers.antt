@@ -1,5 +1,4 @@
 use Rattle.std.proofs.Common.{◌≡◌, ◌+◌, subst, arith}
-use Rattle.cert_check.specs.Rules.{list_checks}
 use Rattle.log_check.specs.Checks.{Tells}
 use Rattle.cert_check.specs.Listing.{listing_checks}
 use Rattle.cert_check.proofs.ClosedLemmas.{list_parts, log_parts}
@@ -29,5 +28,5 @@ pub returns : goal.returns
 returns c =
     let L = c.args.list.now in
     let ends = c.in_ok-ends.ends in
-    after_logs c.args.mode c.args.pair.now L.first L.second (list_checks c.args.mode L) ends c.check_listing.result c.in_ok-ends.ensures
-    (subst (λ n. Tells (listing_checks c.args.mode n ends.first ends.second L) c.check_listing.result) c.next_item-item.ensures c.check_listing.ensures)
+    after_logs c.args.mode c.args.pair.now L.first L.second (listing_checks c.args.mode L) ends c.check_listing.result c.in_ok-ends.ensures
+    (subst (λ n. Tells (listing_checks c.args.mode L n ends.first ends.second) c.check_listing.result) c.next_item-item.ensures c.check_listing.ensures)

@@ -1,5 +1,4 @@
 use Rattle.std.proofs.Common.{◌≡◌, ◌+◌, subst, arith}
-use Rattle.cert_check.specs.Rules.{yes_checks}
 use Rattle.log_check.specs.Checks.{Tells}
 use Rattle.cert_check.specs.Inclusion.{inclusion_checks}
 use Rattle.cert_check.proofs.ClosedLemmas.{yes_parts, log_parts, lines_fit}
@@ -38,5 +37,5 @@ pub returns : goal.returns
 returns c =
     let E = c.args.evidence.now in
     let ends = c.in_ok-ends.ends in
-    after_logs c.args.mode c.args.pair.now E.first E.second (yes_checks c.args.mode E) ends c.check_inclusion.result c.in_ok-ends.ensures
-    (subst (λ n. Tells (inclusion_checks c.args.mode n ends.first ends.second E) c.check_inclusion.result) c.next_item-item.ensures c.check_inclusion.ensures.tells)
+    after_logs c.args.mode c.args.pair.now E.first E.second (inclusion_checks c.args.mode E) ends c.check_inclusion.result c.in_ok-ends.ensures
+    (subst (λ n. Tells (inclusion_checks c.args.mode E n ends.first ends.second) c.check_inclusion.result) c.next_item-item.ensures c.check_inclusion.ensures.tells)
