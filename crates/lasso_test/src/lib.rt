@@ -2,6 +2,8 @@
 //! accepting state.
 #![tactic(auto)]
 
+mod looping;
 mod passing;
 
-pub use passing::{Scratch, passes};
+pub use looping::enters;
+pub use passing::{Scratch, mark_looping, passes};

@@ -1,9 +1,12 @@
 //! The lasso test, in room that is made once.
 
-ghost use Rattle.std.specs.Prelude.{◌≡◌, ◌↔◌, IfOk, IsTrue, vec_len};
+ghost use Rattle.std.specs.Prelude.{◌≡◌, ◌↔◌, ℕ, IfOk, IsTrue, length, vec_len};
+ghost use Rattle.auto_core.specs.Rows.{HasBit};
 ghost use Rattle.auto_core.specs.Graph.{LassoIn};
 ghost use Rattle.graph_rows.specs.Block.{width_of, block_graph, IsFormed};
+ghost use Rattle.lasso_test.specs.Loops.{HasLoop};
 
+use crate::looping::mark_in;
 use auto_core::{Memory, reach, rows};
 use std::alloc::Global;
 use std::marker::Model;
@@ -76,4 +79,23 @@ pub fn passes(n: u32, g: &[u64], h: &[u64], initial: u32, scratch: &mut Scratch)
         &mut scratch.back,
         &mut scratch.done,
     )
+}
+
+/// Marks the states from which arcs of `h` come back to one of their states past an arc of value 2. What the scratch and the row
+/// hold before does not matter.
+pub fn mark_looping(n: u32, h: &[u64], looping: &mut [u64], scratch: &mut Scratch)
+    requires formed { IsFormed n h.now }
+    requires room { scratch.old ≡ n }
+    requires row { length looping.old ≡ width_of n }
+    ensures marked { (q : ℕ) → HasBit looping.new q ↔ HasLoop (block_graph n h.now) q }
+    ensures kept { scratch.new ≡ n }
+{
+    mark_in(
+        n,
+        h,
+        looping,
+        &mut scratch.marks,
+        &mut scratch.back,
+        &mut scratch.done,
+    );
 }

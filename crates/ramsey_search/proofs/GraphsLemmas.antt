@@ -19,9 +19,11 @@ use Rattle.ramsey_search.specs.declared.family.Family.{Family}
 use Rattle.ramsey_search.specs.declared.graphs.Graph.{Graph}
 use Rattle.ramsey_search.specs.declared.graphs.Graphs.{Graphs}
 use Rattle.ramsey_search.specs.declared.graph_pairs.GraphPairs.{GraphPairs}
+use Rattle.ramsey_search.specs.declared.looping.Marked.{Marked}
 use Rattle.ramsey_search.specs.Memo.{AllTold, NothingTold, HasAnswer, HasNoted}
 use Rattle.ramsey_search.specs.Graphs.{block_at, IsThere, HasGrown, IsGraphOf, HasAdded, HasNumber, FitsLetter, FitsStep}
 use Rattle.ramsey_search.specs.GraphPairs.{FitsCovering, FitsLasso, AreGraphPairs}
+use Rattle.ramsey_search.specs.Looping.{AreMarked, IsLoopRow}
 use Rattle.ramsey_search.specs.Views.{seen, view}
 use Rattle.ramsey_search.specs.Kept.{IsFamily}
 
@@ -143,10 +145,19 @@ module _ (old now : List Graph) (grown : HasGrown old now) where
   pub coverings_stay : (n : ℕ) (S : List (ℕ × ℕ)) (told : List (Option Told)) → AllTold (FitsCovering n S old) told → AllTold (FitsCovering n S now) told
   coverings_stay n S told = told_as (FitsCovering n S old) (FitsCovering n S now) told (covering_stays n S)
 
+  marked_stay : (n : ℕ) (all : List Marked) → AreMarked n old all → AreMarked n now all
+  marked_stay n all are k marked is = elim (are k marked is) [
+    | inl none ↦ inl none
+    | inr marks ↦
+        let size = grown.size in
+        let within = marks.within in
+        inr (record { within = omega arith; row = subst (λ l. IsLoopRow n (block_graph n l) marked.row.items) (sym (grown.same marked.graph within)) marks.row })
+  ]
+
   pub pairs_stay : (B : Automaton) (S : List (ℕ × ℕ)) (answers : GraphPairs) → AreGraphPairs B S old answers → AreGraphPairs B S now answers
   pairs_stay B S answers are = record {
     covers = coverings_stay B.states S answers.covers.told.items are.covers;
-    lassos = record { lassos = told_as (FitsLasso B old) (FitsLasso B now) answers.lassos.told.items (lasso_stays B) are.lassos.lassos; room = are.lassos.room };
+    lassos = record { lassos = told_as (FitsLasso B old) (FitsLasso B now) answers.lassos.told.items (lasso_stays B) are.lassos.lassos; looping = marked_stay B.states answers.looping.marked.items are.lassos.looping; room = are.lassos.room };
   }
 
 -- A formed block is that of a graph that is there.

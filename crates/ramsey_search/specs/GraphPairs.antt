@@ -9,6 +9,7 @@ use Rattle.ramsey_search.specs.declared.memo.Answer.TheVariants.{Number, Truth}
 use Rattle.ramsey_search.specs.declared.graphs.Graph.{Graph}
 use Rattle.ramsey_search.specs.declared.graph_pairs.GraphPairs.{GraphPairs}
 use Rattle.ramsey_search.specs.Graphs.{block_at}
+use Rattle.ramsey_search.specs.Looping.{AreMarked}
 use Rattle.ramsey_search.specs.Memo.{AllTold}
 
 -- The answer tells whether the first graph covers the second, or whether they have a lasso.
@@ -22,9 +23,10 @@ FitsLasso B graphs g h (Number k) = Unit {0}
 FitsLasso B graphs g h (Truth is) =
     (g < length graphs) × (h < length graphs) × (IsTrue is ↔ LassoIn (block_graph B.states (block_at graphs g)) (block_graph B.states (block_at graphs h)) B.initial)
 
--- What is remembered of lassos is so, and there is room for the lasso test.
+-- What is remembered of lassos and of loops is so, and there is room for the lasso test.
 pub record AreLassosTold (B : Automaton) (graphs : List Graph) (answers : GraphPairs) : Type 0 where
   pub lassos : AllTold (FitsLasso B graphs) answers.lassos.told.items
+  pub looping : AreMarked B.states graphs answers.looping.marked.items
   pub room : answers.scratch ≡ B.states
 
 -- All that is remembered of pairs is so.

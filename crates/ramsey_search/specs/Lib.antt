@@ -1,4 +1,5 @@
 pub mod Memo
+pub mod Looping
 pub mod Graphs
 pub mod GraphPairs
 pub mod Views

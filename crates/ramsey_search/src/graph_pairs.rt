@@ -12,6 +12,7 @@ ghost use Rattle.ramsey_search.specs.Memo.{AllTold};
 ghost use Rattle.ramsey_search.specs.GraphPairs.{AreLassosTold, AreGraphPairs, FitsCovering};
 
 use crate::graphs::{Graph, block_of};
+use crate::looping::Looping;
 use crate::memo::{Answer, Memo};
 use auto_core::{Auto, Memory};
 use bit_rel::Rel;
@@ -27,6 +28,7 @@ const PAIRS: usize = 16384;
 pub(crate) struct GraphPairs {
     pub(crate) covers: Memo,
     pub(crate) lassos: Memo,
+    pub(crate) looping: Looping,
     pub(crate) scratch: Scratch,
 }
 
@@ -95,12 +97,20 @@ impl GraphPairs {
         Ok(GraphPairs {
             covers: Memo::new(alloc, PAIRS)?,
             lassos: Memo::new(alloc, PAIRS)?,
+            looping: Looping::new(alloc)?,
             scratch: Scratch::new(alloc, states)?,
         })
     }
 
     /// Tells whether the graphs have a lasso from the initial state.
-    pub(crate) fn passes(&mut self, second: &Auto, graphs: &[Graph], g: u32, h: u32) -> bool
+    pub(crate) fn passes(
+        &mut self,
+        alloc: Global,
+        second: &Auto,
+        graphs: &[Graph],
+        g: u32,
+        h: u32,
+    ) -> bool
         requires first { IsFormed second.now.states (block_at graphs.now g) }
         requires second { IsFormed second.now.states (block_at graphs.now h) }
         requires told { AreLassosTold second.now graphs.now self.old }
@@ -109,6 +119,11 @@ impl GraphPairs {
         ensures passes { IsTrue result
             ↔ LassoIn (block_graph second.now.states (block_at graphs.now g)) (block_graph second.now.states (block_at graphs.now h)) second.now.initial }
     {
+        if let Some(holds) = self.looping.told(second, graphs, g, h) {
+            return holds;
+        }
+        self.looping
+            .ask(alloc, second.states(), graphs, h, &mut self.scratch);
         if let Some(Answer::Truth(holds)) = self.lassos.find(g, h) {
             return holds;
         }

@@ -6,6 +6,7 @@ mod closing;
 mod family;
 mod graph_pairs;
 mod graphs;
+mod looping;
 mod meeting;
 mod memo;
 mod pairs;

@@ -17,9 +17,11 @@ use crate::graph_pairs::GraphPairs;
 use crate::graphs::{Graph, Graphs};
 use crate::parts::{Fate, Held};
 use auto_core::Auto;
+use std::alloc::Global;
 
 /// Tells whether the pair fails: it is tested, and its graphs have no lasso.
 fn fails(
+    alloc: Global,
     first: &Auto,
     second: &Auto,
     graphs: &[Graph],
@@ -39,11 +41,12 @@ fn fails(
         && x.arc.to == y.arc.from
         && y.arc.from == y.arc.to
         && y.arc.accepting
-        && !answers.passes(second, graphs, x.graph, y.graph)
+        && !answers.passes(alloc, second, graphs, x.graph, y.graph)
 }
 
 /// The first pair that fails of the element `new` with these elements.
 fn first_among(
+    alloc: Global,
     first: &Auto,
     second: &Auto,
     graphs: &[Graph],
@@ -63,10 +66,10 @@ fn first_among(
     let x = &held[new as usize];
     for number in among {
         let y = &held[*number as usize];
-        if fails(first, second, graphs, x, y, answers) {
+        if fails(alloc, first, second, graphs, x, y, answers) {
             return Fate::Apart(new, *number);
         }
-        if fails(first, second, graphs, y, x, answers) {
+        if fails(alloc, first, second, graphs, y, x, answers) {
             return Fate::Apart(*number, new);
         }
     }
@@ -76,6 +79,7 @@ fn first_among(
 /// The first pair that fails of the element `new` with live elements, if one does. Pairs with elements of other ends than those
 /// looked at are not tested.
 pub(crate) fn first_failing(
+    alloc: Global,
     first: &Auto,
     second: &Auto,
     graphs: &Graphs,
@@ -100,6 +104,7 @@ pub(crate) fn first_failing(
     if arc.from == start {
         let among = family.between(arc.to, arc.to);
         first_among(
+            alloc,
             first,
             second,
             &graphs.graphs,
@@ -111,6 +116,7 @@ pub(crate) fn first_failing(
     } else if arc.from == arc.to {
         let among = family.between(start, arc.from);
         first_among(
+            alloc,
             first,
             second,
             &graphs.graphs,

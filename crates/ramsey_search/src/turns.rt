@@ -50,7 +50,7 @@ fn admit(
     if number == limit {
         return Ok(Fate::Full);
     }
-    Ok(first_failing(first, second, graphs, family, number, answers))
+    Ok(first_failing(alloc, first, second, graphs, family, number, answers))
 }
 
 /// A candidate comes: it is passed over if a live element subsumes it, and else admitted.

@@ -1,5 +1,5 @@
-use Rattle.std.proofs.Common.{◌≡◌, ◌↔◌, ◌*◌, ◌/◌, ◌+◌, ℕ, ◌<◌, ◌≤◌, false, List, IsTrue, sym, subst, arith, rules}
-use Rattle.auto_core.specs.Rows.{HasBit, bit_of, cell_of}
+use Rattle.std.proofs.Common.{◌≡◌, ◌↔◌, ◌*◌, ℕ, ◌<◌, ◌≤◌, false, List, IsTrue, arith, rules}
+use Rattle.auto_core.specs.Rows.{bit_of, cell_of}
 use Rattle.auto_core.specs.Reach.{Arc, HasFlaggedCycle}
 use Rattle.graph_laws.proofs.AppliedLemmas.{lassos_are_cycles}
 use Rattle.graph_rows.specs.Block.{width_of, joined_plane, past_plane}

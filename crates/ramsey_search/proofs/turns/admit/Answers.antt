@@ -100,7 +100,7 @@ returns-then-number-limit-clause-answers c =
     let es : List Entry = entries_held A old in
     record {
       covers = subst (λ n. AllTold (FitsCovering n S graphs) c.enter.new.told.told.items) c.requires.order_size c.enter.ensures.told;
-      lassos = record { lassos = c.requires.answers.lassos.lassos; room = c.requires.answers.lassos.room };
+      lassos = record { lassos = c.requires.answers.lassos.lassos; looping = c.requires.answers.lassos.looping; room = c.requires.answers.lassos.room };
     }
 
 pub first_failing-requires-clause-fits : goal.first_failing-requires-clause-fits
@@ -151,7 +151,7 @@ first_failing-requires-clause-told c =
     let old : View = view graphs c.args.family.now in
     let h : Seen = seen graphs c.args.new in
     let es : List Entry = entries_held A old in
-    record { lassos = c.requires.answers.lassos.lassos; room = c.requires.answers.lassos.room }
+    record { lassos = c.requires.answers.lassos.lassos; looping = c.requires.answers.lassos.looping; room = c.requires.answers.lassos.room }
 
 pub returns-clause-come : goal.returns-clause-come
 returns-clause-come c =

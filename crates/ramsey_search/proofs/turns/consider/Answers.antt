@@ -80,7 +80,7 @@ returns-in-Some-clause-answers c =
     let es : List Entry = entries_held A f in
     record {
       covers = subst (λ n. AllTold (FitsCovering n S graphs) c.least.new.told.told.items) c.requires.order_size c.least.ensures.told;
-      lassos = record { lassos = c.requires.answers.lassos.lassos; room = c.requires.answers.lassos.room };
+      lassos = record { lassos = c.requires.answers.lassos.lassos; looping = c.requires.answers.lassos.looping; room = c.requires.answers.lassos.room };
     }
 
 pub admit-requires-clause-answers : goal.admit-requires-clause-answers
@@ -94,7 +94,7 @@ admit-requires-clause-answers c =
     let es : List Entry = entries_held A f in
     record {
       covers = subst (λ n. AllTold (FitsCovering n S graphs) c.least.new.told.told.items) c.requires.order_size c.least.ensures.told;
-      lassos = record { lassos = c.requires.answers.lassos.lassos; room = c.requires.answers.lassos.room };
+      lassos = record { lassos = c.requires.answers.lassos.lassos; looping = c.requires.answers.lassos.looping; room = c.requires.answers.lassos.room };
     }
 
 pub admit-requires-clause-unmet : goal.admit-requires-clause-unmet
