@@ -1,5 +1,5 @@
 -- The guide of a word: how its rows are written, and what they say of runs.
-use Rattle.std.proofs.Common.{◌≡◌, ◌↔◌, ◌⊎◌, ℕ, zero, suc, ◌+◌, ◌*◌, ◌/◌, ◌%◌, ◌<◌, ◌≤◌, inl, inr, Bool, true, false, ◌||◌, cond, List, [], ◌∷◌, length, get_or, drop, refl, sym, ap, ◌∙◌, subst, arith, length-drop}
+use Rattle.std.proofs.Common.{◌-◌, ◌≡◌, ◌↔◌, ◌⊎◌, ℕ, zero, suc, ◌+◌, ◌*◌, ◌/◌, ◌%◌, ◌<◌, ◌≤◌, inl, inr, Bool, true, false, ◌||◌, cond, List, [], ◌∷◌, length, get_or, drop, refl, sym, ap, ◌∙◌, subst, arith, length-drop}
 use Rattle.std.proofs.lemmas.Bool.{cases_eq, cases_lt, false≢true}
 use Rattle.std.proofs.lemmas.List.{drop_more, drop_all}
 use Rattle.std.proofs.lemmas.Nat.Bits.{bit_at-zero}
@@ -443,6 +443,21 @@ pub guide_shows :
     → HasCell any width 0 p
     → (q : ℕ) × (flag : Bool) × Run A p w q flag × HasBit target q
 guide_shows A valid w target width any flagged g p p_in h = shown A valid w target width any flagged g (length w) 0 p (omega arith) p_in h
+
+-- Each row of a guide has the states from which the rest of the word leads into the target.
+pub guide_rests :
+    (A : Automaton)
+    → IsAutomaton A
+    → (w target : List ℕ) (width : ℕ) (any flagged : List ℕ)
+    → IsGuide A w target width any flagged
+    → (i p : ℕ)
+    → i ≤ length w
+    → p < A.states
+    → HasCell any width i p ↔ ((q : ℕ) × (flag : Bool) × Run A p (drop i w) q flag × HasBit target q)
+guide_rests A valid w target width any flagged g i p i_in p_in = (
+  λ h. shown A valid w target width any flagged g (length w - i) i p (omega arith) p_in h,
+  λ (q, flag, run, lands). (along A valid w target width any flagged g (drop i w) i p q flag refl i_in p_in run lands).0,
+)
 
 -- Spans joined, and the span of a word of the rows.
 pub span_join :

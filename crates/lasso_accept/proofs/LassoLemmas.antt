@@ -157,3 +157,16 @@ pub run_as_chain :
     → Chain (Arc any A.states width) n p q
 unfolding arc
 run_as_chain A valid v width any flagged planes n p q flag p_in run = run_chain A valid v width any flagged planes n p q flag p_in run
+
+-- A run on turns past an accepting state has a flagged arc on its way.
+pub flagged_as_arcs :
+    (A : Automaton)
+    → IsAutomaton A
+    → (v : List ℕ) (width : ℕ) (any flagged : List ℕ)
+    → ArePlanes A v width any flagged
+    → (n p q : ℕ)
+    → p < A.states
+    → Run A p (repeated v n) q true
+    → (x y : ℕ) × Close (Arc any A.states width) p x × Arc flagged A.states width x y × Close (Arc any A.states width) y q
+unfolding arc Flagged
+flagged_as_arcs A valid v width any flagged planes n p q p_in run = flagged_turn A valid v width any flagged planes n p q true refl p_in run

@@ -5,3 +5,4 @@ pub mod GuideLemmas
 pub mod WalkLemmas
 pub mod CountdownLemmas
 pub mod RunLemmas
+pub mod LoopingLemmas

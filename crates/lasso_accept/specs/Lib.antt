@@ -3,3 +3,4 @@ pub mod Guide
 pub mod Countdown
 pub mod LassoRun
 pub mod Route
+pub mod Looping

@@ -5,6 +5,7 @@ mod acceptance;
 mod countdown;
 mod guide;
 pub mod laws;
+mod looping;
 mod planes;
 mod runs;
 mod spelling;
@@ -12,5 +13,6 @@ mod tables;
 mod words;
 
 pub use acceptance::accepts_lasso;
+pub use looping::{accepts_loop_from, rests_of};
 pub use runs::{LassoRun, run_of};
 pub use words::accepts_word;

@@ -1,2 +1,4 @@
 pub mod Leaving
 pub mod Shrinking
+pub mod Laws
+pub mod Prefixes

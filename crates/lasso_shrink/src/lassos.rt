@@ -3,10 +3,12 @@
 ghost use Rattle.std.specs.Prelude.{◌≡◌, ◌<◌, ◌↔◌, IfOk, IsTrue, MatchOption};
 ghost use Rattle.auto_core.specs.Accept.{SeparatesLasso};
 ghost use Rattle.lasso_shrink.specs.Shrinking.{letters_of, lasso_without, TellsApart, LassoLeavesOne, LassoNeedsEach, IsShrunkLasso};
+ghost use Rattle.lasso_shrink.specs.Prefixes.{PrefixNeedsEach, HasLeftOut};
 
 use crate::copying::{copied, without};
+use crate::places::first_place;
 use auto_core::{Auto, Lasso, Memory};
-use lasso_accept::accepts_lasso;
+use lasso_accept::{accepts_lasso, accepts_loop_from};
 use std::alloc::Global;
 
 /// Tells whether the first automaton accepts the lasso and the second does not.
@@ -37,17 +39,35 @@ fn left_without(alloc: Global, lasso: &Lasso, place: usize) -> Result<Lasso, Mem
     Ok(Lasso { prefix, turn })
 }
 
-/// The lasso without the first letter that can go, if any can.
+/// The lasso that is left if, as long as some letter of its prefix can go, the first such letter is left out. Where the loop is accepted
+/// from is found once.
+fn shrink_prefix(alloc: Global, first: &Auto, second: &Auto, lasso: Lasso) -> Result<Lasso, Memory>
+    requires { TellsApart first.now second.now lasso }
+    ensures { IfOk result (HasLeftOut first.now second.now lasso) }
+{
+    let target = accepts_loop_from(alloc, first, lasso.turn.as_slice())?;
+    let other_target = accepts_loop_from(alloc, second, lasso.turn.as_slice())?;
+    let mut current = lasso;
+    let mut place = first_place(alloc, first, second, &current, &target, &other_target)?;
+    while let Some(at) = place {
+        current = left_without(alloc, &current, at)?;
+        place = first_place(alloc, first, second, &current, &target, &other_target)?;
+    }
+    Ok(current)
+}
+
+/// The lasso without the first letter of its loop that can go, if any can; of its prefix none can.
 fn shorter(
     alloc: Global,
     first: &Auto,
     second: &Auto,
     lasso: &Lasso,
 ) -> Result<Option<Lasso>, Memory>
+    requires { PrefixNeedsEach first.now second.now lasso.now }
     ensures { IfOk result (λ left. MatchOption left (LassoNeedsEach first.now second.now lasso.now) (LassoLeavesOne first.now second.now lasso.now)) }
 {
-    let letters = lasso.prefix.as_slice().len() + lasso.turn.as_slice().len();
-    for place in 0..letters {
+    let prefix = lasso.prefix.as_slice().len();
+    for place in prefix..prefix + lasso.turn.as_slice().len() {
         let left = left_without(alloc, lasso, place)?;
         if separates(alloc, first, second, &left)? {
             return Ok(Some(left));
@@ -64,13 +84,12 @@ pub fn shrink(alloc: Global, first: &Auto, second: &Auto, lasso: &Lasso) -> Resu
     ensures separates { IfOk result (TellsApart first.now second.now) }
     ensures each_needed { IfOk result (LassoNeedsEach first.now second.now) }
 {
-    let mut current = Lasso {
-        prefix: copied(alloc, lasso.prefix.as_slice())?,
-        turn: copied(alloc, lasso.turn.as_slice())?,
-    };
+    let prefix = copied(alloc, lasso.prefix.as_slice())?;
+    let turn = copied(alloc, lasso.turn.as_slice())?;
+    let mut current = shrink_prefix(alloc, first, second, Lasso { prefix, turn })?;
     let mut next = shorter(alloc, first, second, &current)?;
     while let Some(left) = next {
-        current = left;
+        current = shrink_prefix(alloc, first, second, left)?;
         next = shorter(alloc, first, second, &current)?;
     }
     Ok(current)

@@ -3,6 +3,8 @@
 
 mod copying;
 mod lassos;
+pub mod laws;
+mod places;
 mod words;
 
 pub use lassos::shrink;
