@@ -1,0 +1,4 @@
+pub mod LineLemmas
+pub mod StopLemmas
+pub mod FaultLemmas
+pub mod EndLemmas
