@@ -1,4 +1,4 @@
--- What the printed text of a reduced automaton reads as accepts the lassos of the read automaton.
+-- What a printed text reads as accepts what the printed automaton does; of a reduced automaton, what the read one does.
 use Rattle.std.proofs.Common.{◌≡◌, ℕ, zero, suc, ◌+◌, ◌^◌, ◌<◌, ◌≤◌, Bool, true, false, not, cond, List, [], ◌∷◌, ◌++◌, length, map, filter, get_or, Contains, refl, sym, ◌∙◌, ap, subst, arith}
 use Rattle.std.specs.List.{list_any}
 use Rattle.std.proofs.lemmas.List.{length-append}
@@ -13,7 +13,7 @@ use Rattle.auto_core.specs.declared.parts.Mode.TheVariants.{Buchi, Finite}
 use Rattle.ba_format.specs.declared.parts.Limits.{Limits}
 use Rattle.ba_format.specs.declared.parts.Named.{Named}
 use Rattle.ba_format.specs.declared.parts.Joined.{Joined}
-use Rattle.ba_format.specs.Joining.{relabelled, IsRelabelled, IsJoined}
+use Rattle.ba_format.specs.Joining.{joined_labels, relabelled, IsRelabelled, IsJoined}
 use Rattle.ba_format.specs.Laws.{IsWritable}
 use Rattle.ba_format.specs.Reading.{Reads}
 use Rattle.ba_format.specs.Sight.{same_text, place_in, AreDifferent}
@@ -30,7 +30,7 @@ use Rattle.reduce_loop.specs.Kinds.{kinds_of, prunings}
 use Rattle.reduce_loop.specs.Passes.{IsReduced}
 use Rattle.reduce_loop.specs.Settled.{IsSettled}
 use Rattle.reduce_loop.proofs.PassLemmas.{reduced_no_larger}
-use Rattle.rabit_cli.specs.Files.{reduce_limits}
+use Rattle.rabit_cli.specs.Files.{large_limits}
 use Rattle.rabit_cli.specs.Reduce.{printed_limits, ReadsBackSame}
 use Rattle.rabit_cli.proofs.LabelLemmas.{reduced_labels}
 
@@ -109,15 +109,55 @@ module _ (A : Automaton) (labels more : List (List ℕ)) (valid : IsAutomaton A)
     accepting_given = IsPermutation-refl A.accepting;
   }
 
+includes_then : (m : Mode) (A B C : Automaton) → Includes A B m → Includes B C m → Includes A C m
+includes_then Buchi A B C first second = λ u v h. second u v (first u v h)
+includes_then Finite A B C first second = λ w h. second w (first w h)
+
+-- ---- the text of an automaton that can be written
+
+module _ (labels : List (List ℕ)) (C : Automaton) (m : Mode) (writable : IsWritable C labels) (limits : Limits) (again : Named) (joined : Joined) (back : Reads (written C labels) limits again)
+    (all : joined.labels ≡ joined_labels labels again.labels) (few : length joined.labels < 2 ^ 32) (second : IsRelabelled again.auto again.labels joined.labels joined.second)
+  where
+    abbrev further : List (List ℕ)
+    further = filter (λ label. not (list_any (same_text label) labels)) again.labels
+
+    all_count : length joined.labels ≡ length (labels ++ further)
+    all_count = ap length all
+
+    within_all : C.labels ≤ length joined.labels
+    within_all = omega (arith, writable.all_named, all_count, length-append labels further)
+
+    abbrev beside : Joined
+    beside = record { first = with_labels C (length joined.labels); second = joined.second; labels = joined.labels }
+
+    beside_joined : IsJoined (record { auto = C; names = []; labels = labels }) again beside
+    beside_joined = record {
+      labels = all;
+      first =
+          subst (λ l. IsRelabelled C labels l (with_labels C (length joined.labels))) (sym all)
+          (built_with C labels further writable.valid writable.all_named writable.different (length joined.labels) all_count within_all few);
+      second = second;
+    }
+
+    -- what it reads as accepts the same
+    pub written_same : Same C joined.second m
+    written_same =
+        let n = length joined.labels in
+        let last : Same (with_labels C n) joined.second m = written_reads_back C labels [] limits again beside m writable back beside_joined in
+        let own = same_with C n m in
+        (includes_then m C (with_labels C n) joined.second own.0 last.0, includes_then m joined.second (with_labels C n) C last.1 own.1)
+
+-- it reads within limits that leave room for one state more
+pub reads_with_room : (C : Automaton) (labels : List (List ℕ)) → IsWritable C labels → C.states ≤ 2048 → C.labels ≤ 256 → length C.transitions ≤ 65536 → (again : Named) × Reads (written C labels) printed_limits again
+reads_with_room C labels writable states few transitions =
+    let one_more : C.states + 1 ≤ printed_limits.states = omega (arith, states) in
+    faultless_reads (written C labels) printed_limits (omega arith) (omega arith) (omega arith) (written_is_read C labels printed_limits writable one_more few transitions)
+
 -- ---- the text of the reduced automaton
 
 trim_comes : (m : Mode) → Contains (kinds_of m) Trim
 trim_comes Buchi = contains_first Trim (Forward ∷ Backward ∷ Delayed ∷ prunings)
 trim_comes Finite = contains_first Trim (Forward ∷ Backward ∷ prunings)
-
-includes_then : (m : Mode) (A B C : Automaton) → Includes A B m → Includes B C m → Includes A C m
-includes_then Buchi A B C first second = λ u v h. second u v (first u v h)
-includes_then Finite A B C first second = λ w h. second w (first w h)
 
 module _ (file_limits : Limits) (bytes : List ℕ) (named : Named) (B : Automaton) (m : Mode) (look : ℕ) (reads : Reads bytes file_limits named) (reduced : IsReduced named.auto m look B)
     (same : Same named.auto B m) (settled : IsSettled B m look)
@@ -147,58 +187,37 @@ module _ (file_limits : Limits) (bytes : List ℕ) (named : Named) (B : Automato
       own_within : named.auto.labels ≤ length joined.labels
       own_within = omega (arith, named_count, joined_count, length-append named.labels more)
 
-      reduced_within : B.labels ≤ length joined.labels
-      reduced_within = omega (arith, own_within, labels_stay)
-
       first_is : joined.first ≡ with_labels named.auto (length joined.labels)
       first_is =
           built_once named.auto.states (length (named.labels ++ more)) named.auto.initial (map (relabelled named.labels (named.labels ++ more)) named.auto.transitions) named.auto.accepting
           joined.first (with_labels named.auto (length joined.labels)) (subst (λ l. IsRelabelled named.auto named.labels l joined.first) j.labels j.first)
           (built_with named.auto named.labels more reads.reading.auto.valid (omega (arith, named_count)) fit.different (length joined.labels) joined_count own_within few)
 
-      abbrev other : Joined
-      other = record { first = with_labels B (length joined.labels); second = joined.second; labels = joined.labels }
-
-      other_joined : IsJoined (record { auto = B; names = []; labels = named.labels }) again other
-      other_joined = record {
-        labels = j.labels;
-        first =
-            subst (λ l. IsRelabelled B named.labels l (with_labels B (length joined.labels))) (sym j.labels)
-            (built_with B named.labels more fit.valid fit.all_named fit.different (length joined.labels) joined_count reduced_within few);
-        second = j.second;
-      }
-
-      last : Same (with_labels B (length joined.labels)) joined.second m
-      last = written_reads_back B named.labels [] limits again other m fit back other_joined
+      last : Same B joined.second m
+      last = written_same named.labels B m fit limits again joined back j.labels few j.second
 
       joined_same : Same joined.first joined.second m
       joined_same =
           let n = length joined.labels in
-          let from : Same (with_labels named.auto n) (with_labels B n) m = (
-            includes_then m (with_labels named.auto n) named.auto (with_labels B n) (same_with named.auto n m).1 (includes_then m named.auto B (with_labels B n) same.0 (same_with B n m).0),
-            includes_then m (with_labels B n) B (with_labels named.auto n) (same_with B n m).1 (includes_then m B named.auto (with_labels named.auto n) same.1 (same_with named.auto n m).0),
-          ) in
+          let own = same_with named.auto n m in
           subst (λ A. Same A joined.second m) (sym first_is) (
-            includes_then m (with_labels named.auto n) (with_labels B n) joined.second from.0 last.0,
-            includes_then m joined.second (with_labels B n) (with_labels named.auto n) last.1 from.1,
+            includes_then m (with_labels named.auto n) named.auto joined.second own.1 (includes_then m named.auto B joined.second same.0 last.0),
+            includes_then m joined.second B (with_labels named.auto n) last.1 (includes_then m B named.auto (with_labels named.auto n) same.1 own.0),
           )
 
 -- the text reads within limits of one state more than those of the file
-module _ (bytes : List ℕ) (named : Named) (B : Automaton) (m : Mode) (look : ℕ) (from : 1 ≤ look) (reads : Reads bytes reduce_limits named) (reduced : IsReduced named.auto m look B)
+module _ (bytes : List ℕ) (named : Named) (B : Automaton) (m : Mode) (look : ℕ) (from : 1 ≤ look) (reads : Reads bytes large_limits named) (reduced : IsReduced named.auto m look B)
     (same : Same named.auto B m) (settled : IsSettled B m look)
   where
     reads_again : (again : Named) × Reads (written B named.labels) printed_limits again
     reads_again =
-        let within = read_is_within bytes reduce_limits named reads in
+        let within = read_is_within bytes large_limits named reads in
         let small = reduced_no_larger named.auto B m look reads.reading.auto.valid from reduced in
-        let writable = fit reduce_limits bytes named B m look reads reduced same settled in
-        let states : B.states + 1 ≤ printed_limits.states = omega (arith, within.states, small.states) in
-        let labels : B.labels ≤ printed_limits.labels = omega (arith, within.labels, small.labels) in
-        let transitions : length B.transitions ≤ printed_limits.transitions = omega (arith, within.transitions, small.transitions) in
-        faultless_reads (written B named.labels) printed_limits (omega arith) (omega arith) (omega arith) (written_is_read B named.labels printed_limits writable states labels transitions)
+        reads_with_room B named.labels (fit large_limits bytes named B m look reads reduced same settled)
+        (omega (arith, within.states, small.states)) (omega (arith, within.labels, small.labels)) (omega (arith, within.transitions, small.transitions))
 
     pub reads_back_same : ReadsBackSame named m (written B named.labels)
     reads_back_same = record {
       reads = reads_again;
-      same = joined_same reduce_limits bytes named B m look reads reduced same settled;
+      same = joined_same large_limits bytes named B m look reads reduced same settled;
     }

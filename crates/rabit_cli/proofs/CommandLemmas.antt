@@ -11,7 +11,7 @@ use Rattle.rabit_frame.specs.Reading.{AreOfKinds}
 use Rattle.rabit_frame.specs.Ending.{OfBoth, WasSaid}
 use Rattle.rabit_frame.specs.Carrying.{EndsSo, IsCarriedOut, ShowsResult}
 use Rattle.rabit_frame.proofs.EndLemmas.{may_plain, same_status, own_status, both_same, no_inputs, no_puts, no_puts_stay}
-use Rattle.rabit_words.specs.Question.{Question, Include, Check, Reduce, Drill, HasNumbersInRange}
+use Rattle.rabit_words.specs.Question.{Question, Include, Check, Reduce, Drill, Union, Intersect, HasNumbersInRange}
 use Rattle.drawing.specs.declared.parts.Drill.{Drill as Drawing}
 use Rattle.drawing.specs.Drawn.{IsInBounds}
 use Rattle.rabit_cli.specs.Commands.{inputs_of, outputs_of, Means, Shows, Drills, LeavesFiles, SaysUsage}
@@ -19,6 +19,7 @@ use Rattle.rabit_cli.proofs.CheckLemmas.{one_check, check_puts, check_asked, sho
 use Rattle.rabit_cli.proofs.IncludeLemmas.{one_include, include_asked, shows_include, leaves_include}
 use Rattle.rabit_cli.proofs.ReduceLemmas.{one_reduce, reduce_puts, reduce_asked, shows_reduce}
 use Rattle.rabit_cli.proofs.DrillLemmas.{one_drill, drill_puts, drill_asked, shows_drill, says_drill}
+use Rattle.rabit_cli.proofs.CombineLemmas.{one_union, union_puts, union_number, shows_union, one_intersection, intersection_puts, intersection_number, shows_intersection}
 
 -- the drill of a question
 abbrev drawing : ℕ → ℕ → ℕ → Drawing
@@ -34,6 +35,8 @@ one_meaning (Some (Check a b c)) range values r s kinds p q = one_check values r
 one_meaning (Some (Include a b c m look limit)) range values r s kinds p q = one_include c (terms_of m look limit) range.0 values r s p q
 one_meaning (Some (Reduce a m look)) range values r s kinds p q = one_reduce a m look range.0 values r s kinds p q
 one_meaning (Some (Drill seed states labels)) range values r s kinds p q = one_drill (drawing seed states labels) values r s p q
+one_meaning (Some (Union a b m)) range values r s kinds p q = one_union m values r s p q
+one_meaning (Some (Intersect a b m)) range values r s kinds p q = one_intersection m values r s p q
 
 pub no_outputs : (q : Option Question) → outputs_of q ≡ [] → (values : List Value) (r : Reply) → Means q values r → r.puts ≡ []
 no_outputs None none values r p = ap (λ z. z.puts) p
@@ -41,6 +44,8 @@ no_outputs (Some (Check a b c)) none values r p = check_puts values r p
 no_outputs (Some (Include a b c m look limit)) none values r p = absurd (let f = none in cc)
 no_outputs (Some (Reduce a m look)) none values r p = reduce_puts m look values r p
 no_outputs (Some (Drill seed states labels)) none values r p = drill_puts (drawing seed states labels) values r p
+no_outputs (Some (Union a b m)) none values r p = union_puts m values r p
+no_outputs (Some (Intersect a b m)) none values r p = intersection_puts m values r p
 
 usage_alone : (q : Option Question) (values : List Value) (r : Reply) → Means q values r → status_number r.status ≡ 3 → q ≡ None
 usage_alone None values r p three = refl
@@ -48,6 +53,8 @@ usage_alone (Some (Check a b c)) values r p three = absurd (check_asked values r
 usage_alone (Some (Include a b c m look limit)) values r p three = absurd (include_asked c (terms_of m look limit) values r p three)
 usage_alone (Some (Reduce a m look)) values r p three = absurd (reduce_asked m look values r p three)
 usage_alone (Some (Drill seed states labels)) values r p three = absurd (drill_asked (drawing seed states labels) values r p three)
+usage_alone (Some (Union a b m)) values r p three = absurd (elim (union_number m values r p) [ inl zero ↦ omega arith | inr twelve ↦ omega arith ])
+usage_alone (Some (Intersect a b m)) values r p three = absurd (elim (intersection_number m values r p) [ inl zero ↦ omega arith | inr twelve ↦ omega arith ])
 
 module _ (status : ℕ) (sent sent' : Option (List ℕ)) where
   pub shows : (q : Option Question) → IfSome q HasNumbersInRange → status ≤ 2 → (files files' : FileMap) → ShowsResult (Means q) (inputs_of q) status sent sent' files files' → Shows q status files files' sent sent'
@@ -58,6 +65,8 @@ module _ (status : ℕ) (sent sent' : Option (List ℕ)) where
   shows (Some (Reduce a m look)) range low files files' (r, values, reads, p, number, left, sends) = shows_reduce files a m look status sent sent' r range.0 number sends values reads p
   shows (Some (Drill seed states labels)) range low files files' (r, values, reads, p, number, left, sends) =
       shows_drill (drawing seed states labels) status sent sent' r (in_bounds seed states labels range) number sends values p
+  shows (Some (Union a b m)) range low files files' (r, values, reads, p, number, left, sends) = shows_union files a b m status sent sent' r number sends values reads p
+  shows (Some (Intersect a b m)) range low files files' (r, values, reads, p, number, left, sends) = shows_intersection files a b m status sent sent' r number sends values reads p
 
 module _ (held held' : Option FileMap) (status : ℕ) (sent sent' : Option (List ℕ)) (sink sink' faults faults' puts puts' : ℕ) where
   abbrev pub Carried : Option Question → Type 0
@@ -103,6 +112,8 @@ module _ (held held' : Option FileMap) (status : ℕ) (sent sent' : Option (List
   drills (Some (Check a b d)) range c = tt
   drills (Some (Include a b d m look limit)) range c = tt
   drills (Some (Reduce a m look)) range c = tt
+  drills (Some (Union a b m)) range c = tt
+  drills (Some (Intersect a b m)) range c = tt
   drills (Some (Drill seed states labels)) range c =
       says_drill held held' status sent sent' sink sink' faults faults' puts puts' (drawing seed states labels) (in_bounds seed states labels range) c.end c.ends c.said
 
@@ -124,3 +135,5 @@ module _ (held held' : Option FileMap) (status : ℕ) (sent sent' : Option (List
       leaves_include held held' status sent sent' sink sink' faults faults' puts puts' a b d (terms_of m look limit) (record { look_from = range.0; look_upto = range.1; few = range.3 }) c.end c.ends c.said
   leaves (Some (Reduce a m look)) range c = stays_with (Some (Reduce a m look)) c refl
   leaves (Some (Drill seed states labels)) range c = stays_with (Some (Drill seed states labels)) c refl
+  leaves (Some (Union a b m)) range c = stays_with (Some (Union a b m)) c refl
+  leaves (Some (Intersect a b m)) range c = stays_with (Some (Intersect a b m)) c refl

@@ -11,15 +11,17 @@ use Rattle.rabit_frame.specs.Reading.{ReadInTurn, StopInTurn, FileStops}
 use Rattle.rabit_frame.specs.Ending.{IsReplyFor, Leaves, OfBoth, WasSaid}
 use Rattle.rabit_frame.specs.Carrying.{EndsSo, IsCarriedOut}
 use Rattle.rabit_frame.proofs.OneLemmas.{stop_or_read_in_turn}
-use Rattle.rabit_words.specs.Question.{Question, Include, Check, Reduce, Drill}
+use Rattle.rabit_words.specs.Question.{Question, Include, Check, Reduce, Drill, Union, Intersect}
 use Rattle.rabit_cli.specs.Files.{check_limits, automaton_file, certificate_file}
 use Rattle.rabit_cli.specs.Check.{check_inputs}
 use Rattle.rabit_cli.specs.Include.{pair_inputs}
 use Rattle.rabit_cli.specs.Reduce.{reduce_inputs}
+use Rattle.rabit_cli.specs.Combine.{combined_inputs}
 use Rattle.rabit_cli.specs.Commands.{inputs_of, Means}
 use Rattle.rabit_cli.specs.Complete.{automata_of, MayAnswer, AnswersWhatReads}
 use Rattle.rabit_cli.proofs.CheckLemmas.{check_answers}
 use Rattle.rabit_cli.proofs.IncludeLemmas.{include_low}
+use Rattle.rabit_cli.proofs.CombineLemmas.{union_number, intersection_number}
 
 -- a certificate that is not read is refused
 certificate_stops : (files : FileMap) (c : List ℕ) (r : Reply) → FileStops files (certificate_file c) r → status_number r.status ≡ 5
@@ -58,6 +60,14 @@ answers (Drill seed states labels) files values reads r right n is = elim right 
   | inl stop ↦ absurd stop
   | inr (vs, in_turn, (pair, forth, back, decided, e)) ↦ inl (is ∙ ap (λ z. status_number z.status) e)
 ]
+answers (Union a b m) files values reads r right n is = elim right [
+  | inl stop ↦ absurd (stop_or_read_in_turn files (combined_inputs a b) r values stop reads)
+  | inr (vs, in_turn, means) ↦ elim (union_number m vs r means) [ inl zero ↦ inl (is ∙ zero) | inr twelve ↦ inr (inl (is ∙ twelve)) ]
+]
+answers (Intersect a b m) files values reads r right n is = elim right [
+  | inl stop ↦ absurd (stop_or_read_in_turn files (combined_inputs a b) r values stop reads)
+  | inr (vs, in_turn, means) ↦ elim (intersection_number m vs r means) [ inl zero ↦ inl (is ∙ zero) | inr twelve ↦ inr (inl (is ∙ twelve)) ]
+]
 
 -- want of memory
 wants : (q : Question) (n : ℕ) → n ≡ 8 → MayAnswer q n
@@ -65,6 +75,8 @@ wants (Check a b c) n e = inr (inr e)
 wants (Include a b c m look limit) n e = inr e
 wants (Reduce a m look) n e = inr e
 wants (Drill seed states labels) n e = inr e
+wants (Union a b m) n e = inr (inr e)
+wants (Intersect a b m) n e = inr (inr e)
 
 module _ (held held' : Option FileMap) (status : ℕ) (sent sent' : Option (List ℕ)) (sink sink' faults faults' puts puts' : ℕ) where
   answers_on : (q : Question) (h : Option FileMap) (e : Ending) → OfBoth h held' (λ files files'. Leaves (Means (Some q)) (inputs_of (Some q)) e files files')

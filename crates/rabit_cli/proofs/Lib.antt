@@ -6,6 +6,7 @@ pub mod CheckLemmas
 pub mod IncludeLemmas
 pub mod ReduceLemmas
 pub mod DrillLemmas
+pub mod CombineLemmas
 pub mod CommandLemmas
 pub mod CompleteLemmas
 pub mod LawLemmas

@@ -7,13 +7,16 @@ use Rattle.rabit_frame.specs.declared.parts.Reply.{Reply}
 use Rattle.rabit_frame.specs.Files.{Input}
 use Rattle.rabit_frame.specs.Lines.{memory_line}
 use Rattle.rabit_frame.specs.Ending.{SaysOnly}
-use Rattle.rabit_words.specs.Question.{Question, Include, Check, Reduce, Drill}
+use Rattle.rabit_words.specs.Question.{Question, Include, Check, Reduce, Drill, Union, Intersect}
 use Rattle.rabit_cli.specs.Printed.{usage_text}
 use Rattle.rabit_cli.specs.Replies.{usage_reply}
 use Rattle.rabit_cli.specs.Check.{check_inputs, MeansCheck, ShowsCheck}
 use Rattle.rabit_cli.specs.Include.{pair_inputs, MeansInclude, ShowsInclude, LeavesDecided}
 use Rattle.rabit_cli.specs.Reduce.{reduce_inputs, MeansReduce, ShowsReduce}
 use Rattle.rabit_cli.specs.Drill.{MeansDrill, ShowsDrill, SaysDrill}
+use Rattle.rabit_cli.specs.Combine.{combined_inputs}
+use Rattle.rabit_cli.specs.Union.{MeansUnion, ShowsUnion}
+use Rattle.rabit_cli.specs.Intersect.{MeansIntersect, ShowsIntersect}
 
 -- The files that are read, in order.
 abbrev pub inputs_of : Option Question → List Input
@@ -22,6 +25,8 @@ inputs_of (Some (Check a b c)) = check_inputs a b c
 inputs_of (Some (Include a b c mode look limit)) = pair_inputs a b
 inputs_of (Some (Reduce a mode look)) = reduce_inputs a
 inputs_of (Some (Drill seed states labels)) = []
+inputs_of (Some (Union a b mode)) = combined_inputs a b
+inputs_of (Some (Intersect a b mode)) = combined_inputs a b
 
 -- The names of the files that may be written.
 abbrev pub outputs_of : Option Question → List (List ℕ)
@@ -35,6 +40,8 @@ Means (Some (Check a b c)) values r = MeansCheck values r
 Means (Some (Include a b c mode look limit)) values r = MeansInclude c (terms_of mode look limit) values r
 Means (Some (Reduce a mode look)) values r = MeansReduce mode look values r
 Means (Some (Drill seed states labels)) values r = MeansDrill (record { seed = seed; states = states; labels = labels }) values r
+Means (Some (Union a b mode)) values r = MeansUnion mode values r
+Means (Some (Intersect a b mode)) values r = MeansIntersect mode values r
 
 -- What a status up to 2 shows of the files before and after, and of what was sent. Words that are no question have no status up to 2.
 abbrev pub Shows : Option Question → ℕ → FileMap → FileMap → Option (List ℕ) → Option (List ℕ) → Type 0
@@ -42,6 +49,8 @@ Shows (Some (Check a b c)) status files files' sent sent' = ShowsCheck files a b
 Shows (Some (Include a b c mode look limit)) status files files' sent sent' = ShowsInclude files a b c (terms_of mode look limit) status files' sent sent'
 Shows (Some (Reduce a mode look)) status files files' sent sent' = ShowsReduce files a mode look status sent sent'
 Shows (Some (Drill seed states labels)) status files files' sent sent' = ShowsDrill (record { seed = seed; states = states; labels = labels }) status sent sent'
+Shows (Some (Union a b mode)) status files files' sent sent' = ShowsUnion files a b mode status sent sent'
+Shows (Some (Intersect a b mode)) status files files' sent sent' = ShowsIntersect files a b mode status sent sent'
 Shows None status files files' sent sent' = ⊥
 
 -- What a drill says, whatever the shelf tells.

@@ -5,9 +5,10 @@ use Rattle.shelf_io.specs.Shelf.{FileMap}
 use Rattle.rabit_frame.specs.declared.parts.Value.{Value}
 use Rattle.rabit_frame.specs.Files.{Input}
 use Rattle.rabit_frame.specs.Reading.{ReadInTurn}
-use Rattle.rabit_words.specs.Question.{Question, Include, Check, Reduce, Drill}
+use Rattle.rabit_words.specs.Question.{Question, Include, Check, Reduce, Drill, Union, Intersect}
 use Rattle.rabit_cli.specs.Include.{pair_inputs}
 use Rattle.rabit_cli.specs.Reduce.{reduce_inputs}
+use Rattle.rabit_cli.specs.Combine.{combined_inputs}
 
 -- The files of automata that the question reads.
 abbrev pub automata_of : Question → List Input
@@ -15,13 +16,18 @@ automata_of (Check a b c) = pair_inputs a b
 automata_of (Include a b c mode look limit) = pair_inputs a b
 automata_of (Reduce a mode look) = reduce_inputs a
 automata_of (Drill seed states labels) = []
+automata_of (Union a b mode) = combined_inputs a b
+automata_of (Intersect a b mode) = combined_inputs a b
 
--- The statuses of the command's results, and that of want of memory. A check may also refuse the certificate.
+-- The statuses of the command's results, and that of want of memory. A check may also refuse the certificate, and a union or
+-- an intersection be too large.
 abbrev pub MayAnswer : Question → ℕ → Type 0
 MayAnswer (Check a b c) status = (status ≤ 2) ⊎ (status ≡ 5) ⊎ (status ≡ 8)
 MayAnswer (Include a b c mode look limit) status = (status ≤ 2) ⊎ (status ≡ 8)
 MayAnswer (Reduce a mode look) status = (status ≡ 0) ⊎ (status ≡ 8)
 MayAnswer (Drill seed states labels) status = (status ≡ 0) ⊎ (status ≡ 8)
+MayAnswer (Union a b mode) status = (status ≡ 0) ⊎ (status ≡ 12) ⊎ (status ≡ 8)
+MayAnswer (Intersect a b mode) status = (status ≡ 0) ⊎ (status ≡ 12) ⊎ (status ≡ 8)
 
 -- If all its automata read, the question is answered so, unless a count of the outside rose.
 abbrev pub AnswersWhatReads : Question → FileMap → ℕ → ℕ → ℕ → ℕ → ℕ → ℕ → ℕ → Type 0

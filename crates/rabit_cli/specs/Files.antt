@@ -17,9 +17,9 @@ use Rattle.rabit_frame.specs.declared.parts.FileKind.TheVariants as kind
 abbrev pub check_limits : Limits
 check_limits = record { states = 512; labels = 256; transitions = 65536 }
 
--- The most states, labels and transitions of the file of a reduction.
-abbrev pub reduce_limits : Limits
-reduce_limits = record { states = 2048; labels = 256; transitions = 65536 }
+-- The most states, labels and transitions of the file of a reduction, and of the first file of a union or an intersection.
+abbrev pub large_limits : Limits
+large_limits = record { states = 2048; labels = 256; transitions = 65536 }
 
 -- A file that is read as an automaton, with the number that its faults are told with.
 abbrev pub automaton_file : ℕ → Limits → List ℕ → Input
@@ -46,6 +46,10 @@ HoldsCertificate files name cert =
 -- Both files read as automata, and these are the two over their joined labels.
 abbrev pub ReadsPair : FileMap → List ℕ → List ℕ → Joined → Type 0
 ReadsPair files a b pair = (one two : Named) × FileReadsAs files a one × FileReadsAs files b two × IsJoined one two pair
+
+-- The same where the first file may be as large as that of a reduction.
+abbrev pub ReadsLargePair : FileMap → List ℕ → List ℕ → Joined → Type 0
+ReadsLargePair files a b pair = (one two : Named) × ReadsWithin large_limits files a one × FileReadsAs files b two × IsJoined one two pair
 
 -- Both automata have as many labels as there are texts of labels.
 pub record HasLabelTexts (pair : Joined) : Type 0 where

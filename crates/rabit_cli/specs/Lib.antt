@@ -5,6 +5,9 @@ pub mod Check
 pub mod Include
 pub mod Reduce
 pub mod Drill
+pub mod Combine
+pub mod Union
+pub mod Intersect
 pub mod Commands
 pub mod Complete
 pub mod Laws

@@ -23,7 +23,11 @@ word_text labels (a ∷ word) = 32 ∷ (label_text labels a ++ further_letters l
 -- How the program is used.
 abbrev pub usage_text : List ℕ
 usage_text =
-    codes "usage: rabit include A B CERT [--finite] [--look K] [--limit N] | check A B CERT | reduce A [--finite] [--look K] | drill SEED STATES LABELS" ++ line_end
+    codes "usage: rabit include A B CERT [--finite] [--look K] [--limit N] | check A B CERT | reduce A [--finite] [--look K] | drill SEED STATES LABELS | union A B [--finite] | intersect A B [--finite]" ++ line_end
+
+-- The automaton that was asked for is too large.
+abbrev pub too_large_text : List ℕ
+too_large_text = codes "too large" ++ line_end
 
 -- A certificate breaks a rule.
 abbrev pub refused_text : Refusal → List ℕ

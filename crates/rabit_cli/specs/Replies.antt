@@ -10,11 +10,15 @@ use Rattle.rabit_frame.specs.declared.parts.Status.TheVariants as status
 use Rattle.rabit_frame.specs.declared.parts.Reply.{Reply}
 use Rattle.rabit_frame.specs.Files.{Output}
 use Rattle.rabit_frame.specs.Reading.{reply_with, only_said}
-use Rattle.rabit_cli.specs.Printed.{usage_text, included_text, not_included_text, word_not_included_text, limit_text}
+use Rattle.rabit_cli.specs.Printed.{usage_text, too_large_text, included_text, not_included_text, word_not_included_text, limit_text}
 
 -- The words ask nothing.
 abbrev pub usage_reply : Reply
 usage_reply = only_said status.Usage usage_text
+
+-- The automaton that was asked for is too large.
+abbrev pub too_large_reply : Reply
+too_large_reply = only_said status.TooLarge too_large_text
 
 -- What a right certificate of this mode with this body says, where these files are written before.
 abbrev pub IsVerdictReply : Mode → Joined → Body → List Output → Reply → Type 0

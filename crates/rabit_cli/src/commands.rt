@@ -6,7 +6,7 @@ ghost use Rattle.rabit_frame.specs.Reading.{AreOfKinds};
 ghost use Rattle.rabit_words.specs.Question.{told, question_of, HasNumbersInRange};
 ghost use Rattle.rabit_cli.specs.Commands.{inputs_of, Means};
 
-use crate::{checking, drilling, including, reducing, replies};
+use crate::{checking, combining, drilling, including, intersecting, reducing, replies, uniting};
 use auto_core::{List, Memory};
 use decide::Terms;
 use drawing::Drill;
@@ -33,6 +33,12 @@ fn slots_of<'a>(alloc: Global, question: &'a Question) -> Result<List<Slot<'a>>,
             return reducing::slots(alloc, name.as_str());
         },
         Question::Drill { .. } => Ok(List::new(alloc)),
+        Question::Union { first, second, .. } => {
+            return combining::slots(alloc, first.as_str(), second.as_str());
+        },
+        Question::Intersect { first, second, .. } => {
+            return combining::slots(alloc, first.as_str(), second.as_str());
+        },
     }
 }
 
@@ -78,6 +84,12 @@ fn reply_to<'a>(
                 labels: *labels,
             };
             return drilling::reply(alloc, drill);
+        },
+        Question::Union { mode, .. } => {
+            return uniting::reply(alloc, *mode, values);
+        },
+        Question::Intersect { mode, .. } => {
+            return intersecting::reply(alloc, *mode, values);
         },
     }
 }

@@ -75,7 +75,7 @@ fn each_text_has_its_first_fault(rt: HostRuntime) -> Result<(), Fail> {
 }
 
 /// The lines of this many states, or of this many letters on one state.
-fn many_lines(alloc: Global, states: u32, letters: u32) -> Result<String, Memory> {
+pub(crate) fn many_lines(alloc: Global, states: u32, letters: u32) -> Result<String, Memory> {
     let mut text = String::new(alloc);
     for state in 0..states {
         text.push_str("[")?;

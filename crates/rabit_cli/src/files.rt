@@ -6,7 +6,7 @@ ghost use Rattle.ba_format.specs.Joining.{IsJoined};
 ghost use Rattle.decide.specs.Laws.{CanDecide};
 ghost use Rattle.rabit_frame.specs.declared.parts.FileKind.TheVariants as kind;
 ghost use Rattle.rabit_frame.specs.Reading.{IsOfKind};
-ghost use Rattle.rabit_cli.specs.Files.{check_limits, reduce_limits, automaton_file, certificate_file, HasLabelTexts};
+ghost use Rattle.rabit_cli.specs.Files.{check_limits, large_limits, automaton_file, certificate_file, HasLabelTexts};
 
 use auto_core::Memory;
 use ba_format::{Joined, Limits, Named};
@@ -21,8 +21,8 @@ pub(crate) const CHECK_LIMITS: Limits = Limits {
     transitions: 65_536,
 };
 
-/// The most states, labels and transitions of the file of a reduction.
-const REDUCE_LIMITS: Limits = Limits {
+/// The most states, labels and transitions of the file of a reduction, and of the first of a union or an intersection.
+const LARGE_LIMITS: Limits = Limits {
     states: 2048,
     labels: 256,
     transitions: 65_536,
@@ -41,15 +41,15 @@ pub fn checked_automaton<'a>(number: u32, name: &'a str) -> Slot<'a>
     }
 }
 
-/// The automaton's file of a reduction.
-pub fn reduced_automaton<'a>(name: &'a str) -> Slot<'a>
-    ensures { result ≡ automaton_file 1 reduce_limits name.entry.now }
+/// A first automaton's file that may be large.
+pub fn large_automaton<'a>(name: &'a str) -> Slot<'a>
+    ensures { result ≡ automaton_file 1 large_limits name.entry.now }
 {
     Slot {
         name,
         kind: FileKind::Automaton {
             number: 1,
-            limits: REDUCE_LIMITS,
+            limits: LARGE_LIMITS,
         },
     }
 }

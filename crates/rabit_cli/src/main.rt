@@ -1,16 +1,19 @@
-//! The program `rabit`: decides Büchi inclusion, checks certificates of it and reduces automata, over files.
+//! The program `rabit`: decides Büchi inclusion, checks certificates of it, and reduces, unites and intersects automata, over files.
 #![tactic(auto)]
 
 mod checking;
+mod combining;
 mod commands;
 mod drilling;
 mod files;
 mod including;
+mod intersecting;
 mod laws;
 mod letters;
 mod reducing;
 mod replies;
 mod top;
+mod uniting;
 
 use shelf_io::{DiskShelf, OutSink};
 use std::env;
@@ -38,6 +41,8 @@ mod automaton_text_tests;
 mod certificate_tests;
 #[cfg(test)]
 mod certificate_text_tests;
+#[cfg(test)]
+mod combine_tests;
 #[cfg(test)]
 mod fault_tests;
 #[cfg(test)]

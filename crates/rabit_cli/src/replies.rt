@@ -18,7 +18,7 @@ use std::alloc::Global;
 
 /// How the program is used.
 const USAGE: &str =
-    "usage: rabit include A B CERT [--finite] [--look K] [--limit N] | check A B CERT | reduce A [--finite] [--look K] | drill SEED STATES LABELS\n";
+    "usage: rabit include A B CERT [--finite] [--look K] [--limit N] | check A B CERT | reduce A [--finite] [--look K] | drill SEED STATES LABELS | union A B [--finite] | intersect A B [--finite]\n";
 
 /// The words ask nothing.
 pub fn usage<'a>(alloc: Global) -> Result<Reply<'a>, Memory>

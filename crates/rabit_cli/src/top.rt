@@ -42,7 +42,8 @@ pub fn run<H: Shelf, K: Sink>(alloc: Global, words: &[String], shelf: &mut H, ou
     ensures drills { IfSome (question_of (map string_bytes words.now)) (λ asked.
         Drills asked result (K.sent out.old) (K.sent out.new) (K.faults out.old) (K.faults out.new)) }
 
-    // What a status up to 2 shows, command by command: an inclusion, a lasso that separates, a list past the limit, a reduced automaton, what a drill found.
+    // What a status up to 2 shows, command by command: an inclusion, a lasso that separates, a list past the limit, a reduced automaton, what a drill found,
+    // a union, an intersection.
     ensures shows { result ≤ 2 → OfBoth (H.held shelf.old) (H.held shelf.new) (λ files files'.
         Shows (question_of (map string_bytes words.now)) result files files' (K.sent out.old) (K.sent out.new)) }
 

@@ -82,6 +82,8 @@ pub enum Status {
     BadFile,
     /// 5: a certificate has a fault, or breaks a rule.
     BadCertificate,
+    /// 12: the automaton that was asked for is too large.
+    TooLarge,
 }
 
 impl Status {
@@ -96,6 +98,7 @@ impl Status {
             Status::Usage => 3,
             Status::BadFile => 4,
             Status::BadCertificate => 5,
+            Status::TooLarge => 12,
         }
     }
 

@@ -5,7 +5,7 @@ use Rattle.std.specs.Str.{bytes_eq}
 use Rattle.clap.specs.Words.{Row, Kinds, first_of, fault_of, subcommand_of}
 use Rattle.rabit_words.specs.Number.{number_between, number_or}
 use Rattle.rabit_words.specs.Command.{rabit_app}
-use Rattle.rabit_words.specs.Question.{HasNumbersInRange, look_in, limit_in, number_at, asks_include, asks_check, asks_reduce, asks_drill, asks_by, asks_found, asks_unless, has_help_word, question_of}
+use Rattle.rabit_words.specs.Question.{HasNumbersInRange, look_in, limit_in, number_at, asks_include, asks_check, asks_reduce, asks_drill, asks_union, asks_intersect, asks_by, asks_found, asks_unless, has_help_word, question_of}
 use Rattle.rabit_words.proofs.NumberLemmas.{number_in_range}
 
 and_then_gives : {X Y : Type 0} (P : Y → Type 0) (f : X → Option Y) (o : Option X) → ((x : X) → o ≡ Some x → IfSome (f x) P) → IfSome (option_and_then f o) P
@@ -71,12 +71,24 @@ module _ (rows : List Row) where
       let upto = s.1 in
       (omega arith, n.0, n.1, l.0, l.1))))
 
+  union_range : IfSome (asks_union rows) HasNumbersInRange
+  union_range =
+      and_then_gives HasNumbersInRange _ (first_of (codes "A") rows) (λ a is_a.
+      map_gives HasNumbersInRange _ (first_of (codes "B") rows) (λ b is_b. tt))
+
+  intersect_range : IfSome (asks_intersect rows) HasNumbersInRange
+  intersect_range =
+      and_then_gives HasNumbersInRange _ (first_of (codes "A") rows) (λ a is_a.
+      map_gives HasNumbersInRange _ (first_of (codes "B") rows) (λ b is_b. tt))
+
   by_range : (name : List ℕ) → IfSome (asks_by name rows) HasNumbersInRange
   by_range name =
       choice_gives HasNumbersInRange (bytes_eq name (codes "include")) (asks_include rows) _ include_range
       (choice_gives HasNumbersInRange (bytes_eq name (codes "check")) (asks_check rows) _ check_range
       (choice_gives HasNumbersInRange (bytes_eq name (codes "reduce")) (asks_reduce rows) _ reduce_range
-      (choice_gives HasNumbersInRange (bytes_eq name (codes "drill")) (asks_drill rows) None drill_range tt)))
+      (choice_gives HasNumbersInRange (bytes_eq name (codes "drill")) (asks_drill rows) _ drill_range
+      (choice_gives HasNumbersInRange (bytes_eq name (codes "union")) (asks_union rows) _ union_range
+      (choice_gives HasNumbersInRange (bytes_eq name (codes "intersect")) (asks_intersect rows) None intersect_range tt)))))
 
 found_range : (found : Option (List ℕ × List Row)) → IfSome (asks_found found) HasNumbersInRange
 found_range None = tt

@@ -16,9 +16,13 @@ option_with_word id = record (new_rule id) { long = Some id; action = Some Set }
 abbrev pub option_alone : List ℕ → Rule
 option_alone id = record (new_rule id) { long = Some id; action = Some SetTrue }
 
--- A command of this name with the places of two automata and a certificate.
+-- A command of this name with the places of two automata.
+abbrev pub two_files_app : List ℕ → App
+two_files_app name = with_rule (with_rule (new_app name) (place (codes "A"))) (place (codes "B"))
+
+-- The same with the place of a certificate after them.
 abbrev pub three_files_app : List ℕ → App
-three_files_app name = with_rule (with_rule (with_rule (new_app name) (place (codes "A"))) (place (codes "B"))) (place (codes "CERT"))
+three_files_app name = with_rule (two_files_app name) (place (codes "CERT"))
 
 -- `include A B CERT [--finite] [--look K] [--limit N]`
 abbrev pub include_app : App
@@ -37,6 +41,14 @@ reduce_app = with_rule (with_rule (with_rule (new_app (codes "reduce")) (place (
 abbrev pub drill_app : App
 drill_app = with_rule (with_rule (with_rule (new_app (codes "drill")) (place (codes "SEED"))) (place (codes "STATES"))) (place (codes "LABELS"))
 
+-- `union A B [--finite]`
+abbrev pub union_app : App
+union_app = with_rule (two_files_app (codes "union")) (option_alone (codes "finite"))
+
+-- `intersect A B [--finite]`
+abbrev pub intersect_app : App
+intersect_app = with_rule (two_files_app (codes "intersect")) (option_alone (codes "finite"))
+
 -- The command needs one of its subcommands.
 abbrev pub needing_subcommand : Shape → Shape
 needing_subcommand s = record s { subcommand_required = true }
@@ -45,5 +57,7 @@ needing_subcommand s = record s { subcommand_required = true }
 abbrev pub rabit_app : App
 rabit_app =
     with_subcommand
+    (with_subcommand
+    (with_subcommand
     (with_subcommand (with_subcommand (with_subcommand (on_top needing_subcommand (new_app (codes "rabit"))) include_app.top) check_app.top) reduce_app.top)
-    drill_app.top
+    drill_app.top) union_app.top) intersect_app.top

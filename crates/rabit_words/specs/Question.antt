@@ -17,6 +17,8 @@ pub data Question : Type 0 where
   Check : (first second certificate : List ℕ) → Question
   Reduce : (name : List ℕ) (mode : Mode) (look : ℕ) → Question
   Drill : (seed states labels : ℕ) → Question
+  Union : (first second : List ℕ) (mode : Mode) → Question
+  Intersect : (first second : List ℕ) (mode : Mode) → Question
 
 -- The question with its names as bytes.
 abbrev pub told : Held → Question
@@ -24,6 +26,8 @@ told (held.Include a b c mode look limit) = Include (string_bytes a) (string_byt
 told (held.Check a b c) = Check (string_bytes a) (string_bytes b) (string_bytes c)
 told (held.Reduce a mode look) = Reduce (string_bytes a) mode look
 told (held.Drill seed states labels) = Drill seed states labels
+told (held.Union a b mode) = Union (string_bytes a) (string_bytes b) mode
+told (held.Intersect a b mode) = Intersect (string_bytes a) (string_bytes b) mode
 
 -- The mode, by what stands for `--finite`.
 abbrev pub mode_by : Option (List ℕ) → Mode
@@ -73,13 +77,27 @@ asks_drill rows =
     (λ states. option_map (λ labels. Drill seed states labels) (number_at (codes "LABELS") 1 26 rows))
     (number_at (codes "STATES") 2 512 rows)) (number_at (codes "SEED") 0 4294967295 rows)
 
+-- The same of `union`.
+abbrev pub asks_union : List Row → Option Question
+asks_union rows =
+    option_and_then
+    (λ a. option_map (λ b. Union a b (mode_by (first_of (codes "finite") rows))) (first_of (codes "B") rows)) (first_of (codes "A") rows)
+
+-- The same of `intersect`.
+abbrev pub asks_intersect : List Row → Option Question
+asks_intersect rows =
+    option_and_then
+    (λ a. option_map (λ b. Intersect a b (mode_by (first_of (codes "finite") rows))) (first_of (codes "B") rows)) (first_of (codes "A") rows)
+
 -- What is asked by the subcommand of this name.
 abbrev pub asks_by : List ℕ → List Row → Option Question
 asks_by name rows =
     if bytes_eq name (codes "include") then asks_include rows
     else (if bytes_eq name (codes "check") then asks_check rows
     else (if bytes_eq name (codes "reduce") then asks_reduce rows
-    else (if bytes_eq name (codes "drill") then asks_drill rows else None)))
+    else (if bytes_eq name (codes "drill") then asks_drill rows
+    else (if bytes_eq name (codes "union") then asks_union rows
+    else (if bytes_eq name (codes "intersect") then asks_intersect rows else None)))))
 
 -- The same of the subcommand that was found, if one was.
 abbrev pub asks_found : Option (List ℕ × List Row) → Option Question
@@ -118,3 +136,5 @@ HasNumbersInRange (Include a b c mode look limit) = (1 ≤ look) × (look ≤ 6)
 HasNumbersInRange (Check a b c) = Unit {0}
 HasNumbersInRange (Reduce a mode look) = (1 ≤ look) × (look ≤ 6)
 HasNumbersInRange (Drill seed states labels) = (seed < 2 ^ 32) × (2 ≤ states) × (states ≤ 512) × (1 ≤ labels) × (labels ≤ 26)
+HasNumbersInRange (Union a b mode) = Unit {0}
+HasNumbersInRange (Intersect a b mode) = Unit {0}

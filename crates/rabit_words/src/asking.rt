@@ -4,7 +4,7 @@ ghost use Rattle.std.specs.Prelude.{◌≡◌, ◌∷◌, IfOk, IfSome, codes, m
 ghost use Rattle.std.specs.List.{list_any};
 ghost use Rattle.std.specs.String.{string_bytes};
 ghost use Rattle.clap.specs.Words.{first_of, found_of, rows_of, subcommand_rows_of};
-ghost use Rattle.rabit_words.specs.Question.{told, mode_by, look_in, limit_in, HasNumbersInRange, number_at, asks_include, asks_check, asks_reduce, asks_drill, asks_by, asks_found, asks_on_line, is_help_option, starts_with_help, has_help_word, question_of};
+ghost use Rattle.rabit_words.specs.Question.{told, mode_by, look_in, limit_in, HasNumbersInRange, number_at, asks_include, asks_check, asks_reduce, asks_drill, asks_union, asks_intersect, asks_by, asks_found, asks_on_line, is_help_option, starts_with_help, has_help_word, question_of};
 
 use crate::command::rabit;
 use crate::number::{number_between, number_or};
@@ -156,6 +156,42 @@ fn drill_in(found: &ArgMatches<'_>) -> Option<Question>
     })
 }
 
+/// What is asked where these stand in the places of `union`.
+fn union_in(alloc: Global, found: &ArgMatches<'_>) -> Result<Option<Question>, Memory>
+    ensures { IfOk result (λ asked. option_map told asked ≡ asks_union (rows_of (found_of found.now))) }
+{
+    let Some(first) = word_of(found, "A") else {
+        return Ok(None);
+    };
+    let Some(second) = word_of(found, "B") else {
+        return Ok(None);
+    };
+    let mode = mode_of(found);
+    Ok(Some(Question::Union {
+        first: named(alloc, first)?,
+        second: named(alloc, second)?,
+        mode,
+    }))
+}
+
+/// What is asked where these stand in the places of `intersect`.
+fn intersect_in(alloc: Global, found: &ArgMatches<'_>) -> Result<Option<Question>, Memory>
+    ensures { IfOk result (λ asked. option_map told asked ≡ asks_intersect (rows_of (found_of found.now))) }
+{
+    let Some(first) = word_of(found, "A") else {
+        return Ok(None);
+    };
+    let Some(second) = word_of(found, "B") else {
+        return Ok(None);
+    };
+    let mode = mode_of(found);
+    Ok(Some(Question::Intersect {
+        first: named(alloc, first)?,
+        second: named(alloc, second)?,
+        mode,
+    }))
+}
+
 /// What is asked by the subcommand of this name.
 fn asked_by(alloc: Global, name: &str, found: &ArgMatches<'_>) -> Result<Option<Question>, Memory>
     ensures { IfOk result (λ asked. option_map told asked ≡ asks_by name.now (rows_of (found_of found.now))) }
@@ -171,6 +207,12 @@ fn asked_by(alloc: Global, name: &str, found: &ArgMatches<'_>) -> Result<Option<
     }
     if name == "drill" {
         return Ok(drill_in(found));
+    }
+    if name == "union" {
+        return union_in(alloc, found);
+    }
+    if name == "intersect" {
+        return intersect_in(alloc, found);
     }
     Ok(None)
 }

@@ -3,7 +3,7 @@
 ghost use Rattle.std.specs.Prelude.{◌≡◌, false, codes, IfOk};
 ghost use Rattle.clap.specs.Words.{rule_of, app_of};
 ghost use Rattle.clap.specs.declared.builder.command.Command.TheViews.{out-Command};
-ghost use Rattle.rabit_words.specs.Command.{place, option_with_word, option_alone, three_files_app, include_app, check_app, reduce_app, drill_app, rabit_app};
+ghost use Rattle.rabit_words.specs.Command.{place, option_with_word, option_alone, two_files_app, three_files_app, include_app, check_app, reduce_app, drill_app, union_app, intersect_app, rabit_app};
 
 use clap::{Arg, ArgAction, Command};
 use std::alloc::{AllocError, Global};
@@ -32,15 +32,22 @@ fn option_alone<'a>(alloc: Global, id: &'a str) -> Arg<'a>
     Arg::new(alloc, id).long(id).action(ArgAction::SetTrue)
 }
 
+/// A command of this name with the places of two automata.
+fn with_two_files<'a>(alloc: Global, name: &'a str) -> Result<Command<'a>, AllocError>
+    ensures app { IfOk result (λ c. app_of c ≡ two_files_app name.entry.now) }
+    ensures local { IfOk result (λ c. (out-Command c).has_globals ≡ false) }
+{
+    Command::new(alloc, name)
+        .arg(place(alloc, "A"))?
+        .arg(place(alloc, "B"))
+}
+
 /// A command of this name with the places of two automata and a certificate.
 fn with_three_files<'a>(alloc: Global, name: &'a str) -> Result<Command<'a>, AllocError>
     ensures app { IfOk result (λ c. app_of c ≡ three_files_app name.entry.now) }
     ensures local { IfOk result (λ c. (out-Command c).has_globals ≡ false) }
 {
-    Command::new(alloc, name)
-        .arg(place(alloc, "A"))?
-        .arg(place(alloc, "B"))?
-        .arg(place(alloc, "CERT"))
+    with_two_files(alloc, name)?.arg(place(alloc, "CERT"))
 }
 
 /// `include A B CERT [--finite] [--look K] [--limit N]`
@@ -84,6 +91,22 @@ fn drill<'a>(alloc: Global) -> Result<Command<'a>, AllocError>
         .arg(place(alloc, "LABELS"))
 }
 
+/// `union A B [--finite]`
+fn union<'a>(alloc: Global) -> Result<Command<'a>, AllocError>
+    ensures app { IfOk result (λ c. app_of c ≡ union_app) }
+    ensures local { IfOk result (λ c. (out-Command c).has_globals ≡ false) }
+{
+    with_two_files(alloc, "union")?.arg(option_alone(alloc, "finite"))
+}
+
+/// `intersect A B [--finite]`
+fn intersect<'a>(alloc: Global) -> Result<Command<'a>, AllocError>
+    ensures app { IfOk result (λ c. app_of c ≡ intersect_app) }
+    ensures local { IfOk result (λ c. (out-Command c).has_globals ≡ false) }
+{
+    with_two_files(alloc, "intersect")?.arg(option_alone(alloc, "finite"))
+}
+
 /// The program's command, which needs one of its subcommands.
 pub fn rabit<'a>(alloc: Global) -> Result<Command<'a>, AllocError>
     ensures { IfOk result (λ c. app_of c ≡ rabit_app) }
@@ -93,5 +116,7 @@ pub fn rabit<'a>(alloc: Global) -> Result<Command<'a>, AllocError>
         .subcommand(include(alloc)?)?
         .subcommand(check(alloc)?)?
         .subcommand(reduce(alloc)?)?
-        .subcommand(drill(alloc)?)
+        .subcommand(drill(alloc)?)?
+        .subcommand(union(alloc)?)?
+        .subcommand(intersect(alloc)?)
 }

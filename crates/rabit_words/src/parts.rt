@@ -47,4 +47,22 @@ pub enum Question {
         /// The labels, from 1 to 26.
         labels: u32,
     },
+    /// Makes the union of two automata.
+    Union {
+        /// The first automaton's file.
+        first: String,
+        /// The second automaton's file.
+        second: String,
+        /// Lassos or finite words.
+        mode: Mode,
+    },
+    /// Makes the intersection of two automata.
+    Intersect {
+        /// The first automaton's file.
+        first: String,
+        /// The second automaton's file.
+        second: String,
+        /// Lassos or finite words.
+        mode: Mode,
+    },
 }

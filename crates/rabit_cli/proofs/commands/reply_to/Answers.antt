@@ -6,6 +6,8 @@ use Rattle.rabit_frame.specs.declared.parts.Reply.{Reply}
 use Rattle.rabit_words.specs.Question.{told}
 use Rattle.rabit_cli.specs.Commands.{Means}
 use Rattle.rabit_cli.specs.Drill.{MeansDrill}
+use Rattle.rabit_cli.specs.Union.{MeansUnion}
+use Rattle.rabit_cli.specs.Intersect.{MeansIntersect}
 use Rattle.rabit_cli.proofs.commands.reply_to.Goals as goal
 
 pub returns-in-Drill : goal.returns-in-Drill
@@ -14,3 +16,17 @@ returns-in-Drill c =
     let values = c.args.values.now in
     subst (λ q. IfOk c.reply-in-Drill.result (Means (Some (told q)) values)) (sym c.in-Drill.is)
     (IfOk-weaker c.reply-in-Drill.result (λ (r : Reply). (vs : List Value) → MeansDrill d vs r) (λ (r : Reply). MeansDrill d values r) (λ r means. means values) c.reply-in-Drill.ensures)
+
+pub returns-in-Union : goal.returns-in-Union
+returns-in-Union c =
+    let values = c.args.values.now in
+    let m = c.in-Union.mode in
+    subst (λ q. IfOk c.reply-in-Union.result (Means (Some (told q)) values)) (sym c.in-Union.is)
+    (IfOk-weaker c.reply-in-Union.result (λ (r : Reply). MeansUnion m values r) (λ (r : Reply). MeansUnion m values r) (λ r means. means) c.reply-in-Union.ensures)
+
+pub returns-in-Intersect : goal.returns-in-Intersect
+returns-in-Intersect c =
+    let values = c.args.values.now in
+    let m = c.in-Intersect.mode in
+    subst (λ q. IfOk c.reply-in-Intersect.result (Means (Some (told q)) values)) (sym c.in-Intersect.is)
+    (IfOk-weaker c.reply-in-Intersect.result (λ (r : Reply). MeansIntersect m values r) (λ (r : Reply). MeansIntersect m values r) (λ r means. means) c.reply-in-Intersect.ensures)

@@ -1,0 +1,65 @@
+-- What `union` and `intersect` have in common: two automata are read, and one is printed.
+use Rattle.std.specs.Prelude.{◌≡◌, ◌⊎◌, List, [], ◌∷◌, ℕ, Option}
+use Rattle.std.specs.Io.KnownBytes.{append_known}
+use Rattle.shelf_io.specs.Shelf.{FileMap}
+use Rattle.auto_core.specs.Automaton.{Automaton}
+use Rattle.auto_ops.specs.Limits.{IsWithinLimits}
+use Rattle.ba_format.specs.declared.parts.Limits.{Limits}
+use Rattle.ba_format.specs.declared.parts.Named.{Named}
+use Rattle.ba_format.specs.declared.parts.Joined.{Joined}
+use Rattle.ba_format.specs.Joining.{IsJoined}
+use Rattle.ba_format.specs.Reading.{Reads}
+use Rattle.ba_format.specs.Writing.{written}
+use Rattle.rabit_frame.specs.declared.parts.Value.{Value}
+use Rattle.rabit_frame.specs.declared.parts.Value.TheVariants as value
+use Rattle.rabit_frame.specs.declared.parts.Status.TheVariants as status
+use Rattle.rabit_frame.specs.declared.parts.Reply.{Reply}
+use Rattle.rabit_frame.specs.Files.{Input}
+use Rattle.rabit_frame.specs.Reading.{only_said}
+use Rattle.rabit_cli.specs.Files.{check_limits, large_limits, automaton_file, ReadsLargePair}
+use Rattle.rabit_cli.specs.Replies.{too_large_reply}
+use Rattle.rabit_cli.specs.Reduce.{printed_limits}
+
+-- The files that they read: the two automata, the first of which may be as large as that of a reduction.
+abbrev pub combined_inputs : List ℕ → List ℕ → List Input
+combined_inputs a b = automaton_file 1 large_limits a ∷ automaton_file 2 check_limits b ∷ []
+
+-- The reply to what was read, if this is the one to the two joined automata.
+abbrev pub MeansCombined : (Joined → Reply → Type 0) → List Value → Reply → Type 0
+MeansCombined replies values r =
+    (one two : Named)
+    × (values ≡ value.Automaton one ∷ value.Automaton two ∷ [])
+    × ((pair : Joined) × IsJoined one two pair × replies pair r)
+
+-- The reply of an operation whose results are these: the text of a result over the labels, or that it would be too large.
+abbrev pub IsCombinedReply : (Automaton → Type 0) → Type 0 → List (List ℕ) → Reply → Type 0
+IsCombinedReply is_result is_too_large labels r =
+    (is_too_large × (r ≡ too_large_reply))
+    ⊎ ((C : Automaton) × is_result C × IsWithinLimits C × (r ≡ only_said status.Done (written C labels)))
+
+-- The automaton with the texts of its labels.
+abbrev pub with_texts : Automaton → List (List ℕ) → Named
+with_texts A labels = record { auto = A; names = []; labels = labels }
+
+-- The text reads as an automaton within limits of one state more than a result may have. Whatever it reads as, joined to the pair by its labels'
+-- texts, so that the pair's labels keep their numbers, accepts what is asked.
+pub record ReadsBackFor (pair : Joined) (accepts : Automaton → Type 0) (text : List ℕ) : Type 0 where
+  pub reads : (again : Named) × Reads text printed_limits again
+  pub joined : (limits : Limits) (again : Named) (joined : Joined) → Reads text limits again → IsJoined (with_texts pair.first pair.labels) again joined → accepts joined.second
+
+-- The named files read as two automata, and what was sent is the text of a result of the operation on them. The result accepts what is asked, and so
+-- does what its text reads as.
+pub record IsCombinedShown (files : FileMap) (a b : List ℕ) (is_result accepts : Joined → Automaton → Type 0) (sent sent' : Option (List ℕ)) : Type 0 where
+  pub pair : Joined
+  pub made : Automaton
+  pub read : ReadsLargePair files a b pair
+  pub is_made : is_result pair made
+  pub within : IsWithinLimits made
+  pub accepts_so : accepts pair made
+  pub reads_back : ReadsBackFor pair (accepts pair) (written made pair.labels)
+  pub printed : sent' ≡ append_known sent (written made pair.labels)
+
+-- What a status up to 2 shows: 0 a result, and 1 and 2 do not come.
+pub record ShowsCombined (files : FileMap) (a b : List ℕ) (is_result accepts : Joined → Automaton → Type 0) (status : ℕ) (sent sent' : Option (List ℕ)) : Type 0 where
+  pub shown : status ≡ 0 → IsCombinedShown files a b is_result accepts sent sent'
+  pub no_other : ¬ (status ≡ 1) × ¬ (status ≡ 2)

@@ -1,0 +1,50 @@
+//! `intersect A B`, with `--finite`
+
+ghost use Rattle.std.specs.Prelude.{◌≡◌, ℕ, List as Items, IfOk};
+ghost use Rattle.ba_format.specs.declared.parts.Joined.{Joined as AJoined};
+ghost use Rattle.ba_format.specs.Reading.{IsWithinLimits};
+ghost use Rattle.ba_format.specs.Joining.{IsJoined};
+ghost use Rattle.rabit_frame.specs.Reading.{AreOfKinds};
+ghost use Rattle.rabit_cli.specs.Files.{check_limits, large_limits, HasLabelTexts};
+ghost use Rattle.rabit_cli.specs.Combine.{combined_inputs};
+ghost use Rattle.rabit_cli.specs.Intersect.{IsIntersectionReply, MeansIntersect};
+
+use crate::combining::{joined, printed, too_large};
+use auto_core::{Memory, Mode};
+use auto_ops::OpFault;
+use ba_format::{Joined, Named};
+use rabit_frame::{Reply, Value};
+use std::alloc::Global;
+
+/// The reply to the joined automata: their intersection is printed, unless it is too large.
+fn intersected<'a>(alloc: Global, mode: Mode, pair: &Joined) -> Result<Reply<'a>, Memory>
+    requires { HasLabelTexts pair.now }
+    ensures { IfOk result (IsIntersectionReply mode pair.now) }
+{
+    match auto_ops::intersect(alloc, pair, mode) {
+        Ok(made) => printed(alloc, &made, &pair.labels),
+        Err(OpFault::TooLarge) => too_large(alloc),
+        Err(OpFault::Memory) => Err(Memory),
+    }
+}
+
+/// The reply to the automata.
+fn of_two<'a>(alloc: Global, mode: Mode, one: &Named, two: &Named) -> Result<Reply<'a>, Memory>
+    requires one { IsWithinLimits large_limits one.now }
+    requires two { IsWithinLimits check_limits two.now }
+    ensures { IfOk result (λ reply. (pair : AJoined) × IsJoined one.now two.now pair × IsIntersectionReply mode pair reply) }
+{
+    let pair = joined(alloc, one, two)?;
+    intersected(alloc, mode, &pair)
+}
+
+/// The reply to what was read.
+pub fn reply<'a>(alloc: Global, mode: Mode, values: &[Value]) -> Result<Reply<'a>, Memory>
+    requires { (a b : Items ℕ) × AreOfKinds (combined_inputs a b) values.now }
+    ensures { IfOk result (MeansIntersect mode values.now) }
+{
+    match values {
+        [Value::Automaton(one), Value::Automaton(two)] => of_two(alloc, mode, one, two),
+        _ => unreachable!(),
+    }
+}
