@@ -9,11 +9,10 @@ use Rattle.cert_text.specs.declared.types.Element.{Element}
 use Rattle.cert_text.specs.declared.types.Mark.{Mark}
 use Rattle.cert_text.specs.declared.types.Mark.TheVariants.{Live, Under}
 use Rattle.cert_text.specs.declared.types.StepLine.{StepLine}
-use Rattle.search_laws.proofs.PlaceLemmas.{at_same, at_within, at_some}
+use Rattle.search_laws.proofs.PlaceLemmas.{at_same, at_within, at_some, same_by_places}
 use Rattle.search_laws.proofs.ListLemmas.{at_map}
 use Rattle.evidence.specs.declared.parts.Closure.{Closure}
 use Rattle.evidence.specs.Evidence.{IsMarked, AreLeastSubsumers, IsStepOf, IsEvidenceOf, marked_live}
-use Rattle.evidence.proofs.ListLemmas.{same_by_places}
 use Rattle.evidence.proofs.MarkLemmas.{elements_size}
 
 module _ (R : Rules Entry) (es : List Entry) where

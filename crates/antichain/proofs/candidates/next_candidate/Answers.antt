@@ -6,12 +6,11 @@ use Rattle.auto_core.specs.Outcome.{At}
 use Rattle.auto_core.specs.Pairs.{set_after}
 use Rattle.auto_core.specs.declared.parts.Trans.{Trans}
 use Rattle.auto_core.specs.declared.parts.Origin.TheVariants.{Next}
-use Rattle.search_laws.proofs.PlaceLemmas.{at_same, at_within}
+use Rattle.search_laws.proofs.PlaceLemmas.{at_same, at_within, read_at}
 use Rattle.set_rows.specs.Sets.{IsRow, IsSubset, IsCovered}
 use Rattle.antichain.specs.declared.parts.Held.{Held}
 use Rattle.antichain.specs.declared.sets.Made.{Made}
 use Rattle.antichain.specs.Made.{IsMade, IsKnown}
-use Rattle.evidence.proofs.ListLemmas.{read_at}
 use Rattle.antichain.proofs.KeptLemmas.{next_kept}
 use Rattle.antichain.proofs.candidates.next_candidate.Goals as goal
 

@@ -3,11 +3,10 @@ use Rattle.auto_core.specs.Automaton.{Automaton, trans_at, IsOutgoing}
 use Rattle.auto_core.specs.Outcome.{At, Entry, IsLeastSubsumer, next_entry}
 use Rattle.auto_core.specs.PairOutcome.{pair_rules}
 use Rattle.cert_text.specs.declared.types.StepLine.{StepLine}
-use Rattle.search_laws.proofs.PlaceLemmas.{at_same, at_within, at_some, at_cases}
+use Rattle.search_laws.proofs.PlaceLemmas.{at_same, at_within, at_some, at_cases, read_at}
 use Rattle.antichain.specs.declared.parts.Held.{Held}
 use Rattle.antichain.specs.declared.family.Family.{Family}
 use Rattle.antichain.specs.Kept.{IsKept, IsPrepared, entries_held}
-use Rattle.evidence.proofs.ListLemmas.{read_at}
 use Rattle.antichain.proofs.TurnLemmas.{held_in_range, fits_together, next_is_candidate, candidate_in_range}
 use Rattle.evidence.proofs.StepLemmas.{step_is}
 use Rattle.antichain.proofs.ClosureLemmas.{has_coverer, coverer_is_least}

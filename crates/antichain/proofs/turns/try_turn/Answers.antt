@@ -2,13 +2,12 @@ use Rattle.std.proofs.Common.{◌≡◌, ℕ, ◌+◌, ◌<◌, ◌≤◌, false
 use Rattle.std.proofs.lemmas.List.{get_or_default}
 use Rattle.auto_core.specs.Automaton.{Automaton, IsOutgoing, trans_at}
 use Rattle.auto_core.specs.Outcome.{At, Entry, next_entry}
-use Rattle.search_laws.proofs.PlaceLemmas.{at_within, at_some}
+use Rattle.search_laws.proofs.PlaceLemmas.{at_within, at_some, read_at}
 use Rattle.antichain.specs.declared.parts.Held.{Held}
 use Rattle.antichain.specs.declared.parts.Fate.TheVariants as fates
 use Rattle.antichain.specs.declared.family.Family.{Family}
 use Rattle.evidence.specs.Entries.{entry_of}
 use Rattle.antichain.specs.Kept.{IsKept, HasCome, entries_held}
-use Rattle.evidence.proofs.ListLemmas.{read_at}
 use Rattle.evidence.proofs.RangeLemmas.{extensions_from, extensions_more, extensions_over}
 use Rattle.antichain.proofs.TurnLemmas.{held_in_range, next_is_candidate, come_then, come_ends, turn_begins, turn_passes}
 use Rattle.antichain.proofs.turns.try_turn.Goals as goal
