@@ -6,4 +6,5 @@ pub mod RoundLoop
 pub mod IncomingLemmas
 pub mod HavingLemmas
 pub mod ColumnLemmas
+pub mod LaneLemmas
 pub mod BoundLemmas

@@ -21,15 +21,23 @@ AreColumns M ok n table width count = (i : ℕ) → i < count → IsColumn M ok 
 abbrev pub AreMatches : (ℕ → ℕ → Type 0) → ℕ → List ℕ → ℕ → ℕ → Type 0
 AreMatches ok n table width m = (p q : ℕ) → p < m → q < width * 64 → HasCell table width p q ↔ ((q < n) × ok p q)
 
--- A move from q by the letter a leads to a state of the row.
-abbrev pub LeadsInto : (ℕ → ℕ → ℕ → Type 0) → List ℕ → ℕ → ℕ → Type 0
-LeadsInto M ends a q = (r : ℕ) × M q a r × HasBit ends r
+-- Each of the first lanes is on just those of the n states that have one word; lane j of state q is bit j of word q.
+abbrev pub AreLanes : (ℕ → ℕ → ℕ → Type 0) → (ℕ → ℕ → Type 0) → ℕ → List ℕ → ℕ → Type 0
+AreLanes M ok n lanes used = (j : ℕ) → j < used → (w : List (ℕ × ℕ)) × ((q : ℕ) → q < n → HasCell lanes 1 q j ↔ GoesByWord M ok q w)
 
--- Columns were added, each one of the rows of `made`, and the others stay.
-pub record AddsColumns (old new : List ℕ) (width count more : ℕ) (made : List ℕ) (letters : ℕ) : Type 0 where
+-- Each of the first lanes is on just those of the n states that one of the first columns is on.
+abbrev pub AreLanesOf : ℕ → List ℕ → ℕ → List ℕ → ℕ → ℕ → Type 0
+AreLanesOf n lanes used columns width count = (j : ℕ) → j < used → (i : ℕ) × (i < count) × ((q : ℕ) → q < n → HasCell lanes 1 q j ↔ HasCell columns width i q)
+
+-- A move from q by the letter a leads to a state of the row that lane j is on.
+abbrev pub LeadsToLane : (ℕ → ℕ → ℕ → Type 0) → List ℕ → List ℕ → ℕ → ℕ → ℕ → Type 0
+LeadsToLane M lanes asked a j q = (r : ℕ) × M q a r × HasBit asked r × HasCell lanes 1 r j
+
+-- Columns were added, each one of the first rows of `made`, and the others stay.
+pub record AddsColumns (old new : List ℕ) (width count more : ℕ) (made : List ℕ) (used : ℕ) : Type 0 where
   pub upward : count ≤ more
   pub kept : (i q : ℕ) → i < count → q < width * 64 → cell_of new width i q ≡ cell_of old width i q
-  pub each : (i : ℕ) → count ≤ i → i < more → (a : ℕ) × (a < letters) × ((q : ℕ) → q < width * 64 → cell_of new width i q ≡ cell_of made width a q)
+  pub each : (i : ℕ) → count ≤ i → i < more → (a : ℕ) × (a < used) × ((q : ℕ) → q < width * 64 → cell_of new width i q ≡ cell_of made width a q)
 
 -- Row p lost just what one of the first n columns has not that has p.
 abbrev pub IsRowNarrowed : List ℕ → List ℕ → ℕ → List ℕ → ℕ → ℕ → Type 0

@@ -18,7 +18,7 @@ use std::alloc::Global;
 const MOST_LETTERS: u32 = 64;
 
 /// At most so many words are tried.
-const MOST_WORDS: u32 = 1024;
+const MOST_WORDS: u32 = 2064;
 
 /// Tells whether the row has no bit but its own.
 fn has_no_other(row: &[u64], own: usize) -> bool
@@ -117,8 +117,8 @@ fn relation_of(alloc: Global, table: &[u64], count: u32, width: usize) -> Result
     Ok(rel)
 }
 
-/// The bound, where `table` is room for a row for each state, `columns` for so many words, `ends` for one row, and `made` for a row for
-/// each of the letters.
+/// The bound, where `table` is room for a row for each state, `columns` for so many words, `ends` for one row, `lanes` for a word for each
+/// state, `found` for one word, and `made` for 64 rows.
 fn bound_in<S: Side>(
     alloc: Global,
     side: &S,
@@ -127,8 +127,10 @@ fn bound_in<S: Side>(
     columns: &mut [u64],
     width: usize,
     room: usize,
-    letters: usize,
+    letters: u32,
     ends: &mut [u64],
+    lanes: &mut [u64],
+    found: &mut [u64],
     made: &mut [u64],
 ) -> Result<Rel, Memory>
     requires width { width ≡ (automaton.now.states + 63) / 64 }
@@ -136,13 +138,15 @@ fn bound_in<S: Side>(
     requires some { 1 ≤ room }
     requires columns { length columns.old ≡ room * width }
     requires ends { length ends.old ≡ width }
-    requires made { length made.old ≡ letters * width }
+    requires lanes { length lanes.old ≡ automaton.now.states }
+    requires found { length found.old ≡ 1 }
+    requires made { length made.old ≡ 64 * width }
     ensures { IfOk result (IsBound (S.goes side.now automaton.now) (S.keeps side.now automaton.now) automaton.now.states) }
 {
     let count = automaton.states();
     let kinds = match_rows(alloc, side, automaton, table, ends, width)?;
     let words = write_columns(
-        side, automaton, table, &kinds, columns, width, room, letters, ends, made,
+        side, automaton, table, &kinds, columns, width, room, letters, ends, lanes, found, made,
     );
     narrow(table, count, width, columns, words);
     relation_of(alloc, table, count, width)
@@ -155,12 +159,14 @@ pub fn bound<S: Side>(alloc: Global, side: &S, automaton: &Auto) -> Result<Rel, 
 {
     let count = automaton.states();
     let width = rows::words_for(count);
-    let room = (count / 2 + 16).min(MOST_WORDS) as usize;
-    let letters = automaton.labels().min(MOST_LETTERS) as usize;
+    let room = count.min(MOST_WORDS - 16) as usize + 16;
+    let letters = automaton.labels().min(MOST_LETTERS);
     let mut table = vec![in alloc; 0; count as usize * width]?;
     let mut columns = vec![in alloc; 0; room * width]?;
     let mut ends = vec![in alloc; 0; width]?;
-    let mut made = vec![in alloc; 0; letters * width]?;
+    let mut lanes = vec![in alloc; 0; count as usize]?;
+    let mut found = vec![in alloc; 0; 1]?;
+    let mut made = vec![in alloc; 0; 64 * width]?;
     bound_in(
         alloc,
         side,
@@ -171,6 +177,8 @@ pub fn bound<S: Side>(alloc: Global, side: &S, automaton: &Auto) -> Result<Rel, 
         room,
         letters,
         &mut ends,
+        &mut lanes,
+        &mut found,
         &mut made,
     )
 }

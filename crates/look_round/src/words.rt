@@ -3,55 +3,81 @@
 ghost use Rattle.std.specs.Prelude.{◌≡◌, ◌+◌, ◌*◌, ◌/◌, ◌^◌, ◌<◌, ◌≤◌, ◌↔◌, ◌⊎◌, ℕ, length, All};
 ghost use Rattle.auto_core.specs.Automaton.{IsAutomaton};
 ghost use Rattle.auto_core.specs.Rows.{cell_of, HasBit, HasCell};
-ghost use Rattle.look_round.specs.Words.{LeadsInto, AddsColumns, AreColumns, AreMatches};
+ghost use Rattle.look_round.specs.Words.{LeadsToLane, AddsColumns, AreColumns, AreLanes, AreLanesOf, AreMatches};
 
 use crate::sides::Side;
 use auto_core::{Auto, rows};
-use row_steps::{and_row, mark_below, write_row};
+use row_steps::{mark_below, next_bit, write_row};
 
-/// Marks the state in the row of each letter below `letters` by which a move from it leads to a state of the row `ends`.
-fn mark_moves<S: Side>(
+/// How many words are lengthened at once: one for each bit of a state's word.
+const LANES: usize = 64;
+
+/// Marks place `at` in each of the first `count` rows that a bit of `row` names.
+fn mark_down(table: &mut [u64], width: usize, count: usize, at: usize, row: &[u64])
+    requires table { length table.old ≡ count * width }
+    requires place { at < width * 64 }
+    requires few { length row.now < 2 ^ 32 }
+    ensures here { (r : ℕ) → r < count → HasCell table.new width r at ↔ (HasCell table.old width r at ⊎ HasBit row.now r) }
+    ensures others { (r s : ℕ) → s < width * 64 → ¬ (s ≡ at) → cell_of table.new width r s ≡ cell_of table.old width r s }
+{
+    let mut next = 0;
+    while let Some(r) = next_bit(row, next) {
+        if r >= count {
+            return;
+        }
+        rows::set_cell(table, width, r, at);
+        next = r + 1;
+    }
+}
+
+/// Writes the lanes that a move from the state by the letter leads to, by way of the states of the row `asked`. `found` is one word.
+fn find_lanes<S: Side>(
     side: &S,
     automaton: &Auto,
     q: u32,
-    ends: &[u64],
-    letters: usize,
-    made: &mut [u64],
-    width: usize,
+    label: u32,
+    asked: &[u64],
+    lanes: &[u64],
+    found: &mut [u64],
 )
     requires state { q < automaton.now.states }
-    requires width { width ≡ (automaton.now.states + 63) / 64 }
-    requires ends { length ends.now ≡ width }
-    requires made { length made.old ≡ letters * width }
-    ensures here { (a : ℕ) → a < letters → HasCell made.new width a q ↔ (HasCell made.old width a q ⊎ LeadsInto (S.goes side.now automaton.now) ends.now a q) }
-    ensures others { (a s : ℕ) → s < width * 64 → ¬ (s ≡ q) → cell_of made.new width a s ≡ cell_of made.old width a s }
+    requires asked { length asked.now ≡ (automaton.now.states + 63) / 64 }
+    requires lanes { length lanes.now ≡ automaton.now.states }
+    requires found { length found.old ≡ 1 }
+    ensures { (j : ℕ) → j < 64 → HasBit found.new j ↔ LeadsToLane (S.goes side.now automaton.now) lanes.now asked.now label j q }
 {
+    rows::clear_row(found);
     for at in 0..side.moves(automaton, q) {
         let step = side.nth(automaton, q, at);
-        let label = step.label as usize;
-        if label < letters && rows::has_bit(ends, step.to as usize) {
-            rows::set_cell(made, width, label, q as usize);
+        if step.label == label && rows::has_bit(asked, step.to as usize) {
+            rows::or_into(found, rows::row_at(lanes, 1, step.to as usize));
         }
     }
 }
 
-/// Writes into the row of each letter below `letters` the states from which a move by it leads to a state of the row `ends`.
+/// Writes into the row of each lane the states from which a move by the letter leads to a state of the row `asked` that has the lane.
+/// `found` is one word.
 fn step_back<S: Side>(
     side: &S,
     automaton: &Auto,
-    ends: &[u64],
-    letters: usize,
+    label: u32,
+    asked: &[u64],
+    lanes: &[u64],
+    found: &mut [u64],
     made: &mut [u64],
     width: usize,
 )
     requires width { width ≡ (automaton.now.states + 63) / 64 }
-    requires ends { length ends.now ≡ width }
-    requires made { length made.old ≡ letters * width }
-    ensures { (a q : ℕ) → a < letters → q < automaton.now.states → HasCell made.new width a q ↔ LeadsInto (S.goes side.now automaton.now) ends.now a q }
+    requires asked { length asked.now ≡ width }
+    requires lanes { length lanes.now ≡ automaton.now.states }
+    requires found { length found.old ≡ 1 }
+    requires made { length made.old ≡ 64 * width }
+    ensures { (j q : ℕ) → j < 64 → q < automaton.now.states → HasCell made.new width j q ↔ LeadsToLane (S.goes side.now automaton.now) lanes.now asked.now label j q }
 {
     rows::clear_row(made);
     for q in 0..automaton.states() {
-        mark_moves(side, automaton, q, ends, letters, made, width);
+        find_lanes(side, automaton, q, label, asked, lanes, found);
+        mark_down(made, width, LANES, q as usize, found);
     }
 }
 
@@ -67,23 +93,23 @@ fn is_new(columns: &[u64], width: usize, count: usize, row: &[u64]) -> bool
     row.iter().any(|word| *word != 0)
 }
 
-/// Adds the rows of `made` that are new as columns, as far as there is room for columns, and tells how many there are then.
+/// Adds the first rows of `made` that are new as columns, as far as there is room for columns, and tells how many there are then.
 fn add_columns(
     columns: &mut [u64],
     width: usize,
     count: usize,
     room: usize,
     made: &[u64],
-    letters: usize,
+    used: usize,
 ) -> usize
     requires columns { length columns.old ≡ room * width }
     requires count { count ≤ room }
-    requires made { length made.now ≡ letters * width }
-    ensures adds { AddsColumns columns.old columns.new width count result made.now letters }
+    requires made { used * width ≤ length made.now }
+    ensures adds { AddsColumns columns.old columns.new width count result made.now used }
     ensures room { result ≤ room }
 {
     let mut count = count;
-    for a in 0..letters {
+    for a in 0..used {
         let row = rows::row_at(made, width, a);
         if count < room && is_new(columns, width, count, row) {
             write_row(columns, width, count, row);
@@ -93,19 +119,59 @@ fn add_columns(
     count
 }
 
-/// Adds the columns of the words that go on, by one letter and a state of each kind, with the word of column `at`.
+/// Adds the columns of the words that go on, by a letter below `letters` and the kind whose matches `asked` has, with the words of the lanes.
+fn lengthen_by<S: Side>(
+    side: &S,
+    automaton: &Auto,
+    kind: u32,
+    asked: &[u64],
+    lanes: &[u64],
+    used: usize,
+    columns: &mut [u64],
+    width: usize,
+    count: usize,
+    room: usize,
+    letters: u32,
+    found: &mut [u64],
+    made: &mut [u64],
+) -> usize
+    requires valid { IsAutomaton automaton.now }
+    requires width { width ≡ (automaton.now.states + 63) / 64 }
+    requires size { length asked.now ≡ width }
+    requires asked { (r : ℕ) → r < width * 64 → HasBit asked.now r ↔ ((r < automaton.now.states) × S.keeps side.now automaton.now kind r) }
+    requires lanes_len { length lanes.now ≡ automaton.now.states }
+    requires lanes { AreLanes (S.goes side.now automaton.now) (S.keeps side.now automaton.now) automaton.now.states lanes.now used }
+    requires used { used ≤ 64 }
+    requires room { length columns.old ≡ room * width }
+    requires count { count ≤ room }
+    requires columns { AreColumns (S.goes side.now automaton.now) (S.keeps side.now automaton.now) automaton.now.states columns.old width count }
+    requires found { length found.old ≡ 1 }
+    requires made { length made.old ≡ 64 * width }
+    ensures columns { AreColumns (S.goes side.now automaton.now) (S.keeps side.now automaton.now) automaton.now.states columns.new width result }
+    ensures room { result ≤ room }
+{
+    let mut count = count;
+    for label in 0..letters {
+        step_back(side, automaton, label, asked, lanes, found, made, width);
+        count = add_columns(columns, width, count, room, made, used);
+    }
+    count
+}
+
+/// Adds the columns of the words that go on, by one letter and a state of each kind, with the words of the lanes.
 fn lengthen<S: Side>(
     side: &S,
     automaton: &Auto,
     matches: &[u64],
     kinds: &[u32],
+    lanes: &[u64],
+    used: usize,
     columns: &mut [u64],
     width: usize,
-    at: usize,
     count: usize,
     room: usize,
-    letters: usize,
-    ends: &mut [u64],
+    letters: u32,
+    found: &mut [u64],
     made: &mut [u64],
 ) -> usize
     requires valid { IsAutomaton automaton.now }
@@ -113,22 +179,24 @@ fn lengthen<S: Side>(
     requires size { length matches.now ≡ automaton.now.states * width }
     requires matches { AreMatches (S.keeps side.now automaton.now) automaton.now.states matches.now width automaton.now.states }
     requires kinds { All (λ s. s < automaton.now.states) kinds.now }
+    requires lanes_len { length lanes.now ≡ automaton.now.states }
+    requires lanes { AreLanes (S.goes side.now automaton.now) (S.keeps side.now automaton.now) automaton.now.states lanes.now used }
+    requires used { used ≤ 64 }
     requires room { length columns.old ≡ room * width }
     requires count { count ≤ room }
-    requires at { at < count }
     requires columns { AreColumns (S.goes side.now automaton.now) (S.keeps side.now automaton.now) automaton.now.states columns.old width count }
-    requires ends { length ends.old ≡ width }
-    requires made { length made.old ≡ letters * width }
+    requires found { length found.old ≡ 1 }
+    requires made { length made.old ≡ 64 * width }
     ensures columns { AreColumns (S.goes side.now automaton.now) (S.keeps side.now automaton.now) automaton.now.states columns.new width result }
-    ensures upward { count ≤ result }
     ensures room { result ≤ room }
 {
     let mut count = count;
     for kind in kinds {
-        ends.copy_from_slice(rows::row_at(columns, width, at));
-        and_row(ends, width, 0, rows::row_at(matches, width, *kind as usize));
-        step_back(side, automaton, ends, letters, made, width);
-        count = add_columns(columns, width, count, room, made, letters);
+        let asked = rows::row_at(matches, width, *kind as usize);
+        count = lengthen_by(
+            side, automaton, *kind, asked, lanes, used, columns, width, count, room, letters,
+            found, made,
+        );
     }
     count
 }
@@ -144,56 +212,76 @@ fn has_most(row: &[u64], states: u32) -> bool
     count / 3 > states as usize / 4
 }
 
-/// Tells whether the words of the column with this row are lengthened. A first walk, before which no column was walked, passes over those
-/// that most states have, since they tell little; a second one takes these and the new ones.
-fn has_turn(row: &[u64], states: u32, at: usize, walked: usize) -> bool
+/// Tells whether the row has just one bit.
+fn has_one(row: &[u64]) -> bool
     requires { length row.now < 2 ^ 32 }
 {
+    match next_bit(row, 0) {
+        None => false,
+        Some(first) => match next_bit(row, first + 1) {
+            None => true,
+            Some(_later) => false,
+        },
+    }
+}
+
+/// Tells whether the words of the column with this row are lengthened. A first walk, before which no column was walked, passes over those
+/// that most states have, since they tell little; a second one takes these and the new ones. With `all` it is the turn of each. Once there
+/// are `many` columns it is the turn of those alone that just one state has: long rings are told apart by such.
+fn has_turn(row: &[u64], states: u32, at: usize, walked: usize, all: bool, many: bool) -> bool
+    requires { length row.now < 2 ^ 32 }
+{
+    if many {
+        return at >= walked && has_one(row);
+    }
+    if all {
+        return true;
+    }
     if walked == 0 {
         return at == 0 || !has_most(row, states);
     }
     at >= walked || has_most(row, states)
 }
 
-/// Lengthens the words of column `at` if it is their turn.
-fn lengthen_in_turn<S: Side>(
-    side: &S,
-    automaton: &Auto,
-    matches: &[u64],
-    kinds: &[u32],
-    columns: &mut [u64],
+/// Which columns the lanes have.
+#[derive(Clone, Copy, Debug)]
+struct Filled {
+    used: usize,
+    next: usize,
+}
+
+/// Lets lanes be the columns from `from` on whose turn it is, and tells how many lanes there are and which column comes next.
+fn fill_lanes(
+    columns: &[u64],
     width: usize,
-    at: usize,
+    states: u32,
+    all: bool,
+    many: bool,
     walked: usize,
+    from: usize,
     count: usize,
-    room: usize,
-    letters: usize,
-    ends: &mut [u64],
-    made: &mut [u64],
-) -> usize
-    requires valid { IsAutomaton automaton.now }
+    lanes: &mut [u64],
+) -> Filled
+    requires width { width ≡ (states + 63) / 64 }
     requires few { width < 2 ^ 32 }
-    requires width { width ≡ (automaton.now.states + 63) / 64 }
-    requires size { length matches.now ≡ automaton.now.states * width }
-    requires matches { AreMatches (S.keeps side.now automaton.now) automaton.now.states matches.now width automaton.now.states }
-    requires kinds { All (λ s. s < automaton.now.states) kinds.now }
-    requires room { length columns.old ≡ room * width }
-    requires count { count ≤ room }
-    requires at { at < count }
-    requires columns { AreColumns (S.goes side.now automaton.now) (S.keeps side.now automaton.now) automaton.now.states columns.old width count }
-    requires ends { length ends.old ≡ width }
-    requires made { length made.old ≡ letters * width }
-    ensures columns { AreColumns (S.goes side.now automaton.now) (S.keeps side.now automaton.now) automaton.now.states columns.new width result }
-    ensures room { result ≤ room }
+    requires columns { count * width ≤ length columns.now }
+    requires lanes { length lanes.old ≡ states }
+    ensures lanes { AreLanesOf states lanes.new result.used columns.now width count }
+    ensures used { result.used ≤ 64 }
 {
-    ends.copy_from_slice(rows::row_at(columns, width, at));
-    let turn = kinds.len() < 2 || has_turn(ends, automaton.states(), at, walked);
-    if !turn {
-        return count;
+    rows::clear_row(lanes);
+    let mut used = 0;
+    for at in from..count {
+        if used == LANES {
+            return Filled { used, next: at };
+        }
+        let column = rows::row_at(columns, width, at);
+        if has_turn(column, states, at, walked, all, many) {
+            mark_down(lanes, 1, states as usize, used, column);
+            used += 1;
+        }
     }
-    lengthen(
-        side, automaton, matches, kinds, columns, width, at, count, room, letters, ends, made,
-    )
+    Filled { used, next: count }
 }
 
 /// Adds columns of words, each one letter longer than that of a column whose turn it is, as far as there is room, and tells how many
@@ -208,8 +296,9 @@ fn walk_columns<S: Side>(
     walked: usize,
     count: usize,
     room: usize,
-    letters: usize,
-    ends: &mut [u64],
+    letters: u32,
+    lanes: &mut [u64],
+    found: &mut [u64],
     made: &mut [u64],
 ) -> usize
     requires valid { IsAutomaton automaton.now }
@@ -221,25 +310,43 @@ fn walk_columns<S: Side>(
     requires room { length columns.old ≡ room * width }
     requires count { count ≤ room }
     requires columns { AreColumns (S.goes side.now automaton.now) (S.keeps side.now automaton.now) automaton.now.states columns.old width count }
-    requires ends { length ends.old ≡ width }
-    requires made { length made.old ≡ letters * width }
+    requires lanes { length lanes.old ≡ automaton.now.states }
+    requires found { length found.old ≡ 1 }
+    requires made { length made.old ≡ 64 * width }
     ensures columns { AreColumns (S.goes side.now automaton.now) (S.keeps side.now automaton.now) automaton.now.states columns.new width result }
     ensures room { result ≤ room }
 {
+    let all = kinds.len() < 2;
     let mut count = count;
-    for at in 0..room {
+    let mut at = 0;
+    for _turn in 0..room {
         if at < count && count < room {
-            count = lengthen_in_turn(
-                side, automaton, matches, kinds, columns, width, at, walked, count, room, letters,
-                ends, made,
+            let states = automaton.states();
+            let many = count >= states as usize / 2 + 16;
+            let filled = fill_lanes(columns, width, states, all, many, walked, at, count, lanes);
+            count = lengthen(
+                side,
+                automaton,
+                matches,
+                kinds,
+                lanes,
+                filled.used,
+                columns,
+                width,
+                count,
+                room,
+                letters,
+                found,
+                made,
             );
+            at = filled.next;
         }
     }
     count
 }
 
 /// Writes columns of words of the letters below `letters`, as far as there is room for columns, and tells how many they are.
-/// `ends` is room for one row, `made` for a row for each letter.
+/// `ends` is room for one row, `lanes` for a word for each state, `found` for one word, and `made` for a row for each lane.
 pub(crate) fn write_columns<S: Side>(
     side: &S,
     automaton: &Auto,
@@ -248,8 +355,10 @@ pub(crate) fn write_columns<S: Side>(
     columns: &mut [u64],
     width: usize,
     room: usize,
-    letters: usize,
+    letters: u32,
     ends: &mut [u64],
+    lanes: &mut [u64],
+    found: &mut [u64],
     made: &mut [u64],
 ) -> usize
     requires valid { IsAutomaton automaton.now }
@@ -261,19 +370,22 @@ pub(crate) fn write_columns<S: Side>(
     requires some { 1 ≤ room }
     requires room { length columns.old ≡ room * width }
     requires ends { length ends.old ≡ width }
-    requires made { length made.old ≡ letters * width }
+    requires lanes { length lanes.old ≡ automaton.now.states }
+    requires found { length found.old ≡ 1 }
+    requires made { length made.old ≡ 64 * width }
     ensures columns { AreColumns (S.goes side.now automaton.now) (S.keeps side.now automaton.now) automaton.now.states columns.new width result }
     ensures room { result ≤ room }
 {
     mark_below(ends, automaton.states());
     write_row(columns, width, 0, ends);
     let count = walk_columns(
-        side, automaton, matches, kinds, columns, width, 0, 1, room, letters, ends, made,
+        side, automaton, matches, kinds, columns, width, 0, 1, room, letters, lanes, found, made,
     );
     if kinds.len() < 2 {
         return count;
     }
     walk_columns(
-        side, automaton, matches, kinds, columns, width, count, count, room, letters, ends, made,
+        side, automaton, matches, kinds, columns, width, count, count, room, letters, lanes, found,
+        made,
     )
 }

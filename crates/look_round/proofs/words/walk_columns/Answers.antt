@@ -1,10 +1,24 @@
 use Rattle.std.proofs.Common.{ℕ, ◌≤◌, List, sym, subst}
-use Rattle.look_round.specs.Words.{AreColumns}
+use Rattle.look_round.specs.Words.{AreColumns, AreLanes}
+use Rattle.look_round.proofs.LaneLemmas.{lanes_of_columns}
 use Rattle.look_round.proofs.words.walk_columns.Goals as goal
 use Rattle.look_round.proofs.words.walk_columns.Goals.{then-at-count+then-count-room, else-at-count}
 
-pub loop-at-preserved : goal.loop-at-preserved
-loop-at-preserved g c =
+pub lengthen-count-requires-clause-lanes : goal.lengthen-count-requires-clause-lanes
+lengthen-count-requires-clause-lanes g c =
+    let A = c.args.automaton.now in
+    let s = c.args.side.now in
+    let M = g.S.Side.goes s A in
+    let ok = g.S.Side.keeps s A in
+    let lanes = c.fill_lanes-filled.new.lanes in
+    let used = c.fill_lanes-filled.result.used in
+    let n = c.states-states.result in
+    let count = c.states-states.ensures.count in
+    let these = subst (λ m. AreColumns M ok m c.loop-turn.columns c.args.width c.loop-turn.count) (sym count) c.loop-turn.invariant.0 in
+    subst (λ m. AreLanes M ok m lanes used) count (lanes_of_columns M ok n lanes used c.loop-turn.columns c.args.width c.loop-turn.count these c.fill_lanes-filled.ensures.lanes)
+
+pub loop-turn-preserved : goal.loop-turn-preserved
+loop-turn-preserved g c =
     let A = c.args.automaton.now in
     let s = c.args.side.now in
     let M = g.S.Side.goes s A in
@@ -13,6 +27,6 @@ loop-at-preserved g c =
     elim c.if-at-count.branch [
       | then-at-count+then-count-room w ↦
           subst (λ t. P t c.if-at-count.count) (sym w.columns-is)
-          (subst (λ n. P w.lengthen_in_turn-count.new.columns n) (sym w.count-is) (w.lengthen_in_turn-count.ensures.columns, w.lengthen_in_turn-count.ensures.room))
-      | else-at-count w ↦ subst (λ t. P t c.if-at-count.count) (sym w.columns-is) (subst (λ n. P c.loop-at.columns n) (sym w.count-is) c.loop-at.invariant)
+          (subst (λ n. P w.lengthen-count.new.columns n) (sym w.count-is) (w.lengthen-count.ensures.columns, w.lengthen-count.ensures.room))
+      | else-at-count w ↦ subst (λ t. P t c.if-at-count.count) (sym w.columns-is) (subst (λ n. P c.loop-turn.columns n) (sym w.count-is) c.loop-turn.invariant)
     ]
