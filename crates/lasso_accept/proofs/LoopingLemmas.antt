@@ -10,7 +10,7 @@ use Rattle.auto_core.specs.Reach.{Arc, ReturnsTo}
 use Rattle.auto_core.proofs.PathLemmas.{run_join, run_split}
 use Rattle.auto_core.proofs.ReachLemmas.{close_trans}
 use Rattle.lasso_accept.specs.Plane.{ArePlanes}
-use Rattle.lasso_accept.specs.Looping.{LeadsToMark, AcceptsLoopFrom, AcceptsLassoFrom, AreRests}
+use Rattle.lasso_accept.specs.Looping.{LeadsToMark, AcceptsLoopFrom, AcceptsLassoFrom, AcceptsFromInitial, AreRests}
 use Rattle.lasso_accept.specs.Guide.{IsGuide}
 use Rattle.lasso_accept.proofs.GuideLemmas.{guide_rests}
 use Rattle.lasso_accept.proofs.LassoLemmas.{run_in_range, chain_as_run, run_as_chain, flagged_as_arcs}
@@ -119,4 +119,10 @@ lasso_by_rest A u w v = (
   λ (p, run, l).
       (lasso_by_loop A (u ++ w) v).1
       (l.end, (run.0 || l.flag, run_join A A.initial u p run.0 w l.end l.flag run.1 l.run), l.loop),
+)
+
+pub accepts_from_initial : AcceptsFromInitial
+accepts_from_initial A u v = (
+  λ l. (lasso_by_loop A u v).1 (l.end, (l.flag, l.run), l.loop),
+  λ a. let (p, run, loop) = (lasso_by_loop A u v).0 a in record { end = p; flag = run.0; run = run.1; loop = loop },
 )

@@ -2,6 +2,7 @@
 use Rattle.std.specs.Prelude.{◌≡◌, ◌↔◌, ℕ, ◌+◌, ◌*◌, ◌<◌, ◌≤◌, Bool, true, List, length, drop}
 use Rattle.auto_core.specs.Automaton.{Automaton}
 use Rattle.auto_core.specs.Run.{Run, repeated}
+use Rattle.auto_core.specs.Accept.{AcceptsLasso}
 use Rattle.auto_core.specs.Game.{Close}
 use Rattle.auto_core.specs.Rows.{HasBit, HasCell}
 
@@ -28,6 +29,10 @@ pub record AcceptsLassoFrom (A : Automaton) (u v : List ℕ) (p : ℕ) : Type 0 
   pub flag : Bool
   pub run : Run A p u end flag
   pub loop : AcceptsLoopFrom A v end
+
+-- The automaton accepts a lasso just where it does so from its initial state.
+abbrev pub AcceptsFromInitial : Type 0
+AcceptsFromInitial = (A : Automaton) (u v : List ℕ) → AcceptsLassoFrom A u v A.initial ↔ AcceptsLasso A u v
 
 -- For each place of the prefix u, and for its end, a row of the states from which the rest of u and then v for ever is accepted.
 pub record AreRests (A : Automaton) (u v : List ℕ) (width : ℕ) (table : List ℕ) : Type 0 where

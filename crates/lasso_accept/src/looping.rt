@@ -149,21 +149,21 @@ pub fn accepts_loop_from(alloc: Global, automaton: &Auto, turn: &[u32]) -> Resul
     Ok(out)
 }
 
-/// For each place of the lasso's prefix, and for its end, the row of the states from which the rest of the lasso is accepted. The target
-/// is the row of those from which its loop is.
+/// For each place of the lasso's prefix, and for its end, the row of the states from which the rest of the lasso is accepted. The row
+/// `looping` has those from which its loop is.
 pub fn rests_of(
     alloc: Global,
     automaton: &Auto,
     lasso: &Lasso,
-    target: &[u64],
+    looping: &[u64],
 ) -> Result<Vec<u64>, Memory>
-    requires row { IsRow automaton.now.states target.now }
+    requires row { IsRow automaton.now.states looping.now }
     requires loops { (p : ℕ)
-        → HasBit target.now p
+        → HasBit looping.now p
         ↔ ((p < automaton.now.states) × AcceptsLoopFrom automaton.now lasso.now.turn p) }
     ensures { IfOk result (λ table. AreRests automaton.now lasso.now.prefix lasso.now.turn ((automaton.now.states + 63) / 64) table.items) }
 {
     let width = rows::words_for(automaton.states());
-    let guide = guide::guide_of(alloc, automaton, lasso.prefix.as_slice(), width, target)?;
+    let guide = guide::guide_of(alloc, automaton, lasso.prefix.as_slice(), width, looping)?;
     Ok(guide.any)
 }

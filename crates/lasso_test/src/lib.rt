@@ -2,6 +2,7 @@
 //! accepting state.
 #![tactic(auto)]
 
+pub mod laws;
 mod looping;
 mod passing;
 

@@ -14,6 +14,6 @@ returns c =
     let valid : IsAutomaton A = c.states.ensures.valid in
     let any : List ℕ = c.in_ok-guide.guide.any.items in
     let flagged : List ℕ = c.in_ok-guide.guide.flagged.items in
-    let g : IsGuide A u c.args.target.now width any flagged = search rules in
-    let all : AreRests A u v width any = guide_as_rests A valid u v c.args.target.now width any flagged g c.requires.loops in
+    let g : IsGuide A u c.args.looping.now width any flagged = search rules in
+    let all : AreRests A u v width any = guide_as_rests A valid u v c.args.looping.now width any flagged g c.requires.loops in
     search rules
