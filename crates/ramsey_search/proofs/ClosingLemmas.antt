@@ -10,7 +10,7 @@ use Rattle.cert_text.specs.declared.types.Element.{Element}
 use Rattle.cert_text.specs.declared.types.Mark.{Mark}
 use Rattle.cert_text.specs.declared.types.Mark.TheVariants.{Live, Under}
 use Rattle.cert_text.specs.declared.types.StepLine.{StepLine}
-use Rattle.search_laws.proofs.PlaceLemmas.{at_some}
+use Rattle.search_laws.proofs.PlaceLemmas.{at_some, same_maps}
 use Rattle.search_laws.proofs.ListLemmas.{read_map}
 use Rattle.ramsey_search.specs.Views.{Seen}
 use Rattle.evidence.specs.declared.parts.Closure.{Closure}
@@ -19,7 +19,6 @@ use Rattle.ramsey_search.specs.Kept.{IsWhole, entries_held}
 use Rattle.ramsey_search.specs.Marks.{IsHeldMark, AreMarked}
 use Rattle.evidence.specs.Evidence.{marked_live, IsEvidenceOf, IsStepOf}
 use Rattle.cert_text.specs.WellFormed.{is_live}
-use Rattle.evidence.proofs.ListLemmas.{same_maps}
 use Rattle.evidence.proofs.StepLemmas.{subsumers_of_map}
 use Rattle.evidence.proofs.RangeLemmas.{at_range, filters_alike}
 use Rattle.ramsey_search.proofs.ClosureLemmas.{marks_are}

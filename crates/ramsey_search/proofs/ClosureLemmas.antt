@@ -1,5 +1,8 @@
 -- The evidence of a closed list.
 use Rattle.std.proofs.Common.{◌≡◌, ℕ, ◌+◌, ◌<◌, true, false, List, [], ◌∷◌, ◌++◌, length, slice_index_or, sym, ap, ◌∙◌, subst, inl, inr, arith, length-append}
+use Rattle.std.specs.List.Sorted.{IsStrictlyIncreasing}
+use Rattle.std.proofs.lemmas.List.Kept.{AllPairs-from_increasing}
+use Rattle.std.proofs.lemmas.Option.{get_or_from_slice_get}
 use Rattle.auto_core.specs.Automaton.{Automaton, IsAutomaton, trans_at}
 use Rattle.auto_core.specs.Game.{IsGreatestForward}
 use Rattle.auto_core.specs.Outcome.{At, Entry, Closed, HasSubsumer, IsLeastSubsumer, SearchEnds, base_entry, next_entry, supergraph_rules}
@@ -12,11 +15,21 @@ use Rattle.search_laws.proofs.SearchLemmas.{HasClosed}
 use Rattle.search_laws.proofs.EntryLemmas.{base_starts, next_extends}
 use Rattle.search_laws.proofs.OutcomeLemmas.{closed_end, met_is_subsumed}
 use Rattle.ramsey_search.specs.Views.{Seen, View}
-use Rattle.ramsey_search.specs.Kept.{IsKept, IsFamily, IsWhole, entries_held, NoneSubsumes, held_super}
-use Rattle.ramsey_search.specs.Marks.{IsCovererOf, HasCoverer, IsHeldMark, AreMarked, numbers_beside}
+use Rattle.ramsey_search.specs.Kept.{AreBetween, IsKept, IsFamily, IsWhole, entries_held, NoneSubsumes, held_super}
+use Rattle.ramsey_search.specs.Marks.{IsCovererOf, HasCoverer, IsHeldMark, AreMarked, LiveCoverThemselves, numbers_beside}
 use Rattle.evidence.specs.Evidence.{IsMarked}
-use Rattle.ramsey_search.proofs.MeetLemmas.{none_at_all, first_is_least}
+use Rattle.evidence.proofs.NumberLemmas.{contains_of_at}
+use Rattle.ramsey_search.proofs.KeptLemmas.{kept_itself, to_entries}
+use Rattle.ramsey_search.proofs.MeetLemmas.{among, has_number, none_at_all, first_is_least}
 use Rattle.ramsey_search.proofs.TurnLemmas.{held_in_range}
+
+-- In an ascending list the number at a later place is greater.
+rises : (xs : List ℕ) → IsStrictlyIncreasing xs → (i j x y : ℕ) → At xs i x → At xs j y → i < j → x < y
+rises xs ascending i j x y x_is y_is lt =
+    let below : slice_index_or xs i 0 < slice_index_or xs j 0 = AllPairs-from_increasing xs ascending i j 0 lt (at_within xs j y y_is) in
+    let first : slice_index_or xs i 0 ≡ x = get_or_from_slice_get xs i x 0 x_is in
+    let second : slice_index_or xs j 0 ≡ y = get_or_from_slice_get xs j y 0 y_is in
+    omega arith
 
 -- An element that some element subsumes has a coverer, and that is its least live subsumer.
 module _ (A B : Automaton) (S : List (ℕ × ℕ)) (greatest : IsGreatestForward B 1 S) (n : ℕ) (same : n ≡ B.states) (f : View) (es : List Entry) (family : IsFamily A B S f es)
@@ -79,6 +92,29 @@ module _ (A B : Automaton) (S : List (ℕ × ℕ)) (limit : ℕ) (valid_A : IsAu
         let d = whole.tells.drops i (omega arith) gone in
         let one : d.element ≡ x.0 = at_same es i d.element x.0 d.is x.1 in
         has_coverer A B S greatest n same f es whole h x.0 kept range.0 range.1 (d.place, d.by, d.by_is, subst (λ z. (supergraph_rules A B S).subsumes d.by z) one d.subsumes)
+
+    -- Each live element is its own coverer: of those with its ends, the ones before it are older, and no older one subsumes it.
+    pub live_cover_themselves : (n : ℕ) → n ≡ B.states → LiveCoverThemselves n S f
+    live_cover_themselves n same j h h_is live =
+        let within = at_within f.held j h h_is in
+        let size = whole.size in
+        let x = at_some es j (omega arith) in
+        let kept = whole.kept j h x.0 h_is x.1 in
+        let range = held_in_range A B S valid_A es whole.origins j x.0 h x.1 kept in
+        let numbers : List ℕ = numbers_beside f h in
+        let beside : AreBetween es f.live h.arc.from h.arc.to numbers = among A B S greatest f es h x.0 whole kept range.0 range.1 in
+        let place = has_number A B S greatest f es h x.0 whole kept range.0 range.1 j x.0 x.1 live (to_entries B S greatest h h x.0 x.0 kept kept (kept_itself B S greatest h x.0 kept)) in
+        subst (λ m. IsCovererOf m S f h j) (sym same) (record {
+          place = place.0;
+          is = place.1;
+          element = h;
+          element_is = h_is;
+          subsumes = kept_itself B S greatest h x.0 kept;
+          before = λ k i g lt i_is g_is sub.
+              let lies = beside.only i (contains_of_at numbers k i i_is) in
+              has.grown.fresh i j lies.element x.0 (rises numbers beside.ascending k place.0 i j i_is place.1 lt) lies.is x.1
+              (to_entries B S greatest g h lies.element x.0 (whole.kept i g lies.element g_is lies.is) kept sub);
+        })
 
     -- The marks of the elements.
     module _ (n : ℕ) (same : n ≡ B.states) (elements : List Element) (marked : AreMarked n S f (length f.held) elements) where

@@ -80,3 +80,8 @@ module _ (B : Automaton) (S : List (ℕ × ℕ)) (greatest : IsGreatestForward B
   pub to_held : Subsumes (Holds S) (super_entry B x) (super_entry B y) → HeldSubsumes B.states S h k
   to_held is = joins (held_super B.states h) (super_entry B x) (held_super B.states k) (kept_above B S h x h_kept)
       (joins (super_entry B x) (super_entry B y) (held_super B.states k) is (kept_below B S k y k_kept))
+
+-- A kept element subsumes itself.
+pub kept_itself : (B : Automaton) (S : List (ℕ × ℕ)) → IsGreatestForward B 1 S → (h : Seen) (x : Entry) → IsKept B S h x → HeldSubsumes B.states S h h
+kept_itself B S greatest h x kept =
+    subsumes_trans (Holds S) (greatest_transitive B S greatest) (held_super B.states h) (super_entry B x) (held_super B.states h) (kept_above B S h x kept) (kept_below B S h x kept)

@@ -1,7 +1,7 @@
-pub mod MemoLemmas
-pub mod GraphsLemmas
+pub mod StayLemmas
 pub mod SeenLemmas
 pub mod KeptLemmas
+pub mod EqualLemmas
 pub mod MeetingLemmas
 pub mod EntriesLemmas
 pub mod EnteredLemmas

@@ -1,19 +1,13 @@
 -- Meeting the elements of a list of numbers.
 use Rattle.std.proofs.Common.{◌≡◌, ℕ, ◌+◌, ◌<◌, ◌≤◌, ◌⊎◌, Bool, false, List, length, slice_index_or, slice_set, refl, sym, ap, ◌∙◌, subst, inl, inr, arith}
-use Rattle.std.specs.Prelude.{Some}
 use Rattle.std.proofs.lemmas.Bool.{cases_eq, cases_lt}
 use Rattle.std.proofs.lemmas.List.{get_or-set_other, get_or-set_same, length-set}
-use Rattle.std.proofs.lemmas.Option.{slice_get-get_or}
 use Rattle.auto_core.specs.Game.{Holds}
 use Rattle.auto_core.specs.Graph.{Supergraph, Subsumes}
 use Rattle.auto_core.specs.Outcome.{At}
 use Rattle.search_laws.proofs.PlaceLemmas.{at_same, at_within}
 use Rattle.ramsey_search.specs.Views.{Seen}
 use Rattle.ramsey_search.specs.Kept.{held_super, IsSubsumedOf, AreDropped}
-
--- What is read at a place is there.
-pub read_at : {X : Type 0} (xs : List X) (i : ℕ) (d x : X) → i < length xs → x ≡ slice_index_or xs i d → At xs i x
-read_at xs i d x lt is = slice_get-get_or xs i d lt ∙ ap Some (sym is)
 
 -- The flags so far.
 pub record AreDroppedSoFar (n : ℕ) (S : List (ℕ × ℕ)) (held : List Seen) (numbers : List ℕ) (x : Supergraph) (old new : List Bool) (count : ℕ) : Type 0 where

@@ -6,12 +6,11 @@ use Rattle.auto_core.specs.Outcome.{At, Entry}
 use Rattle.auto_core.specs.declared.parts.Origin.TheVariants.{Start}
 use Rattle.graph_rows.specs.Block.{IsFormed}
 use Rattle.search_laws.proofs.ListLemmas.{at_map}
-use Rattle.search_laws.proofs.PlaceLemmas.{at_same, at_some, at_within}
-use Rattle.evidence.proofs.ListLemmas.{read_at, same_maps}
+use Rattle.search_laws.proofs.PlaceLemmas.{at_same, at_some, at_within, read_at, same_maps}
 use Rattle.ramsey_search.specs.declared.parts.Held.{Held}
 use Rattle.ramsey_search.specs.declared.family.Family.{Family}
-use Rattle.ramsey_search.specs.declared.graphs.Graph.{Graph}
-use Rattle.ramsey_search.specs.Graphs.{block_at}
+use Rattle.shared_graphs.specs.declared.graphs.Graph.{Graph}
+use Rattle.shared_graphs.specs.Graphs.{block_at}
 use Rattle.ramsey_search.specs.Views.{Seen, seen, view}
 use Rattle.ramsey_search.specs.Kept.{AreFormed, IsKept, IsWhole, entries_held}
 

@@ -15,10 +15,10 @@ use Rattle.search_laws.proofs.EntryLemmas.{FitsBehind, origins_more, entry_is_re
 use Rattle.evidence.proofs.RangeLemmas.{extensions_from, steps_out_are, range_more, range_over}
 use Rattle.evidence.specs.Entries.{entry_of, entries_of}
 use Rattle.ramsey_search.specs.declared.family.Family.{Family}
-use Rattle.ramsey_search.specs.declared.graphs.Graph.{Graph}
-use Rattle.ramsey_search.specs.Graphs.{HasGrown}
+use Rattle.shared_graphs.specs.declared.graphs.Graph.{Graph}
+use Rattle.shared_graphs.specs.Graphs.{HasGrown}
 use Rattle.ramsey_search.specs.Views.{Seen, View, view}
-use Rattle.ramsey_search.proofs.GraphsLemmas.{view_stays}
+use Rattle.ramsey_search.proofs.StayLemmas.{view_stays}
 use Rattle.ramsey_search.specs.declared.parts.Fate.{Fate}
 use Rattle.ramsey_search.specs.declared.parts.Fate.TheVariants as fates
 use Rattle.evidence.specs.Tables.{numbers_at}

@@ -12,6 +12,8 @@ use Rattle.auto_core.specs.Graph.{IsPlacedAt}
 use Rattle.auto_core.specs.Outcome.{arcs_in}
 use Rattle.evidence.specs.Tables.{numbers_at}
 use Rattle.evidence.specs.Entries.{entry_of, entries_of}
+use Rattle.supergraph.specs.declared.arcs.Arc.{Arc}
+use Rattle.ramsey_search.specs.declared.parts.Held.{Held}
 use Rattle.ramsey_search.specs.Views.{Seen}
 use Rattle.ramsey_search.specs.declared.parts.Fate.{Fate}
 use Rattle.ramsey_search.specs.declared.parts.Fate.TheVariants as fates
@@ -32,6 +34,13 @@ held_super n h = with_graph h.arc (block_graph n h.graph)
 -- One kept element subsumes another, by the graphs that are kept.
 abbrev pub HeldSubsumes : ℕ → List (ℕ × ℕ) → Seen → Seen → Type 0
 HeldSubsumes n S x y = Subsumes (Holds S) (held_super n x) (held_super n y)
+
+-- The kept element with this number has this arc, and the graph with this number.
+pub record IsEqualTo (held : List Held) (arc : Arc) (graph j : ℕ) : Type 0 where
+  pub element : Held
+  pub is : At held j element
+  pub arc_is : element.arc ≡ arc
+  pub graph_is : element.graph ≡ graph
 
 -- The element with this number is live and leads from p to q.
 pub record LiesBetween (es : List Entry) (live : List Bool) (p q j : ℕ) : Type 0 where

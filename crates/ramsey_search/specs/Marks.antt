@@ -20,6 +20,10 @@ IsCovererOf n S f h j = IsFirstSubsumer n S f.held (numbers_beside f h) (held_su
 abbrev pub HasCoverer : ℕ → List (ℕ × ℕ) → View → Seen → Type 0
 HasCoverer n S f h = NoneSubsumes n S f.held (numbers_beside f h) (held_super n h) → ⊥
 
+-- Of the live elements each is the first that subsumes it.
+abbrev pub LiveCoverThemselves : ℕ → List (ℕ × ℕ) → View → Type 0
+LiveCoverThemselves n S f = (j : ℕ) (h : Seen) → At f.held j h → slice_index_or f.live j false ≡ true → IsCovererOf n S f h j
+
 -- The mark of the kept element, by its flag.
 abbrev pub IsHeldMark : ℕ → List (ℕ × ℕ) → View → Seen → Bool → Mark → Type 0
 IsHeldMark n S f h flag Live = flag ≡ true

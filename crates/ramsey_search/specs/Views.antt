@@ -5,8 +5,8 @@ use Rattle.auto_core.specs.declared.parts.Origin.{Origin}
 use Rattle.supergraph.specs.declared.arcs.Arc.{Arc}
 use Rattle.ramsey_search.specs.declared.parts.Held.{Held}
 use Rattle.ramsey_search.specs.declared.family.Family.{Family}
-use Rattle.ramsey_search.specs.declared.graphs.Graph.{Graph}
-use Rattle.ramsey_search.specs.Graphs.{block_at}
+use Rattle.shared_graphs.specs.declared.graphs.Graph.{Graph}
+use Rattle.shared_graphs.specs.Graphs.{block_at}
 
 -- A kept element with the block of its graph.
 pub record Seen : Type 0 where

@@ -5,13 +5,13 @@ ghost use Rattle.auto_core.specs.Automaton.{IsAutomaton, trans_at};
 ghost use Rattle.auto_core.specs.Game.{IsGreatestForward};
 ghost use Rattle.auto_core.specs.Outcome.{Entry, base_entry, next_entry};
 ghost use Rattle.graph_rows.specs.Block.{IsFormed};
-ghost use Rattle.ramsey_search.specs.Graphs.{HasGrown, IsStock, block_at};
+ghost use Rattle.shared_graphs.specs.Graphs.{HasGrown, IsStock, block_at};
 ghost use Rattle.ramsey_search.specs.Kept.{IsKept};
 ghost use Rattle.ramsey_search.specs.Views.{seen};
 
-use crate::graphs::Graphs;
 use crate::parts::Held;
 use auto_core::{Auto, Memory, Origin};
+use shared_graphs::Graphs;
 use std::alloc::Global;
 
 /// The transition with its letter.

@@ -8,23 +8,22 @@ ghost use Rattle.auto_core.specs.Outcome.{At, Closed, Entry, HasSubsumer, IsLeas
 ghost use Rattle.graph_rows.specs.Block.{IsFormed};
 ghost use Rattle.cert_text.specs.declared.types.StepLine.{StepLine};
 ghost use Rattle.ramsey_search.specs.declared.parts.Held.{Held};
-ghost use Rattle.ramsey_search.specs.Graphs.{HasGrown, IsStock, block_at};
-ghost use Rattle.ramsey_search.specs.Memo.{AllTold};
-ghost use Rattle.ramsey_search.specs.GraphPairs.{FitsCovering};
+ghost use Rattle.shared_graphs.specs.Graphs.{HasGrown, IsStock, block_at};
+ghost use Rattle.shared_graphs.specs.Memo.{AllTold};
+ghost use Rattle.shared_graphs.specs.GraphPairs.{FitsCovering};
 ghost use Rattle.ramsey_search.specs.Views.{seen, view};
 ghost use Rattle.ramsey_search.specs.Kept.{FitsTogether, IsWhole, entries_held};
 ghost use Rattle.evidence.specs.Evidence.{IsEvidenceOf, IsStepOf};
-ghost use Rattle.ramsey_search.specs.Marks.{AreMarked, HasCoverer, IsCovererOf};
+ghost use Rattle.ramsey_search.specs.Marks.{AreMarked, HasCoverer, IsCovererOf, LiveCoverThemselves};
 
 use crate::candidates::{base_candidate, next_candidate};
 use crate::family::Family;
-use crate::graphs::Graphs;
-use crate::memo::Memo;
 use crate::parts::Held;
 use auto_core::{Auto, List, Memory};
 use bit_rel::Rel;
 use cert_text::{Element, Mark, StepLine};
 use evidence::Closure;
+use shared_graphs::{Graphs, Memo};
 use std::alloc::Global;
 
 /// The least live element that subsumes this one; there is one.
@@ -76,6 +75,43 @@ fn elements(
     Ok(elements)
 }
 
+/// The mark of the element with this number.
+fn mark_of(elements: &[Element], number: u32) -> Mark
+    requires { number < length elements.now }
+    ensures { (m : Element) → At elements.now number m → result ≡ m.mark }
+{
+    elements[number as usize].mark
+}
+
+/// The least live element that subsumes this one; there is one. Where an element is equal to this one, its mark tells.
+fn marked_coverer(
+    order: &Rel,
+    graphs: &Graphs,
+    told: &mut Memo,
+    family: &Family,
+    marked: &List<Element>,
+    of: &Held,
+) -> u32
+    requires from { of.now.arc.from < family.now.states }
+    requires to { of.now.arc.to < family.now.states }
+    requires fits { FitsTogether order.now.size (view graphs.now.graphs.items family.now) }
+    requires formed { IsFormed order.now.size (block_at graphs.now.graphs.items of.now.graph) }
+    requires themselves { LiveCoverThemselves order.now.size order.now.pairs (view graphs.now.graphs.items family.now) }
+    requires marked { AreMarked order.now.size order.now.pairs (view graphs.now.graphs.items family.now) (length family.now.held.items) marked.now }
+    requires some { HasCoverer order.now.size order.now.pairs (view graphs.now.graphs.items family.now) (seen graphs.now.graphs.items of.now) }
+    requires told { AllTold (FitsCovering order.now.size order.now.pairs graphs.now.graphs.items) told.old.told.items }
+    ensures told { AllTold (FitsCovering order.now.size order.now.pairs graphs.now.graphs.items) told.new.told.items }
+    ensures coverer { IsCovererOf order.now.size order.now.pairs (view graphs.now.graphs.items family.now) (seen graphs.now.graphs.items of.now) result }
+{
+    if let Some(number) = family.equal_to(&of.arc, of.graph) {
+        match mark_of(marked.as_slice(), number) {
+            Mark::Live => return number,
+            Mark::Under(least) => return least,
+        }
+    }
+    coverer(order, graphs, told, family, of)
+}
+
 /// The least live subsumers of the starts.
 fn cover(
     alloc: Global,
@@ -85,12 +121,15 @@ fn cover(
     graphs: &mut Graphs,
     told: &mut Memo,
     family: &Family,
+    marked: &List<Element>,
 ) -> Result<List<u32>, Memory>
     requires first_valid { IsAutomaton first.now }
     requires second_valid { IsAutomaton second.now }
     requires greatest { IsGreatestForward second.now 1 order.now.pairs }
     requires order_size { order.now.size ≡ second.now.states }
     requires whole { IsWhole first.now second.now order.now.pairs (view graphs.old.graphs.items family.now) }
+    requires themselves { LiveCoverThemselves order.now.size order.now.pairs (view graphs.old.graphs.items family.now) }
+    requires marked { AreMarked order.now.size order.now.pairs (view graphs.old.graphs.items family.now) (length family.now.held.items) marked.now }
     requires some { (t : ℕ) → t < length first.now.transitions → HasSubsumer (supergraph_rules first.now second.now order.now.pairs) (entries_held first.now (view graphs.old.graphs.items family.now)) (base_entry first.now t) }
     requires stock { IsStock second.now graphs.old }
     requires told { AllTold (FitsCovering second.now.states order.now.pairs graphs.old.graphs.items) told.old.told.items }
@@ -103,7 +142,7 @@ fn cover(
     let mut cover = List::new(alloc);
     for t in 0..first.transitions().len() as u32 {
         let start = base_candidate(alloc, first, second, t, graphs)?;
-        cover.push(coverer(order, graphs, told, family, &start))?;
+        cover.push(marked_coverer(order, graphs, told, family, marked, &start))?;
     }
     Ok(cover)
 }
@@ -117,6 +156,7 @@ fn step_line(
     graphs: &mut Graphs,
     told: &mut Memo,
     family: &Family,
+    marked: &List<Element>,
     element: u32,
 ) -> Result<StepLine, Memory>
     requires first_valid { IsAutomaton first.now }
@@ -125,6 +165,8 @@ fn step_line(
     requires order_size { order.now.size ≡ second.now.states }
     requires whole { IsWhole first.now second.now order.now.pairs (view graphs.old.graphs.items family.now) }
     requires element { element < length family.now.held.items }
+    requires themselves { LiveCoverThemselves order.now.size order.now.pairs (view graphs.old.graphs.items family.now) }
+    requires marked { AreMarked order.now.size order.now.pairs (view graphs.old.graphs.items family.now) (length family.now.held.items) marked.now }
     requires some { (x : Entry) (t : ℕ) → At (entries_held first.now (view graphs.old.graphs.items family.now)) element x → t < length first.now.transitions → (trans_at first.now t).source ≡ x.arc.to
         → HasSubsumer (supergraph_rules first.now second.now order.now.pairs) (entries_held first.now (view graphs.old.graphs.items family.now)) (next_entry first.now element x t) }
     requires stock { IsStock second.now graphs.old }
@@ -140,7 +182,7 @@ fn step_line(
     let mut by = List::new(alloc);
     for t in out.begin..out.end {
         let next = next_candidate(alloc, first, second, element, from, t, graphs)?;
-        by.push(coverer(order, graphs, told, family, &next))?;
+        by.push(marked_coverer(order, graphs, told, family, marked, &next))?;
     }
     Ok(StepLine { element, by })
 }
@@ -154,6 +196,7 @@ fn steps(
     graphs: &mut Graphs,
     told: &mut Memo,
     family: &Family,
+    marked: &List<Element>,
 ) -> Result<List<StepLine>, Memory>
     requires first_valid { IsAutomaton first.now }
     requires second_valid { IsAutomaton second.now }
@@ -161,6 +204,8 @@ fn steps(
     requires order_size { order.now.size ≡ second.now.states }
     requires whole { IsWhole first.now second.now order.now.pairs (view graphs.old.graphs.items family.now) }
     requires few { length family.now.held.items < 2 ^ 32 }
+    requires themselves { LiveCoverThemselves order.now.size order.now.pairs (view graphs.old.graphs.items family.now) }
+    requires marked { AreMarked order.now.size order.now.pairs (view graphs.old.graphs.items family.now) (length family.now.held.items) marked.now }
     requires some { (e t : ℕ) (x : Entry) → slice_index_or family.now.live.items e false ≡ true → At (entries_held first.now (view graphs.old.graphs.items family.now)) e x → t < length first.now.transitions
         → (trans_at first.now t).source ≡ x.arc.to
         → HasSubsumer (supergraph_rules first.now second.now order.now.pairs) (entries_held first.now (view graphs.old.graphs.items family.now)) (next_entry first.now e x t) }
@@ -175,7 +220,9 @@ fn steps(
     let mut steps = List::new(alloc);
     for element in 0..family.held.len() as u32 {
         if family.live[element as usize] {
-            steps.push(step_line(alloc, first, second, order, graphs, told, family, element)?)?;
+            steps.push(step_line(
+                alloc, first, second, order, graphs, told, family, marked, element,
+            )?)?;
         }
     }
     Ok(steps)
@@ -202,9 +249,12 @@ pub(crate) fn closure(
     requires told { AllTold (FitsCovering second.now.states order.now.pairs graphs.old.graphs.items) told.old.told.items }
     ensures { IfOk result (IsEvidenceOf (supergraph_rules first.now second.now order.now.pairs) (entries_held first.now (view graphs.old.graphs.items family.now))) }
 {
+    let elements = elements(alloc, order, graphs, told, family)?;
+    let cover = cover(alloc, first, second, order, graphs, told, family, &elements)?;
+    let steps = steps(alloc, first, second, order, graphs, told, family, &elements)?;
     Ok(Closure {
-        elements: elements(alloc, order, graphs, told, family)?,
-        cover: cover(alloc, first, second, order, graphs, told, family)?,
-        steps: steps(alloc, first, second, order, graphs, told, family)?,
+        elements,
+        cover,
+        steps,
     })
 }

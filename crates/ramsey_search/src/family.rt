@@ -1,32 +1,55 @@
 //! The elements that have entered.
 
-ghost use Rattle.std.specs.Prelude.{◌≡◌, ◌+◌, ◌*◌, ◌^◌, ◌<◌, ◌≤◌, ℕ, [], ◌∷◌, ◌++◌, length, MatchOption, IfOk, OnOk};
+ghost use Rattle.std.specs.Prelude.{◌≡◌, ◌+◌, ◌*◌, ◌^◌, ◌<◌, ◌≤◌, ℕ, [], ◌∷◌, ◌++◌, length, MatchOption, IfOk, IfSome, OnOk};
 ghost use Rattle.graph_rows.specs.Block.{IsFormed, block_graph};
 ghost use Rattle.supergraph.specs.Stands.{with_graph};
 ghost use Rattle.evidence.specs.Tables.{numbers_at};
-ghost use Rattle.ramsey_search.specs.Graphs.{block_at};
-ghost use Rattle.ramsey_search.specs.Memo.{AllTold};
-ghost use Rattle.ramsey_search.specs.GraphPairs.{FitsCovering};
+ghost use Rattle.shared_graphs.specs.Graphs.{block_at};
+ghost use Rattle.shared_graphs.specs.Memo.{AllTold};
+ghost use Rattle.shared_graphs.specs.GraphPairs.{FitsCovering};
 ghost use Rattle.ramsey_search.specs.Views.{seen, view};
-ghost use Rattle.ramsey_search.specs.Kept.{FitsTogether, HasEntered, NoneSubsumes, IsFirstSubsumer};
+ghost use Rattle.ramsey_search.specs.Kept.{FitsTogether, HasEntered, IsEqualTo, NoneSubsumes, IsFirstSubsumer};
 
-use crate::graphs::Graphs;
 use crate::meeting::{drop_subsumed, least_subsumer, still_live};
-use crate::memo::Memo;
 use crate::parts::Held;
 use auto_core::Memory;
 use bit_rel::Rel;
+use shared_graphs::{Graphs, Memo};
 use std::alloc::Global;
 use supergraph::Arc;
 
-/// The elements in the order in which they entered, whether each is live, and for each two states of the first automaton the
-/// numbers of the live elements from the one to the other.
+/// How many places there are for the numbers of elements.
+const PLACES: usize = 16384;
+
+/// The elements in the order in which they entered, whether each is live, for each two states of the first automaton the numbers of
+/// the live elements from the one to the other, and the number of the latest element at each place.
 #[derive(Debug, Drop)]
 pub(crate) struct Family {
     pub(crate) states: u32,
     pub(crate) held: Vec<Held>,
     pub(crate) live: Vec<bool>,
     pub(crate) ends: Vec<Vec<u32>>,
+    pub(crate) latest: Vec<u32>,
+}
+
+/// The place, of so many, for an element with this arc and this graph.
+fn place_of(arc: &Arc, graph: u32, places: usize) -> usize {
+    if places == 0 {
+        return 0;
+    }
+    let mut mixed: u64 = if arc.accepting { 0x27D4EB2F165667C5 } else { 0 };
+    mixed = (mixed ^ arc.from as u64).wrapping_mul(0x9E3779B97F4A7C15);
+    mixed = (mixed ^ arc.to as u64).wrapping_mul(0xC2B2AE3D27D4EB4F);
+    mixed = (mixed ^ graph as u64).wrapping_mul(0x9E3779B97F4A7C15);
+    ((mixed ^ (mixed >> 32)) % places as u64) as usize
+}
+
+/// Gives the place of the element to its number.
+fn take_place(latest: &mut Vec<u32>, new: &Held, number: u32) {
+    let place = place_of(&new.arc, new.graph, latest.len());
+    if place < latest.len() {
+        latest[place] = number;
+    }
 }
 
 impl Family {
@@ -47,6 +70,7 @@ impl Family {
             held: Vec::new(alloc),
             live: Vec::new(alloc),
             ends,
+            latest: vec![in alloc; u32::MAX; PLACES]?,
         })
     }
 
@@ -68,6 +92,25 @@ impl Family {
         ensures { result.now ≡ numbers_at self.now.ends.items (from * self.now.states + to) }
     {
         &self.ends[self.place(from, to)]
+    }
+
+    /// The number of an element with this arc and this graph, live or not, if it is the latest at their place.
+    pub(crate) fn equal_to(&self, arc: &Arc, graph: u32) -> Option<u32>
+        ensures { IfSome result (IsEqualTo self.now.held.items arc.now graph) }
+    {
+        let place = place_of(arc, graph, self.latest.len());
+        if place >= self.latest.len() {
+            return None;
+        }
+        let number = self.latest[place];
+        if number as usize >= self.held.len() {
+            return None;
+        }
+        let element = &self.held[number as usize];
+        if element.arc == *arc && element.graph == graph {
+            return Some(number);
+        }
+        None
     }
 
     /// The least live element that subsumes the arc with the graph.
@@ -137,6 +180,7 @@ impl Family {
         self.ends[place] = kept;
         self.held.push(new)?;
         self.live.push(true)?;
+        take_place(&mut self.latest, &new, number);
         Ok(())
     }
 }

@@ -4,11 +4,7 @@
 mod candidates;
 mod closing;
 mod family;
-mod graph_pairs;
-mod graphs;
-mod looping;
 mod meeting;
-mod memo;
 mod pairs;
 mod parts;
 mod searching;

@@ -3,18 +3,16 @@
 ghost use Rattle.std.specs.Prelude.{◌≡◌, length, map, vec_len, MatchOption, IfOk, filter, slice_index_or, false};
 ghost use Rattle.graph_rows.specs.Block.{IsFormed, block_graph};
 ghost use Rattle.supergraph.specs.Stands.{with_graph};
-ghost use Rattle.ramsey_search.specs.Graphs.{block_at};
-ghost use Rattle.ramsey_search.specs.Memo.{AllTold};
-ghost use Rattle.ramsey_search.specs.GraphPairs.{FitsCovering};
+ghost use Rattle.shared_graphs.specs.Graphs.{block_at};
+ghost use Rattle.shared_graphs.specs.Memo.{AllTold};
+ghost use Rattle.shared_graphs.specs.GraphPairs.{FitsCovering};
 ghost use Rattle.ramsey_search.specs.Views.{seen};
 ghost use Rattle.ramsey_search.specs.Kept.{AreFormed, AreThere, NoneSubsumes, IsFirstSubsumer, AreDropped, held_super};
 
-use crate::graph_pairs::subsumes;
-use crate::graphs::Graph;
-use crate::memo::Memo;
 use crate::parts::Held;
 use auto_core::Memory;
 use bit_rel::Rel;
+use shared_graphs::{Graph, Memo, subsumes};
 use std::alloc::Global;
 use supergraph::Arc;
 

@@ -7,16 +7,15 @@ ghost use Rattle.auto_core.specs.Graph.{Passes, Fails};
 ghost use Rattle.auto_core.specs.Outcome.{At, Entry};
 ghost use Rattle.graph_rows.specs.Block.{IsFormed};
 ghost use Rattle.ramsey_search.specs.declared.parts.Held.{Held};
-ghost use Rattle.ramsey_search.specs.Graphs.{block_at};
-ghost use Rattle.ramsey_search.specs.GraphPairs.{AreLassosTold};
+ghost use Rattle.shared_graphs.specs.Graphs.{block_at};
+ghost use Rattle.shared_graphs.specs.GraphPairs.{AreLassosTold};
 ghost use Rattle.ramsey_search.specs.Views.{seen, view};
 ghost use Rattle.ramsey_search.specs.Kept.{AreFormed, AreThere, AreTold, FitsTogether, IsTold, IsWhole, entries_held, held_super};
 
 use crate::family::Family;
-use crate::graph_pairs::GraphPairs;
-use crate::graphs::{Graph, Graphs};
 use crate::parts::{Fate, Held};
 use auto_core::Auto;
+use shared_graphs::{Graph, GraphPairs, Graphs};
 use std::alloc::Global;
 
 /// Tells whether the pair fails: it is tested, and its graphs have no lasso.

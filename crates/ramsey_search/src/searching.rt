@@ -8,12 +8,11 @@ ghost use Rattle.ramsey_search.specs.Ends.{IsOutcomeOf, IsTrueOutcome};
 
 use crate::closing::closure;
 use crate::family::Family;
-use crate::graph_pairs::GraphPairs;
-use crate::graphs::Graphs;
 use crate::parts::{Fate, Held, Outcome};
 use crate::turns::run;
 use auto_core::{Auto, Lasso, List, Memory, Origin};
 use bit_rel::Rel;
+use shared_graphs::{GraphPairs, Graphs};
 use std::alloc::Global;
 use supergraph::word_of;
 

@@ -5,19 +5,18 @@ ghost use Rattle.auto_core.specs.Automaton.{IsAutomaton};
 ghost use Rattle.auto_core.specs.Game.{IsGreatestForward};
 ghost use Rattle.auto_core.specs.Outcome.{At, Entry, HasNoSubsumer, supergraph_rules};
 ghost use Rattle.evidence.specs.Entries.{entry_of};
-ghost use Rattle.ramsey_search.specs.Graphs.{IsStock};
-ghost use Rattle.ramsey_search.specs.GraphPairs.{AreGraphPairs};
+ghost use Rattle.shared_graphs.specs.Graphs.{IsStock};
+ghost use Rattle.shared_graphs.specs.GraphPairs.{AreGraphPairs};
 ghost use Rattle.ramsey_search.specs.Views.{seen, view};
 ghost use Rattle.ramsey_search.specs.Kept.{HasCome, HasEnded, IsCandidate, IsWhole, entries_held};
 
 use crate::candidates::{base_candidate, next_candidate};
 use crate::family::Family;
-use crate::graph_pairs::GraphPairs;
-use crate::graphs::Graphs;
 use crate::pairs::first_failing;
 use crate::parts::{Fate, Held};
 use auto_core::{Auto, Memory};
 use bit_rel::Rel;
+use shared_graphs::{GraphPairs, Graphs};
 use std::alloc::Global;
 
 /// The candidate, which no element subsumes, enters, and its pairs are tested, unless it is one too many.
@@ -53,7 +52,7 @@ fn admit(
     Ok(first_failing(alloc, first, second, graphs, family, number, answers))
 }
 
-/// A candidate comes: it is passed over if a live element subsumes it, and else admitted.
+/// A candidate comes: it is passed over if it is equal to an element or a live element subsumes it, and else admitted.
 fn consider(
     alloc: Global,
     first: &Auto,
@@ -77,6 +76,9 @@ fn consider(
         (entry_of first.now (entries_held first.now (view graphs.now.graphs.items family.old)) new.origin ∷ cs) cs turn turn) }
     ensures answers { AreGraphPairs second.now order.now.pairs graphs.now.graphs.items answers.new }
 {
+    if let Some(_number) = family.equal_to(&new.arc, new.graph) {
+        return Ok(Fate::GoesOn);
+    }
     match family.least(order, graphs, &mut answers.covers, &new.arc, new.graph) {
         Some(_number) => Ok(Fate::GoesOn),
         None => admit(

@@ -4,8 +4,8 @@ use Rattle.auto_core.specs.Graph.{letter_graph}
 use Rattle.auto_core.specs.declared.parts.Trans.{Trans}
 use Rattle.auto_core.specs.declared.parts.Origin.TheVariants.{Base}
 use Rattle.ramsey_search.specs.declared.parts.Held.{Held}
-use Rattle.ramsey_search.specs.declared.graphs.Graph.{Graph}
-use Rattle.ramsey_search.specs.Graphs.{IsGraphOf}
+use Rattle.shared_graphs.specs.declared.graphs.Graph.{Graph}
+use Rattle.shared_graphs.specs.Graphs.{IsGraphOf}
 use Rattle.ramsey_search.specs.Views.{seen}
 use Rattle.ramsey_search.proofs.KeptLemmas.{base_kept}
 use Rattle.ramsey_search.proofs.candidates.base_candidate.Goals as goal

@@ -5,8 +5,8 @@ use Rattle.auto_core.specs.declared.parts.Trans.{Trans}
 use Rattle.auto_core.specs.declared.parts.Origin.TheVariants.{Next}
 use Rattle.graph_rows.specs.Block.{block_graph}
 use Rattle.ramsey_search.specs.declared.parts.Held.{Held}
-use Rattle.ramsey_search.specs.declared.graphs.Graph.{Graph}
-use Rattle.ramsey_search.specs.Graphs.{IsGraphOf, block_at}
+use Rattle.shared_graphs.specs.declared.graphs.Graph.{Graph}
+use Rattle.shared_graphs.specs.Graphs.{IsGraphOf, block_at}
 use Rattle.ramsey_search.specs.Views.{seen}
 use Rattle.ramsey_search.proofs.KeptLemmas.{next_kept}
 use Rattle.ramsey_search.proofs.candidates.next_candidate.Goals as goal

@@ -7,16 +7,16 @@ use Rattle.auto_core.specs.Outcome.{At, Entry, HasSubsumer, next_entry, supergra
 use Rattle.search_laws.proofs.PlaceLemmas.{at_within}
 use Rattle.search_laws.proofs.ListLemmas.{at_map}
 use Rattle.ramsey_search.specs.declared.family.Family.{Family}
-use Rattle.ramsey_search.specs.declared.graphs.Graph.{Graph}
-use Rattle.ramsey_search.specs.Memo.{AllTold}
-use Rattle.ramsey_search.specs.GraphPairs.{FitsCovering}
+use Rattle.shared_graphs.specs.declared.graphs.Graph.{Graph}
+use Rattle.shared_graphs.specs.Memo.{AllTold}
+use Rattle.shared_graphs.specs.GraphPairs.{FitsCovering}
 use Rattle.ramsey_search.specs.Views.{View, seen, view}
-use Rattle.ramsey_search.specs.Marks.{AreMarked}
+use Rattle.ramsey_search.specs.Marks.{AreMarked, LiveCoverThemselves}
 use Rattle.ramsey_search.specs.Kept.{IsWhole, entries_held}
-use Rattle.ramsey_search.proofs.GraphsLemmas.{view_stays}
+use Rattle.ramsey_search.proofs.StayLemmas.{view_stays}
 use Rattle.ramsey_search.proofs.SeenLemmas.{entry_at, held_stands}
 use Rattle.ramsey_search.proofs.TurnLemmas.{held_in_range, fits_together}
-use Rattle.ramsey_search.proofs.ClosureLemmas.{starts_have, steps_have, dropped_have}
+use Rattle.ramsey_search.proofs.ClosureLemmas.{starts_have, steps_have, dropped_have, live_cover_themselves}
 use Rattle.evidence.specs.Evidence.{IsStepOf}
 use Rattle.evidence.specs.declared.parts.Closure.{Closure}
 use Rattle.ramsey_search.proofs.ClosingLemmas.{closure_is}
@@ -140,6 +140,49 @@ steps-requires-clause-some c =
     subst (λ w. HasSubsumer (supergraph_rules A B S) (entries_held A w) (next_entry A e x t)) (sym same)
     (steps_have A B S limit c.requires.first_valid c.requires.second_valid c.requires.greatest v c.requires.whole c.requires.closed.1 e t x live was_is lt leaves)
 
+pub cover-requires-clause-themselves : goal.cover-requires-clause-themselves
+cover-requires-clause-themselves c =
+    let A : Automaton = c.args.first.now in
+    let B : Automaton = c.args.second.now in
+    let S : List (ℕ × ℕ) = c.args.order.now.pairs in
+    let n : ℕ = c.args.order.now.size in
+    let f : Family = c.args.family.now in
+    let g : List Graph = c.args.graphs.now.graphs.items in
+    let v : View = view g f in
+    live_cover_themselves A B S c.requires.closed.0 c.requires.first_valid c.requires.second_valid c.requires.greatest v c.requires.whole c.requires.closed.1 n c.requires.order_size
+
+pub steps-requires-clause-themselves : goal.steps-requires-clause-themselves
+steps-requires-clause-themselves c =
+    let A : Automaton = c.args.first.now in
+    let B : Automaton = c.args.second.now in
+    let S : List (ℕ × ℕ) = c.args.order.now.pairs in
+    let n : ℕ = c.args.order.now.size in
+    let f : Family = c.args.family.now in
+    let g : List Graph = c.args.graphs.now.graphs.items in
+    let v : View = view g f in
+    let es : List Entry = entries_held A v in
+    let g_mid : List Graph = c.cover.new.graphs.graphs.items in
+    let initial = c.requires.second_valid.initial_is_state in
+    let same : view g_mid f ≡ v = view_stays A B S g g_mid f es (omega arith) c.in_ok-cover.ensures.grown c.requires.whole in
+    let themselves : LiveCoverThemselves n S v =
+    live_cover_themselves A B S c.requires.closed.0 c.requires.first_valid c.requires.second_valid c.requires.greatest v c.requires.whole c.requires.closed.1 n c.requires.order_size in
+    subst (LiveCoverThemselves n S) (sym same) themselves
+
+pub steps-requires-clause-marked : goal.steps-requires-clause-marked
+steps-requires-clause-marked c =
+    let A : Automaton = c.args.first.now in
+    let B : Automaton = c.args.second.now in
+    let S : List (ℕ × ℕ) = c.args.order.now.pairs in
+    let n : ℕ = c.args.order.now.size in
+    let f : Family = c.args.family.now in
+    let g : List Graph = c.args.graphs.now.graphs.items in
+    let v : View = view g f in
+    let es : List Entry = entries_held A v in
+    let g_mid : List Graph = c.cover.new.graphs.graphs.items in
+    let initial = c.requires.second_valid.initial_is_state in
+    let same : view g_mid f ≡ v = view_stays A B S g g_mid f es (omega arith) c.in_ok-cover.ensures.grown c.requires.whole in
+    subst (λ w. AreMarked n S w (length f.held.items) c.in_ok-elements.elements) (sym same) c.in_ok-elements.ensures.elements
+
 pub returns : goal.returns
 returns c =
     let A : Automaton = c.args.first.now in
@@ -154,10 +197,10 @@ returns c =
     let g_mid : List Graph = c.cover.new.graphs.graphs.items in
     let initial = c.requires.second_valid.initial_is_state in
     let same : view g_mid f ≡ v = view_stays A B S g g_mid f es (omega arith) c.in_ok-cover.ensures.grown c.requires.whole in
-    let closure : Closure = record { elements = c.in_ok-elements.field-0; cover = c.in_ok-cover.field-0; steps = c.in_ok-steps.field-0 } in
+    let closure : Closure = record { elements = c.in_ok-elements.elements; cover = c.in_ok-cover.cover; steps = c.in_ok-steps.steps } in
     let count : length f.held.items ≡ length v.held = sym (length-map f.held.items (seen g)) in
     closure_is A B S limit c.requires.first_valid c.requires.second_valid c.requires.greatest v c.requires.whole c.requires.closed.1 n c.requires.order_size closure
-    (subst (λ k. AreMarked n S v k c.in_ok-elements.field-0) count c.in_ok-elements.ensures.elements)
+    (subst (λ k. AreMarked n S v k c.in_ok-elements.elements) count c.in_ok-elements.ensures.elements)
     c.in_ok-cover.ensures.size c.in_ok-cover.ensures.each
     (c.in_ok-steps.ensures.lines ∙ ap (λ k. filter (λ e. slice_index_or f.live.items e false) (range_with_len 0 k)) count)
     (λ k l is. subst (λ w. IsStepOf (supergraph_rules A B S) (entries_held A w) l) same (c.in_ok-steps.ensures.each k l is))

@@ -5,13 +5,13 @@ use Rattle.cert_text.specs.declared.types.Element.{Element}
 use Rattle.search_laws.proofs.ListLemmas.{at_map}
 use Rattle.ramsey_search.specs.declared.parts.Held.{Held}
 use Rattle.ramsey_search.specs.declared.family.Family.{Family}
-use Rattle.ramsey_search.specs.declared.graphs.Graph.{Graph}
-use Rattle.ramsey_search.specs.declared.memo.Memo.{Memo}
-use Rattle.ramsey_search.specs.Memo.{AllTold}
-use Rattle.ramsey_search.specs.GraphPairs.{FitsCovering}
+use Rattle.shared_graphs.specs.declared.graphs.Graph.{Graph}
+use Rattle.shared_graphs.specs.declared.memo.Memo.{Memo}
+use Rattle.shared_graphs.specs.Memo.{AllTold}
+use Rattle.shared_graphs.specs.GraphPairs.{FitsCovering}
 use Rattle.ramsey_search.specs.Views.{View, seen, view}
 use Rattle.ramsey_search.specs.Marks.{IsHeldMark, AreMarked}
-use Rattle.evidence.proofs.ListLemmas.{read_at}
+use Rattle.search_laws.proofs.PlaceLemmas.{read_at}
 use Rattle.ramsey_search.proofs.ClosureLemmas.{marked_more}
 use Rattle.ramsey_search.proofs.closing.elements.Goals as goal
 use Rattle.ramsey_search.proofs.closing.elements.Goals.{then-index, else-index}

@@ -1,5 +1,5 @@
-use Rattle.ramsey_search.specs.Memo.{AllTold}
-use Rattle.ramsey_search.specs.GraphPairs.{FitsCovering}
+use Rattle.shared_graphs.specs.Memo.{AllTold}
+use Rattle.shared_graphs.specs.GraphPairs.{FitsCovering}
 use Rattle.ramsey_search.specs.Views.{view}
 use Rattle.ramsey_search.specs.Marks.{AreMarked}
 use Rattle.ramsey_search.proofs.closing.elements.Given as goal

@@ -4,18 +4,19 @@ use Rattle.auto_core.specs.Graph.{WordArc}
 use Rattle.auto_core.specs.Outcome.{At, Entry, HasSubsumer, IsLeastSubsumer, next_entry, supergraph_rules}
 use Rattle.graph_rows.specs.Block.{IsFormed}
 use Rattle.cert_text.specs.declared.types.StepLine.{StepLine}
-use Rattle.search_laws.proofs.PlaceLemmas.{at_same, at_within, at_cases}
+use Rattle.search_laws.proofs.PlaceLemmas.{at_same, at_within, at_cases, read_at}
 use Rattle.ramsey_search.specs.declared.parts.Held.{Held}
 use Rattle.ramsey_search.specs.declared.family.Family.{Family}
-use Rattle.ramsey_search.specs.declared.graphs.Graph.{Graph}
-use Rattle.ramsey_search.specs.Graphs.{HasGrown}
-use Rattle.ramsey_search.specs.Memo.{AllTold}
-use Rattle.ramsey_search.specs.GraphPairs.{FitsCovering}
+use Rattle.shared_graphs.specs.declared.graphs.Graph.{Graph}
+use Rattle.shared_graphs.specs.Graphs.{HasGrown}
+use Rattle.shared_graphs.specs.Memo.{AllTold}
+use Rattle.shared_graphs.specs.GraphPairs.{FitsCovering}
 use Rattle.ramsey_search.specs.Views.{View, seen, view}
+use Rattle.ramsey_search.specs.Marks.{AreMarked, LiveCoverThemselves}
 use Rattle.ramsey_search.specs.Kept.{IsKept, IsWhole, entries_held}
-use Rattle.evidence.proofs.ListLemmas.{read_at}
 use Rattle.evidence.proofs.StepLemmas.{step_is}
-use Rattle.ramsey_search.proofs.GraphsLemmas.{grown_none, grown_more, coverings_stay, view_stays}
+use Rattle.shared_graphs.proofs.GraphsLemmas.{grown_none, grown_more, coverings_stay}
+use Rattle.ramsey_search.proofs.StayLemmas.{view_stays}
 use Rattle.ramsey_search.proofs.SeenLemmas.{entry_at, held_stands}
 use Rattle.ramsey_search.proofs.TurnLemmas.{held_in_range, fits_together, next_is_candidate, candidate_in_range}
 use Rattle.ramsey_search.proofs.ClosureLemmas.{has_coverer, coverer_is_least}
@@ -83,8 +84,8 @@ next_candidate-requires-clause-formed c =
     let mid_kept : IsKept B S (seen g_mid from) x = held_stands A B S g_mid f mid_whole e from x from_is mid_is in
     mid_kept.formed
 
-pub coverer-requires-clause-from : goal.coverer-requires-clause-from
-coverer-requires-clause-from c =
+pub marked_coverer-requires-clause-from : goal.marked_coverer-requires-clause-from
+marked_coverer-requires-clause-from c =
     let A : Automaton = c.args.first.now in
     let B : Automaton = c.args.second.now in
     let S : List (ℕ × ℕ) = c.args.order.now.pairs in
@@ -128,8 +129,8 @@ coverer-requires-clause-from c =
     let range = candidate_in_range A B S c.requires.first_valid es whole.origins (seen g_now h) candidate.0 in
     subst (λ m. h.arc.from < m) (sym whole.states) range.0
 
-pub coverer-requires-clause-to : goal.coverer-requires-clause-to
-coverer-requires-clause-to c =
+pub marked_coverer-requires-clause-to : goal.marked_coverer-requires-clause-to
+marked_coverer-requires-clause-to c =
     let A : Automaton = c.args.first.now in
     let B : Automaton = c.args.second.now in
     let S : List (ℕ × ℕ) = c.args.order.now.pairs in
@@ -173,8 +174,8 @@ coverer-requires-clause-to c =
     let range = candidate_in_range A B S c.requires.first_valid es whole.origins (seen g_now h) candidate.0 in
     subst (λ m. h.arc.to < m) (sym whole.states) range.1
 
-pub coverer-requires-clause-fits : goal.coverer-requires-clause-fits
-coverer-requires-clause-fits c =
+pub marked_coverer-requires-clause-fits : goal.marked_coverer-requires-clause-fits
+marked_coverer-requires-clause-fits c =
     let A : Automaton = c.args.first.now in
     let B : Automaton = c.args.second.now in
     let S : List (ℕ × ℕ) = c.args.order.now.pairs in
@@ -200,8 +201,8 @@ coverer-requires-clause-fits c =
     let es : List Entry = entries_held A now in
     fits_together A B S n now es c.requires.order_size whole
 
-pub coverer-requires-clause-formed : goal.coverer-requires-clause-formed
-coverer-requires-clause-formed c =
+pub marked_coverer-requires-clause-formed : goal.marked_coverer-requires-clause-formed
+marked_coverer-requires-clause-formed c =
     let A : Automaton = c.args.first.now in
     let B : Automaton = c.args.second.now in
     let S : List (ℕ × ℕ) = c.args.order.now.pairs in
@@ -245,8 +246,8 @@ coverer-requires-clause-formed c =
     let range = candidate_in_range A B S c.requires.first_valid es whole.origins (seen g_now h) candidate.0 in
     subst (λ m. IsFormed m (seen g_now h).graph) (sym c.requires.order_size) kept.formed
 
-pub coverer-requires-clause-some : goal.coverer-requires-clause-some
-coverer-requires-clause-some c =
+pub marked_coverer-requires-clause-some : goal.marked_coverer-requires-clause-some
+marked_coverer-requires-clause-some c =
     let A : Automaton = c.args.first.now in
     let B : Automaton = c.args.second.now in
     let S : List (ℕ × ℕ) = c.args.order.now.pairs in
@@ -291,8 +292,40 @@ coverer-requires-clause-some c =
     has_coverer A B S c.requires.greatest n c.requires.order_size now es whole (seen g_now h) (next_entry A e x t) kept range.0 range.1
     (subst (λ v. HasSubsumer (supergraph_rules A B S) (entries_held A v) (next_entry A e x t)) (sym same) (c.requires.some x t x_is lt (source ∙ to)))
 
-pub coverer-requires-clause-told : goal.coverer-requires-clause-told
-coverer-requires-clause-told c =
+pub marked_coverer-requires-clause-themselves : goal.marked_coverer-requires-clause-themselves
+marked_coverer-requires-clause-themselves c =
+    let A : Automaton = c.args.first.now in
+    let B : Automaton = c.args.second.now in
+    let S : List (ℕ × ℕ) = c.args.order.now.pairs in
+    let n : ℕ = c.args.order.now.size in
+    let f : Family = c.args.family.now in
+    let g : List Graph = c.args.graphs.now.graphs.items in
+    let old : View = view g f in
+    let g_mid : List Graph = c.loop-t.graphs.graphs.items in
+    let g_now : List Graph = c.next_candidate.new.graphs.graphs.items in
+    let grown : HasGrown g g_now = grown_more g g_mid g_now c.loop-t.invariant.grown c.in_ok-next.ensures.grown in
+    let initial = c.requires.second_valid.initial_is_state in
+    let same : view g_now f ≡ old = view_stays A B S g g_now f (entries_held A old) (omega arith) grown c.requires.whole in
+    subst (LiveCoverThemselves n S) (sym same) c.requires.themselves
+
+pub marked_coverer-requires-clause-marked : goal.marked_coverer-requires-clause-marked
+marked_coverer-requires-clause-marked c =
+    let A : Automaton = c.args.first.now in
+    let B : Automaton = c.args.second.now in
+    let S : List (ℕ × ℕ) = c.args.order.now.pairs in
+    let n : ℕ = c.args.order.now.size in
+    let f : Family = c.args.family.now in
+    let g : List Graph = c.args.graphs.now.graphs.items in
+    let old : View = view g f in
+    let g_mid : List Graph = c.loop-t.graphs.graphs.items in
+    let g_now : List Graph = c.next_candidate.new.graphs.graphs.items in
+    let grown : HasGrown g g_now = grown_more g g_mid g_now c.loop-t.invariant.grown c.in_ok-next.ensures.grown in
+    let initial = c.requires.second_valid.initial_is_state in
+    let same : view g_now f ≡ old = view_stays A B S g g_now f (entries_held A old) (omega arith) grown c.requires.whole in
+    subst (λ v. AreMarked n S v (length f.held.items) c.args.marked.now) (sym same) c.requires.marked
+
+pub marked_coverer-requires-clause-told : goal.marked_coverer-requires-clause-told
+marked_coverer-requires-clause-told c =
     let A : Automaton = c.args.first.now in
     let B : Automaton = c.args.second.now in
     let S : List (ℕ × ℕ) = c.args.order.now.pairs in
@@ -362,20 +395,20 @@ loop-t-preserved c =
     let now_is : At es e x = subst (λ v. At (entries_held A v) e x) (sym same) x_is in
     let candidate = next_is_candidate A B S es e t x (seen g_now h) now_is lt (source ∙ to) kept in
     let range = candidate_in_range A B S c.requires.first_valid es whole.origins (seen g_now h) candidate.0 in
-    let pushed : c.push.new.self ≡ c.loop-t.by ++ c.coverer.result ∷ [] = c.in_ok-push.ensures.ok in
-    let found : IsLeastSubsumer (supergraph_rules A B S) es (next_entry A e x t) c.coverer.result =
-    coverer_is_least A B S c.requires.greatest n c.requires.order_size now es whole (seen g_now h) (next_entry A e x t) kept range.0 range.1 c.coverer.result c.coverer.ensures.coverer in
-    let least : IsLeastSubsumer (supergraph_rules A B S) (entries_held A old) (next_entry A e x t) c.coverer.result =
-    subst (λ v. IsLeastSubsumer (supergraph_rules A B S) (entries_held A v) (next_entry A e x t) c.coverer.result) same found in
+    let pushed : c.push.new.self ≡ c.loop-t.by ++ c.marked_coverer.result ∷ [] = c.in_ok-push.ensures.ok in
+    let found : IsLeastSubsumer (supergraph_rules A B S) es (next_entry A e x t) c.marked_coverer.result =
+    coverer_is_least A B S c.requires.greatest n c.requires.order_size now es whole (seen g_now h) (next_entry A e x t) kept range.0 range.1 c.marked_coverer.result c.marked_coverer.ensures.coverer in
+    let least : IsLeastSubsumer (supergraph_rules A B S) (entries_held A old) (next_entry A e x t) c.marked_coverer.result =
+    subst (λ v. IsLeastSubsumer (supergraph_rules A B S) (entries_held A v) (next_entry A e x t) c.marked_coverer.result) same found in
     let was : begin + length c.loop-t.by ≡ t = c.loop-t.invariant.size in
-    let more = length-append c.loop-t.by (c.coverer.result ∷ []) in
+    let more = length-append c.loop-t.by (c.marked_coverer.result ∷ []) in
     let total = ap length pushed in
     record {
       stock = c.in_ok-next.ensures.stock;
-      told = subst (λ m. AllTold (FitsCovering m S g_now) c.coverer.new.told.told.items) c.requires.order_size c.coverer.ensures.told;
+      told = subst (λ m. AllTold (FitsCovering m S g_now) c.marked_coverer.new.told.told.items) c.requires.order_size c.marked_coverer.ensures.told;
       grown = grown;
       size = omega arith;
-      each = λ k j y is y_is. elim (at_cases c.loop-t.by c.coverer.result k j (subst (λ l. At l k j) pushed is)) [
+      each = λ k j y is y_is. elim (at_cases c.loop-t.by c.marked_coverer.result k j (subst (λ l. At l k j) pushed is)) [
         | inl before ↦ c.loop-t.invariant.each k j y before y_is
         | inr new ↦
             let here : begin + k ≡ t = ap (λ m. begin + m) new.0 ∙ was in

@@ -1,8 +1,8 @@
 use Rattle.std.proofs.Common.{◌≡◌, ℕ, ◌+◌, length}
 use Rattle.auto_core.specs.Outcome.{At, Entry, IsLeastSubsumer, next_entry, supergraph_rules}
-use Rattle.ramsey_search.specs.Graphs.{IsStock, HasGrown}
-use Rattle.ramsey_search.specs.Memo.{AllTold}
-use Rattle.ramsey_search.specs.GraphPairs.{FitsCovering}
+use Rattle.shared_graphs.specs.Graphs.{IsStock, HasGrown}
+use Rattle.shared_graphs.specs.Memo.{AllTold}
+use Rattle.shared_graphs.specs.GraphPairs.{FitsCovering}
 use Rattle.ramsey_search.specs.Views.{view}
 use Rattle.ramsey_search.specs.Kept.{entries_held}
 use Rattle.ramsey_search.proofs.closing.step_line.Given as goal

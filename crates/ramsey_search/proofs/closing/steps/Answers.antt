@@ -7,17 +7,19 @@ use Rattle.auto_core.specs.Outcome.{At, HasSubsumer, next_entry, supergraph_rule
 use Rattle.cert_text.specs.declared.types.StepLine.{StepLine}
 use Rattle.search_laws.proofs.PlaceLemmas.{at_cases, at_within}
 use Rattle.ramsey_search.specs.declared.family.Family.{Family}
-use Rattle.ramsey_search.specs.declared.graphs.Graph.{Graph}
-use Rattle.ramsey_search.specs.declared.graphs.Graphs.{Graphs}
-use Rattle.ramsey_search.specs.declared.memo.Memo.{Memo}
-use Rattle.ramsey_search.specs.Graphs.{HasGrown, IsStock}
-use Rattle.ramsey_search.specs.Memo.{AllTold}
-use Rattle.ramsey_search.specs.GraphPairs.{FitsCovering}
+use Rattle.shared_graphs.specs.declared.graphs.Graph.{Graph}
+use Rattle.shared_graphs.specs.declared.graphs.Graphs.{Graphs}
+use Rattle.shared_graphs.specs.declared.memo.Memo.{Memo}
+use Rattle.shared_graphs.specs.Graphs.{HasGrown, IsStock}
+use Rattle.shared_graphs.specs.Memo.{AllTold}
+use Rattle.shared_graphs.specs.GraphPairs.{FitsCovering}
 use Rattle.ramsey_search.specs.Views.{View, view}
+use Rattle.ramsey_search.specs.Marks.{AreMarked, LiveCoverThemselves}
 use Rattle.ramsey_search.specs.Kept.{IsWhole, entries_held}
 use Rattle.evidence.specs.Evidence.{IsStepOf}
 use Rattle.evidence.proofs.RangeLemmas.{filter_range_more}
-use Rattle.ramsey_search.proofs.GraphsLemmas.{grown_none, grown_more, view_stays}
+use Rattle.shared_graphs.proofs.GraphsLemmas.{grown_none, grown_more}
+use Rattle.ramsey_search.proofs.StayLemmas.{view_stays}
 use Rattle.ramsey_search.proofs.SeenLemmas.{live_count}
 use Rattle.ramsey_search.proofs.closing.steps.Goals as goal
 use Rattle.ramsey_search.proofs.closing.steps.Goals.{then-index+in_ok-step_line+in_ok-push, else-index}
@@ -44,6 +46,34 @@ step_line-requires-clause-whole c =
     let initial = c.requires.second_valid.initial_is_state in
     let same : view g_mid f ≡ old = view_stays A B S g g_mid f (entries_held A old) (omega arith) c.loop-element.invariant.grown c.requires.whole in
     subst (IsWhole A B S) (sym same) c.requires.whole
+
+pub step_line-requires-clause-themselves : goal.step_line-requires-clause-themselves
+step_line-requires-clause-themselves c =
+    let A : Automaton = c.args.first.now in
+    let B : Automaton = c.args.second.now in
+    let S : List (ℕ × ℕ) = c.args.order.now.pairs in
+    let n : ℕ = c.args.order.now.size in
+    let f : Family = c.args.family.now in
+    let g : List Graph = c.args.graphs.now.graphs.items in
+    let old : View = view g f in
+    let g_mid : List Graph = c.loop-element.graphs.graphs.items in
+    let initial = c.requires.second_valid.initial_is_state in
+    let same : view g_mid f ≡ old = view_stays A B S g g_mid f (entries_held A old) (omega arith) c.loop-element.invariant.grown c.requires.whole in
+    subst (LiveCoverThemselves n S) (sym same) c.requires.themselves
+
+pub step_line-requires-clause-marked : goal.step_line-requires-clause-marked
+step_line-requires-clause-marked c =
+    let A : Automaton = c.args.first.now in
+    let B : Automaton = c.args.second.now in
+    let S : List (ℕ × ℕ) = c.args.order.now.pairs in
+    let n : ℕ = c.args.order.now.size in
+    let f : Family = c.args.family.now in
+    let g : List Graph = c.args.graphs.now.graphs.items in
+    let old : View = view g f in
+    let g_mid : List Graph = c.loop-element.graphs.graphs.items in
+    let initial = c.requires.second_valid.initial_is_state in
+    let same : view g_mid f ≡ old = view_stays A B S g g_mid f (entries_held A old) (omega arith) c.loop-element.invariant.grown c.requires.whole in
+    subst (λ v. AreMarked n S v (length f.held.items) c.args.marked.now) (sym same) c.requires.marked
 
 pub step_line-requires-clause-some : goal.step_line-requires-clause-some
 step_line-requires-clause-some c =

@@ -4,9 +4,9 @@ use Rattle.std.specs.List.{range_with_len}
 use Rattle.auto_core.specs.Outcome.{At, supergraph_rules}
 use Rattle.cert_text.specs.declared.types.StepLine.{StepLine}
 use Rattle.evidence.specs.Evidence.{IsStepOf}
-use Rattle.ramsey_search.specs.Graphs.{IsStock, HasGrown}
-use Rattle.ramsey_search.specs.Memo.{AllTold}
-use Rattle.ramsey_search.specs.GraphPairs.{FitsCovering}
+use Rattle.shared_graphs.specs.Graphs.{IsStock, HasGrown}
+use Rattle.shared_graphs.specs.Memo.{AllTold}
+use Rattle.shared_graphs.specs.GraphPairs.{FitsCovering}
 use Rattle.ramsey_search.specs.Views.{view}
 use Rattle.ramsey_search.specs.Kept.{entries_held}
 use Rattle.ramsey_search.proofs.closing.steps.Given as goal

@@ -3,10 +3,10 @@ use Rattle.std.proofs.lemmas.Bool.{false≢true}
 use Rattle.auto_core.specs.Game.{Holds}
 use Rattle.auto_core.specs.Graph.{Subsumes, Supergraph}
 use Rattle.auto_core.specs.Outcome.{At}
-use Rattle.ramsey_search.specs.declared.graphs.Graph.{Graph}
+use Rattle.shared_graphs.specs.declared.graphs.Graph.{Graph}
 use Rattle.ramsey_search.specs.Views.{Seen, seen}
 use Rattle.ramsey_search.specs.Kept.{held_super}
-use Rattle.evidence.proofs.ListLemmas.{read_at}
+use Rattle.search_laws.proofs.PlaceLemmas.{read_at}
 use Rattle.ramsey_search.proofs.MeetingLemmas.{AreDroppedSoFar, dropped_all, dropped_more, kept_more}
 use Rattle.ramsey_search.proofs.SeenLemmas.{held_of, seen_is, seen_formed}
 use Rattle.ramsey_search.proofs.meeting.drop_subsumed.Goals as goal

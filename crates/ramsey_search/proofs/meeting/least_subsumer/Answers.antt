@@ -5,12 +5,11 @@ use Rattle.auto_core.specs.Graph.{Subsumes}
 use Rattle.auto_core.specs.Outcome.{At}
 use Rattle.graph_rows.specs.Block.{block_graph}
 use Rattle.supergraph.specs.Stands.{with_graph}
-use Rattle.search_laws.proofs.PlaceLemmas.{at_same, at_within}
-use Rattle.ramsey_search.specs.declared.graphs.Graph.{Graph}
-use Rattle.ramsey_search.specs.Graphs.{block_at}
+use Rattle.search_laws.proofs.PlaceLemmas.{at_same, at_within, read_at}
+use Rattle.shared_graphs.specs.declared.graphs.Graph.{Graph}
+use Rattle.shared_graphs.specs.Graphs.{block_at}
 use Rattle.ramsey_search.specs.Views.{Seen, seen}
 use Rattle.ramsey_search.specs.Kept.{held_super}
-use Rattle.evidence.proofs.ListLemmas.{read_at}
 use Rattle.ramsey_search.proofs.SeenLemmas.{held_of, seen_is, seen_formed}
 use Rattle.ramsey_search.proofs.meeting.least_subsumer.Goals as goal
 

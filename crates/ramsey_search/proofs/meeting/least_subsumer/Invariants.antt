@@ -4,9 +4,9 @@ use Rattle.auto_core.specs.Graph.{Subsumes}
 use Rattle.auto_core.specs.Outcome.{At}
 use Rattle.graph_rows.specs.Block.{block_graph}
 use Rattle.supergraph.specs.Stands.{with_graph}
-use Rattle.ramsey_search.specs.Graphs.{block_at}
-use Rattle.ramsey_search.specs.Memo.{AllTold}
-use Rattle.ramsey_search.specs.GraphPairs.{FitsCovering}
+use Rattle.shared_graphs.specs.Graphs.{block_at}
+use Rattle.shared_graphs.specs.Memo.{AllTold}
+use Rattle.shared_graphs.specs.GraphPairs.{FitsCovering}
 use Rattle.ramsey_search.specs.Views.{Seen, seen}
 use Rattle.ramsey_search.specs.Kept.{held_super}
 use Rattle.ramsey_search.proofs.meeting.least_subsumer.Given as goal

@@ -1,11 +1,10 @@
 use Rattle.std.proofs.Common.{ℕ, List, length, map, slice_index_or, refl, ◌∙◌, subst, inl, inr, arith}
 use Rattle.auto_core.specs.Outcome.{At}
-use Rattle.search_laws.proofs.PlaceLemmas.{at_same}
+use Rattle.search_laws.proofs.PlaceLemmas.{at_same, read_at}
 use Rattle.ramsey_search.specs.declared.parts.Held.{Held}
-use Rattle.ramsey_search.specs.declared.graphs.Graph.{Graph}
+use Rattle.shared_graphs.specs.declared.graphs.Graph.{Graph}
 use Rattle.ramsey_search.specs.Views.{Seen, seen}
 use Rattle.ramsey_search.specs.Kept.{AllPass, FailsFirst}
-use Rattle.evidence.proofs.ListLemmas.{read_at}
 use Rattle.ramsey_search.proofs.PairLemmas.{all_pass_more, all_pass_whole}
 use Rattle.ramsey_search.proofs.SeenLemmas.{held_of, held_is, seen_is, seen_formed}
 use Rattle.ramsey_search.proofs.pairs.first_among.Goals as goal

@@ -1,5 +1,5 @@
 use Rattle.std.proofs.Common.{◌≡◌, map}
-use Rattle.ramsey_search.specs.GraphPairs.{AreLassosTold}
+use Rattle.shared_graphs.specs.GraphPairs.{AreLassosTold}
 use Rattle.ramsey_search.specs.Views.{seen}
 use Rattle.ramsey_search.specs.Kept.{AllPass}
 use Rattle.ramsey_search.proofs.pairs.first_among.Given as goal

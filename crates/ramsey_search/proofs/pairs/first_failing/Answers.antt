@@ -3,11 +3,11 @@ use Rattle.auto_core.specs.Automaton.{Automaton}
 use Rattle.auto_core.specs.Outcome.{At}
 use Rattle.search_laws.proofs.ListLemmas.{at_map}
 use Rattle.ramsey_search.specs.declared.parts.Held.{Held}
-use Rattle.ramsey_search.specs.declared.graphs.Graph.{Graph}
+use Rattle.shared_graphs.specs.declared.graphs.Graph.{Graph}
 use Rattle.evidence.specs.Tables.{numbers_at}
 use Rattle.ramsey_search.specs.Views.{View, seen, view}
 use Rattle.ramsey_search.specs.Kept.{AreTold, entries_held}
-use Rattle.evidence.proofs.ListLemmas.{read_at}
+use Rattle.search_laws.proofs.PlaceLemmas.{read_at}
 use Rattle.ramsey_search.proofs.PairLemmas.{told_after, told_before, told_nothing}
 use Rattle.ramsey_search.proofs.pairs.first_failing.Goals as goal
 

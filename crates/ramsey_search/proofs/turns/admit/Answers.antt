@@ -4,11 +4,11 @@ use Rattle.auto_core.specs.Automaton.{Automaton}
 use Rattle.auto_core.specs.Outcome.{At, Entry}
 use Rattle.graph_rows.specs.Block.{IsFormed}
 use Rattle.search_laws.proofs.PlaceLemmas.{at_new, at_within}
-use Rattle.ramsey_search.specs.declared.memo.Memo.{Memo}
-use Rattle.ramsey_search.specs.declared.graphs.Graph.{Graph}
+use Rattle.shared_graphs.specs.declared.memo.Memo.{Memo}
+use Rattle.shared_graphs.specs.declared.graphs.Graph.{Graph}
 use Rattle.evidence.specs.Entries.{entry_of}
-use Rattle.ramsey_search.specs.Memo.{AllTold}
-use Rattle.ramsey_search.specs.GraphPairs.{FitsCovering}
+use Rattle.shared_graphs.specs.Memo.{AllTold}
+use Rattle.shared_graphs.specs.GraphPairs.{FitsCovering}
 use Rattle.ramsey_search.specs.Views.{Seen, View, seen, view}
 use Rattle.ramsey_search.specs.Kept.{IsFamily, HasEntered, IsTold, entries_held, IsWhole}
 use Rattle.ramsey_search.proofs.EntriesLemmas.{entries_entered}

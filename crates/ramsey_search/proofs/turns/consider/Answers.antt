@@ -2,13 +2,14 @@ use Rattle.std.proofs.Common.{ℕ, ◌+◌, ◌*◌, ◌<◌, List, sym, subst}
 use Rattle.auto_core.specs.Automaton.{Automaton}
 use Rattle.auto_core.specs.Outcome.{Entry}
 use Rattle.graph_rows.specs.Block.{IsFormed}
-use Rattle.ramsey_search.specs.declared.graphs.Graph.{Graph}
+use Rattle.shared_graphs.specs.declared.graphs.Graph.{Graph}
 use Rattle.evidence.specs.Entries.{entry_of}
 use Rattle.evidence.specs.Tables.{numbers_at}
-use Rattle.ramsey_search.specs.Memo.{AllTold}
-use Rattle.ramsey_search.specs.GraphPairs.{FitsCovering}
+use Rattle.shared_graphs.specs.Memo.{AllTold}
+use Rattle.shared_graphs.specs.GraphPairs.{FitsCovering}
 use Rattle.ramsey_search.specs.Views.{Seen, View, seen, view}
 use Rattle.ramsey_search.specs.Kept.{entries_held, NoneSubsumes, IsFirstSubsumer, held_super}
+use Rattle.ramsey_search.proofs.EqualLemmas.{equal_subsumes}
 use Rattle.ramsey_search.proofs.MeetLemmas.{none_at_all, first_subsumes}
 use Rattle.ramsey_search.proofs.SeenLemmas.{few_seen}
 use Rattle.ramsey_search.proofs.TurnLemmas.{candidate_in_range, fits_together, come_past}
@@ -69,8 +70,8 @@ least-requires-clause-told c =
     let es : List Entry = entries_held A f in
     subst (λ n. AllTold (FitsCovering n S graphs) c.args.answers.now.covers.told.items) (sym c.requires.order_size) c.requires.answers.covers
 
-pub returns-in-Some-clause-answers : goal.returns-in-Some-clause-answers
-returns-in-Some-clause-answers c =
+pub returns-in-Some-least-clause-answers : goal.returns-in-Some-least-clause-answers
+returns-in-Some-least-clause-answers c =
     let A : Automaton = c.args.first.now in
     let B : Automaton = c.args.second.now in
     let S : List (ℕ × ℕ) = c.args.order.now.pairs in
@@ -122,9 +123,22 @@ returns-in-Some-clause-come c =
     let f : View = view graphs c.args.family.now in
     let h : Seen = seen graphs c.args.new in
     let es : List Entry = entries_held A f in
+    come_past A B S c.args.limit f (entry_of A es h.origin) cs turn c.requires.whole (few_seen graphs c.args.family.now c.args.limit c.requires.few)
+    (equal_subsumes A B S c.requires.greatest graphs c.args.family.now c.requires.whole c.args.new (entry_of A es h.origin) c.requires.candidate.kept c.in-Some._number c.in-Some.ensures)
+
+pub returns-in-Some-least-clause-come : goal.returns-in-Some-least-clause-come
+returns-in-Some-least-clause-come c =
+    λ cs turn.
+    let A : Automaton = c.args.first.now in
+    let B : Automaton = c.args.second.now in
+    let S : List (ℕ × ℕ) = c.args.order.now.pairs in
+    let graphs : List Graph = c.args.graphs.now.graphs.items in
+    let f : View = view graphs c.args.family.now in
+    let h : Seen = seen graphs c.args.new in
+    let es : List Entry = entries_held A f in
     let ends = candidate_in_range A B S c.requires.first_valid es c.requires.whole.origins h c.requires.candidate in
     let numbers : List ℕ = numbers_at f.ends (h.arc.from * f.states + h.arc.to) in
-    let found : IsFirstSubsumer c.args.order.now.size S f.held numbers (held_super c.args.order.now.size h) c.in-Some._number = c.in-Some.ensures.found in
+    let found : IsFirstSubsumer c.args.order.now.size S f.held numbers (held_super c.args.order.now.size h) c.in-Some-least._number = c.in-Some-least.ensures.found in
     come_past A B S c.args.limit f (entry_of A es h.origin) cs turn c.requires.whole (few_seen graphs c.args.family.now c.args.limit c.requires.few)
-    (first_subsumes A B S c.requires.greatest f es h (entry_of A es h.origin) c.requires.whole c.requires.candidate.kept ends.0 ends.1 c.in-Some._number
-    (subst (λ n. IsFirstSubsumer n S f.held numbers (held_super n h) c.in-Some._number) c.requires.order_size found))
+    (first_subsumes A B S c.requires.greatest f es h (entry_of A es h.origin) c.requires.whole c.requires.candidate.kept ends.0 ends.1 c.in-Some-least._number
+    (subst (λ n. IsFirstSubsumer n S f.held numbers (held_super n h) c.in-Some-least._number) c.requires.order_size found))

@@ -2,7 +2,7 @@ use Rattle.std.proofs.Common.{◌≡◌, ℕ, ◌≤◌, List, length, vec_len, 
 use Rattle.auto_core.specs.Automaton.{Automaton}
 use Rattle.ramsey_search.specs.declared.parts.Fate.TheVariants as fates
 use Rattle.ramsey_search.specs.declared.family.Family.{Family}
-use Rattle.ramsey_search.specs.declared.graphs.Graph.{Graph}
+use Rattle.shared_graphs.specs.declared.graphs.Graph.{Graph}
 use Rattle.ramsey_search.specs.Views.{seen, view}
 use Rattle.ramsey_search.proofs.SeenLemmas.{few_seen, few_held}
 use Rattle.ramsey_search.proofs.TurnLemmas.{has_ended}

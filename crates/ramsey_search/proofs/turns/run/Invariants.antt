@@ -1,8 +1,8 @@
 use Rattle.std.proofs.Common.{◌-◌, ◌≤◌, []}
 use Rattle.auto_core.specs.Outcome.{supergraph_rules}
 use Rattle.ramsey_search.specs.declared.parts.Fate.TheVariants as fates
-use Rattle.ramsey_search.specs.Graphs.{IsStock}
-use Rattle.ramsey_search.specs.GraphPairs.{AreGraphPairs}
+use Rattle.shared_graphs.specs.Graphs.{IsStock}
+use Rattle.shared_graphs.specs.GraphPairs.{AreGraphPairs}
 use Rattle.ramsey_search.specs.Views.{view}
 use Rattle.ramsey_search.specs.Kept.{HasCome}
 use Rattle.ramsey_search.proofs.turns.run.Given as goal

@@ -4,11 +4,11 @@ use Rattle.auto_core.specs.Outcome.{Entry, base_entry, supergraph_rules}
 use Rattle.ramsey_search.specs.declared.parts.Held.{Held}
 use Rattle.ramsey_search.specs.declared.parts.Fate.TheVariants as fates
 use Rattle.ramsey_search.specs.declared.family.Family.{Family}
-use Rattle.ramsey_search.specs.declared.graphs.Graph.{Graph}
+use Rattle.shared_graphs.specs.declared.graphs.Graph.{Graph}
 use Rattle.evidence.specs.Entries.{entry_of}
 use Rattle.ramsey_search.specs.Views.{View, seen, view}
 use Rattle.ramsey_search.specs.Kept.{IsKept, HasCome, entries_held}
-use Rattle.ramsey_search.proofs.GraphsLemmas.{pairs_stay}
+use Rattle.shared_graphs.proofs.GraphsLemmas.{pairs_stay}
 use Rattle.ramsey_search.proofs.SeenLemmas.{few_held}
 use Rattle.ramsey_search.proofs.TurnLemmas.{base_is_candidate, starts_from, starts_more, come_then, come_ends, come_stays}
 use Rattle.ramsey_search.proofs.turns.try_starts.Goals as goal

@@ -1,7 +1,7 @@
 use Rattle.auto_core.specs.Outcome.{supergraph_rules}
 use Rattle.ramsey_search.specs.declared.parts.Fate.TheVariants as fates
-use Rattle.ramsey_search.specs.Graphs.{IsStock}
-use Rattle.ramsey_search.specs.GraphPairs.{AreGraphPairs}
+use Rattle.shared_graphs.specs.Graphs.{IsStock}
+use Rattle.shared_graphs.specs.GraphPairs.{AreGraphPairs}
 use Rattle.ramsey_search.specs.Views.{view}
 use Rattle.ramsey_search.specs.Kept.{HasCome}
 use Rattle.ramsey_search.proofs.TurnLemmas.{starts_from}

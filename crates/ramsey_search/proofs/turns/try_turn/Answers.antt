@@ -6,13 +6,13 @@ use Rattle.auto_core.specs.Outcome.{At, Entry, next_entry}
 use Rattle.ramsey_search.specs.declared.parts.Held.{Held}
 use Rattle.ramsey_search.specs.declared.parts.Fate.TheVariants as fates
 use Rattle.ramsey_search.specs.declared.family.Family.{Family}
-use Rattle.ramsey_search.specs.declared.graphs.Graph.{Graph}
+use Rattle.shared_graphs.specs.declared.graphs.Graph.{Graph}
 use Rattle.evidence.specs.Entries.{entry_of}
 use Rattle.ramsey_search.specs.Views.{View, seen, view}
 use Rattle.ramsey_search.specs.Kept.{IsKept, HasCome, entries_held}
-use Rattle.evidence.proofs.ListLemmas.{read_at}
+use Rattle.search_laws.proofs.PlaceLemmas.{read_at}
 use Rattle.evidence.proofs.RangeLemmas.{extensions_from, extensions_more, extensions_over}
-use Rattle.ramsey_search.proofs.GraphsLemmas.{pairs_stay}
+use Rattle.shared_graphs.proofs.GraphsLemmas.{pairs_stay}
 use Rattle.ramsey_search.proofs.SeenLemmas.{few_seen, few_held, in_seen, live_count, entry_at, held_within, held_stands}
 use Rattle.ramsey_search.proofs.TurnLemmas.{held_in_range, next_is_candidate, come_then, come_ends, come_stays, turn_begins, turn_passes}
 use Rattle.ramsey_search.proofs.turns.try_turn.Goals as goal

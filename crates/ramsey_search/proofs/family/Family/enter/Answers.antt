@@ -3,7 +3,7 @@ use Rattle.std.specs.Prelude.{filter}
 use Rattle.std.proofs.lemmas.List.{length-map, map-append}
 use Rattle.std.specs.declared.alloc.Global.{Global}
 use Rattle.auto_core.specs.Outcome.{At}
-use Rattle.ramsey_search.specs.declared.graphs.Graph.{Graph}
+use Rattle.shared_graphs.specs.declared.graphs.Graph.{Graph}
 use Rattle.evidence.specs.Tables.{numbers_at}
 use Rattle.ramsey_search.specs.Views.{Seen, seen}
 use Rattle.ramsey_search.specs.Kept.{AreDropped, AreFormed, held_super}

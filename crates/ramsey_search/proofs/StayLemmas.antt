@@ -1,0 +1,44 @@
+-- The family looks the same as graphs come.
+use Rattle.std.proofs.Common.{◌≡◌, ℕ, zero, suc, ◌*◌, ◌<◌, ◌≤◌, ◌↔◌, List, [], ◌∷◌, ◌++◌, length, map, slice_index_or, Option, refl, sym, ap, ◌∙◌, subst, inl, inr, arith, length-append}
+use Rattle.std.specs.Prelude.{IsTrue}
+use Rattle.auto_core.specs.Game.{Holds}
+use Rattle.std.proofs.lemmas.Bool.{cases_lt}
+use Rattle.std.proofs.lemmas.List.{get_or_append_left, get_or_past, length-map, map-append}
+use Rattle.auto_core.specs.Automaton.{Automaton}
+use Rattle.auto_core.specs.Graph as words
+use Rattle.auto_core.specs.Outcome.{At, Entry}
+use Rattle.graph_rows.specs.Block.{IsFormed, block_graph, width_of}
+use Rattle.search_laws.proofs.PlaceLemmas.{at_same, at_within, at_some, at_new, same_maps}
+use Rattle.search_laws.proofs.ListLemmas.{at_map, read_map}
+use Rattle.shared_graphs.specs.declared.memo.Answer.{Answer}
+use Rattle.shared_graphs.specs.declared.memo.Answer.TheVariants.{Number, Truth}
+use Rattle.shared_graphs.specs.declared.memo.Told.{Told}
+use Rattle.ramsey_search.specs.declared.parts.Held.{Held}
+use Rattle.ramsey_search.specs.declared.family.Family.{Family}
+use Rattle.shared_graphs.specs.declared.graphs.Graph.{Graph}
+use Rattle.shared_graphs.specs.declared.graphs.Graphs.{Graphs}
+use Rattle.shared_graphs.specs.declared.graph_pairs.GraphPairs.{GraphPairs}
+use Rattle.shared_graphs.specs.declared.looping.Marked.{Marked}
+use Rattle.shared_graphs.specs.Memo.{AllTold, NothingTold, HasAnswer, HasNoted}
+use Rattle.shared_graphs.specs.Graphs.{block_at, IsThere, HasGrown, IsGraphOf, HasAdded, HasNumber, FitsLetter, FitsStep}
+use Rattle.shared_graphs.specs.GraphPairs.{FitsCovering, FitsLasso, AreGraphPairs}
+use Rattle.shared_graphs.specs.Looping.{AreMarked, IsLoopRow}
+use Rattle.ramsey_search.specs.Views.{seen, view}
+use Rattle.ramsey_search.specs.Kept.{IsFamily}
+use Rattle.shared_graphs.proofs.GraphsLemmas.{formed_there}
+
+pub view_stays : (A B : Automaton) (S : List (ℕ × ℕ)) (old now : List Graph) (f : Family) (es : List Entry) → 1 ≤ B.states → HasGrown old now → IsFamily A B S (view old f) es → view now f ≡ view old f
+view_stays A B S old now f es some grown family =
+    ap (λ l. record { states = f.states; held = l; live = f.live.items; ends = f.ends.items })
+    (same_maps (seen now) (seen old) f.held.items f.held.items refl (λ i x y x_is y_is.
+    let one : x ≡ y = at_same f.held.items i x y x_is y_is in
+    let count = length-map f.held.items (seen old) in
+    let in_held = at_within f.held.items i x x_is in
+    let size = family.size in
+    let e = at_some es i (omega arith) in
+    let kept = family.kept i (seen old x) e.0 (at_map (seen old) f.held.items i x x_is) e.1 in
+    let there = formed_there B.states old x.graph some kept.formed in
+    seen_stays old now x (grown.same x.graph there) ∙ ap (seen old) one))
+  where
+    seen_stays : (old now : List Graph) (h : Held) → block_at now h.graph ≡ block_at old h.graph → seen now h ≡ seen old h
+    seen_stays old now h e = ap (λ l. record { origin = h.origin; arc = h.arc; graph = l }) e

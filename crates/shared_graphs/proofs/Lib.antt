@@ -1,0 +1,2 @@
+pub mod MemoLemmas
+pub mod GraphsLemmas

@@ -1,0 +1,4 @@
+pub mod Memo
+pub mod Graphs
+pub mod Looping
+pub mod GraphPairs

@@ -1,0 +1,27 @@
+-- Answers about two numbers, as they are remembered.
+use Rattle.std.specs.Prelude.{◌≡◌, ℕ, ◌⊎◌, List, Option, Some}
+use Rattle.auto_core.specs.Outcome.{At}
+use Rattle.shared_graphs.specs.declared.memo.Answer.{Answer}
+use Rattle.shared_graphs.specs.declared.memo.Told.{Told}
+
+-- Each answer that is remembered fits its two numbers.
+abbrev pub AllTold : (ℕ → ℕ → Answer → Type 0) → List (Option Told) → Type 0
+AllTold fits told = (k : ℕ) (t : Told) → At told k (Some t) → fits t.first t.second t.answer
+
+-- No answer is remembered.
+abbrev pub NothingTold : List (Option Told) → Type 0
+NothingTold told = (k : ℕ) (t : Told) → At told k (Some t) → ⊥
+
+-- This answer about the two numbers is remembered.
+pub record HasAnswer (told : List (Option Told)) (first second : ℕ) (answer : Answer) : Type 0 where
+  pub place : ℕ
+  pub here : Told
+  pub is : At told place (Some here)
+  pub first_is : here.first ≡ first
+  pub second_is : here.second ≡ second
+  pub answer_is : here.answer ≡ answer
+
+-- No answer has come but this one.
+abbrev pub HasNoted : ℕ → ℕ → Answer → List (Option Told) → List (Option Told) → Type 0
+HasNoted first second answer old now =
+    (k : ℕ) (t : Told) → At now k (Some t) → At old k (Some t) ⊎ ((t.first ≡ first) × (t.second ≡ second) × (t.answer ≡ answer))

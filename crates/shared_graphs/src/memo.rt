@@ -1,0 +1,86 @@
+//! Answers that are remembered, in a table of fixed size: a later one may take the place of an earlier one.
+
+ghost use Rattle.std.specs.Prelude.{IfOk, IfSome};
+ghost use Rattle.shared_graphs.specs.Memo.{NothingTold, HasAnswer, HasNoted};
+
+use auto_core::Memory;
+use std::alloc::Global;
+
+/// An answer about two numbers.
+#[derive(Clone, Copy, Debug)]
+pub enum Answer {
+    /// A number.
+    Number(u32),
+    /// Whether something is so.
+    Truth(bool),
+}
+
+/// What was answered about two numbers.
+#[derive(Clone, Copy, Debug)]
+pub struct Told {
+    pub first: u32,
+    pub second: u32,
+    pub answer: Answer,
+}
+
+/// The answers, each at the place of its two numbers.
+#[derive(Debug, Drop)]
+pub struct Memo {
+    pub told: Vec<Option<Told>>,
+}
+
+/// The place of the two numbers.
+fn place_of(first: u32, second: u32, places: usize) -> usize {
+    if places == 0 {
+        return 0;
+    }
+    let mut mixed = (first as u64).wrapping_mul(0x9E3779B97F4A7C15);
+    mixed = (mixed ^ second as u64).wrapping_mul(0xC2B2AE3D27D4EB4F);
+    ((mixed ^ (mixed >> 32)) % places as u64) as usize
+}
+
+impl Memo {
+    /// So many places, with no answers.
+    pub fn new(alloc: Global, places: usize) -> Result<Memo, Memory>
+        ensures { IfOk result (λ m. NothingTold m.told.items) }
+    {
+        let mut told = Vec::new(alloc);
+        for _place in 0..places {
+            told.push(None)?;
+        }
+        Ok(Memo { told })
+    }
+
+    /// The answer about the two numbers, if it is remembered.
+    pub fn find(&self, first: u32, second: u32) -> Option<Answer>
+        ensures { IfSome result (HasAnswer self.now.told.items first second) }
+    {
+        let place = place_of(first, second, self.told.len());
+        if place >= self.told.len() {
+            return None;
+        }
+        match self.told[place] {
+            Some(told) => {
+                if told.first == first && told.second == second {
+                    return Some(told.answer);
+                }
+                None
+            }
+            None => None,
+        }
+    }
+
+    /// Remembers the answer about the two numbers.
+    pub fn note(&mut self, first: u32, second: u32, answer: Answer)
+        ensures { HasNoted first second answer self.old.told.items self.new.told.items }
+    {
+        let place = place_of(first, second, self.told.len());
+        if place < self.told.len() {
+            self.told[place] = Some(Told {
+                first,
+                second,
+                answer,
+            });
+        }
+    }
+}
