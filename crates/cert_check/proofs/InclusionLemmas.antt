@@ -1,5 +1,5 @@
 -- The parts of what is asked of a certificate of inclusion, tested one after another.
-use Rattle.std.proofs.Common.{ℕ, List, ◌++◌, Result, Ok, Err, inl, inr}
+use Rattle.std.proofs.Common.{ℕ, List, ◌++◌, Result, Ok, Err, inr}
 use Rattle.auto_core.specs.Automaton.{Automaton}
 use Rattle.cert_text.specs.declared.types.YesBody.{YesBody}
 use Rattle.cert_text.specs.declared.types.FirstStep.{FirstStep}

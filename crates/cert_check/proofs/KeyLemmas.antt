@@ -1,5 +1,5 @@
 -- Elements with the same key are the same supergraph, in finite mode the same pair, and the other way round.
-use Rattle.std.proofs.Common.{◌≡◌, ◌↔◌, ◌⊎◌, ℕ, zero, suc, ◌+◌, ◌*◌, ◌/◌, ◌%◌, ◌^◌, ◌<◌, ◌≤◌, ◌==◌, Bool, true, false, cond, inl, inr, Vec, Global, List, [], ◌∷◌, ◌++◌, length, take, drop, get_or, map, slice_set, slice_index_or, refl, sym, ap, ◌∙◌, subst, arith}
+use Rattle.std.proofs.Common.{◌≡◌, ◌↔◌, ◌⊎◌, ℕ, ◌+◌, ◌*◌, ◌/◌, ◌%◌, ◌^◌, ◌<◌, ◌==◌, Bool, true, false, cond, inl, inr, Vec, Global, List, [], ◌∷◌, ◌++◌, length, get_or, slice_index_or, refl, sym, ap, ◌∙◌, subst, arith}
 use Rattle.std.specs.Int.{bit_at}
 use Rattle.std.specs.Cmp.{both_ways}
 use Rattle.std.specs.BTreeSet.{BTreeSet}
@@ -10,13 +10,11 @@ use Rattle.std.proofs.lemmas.Map.Text.{is_eq-slice_cmp}
 use Rattle.std.proofs.lemmas.Slice.Eq.{bytes_eq-Decides}
 use Rattle.std.proofs.lemmas.Bool.{cases_lt, cases_eq, eqb-true, eq-eqb, false≢true}
 use Rattle.std.proofs.lemmas.Grind.{same_number_lists}
-use Rattle.std.proofs.lemmas.List.{get_or_append_left, get_or_past, take-append-drop, map-set, get_or-set_other}
+use Rattle.std.proofs.lemmas.List.{get_or_append_left, get_or_past, take-append-drop}
 use Rattle.std.proofs.lemmas.Nat.Bits.{bit_at-lt, same_from_bits_below}
 use Rattle.auto_core.specs.Automaton.{Automaton}
 use Rattle.auto_core.specs.Rows.{HasBit, bit_of}
 use Rattle.auto_core.specs.Graph.{WordArc, SameGraph, graph_of, arc_at}
-use Rattle.auto_core.specs.Outcome.{SameSupergraph}
-use Rattle.auto_core.specs.PairOutcome.{SamePair}
 use Rattle.auto_core.specs.declared.parts.Mode.{Mode}
 use Rattle.auto_core.specs.declared.parts.Mode.TheVariants.{Buchi, Finite}
 use Rattle.graph_laws.proofs.GraphLemmas.{same_sym, same_trans}
@@ -179,10 +177,3 @@ one_added old new key updates other = by (bytes_eq key.items other.items) (bytes
       λ has. inl (sym is ∙ has),
       λ either. elim either [ inl has ↦ is ∙ has | inr e ↦ absurd (false≢true (same.1 (sym e))) ],
     )
-
--- Where a block is taken out, the others stay.
-pub block_stays : (blocks : List (Vec ℕ Global)) (e d : ℕ) (v : Vec ℕ Global) → e < d →
-    slice_index_or (map (λ (b : Vec ℕ Global). b.items) (slice_set blocks e v)) d [] ≡ slice_index_or (map (λ (b : Vec ℕ Global). b.items) blocks) d []
-block_stays blocks e d v lt =
-    ap (λ l. slice_index_or l d []) (map-set (λ (b : Vec ℕ Global). b.items) blocks e v)
-    ∙ get_or-set_other (map (λ (b : Vec ℕ Global). b.items) blocks) e d v.items [] (λ is. omega arith)

@@ -1,10 +1,10 @@
 -- What stands for an element: its arc and its block, in a table of them, and what they are compared by.
-use Rattle.std.proofs.Common.{◌≡◌, ◌↔◌, ℕ, zero, suc, false, refl, ◌+◌, ◌-◌, ◌*◌, ◌<◌, ◌≤◌, ◌==◌, map, Result, Ok, Err, IfOk, List, [], ◌∷◌, ◌++◌, length, take, drop, slice_index_or, sym, ap, ◌∙◌, subst, arith, length-append, inl, inr, Vec, Global}
+use Rattle.std.proofs.Common.{◌≡◌, ◌↔◌, ℕ, false, refl, ◌+◌, ◌-◌, ◌<◌, ◌≤◌, ◌==◌, map, Result, Ok, Err, IfOk, List, [], ◌∷◌, ◌++◌, length, take, drop, slice_index_or, sym, ap, ◌∙◌, subst, arith, length-append, inl, inr}
 use Rattle.std.specs.List.{filter}
 use Rattle.std.proofs.lemmas.Bool.{cases_lt, eq-eqb, ne_eqb}
 use Rattle.look_round.proofs.SegmentLemmas.{filter_segment}
 use Rattle.auto_core.specs.declared.parts.Trans.{Trans}
-use Rattle.std.proofs.lemmas.List.{same_lists, get_or_append_left, get_or_push, length-map, places, get_or-map, get_or-take, get_or-drop, length-drop, length-take-le}
+use Rattle.std.proofs.lemmas.List.{get_or_append_left, get_or_push, length-map, get_or-map, get_or-take, get_or-drop, length-drop, length-take-le}
 use Rattle.auto_core.specs.Automaton.{Automaton, IsAutomaton, IsOutgoing, trans, trans_at}
 use Rattle.auto_core.specs.Run.{Run}
 use Rattle.auto_core.proofs.MoveLemmas.{move_at, move_in_range}
@@ -25,40 +25,83 @@ use Rattle.supergraph.specs.declared.arcs.Arc.{Arc}
 use Rattle.supergraph.specs.Stands.{with_word, with_graph}
 use Rattle.cert_text.specs.declared.types.Element.{Element}
 use Rattle.cert_check.specs.Inclusion.{element_arcs, starts_of, extensions_of, SubsumesIn}
-use Rattle.cert_check.specs.Supers.{held_arc, held_block, blocks_of, no_arc, IsBlock, IsArcIn, HasWord, StandFor, AreSupers}
+use Rattle.shared_graphs.specs.declared.memo.Memo.{Memo}
+use Rattle.shared_graphs.specs.declared.graphs.Graphs.{Graphs}
+use Rattle.shared_graphs.specs.Memo.{AllTold}
+use Rattle.shared_graphs.specs.Graphs.{block_at, HasGrown, HasNumber, IsGraphOf, IsStock, FitsLetter, FitsStep}
+use Rattle.shared_graphs.proofs.GraphsLemmas.{letters_stay, steps_stay}
+use Rattle.cert_check.specs.Supers.{held_arc, held_number, held_block, no_arc, IsBlock, IsArcIn, HasWord, StandFor, IsNumbered, IsLonger, AreSupers}
+use Rattle.cert_check.specs.declared.blocks.Numbered.{Numbered}
 use Rattle.cert_check.specs.declared.elements.Supers.{Supers}
 
--- The blocks, each as the list of its words, are as many as the blocks.
-pub blocks_count : (supers : Supers) → length (blocks_of supers) ≡ length supers.blocks.items
-blocks_count supers = length-map supers.blocks.items (λ (b : Vec ℕ Global). b.items)
+-- More graphs.
+module _ (m : Mode) (A B : Automaton) (elements : List Element) (n : ℕ) (old new : Supers) (arcs : new.arcs.items ≡ old.arcs.items) (numbers : new.numbers.items ≡ old.numbers.items)
+    (stock : IsStock B new.graphs) (grown : HasGrown old.graphs.graphs.items new.graphs.graphs.items) where
+  number_stays : (e : ℕ) → held_number new e ≡ held_number old e
+  number_stays e = ap (λ xs. slice_index_or xs e 0) numbers
 
--- One more arc and block.
-module _ (m : Mode) (A B : Automaton) (elements : List Element) (n : ℕ) (old new : Supers) (arc : Arc) (block : List ℕ)
-    (arcs : new.arcs.items ≡ old.arcs.items ++ arc ∷ []) (blocks : blocks_of new ≡ blocks_of old ++ block ∷ []) where
-  stands_more : AreSupers m A B elements n old → StandFor m A B arc block (arc_at A (element_arcs A elements) n) → (e : ℕ) → e < n + 1 →
-      StandFor m A B (held_arc new e) (held_block new e) (arc_at A (element_arcs A elements) e)
-  stands_more supers stands e lt = elim (cases_lt e n) [
+  block_stays : AreSupers m A B elements n old → (e : ℕ) → e < n → held_block new e ≡ held_block old e
+  block_stays are e lt = ap (block_at new.graphs.graphs.items) (number_stays e) ∙ grown.same (held_number old e) (are.within e lt)
+
+  pub supers_grown : AreSupers m A B elements n old → AreSupers m A B elements n new
+  supers_grown are = record {
+    count = ap length arcs ∙ are.count;
+    size = ap length numbers ∙ are.size;
+    stock = stock;
+    within = λ e lt.
+        let is = number_stays e in
+        let before = are.within e lt in
+        let size = grown.size in
+        omega arith;
+    each = λ e lt.
+        subst (λ b. StandFor m A B (held_arc new e) b (arc_at A (element_arcs A elements) e)) (sym (block_stays are e lt))
+        (subst (λ a. StandFor m A B a (held_block old e) (arc_at A (element_arcs A elements) e)) (sym (ap (λ xs. slice_index_or xs e no_arc) arcs)) (are.each e lt));
+  }
+
+-- One more arc and number.
+module _ (m : Mode) (A B : Automaton) (elements : List Element) (n : ℕ) (old new : Supers) (it : Numbered)
+    (arcs : new.arcs.items ≡ old.arcs.items ++ it.arc ∷ []) (numbers : new.numbers.items ≡ old.numbers.items ++ it.number ∷ [])
+    (are : AreSupers m A B elements n old) (is : IsNumbered m A B old.graphs new.graphs (arc_at A (element_arcs A elements) n) it) where
+  number_before : (e : ℕ) → e < n → held_number new e ≡ held_number old e
+  number_before e lt = ap (λ xs. slice_index_or xs e 0) numbers ∙ get_or_append_left old.numbers.items (it.number ∷ []) 0 e (omega (arith, are.size))
+
+  number_last : held_number new n ≡ it.number
+  number_last = ap (λ xs. slice_index_or xs n 0) numbers ∙ get_or_push old.numbers.items it.number 0 n are.size
+
+  within_more : (e : ℕ) → e < n + 1 → held_number new e < length new.graphs.graphs.items
+  within_more e lt = elim (cases_lt e n) [
     | inl before ↦
-        let same_arc : held_arc new e ≡ held_arc old e =
-        ap (λ xs. slice_index_or xs e no_arc) arcs ∙ get_or_append_left old.arcs.items (arc ∷ []) no_arc e (omega (arith, supers.count)) in
-        let same_block : held_block new e ≡ held_block old e =
-        ap (λ xs. slice_index_or xs e []) blocks ∙ get_or_append_left (blocks_of old) (block ∷ []) [] e (omega (arith, supers.size, blocks_count old)) in
-        subst (λ b. StandFor m A B (held_arc new e) b (arc_at A (element_arcs A elements) e)) (sym same_block)
-        (subst (λ a. StandFor m A B a (held_block old e) (arc_at A (element_arcs A elements) e)) (sym same_arc) (supers.each e before))
-    | inr after ↦
-        let is : e ≡ n = omega arith in
-        let last_arc : held_arc new n ≡ arc = ap (λ xs. slice_index_or xs n no_arc) arcs ∙ get_or_push old.arcs.items arc no_arc n supers.count in
-        let last_block : held_block new n ≡ block = ap (λ xs. slice_index_or xs n []) blocks ∙ get_or_push (blocks_of old) block [] n (blocks_count old ∙ supers.size) in
-        subst (λ k. StandFor m A B (held_arc new k) (held_block new k) (arc_at A (element_arcs A elements) k)) (sym is)
-        (subst (λ b. StandFor m A B (held_arc new n) b (arc_at A (element_arcs A elements) n)) (sym last_block)
-        (subst (λ a. StandFor m A B a block (arc_at A (element_arcs A elements) n)) (sym last_arc) stands))
+        let same = number_before e before in
+        let there = are.within e before in
+        let size = is.grown.size in
+        omega arith
+    | inr after ↦ let last : e ≡ n = omega arith in subst (λ k. held_number new k < length new.graphs.graphs.items) (sym last) (let same = number_last in let there = is.within in omega arith)
   ]
 
-  pub supers_more : AreSupers m A B elements n old → StandFor m A B arc block (arc_at A (element_arcs A elements) n) → AreSupers m A B elements (n + 1) new
-  supers_more supers stands = record {
-    count = ap length arcs ∙ length-append old.arcs.items (arc ∷ []) ∙ ap (λ k. k + 1) supers.count;
-    size = sym (blocks_count new) ∙ ap length blocks ∙ length-append (blocks_of old) (block ∷ []) ∙ ap (λ k. k + 1) (blocks_count old ∙ supers.size);
-    each = stands_more supers stands;
+  stands_more : (e : ℕ) → e < n + 1 → StandFor m A B (held_arc new e) (held_block new e) (arc_at A (element_arcs A elements) e)
+  stands_more e lt = elim (cases_lt e n) [
+    | inl before ↦
+        let same_arc : held_arc new e ≡ held_arc old e =
+        ap (λ xs. slice_index_or xs e no_arc) arcs ∙ get_or_append_left old.arcs.items (it.arc ∷ []) no_arc e (omega (arith, are.count)) in
+        let same_block : held_block new e ≡ held_block old e = ap (block_at new.graphs.graphs.items) (number_before e before) ∙ is.grown.same (held_number old e) (are.within e before) in
+        subst (λ b. StandFor m A B (held_arc new e) b (arc_at A (element_arcs A elements) e)) (sym same_block)
+        (subst (λ a. StandFor m A B a (held_block old e) (arc_at A (element_arcs A elements) e)) (sym same_arc) (are.each e before))
+    | inr after ↦
+        let last : e ≡ n = omega arith in
+        let last_arc : held_arc new n ≡ it.arc = ap (λ xs. slice_index_or xs n no_arc) arcs ∙ get_or_push old.arcs.items it.arc no_arc n are.count in
+        let last_block : held_block new n ≡ block_at new.graphs.graphs.items it.number = ap (block_at new.graphs.graphs.items) number_last in
+        subst (λ k. StandFor m A B (held_arc new k) (held_block new k) (arc_at A (element_arcs A elements) k)) (sym last)
+        (subst (λ b. StandFor m A B (held_arc new n) b (arc_at A (element_arcs A elements) n)) (sym last_block)
+        (subst (λ a. StandFor m A B a (block_at new.graphs.graphs.items it.number) (arc_at A (element_arcs A elements) n)) (sym last_arc) is.stands))
+  ]
+
+  pub supers_more : AreSupers m A B elements (n + 1) new
+  supers_more = record {
+    count = ap length arcs ∙ length-append old.arcs.items (it.arc ∷ []) ∙ ap (λ k. k + 1) are.count;
+    size = ap length numbers ∙ length-append old.numbers.items (it.number ∷ []) ∙ ap (λ k. k + 1) are.size;
+    stock = is.stock;
+    within = within_more;
+    each = stands_more;
   }
 
 -- The first arc of a transition.
@@ -116,6 +159,72 @@ longer_stands m A B from arc old block x t valid lt is keeps formed word stands 
       formed = formed;
       word = word x.word stands.word;
     }
+
+-- A graph that was given a number, in finite mode a set.
+stock_stays : (B : Automaton) (old new : Graphs) (block : List ℕ) (k : ℕ) → IsStock B old → HasNumber block old new k → IsStock B new
+stock_stays B old new block k stock has = record {
+  letters = subst (λ (l : Memo). AllTold (FitsLetter B new.graphs.items) l.told.items) (sym has.letters)
+      (letters_stay old.graphs.items new.graphs.items has.grown B old.letters.told.items stock.letters);
+  steps = subst (λ (l : Memo). AllTold (FitsStep B new.graphs.items) l.told.items) (sym has.steps)
+      (steps_stay old.graphs.items new.graphs.items has.grown B old.steps.told.items stock.steps);
+}
+
+pub start_numbered : (A B : Automaton) (old new : Graphs) (arc : Arc) (row : List ℕ) (k : ℕ) → IsStock B old → HasNumber row old new k → StandFor Finite A B arc row (start_arc A) →
+    IsNumbered Finite A B old new (start_arc A) (record { arc = arc; number = k })
+start_numbered A B old new arc row k stock has stands = record {
+  stock = stock_stays B old new row k stock has;
+  grown = has.grown;
+  within = has.there.within;
+  stands = subst (λ b. StandFor Finite A B arc b (start_arc A)) (sym has.there.is) stands;
+}
+
+pub base_numbered : (A B : Automaton) (old new : Graphs) (arc : Arc) (t k : ℕ) →
+    with_word arc ((trans_at A t).label ∷ []) ≡ base_arc A (trans_at A t) → IsReal A (with_word arc ((trans_at A t).label ∷ [])) →
+    IsStock B new → HasGrown old.graphs.items new.graphs.items → IsGraphOf B (letter_graph B (trans_at A t).label) new.graphs.items k →
+    IsNumbered Buchi A B old new (base_arc A (trans_at A t)) (record { arc = arc; number = k })
+base_numbered A B old new arc t k is real stock grown graph = record {
+  stock = stock;
+  grown = grown;
+  within = graph.within;
+  stands = base_stands A B arc (block_at new.graphs.items k) t is real graph.block.formed graph.block.same;
+}
+
+pub set_longer : (B : Automaton) (old new : Graphs) (n a k : ℕ) (row : List ℕ) → IsStock B old → HasNumber row old new k → IsRow B.states row →
+    ((q : ℕ) → HasBit row q ↔ set_after B (HasBit (block_at old.graphs.items n)) a q) → IsLonger Finite B old new n a k
+set_longer B old new n a k row stock has formed after = record {
+  stock = stock_stays B old new row k stock has;
+  grown = has.grown;
+  within = has.there.within;
+  formed = subst (IsRow B.states) (sym has.there.is) formed;
+  word = λ w h. subst (λ b. HasWord Finite B b (w ++ a ∷ [])) (sym has.there.is) (longer_set B (block_at old.graphs.items n) row w a after h);
+}
+
+graph_longer : (B : Automaton) (old new : Graphs) (n a k : ℕ) → IsStock B new → HasGrown old.graphs.items new.graphs.items →
+    IsGraphOf B (extended B (block_graph B.states (block_at old.graphs.items n)) a) new.graphs.items k → IsLonger Buchi B old new n a k
+graph_longer B old new n a k stock grown graph = record {
+  stock = stock;
+  grown = grown;
+  within = graph.within;
+  formed = graph.block.formed;
+  word = λ w h. longer_graph B (block_at old.graphs.items n) (block_at new.graphs.items k) w a graph.block.same h;
+}
+
+pub after_longer : {E : Type 0} (B : Automaton) (old new : Graphs) (n a : ℕ) (r : Result ℕ E) → IfOk r (λ _. IsStock B new) → IfOk r (λ _. HasGrown old.graphs.items new.graphs.items) →
+    IfOk r (IsGraphOf B (extended B (block_graph B.states (block_at old.graphs.items n)) a) new.graphs.items) → IfOk r (IsLonger Buchi B old new n a)
+after_longer B old new n a (Ok k) stock grown graph = graph_longer B old new n a k stock grown graph
+after_longer B old new n a (Err e) stock grown graph = tt
+
+pub longer_numbered : (m : Mode) (A B : Automaton) (old new : Graphs) (from : Numbered) (arc : Arc) (k : ℕ) (x : WordArc) (t : ℕ) → IsAutomaton A → t < length A.transitions →
+    ((w : List ℕ) → with_word arc (w ++ (trans_at A t).label ∷ []) ≡ extended_arc A (with_word from.arc w) (trans_at A t)) →
+    ((w : List ℕ) → IsReal A (with_word from.arc w) → IsReal A (with_word arc (w ++ (trans_at A t).label ∷ []))) →
+    IsLonger m B old new from.number (trans_at A t).label k → StandFor m A B from.arc (block_at old.graphs.items from.number) x →
+    IsNumbered m A B old new (extended_arc A x (trans_at A t)) (record { arc = arc; number = k })
+longer_numbered m A B old new from arc k x t valid lt is keeps longer stands = record {
+  stock = longer.stock;
+  grown = longer.grown;
+  within = longer.within;
+  stands = longer_stands m A B from.arc arc (block_at old.graphs.items from.number) (block_at new.graphs.items k) x t valid lt is keeps longer.formed longer.word stands;
+}
 
 -- What stands for arcs subsumes as they do.
 pub graphs_alike : (A B : Automaton) (S : List (ℕ × ℕ)) (a b : Arc) (g h : List ℕ) (x y : WordArc) → StandFor Buchi A B a g x → StandFor Buchi A B b h y →
@@ -211,6 +320,11 @@ module _ (A : Automaton) (x : WordArc) (begin end : ℕ) (out : IsOutgoing A x.t
 
   pub leaves_end : (i : ℕ) → i < end - begin → (begin + i < length A.transitions) × ((trans_at A (begin + i)).source ≡ x.to)
   leaves_end i lt = let within = out.within in (omega arith, out.inside (begin + i) (omega arith) (omega arith))
+
+-- One fact about a value gives another.
+pub if_ok_as : {T E : Type 0} (r : Result T E) (P Q : T → Type 0) → ((x : T) → P x → Q x) → IfOk r P → IfOk r Q
+if_ok_as (Ok x) P Q f p = f x p
+if_ok_as (Err e) P Q f p = tt
 
 -- Two facts about a value give a third.
 pub if_ok_both : {T E : Type 0} (r : Result T E) (P Q R : Type 0) → (P → Q → R) → IfOk r (λ _. P) → IfOk r (λ _. Q) → IfOk r (λ _. R)

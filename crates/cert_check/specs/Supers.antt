@@ -1,5 +1,5 @@
 -- What the check holds of a certificate's elements: of each the arc, and its word's graph, in finite mode its word's set.
-use Rattle.std.specs.Prelude.{◌≡◌, ℕ, ◌+◌, ◌*◌, ◌/◌, ◌^◌, ◌<◌, ◌↔◌, ◌⊎◌, Bool, true, false, List, [], ◌∷◌, ◌++◌, length, map, slice_index_or, Contains, Vec}
+use Rattle.std.specs.Prelude.{◌≡◌, ℕ, ◌+◌, ◌*◌, ◌/◌, ◌^◌, ◌<◌, ◌↔◌, ◌⊎◌, Bool, true, false, List, [], ◌∷◌, ◌++◌, length, slice_index_or, Contains, Vec}
 use Rattle.std.specs.Global.{Global}
 use Rattle.std.specs.BTreeSet.{BTreeSet, contains}
 use Rattle.std.specs.Cmp.Lexicographic.{slice_cmp}
@@ -14,9 +14,12 @@ use Rattle.graph_rows.specs.Block.{width_of, block_graph, IsFormed}
 use Rattle.set_rows.specs.Sets.{IsRow}
 use Rattle.supergraph.specs.declared.arcs.Arc.{Arc}
 use Rattle.supergraph.specs.Stands.{with_word}
+use Rattle.shared_graphs.specs.declared.graphs.Graphs.{Graphs}
+use Rattle.shared_graphs.specs.Graphs.{block_at, HasGrown, IsStock}
 use Rattle.cert_text.specs.declared.types.YesBody.{YesBody}
 use Rattle.cert_text.specs.declared.types.Element.{Element}
 use Rattle.cert_check.specs.Inclusion.{element_arcs, live_in}
+use Rattle.cert_check.specs.declared.blocks.Numbered.{Numbered}
 use Rattle.cert_check.specs.declared.elements.Supers.{Supers}
 
 -- The words of a block over n states: of two planes of rows for a graph, in finite mode of the one row of a set.
@@ -50,22 +53,44 @@ pub record StandFor (mode : Mode) (A B : Automaton) (held : Arc) (block : List �
   pub formed : IsBlock mode B.states block
   pub word : HasWord mode B block x.word
 
+-- The graph with this number, in finite mode the set, stands with the arc for x. The graphs that were there are there still.
+pub record IsNumbered (mode : Mode) (A B : Automaton) (old now : Graphs) (x : WordArc) (numbered : Numbered) : Type 0 where
+  pub stock : IsStock B now
+  pub grown : HasGrown old.graphs.items now.graphs.items
+  pub within : numbered.number < length now.graphs.items
+  pub stands : StandFor mode A B numbered.arc (block_at now.graphs.items numbered.number) x
+
+-- The graph with the number k, in finite mode the set, is that of a word with this label behind it where the one with the number n is
+-- the word's. The graphs that were there are there still.
+pub record IsLonger (mode : Mode) (B : Automaton) (old now : Graphs) (n label k : ℕ) : Type 0 where
+  pub stock : IsStock B now
+  pub grown : HasGrown old.graphs.items now.graphs.items
+  pub within : k < length now.graphs.items
+  pub formed : IsBlock mode B.states (block_at now.graphs.items k)
+  pub word : (w : List ℕ) → HasWord mode B (block_at old.graphs.items n) w → HasWord mode B (block_at now.graphs.items k) (w ++ label ∷ [])
+
 -- The arc of the element with this number.
 abbrev pub held_arc : Supers → ℕ → Arc
 held_arc supers e = slice_index_or supers.arcs.items e no_arc
 
--- The blocks, each as the list of its words.
-abbrev pub blocks_of : Supers → List (List ℕ)
-blocks_of supers = map (λ block. block.items) supers.blocks.items
+-- The number of its graph, in finite mode of its set.
+abbrev pub held_number : Supers → ℕ → ℕ
+held_number supers e = slice_index_or supers.numbers.items e 0
+
+-- The arc and the number of the element with this number.
+abbrev pub held : Supers → ℕ → Numbered
+held supers e = record { arc = held_arc supers e; number = held_number supers e }
 
 -- The block of the element with this number.
 abbrev pub held_block : Supers → ℕ → List ℕ
-held_block supers e = slice_index_or (blocks_of supers) e []
+held_block supers e = block_at supers.graphs.graphs.items (held_number supers e)
 
 -- The arcs and blocks of the first n of the elements.
 pub record AreSupers (mode : Mode) (A B : Automaton) (elements : List Element) (n : ℕ) (supers : Supers) : Type 0 where
   pub count : length supers.arcs.items ≡ n
-  pub size : length supers.blocks.items ≡ n
+  pub size : length supers.numbers.items ≡ n
+  pub stock : IsStock B supers.graphs
+  pub within : (e : ℕ) → e < n → held_number supers e < length supers.graphs.graphs.items
   pub each : (e : ℕ) → e < n → StandFor mode A B (held_arc supers e) (held_block supers e) (arc_at A (element_arcs A elements) e)
 
 -- The word for a flag.

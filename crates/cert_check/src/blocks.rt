@@ -1,41 +1,53 @@
-//! What the check holds of an element beside its arc: the graph of its word, in finite mode the word's set.
+//! What the check holds of an element beside its arc: the graph of its word, in finite mode the word's set. Each different one is kept
+//! once, with a number.
 
-ghost use Rattle.std.specs.Prelude.{◌≡◌, ◌<◌, ◌↔◌, ℕ, [], ◌∷◌, ◌++◌, List, length, vec_len, IfOk, IsTrue};
+ghost use Rattle.std.specs.Prelude.{◌≡◌, ◌<◌, ◌↔◌, ℕ, [], length, vec_len, IfOk, IsTrue};
 ghost use Rattle.auto_core.specs.Automaton.{Automaton, trans_at};
 ghost use Rattle.auto_core.specs.Graph.{WordArc, start_arc, base_arc, extended_arc};
 ghost use Rattle.auto_core.specs.declared.parts.Mode.TheVariants.{Buchi, Finite};
 ghost use Rattle.cert_check.specs.Inclusion.{SubsumesIn};
-ghost use Rattle.cert_check.specs.Supers.{block_len, IsBlock, HasWord, StandFor};
+ghost use Rattle.shared_graphs.specs.Graphs.{block_at, IsStock};
+ghost use Rattle.auto_core.specs.Rows.{HasBit};
+ghost use Rattle.auto_core.specs.Pairs.{set_after};
+ghost use Rattle.set_rows.specs.Sets.{IsRow};
+ghost use Rattle.supergraph.specs.Stands.{with_word};
+ghost use Rattle.cert_check.specs.Supers.{block_len, IsBlock, StandFor, IsLonger, IsNumbered};
 
 use auto_core::{Auto, Memory, Mode, rows};
 use bit_rel::Rel;
+use shared_graphs::{Graphs, block_of};
 use std::alloc::Global;
 use supergraph::Arc;
 
-/// The words of a block over so many states.
-pub fn words_of(mode: Mode, states: u32) -> usize
-    ensures { result ≡ block_len mode states }
-{
-    match mode {
-        Mode::Buchi => graph_rows::words_of(states),
-        Mode::Finite => rows::words_for(states),
-    }
+/// An arc, and the number of its word's graph, in finite mode of its word's set.
+#[derive(Clone, Copy)]
+pub struct Numbered {
+    pub arc: Arc,
+    pub number: u32,
 }
 
-/// Room for one block.
-pub fn empty_block(alloc: Global, mode: Mode, states: u32) -> Result<Vec<u64>, Memory>
-    ensures { IfOk result (λ block. vec_len block ≡ block_len mode states) }
+/// Room for the set of a word.
+fn empty_set(alloc: Global, states: u32) -> Result<Vec<u64>, Memory>
+    ensures { IfOk result (λ set. vec_len set ≡ block_len Finite states) }
 {
-    Ok(vec![in alloc; 0; words_of(mode, states)]?)
+    Ok(vec![in alloc; 0; rows::words_for(states)]?)
 }
 
-/// Writes the set of the empty word, and answers its arc.
-pub fn start(first: &Auto, second: &Auto, fresh: &mut [u64]) -> Arc
-    requires room { length fresh.old ≡ block_len Finite second.now.states }
-    ensures stands { StandFor Finite first.now second.now result fresh.new (start_arc first.now) }
-    ensures room { length fresh.new ≡ length fresh.old }
+/// The set of the empty word.
+fn start_set(alloc: Global, second: &Auto) -> Result<Vec<u64>, Memory>
+    ensures row { IfOk result (λ set. IsRow second.now.states set.items) }
+    ensures alone { IfOk result (λ set. (q : ℕ) → HasBit set.items q ↔ (q ≡ second.now.initial)) }
 {
-    set_rows::write_one(second.states(), second.initial(), fresh);
+    let mut set = empty_set(alloc, second.states())?;
+    set_rows::write_one(second.states(), second.initial(), &mut set);
+    Ok(set)
+}
+
+/// The arc of the empty word.
+fn empty_arc(first: &Auto) -> Arc
+    ensures arc { with_word result [] ≡ start_arc first.now }
+    ensures state { first.now.initial < first.now.states }
+{
     Arc {
         from: first.initial(),
         to: first.initial(),
@@ -43,52 +55,107 @@ pub fn start(first: &Auto, second: &Auto, fresh: &mut [u64]) -> Arc
     }
 }
 
-/// Writes the graph of the transition's letter, and answers its arc.
-pub fn base(first: &Auto, second: &Auto, t: u32, fresh: &mut [u64]) -> Arc
-    requires number { t < length first.now.transitions }
-    requires room { length fresh.old ≡ block_len Buchi second.now.states }
-    ensures stands { StandFor Buchi first.now second.now result fresh.new (base_arc first.now (trans_at first.now t)) }
-    ensures room { length fresh.new ≡ length fresh.old }
+/// The arc of the empty word, with its set.
+pub fn start(
+    alloc: Global,
+    first: &Auto,
+    second: &Auto,
+    graphs: &mut Graphs,
+) -> Result<Numbered, Memory>
+    requires { IsStock second.now graphs.old }
+    ensures { IfOk result (IsNumbered Finite first.now second.now graphs.old graphs.new (start_arc first.now)) }
 {
-    graph_rows::letter(second, first.transitions()[t as usize].label, fresh);
-    supergraph::base(first, t)
+    let set = start_set(alloc, second)?;
+    let number = graphs.number_of(set)?;
+    let arc = empty_arc(first);
+    Ok(Numbered { arc, number })
 }
 
-/// Writes what a word with one letter more leads to, from what the word does.
-fn write_longer(mode: Mode, second: &Auto, label: u32, block: &[u64], fresh: &mut [u64])
-    requires formed { IsBlock mode second.now.states block.now }
-    requires room { length fresh.old ≡ block_len mode second.now.states }
-    ensures formed { IsBlock mode second.now.states fresh.new }
-    ensures word { (w : List ℕ) → HasWord mode second.now block.now w → HasWord mode second.now fresh.new (w ++ label ∷ []) }
-    ensures room { length fresh.new ≡ length fresh.old }
+/// The arc of the transition, with its letter's graph.
+pub fn base(
+    alloc: Global,
+    first: &Auto,
+    second: &Auto,
+    t: u32,
+    graphs: &mut Graphs,
+) -> Result<Numbered, Memory>
+    requires number { t < length first.now.transitions }
+    requires stock { IsStock second.now graphs.old }
+    ensures { IfOk result (IsNumbered Buchi first.now second.now graphs.old graphs.new (base_arc first.now (trans_at first.now t))) }
+{
+    let label = first.transitions()[t as usize].label;
+    let number = graphs.letter(alloc, second, label)?;
+    let arc = supergraph::base(first, t);
+    Ok(Numbered { arc, number })
+}
+
+/// The set that the letter leads to from the set.
+fn set_behind(alloc: Global, second: &Auto, from: &[u64], label: u32) -> Result<Vec<u64>, Memory>
+    requires { IsRow second.now.states from.now }
+    ensures row { IfOk result (λ set. IsRow second.now.states set.items) }
+    ensures members { IfOk result (λ set. (q : ℕ) → HasBit set.items q ↔ set_after second.now (HasBit from.now) label q) }
+{
+    let mut set = empty_set(alloc, second.states())?;
+    set_rows::write_after(second, label, from, &mut set);
+    Ok(set)
+}
+
+/// The number of the set of a word with one letter more, from that of the word's set.
+fn longer_set(
+    alloc: Global,
+    second: &Auto,
+    number: u32,
+    label: u32,
+    graphs: &mut Graphs,
+) -> Result<u32, Memory>
+    requires stock { IsStock second.now graphs.old }
+    requires formed { IsRow second.now.states (block_at graphs.old.graphs.items number) }
+    ensures { IfOk result (IsLonger Finite second.now graphs.old graphs.new number label) }
+{
+    let set = set_behind(alloc, second, block_of(&graphs.graphs, number), label)?;
+    graphs.number_of(set)
+}
+
+/// The number of what a word with one letter more leads to, from that of what the word does.
+fn longer(
+    alloc: Global,
+    mode: Mode,
+    second: &Auto,
+    number: u32,
+    label: u32,
+    graphs: &mut Graphs,
+) -> Result<u32, Memory>
+    requires stock { IsStock second.now graphs.old }
+    requires formed { IsBlock mode second.now.states (block_at graphs.old.graphs.items number) }
+    ensures { IfOk result (IsLonger mode second.now graphs.old graphs.new number label) }
 {
     match mode {
-        Mode::Buchi => graph_rows::extend(second, label, block, fresh),
-        Mode::Finite => set_rows::write_after(second, label, block, fresh),
+        Mode::Buchi => graphs.after(alloc, second, number, label),
+        Mode::Finite => longer_set(alloc, second, number, label, graphs),
     }
 }
 
-/// Writes what the arc with the transition behind it leads to, and answers the longer arc.
+/// The arc with the transition behind it, and what its word leads to.
 pub fn extend(
+    alloc: Global,
     mode: Mode,
     first: &Auto,
     second: &Auto,
-    arc: &Arc,
-    block: &[u64],
+    from: Numbered,
     t: u32,
-    fresh: &mut [u64],
-) -> Arc
+    graphs: &mut Graphs,
+) -> Result<Numbered, Memory>
     requires number { t < length first.now.transitions }
-    requires leaves { (trans_at first.now t).source ≡ arc.now.to }
-    requires formed { IsBlock mode second.now.states block.now }
-    requires room { length fresh.old ≡ block_len mode second.now.states }
-    ensures stands { (x : WordArc) → StandFor mode first.now second.now arc.now block.now x
-        → StandFor mode first.now second.now result fresh.new (extended_arc first.now x (trans_at first.now t)) }
-    ensures room { length fresh.new ≡ length fresh.old }
+    requires leaves { (trans_at first.now t).source ≡ from.arc.to }
+    requires stock { IsStock second.now graphs.old }
+    requires formed { IsBlock mode second.now.states (block_at graphs.old.graphs.items from.number) }
+    ensures { IfOk result (λ longer. (x : WordArc) → StandFor mode first.now second.now from.arc (block_at graphs.old.graphs.items from.number) x
+        → IsNumbered mode first.now second.now graphs.old graphs.new (extended_arc first.now x (trans_at first.now t)) longer) }
 {
     let label = first.transitions()[t as usize].label;
-    write_longer(mode, second, label, block, fresh);
-    supergraph::extend(first, arc, t)
+    let number = longer(alloc, mode, second, from.number, label, graphs)?;
+    let arc = supergraph::extend(first, &from.arc, t);
+    Ok(Numbered { arc, number })
 }
 
 /// Tells whether the first arc with its block subsumes the second.

@@ -1,20 +1,24 @@
 //! The elements over others: those that are over dropped ones, and those over the arcs that the cover is for.
 
-ghost use Rattle.std.specs.Prelude.{◌≡◌, ◌+◌, ◌^◌, ◌<◌, ◌↔◌, ℕ, length, slice_index_or, true, IsTrue};
-ghost use Rattle.auto_core.specs.Graph.{WordArc};
+ghost use Rattle.std.specs.Prelude.{◌≡◌, ◌+◌, ◌^◌, ◌<◌, ◌↔◌, ℕ, length, slice_index_or, true, IsTrue, IfOk};
+ghost use Rattle.auto_core.specs.Automaton.{trans_at};
+ghost use Rattle.auto_core.specs.Graph.{WordArc, base_arc};
 ghost use Rattle.auto_core.specs.declared.parts.Mode.TheVariants.{Buchi, Finite};
 ghost use Rattle.log_check.specs.Checks.{Tells, checks_of_each};
 ghost use Rattle.cert_check.specs.Inclusion.{live_in, IsOver, IsUnder, AreOver, AreElements, NamesElement, covered_in, under_checks, cover_checks, no_element};
 ghost use Rattle.log_check.specs.Blocks.{IsBlockRelation};
-ghost use Rattle.cert_check.specs.Supers.{block_len, IsBlock, StandFor, AreSupers};
+ghost use Rattle.shared_graphs.specs.Graphs.{block_at};
+ghost use Rattle.cert_check.specs.Supers.{IsBlock, StandFor, AreSupers};
 
 use crate::blocks;
+use crate::blocks::Numbered;
 use crate::elements::Supers;
-use auto_core::{Auto, Mode};
+use auto_core::{Auto, Memory, Mode};
 use bit_rel::Rel;
 use cert_text::{Mark, YesBody};
 use log_check::{CheckFault, Refusal};
-use supergraph::Arc;
+use shared_graphs::block_of;
+use std::alloc::Global;
 
 /// Tells whether the element is live.
 pub fn is_live(evidence: &YesBody, e: u32) -> bool
@@ -24,7 +28,7 @@ pub fn is_live(evidence: &YesBody, e: u32) -> bool
     matches!(evidence.elements.as_slice()[e as usize].mark, Mark::Live)
 }
 
-/// Tells whether the element `j` is live and subsumes the arc with this block.
+/// Tells whether the element `j` is live and subsumes the arc with the graph.
 pub fn is_over(
     mode: Mode,
     first: &Auto,
@@ -33,23 +37,24 @@ pub fn is_over(
     order: &Rel,
     supers: &Supers,
     j: u32,
-    arc: &Arc,
-    block: &[u64],
+    it: &Numbered,
 ) -> bool
     requires supers { AreSupers mode first.now second.now evidence.now.elements (length evidence.now.elements) supers.now }
     requires order { IsBlockRelation second.now.states evidence.now.order order.now }
     requires element { j < length evidence.now.elements }
-    requires formed { IsBlock mode second.now.states block.now }
-    ensures { (x : WordArc) → StandFor mode first.now second.now arc.now block.now x → IsTrue result ↔ IsOver mode first.now second.now evidence.now j x }
+    requires formed { IsBlock mode second.now.states (block_at supers.now.graphs.graphs.items it.now.number) }
+    ensures { (x : WordArc) → StandFor mode first.now second.now it.now.arc (block_at supers.now.graphs.graphs.items it.now.number) x
+        → IsTrue result ↔ IsOver mode first.now second.now evidence.now j x }
 {
+    let over = supers.element(j as usize);
     is_live(evidence, j)
         && blocks::subsumes(
             mode,
             order,
-            &supers.arcs[j as usize],
-            supers.block(j as usize),
-            arc,
-            block,
+            &over.arc,
+            block_of(&supers.graphs.graphs, over.number),
+            &it.arc,
+            block_of(&supers.graphs.graphs, it.number),
         )
 }
 
@@ -88,8 +93,7 @@ fn is_under(
             order,
             supers,
             *j,
-            &supers.arcs[e],
-            supers.block(e),
+            &supers.element(e),
         ),
     }
 }
@@ -132,68 +136,88 @@ pub fn check_under(
     Ok(())
 }
 
-/// Tells whether the elements of the cover are over the arcs of one letter.
-fn covers_letters(
+/// Tells whether the element `j` is over the arc of the transition.
+fn is_over_letter(
+    alloc: Global,
     first: &Auto,
     second: &Auto,
     evidence: &YesBody,
     order: &Rel,
-    supers: &Supers,
-    fresh: &mut [u64],
-) -> bool
-    requires supers { AreSupers Buchi first.now second.now evidence.now.elements (length evidence.now.elements) supers.now }
+    supers: &mut Supers,
+    j: u32,
+    t: u32,
+) -> Result<bool, Memory>
+    requires supers { AreSupers Buchi first.now second.now evidence.now.elements (length evidence.now.elements) supers.old }
+    requires order { IsBlockRelation second.now.states evidence.now.order order.now }
+    requires element { j < length evidence.now.elements }
+    requires number { t < length first.now.transitions }
+    ensures told { IfOk result (λ is. IsTrue is ↔ IsOver Buchi first.now second.now evidence.now j (base_arc first.now (trans_at first.now t))) }
+    ensures supers { IfOk result (λ _. AreSupers Buchi first.now second.now evidence.now.elements (length evidence.now.elements) supers.new) }
+{
+    let base = blocks::base(alloc, first, second, t, &mut supers.graphs)?;
+    Ok(is_over(
+        Mode::Buchi,
+        first,
+        second,
+        evidence,
+        order,
+        supers,
+        j,
+        &base,
+    ))
+}
+
+/// Tells whether the elements of the cover are over the arcs of one letter.
+fn covers_letters(
+    alloc: Global,
+    first: &Auto,
+    second: &Auto,
+    evidence: &YesBody,
+    order: &Rel,
+    supers: &mut Supers,
+) -> Result<bool, Memory>
+    requires supers { AreSupers Buchi first.now second.now evidence.now.elements (length evidence.now.elements) supers.old }
     requires order { IsBlockRelation second.now.states evidence.now.order order.now }
     requires names { AreElements evidence.now evidence.now.cover }
-    requires room { length fresh.old ≡ block_len Buchi second.now.states }
-    ensures told { IsTrue result ↔ AreOver Buchi first.now second.now evidence.now evidence.now.cover (covered_in Buchi first.now) }
-    ensures room { length fresh.new ≡ length fresh.old }
+    ensures told { IfOk result (λ is. IsTrue is ↔ AreOver Buchi first.now second.now evidence.now evidence.now.cover (covered_in Buchi first.now)) }
+    ensures supers { IfOk result (λ _. AreSupers Buchi first.now second.now evidence.now.elements (length evidence.now.elements) supers.new) }
 {
     let cover = evidence.cover.as_slice();
     let count = first.transitions().len();
     if cover.len() != count {
-        return false;
+        return Ok(false);
     }
     for t in 0..count {
-        let arc = blocks::base(first, second, t as u32, fresh);
-        if !is_over(
-            Mode::Buchi,
-            first,
-            second,
-            evidence,
-            order,
-            supers,
-            cover[t],
-            &arc,
-            fresh,
-        ) {
-            return false;
+        if !is_over_letter(
+            alloc, first, second, evidence, order, supers, cover[t], t as u32,
+        )? {
+            return Ok(false);
         }
     }
-    true
+    Ok(true)
 }
 
 /// Tells whether the one element of the cover is over the empty word.
 fn covers_start(
+    alloc: Global,
     first: &Auto,
     second: &Auto,
     evidence: &YesBody,
     order: &Rel,
-    supers: &Supers,
-    fresh: &mut [u64],
-) -> bool
-    requires supers { AreSupers Finite first.now second.now evidence.now.elements (length evidence.now.elements) supers.now }
+    supers: &mut Supers,
+) -> Result<bool, Memory>
+    requires supers { AreSupers Finite first.now second.now evidence.now.elements (length evidence.now.elements) supers.old }
     requires order { IsBlockRelation second.now.states evidence.now.order order.now }
     requires names { AreElements evidence.now evidence.now.cover }
-    requires room { length fresh.old ≡ block_len Finite second.now.states }
-    ensures told { IsTrue result ↔ AreOver Finite first.now second.now evidence.now evidence.now.cover (covered_in Finite first.now) }
-    ensures room { length fresh.new ≡ length fresh.old }
+    ensures told { IfOk result (λ is. IsTrue is ↔ AreOver Finite first.now second.now evidence.now evidence.now.cover (covered_in Finite first.now)) }
+    ensures supers { IfOk result (λ _. AreSupers Finite first.now second.now evidence.now.elements (length evidence.now.elements) supers.new) }
 {
     let cover = evidence.cover.as_slice();
     if cover.len() != 1 {
-        return false;
+        return Ok(false);
     }
-    let arc = blocks::start(first, second, fresh);
-    is_over(
+    let start = blocks::start(alloc, first, second, &mut supers.graphs)?;
+    Ok(is_over(
         Mode::Finite,
         first,
         second,
@@ -201,55 +225,52 @@ fn covers_start(
         order,
         supers,
         cover[0],
-        &arc,
-        fresh,
-    )
+        &start,
+    ))
 }
 
 /// Tells whether the elements of the cover are over the arcs that it is for.
 fn covers_all(
+    alloc: Global,
     mode: Mode,
     first: &Auto,
     second: &Auto,
     evidence: &YesBody,
     order: &Rel,
-    supers: &Supers,
-    fresh: &mut [u64],
-) -> bool
-    requires supers { AreSupers mode first.now second.now evidence.now.elements (length evidence.now.elements) supers.now }
+    supers: &mut Supers,
+) -> Result<bool, Memory>
+    requires supers { AreSupers mode first.now second.now evidence.now.elements (length evidence.now.elements) supers.old }
     requires order { IsBlockRelation second.now.states evidence.now.order order.now }
     requires names { AreElements evidence.now evidence.now.cover }
-    requires room { length fresh.old ≡ block_len mode second.now.states }
-    ensures told { IsTrue result ↔ AreOver mode first.now second.now evidence.now evidence.now.cover (covered_in mode first.now) }
-    ensures room { length fresh.new ≡ length fresh.old }
+    ensures told { IfOk result (λ is. IsTrue is ↔ AreOver mode first.now second.now evidence.now evidence.now.cover (covered_in mode first.now)) }
+    ensures supers { IfOk result (λ _. AreSupers mode first.now second.now evidence.now.elements (length evidence.now.elements) supers.new) }
 {
     match mode {
-        Mode::Buchi => covers_letters(first, second, evidence, order, supers, fresh),
-        Mode::Finite => covers_start(first, second, evidence, order, supers, fresh),
+        Mode::Buchi => covers_letters(alloc, first, second, evidence, order, supers),
+        Mode::Finite => covers_start(alloc, first, second, evidence, order, supers),
     }
 }
 
 /// Tests the cover, which is this item.
 pub fn check_cover(
+    alloc: Global,
     mode: Mode,
     first: &Auto,
     second: &Auto,
     evidence: &YesBody,
     item: u32,
     order: &Rel,
-    supers: &Supers,
-    fresh: &mut [u64],
+    supers: &mut Supers,
 ) -> Result<(), CheckFault>
-    requires supers { AreSupers mode first.now second.now evidence.now.elements (length evidence.now.elements) supers.now }
+    requires supers { AreSupers mode first.now second.now evidence.now.elements (length evidence.now.elements) supers.old }
     requires order { IsBlockRelation second.now.states evidence.now.order order.now }
-    requires room { length fresh.old ≡ block_len mode second.now.states }
     ensures tells { Tells (cover_checks mode first.now second.now evidence.now item) result }
-    ensures room { length fresh.new ≡ length fresh.old }
+    ensures supers { IfOk result (λ _. AreSupers mode first.now second.now evidence.now.elements (length evidence.now.elements) supers.new) }
 {
     if !are_elements(evidence, evidence.cover.as_slice()) {
         return Err(CheckFault::Refused(Refusal { rule: 1, item }));
     }
-    if !covers_all(mode, first, second, evidence, order, supers, fresh) {
+    if !covers_all(alloc, mode, first, second, evidence, order, supers)? {
         return Err(CheckFault::Refused(Refusal { rule: 13, item }));
     }
     Ok(())

@@ -5,31 +5,47 @@ ghost use Rattle.auto_core.specs.Graph.{arc_of};
 ghost use Rattle.cert_text.specs.WellFormed.{is_origin};
 ghost use Rattle.log_check.specs.Checks.{AllHold, FirstBroken, Tells, checks_of_each};
 ghost use Rattle.cert_check.specs.Inclusion.{element_arcs, NamesOrigin, NamesElement, HasEarlierParent, GoesOn, no_element, element_checks};
-ghost use Rattle.cert_check.specs.Supers.{blocks_of, held_block, block_len, StandFor, AreSupers};
+ghost use Rattle.cert_check.specs.Supers.{held, held_block, IsNumbered, AreSupers};
 
 use crate::blocks;
+use crate::blocks::Numbered;
 use auto_core::{Auto, List, Memory, Mode, Origin};
 use cert_text::{Element, Mark};
 use log_check::{CheckFault, Refusal};
+use shared_graphs::{Graphs, block_of};
 use std::alloc::Global;
 use supergraph::Arc;
 
-/// The arcs of the first elements, and their blocks, each in a piece of its own: together they can be as large as the memory.
+/// The arcs of the first elements, the numbers of their graphs, in finite mode of their sets, and the different ones themselves.
 #[derive(Drop)]
 pub struct Supers {
     /// The arc of each element.
     pub arcs: Vec<Arc>,
-    /// The block of each element.
-    pub blocks: Vec<Vec<u64>>,
+    /// The number of each element's graph.
+    pub numbers: Vec<u32>,
+    /// The graphs.
+    pub graphs: Graphs,
 }
 
 impl Supers {
     /// The block of the element with this number.
     pub fn block(&self, e: usize) -> &[u64]
-        requires { e < length self.now.blocks.items }
+        requires { e < length self.now.numbers.items }
         ensures { result.now ≡ held_block self.now e }
     {
-        &self.blocks[e]
+        block_of(&self.graphs.graphs, self.numbers[e])
+    }
+
+    /// The arc of the element with this number, and the number of its graph.
+    pub fn element(&self, e: usize) -> Numbered
+        requires arcs { e < length self.now.arcs.items }
+        requires numbers { e < length self.now.numbers.items }
+        ensures { result ≡ held self.now e }
+    {
+        Numbered {
+            arc: self.arcs[e],
+            number: self.numbers[e],
+        }
     }
 }
 
@@ -116,58 +132,48 @@ fn broken_rule(
     None
 }
 
-/// Writes the block of the element, from the elements before, and answers its arc.
+/// The arc of the element and the number of its graph, from the elements before.
 fn compute(
+    alloc: Global,
     mode: Mode,
     first: &Auto,
     second: &Auto,
     elements: &List<Element>,
-    supers: &Supers,
+    supers: &mut Supers,
     e: usize,
     origin: &Origin,
-    fresh: &mut [u64],
-) -> Arc
-    requires supers { AreSupers mode first.now second.now elements.now e supers.now }
+) -> Result<Numbered, Memory>
+    requires supers { AreSupers mode first.now second.now elements.now e supers.old }
     requires begun { is_origin mode origin.now ≡ true }
     requires names { NamesOrigin first.now (length elements.now) origin.now }
     requires earlier { HasEarlierParent e origin.now }
     requires leaves { GoesOn first.now (element_arcs first.now elements.now) origin.now }
-    requires room { length fresh.old ≡ block_len mode second.now.states }
-    ensures stands { StandFor mode first.now second.now result fresh.new (arc_of first.now (element_arcs first.now elements.now) origin.now) }
-    ensures room { length fresh.new ≡ length fresh.old }
+    ensures arcs { supers.new.arcs ≡ supers.old.arcs }
+    ensures numbers { supers.new.numbers ≡ supers.old.numbers }
+    ensures numbered { IfOk result (IsNumbered mode first.now second.now supers.old.graphs supers.new.graphs (arc_of first.now (element_arcs first.now elements.now) origin.now)) }
 {
     match origin {
-        Origin::Start => blocks::start(first, second, fresh),
-        Origin::Base(t) => blocks::base(first, second, *t, fresh),
+        Origin::Start => blocks::start(alloc, first, second, &mut supers.graphs),
+        Origin::Base(t) => blocks::base(alloc, first, second, *t, &mut supers.graphs),
         Origin::Next(p, t) => {
-            let arc = &supers.arcs[*p as usize];
-            blocks::extend(
-                mode,
-                first,
-                second,
-                arc,
-                supers.block(*p as usize),
-                *t,
-                fresh,
-            )
+            let parent = supers.element(*p as usize);
+            blocks::extend(alloc, mode, first, second, parent, *t, &mut supers.graphs)
         }
     }
 }
 
-/// Adds an arc and a block.
-fn add(alloc: Global, supers: &mut Supers, arc: Arc, block: &[u64]) -> Result<(), Memory>
-    ensures arcs { IfOk result (λ _. supers.new.arcs.items ≡ supers.old.arcs.items ++ arc ∷ []) }
-    ensures blocks { IfOk result (λ _. blocks_of supers.new ≡ blocks_of supers.old ++ block.now ∷ []) }
+/// Adds an arc and the number of its graph.
+fn add(supers: &mut Supers, numbered: Numbered) -> Result<(), Memory>
+    ensures arcs { IfOk result (λ _. supers.new.arcs.items ≡ supers.old.arcs.items ++ numbered.arc ∷ []) }
+    ensures numbers { IfOk result (λ _. supers.new.numbers.items ≡ supers.old.numbers.items ++ numbered.number ∷ []) }
+    ensures graphs { supers.new.graphs ≡ supers.old.graphs }
 {
-    supers.arcs.push(arc)?;
-    // a key has up to three words more
-    let mut held = Vec::with_capacity(alloc, block.len() + 3)?;
-    held.extend_from_slice(block)?;
-    supers.blocks.push(held)?;
+    supers.arcs.push(numbered.arc)?;
+    supers.numbers.push(numbered.number)?;
     Ok(())
 }
 
-/// Adds the arc and the block of the element `e` with this origin.
+/// Adds the arc and the number of the graph of the element `e` with this origin.
 fn add_element(
     alloc: Global,
     mode: Mode,
@@ -177,7 +183,6 @@ fn add_element(
     supers: &mut Supers,
     e: usize,
     origin: &Origin,
-    fresh: &mut [u64],
 ) -> Result<(), Memory>
     requires supers { AreSupers mode first.now second.now elements.now e supers.old }
     requires element { e < length elements.now }
@@ -186,15 +191,13 @@ fn add_element(
     requires names { NamesOrigin first.now (length elements.now) origin.now }
     requires earlier { HasEarlierParent e origin.now }
     requires leaves { GoesOn first.now (element_arcs first.now elements.now) origin.now }
-    requires room { length fresh.old ≡ block_len mode second.now.states }
-    ensures supers { IfOk result (λ _. AreSupers mode first.now second.now elements.now (e + 1) supers.new) }
-    ensures room { length fresh.new ≡ length fresh.old }
+    ensures { IfOk result (λ _. AreSupers mode first.now second.now elements.now (e + 1) supers.new) }
 {
-    let arc = compute(mode, first, second, elements, supers, e, origin, fresh);
-    add(alloc, supers, arc, fresh)
+    let numbered = compute(alloc, mode, first, second, elements, supers, e, origin)?;
+    add(supers, numbered)
 }
 
-/// Adds the arcs and the blocks of all elements, up to one that does not name what is there or go on from an earlier one.
+/// Adds the arcs and the graphs of all elements, up to one that does not name what is there or go on from an earlier one.
 fn fill(
     alloc: Global,
     mode: Mode,
@@ -203,13 +206,11 @@ fn fill(
     elements: &List<Element>,
     item: u32,
     supers: &mut Supers,
-    fresh: &mut [u64],
 ) -> Result<(), CheckFault>
     requires few { length elements.now < 10 ^ 9 }
     requires few_items { item + length elements.now < 2 ^ 32 }
     requires begun { All (λ element. is_origin mode element.origin ≡ true) elements.now }
     requires none { AreSupers mode first.now second.now elements.now 0 supers.old }
-    requires room { length fresh.old ≡ block_len mode second.now.states }
     ensures tells { Tells (checks_of_each (element_checks first.now elements.now item) 0 elements.now) result }
     ensures supers { IfOk result (λ _. AreSupers mode first.now second.now elements.now (length elements.now) supers.new) }
 {
@@ -233,13 +234,12 @@ fn fill(
             supers,
             e,
             &items[e].origin,
-            fresh,
         )?;
     }
     Ok(())
 }
 
-/// The arcs and blocks of all elements, if each names what is there and goes on from an earlier one. `item` is the number of the first
+/// The arcs and graphs of all elements, if each names what is there and goes on from an earlier one. `item` is the number of the first
 /// one's item.
 pub fn checked_elements(
     alloc: Global,
@@ -255,21 +255,11 @@ pub fn checked_elements(
     ensures tells { Tells (checks_of_each (element_checks first.now elements.now item) 0 elements.now) result }
     ensures supers { IfOk result (AreSupers mode first.now second.now elements.now (length elements.now)) }
 {
-    let states = second.states();
     let mut supers = Supers {
         arcs: Vec::new(alloc),
-        blocks: Vec::new(alloc),
+        numbers: Vec::new(alloc),
+        graphs: Graphs::new(alloc)?,
     };
-    let mut fresh = blocks::empty_block(alloc, mode, states)?;
-    fill(
-        alloc,
-        mode,
-        first,
-        second,
-        elements,
-        item,
-        &mut supers,
-        &mut fresh,
-    )?;
+    fill(alloc, mode, first, second, elements, item, &mut supers)?;
     Ok(supers)
 }

@@ -6,7 +6,7 @@ ghost use Rattle.cert_text.specs.WellFormed.{is_origin};
 ghost use Rattle.log_check.specs.Checks.{Tells};
 ghost use Rattle.cert_check.specs.Inclusion.{inclusion_checks};
 
-use crate::{blocks, covers, elements, orders, passing, steps};
+use crate::{covers, elements, orders, passing, steps};
 use auto_core::{Auto, Mode};
 use cert_text::YesBody;
 use log_check::CheckFault;
@@ -28,9 +28,11 @@ pub fn check_inclusion(
     ensures tells { Tells (inclusion_checks mode evidence.now item first.now second.now) result }
     ensures automaton { IfOk result (λ _. IsAutomaton second.now) }
 {
+    // the contract of this call says that the automaton is valid
+    let _states = second.states();
     let count = evidence.elements.as_slice().len() as u32;
     let order = orders::checked_order(alloc, second, evidence, item)?;
-    let supers = elements::checked_elements(
+    let mut supers = elements::checked_elements(
         alloc,
         mode,
         first,
@@ -38,27 +40,26 @@ pub fn check_inclusion(
         &evidence.elements,
         item + 1,
     )?;
-    let mut fresh = blocks::empty_block(alloc, mode, second.states())?;
     covers::check_under(mode, first, second, evidence, item + 1, &order, &supers)?;
     covers::check_cover(
+        alloc,
         mode,
         first,
         second,
         evidence,
         item + 1 + count,
         &order,
-        &supers,
-        &mut fresh,
+        &mut supers,
     )?;
     steps::check_steps(
+        alloc,
         mode,
         first,
         second,
         evidence,
         item + 2 + count,
         &order,
-        &supers,
-        &mut fresh,
+        &mut supers,
     )?;
     passing::check_passing(alloc, mode, first, second, evidence, item + 1, &supers)
 }

@@ -11,7 +11,6 @@ use cert_text::Element;
 use log_check::{CheckFault, Refusal};
 use std::alloc::Global;
 use std::collections::BTreeSet;
-use std::mem;
 use supergraph::Arc;
 
 /// The word for the arc's flag.
@@ -44,17 +43,17 @@ fn note_fit(words: &[u64])
     ensures { Fit words.now }
 {}
 
-/// Takes the block of the element `e` out and makes it its key.
-fn take_key(alloc: Global, mode: Mode, supers: &mut Supers, e: usize) -> Result<Vec<u64>, Memory>
-    requires arcs { e < length supers.old.arcs.items }
-    requires blocks { e < length supers.old.blocks.items }
-    ensures key { IfOk result (λ key. key.items ≡ key_of mode (held_arc supers.old e) (held_block supers.old e)) }
+/// The key of the element `e`.
+fn key_from(alloc: Global, mode: Mode, supers: &Supers, e: usize) -> Result<Vec<u64>, Memory>
+    requires arcs { e < length supers.now.arcs.items }
+    requires numbers { e < length supers.now.numbers.items }
+    ensures key { IfOk result (λ key. key.items ≡ key_of mode (held_arc supers.now e) (held_block supers.now e)) }
     ensures fits { IfOk result (λ key. Fit key.items) }
-    ensures arcs { supers.new.arcs.items ≡ supers.old.arcs.items }
-    ensures size { length supers.new.blocks.items ≡ length supers.old.blocks.items }
-    ensures others { (d : ℕ) → e < d → held_block supers.new d ≡ held_block supers.old d }
 {
-    let mut key = mem::replace(&mut supers.blocks[e], Vec::new(alloc));
+    let block = supers.block(e);
+    // the arc has up to three words more
+    let mut key = Vec::with_capacity(alloc, block.len() + 3)?;
+    key.extend_from_slice(block)?;
     add_arc(mode, &supers.arcs[e], &mut key)?;
     note_fit(&key);
     Ok(key)
@@ -71,7 +70,7 @@ fn is_new(seen: &mut BTreeSet<Vec<u64>>, key: Vec<u64>) -> Result<bool, Memory>
     }
 }
 
-/// Tests that each element differs from those before it, in order; the blocks are taken out. `item` is the number of the first one's item.
+/// Tests that each element differs from those before it, in order. `item` is the number of the first one's item.
 pub fn check_differences(
     alloc: Global,
     mode: Mode,
@@ -79,9 +78,9 @@ pub fn check_differences(
     second: &Auto,
     elements: &List<Element>,
     item: u32,
-    supers: &mut Supers,
+    supers: &Supers,
 ) -> Result<(), CheckFault>
-    requires supers { AreSupers mode first.now second.now elements.now (length elements.now) supers.old }
+    requires supers { AreSupers mode first.now second.now elements.now (length elements.now) supers.now }
     requires few { length elements.now < 10 ^ 9 }
     requires few_items { item + length elements.now < 2 ^ 32 }
     ensures { Tells (checks_of_each (difference_checks mode first.now second.now elements.now item) 0 elements.now) result }
@@ -89,7 +88,7 @@ pub fn check_differences(
     let mut seen = BTreeSet::new(alloc);
     let items = elements.as_slice();
     for e in 0..items.len() {
-        let key = take_key(alloc, mode, supers, e)?;
+        let key = key_from(alloc, mode, supers, e)?;
         if !is_new(&mut seen, key)? {
             return Err(CheckFault::Refused(Refusal {
                 rule: 18,

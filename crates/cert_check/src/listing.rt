@@ -41,9 +41,9 @@ pub fn check_listing(
     ensures { Tells (listing_checks mode list.now item first.now second.now) result }
 {
     let elements = elements_from(alloc, list.elements.as_slice())?;
-    let mut supers = elements::checked_elements(alloc, mode, first, second, &elements, item + 1)?;
+    let supers = elements::checked_elements(alloc, mode, first, second, &elements, item + 1)?;
     if elements.as_slice().len() as u64 != list.limit as u64 + 1 {
         return Err(CheckFault::Refused(Refusal { rule: 18, item }));
     }
-    keys::check_differences(alloc, mode, first, second, &elements, item + 1, &mut supers)
+    keys::check_differences(alloc, mode, first, second, &elements, item + 1, &supers)
 }

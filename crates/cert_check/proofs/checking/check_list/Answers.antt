@@ -1,4 +1,4 @@
-use Rattle.std.proofs.Common.{◌≡◌, ◌+◌, subst, arith}
+use Rattle.std.proofs.Common.{subst, arith}
 use Rattle.log_check.specs.Checks.{Tells}
 use Rattle.cert_check.specs.Listing.{listing_checks}
 use Rattle.cert_check.proofs.ClosedLemmas.{list_parts, log_parts}

@@ -1,9 +1,20 @@
-use Rattle.std.proofs.Common.{ℕ, ◌≡◌, ◌↔◌, IsTrue, List, [], ◌∷◌, length, slice_index, slice_index_or, sym, ap, ◌∙◌, subst, arith}
+use Rattle.std.proofs.Common.{ℕ, ◌≡◌, ◌↔◌, IsTrue, List, [], ◌∷◌, length, slice_index, slice_index_or, refl, sym, ap, ◌∙◌, subst, arith}
 use Rattle.auto_core.specs.Graph.{start_arc}
 use Rattle.auto_core.specs.declared.parts.Mode.TheVariants.{Finite}
 use Rattle.cert_text.specs.declared.types.YesBody.{YesBody}
 use Rattle.cert_check.specs.Inclusion.{IsOver}
+use Rattle.cert_check.proofs.SuperLemmas.{supers_grown}
 use Rattle.cert_check.proofs.covers.covers_start.Goals as goal
+
+pub is_over-requires-clause-supers : goal.is_over-requires-clause-supers
+is_over-requires-clause-supers c =
+    supers_grown Finite c.args.first.now c.args.second.now c.args.evidence.now.elements (length c.args.evidence.now.elements) c.args.supers.now _ refl refl
+    c.in_ok-start.ensures.stock c.in_ok-start.ensures.grown c.requires.supers
+
+pub returns-clause-supers : goal.returns-clause-supers
+returns-clause-supers c =
+    supers_grown Finite c.args.first.now c.args.second.now c.args.evidence.now.elements (length c.args.evidence.now.elements) c.args.supers.now _ refl refl
+    c.in_ok-start.ensures.stock c.in_ok-start.ensures.grown c.requires.supers
 
 pub returns-clause-told : goal.returns-clause-told
 returns-clause-told c =
@@ -13,7 +24,7 @@ returns-clause-told c =
     let count : length E.cover ≡ 1 = sym (ap length c.as_slice-cover.ensures) ∙ c.if-cover-ne1.false in
     let told : IsTrue c.is_over.result ↔ IsOver Finite A B E (slice_index E.cover 0) (start_arc A) =
     subst (λ (l : List ℕ). IsTrue c.is_over.result ↔ IsOver Finite A B E (slice_index l 0) (start_arc A)) c.as_slice-cover.ensures
-    (c.is_over.ensures (start_arc A) c.start-arc.ensures.stands) in (
+    (c.is_over.ensures (start_arc A) c.in_ok-start.ensures.stands) in (
       λ is. record {
         count = count;
         each = λ i lt.

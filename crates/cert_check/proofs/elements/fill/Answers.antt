@@ -1,4 +1,4 @@
-use Rattle.std.proofs.Common.{◌+◌, ◌∙◌}
+use Rattle.std.proofs.Common.{◌+◌}
 use Rattle.cert_check.specs.Inclusion.{element_checks}
 use Rattle.log_check.proofs.CheckLemmas.{more_of, broken_of}
 use Rattle.cert_check.proofs.elements.fill.Goals as goal
@@ -12,8 +12,7 @@ pub loop-e-preserved : goal.loop-e-preserved
 loop-e-preserved c = (
   more_of (element_checks c.args.first.now c.args.elements.now c.args.item) c.loop-e.e c.args.elements.now c.as_slice-items.result.now _
       c.as_slice-items.ensures c.loop-e-test.true c.loop-e.invariant.0 (c.in-None.ensures c.args.item),
-  c.in_ok-add_element.ensures.supers,
-  c.add_element.ensures.room ∙ c.loop-e.invariant.2,
+  c.in_ok-add_element.ensures,
 )
 
 pub add_element-requires-clause-names : goal.add_element-requires-clause-names

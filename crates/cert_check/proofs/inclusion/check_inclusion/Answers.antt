@@ -59,5 +59,5 @@ returns c =
     let steps = subst (λ (l : List Element). AllHold (checks_of_each (step_checks c.args.mode A B E (n + 2 + length l)) 0 E.steps)) c.as_slice.ensures c.in_ok-check_steps.ensures.tells in
     record {
       tells = pairs_last c.args.mode n A B E c.check_passing.result c.in_ok-order.ensures.tells c.in_ok-supers.ensures.tells c.in_ok-check_under.ensures cover steps c.check_passing.ensures;
-      automaton = any_ok c.check_passing.result (IsAutomaton B) c.states.ensures.valid;
+      automaton = any_ok c.check_passing.result (IsAutomaton B) c.states-states.ensures.valid;
     }

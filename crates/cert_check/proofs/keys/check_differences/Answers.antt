@@ -1,12 +1,11 @@
-use Rattle.std.proofs.Common.{◌≡◌, ◌+◌, ℕ, ◌<◌, ◌≤◌, true, false, inl, inr, refl, sym, ap, ◌∙◌, subst, arith, rules, List, slice_index_or, length}
+use Rattle.std.proofs.Common.{◌≡◌, ◌+◌, ℕ, ◌<◌, true, false, inl, inr, refl, sym, ap, ◌∙◌, subst, arith, rules, List, length}
 use Rattle.std.proofs.lemmas.Bool.{cases_lt, false≢true}
 use Rattle.auto_core.specs.declared.parts.Mode.{Mode}
 use Rattle.cert_text.specs.declared.types.Element.{Element}
 use Rattle.cert_check.specs.Inclusion.{no_element}
 use Rattle.cert_check.specs.Listing.{difference_checks}
 use Rattle.cert_check.specs.declared.elements.Supers.{Supers}
-use Rattle.cert_check.specs.Supers.{no_arc, held_arc, held_block, key_of, Fit, has_key}
-use Rattle.supergraph.specs.declared.arcs.Arc.{Arc}
+use Rattle.cert_check.specs.Supers.{held_arc, held_block, key_of, Fit, has_key}
 use Rattle.log_check.proofs.CheckLemmas.{more_of, broken_of}
 use Rattle.cert_check.proofs.KeyLemmas.{differs_by_keys, same_by_keys}
 use Rattle.cert_check.proofs.keys.check_differences.Goals as goal
@@ -18,23 +17,17 @@ loop-e-preserved c =
     let B = c.args.second.now in
     let es : List Element = c.args.elements.now in
     let S : Supers = c.args.supers.now in
-    let cur : Supers = c.loop-e.supers in
     let e : ℕ = c.loop-e.e in
     let inv = c.loop-e.invariant in
     let lt : e < length es = omega (arith, c.loop-e-test.true, ap length c.as_slice-items.ensures) in
     let K : ℕ → List ℕ = λ d. key_of m (held_arc S d) (held_block S d) in
-    let arc_is : held_arc cur e ≡ held_arc S e = ap (λ xs. slice_index_or xs e no_arc) inv.arcs in
-    let key_is : c.in_ok-key.key.items ≡ K e =
-    c.in_ok-key.ensures.key ∙ ap (λ (a : Arc). key_of m a (held_block cur e)) arc_is ∙ ap (key_of m (held_arc S e)) (inv.kept e (omega arith)) in
+    let key_is : c.in_ok-key.key.items ≡ K e = c.in_ok-key.ensures.key in
     let fit : Fit (K e) = subst Fit key_is c.in_ok-key.ensures.fits in
     let missing : has_key c.loop-e.seen c.in_ok-key.key ≡ false = search rules in
     let new = differs_by_keys m A B es S c.requires.supers e lt inv.fits fit
     (λ d before same. false≢true (sym missing ∙ (inv.seen c.in_ok-key.key).1 (d, before, key_is ∙ sym same))) in
     record {
       told = more_of (difference_checks m A B es c.args.item) e es c.as_slice-items.result.now no_element c.as_slice-items.ensures c.loop-e-test.true inv.told (new, tt);
-      arcs = c.take_key.ensures.arcs ∙ inv.arcs;
-      size = c.take_key.ensures.size ∙ inv.size;
-      kept = λ d above. c.take_key.ensures.others d (omega arith) ∙ inv.kept d (omega arith);
       fits = λ d below. elim (cases_lt d e) [
         | inl before ↦ inv.fits d before
         | inr last ↦ let is : d ≡ e = omega arith in subst (λ k. Fit (K k)) (sym is) fit
@@ -58,14 +51,11 @@ returns-then-not-branch c =
     let B = c.args.second.now in
     let es : List Element = c.args.elements.now in
     let S : Supers = c.args.supers.now in
-    let cur : Supers = c.loop-e.supers in
     let e : ℕ = c.loop-e.e in
     let inv = c.loop-e.invariant in
     let lt : e < length es = omega (arith, c.loop-e-test.true, ap length c.as_slice-items.ensures) in
     let K : ℕ → List ℕ = λ d. key_of m (held_arc S d) (held_block S d) in
-    let arc_is : held_arc cur e ≡ held_arc S e = ap (λ xs. slice_index_or xs e no_arc) inv.arcs in
-    let key_is : c.in_ok-key.key.items ≡ K e =
-    c.in_ok-key.ensures.key ∙ ap (λ (a : Arc). key_of m a (held_block cur e)) arc_is ∙ ap (key_of m (held_arc S e)) (inv.kept e (omega arith)) in
+    let key_is : c.in_ok-key.key.items ≡ K e = c.in_ok-key.ensures.key in
     let there : has_key c.loop-e.seen c.in_ok-key.key ≡ true = search rules in
     let (d, before, is) = (inv.seen c.in_ok-key.key).0 there in
     broken_of (difference_checks m A B es c.args.item) e es c.as_slice-items.result.now no_element (record { rule = 18; item = c.args.item + e }) c.as_slice-items.ensures c.loop-e-test.true inv.told

@@ -1,4 +1,4 @@
-use Rattle.std.proofs.Common.{◌≡◌, ◌↔◌, ℕ, ◌<◌, ◌≤◌, length, take, Vec, Global}
+use Rattle.std.proofs.Common.{◌≡◌, ◌↔◌, ℕ, ◌<◌, take, Vec, Global}
 use Rattle.log_check.specs.Checks.{AllHold, checks_of_each}
 use Rattle.cert_check.specs.Listing.{difference_checks}
 use Rattle.cert_check.specs.Supers.{held_arc, held_block, key_of, Fit, HasKey}
@@ -7,9 +7,6 @@ use Rattle.cert_check.proofs.keys.check_differences.Given as goal
 abbrev pub invariant-loop-e : goal.invariant-loop-e
 invariant-loop-e l = record {
   told : AllHold (checks_of_each (difference_checks l.mode l.first l.second l.elements l.item) 0 (take l.e l.elements));
-  arcs : l.supers.arcs.items ≡ l.fn.supers.arcs.items;
-  size : length l.supers.blocks.items ≡ length l.elements;
-  kept : (d : ℕ) → l.e ≤ d → held_block l.supers d ≡ held_block l.fn.supers d;
-  fits : (d : ℕ) → d < l.e → Fit (key_of l.mode (held_arc l.fn.supers d) (held_block l.fn.supers d));
-  seen : (v : Vec ℕ Global) → HasKey l.seen v ↔ ((d : ℕ) × (d < l.e) × (v.items ≡ key_of l.mode (held_arc l.fn.supers d) (held_block l.fn.supers d)));
+  fits : (d : ℕ) → d < l.e → Fit (key_of l.mode (held_arc l.supers d) (held_block l.supers d));
+  seen : (v : Vec ℕ Global) → HasKey l.seen v ↔ ((d : ℕ) × (d < l.e) × (v.items ≡ key_of l.mode (held_arc l.supers d) (held_block l.supers d)));
 }

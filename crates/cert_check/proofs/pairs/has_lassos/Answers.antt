@@ -1,9 +1,8 @@
-use Rattle.std.proofs.Common.{ℕ, ◌≡◌, List, take, slice_index_or, Contains, true, false, inl, inr, refl, sym, ap, ◌∙◌, subst, rules, take_all}
+use Rattle.std.proofs.Common.{ℕ, ◌≡◌, List, take, slice_index_or, Contains, true, false, inl, inr, refl, sym, ◌∙◌, subst, rules, take_all}
 use Rattle.std.proofs.lemmas.Bool.{false≢true}
 use Rattle.std.proofs.lemmas.List.{take_more}
 use Rattle.std.proofs.lemmas.List.Elements.{Contains-get_or, Contains-push_cases}
 use Rattle.auto_core.specs.Graph.{LassoIn}
-use Rattle.auto_core.specs.declared.parts.Mode.TheVariants.{Buchi}
 use Rattle.graph_rows.specs.Block.{block_graph}
 use Rattle.cert_check.specs.Supers.{held_block}
 use Rattle.cert_check.proofs.PairLemmas.{lassos_named}

@@ -1,6 +1,5 @@
 use Rattle.std.proofs.Common.{◌≡◌, ℕ, Contains, take}
 use Rattle.auto_core.specs.Graph.{LassoIn}
-use Rattle.auto_core.specs.declared.parts.Mode.TheVariants.{Buchi}
 use Rattle.graph_rows.specs.Block.{block_graph}
 use Rattle.cert_check.specs.Supers.{held_block}
 use Rattle.cert_check.proofs.pairs.has_lassos.Given as goal
