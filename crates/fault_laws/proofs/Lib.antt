@@ -1,4 +1,11 @@
 pub mod LineLemmas
 pub mod StopLemmas
+pub mod ReaderLemmas
+pub mod SaidLemmas
+pub mod GrammarLemmas
 pub mod FaultLemmas
 pub mod EndLemmas
+pub mod PartLemmas
+pub mod AdmittedLemmas
+pub mod HeaderLemmas
+pub mod EndlessLemmas

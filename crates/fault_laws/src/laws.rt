@@ -1,6 +1,8 @@
 //! Where the first fault of a certificate's text stands.
 
 ghost use Rattle.fault_laws.specs.FirstFaults.{FaultStandsLater, LinesBeginNone, MoreIsTrailing};
+ghost use Rattle.fault_laws.specs.Admitted.{EndlessIsAdmitted, FaultEndsAdmitted, CertLinesAreAdmitted, TruncatedAtTheEnd, TruncatedJustWhere, HeaderInLineOne, HeaderJustWhere};
+ghost use Rattle.fault_laws.specs.Texts.{TextsAreRead, TextOrFault, NoTextHasFault, OneFirstFault, TrailingFollowsText};
 
 /// After so many lines as a certificate's text begins with, a first fault stands in a later line.
 pub fn fault_stands_after_a_certificates_lines()
@@ -16,4 +18,64 @@ pub fn lines_up_to_the_fault_begin_none()
 /// What follows a certificate's text is trailing, in the line after the text's last.
 pub fn more_after_the_text_is_trailing()
     ensures { MoreIsTrailing }
+{}
+
+/// The first fault stands at the first line with which the lines up to it are not admitted.
+pub fn the_fault_ends_the_admitted_lines()
+    ensures { FaultEndsAdmitted }
+{}
+
+/// Lines with which a certificate's text begins are admitted.
+pub fn a_certificates_lines_are_admitted()
+    ensures { CertLinesAreAdmitted }
+{}
+
+/// There are lines that are admitted although no certificate's text begins with them.
+pub fn admitted_lines_may_begin_no_text()
+    ensures { EndlessIsAdmitted }
+{}
+
+/// That the text ends too soon is told in the line after all whole ones.
+pub fn truncated_stands_at_the_end()
+    ensures { TruncatedAtTheEnd }
+{}
+
+/// The text ends too soon just where all whole lines are admitted and no certificate's text stands at its beginning.
+pub fn truncated_where_no_line_is_refused()
+    ensures { TruncatedJustWhere }
+{}
+
+/// A wrong heading is told in the first line, which is no certificate's first line.
+pub fn header_stands_in_line_one()
+    ensures { HeaderInLineOne }
+{}
+
+/// The heading is wrong just where the first line is whole and is no certificate's first line.
+pub fn a_header_fault_is_no_certificates_line()
+    ensures { HeaderJustWhere }
+{}
+
+/// What is told to be trailing follows a certificate's text.
+pub fn trailing_follows_a_text()
+    ensures { TrailingFollowsText }
+{}
+
+/// Bytes are read as a certificate just where they are its text.
+pub fn texts_are_read()
+    ensures { TextsAreRead }
+{}
+
+/// Bytes are a certificate's text, or they have a first fault.
+pub fn bytes_are_a_text_or_have_a_fault()
+    ensures { TextOrFault }
+{}
+
+/// No text of a certificate has a first fault.
+pub fn no_text_has_a_fault()
+    ensures { NoTextHasFault }
+{}
+
+/// Bytes have one first fault at most.
+pub fn there_is_one_first_fault()
+    ensures { OneFirstFault }
 {}

@@ -4,6 +4,10 @@
 mod laws;
 
 pub use laws::{
-    fault_stands_after_a_certificates_lines, lines_up_to_the_fault_begin_none,
-    more_after_the_text_is_trailing,
+    a_certificates_lines_are_admitted, a_header_fault_is_no_certificates_line,
+    admitted_lines_may_begin_no_text, bytes_are_a_text_or_have_a_fault,
+    fault_stands_after_a_certificates_lines, header_stands_in_line_one,
+    lines_up_to_the_fault_begin_none, more_after_the_text_is_trailing, no_text_has_a_fault,
+    texts_are_read, the_fault_ends_the_admitted_lines, there_is_one_first_fault,
+    trailing_follows_a_text, truncated_stands_at_the_end, truncated_where_no_line_is_refused,
 };
