@@ -6,3 +6,4 @@ pub mod UnionLemmas
 pub mod ProductLemmas
 pub mod CountLemmas
 pub mod OneLaws
+pub mod ThereLemmas

@@ -14,10 +14,10 @@ use Rattle.auto_core.proofs.PathLemmas.{Contains-here, Contains-later}
 use Rattle.auto_core.proofs.MemberLemmas.{Rises, map_has}
 use Rattle.auto_core.proofs.SetLemmas.{same_automaton}
 use Rattle.ba_format.specs.Sight.{first_seen}
-use Rattle.auto_ops.specs.declared.triples.Triple.{Triple}
+use Rattle.auto_ops.specs.declared.product_states.ProductState.{ProductState}
 use Rattle.auto_ops.specs.Union.{second_offset, UnionMoves}
 use Rattle.auto_ops.specs.UnionParts.{union_transitions, union_accepting}
-use Rattle.auto_ops.specs.Intersection.{start_of, GoesBeside, IsReachedBy, IsReached, JointMove, moves_of, moves_from, same_triple, seen_by, AreNumbered}
+use Rattle.auto_ops.specs.Intersection.{start_of, GoesBeside, IsReachedBy, IsReached, JointMove, moves_of, moves_from, same_product_state, seen_by, AreNumbered}
 use Rattle.auto_ops.specs.Laws.{UnionIsOne, UnionKeepsLimits, UnionIsThere, IntersectionIsOne, IntersectionKeepsLimits}
 use Rattle.auto_ops.proofs.SightLemmas.{Differ, all_from, place_of, at_one, at_place, at_front, flat_has, first_apart, first_has}
 use Rattle.auto_ops.proofs.UnionLemmas.{same_parts, union_has, union_from, union_many, in_states, in_labels, accepted_has, accepted_from, accepted_below}
@@ -42,7 +42,7 @@ union_limits mode A B U k (inr (inr many)) within =
     (λ t h. (t, (k.moves t.source t.label t.target).1 (All-contains (λ (u : Trans). UnionMoves A B u.source u.label u.target) many.things t many.each h), refl)) in
     omega (arith, many.many)
 
-before_cases : (t u : Trans) → IsBefore t u ⊎ (t ≡ u) ⊎ IsBefore u t
+pub before_cases : (t u : Trans) → IsBefore t u ⊎ (t ≡ u) ⊎ IsBefore u t
 before_cases t u = elim (cases_order t.source u.source) [
   | inr o ↦ elim o [ inl lt ↦ inl (inl lt) | inr gt ↦ inr (inr (inl gt)) ]
   | inl s ↦ elim (cases_order t.label u.label) [
@@ -54,7 +54,7 @@ before_cases t u = elim (cases_order t.source u.source) [
   ]
 ]
 
-number_cases : (x y : ℕ) → (x < y) ⊎ (x ≡ y) ⊎ (y < x)
+pub number_cases : (x y : ℕ) → (x < y) ⊎ (x ≡ y) ⊎ (y < x)
 number_cases x y = elim (cases_order x y) [ inl e ↦ inr (inl e) | inr o ↦ elim o [ inl lt ↦ inl lt | inr gt ↦ inr (inr gt) ] ]
 
 pub union_there : UnionIsThere
@@ -102,80 +102,80 @@ union_there mode A B a_valid b_valid same small =
 -- ---- intersections
 
 module _ (mode : Mode) (A B : Automaton) where
-  -- what is seen from the triples
-  abbrev seen_from_all : List Triple → List Triple
-  seen_from_all front = first_seen same_triple (seen_by A B (moves_from mode A B front))
+  -- what is seen from the product states
+  abbrev seen_from_all : List ProductState → List ProductState
+  seen_from_all front = first_seen same_product_state (seen_by A B (moves_from mode A B front))
 
-  module _ (triples : List Triple) (n : AreNumbered mode A B triples) where
-    apart : Rises Differ triples
+  module _ (product_states : List ProductState) (n : AreNumbered mode A B product_states) where
+    apart : Rises Differ product_states
     apart =
-        let P : List Triple → Type 0 = λ l. Rises Differ l in
-        subst P (sym n.in_order) (first_apart same_triple same_equal same_itself (seen_by A B (moves_from mode A B triples)))
+        let P : List ProductState → Type 0 = λ l. Rises Differ l in
+        subst P (sym n.in_order) (first_apart same_product_state same_equal same_itself (seen_by A B (moves_from mode A B product_states)))
 
     -- what is seen from a front of the list stands in front of it
-    seen_front : (k : ℕ) → (rest : List Triple) × (triples ≡ seen_from_all (take k triples) ++ rest)
+    seen_front : (k : ℕ) → (rest : List ProductState) × (product_states ≡ seen_from_all (take k product_states) ++ rest)
     seen_front k =
-        let (rest, e) = seen_grows A B (moves_from mode A B (take k triples)) (moves_from mode A B (drop k triples)) in
-        let whole : moves_from mode A B triples ≡ moves_from mode A B (take k triples) ++ moves_from mode A B (drop k triples) =
-        ap (moves_from mode A B) (sym (take-append-drop k triples)) ∙ flat_map-append (moves_of mode A B) (take k triples) (drop k triples) in
-        (rest, n.in_order ∙ ap (λ l. first_seen same_triple (seen_by A B l)) whole ∙ e)
+        let (rest, e) = seen_grows A B (moves_from mode A B (take k product_states)) (moves_from mode A B (drop k product_states)) in
+        let whole : moves_from mode A B product_states ≡ moves_from mode A B (take k product_states) ++ moves_from mode A B (drop k product_states) =
+        ap (moves_from mode A B) (sym (take-append-drop k product_states)) ∙ flat_map-append (moves_of mode A B) (take k product_states) (drop k product_states) in
+        (rest, n.in_order ∙ ap (λ l. first_seen same_product_state (seen_by A B l)) whole ∙ e)
 
-    -- if no more than k are seen from the first k, then all reached triples are among them
-    closed : (k : ℕ) → length (seen_from_all (take k triples)) ≤ k → (i : ℕ) (u : Triple) → IsReachedBy mode A B i u → Contains (seen_from_all (take k triples)) u
+    -- if no more than k are seen from the first k, then all reached product states are among them
+    closed : (k : ℕ) → length (seen_from_all (take k product_states)) ≤ k → (i : ℕ) (u : ProductState) → IsReachedBy mode A B i u → Contains (seen_from_all (take k product_states)) u
     closed k short zero u h =
-        first_has same_triple same_equal same_itself (seen_by A B (moves_from mode A B (take k triples))) u
-        (Contains-here (start_of A B) u (map (λ (m : JointMove). m.target) (moves_from mode A B (take k triples))) (sym h))
+        first_has same_product_state same_equal same_itself (seen_by A B (moves_from mode A B (take k product_states))) u
+        (Contains-here (start_of A B) u (map (λ (m : JointMove). m.target) (moves_from mode A B (take k product_states))) (sym h))
     closed k short (suc i) u (t, a, by, goes) =
-        let front = take k triples in
+        let front = take k product_states in
         let j = length (seen_from_all front) in
         let (rest, e) = seen_front k in
-        let (more, f) = front_of j k triples short in
-        let P : List Triple → Type 0 = λ l. Contains l t in
-        let near : take j triples ≡ seen_from_all front = ap (take j) e ∙ take_at (seen_from_all front) rest j refl in
-        let t_in : Contains front t = subst P (sym f) (Contains-append_left (take j triples) more t (subst P (sym near) (closed k short i t by))) in
+        let (more, f) = front_of j k product_states short in
+        let P : List ProductState → Type 0 = λ l. Contains l t in
+        let near : take j product_states ≡ seen_from_all front = ap (take j) e ∙ take_at (seen_from_all front) rest j refl in
+        let t_in : Contains front t = subst P (sym f) (Contains-append_left (take j product_states) more t (subst P (sym near) (closed k short i t by))) in
         let m : JointMove = record { source = t; label = a; target = u } in
         let m_in : Contains (moves_from mode A B front) m = flat_has (moves_of mode A B) front t m t_in (move_has mode A B t a u goes) in
-        first_has same_triple same_equal same_itself (seen_by A B (moves_from mode A B front)) u
+        first_has same_product_state same_equal same_itself (seen_by A B (moves_from mode A B front)) u
         (Contains-later (start_of A B) u (map (λ (x : JointMove). x.target) (moves_from mode A B front)) (map_has (λ (x : JointMove). x.target) (moves_from mode A B front) m m_in))
 
     -- from the first k at least one more is seen, if there is one
-    one_more : (k : ℕ) → k < length triples → k < length (seen_from_all (take k triples))
-    one_more k lt = elim (cases_lt k (length (seen_from_all (take k triples)))) [
+    one_more : (k : ℕ) → k < length product_states → k < length (seen_from_all (take k product_states))
+    one_more k lt = elim (cases_lt k (length (seen_from_all (take k product_states)))) [
       | inl fine ↦ fine
       | inr short ↦
           let d = start_of A B in
-          let u = get_or triples k d in
-          let at_k : At triples k u = slice_get-get_or triples k d lt in
-          let (i, by) = (n.reached u).0 (Contains-get_or triples k d lt) in
-          let (j, at_j) = place_of (seen_from_all (take k triples)) u (closed k short i u by) in
-          let j_in = slice_get_within (seen_from_all (take k triples)) j u at_j in
+          let u = get_or product_states k d in
+          let at_k : At product_states k u = slice_get-get_or product_states k d lt in
+          let (i, by) = (n.reached u).0 (Contains-get_or product_states k d lt) in
+          let (j, at_j) = place_of (seen_from_all (take k product_states)) u (closed k short i u by) in
+          let j_in = slice_get_within (seen_from_all (take k product_states)) j u at_j in
           let (rest, e) = seen_front k in
-          let P : List Triple → Type 0 = λ l. At l j u in
-          let same = at_place triples j k u apart (subst P (sym e) (at_front (seen_from_all (take k triples)) rest j u at_j)) at_k in
+          let P : List ProductState → Type 0 = λ l. At l j u in
+          let same = at_place product_states j k u apart (subst P (sym e) (at_front (seen_from_all (take k product_states)) rest j u at_j)) at_k in
           absurd (omega arith)
     ]
 
     -- so the first k tell the next
-    next : (k : ℕ) → k < length triples → take (suc k) triples ≡ take (suc k) (seen_from_all (take k triples))
+    next : (k : ℕ) → k < length product_states → take (suc k) product_states ≡ take (suc k) (seen_from_all (take k product_states))
     next k lt =
         let (rest, e) = seen_front k in
-        let enough : suc k ≤ length (seen_from_all (take k triples)) = let m = one_more k lt in omega arith in
-        ap (take (suc k)) e ∙ take-append-le (suc k) (seen_from_all (take k triples)) rest enough
+        let enough : suc k ≤ length (seen_from_all (take k product_states)) = let m = one_more k lt in omega arith in
+        ap (take (suc k)) e ∙ take-append-le (suc k) (seen_from_all (take k product_states)) rest enough
 
-  fronts : (one two : List Triple) → AreNumbered mode A B one → AreNumbered mode A B two → (k : ℕ) → k ≤ length one → k ≤ length two → take k one ≡ take k two
+  fronts : (one two : List ProductState) → AreNumbered mode A B one → AreNumbered mode A B two → (k : ℕ) → k ≤ length one → k ≤ length two → take k one ≡ take k two
   fronts one two n m zero h g = refl
   fronts one two n m (suc k) h g =
       next one n k (omega arith) ∙ ap (λ l. take (suc k) (seen_from_all l)) (fronts one two n m k (omega arith) (omega arith)) ∙ sym (next two m k (omega arith))
 
-  not_shorter : (one two : List Triple) → AreNumbered mode A B one → AreNumbered mode A B two → length one < length two → ⊥
+  not_shorter : (one two : List ProductState) → AreNumbered mode A B one → AreNumbered mode A B two → length one < length two → ⊥
   not_shorter one two n m lt =
       let k = length one in
       let same : take k two ≡ one = sym (fronts one two n m k (omega arith) (omega arith)) ∙ take_all k one (omega arith) in
       let more = one_more two m k lt in
-      let size : length (seen_from_all (take k two)) ≡ k = ap (λ (l : List Triple). length (seen_from_all l)) same ∙ ap (λ (l : List Triple). length l) (sym n.in_order) in
+      let size : length (seen_from_all (take k two)) ≡ k = ap (λ (l : List ProductState). length (seen_from_all l)) same ∙ ap (λ (l : List ProductState). length l) (sym n.in_order) in
       omega arith
 
-  pub numbered_one : (one two : List Triple) → AreNumbered mode A B one → AreNumbered mode A B two → one ≡ two
+  pub numbered_one : (one two : List ProductState) → AreNumbered mode A B one → AreNumbered mode A B two → one ≡ two
   numbered_one one two n m =
       let size : length one ≡ length two = elim (cases_order (length one) (length two)) [
         | inl e ↦ e
@@ -185,12 +185,12 @@ module _ (mode : Mode) (A B : Automaton) where
 
 pub intersection_one : IntersectionIsOne
 intersection_one mode A B C D k l =
-    let e = numbered_one mode A B k.triples l.triples k.numbered l.numbered in
-    let P : List Triple → Type 0 = λ t. (p : ℕ) (u : Triple) → At k.triples p u → At t p u in
-    let Q : List Triple → Type 0 = λ t. (p : ℕ) (u : Triple) → At t p u → At k.triples p u in
+    let e = numbered_one mode A B k.product_states l.product_states k.numbered l.numbered in
+    let P : List ProductState → Type 0 = λ t. (p : ℕ) (u : ProductState) → At k.product_states p u → At t p u in
+    let Q : List ProductState → Type 0 = λ t. (p : ℕ) (u : ProductState) → At t p u → At k.product_states p u in
     let to = subst P e (λ p u h. h) in
     let back = subst Q e (λ p u h. h) in
-    same_automaton C D k.valid l.valid (k.states ∙ ap (λ (t : List Triple). length t) e ∙ sym l.states) (k.labels ∙ sym l.labels) (k.initial ∙ sym l.initial)
+    same_automaton C D k.valid l.valid (k.states ∙ ap (λ (t : List ProductState). length t) e ∙ sym l.states) (k.labels ∙ sym l.labels) (k.initial ∙ sym l.initial)
     (λ p a q. (
       λ h. let (t, u, at_p, at_q, goes) = (k.moves p a q).0 h in (l.moves p a q).1 (t, u, to p t at_p, to q u at_q, goes),
       λ h. let (t, u, at_p, at_q, goes) = (l.moves p a q).0 h in (k.moves p a q).1 (t, u, back p t at_p, back q u at_q, goes),
@@ -204,30 +204,30 @@ pub intersection_limits : IntersectionKeepsLimits
 intersection_limits mode A B C k (inl many) within = let few = within.labels in omega (arith, k.labels)
 intersection_limits mode A B C k (inr (inl many)) within =
     let few = within.states in
-    let le : length many.things ≤ length k.triples =
-    no_more (λ (x y : Triple). x ≡ y) k.triples (λ x z y e f. e ∙ sym f) many.things many.different
+    let le : length many.things ≤ length k.product_states =
+    no_more (λ (x y : ProductState). x ≡ y) k.product_states (λ x z y e f. e ∙ sym f) many.things many.different
     (λ t h. (t, (k.numbered.reached t).1 (All-contains (IsReached mode A B) many.things t many.each h), refl)) in
     omega (arith, many.many, k.states)
 intersection_limits mode A B C k (inr (inr many)) within =
     let few = within.transitions in
     let P : JointMove → Type 0 = λ m. IsReached mode A B m.source × GoesBeside mode A B m.source m.label m.target in
-    let R : JointMove → Trans → Type 0 = λ m t. At k.triples t.source m.source × (t.label ≡ m.label) × At k.triples t.target m.target in
+    let R : JointMove → Trans → Type 0 = λ m t. At k.product_states t.source m.source × (t.label ≡ m.label) × At k.product_states t.target m.target in
     let le : length many.things ≤ length C.transitions =
-    no_more R C.transitions (one_move k.triples) many.things many.different
+    no_more R C.transitions (one_move k.product_states) many.things many.different
     (λ m h.
     let (by, goes) = All-contains P many.things m many.each h in
     let (i, steps) = by in
-    let (p, at_p) = place_of k.triples m.source ((k.numbered.reached m.source).1 by) in
-    let (q, at_q) = place_of k.triples m.target ((k.numbered.reached m.target).1 (suc i, (m.source, m.label, steps, goes))) in
+    let (p, at_p) = place_of k.product_states m.source ((k.numbered.reached m.source).1 by) in
+    let (q, at_q) = place_of k.product_states m.target ((k.numbered.reached m.target).1 (suc i, (m.source, m.label, steps, goes))) in
     (trans p m.label q, (k.moves p m.label q).1 (m.source, m.target, at_p, at_q, goes), (at_p, refl, at_q))) in
     omega (arith, many.many)
   where
-    one_move : (triples : List Triple) (m n : JointMove) (t : Trans)
-        → (At triples t.source m.source × (t.label ≡ m.label) × At triples t.target m.target)
-        → (At triples t.source n.source × (t.label ≡ n.label) × At triples t.target n.target)
+    one_move : (product_states : List ProductState) (m n : JointMove) (t : Trans)
+        → (At product_states t.source m.source × (t.label ≡ m.label) × At product_states t.target m.target)
+        → (At product_states t.source n.source × (t.label ≡ n.label) × At product_states t.target n.target)
         → m ≡ n
-    one_move triples m n t a b =
-        let p = at_one triples t.source m.source n.source a.0 b.0 in
+    one_move product_states m n t a b =
+        let p = at_one product_states t.source m.source n.source a.0 b.0 in
         let q = sym a.1 ∙ b.1 in
-        let r = at_one triples t.target m.target n.target a.2 b.2 in
+        let r = at_one product_states t.target m.target n.target a.2 b.2 in
         λ i. record { source = p i; label = q i; target = r i }

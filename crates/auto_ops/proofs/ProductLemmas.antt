@@ -18,14 +18,14 @@ use Rattle.auto_core.proofs.PathLemmas.{Contains-here, Contains-later, Contains-
 use Rattle.auto_core.proofs.MoveLemmas.{move_in_range}
 use Rattle.auto_core.proofs.MemberLemmas.{Rises, filter_has, filter_from, map_has, map_from}
 use Rattle.ba_format.specs.Sight.{noted, first_seen}
-use Rattle.auto_ops.specs.declared.triples.Triple.{Triple}
-use Rattle.auto_ops.specs.Limits.{IsWithinLimits}
-use Rattle.auto_ops.specs.Intersection.{triple, start_of, awaits_after, GoesBeside, IsReachedBy, IsReached, AcceptsBoth, JointMove, joint, goes_from, goes_with, moves_beside, moves_of, moves_from, same_triple, seen_by, IsIntersection, IsIntersectionTooLarge}
+use Rattle.auto_ops.specs.declared.product_states.ProductState.{ProductState}
+use Rattle.auto_ops.specs.Limits.{IsSmallResult}
+use Rattle.auto_ops.specs.Intersection.{product_state, start_of, awaits_after, GoesBeside, IsReachedBy, IsReached, AcceptsBoth, JointMove, joint, goes_from, goes_with, moves_beside, moves_of, moves_from, same_product_state, seen_by, IsIntersection, IsIntersectionTooLarge}
 use Rattle.auto_ops.specs.UnderWay.{IsNumbered, AreMoves, IsInside, IsUnderWay, AreTooMany, IsRoomy, IsExplored, IsExploredUpto}
 use Rattle.auto_ops.proofs.SightLemmas.{Differ, apart_append, apart_map, apart_filter, apart_flat, apart_front, apart_once, noted_more, flat_from, flat_has, at_member, at_one, at_place, at_front, all_from, filter_part, fold_append, first_more, seen_start, first_apart, first_from, first_has}
 use Rattle.auto_ops.proofs.UnionLemmas.{same_parts, transitions_apart}
 
--- ---- the same triple
+-- ---- the same product state
 
 flags_same : (a b : Bool) → cond a b (not b) ≡ true → a ≡ b
 flags_same true true h = refl
@@ -37,53 +37,53 @@ flag_itself : (a : Bool) → cond a a (not a) ≡ true
 flag_itself true = refl
 flag_itself false = refl
 
-pub same_equal : (t u : Triple) → same_triple t u ≡ true → t ≡ u
+pub same_equal : (t u : ProductState) → same_product_state t u ≡ true → t ≡ u
 same_equal t u h =
     let (front, flags) = and_parts (eqb t.first u.first && eqb t.second u.second) (cond t.awaits_second u.awaits_second (not u.awaits_second)) h in
     let (one, two) = and_parts (eqb t.first u.first) (eqb t.second u.second) front in
     let p = eqb-true t.first u.first one in
     let q = eqb-true t.second u.second two in
     let r = flags_same t.awaits_second u.awaits_second flags in
-    λ i. triple (p i) (q i) (r i)
+    λ i. product_state (p i) (q i) (r i)
 
-pub same_itself : (t : Triple) → same_triple t t ≡ true
+pub same_itself : (t : ProductState) → same_product_state t t ≡ true
 same_itself t = and_from (eqb t.first t.first && eqb t.second t.second) (cond t.awaits_second t.awaits_second (not t.awaits_second))
     (and_from (eqb t.first t.first) (eqb t.second t.second) (eq-eqb t.first t.first refl) (eq-eqb t.second t.second refl)) (flag_itself t.awaits_second)
 
--- a triple that is there needs no new number
-pub noted_there : (triples : List Triple) (n : ℕ) (t : Triple) → At triples n t → noted same_triple triples t ≡ triples
-noted_there triples n t h =
-    let lt = slice_get_within triples n t h in
-    let hit : list_any (same_triple t) triples ≡ true = list_any_at (same_triple t) triples n t lt (ap (same_triple t) (get_or_from_slice_get triples n t t h) ∙ same_itself t) in
-    ap (λ b. if b then triples else triples ++ t ∷ []) hit
+-- a product state that is there needs no new number
+pub noted_there : (product_states : List ProductState) (n : ℕ) (t : ProductState) → At product_states n t → noted same_product_state product_states t ≡ product_states
+noted_there product_states n t h =
+    let lt = slice_get_within product_states n t h in
+    let hit : list_any (same_product_state t) product_states ≡ true = list_any_at (same_product_state t) product_states n t lt (ap (same_product_state t) (get_or_from_slice_get product_states n t t h) ∙ same_itself t) in
+    ap (λ b. if b then product_states else product_states ++ t ∷ []) hit
 
 -- a new one stands at the end
-pub at_end : (triples : List Triple) (n : ℕ) (t : Triple) → n ≡ length triples → At (triples ++ t ∷ []) n t
-at_end triples n t e =
-    slice_get-get_or (triples ++ t ∷ []) n t (omega (arith, length_push triples t)) ∙ ap (λ x. Some x) (get_or_push triples t t n (sym e))
+pub at_end : (product_states : List ProductState) (n : ℕ) (t : ProductState) → n ≡ length product_states → At (product_states ++ t ∷ []) n t
+at_end product_states n t e =
+    slice_get-get_or (product_states ++ t ∷ []) n t (omega (arith, length_push product_states t)) ∙ ap (λ x. Some x) (get_or_push product_states t t n (sym e))
 
--- ---- the moves from a triple
+-- ---- the moves from a product state
 
 module _ (mode : Mode) (A B : Automaton) where
-  beside_from : (t : Triple) (x : Trans) (m : JointMove) → Contains (moves_beside mode A B t x) m → (y : Trans) × Contains B.transitions y × (y.source ≡ t.second) × (y.label ≡ x.label) × (joint mode A B t x y ≡ m)
+  beside_from : (t : ProductState) (x : Trans) (m : JointMove) → Contains (moves_beside mode A B t x) m → (y : Trans) × Contains B.transitions y × (y.source ≡ t.second) × (y.label ≡ x.label) × (joint mode A B t x y ≡ m)
   beside_from t x m h =
       let (y, there, is) = map_from (joint mode A B t x) (filter (goes_with t.second x.label) B.transitions) m h in
       let (y_in, test) = filter_from (goes_with t.second x.label) B.transitions y there in
       let (s, a) = and_parts (eqb y.source t.second) (eqb y.label x.label) test in
       (y, y_in, eqb-true y.source t.second s, eqb-true y.label x.label a, is)
 
-  pub move_from : (t : Triple) (m : JointMove) → Contains (moves_of mode A B t) m → (m.source ≡ t) × GoesBeside mode A B t m.label m.target
+  pub move_from : (t : ProductState) (m : JointMove) → Contains (moves_of mode A B t) m → (m.source ≡ t) × GoesBeside mode A B t m.label m.target
   move_from t m h =
       let (x, x_there, near) = flat_from (moves_beside mode A B t) (filter (goes_from t.first) A.transitions) m h in
       let (x_in, x_test) = filter_from (goes_from t.first) A.transitions x x_there in
       let (y, y_in, s, a, is) = beside_from t x m near in
       let first : Moves A t.first x.label x.target = subst (λ p. Moves A p x.label x.target) (eqb-true x.source t.first x_test) x_in in
       let second : Moves B t.second x.label y.target = subst (λ p. Moves B p x.label y.target) s (subst (λ b. Moves B y.source b y.target) a y_in) in
-      let goes : GoesBeside mode A B t x.label (triple x.target y.target (awaits_after mode A B t)) = record { first = first; second = second; awaits = refl } in
+      let goes : GoesBeside mode A B t x.label (product_state x.target y.target (awaits_after mode A B t)) = record { first = first; second = second; awaits = refl } in
       let P : JointMove → Type 0 = λ n. GoesBeside mode A B t n.label n.target in
       (ap (λ (n : JointMove). n.source) (sym is), subst P is goes)
 
-  pub move_has : (t : Triple) (a : ℕ) (u : Triple) → GoesBeside mode A B t a u → Contains (moves_of mode A B t) (record { source = t; label = a; target = u })
+  pub move_has : (t : ProductState) (a : ℕ) (u : ProductState) → GoesBeside mode A B t a u → Contains (moves_of mode A B t) (record { source = t; label = a; target = u })
   move_has t a u goes =
       let x = trans t.first a u.first in
       let y = trans t.second a u.second in
@@ -91,10 +91,10 @@ module _ (mode : Mode) (A B : Automaton) where
       let y_there = filter_has (goes_with t.second a) B.transitions y goes.second (and_from (eqb t.second t.second) (eqb a a) (eq-eqb t.second t.second refl) (eq-eqb a a refl)) in
       let there : Contains (moves_beside mode A B t x) (joint mode A B t x y) = map_has (joint mode A B t x) (filter (goes_with t.second a) B.transitions) y y_there in
       let whole : Contains (moves_of mode A B t) (joint mode A B t x y) = flat_has (moves_beside mode A B t) (filter (goes_from t.first) A.transitions) x (joint mode A B t x y) x_there there in
-      let P : Bool → Type 0 = λ b. Contains (moves_of mode A B t) (record { source = t; label = a; target = triple u.first u.second b }) in
+      let P : Bool → Type 0 = λ b. Contains (moves_of mode A B t) (record { source = t; label = a; target = product_state u.first u.second b }) in
       subst P (sym goes.awaits) whole
 
-  pub moves_apart : (t : Triple) → IsAutomaton A → IsAutomaton B → Rises Differ (moves_of mode A B t)
+  pub moves_apart : (t : ProductState) → IsAutomaton A → IsAutomaton B → Rises Differ (moves_of mode A B t)
   moves_apart t a_valid b_valid =
       apart_flat (moves_beside mode A B t) (filter (goes_from t.first) A.transitions)
       (λ x. apart_map (joint mode A B t x) (filter (goes_with t.second x.label) B.transitions)
@@ -120,66 +120,66 @@ module _ (mode : Mode) (A B : Automaton) where
       (ap (λ (n : JointMove). n.target.first) e))
       (apart_filter (goes_from t.first) A.transitions (transitions_apart A a_valid))
 
-  pub all_apart : (ts : List Triple) → IsAutomaton A → IsAutomaton B → Rises Differ ts → Rises Differ (moves_from mode A B ts)
+  pub all_apart : (ts : List ProductState) → IsAutomaton A → IsAutomaton B → Rises Differ ts → Rises Differ (moves_from mode A B ts)
   all_apart ts a_valid b_valid apart =
       apart_flat (moves_of mode A B) ts (λ t. moves_apart t a_valid b_valid)
       (λ t u m t_in u_in near far. sym (move_from t m near).0 ∙ (move_from u m far).0) apart
 
 -- ---- transitions as moves
 
-moves_grow : (triples rest : List Triple) (ts : List Trans) (ms : List JointMove) → AreMoves triples ts ms → AreMoves (triples ++ rest) ts ms
-moves_grow triples rest [] [] h = tt
-moves_grow triples rest [] (m ∷ ms) h = absurd h
-moves_grow triples rest (t ∷ ts) [] h = absurd h
-moves_grow triples rest (t ∷ ts) (m ∷ ms) (here, later) = (
-  (at_front triples rest t.source m.source here.0, here.1, at_front triples rest t.target m.target here.2),
-  moves_grow triples rest ts ms later,
+moves_grow : (product_states rest : List ProductState) (ts : List Trans) (ms : List JointMove) → AreMoves product_states ts ms → AreMoves (product_states ++ rest) ts ms
+moves_grow product_states rest [] [] h = tt
+moves_grow product_states rest [] (m ∷ ms) h = absurd h
+moves_grow product_states rest (t ∷ ts) [] h = absurd h
+moves_grow product_states rest (t ∷ ts) (m ∷ ms) (here, later) = (
+  (at_front product_states rest t.source m.source here.0, here.1, at_front product_states rest t.target m.target here.2),
+  moves_grow product_states rest ts ms later,
 )
 
-moves_push : (triples : List Triple) (ts : List Trans) (ms : List JointMove) (t : Trans) (m : JointMove) → AreMoves triples ts ms → IsNumbered triples t m → AreMoves triples (ts ++ t ∷ []) (ms ++ m ∷ [])
-moves_push triples [] [] t m h n = (n, tt)
-moves_push triples [] (m' ∷ ms) t m h n = absurd h
-moves_push triples (t' ∷ ts) [] t m h n = absurd h
-moves_push triples (t' ∷ ts) (m' ∷ ms) t m (here, later) n = (here, moves_push triples ts ms t m later n)
+moves_push : (product_states : List ProductState) (ts : List Trans) (ms : List JointMove) (t : Trans) (m : JointMove) → AreMoves product_states ts ms → IsNumbered product_states t m → AreMoves product_states (ts ++ t ∷ []) (ms ++ m ∷ [])
+moves_push product_states [] [] t m h n = (n, tt)
+moves_push product_states [] (m' ∷ ms) t m h n = absurd h
+moves_push product_states (t' ∷ ts) [] t m h n = absurd h
+moves_push product_states (t' ∷ ts) (m' ∷ ms) t m (here, later) n = (here, moves_push product_states ts ms t m later n)
 
-pub moves_length : (triples : List Triple) (ts : List Trans) (ms : List JointMove) → AreMoves triples ts ms → length ts ≡ length ms
-moves_length triples [] [] h = refl
-moves_length triples [] (m ∷ ms) h = absurd h
-moves_length triples (t ∷ ts) [] h = absurd h
-moves_length triples (t ∷ ts) (m ∷ ms) (here, later) = let e = moves_length triples ts ms later in omega arith
+pub moves_length : (product_states : List ProductState) (ts : List Trans) (ms : List JointMove) → AreMoves product_states ts ms → length ts ≡ length ms
+moves_length product_states [] [] h = refl
+moves_length product_states [] (m ∷ ms) h = absurd h
+moves_length product_states (t ∷ ts) [] h = absurd h
+moves_length product_states (t ∷ ts) (m ∷ ms) (here, later) = let e = moves_length product_states ts ms later in omega arith
 
-move_of : (triples : List Triple) (ts : List Trans) (ms : List JointMove) → AreMoves triples ts ms → (t : Trans) → Contains ts t → (m : JointMove) × Contains ms m × IsNumbered triples t m
-move_of triples [] ms h t there = absurd (none_in_nil t there)
-move_of triples (t' ∷ ts) [] h t there = absurd h
-move_of triples (t' ∷ ts) (m' ∷ ms) (here, later) t there = elim (Contains-cons_cases t' t ts there) [
-  | inl e ↦ let P : Trans → Type 0 = λ x. IsNumbered triples x m' in (m', Contains-here m' m' ms refl, subst P e here)
-  | inr far ↦ let (m, m_in, n) = move_of triples ts ms later t far in (m, Contains-later m' m ms m_in, n)
+move_of : (product_states : List ProductState) (ts : List Trans) (ms : List JointMove) → AreMoves product_states ts ms → (t : Trans) → Contains ts t → (m : JointMove) × Contains ms m × IsNumbered product_states t m
+move_of product_states [] ms h t there = absurd (none_in_nil t there)
+move_of product_states (t' ∷ ts) [] h t there = absurd h
+move_of product_states (t' ∷ ts) (m' ∷ ms) (here, later) t there = elim (Contains-cons_cases t' t ts there) [
+  | inl e ↦ let P : Trans → Type 0 = λ x. IsNumbered product_states x m' in (m', Contains-here m' m' ms refl, subst P e here)
+  | inr far ↦ let (m, m_in, n) = move_of product_states ts ms later t far in (m, Contains-later m' m ms m_in, n)
 ]
 
-trans_of : (triples : List Triple) (ts : List Trans) (ms : List JointMove) → AreMoves triples ts ms → (m : JointMove) → Contains ms m → (t : Trans) × Contains ts t × IsNumbered triples t m
-trans_of triples ts [] h m there = absurd (none_in_nil m there)
-trans_of triples [] (m' ∷ ms) h m there = absurd h
-trans_of triples (t' ∷ ts) (m' ∷ ms) (here, later) m there = elim (Contains-cons_cases m' m ms there) [
-  | inl e ↦ let P : JointMove → Type 0 = λ x. IsNumbered triples t' x in (t', Contains-here t' t' ts refl, subst P e here)
-  | inr far ↦ let (t, t_in, n) = trans_of triples ts ms later m far in (t, Contains-later t' t ts t_in, n)
+trans_of : (product_states : List ProductState) (ts : List Trans) (ms : List JointMove) → AreMoves product_states ts ms → (m : JointMove) → Contains ms m → (t : Trans) × Contains ts t × IsNumbered product_states t m
+trans_of product_states ts [] h m there = absurd (none_in_nil m there)
+trans_of product_states [] (m' ∷ ms) h m there = absurd h
+trans_of product_states (t' ∷ ts) (m' ∷ ms) (here, later) m there = elim (Contains-cons_cases m' m ms there) [
+  | inl e ↦ let P : JointMove → Type 0 = λ x. IsNumbered product_states t' x in (t', Contains-here t' t' ts refl, subst P e here)
+  | inr far ↦ let (t, t_in, n) = trans_of product_states ts ms later m far in (t, Contains-later t' t ts t_in, n)
 ]
 
-one_move : (triples : List Triple) (t : Trans) (m n : JointMove) → IsNumbered triples t m → IsNumbered triples t n → m ≡ n
-one_move triples t m n a b =
-    let p = at_one triples t.source m.source n.source a.0 b.0 in
+one_move : (product_states : List ProductState) (t : Trans) (m n : JointMove) → IsNumbered product_states t m → IsNumbered product_states t n → m ≡ n
+one_move product_states t m n a b =
+    let p = at_one product_states t.source m.source n.source a.0 b.0 in
     let q = sym a.1 ∙ b.1 in
-    let r = at_one triples t.target m.target n.target a.2 b.2 in
+    let r = at_one product_states t.target m.target n.target a.2 b.2 in
     λ i. record { source = p i; label = q i; target = r i }
 
-trans_apart : (triples : List Triple) (ts : List Trans) (ms : List JointMove) → AreMoves triples ts ms → Rises Differ ms → Rises Differ ts
-trans_apart triples [] ms h a = tt
-trans_apart triples (t ∷ ts) [] h a = absurd h
-trans_apart triples (t ∷ ts) (m ∷ ms) (here, later) a = (
+trans_apart : (product_states : List ProductState) (ts : List Trans) (ms : List JointMove) → AreMoves product_states ts ms → Rises Differ ms → Rises Differ ts
+trans_apart product_states [] ms h a = tt
+trans_apart product_states (t ∷ ts) [] h a = absurd h
+trans_apart product_states (t ∷ ts) (m ∷ ms) (here, later) a = (
   λ u there e.
-      let (n, n_in, is) = move_of triples ts ms later u there in
-      let P : Trans → Type 0 = λ x. IsNumbered triples x n in
-      a.0 n n_in (one_move triples t m n here (subst P (sym e) is)),
-  trans_apart triples ts ms later a.1,
+      let (n, n_in, is) = move_of product_states ts ms later u there in
+      let P : Trans → Type 0 = λ x. IsNumbered product_states x n in
+      a.0 n n_in (one_move product_states t m n here (subst P (sym e) is)),
+  trans_apart product_states ts ms later a.1,
 )
 
 -- ---- one step
@@ -188,63 +188,63 @@ module _ (A B : Automaton) where
   seen_append : (ms more : List JointMove) → seen_by A B (ms ++ more) ≡ seen_by A B ms ++ map (λ (m : JointMove). m.target) more
   seen_append ms more = ap (λ l. start_of A B ∷ l) (map-append (λ (m : JointMove). m.target) ms more)
 
-  -- with more moves, the triples seen before stay in front
-  pub seen_grows : (ms more : List JointMove) → (rest : List Triple) × (first_seen same_triple (seen_by A B (ms ++ more)) ≡ first_seen same_triple (seen_by A B ms) ++ rest)
+  -- with more moves, the product states seen before stay in front
+  pub seen_grows : (ms more : List JointMove) → (rest : List ProductState) × (first_seen same_product_state (seen_by A B (ms ++ more)) ≡ first_seen same_product_state (seen_by A B ms) ++ rest)
   seen_grows ms more =
-      let (rest, e) = first_more same_triple (seen_by A B ms) (map (λ (m : JointMove). m.target) more) in
-      (rest, ap (first_seen same_triple) (seen_append ms more) ∙ e)
+      let (rest, e) = first_more same_product_state (seen_by A B ms) (map (λ (m : JointMove). m.target) more) in
+      (rest, ap (first_seen same_product_state) (seen_append ms more) ∙ e)
 
-  pub noted_next : (ms : List JointMove) (m : JointMove) → noted same_triple (first_seen same_triple (seen_by A B ms)) m.target ≡ first_seen same_triple (seen_by A B (ms ++ m ∷ []))
+  pub noted_next : (ms : List JointMove) (m : JointMove) → noted same_product_state (first_seen same_product_state (seen_by A B ms)) m.target ≡ first_seen same_product_state (seen_by A B (ms ++ m ∷ []))
   noted_next ms m =
-      sym (fold_append (noted same_triple) [] (seen_by A B ms) (m.target ∷ [])) ∙ ap (first_seen same_triple) (sym (seen_append ms (m ∷ [])))
+      sym (fold_append (noted same_product_state) [] (seen_by A B ms) (m.target ∷ [])) ∙ ap (first_seen same_product_state) (sym (seen_append ms (m ∷ [])))
 
-  noted_grows : (ms : List JointMove) (m : JointMove) (triples new : List Triple) → triples ≡ first_seen same_triple (seen_by A B ms) → new ≡ noted same_triple triples m.target
-      → (new ≡ first_seen same_triple (seen_by A B (ms ++ m ∷ []))) × ((rest : List Triple) × (new ≡ triples ++ rest))
-  noted_grows ms m triples new is is_new =
-      let next : new ≡ first_seen same_triple (seen_by A B (ms ++ m ∷ [])) = is_new ∙ ap (λ l. noted same_triple l m.target) is ∙ noted_next ms m in
+  noted_grows : (ms : List JointMove) (m : JointMove) (product_states new : List ProductState) → product_states ≡ first_seen same_product_state (seen_by A B ms) → new ≡ noted same_product_state product_states m.target
+      → (new ≡ first_seen same_product_state (seen_by A B (ms ++ m ∷ []))) × ((rest : List ProductState) × (new ≡ product_states ++ rest))
+  noted_grows ms m product_states new is is_new =
+      let next : new ≡ first_seen same_product_state (seen_by A B (ms ++ m ∷ [])) = is_new ∙ ap (λ l. noted same_product_state l m.target) is ∙ noted_next ms m in
       let (rest, e) = seen_grows ms (m ∷ []) in
       (next, (rest, next ∙ e ∙ ap (λ l. l ++ rest) (sym is)))
 
-  pub step : (ms : List JointMove) (m : JointMove) (triples new : List Triple) (ts next : List Trans) (number target : ℕ)
-      → IsUnderWay A B ms triples ts
-      → At triples number m.source
-      → new ≡ noted same_triple triples m.target
+  pub step : (ms : List JointMove) (m : JointMove) (product_states new : List ProductState) (ts next : List Trans) (number target : ℕ)
+      → IsUnderWay A B ms product_states ts
+      → At product_states number m.source
+      → new ≡ noted same_product_state product_states m.target
       → At new target m.target
       → next ≡ ts ++ trans number m.label target ∷ []
       → IsUnderWay A B (ms ++ m ∷ []) new next × At new number m.source
-  step ms m triples new ts next number target under at_source is_new at_target is_next =
-      let (seen, (rest, grown)) = noted_grows ms m triples new under.seen is_new in
-      let P : List Triple → Type 0 = λ l. AreMoves l ts ms in
-      let Q : List Triple → Type 0 = λ l. At l number m.source in
-      let all : AreMoves new ts ms = subst P (sym grown) (moves_grow triples rest ts ms under.numbered) in
-      let here : At new number m.source = subst Q (sym grown) (at_front triples rest number m.source at_source) in
+  step ms m product_states new ts next number target under at_source is_new at_target is_next =
+      let (seen, (rest, grown)) = noted_grows ms m product_states new under.seen is_new in
+      let P : List ProductState → Type 0 = λ l. AreMoves l ts ms in
+      let Q : List ProductState → Type 0 = λ l. At l number m.source in
+      let all : AreMoves new ts ms = subst P (sym grown) (moves_grow product_states rest ts ms under.numbered) in
+      let here : At new number m.source = subst Q (sym grown) (at_front product_states rest number m.source at_source) in
       let R : List Trans → Type 0 = λ l. AreMoves new l (ms ++ m ∷ []) in
       (record { seen = seen; numbered = subst R (sym is_next) (moves_push new ts ms (trans number m.label target) m all (here, refl, at_target)) }, here)
 
   -- too many stay too many
   pub more_too_many : (ms more : List JointMove) → AreTooMany A B ms → AreTooMany A B (ms ++ more)
-  more_too_many ms more (inl many) = let (rest, e) = seen_grows ms more in inl (omega (arith, ap (λ (l : List Triple). length l) e, length-append (first_seen same_triple (seen_by A B ms)) rest))
+  more_too_many ms more (inl many) = let (rest, e) = seen_grows ms more in inl (omega (arith, ap (λ (l : List ProductState). length l) e, length-append (first_seen same_product_state (seen_by A B ms)) rest))
   more_too_many ms more (inr many) = inr (omega (arith, length-append ms more))
 
-  pub step_too_many : (ms : List JointMove) (m : JointMove) (triples : List Triple) (ts : List Trans)
-      → IsUnderWay A B ms triples ts
-      → (2048 < length (noted same_triple triples m.target)) ⊎ (65536 < length ts + 1)
+  pub step_too_many : (ms : List JointMove) (m : JointMove) (product_states : List ProductState) (ts : List Trans)
+      → IsUnderWay A B ms product_states ts
+      → (2048 < length (noted same_product_state product_states m.target)) ⊎ (65536 < length ts + 1)
       → AreTooMany A B (ms ++ m ∷ [])
-  step_too_many ms m triples ts under (inl many) =
-      let (seen, _) = noted_grows ms m triples (noted same_triple triples m.target) under.seen refl in
-      inl (omega (arith, ap (λ (l : List Triple). length l) seen))
-  step_too_many ms m triples ts under (inr many) =
-      let e = moves_length triples ts ms under.numbered in
+  step_too_many ms m product_states ts under (inl many) =
+      let (seen, _) = noted_grows ms m product_states (noted same_product_state product_states m.target) under.seen refl in
+      inl (omega (arith, ap (λ (l : List ProductState). length l) seen))
+  step_too_many ms m product_states ts under (inr many) =
+      let e = moves_length product_states ts ms under.numbered in
       let f = length-append ms (m ∷ []) in
       inr (omega arith)
 
-  -- a triple inside more
-  pub inside_noted : (triples : List Triple) (u : Triple) → All (IsInside A B) triples → IsInside A B u → All (IsInside A B) (noted same_triple triples u)
-  inside_noted triples u all here = by (list_any (same_triple u) triples)
+  -- a product state inside more
+  pub inside_noted : (product_states : List ProductState) (u : ProductState) → All (IsInside A B) product_states → IsInside A B u → All (IsInside A B) (noted same_product_state product_states u)
+  inside_noted product_states u all here = by (list_any (same_product_state u) product_states)
     where
-      by : (b : Bool) → All (IsInside A B) (if b then triples else triples ++ u ∷ [])
+      by : (b : Bool) → All (IsInside A B) (if b then product_states else product_states ++ u ∷ [])
       by true = all
-      by false = All-push (IsInside A B) triples u all here
+      by false = All-push (IsInside A B) product_states u all here
 
 -- ---- stretches of transitions
 
@@ -306,45 +306,45 @@ flat_more f ms xs b at d from within =
 pub front_of : {X : Type 0} (n m : ℕ) (xs : List X) → n ≤ m → (rest : List X) × (take m xs ≡ take n xs ++ rest)
 front_of n m xs h = (drop n (take m xs), sym (take-append-drop n (take m xs)) ∙ ap (λ l. l ++ drop n (take m xs)) (take-take n m xs h))
 
-pub at_noted : (triples : List Triple) (u : Triple) (n : ℕ) (t : Triple) → At triples n t → At (noted same_triple triples u) n t
-at_noted triples u n t h =
-    let (rest, e) = noted_more same_triple triples u in
-    let P : List Triple → Type 0 = λ l. At l n t in
-    subst P (sym e) (at_front triples rest n t h)
+pub at_noted : (product_states : List ProductState) (u : ProductState) (n : ℕ) (t : ProductState) → At product_states n t → At (noted same_product_state product_states u) n t
+at_noted product_states u n t h =
+    let (rest, e) = noted_more same_product_state product_states u in
+    let P : List ProductState → Type 0 = λ l. At l n t in
+    subst P (sym e) (at_front product_states rest n t h)
 
-module _ (mode : Mode) (A B : Automaton) (t : Triple) (x : Trans) (ts : List Trans) (b at : ℕ) (awaits : Bool) (triples : List Triple) (done : List Trans) (ms : List JointMove)
+module _ (mode : Mode) (A B : Automaton) (t : ProductState) (x : Trans) (ts : List Trans) (b at : ℕ) (awaits : Bool) (product_states : List ProductState) (done : List Trans) (ms : List JointMove)
     (list : ts ≡ B.transitions) (from : b ≤ at) (within : at < length B.transitions) (is : awaits ≡ awaits_after mode A B t)
-    (under : IsUnderWay A B (ms ++ map (joint mode A B t x) (take (at - b) (drop b B.transitions))) triples done) where
-  -- the triple that the move leads to
-  leads_to : triple x.target (get_or ts at (trans 0 0 0)).target awaits ≡ triple x.target (trans_at B at).target (awaits_after mode A B t)
-  leads_to = λ i. triple x.target (get_or (list i) at (trans 0 0 0)).target (is i)
+    (under : IsUnderWay A B (ms ++ map (joint mode A B t x) (take (at - b) (drop b B.transitions))) product_states done) where
+  -- the product state that the move leads to
+  leads_to : product_state x.target (get_or ts at (trans 0 0 0)).target awaits ≡ product_state x.target (trans_at B at).target (awaits_after mode A B t)
+  leads_to = λ i. product_state x.target (get_or (list i) at (trans 0 0 0)).target (is i)
 
-  pub beside_more : (new : List Triple) (next : List Trans) (number target : ℕ)
-      → At triples number t
-      → new ≡ noted same_triple triples (triple x.target (get_or ts at (trans 0 0 0)).target awaits)
-      → At new target (triple x.target (get_or ts at (trans 0 0 0)).target awaits)
+  pub beside_more : (new : List ProductState) (next : List Trans) (number target : ℕ)
+      → At product_states number t
+      → new ≡ noted same_product_state product_states (product_state x.target (get_or ts at (trans 0 0 0)).target awaits)
+      → At new target (product_state x.target (get_or ts at (trans 0 0 0)).target awaits)
       → next ≡ done ++ trans number x.label target ∷ []
       → IsUnderWay A B (ms ++ map (joint mode A B t x) (take (at + 1 - b) (drop b B.transitions))) new next
   beside_more new next number target at_t is_new at_target is_next =
       let m = joint mode A B t x (trans_at B at) in
       let before = ms ++ map (joint mode A B t x) (take (at - b) (drop b B.transitions)) in
-      let P : Triple → Type 0 = λ u. new ≡ noted same_triple triples u in
-      let Q : Triple → Type 0 = λ u. At new target u in
+      let P : ProductState → Type 0 = λ u. new ≡ noted same_product_state product_states u in
+      let Q : ProductState → Type 0 = λ u. At new target u in
       let R : List JointMove → Type 0 = λ l. IsUnderWay A B l new next in
       subst R (sym (mapped_more (joint mode A B t x) ms B.transitions b at (trans 0 0 0) from within))
-      (step A B before m triples new done next number target under at_t (subst P leads_to is_new) (subst Q leads_to at_target) is_next).0
+      (step A B before m product_states new done next number target under at_t (subst P leads_to is_new) (subst Q leads_to at_target) is_next).0
 
   pub beside_too_many : (e : ℕ) → IsSuccessors B t.second x.label b e → at < e
-      → (2048 < length (noted same_triple triples (triple x.target (get_or ts at (trans 0 0 0)).target awaits))) ⊎ (65536 < length done + 1)
+      → (2048 < length (noted same_product_state product_states (product_state x.target (get_or ts at (trans 0 0 0)).target awaits))) ⊎ (65536 < length done + 1)
       → AreTooMany A B (ms ++ moves_beside mode A B t x)
   beside_too_many e s lt many =
       let J = joint mode A B t x in
       let m = J (trans_at B at) in
       let before = ms ++ map J (take (at - b) (drop b B.transitions)) in
-      let P : Triple → Type 0 = λ u. (2048 < length (noted same_triple triples u)) ⊎ (65536 < length done + 1) in
+      let P : ProductState → Type 0 = λ u. (2048 < length (noted same_product_state product_states u)) ⊎ (65536 < length done + 1) in
       let Q : List JointMove → Type 0 = λ l. AreTooMany A B l in
       let here : AreTooMany A B (ms ++ map J (take (at + 1 - b) (drop b B.transitions))) =
-      subst Q (sym (mapped_more J ms B.transitions b at (trans 0 0 0) from within)) (step_too_many A B before m triples done under (subst P leads_to many)) in
+      subst Q (sym (mapped_more J ms B.transitions b at (trans 0 0 0) from within)) (step_too_many A B before m product_states done under (subst P leads_to many)) in
       let (rest, grown) = front_of (at + 1 - b) (e - b) (drop b B.transitions) (omega arith) in
       let whole : ms ++ moves_beside mode A B t x ≡ (ms ++ map J (take (at + 1 - b) (drop b B.transitions))) ++ map J rest =
       ap (λ l. ms ++ map J l) (successors_part B t.second x.label b e s ∙ grown)
@@ -352,7 +352,7 @@ module _ (mode : Mode) (A B : Automaton) (t : Triple) (x : Trans) (ts : List Tra
       ∙ sym (append_assoc ms (map J (take (at + 1 - b) (drop b B.transitions))) (map J rest)) in
       subst Q (sym whole) (more_too_many A B (ms ++ map J (take (at + 1 - b) (drop b B.transitions))) (map J rest) here)
 
-module _ (mode : Mode) (A B : Automaton) (t : Triple) (b at e : ℕ) (ms : List JointMove) (from : b ≤ at) (within : at < length A.transitions) where
+module _ (mode : Mode) (A B : Automaton) (t : ProductState) (b at e : ℕ) (ms : List JointMove) (from : b ≤ at) (within : at < length A.transitions) where
   pub from_too_many : IsOutgoing A t.first b e → at < e
       → AreTooMany A B ((ms ++ flat_map (moves_beside mode A B t) (take (at - b) (drop b A.transitions))) ++ moves_beside mode A B t (trans_at A at))
       → AreTooMany A B (ms ++ moves_of mode A B t)
@@ -368,9 +368,9 @@ module _ (mode : Mode) (A B : Automaton) (t : Triple) (b at e : ℕ) (ms : List 
       ∙ sym (append_assoc ms (flat_map F front) (flat_map F rest)) in
       subst Q (sym whole) (more_too_many A B (ms ++ flat_map F front) (flat_map F rest) here)
 
--- ---- all triples
+-- ---- all product states
 
-reached_members : (mode : Mode) (A B : Automaton) (ts : List Triple) → All (IsReached mode A B) ts → (u : Triple) → Contains (seen_by A B (moves_from mode A B ts)) u → IsReached mode A B u
+reached_members : (mode : Mode) (A B : Automaton) (ts : List ProductState) → All (IsReached mode A B) ts → (u : ProductState) → Contains (seen_by A B (moves_from mode A B ts)) u → IsReached mode A B u
 reached_members mode A B ts all u h = elim (Contains-cons_cases (start_of A B) u (map (λ (m : JointMove). m.target) (moves_from mode A B ts)) h) [
   | inl e ↦ (0, sym e)
   | inr later ↦
@@ -378,37 +378,37 @@ reached_members mode A B ts all u h = elim (Contains-cons_cases (start_of A B) u
       let (t, t_in, near) = flat_from (moves_of mode A B) ts m m_in in
       let (n, by) = All-contains (IsReached mode A B) ts t all t_in in
       let (_, goes) = move_from mode A B t m near in
-      let P : Triple → Type 0 = λ v. IsReached mode A B v in
+      let P : ProductState → Type 0 = λ v. IsReached mode A B v in
       subst P is (suc n, (t, m.label, by, goes))
 ]
 
 module _ (mode : Mode) (A B : Automaton) where
-  -- the triples up to one more
-  pub from_more : (triples : List Triple) (done : ℕ) (d : Triple) → done < length triples → moves_from mode A B (take (done + 1) triples) ≡ moves_from mode A B (take done triples) ++ moves_of mode A B (get_or triples done d)
-  from_more triples done d lt =
-      ap (moves_from mode A B) (take_more triples done d lt)
-      ∙ flat_map-append (moves_of mode A B) (take done triples) (get_or triples done d ∷ [])
-      ∙ ap (λ l. moves_from mode A B (take done triples) ++ l) (append-nil (moves_of mode A B (get_or triples done d)))
+  -- the product states up to one more
+  pub from_more : (product_states : List ProductState) (done : ℕ) (d : ProductState) → done < length product_states → moves_from mode A B (take (done + 1) product_states) ≡ moves_from mode A B (take done product_states) ++ moves_of mode A B (get_or product_states done d)
+  from_more product_states done d lt =
+      ap (moves_from mode A B) (take_more product_states done d lt)
+      ∙ flat_map-append (moves_of mode A B) (take done product_states) (get_or product_states done d ∷ [])
+      ∙ ap (λ l. moves_from mode A B (take done product_states) ++ l) (append-nil (moves_of mode A B (get_or product_states done d)))
 
-  pub explored_more : (done : ℕ) (triples new : List Triple) (ts next : List Trans) (d : Triple)
-      → done < length triples
-      → IsExploredUpto mode A B done triples ts
-      → IsUnderWay A B (moves_from mode A B (take done triples) ++ moves_of mode A B (get_or triples done d)) new next
+  pub explored_more : (done : ℕ) (product_states new : List ProductState) (ts next : List Trans) (d : ProductState)
+      → done < length product_states
+      → IsExploredUpto mode A B done product_states ts
+      → IsUnderWay A B (moves_from mode A B (take done product_states) ++ moves_of mode A B (get_or product_states done d)) new next
       → IsRoomy A B new next
       → IsExploredUpto mode A B (done + 1) new next
-  explored_more done triples new ts next d lt upto under roomy =
-      let before = moves_from mode A B (take done triples) in
-      let more = moves_of mode A B (get_or triples done d) in
+  explored_more done product_states new ts next d lt upto under roomy =
+      let before = moves_from mode A B (take done product_states) in
+      let more = moves_of mode A B (get_or product_states done d) in
       let (rest, e) = seen_grows A B before more in
-      let grown : new ≡ triples ++ rest = under.seen ∙ e ∙ ap (λ l. l ++ rest) (sym upto.so_far.seen) in
-      let len : length new ≡ length triples + length rest = ap (λ (l : List Triple). length l) grown ∙ length-append triples rest in
+      let grown : new ≡ product_states ++ rest = under.seen ∙ e ∙ ap (λ l. l ++ rest) (sym upto.so_far.seen) in
+      let len : length new ≡ length product_states + length rest = ap (λ (l : List ProductState). length l) grown ∙ length-append product_states rest in
       let P : List JointMove → Type 0 = λ l. IsUnderWay A B l new next in
-      let front : take (done + 1) new ≡ take (done + 1) triples = ap (take (done + 1)) grown ∙ take-append-le (done + 1) triples rest (omega arith) in
-      let whole : moves_from mode A B (take (done + 1) new) ≡ before ++ more = ap (moves_from mode A B) front ∙ from_more triples done d lt in
-      let near : All (IsReached mode A B) (take (done + 1) triples) = All-take (IsReached mode A B) (done + 1) triples upto.reached in
-      let Q : List JointMove → Type 0 = λ l. (u : Triple) → Contains (first_seen same_triple (seen_by A B l)) u → IsReached mode A B u in
-      let told = subst Q (from_more triples done d lt) (λ u h. reached_members mode A B (take (done + 1) triples) near u (first_from same_triple same_equal same_itself (seen_by A B (moves_from mode A B (take (done + 1) triples))) u h)) in
-      let R : List Triple → Type 0 = λ l. (u : Triple) → Contains l u → IsReached mode A B u in
+      let front : take (done + 1) new ≡ take (done + 1) product_states = ap (take (done + 1)) grown ∙ take-append-le (done + 1) product_states rest (omega arith) in
+      let whole : moves_from mode A B (take (done + 1) new) ≡ before ++ more = ap (moves_from mode A B) front ∙ from_more product_states done d lt in
+      let near : All (IsReached mode A B) (take (done + 1) product_states) = All-take (IsReached mode A B) (done + 1) product_states upto.reached in
+      let Q : List JointMove → Type 0 = λ l. (u : ProductState) → Contains (first_seen same_product_state (seen_by A B l)) u → IsReached mode A B u in
+      let told = subst Q (from_more product_states done d lt) (λ u h. reached_members mode A B (take (done + 1) product_states) near u (first_from same_product_state same_equal same_itself (seen_by A B (moves_from mode A B (take (done + 1) product_states))) u h)) in
+      let R : List ProductState → Type 0 = λ l. (u : ProductState) → Contains l u → IsReached mode A B u in
       record {
         within = omega arith;
         so_far = subst P (sym whole) under;
@@ -416,9 +416,9 @@ module _ (mode : Mode) (A B : Automaton) where
         roomy = roomy;
       }
 
-  pub explored_start : (triples : List Triple) (ts : List Trans) → triples ≡ start_of A B ∷ [] → ts ≡ [] → IsAutomaton A → IsAutomaton B → IsExploredUpto mode A B 0 triples ts
-  explored_start triples ts is none a_valid b_valid =
-      let P : List Triple → Type 0 = λ l. IsExploredUpto mode A B 0 l ts in
+  pub explored_start : (product_states : List ProductState) (ts : List Trans) → product_states ≡ start_of A B ∷ [] → ts ≡ [] → IsAutomaton A → IsAutomaton B → IsExploredUpto mode A B 0 product_states ts
+  explored_start product_states ts is none a_valid b_valid =
+      let P : List ProductState → Type 0 = λ l. IsExploredUpto mode A B 0 l ts in
       let Q : List Trans → Type 0 = λ l. IsExploredUpto mode A B 0 (start_of A B ∷ []) l in
       subst P (sym is) (subst Q (sym none) (record {
         within = omega arith;
@@ -431,54 +431,54 @@ module _ (mode : Mode) (A B : Automaton) where
         };
       }))
 
-  pub explored_all : (done : ℕ) (triples : List Triple) (ts : List Trans) → length triples ≤ done → IsExploredUpto mode A B done triples ts → IsExplored mode A B triples ts
-  explored_all done triples ts over upto =
-      let whole : take done triples ≡ triples = take_all done triples over in
-      let P : List Triple → Type 0 = λ l. IsUnderWay A B (moves_from mode A B l) triples ts in
-      let under : IsUnderWay A B (moves_from mode A B triples) triples ts = subst P whole upto.so_far in
+  pub explored_all : (done : ℕ) (product_states : List ProductState) (ts : List Trans) → length product_states ≤ done → IsExploredUpto mode A B done product_states ts → IsExplored mode A B product_states ts
+  explored_all done product_states ts over upto =
+      let whole : take done product_states ≡ product_states = take_all done product_states over in
+      let P : List ProductState → Type 0 = λ l. IsUnderWay A B (moves_from mode A B l) product_states ts in
+      let under : IsUnderWay A B (moves_from mode A B product_states) product_states ts = subst P whole upto.so_far in
       record {
         numbered = record {
-          reached = λ t. (λ h. All-contains (IsReached mode A B) triples t upto.reached h, λ h. found under h.0 t h.1);
+          reached = λ t. (λ h. All-contains (IsReached mode A B) product_states t upto.reached h, λ h. found under h.0 t h.1);
           in_order = under.seen;
         };
         all = under.numbered;
         roomy = upto.roomy;
       }
     where
-      found : IsUnderWay A B (moves_from mode A B triples) triples ts → (n : ℕ) (u : Triple) → IsReachedBy mode A B n u → Contains triples u
+      found : IsUnderWay A B (moves_from mode A B product_states) product_states ts → (n : ℕ) (u : ProductState) → IsReachedBy mode A B n u → Contains product_states u
       found under zero u h =
-          let R : List Triple → Type 0 = λ l. Contains l u in
-          subst R (sym under.seen) (first_has same_triple same_equal same_itself (seen_by A B (moves_from mode A B triples)) u
-          (Contains-here (start_of A B) u (map (λ (m : JointMove). m.target) (moves_from mode A B triples)) (sym h)))
+          let R : List ProductState → Type 0 = λ l. Contains l u in
+          subst R (sym under.seen) (first_has same_product_state same_equal same_itself (seen_by A B (moves_from mode A B product_states)) u
+          (Contains-here (start_of A B) u (map (λ (m : JointMove). m.target) (moves_from mode A B product_states)) (sym h)))
       found under (suc n) u (t, a, by, goes) =
-          let R : List Triple → Type 0 = λ l. Contains l u in
+          let R : List ProductState → Type 0 = λ l. Contains l u in
           let t_in = found under n t by in
           let m : JointMove = record { source = t; label = a; target = u } in
-          let m_in : Contains (moves_from mode A B triples) m = flat_has (moves_of mode A B) triples t m t_in (move_has mode A B t a u goes) in
-          subst R (sym under.seen) (first_has same_triple same_equal same_itself (seen_by A B (moves_from mode A B triples)) u
-          (Contains-later (start_of A B) u (map (λ (n : JointMove). n.target) (moves_from mode A B triples)) (map_has (λ (n : JointMove). n.target) (moves_from mode A B triples) m m_in)))
+          let m_in : Contains (moves_from mode A B product_states) m = flat_has (moves_of mode A B) product_states t m t_in (move_has mode A B t a u goes) in
+          subst R (sym under.seen) (first_has same_product_state same_equal same_itself (seen_by A B (moves_from mode A B product_states)) u
+          (Contains-later (start_of A B) u (map (λ (n : JointMove). n.target) (moves_from mode A B product_states)) (map_has (λ (n : JointMove). n.target) (moves_from mode A B product_states) m m_in)))
 
-  pub explored_too_many : IsAutomaton A → IsAutomaton B → (done : ℕ) (triples : List Triple) (ts : List Trans) (d : Triple)
-      → done < length triples
-      → IsExploredUpto mode A B done triples ts
-      → AreTooMany A B (moves_from mode A B (take done triples) ++ moves_of mode A B (get_or triples done d))
+  pub explored_too_many : IsAutomaton A → IsAutomaton B → (done : ℕ) (product_states : List ProductState) (ts : List Trans) (d : ProductState)
+      → done < length product_states
+      → IsExploredUpto mode A B done product_states ts
+      → AreTooMany A B (moves_from mode A B (take done product_states) ++ moves_of mode A B (get_or product_states done d))
       → IsIntersectionTooLarge mode A B
-  explored_too_many a_valid b_valid done triples ts d lt upto many =
-      let front = take (done + 1) triples in
+  explored_too_many a_valid b_valid done product_states ts d lt upto many =
+      let front = take (done + 1) product_states in
       let Q : List JointMove → Type 0 = λ l. AreTooMany A B l in
-      let Same = first_apart same_triple same_equal same_itself in
-      let R : List Triple → Type 0 = λ l. Rises Differ l in
-      let apart : Rises Differ triples = subst R (sym upto.so_far.seen) (Same (seen_by A B (moves_from mode A B (take done triples)))) in
-      let near : All (IsReached mode A B) front = All-take (IsReached mode A B) (done + 1) triples upto.reached in
-      let front_apart : Rises Differ front = apart_front front (drop (done + 1) triples) (subst R (sym (take-append-drop (done + 1) triples)) apart) in
-      counted front near front_apart (subst Q (sym (from_more triples done d lt)) many)
+      let Same = first_apart same_product_state same_equal same_itself in
+      let R : List ProductState → Type 0 = λ l. Rises Differ l in
+      let apart : Rises Differ product_states = subst R (sym upto.so_far.seen) (Same (seen_by A B (moves_from mode A B (take done product_states)))) in
+      let near : All (IsReached mode A B) front = All-take (IsReached mode A B) (done + 1) product_states upto.reached in
+      let front_apart : Rises Differ front = apart_front front (drop (done + 1) product_states) (subst R (sym (take-append-drop (done + 1) product_states)) apart) in
+      counted front near front_apart (subst Q (sym (from_more product_states done d lt)) many)
     where
-      counted : (front : List Triple) → All (IsReached mode A B) front → Rises Differ front → AreTooMany A B (moves_from mode A B front) → IsIntersectionTooLarge mode A B
+      counted : (front : List ProductState) → All (IsReached mode A B) front → Rises Differ front → AreTooMany A B (moves_from mode A B front) → IsIntersectionTooLarge mode A B
       counted front near apart (inl many) = inr (inl (record {
-        things = first_seen same_triple (seen_by A B (moves_from mode A B front));
-        different = apart_once (first_seen same_triple (seen_by A B (moves_from mode A B front))) (first_apart same_triple same_equal same_itself (seen_by A B (moves_from mode A B front)));
-        each = all_from (IsReached mode A B) (first_seen same_triple (seen_by A B (moves_from mode A B front)))
-            (λ u h. reached_members mode A B front near u (first_from same_triple same_equal same_itself (seen_by A B (moves_from mode A B front)) u h));
+        things = first_seen same_product_state (seen_by A B (moves_from mode A B front));
+        different = apart_once (first_seen same_product_state (seen_by A B (moves_from mode A B front))) (first_apart same_product_state same_equal same_itself (seen_by A B (moves_from mode A B front)));
+        each = all_from (IsReached mode A B) (first_seen same_product_state (seen_by A B (moves_from mode A B front)))
+            (λ u h. reached_members mode A B front near u (first_from same_product_state same_equal same_itself (seen_by A B (moves_from mode A B front)) u h));
         many = many;
       }))
       counted front near apart (inr many) = inr (inr (record {
@@ -487,51 +487,51 @@ module _ (mode : Mode) (A B : Automaton) where
         each = all_from (λ (m : JointMove). IsReached mode A B m.source × GoesBeside mode A B m.source m.label m.target) (moves_from mode A B front) (λ m h.
             let (t, t_in, there) = flat_from (moves_of mode A B) front m h in
             let (is, goes) = move_from mode A B t m there in
-            let P : Triple → Type 0 = λ s. IsReached mode A B s × GoesBeside mode A B s m.label m.target in
+            let P : ProductState → Type 0 = λ s. IsReached mode A B s × GoesBeside mode A B s m.label m.target in
             subst P (sym is) (All-contains (IsReached mode A B) front t near t_in, goes));
         many = many;
       }))
 
   -- ---- the automaton
 
-  module _ (triples : List Triple) (ts : List Trans) (accepting : List ℕ) (explored : IsExplored mode A B triples ts) (a_valid : IsAutomaton A) (b_valid : IsAutomaton B)
-      (members : (n : ℕ) → Contains accepting n ↔ ((t : Triple) × At triples n t × AcceptsBoth mode A B t)) where
-    triples_apart : Rises Differ triples
-    triples_apart =
-        let R : List Triple → Type 0 = λ l. Rises Differ l in
-        subst R (sym explored.numbered.in_order) (first_apart same_triple same_equal same_itself (seen_by A B (moves_from mode A B triples)))
+  module _ (product_states : List ProductState) (ts : List Trans) (accepting : List ℕ) (explored : IsExplored mode A B product_states ts) (a_valid : IsAutomaton A) (b_valid : IsAutomaton B)
+      (members : (n : ℕ) → Contains accepting n ↔ ((t : ProductState) × At product_states n t × AcceptsBoth mode A B t)) where
+    product_states_apart : Rises Differ product_states
+    product_states_apart =
+        let R : List ProductState → Type 0 = λ l. Rises Differ l in
+        subst R (sym explored.numbered.in_order) (first_apart same_product_state same_equal same_itself (seen_by A B (moves_from mode A B product_states)))
 
     ts_apart : Rises Differ ts
-    ts_apart = trans_apart triples ts (moves_from mode A B triples) explored.all (all_apart mode A B triples a_valid b_valid triples_apart)
+    ts_apart = trans_apart product_states ts (moves_from mode A B product_states) explored.all (all_apart mode A B product_states a_valid b_valid product_states_apart)
 
-    moves_to : (p a q : ℕ) → Contains ts (trans p a q) → (t : Triple) × (u : Triple) × At triples p t × At triples q u × GoesBeside mode A B t a u
+    pub moves_to : (p a q : ℕ) → Contains ts (trans p a q) → (t : ProductState) × (u : ProductState) × At product_states p t × At product_states q u × GoesBeside mode A B t a u
     moves_to p a q h =
-        let (m, m_in, (at_p, same, at_q)) = move_of triples ts (moves_from mode A B triples) explored.all (trans p a q) h in
-        let (t, t_in, near) = flat_from (moves_of mode A B) triples m m_in in
+        let (m, m_in, (at_p, same, at_q)) = move_of product_states ts (moves_from mode A B product_states) explored.all (trans p a q) h in
+        let (t, t_in, near) = flat_from (moves_of mode A B) product_states m m_in in
         let (is, goes) = move_from mode A B t m near in
-        let P : Triple → Type 0 = λ s. GoesBeside mode A B s m.label m.target in
+        let P : ProductState → Type 0 = λ s. GoesBeside mode A B s m.label m.target in
         let Q : ℕ → Type 0 = λ b. GoesBeside mode A B m.source b m.target in
         (m.source, m.target, at_p, at_q, subst Q (sym same) (subst P (sym is) goes))
 
-    moves_back : (p a q : ℕ) → ((t : Triple) × (u : Triple) × At triples p t × At triples q u × GoesBeside mode A B t a u) → Contains ts (trans p a q)
+    pub moves_back : (p a q : ℕ) → ((t : ProductState) × (u : ProductState) × At product_states p t × At product_states q u × GoesBeside mode A B t a u) → Contains ts (trans p a q)
     moves_back p a q (t, u, at_p, at_q, goes) =
         let m : JointMove = record { source = t; label = a; target = u } in
-        let m_in : Contains (moves_from mode A B triples) m = flat_has (moves_of mode A B) triples t m (at_member triples p t at_p) (move_has mode A B t a u goes) in
-        let (x, x_in, (at_s, same, at_t)) = trans_of triples ts (moves_from mode A B triples) explored.all m m_in in
-        let e = at_place triples x.source p t triples_apart at_s at_p in
-        let f = at_place triples x.target q u triples_apart at_t at_q in
+        let m_in : Contains (moves_from mode A B product_states) m = flat_has (moves_of mode A B) product_states t m (at_member product_states p t at_p) (move_has mode A B t a u goes) in
+        let (x, x_in, (at_s, same, at_t)) = trans_of product_states ts (moves_from mode A B product_states) explored.all m m_in in
+        let e = at_place product_states x.source p t product_states_apart at_s at_p in
+        let f = at_place product_states x.target q u product_states_apart at_t at_q in
         let P : Trans → Type 0 = λ y. Contains ts y in
         subst P (same_parts x (trans p a q) e same f) x_in
 
-    pub intersection_parts : (HasRepeat accepting → ⊥) → AreParts (length triples) A.labels 0 ts accepting
+    pub intersection_parts : (HasRepeat accepting → ⊥) → AreParts (length product_states) A.labels 0 ts accepting
     intersection_parts once = record {
       few = omega (arith, explored.roomy.few_transitions);
       in_states = (
         start_in,
-        all_from (λ (t : Trans). (t.source < length triples) × (t.target < length triples)) ts (λ x h.
+        all_from (λ (t : Trans). (t.source < length product_states) × (t.target < length product_states)) ts (λ x h.
             let (t, u, at_p, at_q, goes) = moves_to x.source x.label x.target h in
-            (slice_get_within triples x.source t at_p, slice_get_within triples x.target u at_q)),
-        all_from (λ n. n < length triples) accepting (λ n h. let (t, at_n, both) = (members n).0 h in slice_get_within triples n t at_n),
+            (slice_get_within product_states x.source t at_p, slice_get_within product_states x.target u at_q)),
+        all_from (λ n. n < length product_states) accepting (λ n h. let (t, at_n, both) = (members n).0 h in slice_get_within product_states n t at_n),
       );
       in_labels = all_from (λ (t : Trans). t.label < A.labels) ts (λ x h.
           let (t, u, at_p, at_q, goes) = moves_to x.source x.label x.target h in
@@ -540,15 +540,15 @@ module _ (mode : Mode) (A B : Automaton) where
       no_state_twice = once;
     }
       where
-        start_in : 0 < length triples
+        start_in : 0 < length product_states
         start_in =
-            let P : List Triple → Type 0 = λ l. At l 0 (start_of A B) in
-            slice_get_within triples 0 (start_of A B) (subst P (sym explored.numbered.in_order) (seen_start same_triple (start_of A B) (map (λ (m : JointMove). m.target) (moves_from mode A B triples))))
+            let P : List ProductState → Type 0 = λ l. At l 0 (start_of A B) in
+            slice_get_within product_states 0 (start_of A B) (subst P (sym explored.numbered.in_order) (seen_start same_product_state (start_of A B) (map (λ (m : JointMove). m.target) (moves_from mode A B product_states))))
 
-    pub intersection_built : (C : Automaton) → IsBuilt (length triples) A.labels 0 ts accepting C → IsIntersection mode A B C
+    pub intersection_built : (C : Automaton) → IsBuilt (length product_states) A.labels 0 ts accepting C → IsIntersection mode A B C
     intersection_built C b = record {
       valid = b.valid;
-      triples = triples;
+      product_states = product_states;
       numbered = explored.numbered;
       states = b.states_given;
       labels = b.labels_given;
@@ -563,33 +563,33 @@ module _ (mode : Mode) (A B : Automaton) where
       );
     }
 
-    pub intersection_small : A.labels ≤ 256 → (C : Automaton) → IsBuilt (length triples) A.labels 0 ts accepting C → IsWithinLimits C
+    pub intersection_small : A.labels ≤ 256 → (C : Automaton) → IsBuilt (length product_states) A.labels 0 ts accepting C → IsSmallResult C
     intersection_small few C b = record {
       states = omega (arith, b.states_given, explored.roomy.few);
       transitions = omega (arith, length_permutation ts C.transitions b.transitions_given, explored.roomy.few_transitions);
       labels = omega (arith, b.labels_given);
     }
 
--- ---- the numbers of the accepting triples
+-- ---- the numbers of the accepting product states
 
--- Just the numbers below `at` of accepting triples are in the list.
-abbrev pub HasAccepting : Mode → Automaton → Automaton → List Triple → ℕ → List ℕ → Type 0
-HasAccepting mode A B triples at made = (n : ℕ) → Contains made n ↔ ((t : Triple) × (n < at) × At triples n t × AcceptsBoth mode A B t)
+-- Just the numbers below `at` of accepting product states are in the list.
+abbrev pub HasAccepting : Mode → Automaton → Automaton → List ProductState → ℕ → List ℕ → Type 0
+HasAccepting mode A B product_states at made = (n : ℕ) → Contains made n ↔ ((t : ProductState) × (n < at) × At product_states n t × AcceptsBoth mode A B t)
 
-module _ (mode : Mode) (A B : Automaton) (triples : List Triple) (at : ℕ) (made : List ℕ) (d : Triple) (lt : at < length triples) (members : HasAccepting mode A B triples at made) where
-  here : At triples at (get_or triples at d)
-  here = slice_get-get_or triples at d lt
+module _ (mode : Mode) (A B : Automaton) (product_states : List ProductState) (at : ℕ) (made : List ℕ) (d : ProductState) (lt : at < length product_states) (members : HasAccepting mode A B product_states at made) where
+  here : At product_states at (get_or product_states at d)
+  here = slice_get-get_or product_states at d lt
 
-  pub accepting_more : AcceptsBoth mode A B (get_or triples at d) → Rises Differ made → HasAccepting mode A B triples (at + 1) (made ++ at ∷ []) × Rises Differ (made ++ at ∷ [])
+  pub accepting_more : AcceptsBoth mode A B (get_or product_states at d) → Rises Differ made → HasAccepting mode A B product_states (at + 1) (made ++ at ∷ []) × Rises Differ (made ++ at ∷ [])
   accepting_more acc apart = (
     λ n. (
       λ h. elim (Contains-append_cases made (at ∷ []) n h) [
         | inl old ↦ let (t, below, at_n, both) = (members n).0 old in (t, omega arith, at_n, both)
         | inr new ↦ elim (Contains-cons_cases at n [] new) [
           | inl e ↦ (
-            get_or triples at d,
+            get_or product_states at d,
             omega arith,
-            subst (λ k. At triples k (get_or triples at d)) e here,
+            subst (λ k. At product_states k (get_or product_states at d)) e here,
             acc,
           )
           | inr none ↦ absurd (none_in_nil n none)
@@ -606,21 +606,21 @@ module _ (mode : Mode) (A B : Automaton) (triples : List Triple) (at : ℕ) (mad
     ]),
   )
 
-  pub accepting_same : (AcceptsBoth mode A B (get_or triples at d) → ⊥) → HasAccepting mode A B triples (at + 1) made
+  pub accepting_same : (AcceptsBoth mode A B (get_or product_states at d) → ⊥) → HasAccepting mode A B product_states (at + 1) made
   accepting_same refused n = (
     λ h. let (t, below, at_n, both) = (members n).0 h in (t, omega arith, at_n, both),
     λ (t, below, at_n, both). elim (cases_lt n at) [
       | inl lower ↦ (members n).1 (t, lower, at_n, both)
       | inr up ↦
           let e : at ≡ n = omega arith in
-          let P : Triple → Type 0 = λ u. AcceptsBoth mode A B u in
-          absurd (refused (subst P (at_one triples n t (get_or triples at d) at_n (subst (λ k. At triples k (get_or triples at d)) e here)) both))
+          let P : ProductState → Type 0 = λ u. AcceptsBoth mode A B u in
+          absurd (refused (subst P (at_one product_states n t (get_or product_states at d) at_n (subst (λ k. At product_states k (get_or product_states at d)) e here)) both))
     ],
   )
 
-pub accepting_all : (mode : Mode) (A B : Automaton) (triples : List Triple) (at : ℕ) (made : List ℕ) → length triples ≤ at → HasAccepting mode A B triples at made
-    → (n : ℕ) → Contains made n ↔ ((t : Triple) × At triples n t × AcceptsBoth mode A B t)
-accepting_all mode A B triples at made over members n = (
+pub accepting_all : (mode : Mode) (A B : Automaton) (product_states : List ProductState) (at : ℕ) (made : List ℕ) → length product_states ≤ at → HasAccepting mode A B product_states at made
+    → (n : ℕ) → Contains made n ↔ ((t : ProductState) × At product_states n t × AcceptsBoth mode A B t)
+accepting_all mode A B product_states at made over members n = (
   λ h. let (t, _, at_n, both) = (members n).0 h in (t, at_n, both),
-  λ (t, at_n, both). let lt = slice_get_within triples n t at_n in (members n).1 (t, omega arith, at_n, both),
+  λ (t, at_n, both). let lt = slice_get_within product_states n t at_n in (members n).1 (t, omega arith, at_n, both),
 )

@@ -14,7 +14,7 @@ use Rattle.auto_core.specs.Parts.{AreParts}
 use Rattle.auto_core.proofs.PathLemmas.{Contains-here, Contains-cons_cases, none_in_nil, accepting_from_test, test_from_accepting}
 use Rattle.auto_core.proofs.MoveLemmas.{move_in_range}
 use Rattle.auto_core.proofs.MemberLemmas.{Rises, rises_from_pairs, filter_has, filter_from, map_has, map_from, range_has, range_rises}
-use Rattle.auto_ops.specs.Limits.{IsWithinLimits, AreMoreThan}
+use Rattle.auto_ops.specs.Limits.{IsSmallResult, AreMoreThan}
 use Rattle.auto_ops.specs.Union.{IsCopied, second_offset, UnionMoves, IsMovedAccepting, AcceptsAtOnce, IsUnion}
 use Rattle.auto_ops.specs.UnionParts.{moved, copied, leaves, first_moves, transitions_of_one, union_transitions, accepting_of_one, accepts_at_once, start_if, union_accepting, IsSmallUnion}
 use Rattle.auto_ops.proofs.SightLemmas.{Differ, apart_append, apart_map, apart_filter, apart_once, increasing_apart, all_from}
@@ -250,7 +250,7 @@ module _ (A B : Automaton) (a_valid : IsAutomaton A) (b_valid : IsAutomaton B) w
       );
     }
 
-    pub union_small : (U : Automaton) → IsSmallUnion A B → IsBuilt (second_offset A + B.states) A.labels 0 (union_transitions A B) (union_accepting mode A B) U → IsWithinLimits U
+    pub union_small : (U : Automaton) → IsSmallUnion A B → IsBuilt (second_offset A + B.states) A.labels 0 (union_transitions A B) (union_accepting mode A B) U → IsSmallResult U
     union_small U small b = record {
       states = omega (arith, b.states_given, small.states);
       transitions = omega (arith, length_permutation (union_transitions A B) U.transitions b.transitions_given, small.transitions);

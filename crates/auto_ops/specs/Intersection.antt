@@ -8,52 +8,52 @@ use Rattle.auto_core.specs.declared.parts.Mode.{Mode}
 use Rattle.auto_core.specs.declared.parts.Mode.TheVariants.{Buchi, Finite}
 use Rattle.auto_core.specs.declared.parts.Trans.{Trans}
 use Rattle.ba_format.specs.Sight.{first_seen}
-use Rattle.auto_ops.specs.declared.triples.Triple.{Triple}
-use Rattle.auto_ops.specs.Limits.{AreMoreThan}
+use Rattle.auto_ops.specs.declared.product_states.ProductState.{ProductState}
+use Rattle.auto_ops.specs.Limits.{most_states, most_transitions, most_labels, AreMoreThan}
 
--- The triple with these parts.
-abbrev pub triple : ℕ → ℕ → Bool → Triple
-triple p q awaits = record { first = p; second = q; awaits_second = awaits }
+-- The product state with these parts.
+abbrev pub product_state : ℕ → ℕ → Bool → ProductState
+product_state p q awaits = record { first = p; second = q; awaits_second = awaits }
 
 -- Both initial states; an accepting state of the first is awaited.
-abbrev pub start_of : Automaton → Automaton → Triple
-start_of A B = triple A.initial B.initial false
+abbrev pub start_of : Automaton → Automaton → ProductState
+start_of A B = product_state A.initial B.initial false
 
--- Whether, after a move from the triple, an accepting state of the second is awaited: from an accepting state of the first on, if that
+-- Whether, after a move from the product state, an accepting state of the second is awaited: from an accepting state of the first on, if that
 -- was awaited, and up to an accepting state of the second. Over finite words none is ever awaited.
-abbrev pub awaits_after : Mode → Automaton → Automaton → Triple → Bool
+abbrev pub awaits_after : Mode → Automaton → Automaton → ProductState → Bool
 awaits_after Buchi A B t = if t.awaits_second then not (is_accepting B t.second) else is_accepting A t.first
 awaits_after Finite A B t = false
 
--- Both automata move with the letter from the states of the one triple to those of the other.
-pub record GoesBeside (mode : Mode) (A B : Automaton) (t : Triple) (a : ℕ) (u : Triple) : Type 0 where
+-- Both automata move with the letter from the states of the one product state to those of the other.
+pub record GoesBeside (mode : Mode) (A B : Automaton) (t : ProductState) (a : ℕ) (u : ProductState) : Type 0 where
   pub first : Moves A t.first a u.first
   pub second : Moves B t.second a u.second
   pub awaits : u.awaits_second ≡ awaits_after mode A B t
 
--- n such moves lead from both initial states to the triple.
-abbrev pub IsReachedBy : Mode → Automaton → Automaton → ℕ → Triple → Type 0
+-- n such moves lead from both initial states to the product state.
+abbrev pub IsReachedBy : Mode → Automaton → Automaton → ℕ → ProductState → Type 0
 IsReachedBy mode A B zero u = u ≡ start_of A B
-IsReachedBy mode A B (suc n) u = (t : Triple) × (a : ℕ) × IsReachedBy mode A B n t × GoesBeside mode A B t a u
+IsReachedBy mode A B (suc n) u = (t : ProductState) × (a : ℕ) × IsReachedBy mode A B n t × GoesBeside mode A B t a u
 
--- The triple is reached from both initial states.
-abbrev pub IsReached : Mode → Automaton → Automaton → Triple → Type 0
+-- The product state is reached from both initial states.
+abbrev pub IsReached : Mode → Automaton → Automaton → ProductState → Type 0
 IsReached mode A B u = (n : ℕ) × IsReachedBy mode A B n u
 
--- The triple is accepting: the accepting state of the first that was awaited; over finite words both states are.
-abbrev pub AcceptsBoth : Mode → Automaton → Automaton → Triple → Type 0
+-- The product state is accepting: the accepting state of the first that was awaited; over finite words both states are.
+abbrev pub AcceptsBoth : Mode → Automaton → Automaton → ProductState → Type 0
 AcceptsBoth Buchi A B t = IsAccepting A t.first × (t.awaits_second ≡ false)
 AcceptsBoth Finite A B t = IsAccepting A t.first × IsAccepting B t.second
 
--- A move of both automata, from a triple to a triple.
+-- A move of both automata, from a product state to a product state.
 pub record JointMove : Type 0 where
-  pub source : Triple
+  pub source : ProductState
   pub label : ℕ
-  pub target : Triple
+  pub target : ProductState
 
--- From the triple, the first automaton goes by its transition x and the second by y.
-abbrev pub joint : Mode → Automaton → Automaton → Triple → Trans → Trans → JointMove
-joint mode A B t x y = record { source = t; label = x.label; target = triple x.target y.target (awaits_after mode A B t) }
+-- From the product state, the first automaton goes by its transition x and the second by y.
+abbrev pub joint : Mode → Automaton → Automaton → ProductState → Trans → Trans → JointMove
+joint mode A B t x y = record { source = t; label = x.label; target = product_state x.target y.target (awaits_after mode A B t) }
 
 -- Whether the transition leaves p, or leaves it with the letter a.
 abbrev pub goes_from : ℕ → Trans → Bool
@@ -62,49 +62,49 @@ goes_from p x = x.source == p
 abbrev pub goes_with : ℕ → ℕ → Trans → Bool
 goes_with p a y = y.source == p && y.label == a
 
--- The moves from the triple in which the first automaton goes by x, in the order of the second's transitions.
-abbrev pub moves_beside : Mode → Automaton → Automaton → Triple → Trans → List JointMove
+-- The moves from the product state in which the first automaton goes by x, in the order of the second's transitions.
+abbrev pub moves_beside : Mode → Automaton → Automaton → ProductState → Trans → List JointMove
 moves_beside mode A B t x = map (joint mode A B t x) (filter (goes_with t.second x.label) B.transitions)
 
--- The moves from the triple: by letter, then by the state of the first, then by that of the second, since transitions ascend so.
-abbrev pub moves_of : Mode → Automaton → Automaton → Triple → List JointMove
+-- The moves from the product state: by letter, then by the state of the first, then by that of the second, since transitions ascend so.
+abbrev pub moves_of : Mode → Automaton → Automaton → ProductState → List JointMove
 moves_of mode A B t = flat_map (moves_beside mode A B t) (filter (goes_from t.first) A.transitions)
 
--- The moves from each of the triples, in their order.
-abbrev pub moves_from : Mode → Automaton → Automaton → List Triple → List JointMove
-moves_from mode A B triples = flat_map (moves_of mode A B) triples
+-- The moves from each of the product states, in their order.
+abbrev pub moves_from : Mode → Automaton → Automaton → List ProductState → List JointMove
+moves_from mode A B product_states = flat_map (moves_of mode A B) product_states
 
--- Whether both triples have the same parts.
-abbrev pub same_triple : Triple → Triple → Bool
-same_triple t u = t.first == u.first && t.second == u.second && (if t.awaits_second then u.awaits_second else not u.awaits_second)
+-- Whether both product states have the same parts.
+abbrev pub same_product_state : ProductState → ProductState → Bool
+same_product_state t u = t.first == u.first && t.second == u.second && (if t.awaits_second then u.awaits_second else not u.awaits_second)
 
 -- What is seen: the start, and then what the moves lead to.
-abbrev pub seen_by : Automaton → Automaton → List JointMove → List Triple
+abbrev pub seen_by : Automaton → Automaton → List JointMove → List ProductState
 seen_by A B moves = start_of A B ∷ map (λ (m : JointMove). m.target) moves
 
--- Just the reached triples, numbered by first sight: each once, in the order in which they are first seen when all their moves are gone
+-- Just the reached product states, numbered by first sight: each once, in the order in which they are first seen when all their moves are gone
 -- through in order.
-pub record AreNumbered (mode : Mode) (A B : Automaton) (triples : List Triple) : Type 0 where
-  pub reached : (t : Triple) → Contains triples t ↔ IsReached mode A B t
-  pub in_order : triples ≡ first_seen same_triple (seen_by A B (moves_from mode A B triples))
+pub record AreNumbered (mode : Mode) (A B : Automaton) (product_states : List ProductState) : Type 0 where
+  pub reached : (t : ProductState) → Contains product_states t ↔ IsReached mode A B t
+  pub in_order : product_states ≡ first_seen same_product_state (seen_by A B (moves_from mode A B product_states))
 
 -- C is the intersection of A and B.
 pub record IsIntersection (mode : Mode) (A B C : Automaton) : Type 0 where
   pub valid : IsAutomaton C
-  pub triples : List Triple
-  pub numbered : AreNumbered mode A B triples
-  pub states : C.states ≡ length triples
+  pub product_states : List ProductState
+  pub numbered : AreNumbered mode A B product_states
+  pub states : C.states ≡ length product_states
   pub labels : C.labels ≡ A.labels
   pub initial : C.initial ≡ 0
   pub moves :
       (p a q : ℕ)
       → Moves C p a q
-      ↔ ((t : Triple) × (u : Triple) × At triples p t × At triples q u × GoesBeside mode A B t a u)
-  pub accepting : (p : ℕ) → IsAccepting C p ↔ ((t : Triple) × At triples p t × AcceptsBoth mode A B t)
+      ↔ ((t : ProductState) × (u : ProductState) × At product_states p t × At product_states q u × GoesBeside mode A B t a u)
+  pub accepting : (p : ℕ) → IsAccepting C p ↔ ((t : ProductState) × At product_states p t × AcceptsBoth mode A B t)
 
 -- The intersection has more states, transitions or labels than a result may have.
 abbrev pub IsIntersectionTooLarge : Mode → Automaton → Automaton → Type 0
 IsIntersectionTooLarge mode A B =
-    (256 < A.labels)
-    ⊎ AreMoreThan 2048 (IsReached mode A B)
-    ⊎ AreMoreThan 65536 (λ (m : JointMove). IsReached mode A B m.source × GoesBeside mode A B m.source m.label m.target)
+    (most_labels < A.labels)
+    ⊎ AreMoreThan most_states (IsReached mode A B)
+    ⊎ AreMoreThan most_transitions (λ (m : JointMove). IsReached mode A B m.source × GoesBeside mode A B m.source m.label m.target)

@@ -4,7 +4,7 @@ use Rattle.auto_core.specs.Automaton.{Automaton, IsAutomaton}
 use Rattle.auto_core.specs.Accept.{AcceptsLasso, AcceptsWord}
 use Rattle.auto_core.specs.declared.parts.Mode.{Mode}
 use Rattle.auto_core.specs.declared.parts.Mode.TheVariants.{Buchi, Finite}
-use Rattle.auto_ops.specs.Limits.{IsWithinLimits}
+use Rattle.auto_ops.specs.Limits.{IsSmallResult}
 use Rattle.auto_ops.specs.Union.{IsUnion, IsUnionTooLarge}
 use Rattle.auto_ops.specs.Intersection.{IsIntersection, IsIntersectionTooLarge}
 
@@ -34,17 +34,22 @@ UnionIsOne = (mode : Mode) (A B U V : Automaton) → IsUnion mode A B U → IsUn
 
 -- It is not within the limits of a result if it is too large.
 abbrev pub UnionKeepsLimits : Type 0
-UnionKeepsLimits = (mode : Mode) (A B U : Automaton) → IsUnion mode A B U → IsUnionTooLarge A B → IsWithinLimits U → ⊥
+UnionKeepsLimits = (mode : Mode) (A B U : Automaton) → IsUnion mode A B U → IsUnionTooLarge A B → IsSmallResult U → ⊥
 
 -- If it is not too large, there is one, and it is within the limits.
 abbrev pub UnionIsThere : Type 0
 UnionIsThere = (mode : Mode) (A B : Automaton) → IsAutomaton A → IsAutomaton B → A.labels ≡ B.labels → (IsUnionTooLarge A B → ⊥) →
-    (U : Automaton) × IsUnion mode A B U × IsWithinLimits U
+    (U : Automaton) × IsUnion mode A B U × IsSmallResult U
 
 -- There is one intersection of the two at most.
 abbrev pub IntersectionIsOne : Type 0
 IntersectionIsOne = (mode : Mode) (A B C D : Automaton) → IsIntersection mode A B C → IsIntersection mode A B D → C ≡ D
 
+-- If it is not too large, there is one, and it is within the limits.
+abbrev pub IntersectionIsThere : Type 0
+IntersectionIsThere = (mode : Mode) (A B : Automaton) → IsAutomaton A → IsAutomaton B → A.labels ≡ B.labels → (IsIntersectionTooLarge mode A B → ⊥) →
+    (C : Automaton) × IsIntersection mode A B C × IsSmallResult C
+
 -- It is not within the limits of a result if it is too large.
 abbrev pub IntersectionKeepsLimits : Type 0
-IntersectionKeepsLimits = (mode : Mode) (A B C : Automaton) → IsIntersection mode A B C → IsIntersectionTooLarge mode A B → IsWithinLimits C → ⊥
+IntersectionKeepsLimits = (mode : Mode) (A B C : Automaton) → IsIntersection mode A B C → IsIntersectionTooLarge mode A B → IsSmallResult C → ⊥

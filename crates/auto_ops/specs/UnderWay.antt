@@ -5,52 +5,53 @@ use Rattle.auto_core.specs.Outcome.{At}
 use Rattle.auto_core.specs.declared.parts.Mode.{Mode}
 use Rattle.auto_core.specs.declared.parts.Trans.{Trans}
 use Rattle.ba_format.specs.Sight.{first_seen}
-use Rattle.auto_ops.specs.declared.triples.Triple.{Triple}
-use Rattle.auto_ops.specs.Intersection.{JointMove, same_triple, seen_by, start_of, moves_from, IsReached, AreNumbered}
+use Rattle.auto_ops.specs.declared.product_states.ProductState.{ProductState}
+use Rattle.auto_ops.specs.Intersection.{JointMove, same_product_state, seen_by, start_of, moves_from, IsReached, AreNumbered}
+use Rattle.auto_ops.specs.Limits.{most_states, most_transitions}
 
--- The transition is the move under the numbers of the triples.
-abbrev pub IsNumbered : List Triple → Trans → JointMove → Type 0
-IsNumbered triples t m = At triples t.source m.source × (t.label ≡ m.label) × At triples t.target m.target
+-- The transition is the move under the numbers of the product states.
+abbrev pub IsNumbered : List ProductState → Trans → JointMove → Type 0
+IsNumbered product_states t m = At product_states t.source m.source × (t.label ≡ m.label) × At product_states t.target m.target
 
 -- One by one the transitions are the moves.
-abbrev pub AreMoves : List Triple → List Trans → List JointMove → Type 0
-AreMoves triples [] [] = Unit {0}
-AreMoves triples [] (m ∷ ms) = ⊥
-AreMoves triples (t ∷ ts) [] = ⊥
-AreMoves triples (t ∷ ts) (m ∷ ms) = IsNumbered triples t m × AreMoves triples ts ms
+abbrev pub AreMoves : List ProductState → List Trans → List JointMove → Type 0
+AreMoves product_states [] [] = Unit {0}
+AreMoves product_states [] (m ∷ ms) = ⊥
+AreMoves product_states (t ∷ ts) [] = ⊥
+AreMoves product_states (t ∷ ts) (m ∷ ms) = IsNumbered product_states t m × AreMoves product_states ts ms
 
--- Both parts of the triple are states.
-abbrev pub IsInside : Automaton → Automaton → Triple → Type 0
+-- Both parts of the product state are states.
+abbrev pub IsInside : Automaton → Automaton → ProductState → Type 0
 IsInside A B t = (t.first < A.states) × (t.second < B.states)
 
--- So far these moves were gone through: what they see are the triples, and they are the transitions.
-pub record IsUnderWay (A B : Automaton) (moves : List JointMove) (triples : List Triple) (transitions : List Trans) : Type 0 where
-  pub seen : triples ≡ first_seen same_triple (seen_by A B moves)
-  pub numbered : AreMoves triples transitions moves
+-- So far these moves were gone through: what they see are the product states, and they are the transitions.
+pub record IsUnderWay (A B : Automaton) (moves : List JointMove) (product_states : List ProductState) (transitions : List Trans) : Type 0 where
+  pub seen : product_states ≡ first_seen same_product_state (seen_by A B moves)
+  pub numbered : AreMoves product_states transitions moves
 
--- These moves see too many triples, or are too many.
+-- These moves see too many product states, or are too many.
 abbrev pub AreTooMany : Automaton → Automaton → List JointMove → Type 0
-AreTooMany A B moves = (2048 < length (first_seen same_triple (seen_by A B moves))) ⊎ (65536 < length moves)
+AreTooMany A B moves = (most_states < length (first_seen same_product_state (seen_by A B moves))) ⊎ (most_transitions < length moves)
 
--- No more triples and transitions than a result may have, and parts of the triples that are states.
-pub record IsRoomy (A B : Automaton) (triples : List Triple) (transitions : List Trans) : Type 0 where
-  pub few : length triples ≤ 2048
-  pub few_transitions : length transitions ≤ 65536
-  pub inside : All (IsInside A B) triples
+-- No more product states and transitions than a result may have, and parts of the product states that are states.
+pub record IsRoomy (A B : Automaton) (product_states : List ProductState) (transitions : List Trans) : Type 0 where
+  pub few : length product_states ≤ most_states
+  pub few_transitions : length transitions ≤ most_transitions
+  pub inside : All (IsInside A B) product_states
 
 -- Nothing was gone through: there is the start alone.
-abbrev pub IsBegun : Automaton → Automaton → List Triple → List Trans → Type 0
-IsBegun A B triples transitions = (triples ≡ start_of A B ∷ []) × (transitions ≡ [])
+abbrev pub IsBegun : Automaton → Automaton → List ProductState → List Trans → Type 0
+IsBegun A B product_states transitions = (product_states ≡ start_of A B ∷ []) × (transitions ≡ [])
 
--- The moves from the triples were gone through, and the triples are just the reached ones in order.
-pub record IsExplored (mode : Mode) (A B : Automaton) (triples : List Triple) (transitions : List Trans) : Type 0 where
-  pub numbered : AreNumbered mode A B triples
-  pub all : AreMoves triples transitions (moves_from mode A B triples)
-  pub roomy : IsRoomy A B triples transitions
+-- The moves from the product states were gone through, and the product states are just the reached ones in order.
+pub record IsExplored (mode : Mode) (A B : Automaton) (product_states : List ProductState) (transitions : List Trans) : Type 0 where
+  pub numbered : AreNumbered mode A B product_states
+  pub all : AreMoves product_states transitions (moves_from mode A B product_states)
+  pub roomy : IsRoomy A B product_states transitions
 
--- The first `done` triples have been gone through, and all triples are reached.
-pub record IsExploredUpto (mode : Mode) (A B : Automaton) (done : ℕ) (triples : List Triple) (transitions : List Trans) : Type 0 where
-  pub within : done ≤ length triples
-  pub so_far : IsUnderWay A B (moves_from mode A B (take done triples)) triples transitions
-  pub reached : All (IsReached mode A B) triples
-  pub roomy : IsRoomy A B triples transitions
+-- The first `done` product states have been gone through, and all product states are reached.
+pub record IsExploredUpto (mode : Mode) (A B : Automaton) (done : ℕ) (product_states : List ProductState) (transitions : List Trans) : Type 0 where
+  pub within : done ≤ length product_states
+  pub so_far : IsUnderWay A B (moves_from mode A B (take done product_states)) product_states transitions
+  pub reached : All (IsReached mode A B) product_states
+  pub roomy : IsRoomy A B product_states transitions

@@ -1,6 +1,6 @@
 //! The laws of unions and intersections: each is the contract of a function that does nothing.
 
-ghost use Rattle.auto_ops.specs.Laws.{UnionOfLassos, UnionOfWords, IntersectionOfLassos, IntersectionOfWords, UnionIsOne, UnionKeepsLimits, UnionIsThere, IntersectionIsOne, IntersectionKeepsLimits};
+ghost use Rattle.auto_ops.specs.Laws.{UnionOfLassos, UnionOfWords, IntersectionOfLassos, IntersectionOfWords, UnionIsOne, UnionKeepsLimits, UnionIsThere, IntersectionIsOne, IntersectionIsThere, IntersectionKeepsLimits};
 
 /// The union accepts a lasso just where one of the two does.
 pub fn union_of_lassos()
@@ -45,4 +45,9 @@ pub fn intersection_is_one()
 /// An intersection that is too large is not within the limits of a result.
 pub fn intersection_keeps_limits()
     ensures { IntersectionKeepsLimits }
+{}
+
+/// An intersection that is not too large is there, and within the limits.
+pub fn intersection_is_there()
+    ensures { IntersectionIsThere }
 {}

@@ -6,7 +6,7 @@ mod intersecting;
 pub mod laws;
 mod limits;
 mod product;
-mod triples;
+mod product_states;
 mod uniting;
 
 pub use fault::OpFault;

@@ -2,7 +2,7 @@
 
 ghost use Rattle.std.specs.Prelude.{◌≡◌, ◌+◌, ◌^◌, ◌<◌, ◌≤◌, ◌++◌, length, map, true, false, OnOk, IfOk, Err};
 ghost use Rattle.auto_ops.specs.declared.fault.OpFault.{OpFault};
-ghost use Rattle.auto_ops.specs.Limits.{IsWithinLimits};
+ghost use Rattle.auto_ops.specs.Limits.{IsSmallResult};
 ghost use Rattle.auto_ops.specs.Union.{IsUnion, IsUnionTooLarge, second_offset};
 ghost use Rattle.auto_ops.specs.UnionParts.{moved, copied, first_moves, transitions_of_one, union_transitions, accepting_of_one, accepts_at_once, start_if, union_accepting, IsSmallUnion};
 
@@ -160,7 +160,8 @@ pub fn union(alloc: Global, pair: &Joined, mode: Mode) -> Result<Auto, OpFault>
     requires first_labels { pair.now.first.labels ≡ length pair.now.labels }
     requires second_labels { pair.now.second.labels ≡ length pair.now.labels }
     ensures exact { IfOk result (IsUnion mode pair.now.first pair.now.second) }
-    ensures within { IfOk result IsWithinLimits }
+    ensures within { IfOk result IsSmallResult }
+    ensures not_too_large { IfOk result (λ _. IsUnionTooLarge pair.now.first pair.now.second → ⊥) }
     ensures too_large { result ≡ Err OpFault.TooLarge → IsUnionTooLarge pair.now.first pair.now.second }
 {
     let first = &pair.first;

@@ -5,12 +5,12 @@ use Rattle.std.proofs.lemmas.List.{take-append-drop}
 use Rattle.std.proofs.lemmas.List.Elements.{Contains-append_left, Contains-append_right, Contains-append_cases}
 use Rattle.auto_core.specs.Accept.{SeparatesWord}
 use Rattle.auto_core.specs.declared.parts.Lasso.{Lasso}
-use Rattle.lasso_shrink.specs.Shrinking.{word_without, letters_of, lasso_without, TellsApart}
+use Rattle.lasso_shrink.specs.Shrinking.{word_without, letters_of, lasso_without, LassoSeparates}
 use Rattle.lasso_shrink.specs.Laws.{ShrunkLassoIsOne, ShrunkWordIsOne, ShrunkLassoHasItsLetters, ShrunkWordHasItsLetters}
 use Rattle.lasso_shrink.proofs.LeavingLemmas.{shrunk_one, shrunk_keeps}
 
 pub shrunk_lasso_is_one : ShrunkLassoIsOne
-shrunk_lasso_is_one A B lasso one two a b = shrunk_one (TellsApart A B) letters_of lasso_without lasso one two a b
+shrunk_lasso_is_one A B lasso one two a b = shrunk_one (LassoSeparates A B) letters_of lasso_without lasso one two a b
 
 pub shrunk_word_is_one : ShrunkWordIsOne
 shrunk_word_is_one A B word one two a b = shrunk_one (SeparatesWord A B) length word_without word one two a b
@@ -33,7 +33,7 @@ from_lasso lasso now k a has = go (nat_lt k (length now.prefix))
 
 pub shrunk_lasso_has_its_letters : ShrunkLassoHasItsLetters
 shrunk_lasso_has_its_letters A B lasso left a is =
-    shrunk_keeps (TellsApart A B) letters_of lasso_without (HasItsLetters lasso a)
+    shrunk_keeps (LassoSeparates A B) letters_of lasso_without (HasItsLetters lasso a)
     (λ now next one has. subst (HasItsLetters lasso a) (sym one.is) (from_lasso lasso now one.place a has)) lasso left is (λ h. h, λ h. h)
 
 pub shrunk_word_has_its_letters : ShrunkWordHasItsLetters

@@ -10,7 +10,7 @@ use Rattle.auto_core.specs.declared.parts.Lasso.{Lasso}
 use Rattle.auto_core.proofs.PathLemmas.{run_join, run_split}
 use Rattle.set_rows.specs.Sets.{IsRow}
 use Rattle.lasso_shrink.specs.Leaving.{LeavesOne, LeavesOut}
-use Rattle.lasso_shrink.specs.Shrinking.{word_without, letters_of, lasso_without, TellsApart}
+use Rattle.lasso_shrink.specs.Shrinking.{word_without, letters_of, lasso_without, LassoSeparates}
 use Rattle.lasso_shrink.specs.Prefixes.{IsFront, IsFirstPlace}
 
 pub front_begins : (A : Automaton) (row : List ℕ) → IsRow A.states row → ((q : ℕ) → HasBit row q ↔ (q ≡ A.initial)) → IsFront A [] row
@@ -89,7 +89,7 @@ leaves_fewer P x y one =
     omega (arith, e, s)
 
 -- The first place of the prefix that can go is the first of all.
-pub place_leaves : (A B : Automaton) (l : Lasso) (k : ℕ) → IsFirstPlace A B l k → LeavesOne (TellsApart A B) letters_of lasso_without l (lasso_without l k)
+pub place_leaves : (A B : Automaton) (l : Lasso) (k : ℕ) → IsFirstPlace A B l k → LeavesOne (LassoSeparates A B) letters_of lasso_without l (lasso_without l k)
 place_leaves A B l k p = record {
   place = k;
   within = let h = p.within in omega (arith, h);

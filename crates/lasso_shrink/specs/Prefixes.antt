@@ -6,7 +6,7 @@ use Rattle.auto_core.specs.Rows.{HasBit}
 use Rattle.auto_core.specs.declared.parts.Lasso.{Lasso}
 use Rattle.set_rows.specs.Sets.{IsRow}
 use Rattle.lasso_shrink.specs.Leaving.{LeavesOut}
-use Rattle.lasso_shrink.specs.Shrinking.{letters_of, lasso_without, TellsApart}
+use Rattle.lasso_shrink.specs.Shrinking.{letters_of, lasso_without, LassoSeparates}
 
 -- The row has the states that the word leads to.
 pub record IsFront (A : Automaton) (w front : List ℕ) : Type 0 where
@@ -15,18 +15,18 @@ pub record IsFront (A : Automaton) (w front : List ℕ) : Type 0 where
 
 -- Without any single letter of the prefix the lasso does not separate the automata.
 abbrev pub PrefixNeedsEach : Automaton → Automaton → Lasso → Type 0
-PrefixNeedsEach A B l = (k : ℕ) → k < length l.prefix → TellsApart A B (lasso_without l k) → ⊥
+PrefixNeedsEach A B l = (k : ℕ) → k < length l.prefix → LassoSeparates A B (lasso_without l k) → ⊥
 
 -- The letter at this place of the prefix is the first that can go.
 pub record IsFirstPlace (A B : Automaton) (l : Lasso) (place : ℕ) : Type 0 where
   pub within : place < length l.prefix
-  pub keeps : TellsApart A B (lasso_without l place)
-  pub first : (k : ℕ) → k < place → TellsApart A B (lasso_without l k) → ⊥
+  pub keeps : LassoSeparates A B (lasso_without l place)
+  pub first : (k : ℕ) → k < place → LassoSeparates A B (lasso_without l k) → ⊥
 
 -- Letters of the prefix are left out, each the first that can go, until none can go.
 pub record HasLeftOut (A B : Automaton) (l left : Lasso) : Type 0 where
   pub letters : ℕ
-  pub left_out : LeavesOut (TellsApart A B) letters_of lasso_without letters l left
-  pub separates : TellsApart A B left
+  pub left_out : LeavesOut (LassoSeparates A B) letters_of lasso_without letters l left
+  pub separates : LassoSeparates A B left
   pub needed : PrefixNeedsEach A B left
   pub fewer : letters_of left ≤ letters_of l

@@ -21,8 +21,8 @@ lasso_without l k =
     else record { prefix = l.prefix; turn = word_without l.turn (k - length l.prefix) }
 
 -- The first automaton accepts the lasso and the second does not.
-abbrev pub TellsApart : Automaton → Automaton → Lasso → Type 0
-TellsApart A B l = SeparatesLasso A B l.prefix l.turn
+abbrev pub LassoSeparates : Automaton → Automaton → Lasso → Type 0
+LassoSeparates A B l = SeparatesLasso A B l.prefix l.turn
 
 -- The first letter that can go is left out of the word, so that it still separates the automata.
 abbrev pub WordLeavesOne : Automaton → Automaton → List ℕ → List ℕ → Type 0
@@ -38,10 +38,10 @@ IsShrunkWord A B = IsShrunk (SeparatesWord A B) length word_without
 
 -- The same of lassos.
 abbrev pub LassoLeavesOne : Automaton → Automaton → Lasso → Lasso → Type 0
-LassoLeavesOne A B = LeavesOne (TellsApart A B) letters_of lasso_without
+LassoLeavesOne A B = LeavesOne (LassoSeparates A B) letters_of lasso_without
 
 abbrev pub LassoNeedsEach : Automaton → Automaton → Lasso → Type 0
-LassoNeedsEach A B = NeedsEach (TellsApart A B) letters_of lasso_without
+LassoNeedsEach A B = NeedsEach (LassoSeparates A B) letters_of lasso_without
 
 abbrev pub IsShrunkLasso : Automaton → Automaton → Lasso → Lasso → Type 0
-IsShrunkLasso A B = IsShrunk (TellsApart A B) letters_of lasso_without
+IsShrunkLasso A B = IsShrunk (LassoSeparates A B) letters_of lasso_without

@@ -2,7 +2,7 @@
 
 ghost use Rattle.std.specs.Prelude.{◌≡◌, ◌<◌, ◌↔◌, IfOk, IsTrue, MatchOption};
 ghost use Rattle.auto_core.specs.Accept.{SeparatesLasso};
-ghost use Rattle.lasso_shrink.specs.Shrinking.{letters_of, lasso_without, TellsApart, LassoLeavesOne, LassoNeedsEach, IsShrunkLasso};
+ghost use Rattle.lasso_shrink.specs.Shrinking.{letters_of, lasso_without, LassoSeparates, LassoLeavesOne, LassoNeedsEach, IsShrunkLasso};
 ghost use Rattle.lasso_shrink.specs.Prefixes.{PrefixNeedsEach, HasLeftOut};
 
 use crate::copying::{copied, without};
@@ -13,7 +13,7 @@ use std::alloc::Global;
 
 /// Tells whether the first automaton accepts the lasso and the second does not.
 fn separates(alloc: Global, first: &Auto, second: &Auto, lasso: &Lasso) -> Result<bool, Memory>
-    ensures { IfOk result (λ told. IsTrue told ↔ TellsApart first.now second.now lasso.now) }
+    ensures { IfOk result (λ told. IsTrue told ↔ LassoSeparates first.now second.now lasso.now) }
 {
     if !accepts_lasso(alloc, first, lasso)? {
         return Ok(false);
@@ -42,7 +42,7 @@ fn left_without(alloc: Global, lasso: &Lasso, place: usize) -> Result<Lasso, Mem
 /// The lasso that is left if, as long as some letter of its prefix can go, the first such letter is left out. Where the loop is accepted
 /// from is found once.
 fn shrink_prefix(alloc: Global, first: &Auto, second: &Auto, lasso: Lasso) -> Result<Lasso, Memory>
-    requires { TellsApart first.now second.now lasso }
+    requires { LassoSeparates first.now second.now lasso }
     ensures { IfOk result (HasLeftOut first.now second.now lasso) }
 {
     let target = accepts_loop_from(alloc, first, lasso.turn.as_slice())?;
@@ -81,7 +81,7 @@ fn shorter(
 pub fn shrink(alloc: Global, first: &Auto, second: &Auto, lasso: &Lasso) -> Result<Lasso, Memory>
     requires { SeparatesLasso first.now second.now lasso.now.prefix lasso.now.turn }
     ensures exact { IfOk result (IsShrunkLasso first.now second.now lasso.now) }
-    ensures separates { IfOk result (TellsApart first.now second.now) }
+    ensures separates { IfOk result (LassoSeparates first.now second.now) }
     ensures each_needed { IfOk result (LassoNeedsEach first.now second.now) }
 {
     let prefix = copied(alloc, lasso.prefix.as_slice())?;

@@ -5,6 +5,6 @@ use Rattle.auto_ops.proofs.intersecting.accepting_numbers.Given as goal
 
 abbrev pub invariant-loop-at : goal.invariant-loop-at
 invariant-loop-at l = record {
-  members : HasAccepting l.mode l.first l.second l.triples l.at l.made.items;
+  members : HasAccepting l.mode l.first l.second l.product_states l.at l.made.items;
   apart : Rises Differ l.made.items;
 }

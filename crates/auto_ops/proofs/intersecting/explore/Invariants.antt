@@ -3,7 +3,7 @@ use Rattle.auto_ops.specs.UnderWay.{IsExploredUpto}
 use Rattle.auto_ops.proofs.intersecting.explore.Given as goal
 
 abbrev pub invariant-loop-done : goal.invariant-loop-done
-invariant-loop-done l = IsExploredUpto l.mode l.first l.second l.done l.product.triples.items l.product.transitions.items
+invariant-loop-done l = IsExploredUpto l.mode l.first l.second l.done l.product.product_states.items l.product.transitions.items
 
 abbrev pub decreases-loop-done : goal.decreases-loop-done
 decreases-loop-done l = 2048 - l.done

@@ -1,6 +1,6 @@
 use Rattle.std.proofs.Common.{◌≡◌, ◌+◌, ℕ, List, suc, sym, ap₂, ◌∙◌, subst, arith}
 use Rattle.std.proofs.lemmas.Option.{MatchOption-at_some}
-use Rattle.lasso_shrink.specs.Shrinking.{LassoLeavesOne, LassoNeedsEach, TellsApart, letters_of, lasso_without}
+use Rattle.lasso_shrink.specs.Shrinking.{LassoLeavesOne, LassoNeedsEach, LassoSeparates, letters_of, lasso_without}
 use Rattle.auto_core.specs.declared.parts.Lasso.{Lasso}
 use Rattle.lasso_shrink.specs.Prefixes.{HasLeftOut}
 use Rattle.lasso_shrink.proofs.PrefixLemmas.{out_join, leaves_fewer}
@@ -20,7 +20,7 @@ loop-next-smaller c =
     let B = c.args.second.now in
     let now = c.loop-next.current in
     let one : LassoLeavesOne A B now c.in-Some.left = MatchOption-at_some (LassoNeedsEach A B now) (LassoLeavesOne A B now) c.in-Some.left c.in-Some.is c.loop-next.invariant.told in
-    let less = leaves_fewer (TellsApart A B) now c.in-Some.left one in
+    let less = leaves_fewer (LassoSeparates A B) now c.in-Some.left one in
     let fewer = c.in_ok-current-2.ensures.fewer in
     omega (arith, less, fewer)
 
@@ -33,7 +33,7 @@ loop-next-preserved c =
     let (n, before) = c.loop-next.invariant.left_out in
     let more = c.in_ok-current-2.ensures in
     record {
-      left_out = (more.letters + suc n, out_join (TellsApart A B) letters_of lasso_without (suc n) more.letters c.args.lasso.now c.in-Some.left c.in_ok-current-2.current (now, before, one) more.left_out);
+      left_out = (more.letters + suc n, out_join (LassoSeparates A B) letters_of lasso_without (suc n) more.letters c.args.lasso.now c.in-Some.left c.in_ok-current-2.current (now, before, one) more.left_out);
       separates = more.separates;
       told = c.in_ok-next-2.ensures;
     }
@@ -42,7 +42,7 @@ pub shrink_prefix-requires : goal.shrink_prefix-requires
 shrink_prefix-requires c =
     let F : List ℕ → List ℕ → Lasso = λ u v. record { prefix = u; turn = v } in
     let same : F c.in_ok-prefix.prefix c.in_ok-turn.turn ≡ c.args.lasso.now = ap₂ F (c.in_ok-prefix.ensures ∙ c.as_slice.ensures) (c.in_ok-turn.ensures ∙ c.as_slice-2.ensures) in
-    subst (TellsApart c.args.first.now c.args.second.now) (sym same) c.requires
+    subst (LassoSeparates c.args.first.now c.args.second.now) (sym same) c.requires
 
 pub loop-next-init : goal.loop-next-init
 loop-next-init c =

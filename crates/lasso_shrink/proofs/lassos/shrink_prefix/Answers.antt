@@ -3,7 +3,7 @@ use Rattle.std.proofs.lemmas.Option.{MatchOption-at_some}
 use Rattle.auto_core.specs.Rows.{HasBit}
 use Rattle.auto_core.specs.declared.parts.Lasso.{Lasso}
 use Rattle.lasso_accept.specs.Looping.{AcceptsLoopFrom}
-use Rattle.lasso_shrink.specs.Shrinking.{LassoLeavesOne, TellsApart, letters_of, lasso_without}
+use Rattle.lasso_shrink.specs.Shrinking.{LassoLeavesOne, LassoSeparates, letters_of, lasso_without}
 use Rattle.lasso_shrink.specs.Prefixes.{PrefixNeedsEach, IsFirstPlace}
 use Rattle.lasso_shrink.proofs.PrefixLemmas.{place_leaves, lasso_shorter, in_prefix}
 use Rattle.lasso_shrink.proofs.lassos.shrink_prefix.Goals as goal
@@ -45,7 +45,7 @@ loop-place-preserved c =
     let fewer = c.loop-place.invariant.fewer in
     record {
       left_out = (suc n, (now, before, leaves));
-      separates = subst (TellsApart A B) (sym is) place.keeps;
+      separates = subst (LassoSeparates A B) (sym is) place.keeps;
       told = c.in_ok-place-2.ensures;
       turn = ap (λ (x : Lasso). x.turn) (is ∙ in_prefix now at within) ∙ c.loop-place.invariant.turn;
       fewer = omega (arith, less, size, fewer);

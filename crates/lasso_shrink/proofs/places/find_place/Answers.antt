@@ -2,7 +2,7 @@ use Rattle.std.proofs.Common.{ℕ, ◌<◌, length, sym, ◌∙◌, subst, arith
 use Rattle.std.proofs.lemmas.Bool.{cases_eq, false≢true}
 use Rattle.auto_core.specs.Automaton.{Automaton}
 use Rattle.auto_core.specs.declared.parts.Lasso.{Lasso}
-use Rattle.lasso_shrink.specs.Shrinking.{lasso_without, TellsApart}
+use Rattle.lasso_shrink.specs.Shrinking.{lasso_without, LassoSeparates}
 use Rattle.lasso_shrink.proofs.PrefixLemmas.{front_starts, in_prefix}
 use Rattle.lasso_shrink.proofs.places.find_place.Goals as goal
 
@@ -14,7 +14,7 @@ returns-then-separates_without c =
     let within : c.loop-place.place < length l.prefix = search rules in
     record {
       within = within;
-      keeps = subst (TellsApart A B) (sym (in_prefix l c.loop-place.place within)) (c.separates_without.ensures.0 c.if-separates_without.true);
+      keeps = subst (LassoSeparates A B) (sym (in_prefix l c.loop-place.place within)) (c.separates_without.ensures.0 c.if-separates_without.true);
       first = c.loop-place.invariant.none;
     }
 
@@ -34,7 +34,7 @@ loop-place-preserved c =
     let l : Lasso = c.args.lasso.now in
     let at : ℕ = c.loop-place.place in
     let within : at < length l.prefix = search rules in
-    let P : ℕ → Type 0 = λ j. TellsApart A B (lasso_without l j) in
+    let P : ℕ → Type 0 = λ j. LassoSeparates A B (lasso_without l j) in
     record {
       front = c.go_on.ensures;
       other_front = c.go_on-in-loop-place.ensures;
@@ -44,7 +44,7 @@ loop-place-preserved c =
           elim (cases_eq k at) [
             | inl same ↦
                 false≢true (sym c.if-separates_without.false
-                ∙ c.separates_without.ensures.1 (subst (TellsApart A B) (in_prefix l at within) (subst P same apart)))
+                ∙ c.separates_without.ensures.1 (subst (LassoSeparates A B) (in_prefix l at within) (subst P same apart)))
             | inr other ↦ c.loop-place.invariant.none k (omega arith) apart
           ];
     }

@@ -6,10 +6,10 @@ use Rattle.auto_ops.proofs.product.Product.add_beside.Given as goal
 
 abbrev pub invariant-loop-at : goal.invariant-loop-at
 invariant-loop-at l = record {
-  at : At l.self.triples.items l.number l.fn.triple;
-  roomy : IsRoomy l.first l.second l.self.triples.items l.self.transitions.items;
+  at : At l.self.product_states.items l.number l.fn.product_state;
+  roomy : IsRoomy l.first l.second l.self.product_states.items l.self.transitions.items;
   added :
       (ms : List JointMove)
-      → IsUnderWay l.first l.second ms l.initial.self.triples.items l.initial.self.transitions.items
-      → IsUnderWay l.first l.second (ms ++ map (joint l.fn.mode l.first l.second l.fn.triple l.step) (take (l.at - l.initial.at) (drop l.initial.at l.second.transitions))) l.self.triples.items l.self.transitions.items;
+      → IsUnderWay l.first l.second ms l.initial.self.product_states.items l.initial.self.transitions.items
+      → IsUnderWay l.first l.second (ms ++ map (joint l.fn.mode l.first l.second l.fn.product_state l.step) (take (l.at - l.initial.at) (drop l.initial.at l.second.transitions))) l.self.product_states.items l.self.transitions.items;
 }

@@ -13,19 +13,19 @@ pub loop-at-preserved : goal.loop-at-preserved
 loop-at-preserved c =
     let A = c.args.first.now in
     let B = c.args.second.now in
-    let F = moves_beside c.args.mode A B c.args.triple in
+    let F = moves_beside c.args.mode A B c.args.product_state in
     let b : ℕ = c.outgoing-span.result.begin in
     let at : ℕ = c.loop-at.at in
     let s = c.outgoing-span.ensures.range in
     let fits = s.within in
     let within : at < length A.transitions = omega arith in
-    let T : List Trans → Type 0 = λ ts. (ms : List JointMove) → IsUnderWay A B ms c.loop-at.self.triples.items c.loop-at.self.transitions.items → IsUnderWay A B (ms ++ F (get_or ts at (trans 0 0 0))) c.add_beside.new.self.triples.items c.add_beside.new.self.transitions.items in
+    let T : List Trans → Type 0 = λ ts. (ms : List JointMove) → IsUnderWay A B ms c.loop-at.self.product_states.items c.loop-at.self.transitions.items → IsUnderWay A B (ms ++ F (get_or ts at (trans 0 0 0))) c.add_beside.new.self.product_states.items c.add_beside.new.self.transitions.items in
     let one = subst T c.transitions-transitions.ensures.list c.in_ok-add_beside.ensures.added in
     record {
       at = c.in_ok-add_beside.ensures.at;
       roomy = c.in_ok-add_beside.ensures.roomy;
       added = λ ms under.
-          let P : List JointMove → Type 0 = λ l. IsUnderWay A B l c.add_beside.new.self.triples.items c.add_beside.new.self.transitions.items in
+          let P : List JointMove → Type 0 = λ l. IsUnderWay A B l c.add_beside.new.self.product_states.items c.add_beside.new.self.transitions.items in
           subst P (sym (flat_more F ms A.transitions b at (trans 0 0 0) c.loop-at.auto.at within))
           (one (ms ++ flat_map F (take (at - b) (drop b A.transitions))) (c.loop-at.invariant.added ms under));
     }
@@ -37,16 +37,16 @@ returns-clause-added c = λ ms under.
     let s = c.outgoing-span.ensures.range in
     let b : ℕ = c.outgoing-span.result.begin in
     let over : c.loop-at.at ≡ c.outgoing-span.result.end = omega (arith, s.is_range, c.loop-at.auto.at-end) in
-    let F = moves_beside c.args.mode A B c.args.triple in
-    let P : List JointMove → Type 0 = λ l. IsUnderWay A B (ms ++ l) c.loop-at.self.triples.items c.loop-at.self.transitions.items in
-    subst P (ap (λ n. flat_map F (take (n - b) (drop b A.transitions))) over ∙ ap (flat_map F) (sym (outgoing_part A c.args.triple.first b c.outgoing-span.result.end s)))
+    let F = moves_beside c.args.mode A B c.args.product_state in
+    let P : List JointMove → Type 0 = λ l. IsUnderWay A B (ms ++ l) c.loop-at.self.product_states.items c.loop-at.self.transitions.items in
+    subst P (ap (λ n. flat_map F (take (n - b) (drop b A.transitions))) over ∙ ap (flat_map F) (sym (outgoing_part A c.args.product_state.first b c.outgoing-span.result.end s)))
     (c.loop-at.invariant.added ms under)
 
 pub returns-in_err-add_beside-clause-too_large : goal.returns-in_err-add_beside-clause-too_large
 returns-in_err-add_beside-clause-too_large c = λ ms under h.
     let A = c.args.first.now in
     let B = c.args.second.now in
-    let F = moves_beside c.args.mode A B c.args.triple in
+    let F = moves_beside c.args.mode A B c.args.product_state in
     let b : ℕ = c.outgoing-span.result.begin in
     let at : ℕ = c.loop-at.at in
     let s = c.outgoing-span.ensures.range in
@@ -56,5 +56,5 @@ returns-in_err-add_beside-clause-too_large c = λ ms under h.
     let is = ap (λ (e : OpFault). Err e) (sym p.2) ∙ sym p.1 ∙ h in
     let before = ms ++ flat_map F (take (at - b) (drop b A.transitions)) in
     let T : List Trans → Type 0 = λ ts. AreTooMany A B (before ++ F (get_or ts at (trans 0 0 0))) in
-    from_too_many c.args.mode A B c.args.triple b at c.outgoing-span.result.end ms c.loop-at.auto.at within s c.loop-at-test.true
+    from_too_many c.args.mode A B c.args.product_state b at c.outgoing-span.result.end ms c.loop-at.auto.at within s c.loop-at-test.true
     (subst T c.transitions-transitions.ensures.list (c.in_err-add_beside.ensures.too_large before (c.loop-at.invariant.added ms under) is))
