@@ -3,7 +3,7 @@ _rabit() {
     local word=${COMP_WORDS[COMP_CWORD]} before=${COMP_WORDS[COMP_CWORD - 1]} options=
     COMPREPLY=()
     if [ "$COMP_CWORD" -eq 1 ]; then
-        mapfile -t COMPREPLY < <(compgen -W "include check reduce drill union intersect" -- "$word")
+        mapfile -t COMPREPLY < <(compgen -W "include check reduce drill union intersect shrink empty universal" -- "$word")
         return
     fi
     case $before in
@@ -19,7 +19,7 @@ _rabit() {
     case ${COMP_WORDS[1]} in
     include) options="--finite --look --limit" ;;
     reduce) options="--finite --look" ;;
-    union | intersect) options="--finite" ;;
+    union | intersect | empty | universal) options="--finite" ;;
     esac
     case $word in
     -*) mapfile -t COMPREPLY < <(compgen -W "$options" -- "$word") ;;

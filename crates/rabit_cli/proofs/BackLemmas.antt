@@ -60,7 +60,7 @@ map_itself f (t ∷ ts) h = λ i. h t (contains_first t ts) i ∷ map_itself f t
 
 -- ---- an automaton with more labels
 
-abbrev with_labels : Automaton → ℕ → Automaton
+abbrev pub with_labels : Automaton → ℕ → Automaton
 with_labels A n = record { states = A.states; labels = n; initial = A.initial; transitions = A.transitions; accepting = A.accepting }
 
 valid_with : (A : Automaton) (n : ℕ) → IsAutomaton A → A.labels ≤ n → n < 2 ^ 32 → IsAutomaton (with_labels A n)
@@ -97,7 +97,7 @@ module _ (A : Automaton) (labels more : List (List ℕ)) (valid : IsAutomaton A)
       let label = number_here labels more t.label different (omega (arith, range.2)) in
       λ i. trans t.source (label i) t.target
 
-  built_with : (n : ℕ) → n ≡ length (labels ++ more) → A.labels ≤ n → n < 2 ^ 32 → IsRelabelled A labels (labels ++ more) (with_labels A n)
+  pub built_with : (n : ℕ) → n ≡ length (labels ++ more) → A.labels ≤ n → n < 2 ^ 32 → IsRelabelled A labels (labels ++ more) (with_labels A n)
   built_with n is within fits = record {
     valid = valid_with A n valid within fits;
     states_given = refl;
@@ -109,7 +109,7 @@ module _ (A : Automaton) (labels more : List (List ℕ)) (valid : IsAutomaton A)
     accepting_given = IsPermutation-refl A.accepting;
   }
 
-includes_then : (m : Mode) (A B C : Automaton) → Includes A B m → Includes B C m → Includes A C m
+pub includes_then : (m : Mode) (A B C : Automaton) → Includes A B m → Includes B C m → Includes A C m
 includes_then Buchi A B C first second = λ u v h. second u v (first u v h)
 includes_then Finite A B C first second = λ w h. second w (first w h)
 

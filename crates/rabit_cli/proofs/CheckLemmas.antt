@@ -19,8 +19,8 @@ use Rattle.rabit_frame.specs.declared.parts.Reply.{Reply}
 use Rattle.rabit_frame.specs.Statuses.{status_number}
 use Rattle.rabit_frame.specs.Reading.{only_said, ReadInTurn}
 use Rattle.rabit_cli.specs.Printed.{refused_text}
-use Rattle.rabit_cli.specs.Files.{ReadsPair, HoldsCertificate}
-use Rattle.rabit_cli.specs.Replies.{IsVerdictReply, TellsApart}
+use Rattle.rabit_cli.specs.Files.{ReadsPair, ReadsCertificate}
+use Rattle.rabit_cli.specs.Replies.{IsVerdictReply, SaysApart}
 use Rattle.rabit_cli.specs.Check.{check_inputs, Concludes, MeansCheck, ShowsCheck}
 use Rattle.rabit_cli.proofs.VerdictLemmas.{one_verdict, puts_of_verdict, low_verdict}
 
@@ -70,7 +70,7 @@ module _ (files : FileMap) (a b c : List ℕ) (status : ℕ) (sent sent' : Optio
   shows_high high = record { included = λ e. absurd (omega arith); not_included = λ e. absurd (omega arith); listed = λ e. absurd (omega arith) }
 
   module _ (number : status_number r.status ≡ status) (sends : sent' ≡ append_known sent r.text) where
-    shows_valid : (pair : Joined) (cert : Cert) → ReadsPair files a b pair → HoldsCertificate files c cert → KeepsRules pair cert → (body : Body) → cert.body ≡ body → IsVerdictReply cert.mode pair body [] r → ShowsCheck files a b c status sent sent'
+    shows_valid : (pair : Joined) (cert : Cert) → ReadsPair files a b pair → ReadsCertificate files c cert → KeepsRules pair cert → (body : Body) → cert.body ≡ body → IsVerdictReply cert.mode pair body [] r → ShowsCheck files a b c status sent sent'
     shows_valid pair cert read certificate keeps (Yes evidence) is says =
         let zero : status ≡ 0 = sym number ∙ ap (λ z. status_number z.status) says in
         record {
@@ -81,8 +81,8 @@ module _ (files : FileMap) (a b c : List ℕ) (status : ℕ) (sent sent' : Optio
             read = read;
             certificate = certificate;
             says_yes = is;
-            valid = record { formed = certificate.3; keeps = keeps };
-            includes = valid_yes_includes pair cert evidence is certificate.3 read.4.first.valid read.4.second.valid keeps;
+            valid = record { formed = certificate.3.0; keeps = keeps };
+            includes = valid_yes_includes pair cert evidence is certificate.3.0 read.4.first.valid read.4.second.valid keeps;
             printed = sends ∙ ap (λ z. append_known sent z.text) says;
           };
           not_included = λ e. absurd (omega arith);
@@ -98,8 +98,8 @@ module _ (files : FileMap) (a b c : List ℕ) (status : ℕ) (sent sent' : Optio
             cert = cert;
             read = read;
             certificate = certificate;
-            valid = record { formed = certificate.3; keeps = keeps };
-            apart = subst (λ z. TellsApart pair z sent sent') (sym is) ((all.1.1.0, all.1.1.1.0), sends ∙ ap (λ z. append_known sent z.text) says);
+            valid = record { formed = certificate.3.0; keeps = keeps };
+            apart = subst (λ z. SaysApart pair z sent sent') (sym is) ((all.1.1.0, all.1.1.1.0), sends ∙ ap (λ z. append_known sent z.text) says);
           };
           listed = λ e. absurd (omega arith);
         }
@@ -113,8 +113,8 @@ module _ (files : FileMap) (a b c : List ℕ) (status : ℕ) (sent sent' : Optio
             cert = cert;
             read = read;
             certificate = certificate;
-            valid = record { formed = certificate.3; keeps = keeps };
-            apart = subst (λ z. TellsApart pair z sent sent') (sym is) ((all.1.0, all.1.1.0), sends ∙ ap (λ z. append_known sent z.text) says);
+            valid = record { formed = certificate.3.0; keeps = keeps };
+            apart = subst (λ z. SaysApart pair z sent sent') (sym is) ((all.1.0, all.1.1.0), sends ∙ ap (λ z. append_known sent z.text) says);
           };
           listed = λ e. absurd (omega arith);
         }
@@ -130,16 +130,16 @@ module _ (files : FileMap) (a b c : List ℕ) (status : ℕ) (sent sent' : Optio
             read = read;
             certificate = certificate;
             lists = is;
-            valid = record { formed = certificate.3; keeps = keeps };
-            different = kept_list_shows pair cert l is certificate.3 keeps;
+            valid = record { formed = certificate.3.0; keeps = keeps };
+            different = kept_list_shows pair cert l is certificate.3.0 keeps;
             printed = sends ∙ ap (λ z. append_known sent z.text) says;
           };
         }
 
     pub shows_check : (values : List Value) → ReadInTurn files (check_inputs a b c) values → MeansCheck values r → ShowsCheck files a b c status sent sent'
     shows_check values reads (one, two, cert, is, (pair, joined, concludes)) =
-        let (first, (second, ((bytes, has, few, (formed, text_is)), end))) = subst (ReadInTurn files (check_inputs a b c)) is reads in
+        let (first, (second, (third, end))) = subst (ReadInTurn files (check_inputs a b c)) is reads in
         elim concludes [
           | inl broken ↦ (let e = ap (λ z. status_number z.status) broken.2 in shows_high (omega arith))
-          | inr valid ↦ shows_valid pair cert (one, two, first, second, joined) (bytes, has, few, formed, text_is) valid.0 cert.body refl valid.1
+          | inr valid ↦ shows_valid pair cert (one, two, first, second, joined) third valid.0 cert.body refl valid.1
         ]

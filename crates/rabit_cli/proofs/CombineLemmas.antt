@@ -9,7 +9,7 @@ use Rattle.auto_core.specs.Accept.{Same}
 use Rattle.auto_core.specs.declared.parts.Mode.{Mode}
 use Rattle.auto_core.specs.declared.parts.Mode.TheVariants.{Buchi, Finite}
 use Rattle.auto_core.proofs.MemberLemmas.{filter_from, rises_from_pairs}
-use Rattle.auto_ops.specs.Limits.{IsWithinLimits}
+use Rattle.auto_ops.specs.Limits.{IsSmallResult}
 use Rattle.auto_ops.specs.Union.{IsUnionTooLarge}
 use Rattle.auto_ops.specs.Intersection.{IsIntersectionTooLarge}
 use Rattle.auto_ops.proofs.CountLemmas.{rises_at}
@@ -33,8 +33,8 @@ use Rattle.rabit_frame.specs.Statuses.{status_number}
 use Rattle.rabit_frame.specs.Reading.{only_said, ReadInTurn}
 use Rattle.rabit_cli.specs.Files.{check_limits, large_limits}
 use Rattle.rabit_cli.specs.Combine.{combined_inputs, MeansCombined, IsCombinedReply, ShowsCombined}
-use Rattle.rabit_cli.specs.Union.{IsUnionOf, IsUnionReply, MeansUnion, AcceptsWhatOneDoes, ShowsUnion}
-use Rattle.rabit_cli.specs.Intersect.{IsIntersectionOf, IsIntersectionReply, MeansIntersect, AcceptsWhatBothDo, ShowsIntersect}
+use Rattle.rabit_cli.specs.Union.{IsUnionOf, IsUnionReply, IsUnionStatus, MeansUnion, AcceptsWhatOneDoes, ShowsUnion}
+use Rattle.rabit_cli.specs.Intersect.{IsIntersectionOf, IsIntersectionReply, IsIntersectionStatus, MeansIntersect, AcceptsWhatBothDo, ShowsIntersect}
 use Rattle.rabit_cli.proofs.BackLemmas.{written_same, reads_with_room}
 
 -- ---- joined labels can be written
@@ -56,7 +56,7 @@ joined_fit one two pair joined first second =
 -- ---- one reply
 
 module _ (is_result : Automaton → Type 0) (is_too_large : Type 0) (labels : List (List ℕ)) where
-  one_reply : ((C D : Automaton) → is_result C → is_result D → C ≡ D) → ((C : Automaton) → is_result C → is_too_large → IsWithinLimits C → ⊥) → (r s : Reply) →
+  one_reply : ((C D : Automaton) → is_result C → is_result D → C ≡ D) → ((C : Automaton) → is_result C → is_too_large → IsSmallResult C → ⊥) → (r s : Reply) →
       IsCombinedReply is_result is_too_large labels r → IsCombinedReply is_result is_too_large labels s → r ≡ s
   one_reply one never r s (inl (large, e)) (inl (large', e')) = e ∙ sym e'
   one_reply one never r s (inl (large, e)) (inr (D, is, within, e')) = absurd (never D is large within)
@@ -70,6 +70,11 @@ module _ (is_result : Automaton → Type 0) (is_too_large : Type 0) (labels : Li
   reply_number : (r : Reply) → IsCombinedReply is_result is_too_large labels r → (status_number r.status ≡ 0) ⊎ (status_number r.status ≡ 12)
   reply_number r (inl (large, e)) = inr (ap (λ z. status_number z.status) e)
   reply_number r (inr (C, is, within, e)) = inl (ap (λ z. status_number z.status) e)
+
+  reply_status : ((C : Automaton) → is_result C → is_too_large → IsSmallResult C → ⊥) → (r : Reply) → IsCombinedReply is_result is_too_large labels r → (n : ℕ) → n ≡ status_number r.status →
+      (is_too_large × (n ≡ 12)) ⊎ (¬ is_too_large × (n ≡ 0))
+  reply_status never r (inl (large, e)) n same = inl (large, same ∙ ap (λ z. status_number z.status) e)
+  reply_status never r (inr (C, is, within, e)) n same = inr (λ large. never C is large within, same ∙ ap (λ z. status_number z.status) e)
 
 one_combined : (replies : Joined → Reply → Type 0) → ((pair : Joined) (r s : Reply) → replies pair r → replies pair s → r ≡ s) → (values : List Value) (r s : Reply) → MeansCombined replies values r → MeansCombined replies values s → r ≡ s
 one_combined replies one values r s (first, second, is, (pair, joined, here)) (first', second', is', (pair', joined', there)) =
@@ -92,6 +97,11 @@ union_puts m values r (one, two, is, (pair, joined, here)) = reply_puts (IsUnion
 pub union_number : (m : Mode) (values : List Value) (r : Reply) → MeansUnion m values r → (status_number r.status ≡ 0) ⊎ (status_number r.status ≡ 12)
 union_number m values r (one, two, is, (pair, joined, here)) = reply_number (IsUnionOf m pair) (IsUnionTooLarge pair.first pair.second) pair.labels r here
 
+pub union_status : (m : Mode) (files : FileMap) (a b : List ℕ) (values : List Value) (r : Reply) → ReadInTurn files (combined_inputs a b) values → MeansUnion m values r → (n : ℕ) → n ≡ status_number r.status → IsUnionStatus files a b n
+union_status m files a b values r reads (one, two, is, (pair, joined, here)) n same =
+    let (first, (second, end)) = subst (ReadInTurn files (combined_inputs a b)) is reads in
+    (pair, (one, two, first, second, joined), reply_status (IsUnionOf m pair) (IsUnionTooLarge pair.first pair.second) pair.labels (union_limits m pair.first pair.second) r here n same)
+
 pub one_intersection : (m : Mode) (values : List Value) (r s : Reply) → MeansIntersect m values r → MeansIntersect m values s → r ≡ s
 one_intersection m = one_combined (IsIntersectionReply m) (λ pair. one_reply (IsIntersectionOf m pair) (IsIntersectionTooLarge m pair.first pair.second) pair.labels
     (intersection_one m pair.first pair.second) (intersection_limits m pair.first pair.second))
@@ -101,6 +111,11 @@ intersection_puts m values r (one, two, is, (pair, joined, here)) = reply_puts (
 
 pub intersection_number : (m : Mode) (values : List Value) (r : Reply) → MeansIntersect m values r → (status_number r.status ≡ 0) ⊎ (status_number r.status ≡ 12)
 intersection_number m values r (one, two, is, (pair, joined, here)) = reply_number (IsIntersectionOf m pair) (IsIntersectionTooLarge m pair.first pair.second) pair.labels r here
+
+pub intersection_status : (m : Mode) (files : FileMap) (a b : List ℕ) (values : List Value) (r : Reply) → ReadInTurn files (combined_inputs a b) values → MeansIntersect m values r → (n : ℕ) → n ≡ status_number r.status → IsIntersectionStatus m files a b n
+intersection_status m files a b values r reads (one, two, is, (pair, joined, here)) n same =
+    let (first, (second, end)) = subst (ReadInTurn files (combined_inputs a b)) is reads in
+    (pair, (one, two, first, second, joined), reply_status (IsIntersectionOf m pair) (IsIntersectionTooLarge m pair.first pair.second) pair.labels (intersection_limits m pair.first pair.second) r here n same)
 
 -- ---- what it shows
 

@@ -11,7 +11,7 @@ use Rattle.rabit_frame.specs.Reading.{AreOfKinds}
 use Rattle.rabit_frame.specs.Ending.{OfBoth, WasSaid}
 use Rattle.rabit_frame.specs.Carrying.{EndsSo, IsCarriedOut, ShowsResult}
 use Rattle.rabit_frame.proofs.EndLemmas.{may_plain, same_status, own_status, both_same, no_inputs, no_puts, no_puts_stay}
-use Rattle.rabit_words.specs.Question.{Question, Include, Check, Reduce, Drill, Union, Intersect, HasNumbersInRange}
+use Rattle.rabit_words.specs.Question.{Question, Include, Check, Reduce, Drill, Union, Intersect, Shrink, Empty, Universal, IsProper}
 use Rattle.drawing.specs.declared.parts.Drill.{Drill as Drawing}
 use Rattle.drawing.specs.Drawn.{IsInBounds}
 use Rattle.rabit_cli.specs.Commands.{inputs_of, outputs_of, Means, Shows, Drills, LeavesFiles, SaysUsage}
@@ -20,16 +20,22 @@ use Rattle.rabit_cli.proofs.IncludeLemmas.{one_include, include_asked, shows_inc
 use Rattle.rabit_cli.proofs.ReduceLemmas.{one_reduce, reduce_puts, reduce_asked, shows_reduce}
 use Rattle.rabit_cli.proofs.DrillLemmas.{one_drill, drill_puts, drill_asked, shows_drill, says_drill}
 use Rattle.rabit_cli.proofs.CombineLemmas.{one_union, union_puts, union_number, shows_union, one_intersection, intersection_puts, intersection_number, shows_intersection}
+use Rattle.rabit_cli.specs.Empty.{emptiness}
+use Rattle.rabit_cli.specs.Universal.{universality}
+use Rattle.rabit_cli.proofs.ShrinkLemmas.{one_shrink, shrink_asked, shows_shrink, leaves_shrink}
+use Rattle.rabit_cli.proofs.PropertyLemmas.{one_decided, decided_asked, shows_property, leaves_property}
+use Rattle.rabit_cli.proofs.EmptyLemmas.{emptiness_decidable}
+use Rattle.rabit_cli.proofs.UniversalLemmas.{universality_decidable}
 
 -- the drill of a question
 abbrev drawing : ℕ → ℕ → ℕ → Drawing
 drawing seed states labels = record { seed = seed; states = states; labels = labels }
 
-in_bounds : (seed states labels : ℕ) → HasNumbersInRange (Drill seed states labels) → IsInBounds (drawing seed states labels)
+in_bounds : (seed states labels : ℕ) → IsProper (Drill seed states labels) → IsInBounds (drawing seed states labels)
 in_bounds seed states labels (few, from, upto, some, most) = record { states_from = from; states_upto = upto; labels_from = some; labels_upto = most }
 
 -- one row a question
-pub one_meaning : (q : Option Question) → IfSome q HasNumbersInRange → (values : List Value) (r s : Reply) → AreOfKinds (inputs_of q) values → Means q values r → Means q values s → r ≡ s
+pub one_meaning : (q : Option Question) → IfSome q IsProper → (values : List Value) (r s : Reply) → AreOfKinds (inputs_of q) values → Means q values r → Means q values s → r ≡ s
 one_meaning None range values r s kinds p q = p ∙ sym q
 one_meaning (Some (Check a b c)) range values r s kinds p q = one_check values r s p q
 one_meaning (Some (Include a b c m look limit)) range values r s kinds p q = one_include c (terms_of m look limit) range.0 values r s p q
@@ -37,6 +43,9 @@ one_meaning (Some (Reduce a m look)) range values r s kinds p q = one_reduce a m
 one_meaning (Some (Drill seed states labels)) range values r s kinds p q = one_drill (drawing seed states labels) values r s p q
 one_meaning (Some (Union a b m)) range values r s kinds p q = one_union m values r s p q
 one_meaning (Some (Intersect a b m)) range values r s kinds p q = one_intersection m values r s p q
+one_meaning (Some (Shrink a b c out)) range values r s kinds p q = one_shrink out values r s p q
+one_meaning (Some (Empty a e c m)) range values r s kinds p q = one_decided emptiness emptiness_decidable e c m values r s p q
+one_meaning (Some (Universal a u c m)) range values r s kinds p q = one_decided universality universality_decidable u c m values r s p q
 
 pub no_outputs : (q : Option Question) → outputs_of q ≡ [] → (values : List Value) (r : Reply) → Means q values r → r.puts ≡ []
 no_outputs None none values r p = ap (λ z. z.puts) p
@@ -46,6 +55,9 @@ no_outputs (Some (Reduce a m look)) none values r p = reduce_puts m look values 
 no_outputs (Some (Drill seed states labels)) none values r p = drill_puts (drawing seed states labels) values r p
 no_outputs (Some (Union a b m)) none values r p = union_puts m values r p
 no_outputs (Some (Intersect a b m)) none values r p = intersection_puts m values r p
+no_outputs (Some (Shrink a b c out)) none values r p = absurd (let f = none in cc)
+no_outputs (Some (Empty a e c m)) none values r p = absurd (let f = none in cc)
+no_outputs (Some (Universal a u c m)) none values r p = absurd (let f = none in cc)
 
 usage_alone : (q : Option Question) (values : List Value) (r : Reply) → Means q values r → status_number r.status ≡ 3 → q ≡ None
 usage_alone None values r p three = refl
@@ -55,9 +67,12 @@ usage_alone (Some (Reduce a m look)) values r p three = absurd (reduce_asked m l
 usage_alone (Some (Drill seed states labels)) values r p three = absurd (drill_asked (drawing seed states labels) values r p three)
 usage_alone (Some (Union a b m)) values r p three = absurd (elim (union_number m values r p) [ inl zero ↦ omega arith | inr twelve ↦ omega arith ])
 usage_alone (Some (Intersect a b m)) values r p three = absurd (elim (intersection_number m values r p) [ inl zero ↦ omega arith | inr twelve ↦ omega arith ])
+usage_alone (Some (Shrink a b c out)) values r p three = absurd (shrink_asked out values r p three)
+usage_alone (Some (Empty a e c m)) values r p three = absurd (decided_asked emptiness emptiness_decidable e c m values r p three)
+usage_alone (Some (Universal a u c m)) values r p three = absurd (decided_asked universality universality_decidable u c m values r p three)
 
 module _ (status : ℕ) (sent sent' : Option (List ℕ)) where
-  pub shows : (q : Option Question) → IfSome q HasNumbersInRange → status ≤ 2 → (files files' : FileMap) → ShowsResult (Means q) (inputs_of q) status sent sent' files files' → Shows q status files files' sent sent'
+  pub shows : (q : Option Question) → IfSome q IsProper → status ≤ 2 → (files files' : FileMap) → ShowsResult (Means q) (inputs_of q) status sent sent' files files' → Shows q status files files' sent sent'
   shows None range low files files' (r, values, reads, p, number, left, sends) = (let e = ap (λ z. status_number z.status) p in absurd (omega arith))
   shows (Some (Check a b c)) range low files files' (r, values, reads, p, number, left, sends) = shows_check files a b c status sent sent' r number sends values reads p
   shows (Some (Include a b c m look limit)) range low files files' (r, values, reads, p, number, left, sends) =
@@ -67,6 +82,9 @@ module _ (status : ℕ) (sent sent' : Option (List ℕ)) where
       shows_drill (drawing seed states labels) status sent sent' r (in_bounds seed states labels range) number sends values p
   shows (Some (Union a b m)) range low files files' (r, values, reads, p, number, left, sends) = shows_union files a b m status sent sent' r number sends values reads p
   shows (Some (Intersect a b m)) range low files files' (r, values, reads, p, number, left, sends) = shows_intersection files a b m status sent sent' r number sends values reads p
+  shows (Some (Shrink a b c out)) range low files files' (r, values, reads, p, number, left, sends) = shows_shrink files a b c out status files' sent sent' r number low left sends values reads p
+  shows (Some (Empty a e c m)) range low files files' (r, values, reads, p, number, left, sends) = shows_property emptiness emptiness_decidable e c m files a status files' sent sent' r number left sends values reads p
+  shows (Some (Universal a u c m)) range low files files' (r, values, reads, p, number, left, sends) = shows_property universality universality_decidable u c m files a status files' sent sent' r number left sends values reads p
 
 module _ (held held' : Option FileMap) (status : ℕ) (sent sent' : Option (List ℕ)) (sink sink' faults faults' puts puts' : ℕ) where
   abbrev pub Carried : Option Question → Type 0
@@ -107,13 +125,16 @@ module _ (held held' : Option FileMap) (status : ℕ) (sent sent' : Option (List
       let c' : Carried None = subst Carried none c in
       usage_at c'.end c'.ends c'.said
 
-  pub drills : (q : Option Question) → IfSome q HasNumbersInRange → Carried q → IfSome q (λ asked. Drills asked status sent sent' sink sink')
+  pub drills : (q : Option Question) → IfSome q IsProper → Carried q → IfSome q (λ asked. Drills asked status sent sent' sink sink')
   drills None range c = tt
   drills (Some (Check a b d)) range c = tt
   drills (Some (Include a b d m look limit)) range c = tt
   drills (Some (Reduce a m look)) range c = tt
   drills (Some (Union a b m)) range c = tt
   drills (Some (Intersect a b m)) range c = tt
+  drills (Some (Shrink a b d out)) range c = tt
+  drills (Some (Empty a e d m)) range c = tt
+  drills (Some (Universal a u d m)) range c = tt
   drills (Some (Drill seed states labels)) range c =
       says_drill held held' status sent sent' sink sink' faults faults' puts puts' (drawing seed states labels) (in_bounds seed states labels range) c.end c.ends c.said
 
@@ -128,7 +149,7 @@ module _ (held held' : Option FileMap) (status : ℕ) (sent sent' : Option (List
       both_same held held' (λ files files'. files' ≡ files) (λ files. refl)
       (no_puts_stay (Means q) (inputs_of q) held held' status sent sent' sink sink' faults faults' puts puts' c.end c.ends (no_outputs q none))
 
-  pub leaves : (q : Option Question) → IfSome q HasNumbersInRange → Carried q → OfBoth held held' (λ files files'. LeavesFiles q status puts puts' files files')
+  pub leaves : (q : Option Question) → IfSome q IsProper → Carried q → OfBoth held held' (λ files files'. LeavesFiles q status puts puts' files files')
   leaves None range c = stays_with None c refl
   leaves (Some (Check a b d)) range c = stays_with (Some (Check a b d)) c refl
   leaves (Some (Include a b d m look limit)) range c =
@@ -137,3 +158,6 @@ module _ (held held' : Option FileMap) (status : ℕ) (sent sent' : Option (List
   leaves (Some (Drill seed states labels)) range c = stays_with (Some (Drill seed states labels)) c refl
   leaves (Some (Union a b m)) range c = stays_with (Some (Union a b m)) c refl
   leaves (Some (Intersect a b m)) range c = stays_with (Some (Intersect a b m)) c refl
+  leaves (Some (Shrink a b d out)) range c = leaves_shrink held held' status sent sent' sink sink' faults faults' puts puts' a b d out c.end c.ends c.said
+  leaves (Some (Empty a e d m)) range c = leaves_property emptiness emptiness_decidable e d m held held' status sent sent' sink sink' faults faults' puts puts' a c.end c.ends c.said
+  leaves (Some (Universal a u d m)) range c = leaves_property universality universality_decidable u d m held held' status sent sent' sink sink' faults faults' puts puts' a c.end c.ends c.said

@@ -1,27 +1,34 @@
 -- A question whose automata read is answered.
-use Rattle.std.proofs.Common.{◌≡◌, ℕ, ◌≤◌, ◌⊎◌, List, [], ◌∷◌, Option, Some, None, IfSome, inl, inr, refl, ◌∙◌, ap, arith}
+use Rattle.std.proofs.Common.{◌≡◌, ℕ, List, [], ◌∷◌, Option, Some, None, IfSome, inl, inr, refl, ◌∙◌, ap, arith}
 use Rattle.shelf_io.specs.Shelf.{FileMap}
 use Rattle.decide.specs.Terms.{terms_of}
 use Rattle.rabit_frame.specs.declared.parts.Value.{Value}
 use Rattle.rabit_frame.specs.declared.parts.Reply.{Reply}
 use Rattle.rabit_frame.specs.declared.parts.Ending.{Ending}
 use Rattle.rabit_frame.specs.declared.parts.Ending.TheVariants as ending
+use Rattle.rabit_frame.specs.Files.{Input}
 use Rattle.rabit_frame.specs.Statuses.{status_number}
 use Rattle.rabit_frame.specs.Reading.{ReadInTurn, StopInTurn, FileStops}
 use Rattle.rabit_frame.specs.Ending.{IsReplyFor, Leaves, OfBoth, WasSaid}
 use Rattle.rabit_frame.specs.Carrying.{EndsSo, IsCarriedOut}
 use Rattle.rabit_frame.proofs.OneLemmas.{stop_or_read_in_turn}
-use Rattle.rabit_words.specs.Question.{Question, Include, Check, Reduce, Drill, Union, Intersect}
-use Rattle.rabit_cli.specs.Files.{check_limits, automaton_file, certificate_file}
-use Rattle.rabit_cli.specs.Check.{check_inputs}
+use Rattle.rabit_words.specs.Question.{Question, Include, Check, Reduce, Drill, Union, Intersect, Shrink, Empty, Universal}
+use Rattle.rabit_cli.specs.Files.{check_limits, large_limits, automaton_file, certificate_file}
 use Rattle.rabit_cli.specs.Include.{pair_inputs}
 use Rattle.rabit_cli.specs.Reduce.{reduce_inputs}
 use Rattle.rabit_cli.specs.Combine.{combined_inputs}
+use Rattle.rabit_cli.specs.Property.{property_inputs}
+use Rattle.rabit_cli.specs.Empty.{emptiness}
+use Rattle.rabit_cli.specs.Universal.{universality}
 use Rattle.rabit_cli.specs.Commands.{inputs_of, Means}
 use Rattle.rabit_cli.specs.Complete.{automata_of, MayAnswer, AnswersWhatReads}
 use Rattle.rabit_cli.proofs.CheckLemmas.{check_answers}
 use Rattle.rabit_cli.proofs.IncludeLemmas.{include_low}
-use Rattle.rabit_cli.proofs.CombineLemmas.{union_number, intersection_number}
+use Rattle.rabit_cli.proofs.CombineLemmas.{union_status, intersection_status}
+use Rattle.rabit_cli.proofs.ShrinkLemmas.{shrink_status}
+use Rattle.rabit_cli.proofs.PropertyLemmas.{decided_low}
+use Rattle.rabit_cli.proofs.EmptyLemmas.{emptiness_decidable}
+use Rattle.rabit_cli.proofs.UniversalLemmas.{universality_decidable}
 
 -- a certificate that is not read is refused
 certificate_stops : (files : FileMap) (c : List ℕ) (r : Reply) → FileStops files (certificate_file c) r → status_number r.status ≡ 5
@@ -30,22 +37,23 @@ certificate_stops files c r (bytes, has, why) = elim why [
   | inr (few, (fault, first, e)) ↦ ap (λ z. status_number z.status) e
 ]
 
-check_stops : (files : FileMap) (a b c : List ℕ) (values : List Value) → ReadInTurn files (pair_inputs a b) values → (r : Reply) → StopInTurn files (check_inputs a b c) r → status_number r.status ≡ 5
-check_stops files a b c [] reads r stop = absurd reads
-check_stops files a b c (v ∷ []) reads r stop = absurd reads.1
-check_stops files a b c (v ∷ w ∷ []) reads r stop = elim stop [
-  | inl first ↦ absurd (stop_or_read_in_turn files (automaton_file 1 check_limits a ∷ []) r (v ∷ []) (inl first) (reads.0, tt))
+-- where both automata read, only the certificate stops the reading
+third_stops : (files : FileMap) (first second : Input) (c : List ℕ) (values : List Value) → ReadInTurn files (first ∷ second ∷ []) values → (r : Reply) → StopInTurn files (first ∷ second ∷ certificate_file c ∷ []) r → status_number r.status ≡ 5
+third_stops files i j c [] reads r stop = absurd reads
+third_stops files i j c (v ∷ []) reads r stop = absurd reads.1
+third_stops files i j c (v ∷ w ∷ []) reads r stop = elim stop [
+  | inl first ↦ absurd (stop_or_read_in_turn files (i ∷ []) r (v ∷ []) (inl first) (reads.0, tt))
   | inr (v', read, later) ↦ elim later [
-    | inl second ↦ absurd (stop_or_read_in_turn files (automaton_file 2 check_limits b ∷ []) r (w ∷ []) (inl second) (reads.1.0, tt))
+    | inl second ↦ absurd (stop_or_read_in_turn files (j ∷ []) r (w ∷ []) (inl second) (reads.1.0, tt))
     | inr (w', read', last) ↦ elim last [ inl third ↦ certificate_stops files c r third | inr (x, read'', none) ↦ absurd none ]
   ]
 ]
-check_stops files a b c (v ∷ w ∷ x ∷ more) reads r stop = absurd reads.1.1
+third_stops files i j c (v ∷ w ∷ x ∷ more) reads r stop = absurd reads.1.1
 
 answers : (q : Question) (files : FileMap) (values : List Value) → ReadInTurn files (automata_of q) values → (r : Reply) → IsReplyFor (Means (Some q)) (inputs_of (Some q)) files r →
-    (n : ℕ) → n ≡ status_number r.status → MayAnswer q n
+    (n : ℕ) → n ≡ status_number r.status → MayAnswer q files n
 answers (Check a b c) files values reads r right n is = elim right [
-  | inl stop ↦ inr (inl (is ∙ check_stops files a b c values reads r stop))
+  | inl stop ↦ inr (inl (is ∙ third_stops files (automaton_file 1 check_limits a) (automaton_file 2 check_limits b) c values reads r stop))
   | inr (vs, in_turn, means) ↦ elim (check_answers vs r means) [ inl low ↦ inl (omega arith) | inr five ↦ inr (inl (is ∙ five)) ]
 ]
 answers (Include a b c m look limit) files values reads r right n is = elim right [
@@ -62,21 +70,34 @@ answers (Drill seed states labels) files values reads r right n is = elim right 
 ]
 answers (Union a b m) files values reads r right n is = elim right [
   | inl stop ↦ absurd (stop_or_read_in_turn files (combined_inputs a b) r values stop reads)
-  | inr (vs, in_turn, means) ↦ elim (union_number m vs r means) [ inl zero ↦ inl (is ∙ zero) | inr twelve ↦ inr (inl (is ∙ twelve)) ]
+  | inr (vs, in_turn, means) ↦ inl (union_status m files a b vs r in_turn means n is)
 ]
 answers (Intersect a b m) files values reads r right n is = elim right [
   | inl stop ↦ absurd (stop_or_read_in_turn files (combined_inputs a b) r values stop reads)
-  | inr (vs, in_turn, means) ↦ elim (intersection_number m vs r means) [ inl zero ↦ inl (is ∙ zero) | inr twelve ↦ inr (inl (is ∙ twelve)) ]
+  | inr (vs, in_turn, means) ↦ inl (intersection_status m files a b vs r in_turn means n is)
+]
+answers (Shrink a b c out) files values reads r right n is =
+    inl (shrink_status files a b c out r (λ stop. third_stops files (automaton_file 1 large_limits a) (automaton_file 2 check_limits b) c values reads r stop) right n is)
+answers (Empty a e c m) files values reads r right n is = elim right [
+  | inl stop ↦ absurd (stop_or_read_in_turn files (property_inputs a) r values stop reads)
+  | inr (vs, in_turn, means) ↦ (let low = decided_low emptiness emptiness_decidable e c m vs r means in inl (omega arith))
+]
+answers (Universal a u c m) files values reads r right n is = elim right [
+  | inl stop ↦ absurd (stop_or_read_in_turn files (property_inputs a) r values stop reads)
+  | inr (vs, in_turn, means) ↦ (let low = decided_low universality universality_decidable u c m vs r means in inl (omega arith))
 ]
 
 -- want of memory
-wants : (q : Question) (n : ℕ) → n ≡ 8 → MayAnswer q n
-wants (Check a b c) n e = inr (inr e)
-wants (Include a b c m look limit) n e = inr e
-wants (Reduce a m look) n e = inr e
-wants (Drill seed states labels) n e = inr e
-wants (Union a b m) n e = inr (inr e)
-wants (Intersect a b m) n e = inr (inr e)
+wants : (q : Question) (files : FileMap) (n : ℕ) → n ≡ 8 → MayAnswer q files n
+wants (Check a b c) files n e = inr (inr e)
+wants (Include a b c m look limit) files n e = inr e
+wants (Reduce a m look) files n e = inr e
+wants (Drill seed states labels) files n e = inr e
+wants (Union a b m) files n e = inr e
+wants (Intersect a b m) files n e = inr e
+wants (Shrink a b c out) files n e = inr e
+wants (Empty a e' c m) files n e = inr e
+wants (Universal a u c m) files n e = inr e
 
 module _ (held held' : Option FileMap) (status : ℕ) (sent sent' : Option (List ℕ)) (sink sink' faults faults' puts puts' : ℕ) where
   answers_on : (q : Question) (h : Option FileMap) (e : Ending) → OfBoth h held' (λ files files'. Leaves (Means (Some q)) (inputs_of (Some q)) e files files')
@@ -87,7 +108,7 @@ module _ (held held' : Option FileMap) (status : ℕ) (sent sent' : Option (List
       elim said [ inl whole ↦ inl (answers q files values reads s right status whole.0) | inr front ↦ inr (inr (inl front.1)) ]
   answers_on q (Some files) (ending.ReadFault) leaves ends said = λ values reads. inr (inl (ends.read_fault refl))
   answers_on q (Some files) (ending.WriteFault) leaves ends said = λ values reads. inr (inr (inr (ends.write_fault refl)))
-  answers_on q (Some files) (ending.OutOfMemory) leaves ends said = λ values reads. inl (wants q status (elim said [ inl whole ↦ whole.0 | inr front ↦ front.0 ]))
+  answers_on q (Some files) (ending.OutOfMemory) leaves ends said = λ values reads. inl (wants q files status (elim said [ inl whole ↦ whole.0 | inr front ↦ front.0 ]))
 
   pub answers_what_reads : (q : Option Question) → IsCarriedOut (Means q) (inputs_of q) held held' status sent sent' sink sink' faults faults' puts puts'
       → IfSome q (λ asked. IfSome held (λ files. AnswersWhatReads asked files status sink sink' faults faults' puts puts'))

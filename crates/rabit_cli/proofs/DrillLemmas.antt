@@ -1,12 +1,11 @@
 -- `drill`: one reply, and what it shows.
-use Rattle.std.proofs.Common.{◌≡◌, ℕ, ◌≤◌, List, [], ◌++◌, length, Option, inl, inr, codes, refl, sym, ◌∙◌, ap, subst, arith}
+use Rattle.std.proofs.Common.{◌≡◌, ℕ, List, [], ◌++◌, length, Option, inl, inr, refl, sym, ◌∙◌, ap, subst, arith}
 use Rattle.std.proofs.lemmas.List.{append_assoc}
 use Rattle.std.specs.Io.KnownBytes.{append_known}
 use Rattle.auto_core.specs.Outcome.{Entry, Outcome}
 use Rattle.auto_core.specs.Outcome as end
 use Rattle.ba_format.specs.declared.parts.Joined.{Joined}
 use Rattle.cert_text.specs.declared.types.Cert.{Cert}
-use Rattle.cert_text.specs.declared.types.Body.{Body}
 use Rattle.cert_text.specs.declared.types.Body.TheVariants.{NoWord}
 use Rattle.decide.specs.Answer.{Reductions, IsAnswer, IsBodyOf}
 use Rattle.decide.specs.Terms.{AreBounded}

@@ -1,5 +1,5 @@
 -- `include`: one reply, what it shows, and what it leaves.
-use Rattle.std.proofs.Common.{◌≡◌, ℕ, ◌≤◌, List, [], ◌∷◌, Option, inl, inr, refl, sym, ◌∙◌, ap, subst, arith}
+use Rattle.std.proofs.Common.{◌≡◌, ℕ, ◌≤◌, List, [], ◌∷◌, Option, refl, sym, ◌∙◌, ap, subst, arith}
 use Rattle.std.specs.FinMap as map
 use Rattle.std.specs.Io.KnownBytes.{append_known}
 use Rattle.shelf_io.specs.Shelf.{FileMap}
@@ -32,7 +32,7 @@ use Rattle.rabit_frame.specs.Carrying.{EndsSo}
 use Rattle.rabit_frame.proofs.EndLemmas.{leaves_by_status}
 use Rattle.rabit_cli.specs.Printed.{limit_text}
 use Rattle.rabit_cli.specs.Files.{check_limits, ReadsPair}
-use Rattle.rabit_cli.specs.Replies.{IsVerdictReply, TellsApart}
+use Rattle.rabit_cli.specs.Replies.{IsVerdictReply, SaysApart}
 use Rattle.rabit_cli.specs.Include.{pair_inputs, certificate_put, MeansInclude, IsCertFor, HoldsAnswer, HoldsFront, LeavesDecided, ShowsInclude}
 use Rattle.rabit_cli.proofs.PairLemmas.{can_decide}
 use Rattle.rabit_cli.proofs.VerdictLemmas.{one_verdict, puts_of_verdict, low_verdict}
@@ -67,7 +67,7 @@ limit_of at terms S (end.Closed es) l is = absurd is
 limit_of at terms S (end.Apart x y) l is = absurd is
 limit_of at terms S (end.Limit es) l is = is.limit_is
 
-limit_in : (pair : Joined) (terms : Terms) (cert : Cert) → IsAnswer pair terms cert → (l : ListBody) → cert.body ≡ Listing l → l.limit ≡ terms.limit
+pub limit_in : (pair : Joined) (terms : Terms) (cert : Cert) → IsAnswer pair terms cert → (l : ListBody) → cert.body ≡ Listing l → l.limit ≡ terms.limit
 limit_in pair terms cert (at, ends, answer) l body = limit_of at terms answer.pairs answer.outcome l (subst (IsBodyOf at terms answer.pairs answer.outcome) body answer.body)
 
 module _ (files : FileMap) (a b c : List ℕ) (terms : Terms) (bounds : AreBounded terms) where
@@ -121,7 +121,7 @@ module _ (files : FileMap) (a b c : List ℕ) (terms : Terms) (bounds : AreBound
             read = is.read;
             answer = is.answer;
             valid = is.valid;
-            apart = subst (λ b. TellsApart pair b sent sent') (sym body) (subst (SaysTruth pair terms) body is.truth, sends ∙ ap (λ z. append_known sent z.text) says);
+            apart = subst (λ b. SaysApart pair b sent sent') (sym body) (subst (SaysTruth pair terms) body is.truth, sends ∙ ap (λ z. append_known sent z.text) says);
             held = held;
           };
           limit_met = λ e. absurd (omega arith);
@@ -136,7 +136,7 @@ module _ (files : FileMap) (a b c : List ℕ) (terms : Terms) (bounds : AreBound
             read = is.read;
             answer = is.answer;
             valid = is.valid;
-            apart = subst (λ b. TellsApart pair b sent sent') (sym body) (subst (SaysTruth pair terms) body is.truth, sends ∙ ap (λ z. append_known sent z.text) says);
+            apart = subst (λ b. SaysApart pair b sent sent') (sym body) (subst (SaysTruth pair terms) body is.truth, sends ∙ ap (λ z. append_known sent z.text) says);
             held = held;
           };
           limit_met = λ e. absurd (omega arith);
@@ -176,7 +176,7 @@ module _ (files : FileMap) (a b c : List ℕ) (terms : Terms) (bounds : AreBound
   holds_front files' values r reads means cut =
       let (pair, cert, is, says) = reads_cert values r reads means in
       let cut' = subst (λ ps. IsCutShort files ps files') (puts_of_verdict terms.mode pair cert.body (certificate_put c cert ∷ []) r says) cut in
-      (pair, cert, is, elim cut' [ inl stays ↦ inl stays | inr more ↦ elim more [ inl front ↦ inr front | inr none ↦ absurd none ] ])
+      (pair, cert, is, cut')
 
 -- what it leaves
 module _ (held held' : Option FileMap) (status : ℕ) (sent sent' : Option (List ℕ)) (sink sink' faults faults' puts puts' : ℕ) (a b c : List ℕ) (terms : Terms) (bounds : AreBounded terms) where

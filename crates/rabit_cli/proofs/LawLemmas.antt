@@ -1,5 +1,6 @@
 -- What a check says of what a decision wrote.
-use Rattle.std.proofs.Common.{◌≡◌, ℕ, List, [], ◌∷◌, cond, Some, inl, inr, refl, sym, ◌∙◌, ap, subst}
+use Rattle.std.proofs.Common.{◌≡◌, ◌≤◌, ◌^◌, ℕ, List, [], ◌∷◌, length, arith, cond, Some, inl, inr, refl, sym, ◌∙◌, ap, subst}
+use Rattle.std.specs.Prelude.{All}
 use Rattle.std.proofs.lemmas.Bool.{false_from_ne_true}
 use Rattle.std.proofs.lemmas.Cmp.{nat_list_cmp_total}
 use Rattle.std.proofs.lemmas.Map.Text.{is_eq-slice_cmp}
@@ -23,30 +24,33 @@ use Rattle.decide.proofs.UniqueLemmas.{one_answer}
 use Rattle.rabit_frame.specs.declared.parts.Value.{Value}
 use Rattle.rabit_frame.specs.declared.parts.Value.TheVariants as value
 use Rattle.rabit_frame.specs.declared.parts.Reply.{Reply}
-use Rattle.rabit_frame.specs.Files.{Output}
-use Rattle.rabit_frame.specs.Reading.{only_said}
+use Rattle.rabit_frame.specs.Files.{Input, Output}
+use Rattle.rabit_frame.specs.Reading.{only_said, FileReads}
+use Rattle.rabit_cli.specs.Files.{check_limits, automaton_file}
 use Rattle.rabit_frame.proofs.OneLemmas.{one_read_in_turn, stop_or_read_in_turn}
-use Rattle.rabit_cli.specs.Files.{FileReadsAs}
 use Rattle.rabit_cli.specs.Replies.{IsVerdictReply}
 use Rattle.rabit_cli.specs.Include.{pair_inputs, certificate_put}
-use Rattle.rabit_cli.specs.Laws.{CheckAgrees, AnswersAreAccepted}
-use Rattle.rabit_cli.proofs.IncludeLemmas.{cert_for}
+use Rattle.rabit_cli.specs.Laws.{IsCheckReply, CheckAgrees, IncludeIsChecked, AnswersAreAccepted}
+use Rattle.rabit_cli.proofs.IncludeLemmas.{cert_for, reads_cert}
+use Rattle.rabit_cli.proofs.VerdictLemmas.{puts_of_verdict}
+use Rattle.rabit_frame.specs.Ending.{filed}
+use Rattle.rabit_frame.proofs.EndLemmas.{stop_plain}
 
 -- what the written name holds, and what the others do
 module _ (files : FileMap) (c bytes : List ℕ) where
   found : (name : List ℕ) → map.get (map.insert files c bytes) name ≡ cond (bytes_eq name c) (Some bytes) (map.get files name)
   found name = get-insert nat_list_cmp_total files c bytes name ∙ ap (λ b. cond b (Some bytes) (map.get files name)) (is_eq-slice_cmp name c)
 
-  written : map.get (map.insert files c bytes) c ≡ Some bytes
+  pub written : map.get (map.insert files c bytes) c ≡ Some bytes
   written = found c ∙ ap (λ b. cond b (Some bytes) (map.get files c)) ((bytes_eq-Decides c c).1 refl)
 
-  other : (name : List ℕ) → (c ≡ name → ⊥) → map.get (map.insert files c bytes) name ≡ map.get files name
+  pub other : (name : List ℕ) → (c ≡ name → ⊥) → map.get (map.insert files c bytes) name ≡ map.get files name
   other name differ =
       found name
       ∙ ap (λ b. cond b (Some bytes) (map.get files name)) (false_from_ne_true (bytes_eq name c) (λ t. differ (sym ((bytes_eq-Decides name c).0 t))))
 
-  reads_still : (name : List ℕ) (named : Named) → (c ≡ name → ⊥) → FileReadsAs files name named → FileReadsAs (map.insert files c bytes) name named
-  reads_still name named differ (b, has, few, reads) = (b, other name differ ∙ has, few, reads)
+  pub reads_still : (input : Input) (v : Value) → (c ≡ input.name → ⊥) → FileReads files input v → FileReads (map.insert files c bytes) input v
+  reads_still input v differ (b, has, few, reads) = (b, other input.name differ ∙ has, few, reads)
 
 -- the verdict without the files that are written
 said_alone : (m : Mode) (pair : Joined) (body : Body) (puts : List Output) (r : Reply) → IsVerdictReply m pair body puts r → IsVerdictReply m pair body [] (only_said r.status r.text)
@@ -82,17 +86,29 @@ check_agrees files a b c terms pair cert r not_a not_b bounds read answer few ri
     ] in
     inr (
       value.Automaton one ∷ value.Automaton two ∷ value.Certificate cert ∷ [],
-      (reads_still files c (text cert) a one not_a first, (reads_still files c (text cert) b two not_b second, ((text cert, written files c (text cert), few, (is.formed, refl)), tt))),
+      (reads_still files c (text cert) (automaton_file 1 check_limits a) (value.Automaton one) not_a first, (reads_still files c (text cert) (automaton_file 2 check_limits b) (value.Automaton two) not_b second, ((text cert, written files c (text cert), few, (is.formed, refl)), tt))),
       (one, two, cert, refl, (pair, joined, inr (is.valid.keeps, said_alone cert.mode pair cert.body (certificate_put c cert ∷ []) r (subst (λ m. IsVerdictReply m pair cert.body (certificate_put c cert ∷ []) r) (sym (mode_of is.answer)) says)))),
     )
+
+pub include_checked : IncludeIsChecked
+include_checked files a b c terms r not_a not_b bounds right low short =
+    elim right [
+      | inl stop ↦ let high = (stop_plain files (pair_inputs a b) r stop).0 in absurd (omega (arith, high, low))
+      | inr (values, reads, means) ↦
+          let (pair, cert, is, says) = reads_cert files a b c terms bounds values r reads means in
+          let puts : r.puts ≡ certificate_put c cert ∷ [] = puts_of_verdict terms.mode pair cert.body (certificate_put c cert ∷ []) r says in
+          let S : List Output → Type 0 = All (λ (put : Output). length put.bytes ≤ 2 ^ 30) in
+          let few : length (text cert) ≤ 2 ^ 30 = subst S puts short 0 (certificate_put c cert) (omega arith) in
+          let C : List Output → Type 0 = λ ps. IsCheckReply (filed files ps) a b c (only_said r.status r.text) in
+          subst C (sym puts) (check_agrees files a b c terms pair cert r not_a not_b bounds is.read is.answer few (inr (values, reads, means)))
+    ]
 
 pub answers_accepted : AnswersAreAccepted
 answers_accepted files a b c terms pair cert r bounds read answer held says =
     let is = cert_for files a b c terms bounds pair cert read answer in
     let (one, two, first, second, joined) = read in
-    let (bytes, has, few, formed, text_is) = held in
     inr (
       value.Automaton one ∷ value.Automaton two ∷ value.Certificate cert ∷ [],
-      (first, (second, ((bytes, has, few, (formed, text_is)), tt))),
+      (first, (second, (held, tt))),
       (one, two, cert, refl, (pair, joined, inr (is.valid.keeps, says))),
     )

@@ -7,6 +7,12 @@ pub mod IncludeLemmas
 pub mod ReduceLemmas
 pub mod DrillLemmas
 pub mod CombineLemmas
+pub mod ShrinkLemmas
+pub mod OwnLemmas
+pub mod PropertyLemmas
+pub mod EmptyLemmas
+pub mod UniversalLemmas
 pub mod CommandLemmas
 pub mod CompleteLemmas
 pub mod LawLemmas
+pub mod CheckedLemmas

@@ -10,28 +10,23 @@ use Rattle.cert_text.specs.declared.types.Cert.{Cert}
 use Rattle.cert_text.specs.declared.types.YesBody.{YesBody}
 use Rattle.cert_text.specs.declared.types.ListBody.{ListBody}
 use Rattle.cert_text.specs.declared.types.Body.TheVariants.{Yes, Listing}
-use Rattle.log_check.specs.declared.faults.Refusal.{Refusal}
-use Rattle.cert_check.specs.Rules.{KeepsRules, BreaksRule, ListsRuns}
+use Rattle.cert_check.specs.Rules.{KeepsRules, ListsRuns}
 use Rattle.cert_check.specs.Laws.{IsValid}
 use Rattle.rabit_frame.specs.declared.parts.Value.{Value}
 use Rattle.rabit_frame.specs.declared.parts.Value.TheVariants as value
-use Rattle.rabit_frame.specs.declared.parts.Status.TheVariants as status
 use Rattle.rabit_frame.specs.declared.parts.Reply.{Reply}
 use Rattle.rabit_frame.specs.Files.{Input}
-use Rattle.rabit_frame.specs.Reading.{only_said}
-use Rattle.rabit_cli.specs.Printed.{refused_text, included_text, limit_text}
-use Rattle.rabit_cli.specs.Files.{check_limits, automaton_file, certificate_file, ReadsPair, HoldsCertificate}
-use Rattle.rabit_cli.specs.Replies.{IsVerdictReply, TellsApart}
+use Rattle.rabit_cli.specs.Printed.{included_text, limit_text}
+use Rattle.rabit_cli.specs.Files.{check_limits, automaton_file, certificate_file, ReadsPair, ReadsCertificate}
+use Rattle.rabit_cli.specs.Replies.{IsRefusedReply, IsVerdictReply, SaysApart}
 
 -- The files that it reads: the two automata, and then the certificate.
 abbrev pub check_inputs : List ℕ → List ℕ → List ℕ → List Input
 check_inputs a b c = automaton_file 1 check_limits a ∷ automaton_file 2 check_limits b ∷ certificate_file c ∷ []
 
--- The reply to two joined automata and a certificate: a rule is broken, the first being this one, or the certificate is valid.
+-- The reply to two joined automata and a certificate: it is refused, or it is valid and its verdict is said.
 abbrev pub Concludes : Joined → Cert → Reply → Type 0
-Concludes pair cert r =
-    ((refusal : Refusal) × BreaksRule pair cert refusal × (r ≡ only_said status.BadCertificate (refused_text refusal)))
-    ⊎ (KeepsRules pair cert × IsVerdictReply cert.mode pair cert.body [] r)
+Concludes pair cert r = IsRefusedReply pair cert r ⊎ (KeepsRules pair cert × IsVerdictReply cert.mode pair cert.body [] r)
 
 -- The reply to what was read.
 abbrev pub MeansCheck : List Value → Reply → Type 0
@@ -47,9 +42,9 @@ pub record IsApart (files : FileMap) (a b c : List ℕ) (sent sent' : Option (Li
   pub pair : Joined
   pub cert : Cert
   pub read : ReadsPair files a b pair
-  pub certificate : HoldsCertificate files c cert
+  pub certificate : ReadsCertificate files c cert
   pub valid : IsValid pair cert
-  pub apart : TellsApart pair cert.body sent sent'
+  pub apart : SaysApart pair cert.body sent sent'
 
 -- It said yes: the named files read as two automata, the certificate says yes and keeps all rules, the second automaton accepts
 -- each lasso, in finite mode each word, that the first accepts, and that was printed.
@@ -58,7 +53,7 @@ pub record IsIncluded (files : FileMap) (a b c : List ℕ) (sent sent' : Option 
   pub cert : Cert
   pub evidence : YesBody
   pub read : ReadsPair files a b pair
-  pub certificate : HoldsCertificate files c cert
+  pub certificate : ReadsCertificate files c cert
   pub says_yes : cert.body ≡ Yes evidence
   pub valid : IsValid pair cert
   pub includes : Includes pair.first pair.second cert.mode
@@ -72,7 +67,7 @@ pub record IsListed (files : FileMap) (a b c : List ℕ) (sent sent' : Option (L
   pub cert : Cert
   pub list : ListBody
   pub read : ReadsPair files a b pair
-  pub certificate : HoldsCertificate files c cert
+  pub certificate : ReadsCertificate files c cert
   pub lists : cert.body ≡ Listing list
   pub valid : IsValid pair cert
   pub different : ListsRuns cert.mode pair (list.limit + 1) list

@@ -3,7 +3,7 @@ use Rattle.std.specs.Prelude.{◌≡◌, ◌⊎◌, List, [], ◌∷◌, ℕ, Op
 use Rattle.std.specs.Io.KnownBytes.{append_known}
 use Rattle.shelf_io.specs.Shelf.{FileMap}
 use Rattle.auto_core.specs.Automaton.{Automaton}
-use Rattle.auto_ops.specs.Limits.{IsWithinLimits}
+use Rattle.auto_ops.specs.Limits.{IsSmallResult}
 use Rattle.ba_format.specs.declared.parts.Limits.{Limits}
 use Rattle.ba_format.specs.declared.parts.Named.{Named}
 use Rattle.ba_format.specs.declared.parts.Joined.{Joined}
@@ -35,7 +35,12 @@ MeansCombined replies values r =
 abbrev pub IsCombinedReply : (Automaton → Type 0) → Type 0 → List (List ℕ) → Reply → Type 0
 IsCombinedReply is_result is_too_large labels r =
     (is_too_large × (r ≡ too_large_reply))
-    ⊎ ((C : Automaton) × is_result C × IsWithinLimits C × (r ≡ only_said status.Done (written C labels)))
+    ⊎ ((C : Automaton) × is_result C × IsSmallResult C × (r ≡ only_said status.Done (written C labels)))
+
+-- The status of a result for these files: 12 if that of the two automata would be too large, and otherwise 0.
+abbrev pub IsCombinedStatus : (Joined → Type 0) → FileMap → List ℕ → List ℕ → ℕ → Type 0
+IsCombinedStatus is_too_large files a b status =
+    (pair : Joined) × ReadsLargePair files a b pair × ((is_too_large pair × (status ≡ 12)) ⊎ (¬ is_too_large pair × (status ≡ 0)))
 
 -- The automaton with the texts of its labels.
 abbrev pub with_texts : Automaton → List (List ℕ) → Named
@@ -54,7 +59,7 @@ pub record IsCombinedShown (files : FileMap) (a b : List ℕ) (is_result accepts
   pub made : Automaton
   pub read : ReadsLargePair files a b pair
   pub is_made : is_result pair made
-  pub within : IsWithinLimits made
+  pub within : IsSmallResult made
   pub accepts_so : accepts pair made
   pub reads_back : ReadsBackFor pair (accepts pair) (written made pair.labels)
   pub printed : sent' ≡ append_known sent (written made pair.labels)

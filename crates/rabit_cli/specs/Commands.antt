@@ -7,7 +7,7 @@ use Rattle.rabit_frame.specs.declared.parts.Reply.{Reply}
 use Rattle.rabit_frame.specs.Files.{Input}
 use Rattle.rabit_frame.specs.Lines.{memory_line}
 use Rattle.rabit_frame.specs.Ending.{SaysOnly}
-use Rattle.rabit_words.specs.Question.{Question, Include, Check, Reduce, Drill, Union, Intersect}
+use Rattle.rabit_words.specs.Question.{Question, Include, Check, Reduce, Drill, Union, Intersect, Shrink, Empty, Universal}
 use Rattle.rabit_cli.specs.Printed.{usage_text}
 use Rattle.rabit_cli.specs.Replies.{usage_reply}
 use Rattle.rabit_cli.specs.Check.{check_inputs, MeansCheck, ShowsCheck}
@@ -17,6 +17,10 @@ use Rattle.rabit_cli.specs.Drill.{MeansDrill, ShowsDrill, SaysDrill}
 use Rattle.rabit_cli.specs.Combine.{combined_inputs}
 use Rattle.rabit_cli.specs.Union.{MeansUnion, ShowsUnion}
 use Rattle.rabit_cli.specs.Intersect.{MeansIntersect, ShowsIntersect}
+use Rattle.rabit_cli.specs.Shrink.{shrink_inputs, MeansShrink, ShowsShrink, LeavesShrunk}
+use Rattle.rabit_cli.specs.Property.{property_inputs, MeansProperty, ShowsProperty, LeavesBoth}
+use Rattle.rabit_cli.specs.Empty.{emptiness}
+use Rattle.rabit_cli.specs.Universal.{universality}
 
 -- The files that are read, in order.
 abbrev pub inputs_of : Option Question → List Input
@@ -27,10 +31,16 @@ inputs_of (Some (Reduce a mode look)) = reduce_inputs a
 inputs_of (Some (Drill seed states labels)) = []
 inputs_of (Some (Union a b mode)) = combined_inputs a b
 inputs_of (Some (Intersect a b mode)) = combined_inputs a b
+inputs_of (Some (Shrink a b c out)) = shrink_inputs a b c
+inputs_of (Some (Empty a e c mode)) = property_inputs a
+inputs_of (Some (Universal a u c mode)) = property_inputs a
 
 -- The names of the files that may be written.
 abbrev pub outputs_of : Option Question → List (List ℕ)
 outputs_of (Some (Include a b c mode look limit)) = c ∷ []
+outputs_of (Some (Shrink a b c out)) = out ∷ []
+outputs_of (Some (Empty a e c mode)) = e ∷ c ∷ []
+outputs_of (Some (Universal a u c mode)) = u ∷ c ∷ []
 outputs_of question = []
 
 -- Which reply is right for what the files read as.
@@ -42,6 +52,9 @@ Means (Some (Reduce a mode look)) values r = MeansReduce mode look values r
 Means (Some (Drill seed states labels)) values r = MeansDrill (record { seed = seed; states = states; labels = labels }) values r
 Means (Some (Union a b mode)) values r = MeansUnion mode values r
 Means (Some (Intersect a b mode)) values r = MeansIntersect mode values r
+Means (Some (Shrink a b c out)) values r = MeansShrink out values r
+Means (Some (Empty a e c mode)) values r = MeansProperty emptiness e c mode values r
+Means (Some (Universal a u c mode)) values r = MeansProperty universality u c mode values r
 
 -- What a status up to 2 shows of the files before and after, and of what was sent. Words that are no question have no status up to 2.
 abbrev pub Shows : Option Question → ℕ → FileMap → FileMap → Option (List ℕ) → Option (List ℕ) → Type 0
@@ -51,6 +64,9 @@ Shows (Some (Reduce a mode look)) status files files' sent sent' = ShowsReduce f
 Shows (Some (Drill seed states labels)) status files files' sent sent' = ShowsDrill (record { seed = seed; states = states; labels = labels }) status sent sent'
 Shows (Some (Union a b mode)) status files files' sent sent' = ShowsUnion files a b mode status sent sent'
 Shows (Some (Intersect a b mode)) status files files' sent sent' = ShowsIntersect files a b mode status sent sent'
+Shows (Some (Shrink a b c out)) status files files' sent sent' = ShowsShrink files a b c out status files' sent sent'
+Shows (Some (Empty a e c mode)) status files files' sent sent' = ShowsProperty emptiness files a e c mode status files' sent sent'
+Shows (Some (Universal a u c mode)) status files files' sent sent' = ShowsProperty universality files a u c mode status files' sent sent'
 Shows None status files files' sent sent' = ⊥
 
 -- What a drill says, whatever the shelf tells.
@@ -58,9 +74,13 @@ abbrev pub Drills : Question → ℕ → Option (List ℕ) → Option (List ℕ)
 Drills (Drill seed states labels) status sent sent' sink sink' = SaysDrill (record { seed = seed; states = states; labels = labels }) status sent sent' sink sink'
 Drills question status sent sent' sink sink' = Unit {0}
 
--- What the files are afterwards: only a decision writes, and only its certificate's file.
+-- What the files are afterwards: only a decision and a shrinking write, and only the file of a certificate, and `empty` and `universal` the made
+-- automaton's too.
 abbrev pub LeavesFiles : Option Question → ℕ → ℕ → ℕ → FileMap → FileMap → Type 0
 LeavesFiles (Some (Include a b c mode look limit)) status puts puts' files files' = LeavesDecided files a b c (terms_of mode look limit) status puts puts' files'
+LeavesFiles (Some (Shrink a b c out)) status puts puts' files files' = LeavesShrunk files a b c out status puts puts' files'
+LeavesFiles (Some (Empty a e c mode)) status puts puts' files files' = LeavesBoth emptiness files a e c mode status puts puts' files'
+LeavesFiles (Some (Universal a u c mode)) status puts puts' files files' = LeavesBoth universality files a u c mode status puts puts' files'
 LeavesFiles question status puts puts' files files' = files' ≡ files
 
 -- The words ask nothing, and how the program is used was said, with status 3; or want of memory was.

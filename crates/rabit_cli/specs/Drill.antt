@@ -8,7 +8,6 @@ use Rattle.cert_text.specs.declared.types.Cert.{Cert}
 use Rattle.cert_text.specs.declared.types.Body.{Body}
 use Rattle.cert_text.specs.declared.types.Body.TheVariants.{Yes, NoLasso, NoWord, Listing}
 use Rattle.decide.specs.declared.terms.Terms.{Terms}
-use Rattle.decide.specs.Terms.{terms_of}
 use Rattle.decide.specs.Answer.{IsAnswer}
 use Rattle.decide.specs.Laws.{SaysTruth}
 use Rattle.drawing.specs.declared.parts.Drill.{Drill}
@@ -19,10 +18,11 @@ use Rattle.rabit_frame.specs.declared.parts.Reply.{Reply}
 use Rattle.rabit_frame.specs.Lines.{line_end, memory_line}
 use Rattle.rabit_frame.specs.Ending.{WasGiven, SaysOnly}
 use Rattle.rabit_frame.specs.Reading.{only_said}
+use Rattle.rabit_cli.specs.Include.{usual_terms}
 
--- A drill decides over lassos, at lookahead 3 and limit 20,000.
+-- A drill decides over lassos, at the usual lookahead and limit.
 abbrev pub drill_terms : Terms
-drill_terms = terms_of Buchi 3 20000
+drill_terms = usual_terms Buchi
 
 -- The two automata in the other order.
 abbrev pub exchanged : Joined → Joined

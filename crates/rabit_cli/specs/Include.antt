@@ -1,9 +1,10 @@
 -- `include A B CERT`, with `--finite`, `--look K` and `--limit N`
-use Rattle.std.specs.Prelude.{◌≡◌, ℕ, ◌⊎◌, List, [], ◌∷◌, take, Option}
+use Rattle.std.specs.Prelude.{◌≡◌, ℕ, List, [], ◌∷◌, Option}
 use Rattle.std.specs.FinMap as map
 use Rattle.std.specs.Io.KnownBytes.{append_known}
 use Rattle.shelf_io.specs.Shelf.{FileMap}
 use Rattle.auto_core.specs.Accept.{Includes}
+use Rattle.auto_core.specs.declared.parts.Mode.{Mode}
 use Rattle.ba_format.specs.declared.parts.Named.{Named}
 use Rattle.ba_format.specs.declared.parts.Joined.{Joined}
 use Rattle.ba_format.specs.Joining.{IsJoined}
@@ -15,16 +16,23 @@ use Rattle.cert_text.specs.Text.{text}
 use Rattle.cert_text.specs.WellFormed.{WellFormed}
 use Rattle.cert_check.specs.Laws.{IsValid}
 use Rattle.decide.specs.declared.terms.Terms.{Terms}
+use Rattle.decide.specs.Terms.{terms_of}
 use Rattle.decide.specs.Answer.{IsAnswer}
 use Rattle.decide.specs.Laws.{SaysTruth, StandApart, ListsNew}
 use Rattle.rabit_frame.specs.declared.parts.Value.{Value}
 use Rattle.rabit_frame.specs.declared.parts.Value.TheVariants as value
 use Rattle.rabit_frame.specs.declared.parts.Reply.{Reply}
 use Rattle.rabit_frame.specs.Files.{Input, Output}
+use Rattle.rabit_frame.specs.Ending.{IsCutShort}
 use Rattle.rabit_frame.specs.Carrying.{LeavesByStatus}
+use Rattle.rabit_words.specs.Question.{usual_look, usual_limit}
 use Rattle.rabit_cli.specs.Printed.{included_text, limit_text}
 use Rattle.rabit_cli.specs.Files.{check_limits, automaton_file, ReadsPair}
-use Rattle.rabit_cli.specs.Replies.{IsVerdictReply, TellsApart}
+use Rattle.rabit_cli.specs.Replies.{IsVerdictReply, SaysApart}
+
+-- The terms of a decision that names neither a lookahead nor a limit.
+abbrev pub usual_terms : Mode → Terms
+usual_terms mode = terms_of mode usual_look usual_limit
 
 -- The files that it reads: the two automata.
 abbrev pub pair_inputs : List ℕ → List ℕ → List Input
@@ -62,10 +70,7 @@ HoldsAnswer files a b c terms files' =
 -- The name holds a front of that text, or what it held before, and all other files are as before.
 abbrev pub HoldsFront : FileMap → List ℕ → List ℕ → List ℕ → Terms → FileMap → Type 0
 HoldsFront files a b c terms files' =
-    (pair : Joined)
-    × (cert : Cert)
-    × IsCertFor files a b terms pair cert
-    × ((files' ≡ files) ⊎ ((n : ℕ) × (files' ≡ map.insert files c (take n (text cert)))))
+    (pair : Joined) × (cert : Cert) × IsCertFor files a b terms pair cert × IsCutShort files (certificate_put c cert ∷ []) files'
 
 -- What it leaves, by its status: a verdict comes with the certificate's whole text. A write fault leaves that too where the
 -- verdict could not be sent, and where the shelf's count rose a front of it or what was there before. Nothing else writes a file.
@@ -81,7 +86,7 @@ pub record IsDecidedApart (files : FileMap) (a b c : List ℕ) (terms : Terms) (
   pub read : ReadsPair files a b pair
   pub answer : IsAnswer pair terms cert
   pub valid : IsValid pair cert
-  pub apart : TellsApart pair cert.body sent sent'
+  pub apart : SaysApart pair cert.body sent sent'
   pub held : files' ≡ map.insert files c (text cert)
 
 -- It said yes, with the same of a yes: the logs lead to settled automata, and no live element subsumes another.

@@ -9,7 +9,7 @@ use Rattle.auto_ops.specs.Intersection.{IsIntersection, IsIntersectionTooLarge}
 use Rattle.ba_format.specs.declared.parts.Joined.{Joined}
 use Rattle.rabit_frame.specs.declared.parts.Value.{Value}
 use Rattle.rabit_frame.specs.declared.parts.Reply.{Reply}
-use Rattle.rabit_cli.specs.Combine.{IsCombinedReply, MeansCombined, ShowsCombined}
+use Rattle.rabit_cli.specs.Combine.{IsCombinedReply, MeansCombined, IsCombinedStatus, ShowsCombined}
 
 -- The intersection of the two joined automata.
 abbrev pub IsIntersectionOf : Mode → Joined → Automaton → Type 0
@@ -18,6 +18,10 @@ IsIntersectionOf mode pair = IsIntersection mode pair.first pair.second
 -- The reply to two joined automata.
 abbrev pub IsIntersectionReply : Mode → Joined → Reply → Type 0
 IsIntersectionReply mode pair r = IsCombinedReply (IsIntersectionOf mode pair) (IsIntersectionTooLarge mode pair.first pair.second) pair.labels r
+
+-- The status of a result for these files: 12 if the intersection is too large, and otherwise 0.
+abbrev pub IsIntersectionStatus : Mode → FileMap → List ℕ → List ℕ → ℕ → Type 0
+IsIntersectionStatus mode = IsCombinedStatus (λ pair. IsIntersectionTooLarge mode pair.first pair.second)
 
 -- The reply to what was read.
 abbrev pub MeansIntersect : Mode → List Value → Reply → Type 0

@@ -1,5 +1,5 @@
 -- What a check says of what a decision wrote.
-use Rattle.std.specs.Prelude.{◌≢◌, ◌≤◌, ◌^◌, ℕ, List, [], length}
+use Rattle.std.specs.Prelude.{◌≡◌, ◌≢◌, ◌≤◌, ◌^◌, ℕ, List, [], length, All}
 use Rattle.std.specs.FinMap as map
 use Rattle.shelf_io.specs.Shelf.{FileMap}
 use Rattle.ba_format.specs.declared.parts.Joined.{Joined}
@@ -8,13 +8,26 @@ use Rattle.cert_text.specs.Text.{text}
 use Rattle.decide.specs.Answer.{IsAnswer}
 use Rattle.decide.specs.Terms.{AreBounded}
 use Rattle.decide.specs.declared.terms.Terms.{Terms}
+use Rattle.auto_core.specs.declared.parts.Mode.{Mode}
+use Rattle.ba_format.specs.declared.parts.Limits.{Limits}
+use Rattle.ba_format.specs.declared.parts.Named.{Named}
+use Rattle.ba_format.specs.Laws.{IsLabelText}
+use Rattle.ba_format.specs.Reading.{Reads}
+use Rattle.ba_format.specs.Sight.{AreDifferent}
+use Rattle.ba_format.specs.Writing.{written}
+use Rattle.rabit_words.specs.Question.{NamesDiffer}
 use Rattle.rabit_frame.specs.declared.parts.Reply.{Reply}
+use Rattle.rabit_frame.specs.Files.{Output}
+use Rattle.rabit_frame.specs.Statuses.{status_number}
 use Rattle.rabit_frame.specs.Reading.{only_said}
-use Rattle.rabit_frame.specs.Ending.{IsReplyFor}
-use Rattle.rabit_cli.specs.Files.{ReadsPair, HoldsCertificate}
+use Rattle.rabit_frame.specs.Ending.{IsReplyFor, filed}
+use Rattle.rabit_cli.specs.Files.{ReadsPair, ReadsCertificate}
 use Rattle.rabit_cli.specs.Replies.{IsVerdictReply}
 use Rattle.rabit_cli.specs.Check.{check_inputs, MeansCheck}
 use Rattle.rabit_cli.specs.Include.{pair_inputs, MeansInclude}
+use Rattle.rabit_cli.specs.Property.{Property, IsPropertyCertFor, IsPropertyReply, property_puts}
+use Rattle.rabit_cli.specs.Empty.{empty_text, AcceptsNothing, emptiness}
+use Rattle.rabit_cli.specs.Universal.{all_loops, AcceptsAll, universality}
 
 -- The right reply of `check A B CERT` for these files.
 abbrev pub IsCheckReply : FileMap → List ℕ → List ℕ → List ℕ → Reply → Type 0
@@ -31,6 +44,19 @@ CheckAgrees =
     (files : FileMap) (a b c : List ℕ) (terms : Terms) (pair : Joined) (cert : Cert) (r : Reply) → c ≢ a → c ≢ b → AreBounded terms → ReadsPair files a b pair → IsAnswer pair terms cert → length (text cert) ≤ 2 ^ 30 →
     IsIncludeReply files a b c terms r → IsCheckReply (map.insert files c (text cert)) a b c (only_said r.status r.text)
 
+-- Where the certificate's name is none of the two others, and the decision comes to a verdict and writes at most 1 GiB, a check of the files that
+-- it leaves says what it said.
+abbrev pub IncludeIsChecked : Type 0
+IncludeIsChecked =
+    (files : FileMap) (a b c : List ℕ) (terms : Terms) (r : Reply)
+    → c ≢ a
+    → c ≢ b
+    → AreBounded terms
+    → IsIncludeReply files a b c terms r
+    → status_number r.status ≤ 2
+    → All (λ (put : Output). length put.bytes ≤ 2 ^ 30) r.puts
+    → IsCheckReply (filed files r.puts) a b c (only_said r.status r.text)
+
 -- Wherever a file of at most 1 GiB holds the text of an answer, a check of it for the two automata that it answers has that verdict.
 abbrev pub AnswersAreAccepted : Type 0
 AnswersAreAccepted =
@@ -38,6 +64,41 @@ AnswersAreAccepted =
     → AreBounded terms
     → ReadsPair files a b pair
     → IsAnswer pair terms cert
-    → HoldsCertificate files c cert
+    → ReadsCertificate files c cert
     → IsVerdictReply cert.mode pair cert.body [] r
     → IsCheckReply files a b c r
+
+-- Whatever the text that `empty` makes reads as accepts nothing.
+abbrev pub EmptyTextAcceptsNothing : Type 0
+EmptyTextAcceptsNothing = (limits : Limits) (named : Named) (mode : Mode) → Reads empty_text limits named → AcceptsNothing mode named.auto
+
+-- Whatever the text that `universal` makes for some labels reads as has them in their order, and accepts everything over them.
+abbrev pub UniversalTextAcceptsAll : Type 0
+UniversalTextAcceptsAll =
+    (labels : List (List ℕ)) (limits : Limits) (named : Named) (mode : Mode)
+    → length labels ≤ 256
+    → All IsLabelText labels
+    → AreDifferent labels
+    → Reads (written (all_loops (length labels)) labels) limits named
+    → (named.labels ≡ labels) × AcceptsAll mode named.auto
+
+-- Where the names differ and the certificate has at most 1 GiB, a check of the files that a decision of the property leaves, the first automaton's being
+-- this and the second's that, answers with its status.
+abbrev pub IsCheckedAs : Property → (List ℕ → List ℕ → List ℕ) → (List ℕ → List ℕ → List ℕ) → Type 0
+IsCheckedAs p first second =
+    (files : FileMap) (a m c : List ℕ) (mode : Mode) (one other : Named) (pair : Joined) (cert : Cert) (r : Reply)
+    → NamesDiffer a m c
+    → IsPropertyCertFor p mode files a one other pair cert
+    → length (text cert) ≤ 2 ^ 30
+    → IsPropertyReply p.name pair cert.body (property_puts m (p.made one) c cert) r
+    → (checked : Reply)
+    × IsCheckReply (filed files (property_puts m (p.made one) c cert)) (first a m) (second a m) c checked
+    × (checked.status ≡ r.status)
+
+-- What `empty A E CERT` leaves is right for `check A E CERT`.
+abbrev pub EmptyIsChecked : Type 0
+EmptyIsChecked = IsCheckedAs emptiness (λ a e. a) (λ a e. e)
+
+-- What `universal A U CERT` leaves is right for `check U A CERT`.
+abbrev pub UniversalIsChecked : Type 0
+UniversalIsChecked = IsCheckedAs universality (λ a u. u) (λ a u. a)

@@ -8,6 +8,10 @@ pub mod Drill
 pub mod Combine
 pub mod Union
 pub mod Intersect
+pub mod Shrink
+pub mod Property
+pub mod Empty
+pub mod Universal
 pub mod Commands
 pub mod Complete
 pub mod Laws

@@ -23,11 +23,15 @@ word_text labels (a ∷ word) = 32 ∷ (label_text labels a ++ further_letters l
 -- How the program is used.
 abbrev pub usage_text : List ℕ
 usage_text =
-    codes "usage: rabit include A B CERT [--finite] [--look K] [--limit N] | check A B CERT | reduce A [--finite] [--look K] | drill SEED STATES LABELS | union A B [--finite] | intersect A B [--finite]" ++ line_end
+    codes "usage: rabit include A B CERT [--finite] [--look K] [--limit N] | check A B CERT | reduce A [--finite] [--look K] | drill SEED STATES LABELS | union A B [--finite] | intersect A B [--finite] | shrink A B CERT OUT | empty A E CERT [--finite] | universal A U CERT [--finite]" ++ line_end
 
 -- The automaton that was asked for is too large.
 abbrev pub too_large_text : List ℕ
 too_large_text = codes "too large" ++ line_end
+
+-- A valid certificate has neither a lasso nor a word.
+abbrev pub nothing_to_shrink_text : List ℕ
+nothing_to_shrink_text = codes "nothing to shrink" ++ line_end
 
 -- A certificate breaks a rule.
 abbrev pub refused_text : Refusal → List ℕ
@@ -38,16 +42,34 @@ abbrev pub included_text : Mode → List ℕ
 included_text Buchi = codes "included" ++ line_end
 included_text Finite = codes "included, finite" ++ line_end
 
+-- The lines of a lasso.
+abbrev pub lasso_lines : List (List ℕ) → Lasso → List ℕ
+lasso_lines labels lasso =
+    codes "prefix:" ++ (word_text labels lasso.prefix ++ (line_end ++ (codes "loop:" ++ (word_text labels lasso.turn ++ line_end))))
+
+-- The line of a word.
+abbrev pub word_line : List (List ℕ) → List ℕ → List ℕ
+word_line labels word = codes "word:" ++ (word_text labels word ++ line_end)
+
 -- The first automaton accepts the lasso, and the second does not.
 abbrev pub not_included_text : List (List ℕ) → Lasso → List ℕ
-not_included_text labels lasso =
-    codes "not included" ++ (line_end
-    ++ (codes "prefix:" ++ (word_text labels lasso.prefix ++ (line_end
-    ++ (codes "loop:" ++ (word_text labels lasso.turn ++ line_end))))))
+not_included_text labels lasso = codes "not included" ++ (line_end ++ lasso_lines labels lasso)
 
 -- The first automaton accepts the word, and the second does not.
 abbrev pub word_not_included_text : List (List ℕ) → List ℕ → List ℕ
-word_not_included_text labels word = codes "not included, finite" ++ (line_end ++ (codes "word:" ++ (word_text labels word ++ line_end)))
+word_not_included_text labels word = codes "not included, finite" ++ (line_end ++ word_line labels word)
+
+-- An automaton has the property of this name.
+abbrev pub holds_text : List ℕ → List ℕ
+holds_text property = property ++ line_end
+
+-- It has not, which the lasso shows.
+abbrev pub lasso_against_text : List ℕ → List (List ℕ) → Lasso → List ℕ
+lasso_against_text property labels lasso = codes "not " ++ (property ++ (line_end ++ lasso_lines labels lasso))
+
+-- It has not, which the word shows.
+abbrev pub word_against_text : List ℕ → List (List ℕ) → List ℕ → List ℕ
+word_against_text property labels word = codes "not " ++ (property ++ (line_end ++ word_line labels word))
 
 -- The search met its limit.
 abbrev pub limit_text : ℕ → List ℕ

@@ -18,8 +18,8 @@ use Rattle.rabit_frame.specs.declared.parts.Value.TheVariants as value
 use Rattle.rabit_frame.specs.declared.parts.Status.TheVariants as status
 use Rattle.rabit_frame.specs.declared.parts.Reply.{Reply}
 use Rattle.rabit_frame.specs.Files.{Input}
-use Rattle.rabit_frame.specs.Reading.{only_said}
-use Rattle.rabit_cli.specs.Files.{large_limits, automaton_file, ReadsWithin}
+use Rattle.rabit_frame.specs.Reading.{only_said, FileReads}
+use Rattle.rabit_cli.specs.Files.{large_limits, automaton_file}
 
 -- The file that it reads: the automaton.
 abbrev pub reduce_inputs : List ℕ → List Input
@@ -51,7 +51,7 @@ pub record ReadsBackSame (named : Named) (mode : Mode) (text : List ℕ) : Type 
 pub record IsReducedShown (files : FileMap) (name : List ℕ) (mode : Mode) (look : ℕ) (sent sent' : Option (List ℕ)) : Type 0 where
   pub named : Named
   pub reduced : Automaton
-  pub read : ReadsWithin large_limits files name named
+  pub read : FileReads files (automaton_file 1 large_limits name) (value.Automaton named)
   pub is_reduced : IsReduced named.auto mode look reduced
   pub same : Same named.auto reduced mode
   pub reads_back : ReadsBackSame named mode (written reduced named.labels)

@@ -4,13 +4,16 @@ use Rattle.std.specs.Io.KnownBytes.{append_known}
 use Rattle.auto_core.specs.declared.parts.Mode.{Mode}
 use Rattle.auto_core.specs.Accept.{SeparatesLasso, SeparatesWord}
 use Rattle.ba_format.specs.declared.parts.Joined.{Joined}
+use Rattle.cert_text.specs.declared.types.Cert.{Cert}
 use Rattle.cert_text.specs.declared.types.Body.{Body}
 use Rattle.cert_text.specs.declared.types.Body.TheVariants.{Yes, NoLasso, NoWord, Listing}
+use Rattle.log_check.specs.declared.faults.Refusal.{Refusal}
+use Rattle.cert_check.specs.Rules.{BreaksRule}
 use Rattle.rabit_frame.specs.declared.parts.Status.TheVariants as status
 use Rattle.rabit_frame.specs.declared.parts.Reply.{Reply}
 use Rattle.rabit_frame.specs.Files.{Output}
 use Rattle.rabit_frame.specs.Reading.{reply_with, only_said}
-use Rattle.rabit_cli.specs.Printed.{usage_text, too_large_text, included_text, not_included_text, word_not_included_text, limit_text}
+use Rattle.rabit_cli.specs.Printed.{usage_text, too_large_text, nothing_to_shrink_text, refused_text, included_text, not_included_text, word_not_included_text, limit_text}
 
 -- The words ask nothing.
 abbrev pub usage_reply : Reply
@@ -20,6 +23,14 @@ usage_reply = only_said status.Usage usage_text
 abbrev pub too_large_reply : Reply
 too_large_reply = only_said status.TooLarge too_large_text
 
+-- The certificate is valid, and has neither a lasso nor a word to shrink.
+abbrev pub nothing_to_shrink_reply : Reply
+nothing_to_shrink_reply = only_said status.NothingToShrink nothing_to_shrink_text
+
+-- The certificate breaks a rule, the first being this one.
+abbrev pub IsRefusedReply : Joined → Cert → Reply → Type 0
+IsRefusedReply pair cert r = (refusal : Refusal) × BreaksRule pair cert refusal × (r ≡ only_said status.BadCertificate (refused_text refusal))
+
 -- What a right certificate of this mode with this body says, where these files are written before.
 abbrev pub IsVerdictReply : Mode → Joined → Body → List Output → Reply → Type 0
 IsVerdictReply mode pair (Yes evidence) puts r = r ≡ reply_with status.Done (included_text mode) puts
@@ -28,9 +39,9 @@ IsVerdictReply mode pair (NoWord word) puts r = r ≡ reply_with status.Refuted 
 IsVerdictReply mode pair (Listing list) puts r = r ≡ reply_with status.Limit (limit_text list.limit) puts
 
 -- The body's lasso, in finite mode its word, is accepted by the first automaton and not by the second, and that was printed.
-abbrev pub TellsApart : Joined → Body → Option (List ℕ) → Option (List ℕ) → Type 0
-TellsApart pair (Yes evidence) sent sent' = ⊥
-TellsApart pair (NoLasso lasso) sent sent' =
+abbrev pub SaysApart : Joined → Body → Option (List ℕ) → Option (List ℕ) → Type 0
+SaysApart pair (Yes evidence) sent sent' = ⊥
+SaysApart pair (NoLasso lasso) sent sent' =
     SeparatesLasso pair.first pair.second lasso.prefix lasso.turn × (sent' ≡ append_known sent (not_included_text pair.labels lasso))
-TellsApart pair (NoWord word) sent sent' = SeparatesWord pair.first pair.second word × (sent' ≡ append_known sent (word_not_included_text pair.labels word))
-TellsApart pair (Listing list) sent sent' = ⊥
+SaysApart pair (NoWord word) sent sent' = SeparatesWord pair.first pair.second word × (sent' ≡ append_known sent (word_not_included_text pair.labels word))
+SaysApart pair (Listing list) sent sent' = ⊥

@@ -9,7 +9,7 @@ use Rattle.auto_ops.specs.Union.{IsUnion, IsUnionTooLarge}
 use Rattle.ba_format.specs.declared.parts.Joined.{Joined}
 use Rattle.rabit_frame.specs.declared.parts.Value.{Value}
 use Rattle.rabit_frame.specs.declared.parts.Reply.{Reply}
-use Rattle.rabit_cli.specs.Combine.{IsCombinedReply, MeansCombined, ShowsCombined}
+use Rattle.rabit_cli.specs.Combine.{IsCombinedReply, MeansCombined, IsCombinedStatus, ShowsCombined}
 
 -- The union of the two joined automata.
 abbrev pub IsUnionOf : Mode → Joined → Automaton → Type 0
@@ -18,6 +18,10 @@ IsUnionOf mode pair = IsUnion mode pair.first pair.second
 -- The reply to two joined automata.
 abbrev pub IsUnionReply : Mode → Joined → Reply → Type 0
 IsUnionReply mode pair r = IsCombinedReply (IsUnionOf mode pair) (IsUnionTooLarge pair.first pair.second) pair.labels r
+
+-- The status of a result for these files: 12 if the union is too large, and otherwise 0.
+abbrev pub IsUnionStatus : FileMap → List ℕ → List ℕ → ℕ → Type 0
+IsUnionStatus = IsCombinedStatus (λ pair. IsUnionTooLarge pair.first pair.second)
 
 -- The reply to what was read.
 abbrev pub MeansUnion : Mode → List Value → Reply → Type 0

@@ -3,10 +3,13 @@
 ghost use Rattle.std.specs.Prelude.{◌≡◌, Some, map, option_map, IfOk, IfSome};
 ghost use Rattle.std.specs.String.{string_bytes};
 ghost use Rattle.rabit_frame.specs.Reading.{AreOfKinds};
-ghost use Rattle.rabit_words.specs.Question.{told, question_of, HasNumbersInRange};
+ghost use Rattle.rabit_words.specs.Question.{told, question_of, IsProper};
 ghost use Rattle.rabit_cli.specs.Commands.{inputs_of, Means};
 
-use crate::{checking, combining, drilling, including, intersecting, reducing, replies, uniting};
+use crate::{
+    checking, combining, drilling, emptiness, including, intersecting, properties, reducing,
+    replies, shrinking, uniting, universality,
+};
 use auto_core::{List, Memory};
 use decide::Terms;
 use drawing::Drill;
@@ -39,6 +42,20 @@ fn slots_of<'a>(alloc: Global, question: &'a Question) -> Result<List<Slot<'a>>,
         Question::Intersect { first, second, .. } => {
             return combining::slots(alloc, first.as_str(), second.as_str());
         },
+        Question::Shrink {
+            first,
+            second,
+            certificate,
+            ..
+        } => {
+            return shrinking::slots(alloc, first.as_str(), second.as_str(), certificate.as_str());
+        },
+        Question::Empty { automaton, .. } => {
+            return properties::slots(alloc, automaton.as_str());
+        },
+        Question::Universal { automaton, .. } => {
+            return properties::slots(alloc, automaton.as_str());
+        },
     }
 }
 
@@ -48,7 +65,7 @@ fn reply_to<'a>(
     question: &'a Question,
     values: &[Value],
 ) -> Result<Reply<'a>, Memory>
-    requires range { HasNumbersInRange (told question.now) }
+    requires proper { IsProper (told question.now) }
     requires kinds { AreOfKinds (inputs_of (Some (told question.now))) values.now }
     ensures { IfOk result (Means (Some (told question.entry.now)) values.now) }
 {
@@ -91,6 +108,25 @@ fn reply_to<'a>(
         Question::Intersect { mode, .. } => {
             return intersecting::reply(alloc, *mode, values);
         },
+        Question::Shrink { shorter, .. } => {
+            return shrinking::reply(alloc, shorter.as_str(), values);
+        },
+        Question::Empty {
+            made,
+            certificate,
+            mode,
+            ..
+        } => {
+            return emptiness::reply(alloc, made.as_str(), certificate.as_str(), *mode, values);
+        },
+        Question::Universal {
+            made,
+            certificate,
+            mode,
+            ..
+        } => {
+            return universality::reply(alloc, made.as_str(), certificate.as_str(), *mode, values);
+        },
     }
 }
 
@@ -108,7 +144,7 @@ impl<'a> Work for Command<'a> {
 
     ghost means = { λ c. Means (question_of (map string_bytes c.words.now)) };
 
-    ghost is_fit = { λ c. IfOk c.asked (λ asked. (option_map told asked ≡ question_of (map string_bytes c.words.now)) × IfSome asked (λ q. HasNumbersInRange (told q))) };
+    ghost is_fit = { λ c. IfOk c.asked (λ asked. (option_map told asked ≡ question_of (map string_bytes c.words.now)) × IfSome asked (λ q. IsProper (told q))) };
 
     fn slots(&self, alloc: Global) -> Result<List<Slot<'_>>, Memory> {
         match &self.asked {

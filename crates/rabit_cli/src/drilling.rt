@@ -15,6 +15,7 @@ use cert_check::CheckFault;
 use cert_text::{Body, Cert};
 use drawing::Drill;
 use rabit_frame::{Reply, Status, append, line};
+use rabit_words::{USUAL_LIMIT, USUAL_LOOK};
 use std::alloc::Global;
 
 /// The two automata in the other order.
@@ -33,7 +34,7 @@ fn answered(alloc: Global, pair: &Joined) -> Result<Cert, Memory>
     requires { CanDecide pair.now }
     ensures { IfOk result (IsAnswer pair.now drill_terms) }
 {
-    let cert = decide::include(alloc, pair, Mode::Buchi, 3, 20000)?;
+    let cert = decide::include(alloc, pair, Mode::Buchi, USUAL_LOOK, USUAL_LIMIT)?;
     match cert_check::check(alloc, pair, &cert) {
         Ok(_) => Ok(cert),
         Err(CheckFault::Memory) => Err(Memory),

@@ -21,7 +21,7 @@ pub(crate) const CHECK_LIMITS: Limits = Limits {
     transitions: 65_536,
 };
 
-/// The most states, labels and transitions of the file of a reduction, and of the first of a union or an intersection.
+/// The most states, labels and transitions of the file of a reduction, and of the first of a union, an intersection or a shrinking.
 const LARGE_LIMITS: Limits = Limits {
     states: 2048,
     labels: 256,
@@ -67,6 +67,17 @@ pub fn certificate_slot<'a>(name: &'a str) -> Slot<'a>
 /// The automaton of a check that was read, whatever its file's number.
 pub fn automaton(value: &Value) -> &Named
     requires { IsOfKind (kind.Automaton 1 check_limits) value.now }
+    ensures { value.now ≡ Value.Automaton result.now }
+{
+    match value {
+        Value::Automaton(named) => named,
+        _ => unreachable!(),
+    }
+}
+
+/// The first automaton that was read, which may be large.
+pub fn first_automaton(value: &Value) -> &Named
+    requires { IsOfKind (kind.Automaton 1 large_limits) value.now }
     ensures { value.now ≡ Value.Automaton result.now }
 {
     match value {

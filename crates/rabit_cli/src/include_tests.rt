@@ -22,7 +22,7 @@ const GUESS: &str = "[0]\na,[0]->[0]\nb,[0]->[0]\na,[0]->[1]\na,[1]->[1]\n[1]\n"
 const A_ONCE: &str = "[0]\na,[0]->[1]\n[1]\n";
 
 /// Two states, each left by a letter of its own.
-const PAIR: &str = "a,[5]->[7]\nb,[7]->[5]\n";
+pub const PAIR: &str = "a,[5]->[7]\nb,[7]->[5]\n";
 
 /// A shelf with the two files, with room for a certificate.
 pub fn shelf_of(

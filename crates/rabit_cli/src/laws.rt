@@ -1,13 +1,38 @@
 //! What the commands have to do with one another: each law is the contract of a function that does nothing.
 
-ghost use Rattle.rabit_cli.specs.Laws.{CheckAgrees, AnswersAreAccepted};
+ghost use Rattle.rabit_cli.specs.Laws.{CheckAgrees, IncludeIsChecked, AnswersAreAccepted, EmptyTextAcceptsNothing, UniversalTextAcceptsAll, EmptyIsChecked, UniversalIsChecked};
 
 /// A check of the answer that a decision wrote under a name of its own says what the decision said, where the file has at most 1 GiB.
 pub fn check_agrees()
     ensures { CheckAgrees }
 {}
 
+/// A check of what `include` left says what `include` said.
+pub fn include_is_checked()
+    ensures { IncludeIsChecked }
+{}
+
 /// A check accepts each answer for its two automata, wherever a file of at most 1 GiB holds its text.
 pub fn answers_are_accepted()
     ensures { AnswersAreAccepted }
+{}
+
+/// Whatever the text that `empty` makes reads as accepts nothing.
+pub fn empty_text_accepts_nothing()
+    ensures { EmptyTextAcceptsNothing }
+{}
+
+/// Whatever the text that `universal` makes for some labels reads as accepts everything over them.
+pub fn universal_text_accepts_all()
+    ensures { UniversalTextAcceptsAll }
+{}
+
+/// A check of an automaton, of the empty one that was made for it and of the certificate answers with the status that `empty` had.
+pub fn empty_is_checked()
+    ensures { EmptyIsChecked }
+{}
+
+/// A check of the universal automaton that was made for another, of that and of the certificate answers with the status that `universal` had.
+pub fn universal_is_checked()
+    ensures { UniversalIsChecked }
 {}

@@ -1,19 +1,24 @@
-//! The program `rabit`: decides Büchi inclusion, checks certificates of it, and reduces, unites and intersects automata, over files.
+//! The program `rabit`: decides Büchi inclusion, emptiness and universality, checks and shortens certificates, and reduces, unites and intersects
+//! automata, over files.
 #![tactic(auto)]
 
 mod checking;
 mod combining;
 mod commands;
 mod drilling;
+mod emptiness;
 mod files;
 mod including;
 mod intersecting;
 mod laws;
 mod letters;
+mod properties;
 mod reducing;
 mod replies;
+mod shrinking;
 mod top;
 mod uniting;
+mod universality;
 
 use shelf_io::{DiskShelf, OutSink};
 use std::env;
@@ -56,11 +61,15 @@ mod list_tests;
 #[cfg(test)]
 mod log_tests;
 #[cfg(test)]
+mod property_tests;
+#[cfg(test)]
 mod reduce_tests;
 #[cfg(test)]
 mod search_tests;
 #[cfg(test)]
 mod shelf_tests;
+#[cfg(test)]
+mod shrink_tests;
 #[cfg(test)]
 mod tests;
 #[cfg(test)]

@@ -18,7 +18,7 @@ use std::alloc::Global;
 
 /// How the program is used.
 const USAGE: &str =
-    "usage: rabit include A B CERT [--finite] [--look K] [--limit N] | check A B CERT | reduce A [--finite] [--look K] | drill SEED STATES LABELS | union A B [--finite] | intersect A B [--finite]\n";
+    "usage: rabit include A B CERT [--finite] [--look K] [--limit N] | check A B CERT | reduce A [--finite] [--look K] | drill SEED STATES LABELS | union A B [--finite] | intersect A B [--finite] | shrink A B CERT OUT | empty A E CERT [--finite] | universal A U CERT [--finite]\n";
 
 /// The words ask nothing.
 pub fn usage<'a>(alloc: Global) -> Result<Reply<'a>, Memory>
@@ -77,7 +77,7 @@ fn included(alloc: Global, mode: Mode) -> Result<List<u8>, Memory>
 }
 
 /// The search met its limit.
-fn limit_met(alloc: Global, limit: u32) -> Result<List<u8>, Memory>
+pub fn limit_met(alloc: Global, limit: u32) -> Result<List<u8>, Memory>
     ensures { IfOk result (λ text. text ≡ limit_text limit) }
 {
     let text = format!(in alloc; "limit {limit}\n")?;

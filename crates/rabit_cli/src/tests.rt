@@ -11,7 +11,7 @@ use std::test::Fail;
 
 /// How the program is used.
 pub const USAGE: &str =
-    "usage: rabit include A B CERT [--finite] [--look K] [--limit N] | check A B CERT | reduce A [--finite] [--look K] | drill SEED STATES LABELS | union A B [--finite] | intersect A B [--finite]\n";
+    "usage: rabit include A B CERT [--finite] [--look K] [--limit N] | check A B CERT | reduce A [--finite] [--look K] | drill SEED STATES LABELS | union A B [--finite] | intersect A B [--finite] | shrink A B CERT OUT | empty A E CERT [--finite] | universal A U CERT [--finite]\n";
 
 pub const RING: &str = "[0]\na,[0]->[1]\na,[1]->[2]\na,[2]->[0]\n[0]\n";
 

@@ -21,7 +21,7 @@ use std::alloc::Global;
 /// Does what the words after the program's name ask, and answers the program's status.
 pub fn run<H: Shelf, K: Sink>(alloc: Global, words: &[String], shelf: &mut H, out: &mut K) -> u8
     // One ending was said. Where the shelf tells its files it is the right reply, or a fault of the outside or want of memory.
-    ensures answered { IsCarriedOut (Means (question_of (map string_bytes words.now))) (inputs_of (question_of (map string_bytes words.now)))
+    ensures carried { IsCarriedOut (Means (question_of (map string_bytes words.now))) (inputs_of (question_of (map string_bytes words.now)))
         (H.held shelf.old) (H.held shelf.new) result (K.sent out.old) (K.sent out.new) (K.faults out.old) (K.faults out.new)
         (H.faults shelf.old) (H.faults shelf.new) (H.put_faults shelf.old) (H.put_faults shelf.new) }
 
@@ -43,7 +43,7 @@ pub fn run<H: Shelf, K: Sink>(alloc: Global, words: &[String], shelf: &mut H, ou
         Drills asked result (K.sent out.old) (K.sent out.new) (K.faults out.old) (K.faults out.new)) }
 
     // What a status up to 2 shows, command by command: an inclusion, a lasso that separates, a list past the limit, a reduced automaton, what a drill found,
-    // a union, an intersection.
+    // a union, an intersection, what is left of a no, an automaton that accepts nothing or everything, or what shows that it does not.
     ensures shows { result ≤ 2 → OfBoth (H.held shelf.old) (H.held shelf.new) (λ files files'.
         Shows (question_of (map string_bytes words.now)) result files files' (K.sent out.old) (K.sent out.new)) }
 
@@ -58,7 +58,8 @@ pub fn run<H: Shelf, K: Sink>(alloc: Global, words: &[String], shelf: &mut H, ou
         AnswersWhatReads asked files result (K.faults out.old) (K.faults out.new) (H.faults shelf.old) (H.faults shelf.new)
         (H.put_faults shelf.old) (H.put_faults shelf.new))) }
 
-    // What the shelf holds afterwards: only a decision writes, and only the file of its certificate.
+    // What the shelf holds afterwards: only a decision and a shrinking write, and only the file of a certificate, and `empty` and `universal`
+    // that of the automaton that they make too.
     ensures files { OfBoth (H.held shelf.old) (H.held shelf.new) (λ files files'.
         LeavesFiles (question_of (map string_bytes words.now)) result (H.put_faults shelf.old) (H.put_faults shelf.new) files files') }
 

@@ -28,6 +28,7 @@ own_number (status.Usage) = (λ e. omega arith, λ e. omega arith, λ e. omega a
 own_number (status.BadFile) = (λ e. omega arith, λ e. omega arith, λ e. omega arith)
 own_number (status.BadCertificate) = (λ e. omega arith, λ e. omega arith, λ e. omega arith)
 own_number (status.TooLarge) = (λ e. omega arith, λ e. omega arith, λ e. omega arith)
+own_number (status.NothingToShrink) = (λ e. omega arith, λ e. omega arith, λ e. omega arith)
 
 -- unsent, it is 7, or stays and is above 2
 pub unsent_number : (s : Status) → (number_unsent s ≡ 7) ⊎ ((number_unsent s ≡ status_number s) × (3 ≤ status_number s))
@@ -38,6 +39,7 @@ unsent_number (status.Usage) = inr (refl, omega arith)
 unsent_number (status.BadFile) = inr (refl, omega arith)
 unsent_number (status.BadCertificate) = inr (refl, omega arith)
 unsent_number (status.TooLarge) = inr (refl, omega arith)
+unsent_number (status.NothingToShrink) = inr (refl, omega arith)
 
 -- only a result turns into a write fault
 pub unsent_low : (s : Status) → number_unsent s ≡ 7 → status_number s ≤ 2
@@ -48,6 +50,7 @@ unsent_low (status.Usage) e = absurd (omega arith)
 unsent_low (status.BadFile) e = absurd (omega arith)
 unsent_low (status.BadCertificate) e = absurd (omega arith)
 unsent_low (status.TooLarge) e = absurd (omega arith)
+unsent_low (status.NothingToShrink) e = absurd (omega arith)
 
 -- a file that is not read has a status above 3, and writes nothing
 abbrev pub IsPlainStop : Reply → Type 0

@@ -3,6 +3,7 @@ use Rattle.std.proofs.Common.{◌≡◌, ◌⊎◌, ℕ, List, [], ◌∷◌, le
 use Rattle.shelf_io.specs.Shelf.{FileMap}
 use Rattle.ba_format.proofs.LawLemmas.{reads_as_one}
 use Rattle.ba_format.proofs.FaultlessLemmas.{read_is_within}
+use Rattle.ba_format.proofs.LabelLemmas.{labels_fit}
 use Rattle.cert_text.specs.Grammar.{reading}
 use Rattle.cert_text.proofs.Theorem.{reading_text}
 use Rattle.rabit_frame.specs.declared.parts.FileKind.{FileKind}
@@ -53,7 +54,7 @@ fault_or_value (kind.Certificate) bytes r (value.Certificate c) (f, is, e) q = o
 fault_or_value (kind.Certificate) bytes r (value.Automaton x) p q = q
 
 pub kind_of_read : (k : FileKind) (bytes : List ℕ) (v : Value) → ReadsAs k bytes v → IsOfKind k v
-kind_of_read (kind.Automaton n l) bytes (value.Automaton x) p = (read_is_within bytes l x p, p.reading.auto.valid)
+kind_of_read (kind.Automaton n l) bytes (value.Automaton x) p = (read_is_within bytes l x p, p.reading.auto.valid, labels_fit bytes l x p)
 kind_of_read (kind.Automaton n l) bytes (value.Certificate c) p = absurd p
 kind_of_read (kind.Certificate) bytes (value.Certificate c) p = p.0
 kind_of_read (kind.Certificate) bytes (value.Automaton x) p = absurd p

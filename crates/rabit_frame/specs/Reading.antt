@@ -1,10 +1,13 @@
 -- What a command's files are read as, each in its turn.
-use Rattle.std.specs.Prelude.{◌≡◌, ℕ, ◌<◌, ◌≤◌, ◌^◌, ◌⊎◌, List, [], ◌∷◌, ◌++◌, length, codes, Option, Some, IfSome, false}
+use Rattle.std.specs.Prelude.{◌≡◌, ℕ, ◌<◌, ◌≤◌, ◌^◌, ◌⊎◌, List, [], ◌∷◌, ◌++◌, length, All, codes, Option, Some, IfSome, false}
 use Rattle.std.specs.FinMap as map
 use Rattle.shelf_io.specs.Shelf.{FileMap}
 use Rattle.auto_core.specs.Automaton.{IsAutomaton}
 use Rattle.ba_format.specs.declared.parts.BaFault.{BaFault}
+use Rattle.ba_format.specs.declared.parts.Named.{Named}
 use Rattle.ba_format.specs.Faults.{fault_of}
+use Rattle.ba_format.specs.Laws.{IsLabelText}
+use Rattle.ba_format.specs.Sight.{AreDifferent}
 use Rattle.ba_format.specs.Reading.{Reads, IsWithinLimits}
 use Rattle.cert_text.specs.declared.faults.TextFault.{TextFault}
 use Rattle.cert_text.specs.Law.{FirstFault}
@@ -53,9 +56,13 @@ HasFault (kind.Automaton number limits) bytes r =
 HasFault (kind.Certificate) bytes r =
     (fault : TextFault) × FirstFault bytes fault × (r ≡ only_said status.BadCertificate (certificate_line fault.line (text_kind_name fault.kind)))
 
+-- The texts of the labels can be written, and are all different.
+abbrev pub HasWritableLabels : Named → Type 0
+HasWritableLabels named = All IsLabelText named.labels × AreDifferent named.labels
+
 -- What is known of a value that was read, whatever the bytes.
 abbrev pub IsOfKind : FileKind → Value → Type 0
-IsOfKind (kind.Automaton number limits) (value.Automaton named) = IsWithinLimits limits named × IsAutomaton named.auto
+IsOfKind (kind.Automaton number limits) (value.Automaton named) = IsWithinLimits limits named × IsAutomaton named.auto × HasWritableLabels named
 IsOfKind (kind.Certificate) (value.Certificate cert) = WellFormed cert
 IsOfKind k v = ⊥
 

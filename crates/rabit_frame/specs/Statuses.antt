@@ -12,6 +12,7 @@ status_number (status.Usage) = 3
 status_number (status.BadFile) = 4
 status_number (status.BadCertificate) = 5
 status_number (status.TooLarge) = 12
+status_number (status.NothingToShrink) = 13
 
 -- The status where the sink refused the text: a result turns into a write fault, a fault stays what it is.
 abbrev pub number_unsent : Status → ℕ
@@ -22,6 +23,7 @@ number_unsent (status.Usage) = 3
 number_unsent (status.BadFile) = 4
 number_unsent (status.BadCertificate) = 5
 number_unsent (status.TooLarge) = 12
+number_unsent (status.NothingToShrink) = 13
 
 -- The status comes of no fault of the outside: no read fault, no write fault, no want of memory.
 abbrev pub IsOwn : ℕ → Type 0

@@ -84,6 +84,8 @@ pub enum Status {
     BadCertificate,
     /// 12: the automaton that was asked for is too large.
     TooLarge,
+    /// 13: the certificate has neither a lasso nor a word.
+    NothingToShrink,
 }
 
 impl Status {
@@ -99,6 +101,7 @@ impl Status {
             Status::BadFile => 4,
             Status::BadCertificate => 5,
             Status::TooLarge => 12,
+            Status::NothingToShrink => 13,
         }
     }
 

@@ -1,11 +1,13 @@
--- The numbers of a question are in their ranges.
-use Rattle.std.proofs.Common.{◌≡◌, ℕ, ◌≤◌, Bool, true, false, List, [], ◌∷◌, codes, Option, Some, None, IfSome, if◌then◌else◌, refl, arith}
+-- The numbers of a question are in their ranges, and names that have to differ do.
+use Rattle.std.proofs.Common.{◌≡◌, ℕ, ◌≤◌, Bool, true, false, not, ◌&&◌, List, [], ◌∷◌, codes, Option, Some, None, IfSome, if◌then◌else◌, refl, sym, ◌∙◌, ap, arith}
 use Rattle.std.specs.Prelude.{option_map, option_and_then}
 use Rattle.std.specs.Str.{bytes_eq}
+use Rattle.std.proofs.lemmas.Bool.{and_parts}
+use Rattle.std.proofs.lemmas.Slice.Eq.{bytes_eq-Decides}
 use Rattle.clap.specs.Words.{Row, Kinds, first_of, fault_of, subcommand_of}
 use Rattle.rabit_words.specs.Number.{number_between, number_or}
 use Rattle.rabit_words.specs.Command.{rabit_app}
-use Rattle.rabit_words.specs.Question.{HasNumbersInRange, look_in, limit_in, number_at, asks_include, asks_check, asks_reduce, asks_drill, asks_union, asks_intersect, asks_by, asks_found, asks_unless, has_help_word, question_of}
+use Rattle.rabit_words.specs.Question.{Question, Empty, Universal, mode_by, IsProper, look_in, limit_in, number_at, asks_include, asks_check, asks_reduce, asks_drill, asks_union, asks_intersect, asks_shrink, names_differ, NamesDiffer, asks_if_names_differ, asks_empty, asks_universal, asks_by, asks_found, asks_unless, has_help_word, question_of}
 use Rattle.rabit_words.proofs.NumberLemmas.{number_in_range}
 
 and_then_gives : {X Y : Type 0} (P : Y → Type 0) (f : X → Option Y) (o : Option X) → ((x : X) → o ≡ Some x → IfSome (f x) P) → IfSome (option_and_then f o) P
@@ -31,6 +33,25 @@ number_at_range id low high rows n e = go (first_of id rows) e
     go None h = absurd (let f = h in cc)
     go (Some text) h = number_in_range low high text n h
 
+not_one : (a b : List ℕ) → not (bytes_eq a b) ≡ true → a ≡ b → ⊥
+not_one a b differ same =
+    let t : bytes_eq a b ≡ true = (bytes_eq-Decides a b).1 same in
+    let f : not true ≡ true = ap not (sym t) ∙ differ in
+    absurd (let g = f in cc)
+
+names_do_differ : (a b c : List ℕ) → names_differ a b c ≡ true → NamesDiffer a b c
+names_do_differ a b c e =
+    let first = and_parts (not (bytes_eq a b)) (not (bytes_eq a c) && not (bytes_eq b c)) e in
+    let second = and_parts (not (bytes_eq a c)) (not (bytes_eq b c)) first.1 in
+    (not_one a b first.0, not_one a c second.0, not_one b c second.1)
+
+differing_range : (ask : List ℕ → List ℕ → List ℕ → Question) → ((a b c : List ℕ) → NamesDiffer a b c → IsProper (ask a b c)) → (a b c : List ℕ) → IfSome (asks_if_names_differ ask a b c) IsProper
+differing_range ask h a b c = go (names_differ a b c) refl
+  where
+    go : (d : Bool) → names_differ a b c ≡ d → IfSome (if d then Some (ask a b c) else None) IsProper
+    go true e = h a b c (names_do_differ a b c e)
+    go false e = tt
+
 module _ (rows : List Row) where
   look_range : (k : ℕ) → look_in rows ≡ Some k → (1 ≤ k) × (k ≤ 6)
   look_range k e = number_or_range 3 1 6 (first_of (codes "look") rows) k (omega arith) (omega arith) e
@@ -38,65 +59,89 @@ module _ (rows : List Row) where
   limit_range : (n : ℕ) → limit_in rows ≡ Some n → (1 ≤ n) × (n ≤ 100000)
   limit_range n e = number_or_range 20000 1 100000 (first_of (codes "limit") rows) n (omega arith) (omega arith) e
 
-  include_range : IfSome (asks_include rows) HasNumbersInRange
+  include_range : IfSome (asks_include rows) IsProper
   include_range =
-      and_then_gives HasNumbersInRange _ (first_of (codes "A") rows) (λ a is_a.
-      and_then_gives HasNumbersInRange _ (first_of (codes "B") rows) (λ b is_b.
-      and_then_gives HasNumbersInRange _ (first_of (codes "CERT") rows) (λ c is_c.
-      and_then_gives HasNumbersInRange _ (look_in rows) (λ look is_look.
-      map_gives HasNumbersInRange _ (limit_in rows) (λ limit is_limit.
+      and_then_gives IsProper _ (first_of (codes "A") rows) (λ a is_a.
+      and_then_gives IsProper _ (first_of (codes "B") rows) (λ b is_b.
+      and_then_gives IsProper _ (first_of (codes "CERT") rows) (λ c is_c.
+      and_then_gives IsProper _ (look_in rows) (λ look is_look.
+      map_gives IsProper _ (limit_in rows) (λ limit is_limit.
       let k = look_range look is_look in
       let n = limit_range limit is_limit in
       (k.0, k.1, n.0, n.1))))))
 
-  check_range : IfSome (asks_check rows) HasNumbersInRange
+  check_range : IfSome (asks_check rows) IsProper
   check_range =
-      and_then_gives HasNumbersInRange _ (first_of (codes "A") rows) (λ a is_a.
-      and_then_gives HasNumbersInRange _ (first_of (codes "B") rows) (λ b is_b.
-      map_gives HasNumbersInRange _ (first_of (codes "CERT") rows) (λ c is_c. tt)))
+      and_then_gives IsProper _ (first_of (codes "A") rows) (λ a is_a.
+      and_then_gives IsProper _ (first_of (codes "B") rows) (λ b is_b.
+      map_gives IsProper _ (first_of (codes "CERT") rows) (λ c is_c. tt)))
 
-  reduce_range : IfSome (asks_reduce rows) HasNumbersInRange
+  reduce_range : IfSome (asks_reduce rows) IsProper
   reduce_range =
-      and_then_gives HasNumbersInRange _ (first_of (codes "A") rows) (λ a is_a.
-      map_gives HasNumbersInRange _ (look_in rows) (λ look is_look. look_range look is_look))
+      and_then_gives IsProper _ (first_of (codes "A") rows) (λ a is_a.
+      map_gives IsProper _ (look_in rows) (λ look is_look. look_range look is_look))
 
-  drill_range : IfSome (asks_drill rows) HasNumbersInRange
+  drill_range : IfSome (asks_drill rows) IsProper
   drill_range =
-      and_then_gives HasNumbersInRange _ (number_at (codes "SEED") 0 4294967295 rows) (λ seed is_seed.
-      and_then_gives HasNumbersInRange _ (number_at (codes "STATES") 2 512 rows) (λ states is_states.
-      map_gives HasNumbersInRange _ (number_at (codes "LABELS") 1 26 rows) (λ labels is_labels.
+      and_then_gives IsProper _ (number_at (codes "SEED") 0 4294967295 rows) (λ seed is_seed.
+      and_then_gives IsProper _ (number_at (codes "STATES") 2 512 rows) (λ states is_states.
+      map_gives IsProper _ (number_at (codes "LABELS") 1 26 rows) (λ labels is_labels.
       let s = number_at_range (codes "SEED") 0 4294967295 rows seed is_seed in
       let n = number_at_range (codes "STATES") 2 512 rows states is_states in
       let l = number_at_range (codes "LABELS") 1 26 rows labels is_labels in
       let upto = s.1 in
       (omega arith, n.0, n.1, l.0, l.1))))
 
-  union_range : IfSome (asks_union rows) HasNumbersInRange
+  union_range : IfSome (asks_union rows) IsProper
   union_range =
-      and_then_gives HasNumbersInRange _ (first_of (codes "A") rows) (λ a is_a.
-      map_gives HasNumbersInRange _ (first_of (codes "B") rows) (λ b is_b. tt))
+      and_then_gives IsProper _ (first_of (codes "A") rows) (λ a is_a.
+      map_gives IsProper _ (first_of (codes "B") rows) (λ b is_b. tt))
 
-  intersect_range : IfSome (asks_intersect rows) HasNumbersInRange
+  intersect_range : IfSome (asks_intersect rows) IsProper
   intersect_range =
-      and_then_gives HasNumbersInRange _ (first_of (codes "A") rows) (λ a is_a.
-      map_gives HasNumbersInRange _ (first_of (codes "B") rows) (λ b is_b. tt))
+      and_then_gives IsProper _ (first_of (codes "A") rows) (λ a is_a.
+      map_gives IsProper _ (first_of (codes "B") rows) (λ b is_b. tt))
 
-  by_range : (name : List ℕ) → IfSome (asks_by name rows) HasNumbersInRange
+  shrink_range : IfSome (asks_shrink rows) IsProper
+  shrink_range =
+      and_then_gives IsProper _ (first_of (codes "A") rows) (λ a is_a.
+      and_then_gives IsProper _ (first_of (codes "B") rows) (λ b is_b.
+      and_then_gives IsProper _ (first_of (codes "CERT") rows) (λ c is_c.
+      map_gives IsProper _ (first_of (codes "OUT") rows) (λ d is_d. tt))))
+
+  empty_range : IfSome (asks_empty rows) IsProper
+  empty_range =
+      and_then_gives IsProper _ (first_of (codes "A") rows) (λ a is_a.
+      and_then_gives IsProper _ (first_of (codes "E") rows) (λ e is_e.
+      and_then_gives IsProper _ (first_of (codes "CERT") rows) (λ c is_c.
+      differing_range (λ a e c. Empty a e c (mode_by (first_of (codes "finite") rows))) (λ a e c apart. apart) a e c)))
+
+  universal_range : IfSome (asks_universal rows) IsProper
+  universal_range =
+      and_then_gives IsProper _ (first_of (codes "A") rows) (λ a is_a.
+      and_then_gives IsProper _ (first_of (codes "U") rows) (λ u is_u.
+      and_then_gives IsProper _ (first_of (codes "CERT") rows) (λ c is_c.
+      differing_range (λ a u c. Universal a u c (mode_by (first_of (codes "finite") rows))) (λ a u c apart. apart) a u c)))
+
+  by_range : (name : List ℕ) → IfSome (asks_by name rows) IsProper
   by_range name =
-      choice_gives HasNumbersInRange (bytes_eq name (codes "include")) (asks_include rows) _ include_range
-      (choice_gives HasNumbersInRange (bytes_eq name (codes "check")) (asks_check rows) _ check_range
-      (choice_gives HasNumbersInRange (bytes_eq name (codes "reduce")) (asks_reduce rows) _ reduce_range
-      (choice_gives HasNumbersInRange (bytes_eq name (codes "drill")) (asks_drill rows) _ drill_range
-      (choice_gives HasNumbersInRange (bytes_eq name (codes "union")) (asks_union rows) _ union_range
-      (choice_gives HasNumbersInRange (bytes_eq name (codes "intersect")) (asks_intersect rows) None intersect_range tt)))))
+      choice_gives IsProper (bytes_eq name (codes "include")) (asks_include rows) _ include_range
+      (choice_gives IsProper (bytes_eq name (codes "check")) (asks_check rows) _ check_range
+      (choice_gives IsProper (bytes_eq name (codes "reduce")) (asks_reduce rows) _ reduce_range
+      (choice_gives IsProper (bytes_eq name (codes "drill")) (asks_drill rows) _ drill_range
+      (choice_gives IsProper (bytes_eq name (codes "union")) (asks_union rows) _ union_range
+      (choice_gives IsProper (bytes_eq name (codes "intersect")) (asks_intersect rows) _ intersect_range
+      (choice_gives IsProper (bytes_eq name (codes "shrink")) (asks_shrink rows) _ shrink_range
+      (choice_gives IsProper (bytes_eq name (codes "empty")) (asks_empty rows) _ empty_range
+      (choice_gives IsProper (bytes_eq name (codes "universal")) (asks_universal rows) None universal_range tt))))))))
 
-found_range : (found : Option (List ℕ × List Row)) → IfSome (asks_found found) HasNumbersInRange
+found_range : (found : Option (List ℕ × List Row)) → IfSome (asks_found found) IsProper
 found_range None = tt
 found_range (Some (name, rows)) = by_range rows name
 
-unless_range : (kinds : Kinds) (found : Option (List ℕ × List Row)) → IfSome (asks_unless kinds found) HasNumbersInRange
+unless_range : (kinds : Kinds) (found : Option (List ℕ × List Row)) → IfSome (asks_unless kinds found) IsProper
 unless_range [] found = found_range found
 unless_range (k ∷ ks) found = tt
 
-pub question_in_range : (words : List (List ℕ)) → IfSome (question_of words) HasNumbersInRange
-question_in_range words = choice_gives HasNumbersInRange (has_help_word words) None _ tt (unless_range (fault_of rabit_app (codes "rabit" ∷ words)) (subcommand_of rabit_app (codes "rabit" ∷ words)))
+pub question_is_proper : (words : List (List ℕ)) → IfSome (question_of words) IsProper
+question_is_proper words = choice_gives IsProper (has_help_word words) None _ tt (unless_range (fault_of rabit_app (codes "rabit" ∷ words)) (subcommand_of rabit_app (codes "rabit" ∷ words)))

@@ -49,6 +49,23 @@ union_app = with_rule (two_files_app (codes "union")) (option_alone (codes "fini
 abbrev pub intersect_app : App
 intersect_app = with_rule (two_files_app (codes "intersect")) (option_alone (codes "finite"))
 
+-- `shrink A B CERT OUT`
+abbrev pub shrink_app : App
+shrink_app = with_rule (three_files_app (codes "shrink")) (place (codes "OUT"))
+
+-- A command of this name with the places of an automaton, of another of this name that is written, and of a certificate, and with `--finite`.
+abbrev pub deciding_app : List ℕ → List ℕ → App
+deciding_app name other =
+    with_rule (with_rule (with_rule (with_rule (new_app name) (place (codes "A"))) (place other)) (place (codes "CERT"))) (option_alone (codes "finite"))
+
+-- `empty A E CERT [--finite]`
+abbrev pub empty_app : App
+empty_app = deciding_app (codes "empty") (codes "E")
+
+-- `universal A U CERT [--finite]`
+abbrev pub universal_app : App
+universal_app = deciding_app (codes "universal") (codes "U")
+
 -- The command needs one of its subcommands.
 abbrev pub needing_subcommand : Shape → Shape
 needing_subcommand s = record s { subcommand_required = true }
@@ -59,5 +76,10 @@ rabit_app =
     with_subcommand
     (with_subcommand
     (with_subcommand
+    (with_subcommand
+    (with_subcommand
+    (with_subcommand
     (with_subcommand (with_subcommand (with_subcommand (on_top needing_subcommand (new_app (codes "rabit"))) include_app.top) check_app.top) reduce_app.top)
-    drill_app.top) union_app.top) intersect_app.top
+    drill_app.top) union_app.top) intersect_app.top)
+    shrink_app.top)
+    empty_app.top) universal_app.top

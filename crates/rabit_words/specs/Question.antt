@@ -1,5 +1,5 @@
 -- What the words after the program's name ask.
-use Rattle.std.specs.Prelude.{ℕ, ◌≤◌, ◌<◌, ◌^◌, ◌||◌, Bool, false, List, [], ◌∷◌, codes, Option, Some, None, option_map, option_and_then, if◌then◌else◌}
+use Rattle.std.specs.Prelude.{ℕ, ◌≢◌, ◌≤◌, ◌<◌, ◌^◌, ◌||◌, ◌&&◌, not, Bool, false, List, [], ◌∷◌, codes, Option, Some, None, option_map, option_and_then, if◌then◌else◌}
 use Rattle.std.specs.List.{list_any}
 use Rattle.std.specs.Str.{bytes_eq}
 use Rattle.std.specs.String.{string_bytes}
@@ -19,6 +19,9 @@ pub data Question : Type 0 where
   Drill : (seed states labels : ℕ) → Question
   Union : (first second : List ℕ) (mode : Mode) → Question
   Intersect : (first second : List ℕ) (mode : Mode) → Question
+  Shrink : (first second certificate shorter : List ℕ) → Question
+  Empty : (automaton made certificate : List ℕ) (mode : Mode) → Question
+  Universal : (automaton made certificate : List ℕ) (mode : Mode) → Question
 
 -- The question with its names as bytes.
 abbrev pub told : Held → Question
@@ -28,19 +31,29 @@ told (held.Reduce a mode look) = Reduce (string_bytes a) mode look
 told (held.Drill seed states labels) = Drill seed states labels
 told (held.Union a b mode) = Union (string_bytes a) (string_bytes b) mode
 told (held.Intersect a b mode) = Intersect (string_bytes a) (string_bytes b) mode
+told (held.Shrink a b c d) = Shrink (string_bytes a) (string_bytes b) (string_bytes c) (string_bytes d)
+told (held.Empty a e c mode) = Empty (string_bytes a) (string_bytes e) (string_bytes c) mode
+told (held.Universal a u c mode) = Universal (string_bytes a) (string_bytes u) (string_bytes c) mode
 
 -- The mode, by what stands for `--finite`.
 abbrev pub mode_by : Option (List ℕ) → Mode
 mode_by None = Buchi
 mode_by (Some text) = if bytes_eq text (codes "true") then Finite else Buchi
 
--- The lookahead, from 1 to 6, and 3 where none is named.
-abbrev pub look_in : List Row → Option ℕ
-look_in rows = number_or 3 1 6 (first_of (codes "look") rows)
+-- The lookahead and the limit of a decision that names none.
+abbrev pub usual_look : ℕ
+usual_look = 3
 
--- The limit of a search, from 1 to 100,000, and 20,000 where none is named.
+abbrev pub usual_limit : ℕ
+usual_limit = 20000
+
+-- The lookahead, from 1 to 6, and the usual one where none is named.
+abbrev pub look_in : List Row → Option ℕ
+look_in rows = number_or usual_look 1 6 (first_of (codes "look") rows)
+
+-- The limit of a search, from 1 to 100,000, and the usual one where none is named.
 abbrev pub limit_in : List Row → Option ℕ
-limit_in rows = number_or 20000 1 100000 (first_of (codes "limit") rows)
+limit_in rows = number_or usual_limit 1 100000 (first_of (codes "limit") rows)
 
 -- The number in this place, from `low` to `high`.
 abbrev pub number_at : List ℕ → ℕ → ℕ → List Row → Option ℕ
@@ -89,6 +102,41 @@ asks_intersect rows =
     option_and_then
     (λ a. option_map (λ b. Intersect a b (mode_by (first_of (codes "finite") rows))) (first_of (codes "B") rows)) (first_of (codes "A") rows)
 
+-- The same of `shrink`.
+abbrev pub asks_shrink : List Row → Option Question
+asks_shrink rows =
+    option_and_then
+    (λ a. option_and_then
+    (λ b. option_and_then
+    (λ c. option_map (λ d. Shrink a b c d) (first_of (codes "OUT") rows))
+    (first_of (codes "CERT") rows)) (first_of (codes "B") rows)) (first_of (codes "A") rows)
+
+-- The three names differ.
+abbrev pub names_differ : List ℕ → List ℕ → List ℕ → Bool
+names_differ a b c = not (bytes_eq a b) && (not (bytes_eq a c) && not (bytes_eq b c))
+
+-- The question about these three files, where their names differ.
+abbrev pub asks_if_names_differ : (List ℕ → List ℕ → List ℕ → Question) → List ℕ → List ℕ → List ℕ → Option Question
+asks_if_names_differ ask a b c = if names_differ a b c then Some (ask a b c) else None
+
+-- The same of `empty`.
+abbrev pub asks_empty : List Row → Option Question
+asks_empty rows =
+    option_and_then
+    (λ a. option_and_then
+    (λ e. option_and_then
+    (λ c. asks_if_names_differ (λ a e c. Empty a e c (mode_by (first_of (codes "finite") rows))) a e c)
+    (first_of (codes "CERT") rows)) (first_of (codes "E") rows)) (first_of (codes "A") rows)
+
+-- The same of `universal`.
+abbrev pub asks_universal : List Row → Option Question
+asks_universal rows =
+    option_and_then
+    (λ a. option_and_then
+    (λ u. option_and_then
+    (λ c. asks_if_names_differ (λ a u c. Universal a u c (mode_by (first_of (codes "finite") rows))) a u c)
+    (first_of (codes "CERT") rows)) (first_of (codes "U") rows)) (first_of (codes "A") rows)
+
 -- What is asked by the subcommand of this name.
 abbrev pub asks_by : List ℕ → List Row → Option Question
 asks_by name rows =
@@ -97,7 +145,10 @@ asks_by name rows =
     else (if bytes_eq name (codes "reduce") then asks_reduce rows
     else (if bytes_eq name (codes "drill") then asks_drill rows
     else (if bytes_eq name (codes "union") then asks_union rows
-    else (if bytes_eq name (codes "intersect") then asks_intersect rows else None)))))
+    else (if bytes_eq name (codes "intersect") then asks_intersect rows
+    else (if bytes_eq name (codes "shrink") then asks_shrink rows
+    else (if bytes_eq name (codes "empty") then asks_empty rows
+    else (if bytes_eq name (codes "universal") then asks_universal rows else None))))))))
 
 -- The same of the subcommand that was found, if one was.
 abbrev pub asks_found : Option (List ℕ × List Row) → Option Question
@@ -126,15 +177,23 @@ starts_with_help (word ∷ words) = bytes_eq word (codes "help")
 abbrev pub has_help_word : List (List ℕ) → Bool
 has_help_word words = starts_with_help words || list_any is_help_option words
 
--- The question of the words: there is none where they hold a help word, have a fault by the command, or spell a number otherwise or out of its range.
+-- The question of the words: there is none where they hold a help word, have a fault by the command, spell a number otherwise or out of its
+-- range, or give one name twice to a command that writes two files.
 abbrev pub question_of : List (List ℕ) → Option Question
 question_of words = if has_help_word words then None else asks_on_line (codes "rabit" ∷ words)
 
--- The numbers of a question are in their ranges.
-abbrev pub HasNumbersInRange : Question → Type 0
-HasNumbersInRange (Include a b c mode look limit) = (1 ≤ look) × (look ≤ 6) × (1 ≤ limit) × (limit ≤ 100000)
-HasNumbersInRange (Check a b c) = Unit {0}
-HasNumbersInRange (Reduce a mode look) = (1 ≤ look) × (look ≤ 6)
-HasNumbersInRange (Drill seed states labels) = (seed < 2 ^ 32) × (2 ≤ states) × (states ≤ 512) × (1 ≤ labels) × (labels ≤ 26)
-HasNumbersInRange (Union a b mode) = Unit {0}
-HasNumbersInRange (Intersect a b mode) = Unit {0}
+-- No two of the three names are one.
+abbrev pub NamesDiffer : List ℕ → List ℕ → List ℕ → Type 0
+NamesDiffer a b c = (a ≢ b) × (a ≢ c) × (b ≢ c)
+
+-- The numbers of the question are in their ranges, and the names of a command that writes two files differ.
+abbrev pub IsProper : Question → Type 0
+IsProper (Include a b c mode look limit) = (1 ≤ look) × (look ≤ 6) × (1 ≤ limit) × (limit ≤ 100000)
+IsProper (Check a b c) = Unit {0}
+IsProper (Reduce a mode look) = (1 ≤ look) × (look ≤ 6)
+IsProper (Drill seed states labels) = (seed < 2 ^ 32) × (2 ≤ states) × (states ≤ 512) × (1 ≤ labels) × (labels ≤ 26)
+IsProper (Union a b mode) = Unit {0}
+IsProper (Intersect a b mode) = Unit {0}
+IsProper (Shrink a b c d) = Unit {0}
+IsProper (Empty a e c mode) = NamesDiffer a e c
+IsProper (Universal a u c mode) = NamesDiffer a u c

@@ -4,11 +4,11 @@ ghost use Rattle.std.specs.Prelude.{◌≡◌, ◌∷◌, IfOk, IfSome, codes, m
 ghost use Rattle.std.specs.List.{list_any};
 ghost use Rattle.std.specs.String.{string_bytes};
 ghost use Rattle.clap.specs.Words.{first_of, found_of, rows_of, subcommand_rows_of};
-ghost use Rattle.rabit_words.specs.Question.{told, mode_by, look_in, limit_in, HasNumbersInRange, number_at, asks_include, asks_check, asks_reduce, asks_drill, asks_union, asks_intersect, asks_by, asks_found, asks_on_line, is_help_option, starts_with_help, has_help_word, question_of};
+ghost use Rattle.rabit_words.specs.Question.{told, mode_by, look_in, limit_in, IsProper, number_at, asks_include, asks_check, asks_reduce, asks_drill, asks_union, asks_intersect, asks_shrink, names_differ, asks_empty, asks_universal, asks_by, asks_found, asks_on_line, is_help_option, starts_with_help, has_help_word, question_of};
 
 use crate::command::rabit;
 use crate::number::{number_between, number_or};
-use crate::parts::Question;
+use crate::parts::{Question, USUAL_LIMIT, USUAL_LOOK};
 use auto_core::{Memory, Mode};
 use clap::ArgMatches;
 use clap::error::ErrorKind;
@@ -58,14 +58,14 @@ fn named(alloc: Global, text: &str) -> Result<String, Memory>
 fn look_of(found: &ArgMatches<'_>) -> Option<u32>
     ensures { result ≡ look_in (rows_of (found_of found.now)) }
 {
-    number_or(word_of(found, "look"), 3, 1, 6)
+    number_or(word_of(found, "look"), USUAL_LOOK, 1, 6)
 }
 
 /// What stands for the limit of a search.
 fn limit_of(found: &ArgMatches<'_>) -> Option<u32>
     ensures { result ≡ limit_in (rows_of (found_of found.now)) }
 {
-    number_or(word_of(found, "limit"), 20_000, 1, 100_000)
+    number_or(word_of(found, "limit"), USUAL_LIMIT, 1, 100_000)
 }
 
 /// What is asked where these stand in the places of `include`.
@@ -192,6 +192,87 @@ fn intersect_in(alloc: Global, found: &ArgMatches<'_>) -> Result<Option<Question
     }))
 }
 
+/// What is asked where these stand in the places of `shrink`.
+fn shrink_in(alloc: Global, found: &ArgMatches<'_>) -> Result<Option<Question>, Memory>
+    ensures { IfOk result (λ asked. option_map told asked ≡ asks_shrink (rows_of (found_of found.now))) }
+{
+    let Some(first) = word_of(found, "A") else {
+        return Ok(None);
+    };
+    let Some(second) = word_of(found, "B") else {
+        return Ok(None);
+    };
+    let Some(certificate) = word_of(found, "CERT") else {
+        return Ok(None);
+    };
+    let Some(shorter) = word_of(found, "OUT") else {
+        return Ok(None);
+    };
+    Ok(Some(Question::Shrink {
+        first: named(alloc, first)?,
+        second: named(alloc, second)?,
+        certificate: named(alloc, certificate)?,
+        shorter: named(alloc, shorter)?,
+    }))
+}
+
+/// Whether the three names differ.
+fn names_differ(first: &str, second: &str, third: &str) -> bool
+    ensures { result ≡ names_differ first.now second.now third.now }
+{
+    first != second && (first != third && second != third)
+}
+
+/// What is asked where these stand in the places of `empty`.
+fn empty_in(alloc: Global, found: &ArgMatches<'_>) -> Result<Option<Question>, Memory>
+    ensures { IfOk result (λ asked. option_map told asked ≡ asks_empty (rows_of (found_of found.now))) }
+{
+    let Some(automaton) = word_of(found, "A") else {
+        return Ok(None);
+    };
+    let Some(made) = word_of(found, "E") else {
+        return Ok(None);
+    };
+    let Some(certificate) = word_of(found, "CERT") else {
+        return Ok(None);
+    };
+    if !names_differ(automaton, made, certificate) {
+        return Ok(None);
+    }
+    let mode = mode_of(found);
+    Ok(Some(Question::Empty {
+        automaton: named(alloc, automaton)?,
+        made: named(alloc, made)?,
+        certificate: named(alloc, certificate)?,
+        mode,
+    }))
+}
+
+/// What is asked where these stand in the places of `universal`.
+fn universal_in(alloc: Global, found: &ArgMatches<'_>) -> Result<Option<Question>, Memory>
+    ensures { IfOk result (λ asked. option_map told asked ≡ asks_universal (rows_of (found_of found.now))) }
+{
+    let Some(automaton) = word_of(found, "A") else {
+        return Ok(None);
+    };
+    let Some(made) = word_of(found, "U") else {
+        return Ok(None);
+    };
+    let Some(certificate) = word_of(found, "CERT") else {
+        return Ok(None);
+    };
+    if !names_differ(automaton, made, certificate) {
+        return Ok(None);
+    }
+    let mode = mode_of(found);
+    Ok(Some(Question::Universal {
+        automaton: named(alloc, automaton)?,
+        made: named(alloc, made)?,
+        certificate: named(alloc, certificate)?,
+        mode,
+    }))
+}
+
 /// What is asked by the subcommand of this name.
 fn asked_by(alloc: Global, name: &str, found: &ArgMatches<'_>) -> Result<Option<Question>, Memory>
     ensures { IfOk result (λ asked. option_map told asked ≡ asks_by name.now (rows_of (found_of found.now))) }
@@ -213,6 +294,15 @@ fn asked_by(alloc: Global, name: &str, found: &ArgMatches<'_>) -> Result<Option<
     }
     if name == "intersect" {
         return intersect_in(alloc, found);
+    }
+    if name == "shrink" {
+        return shrink_in(alloc, found);
+    }
+    if name == "empty" {
+        return empty_in(alloc, found);
+    }
+    if name == "universal" {
+        return universal_in(alloc, found);
     }
     Ok(None)
 }
@@ -287,7 +377,7 @@ fn line_of<'a>(alloc: Global, words: &'a [String]) -> Result<Vec<&'a str>, Memor
 /// What the words after the program's name ask, if they ask anything.
 pub fn question(alloc: Global, words: &[String]) -> Result<Option<Question>, Memory>
     ensures asked { IfOk result (λ asked. option_map told asked ≡ question_of (map string_bytes words.now)) }
-    ensures in_range { IfOk result (λ asked. IfSome asked (λ q. HasNumbersInRange (told q))) }
+    ensures proper { IfOk result (λ asked. IfSome asked (λ q. IsProper (told q))) }
 {
     if has_help_word(words) {
         return Ok(None);

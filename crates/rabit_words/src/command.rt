@@ -3,7 +3,7 @@
 ghost use Rattle.std.specs.Prelude.{◌≡◌, false, codes, IfOk};
 ghost use Rattle.clap.specs.Words.{rule_of, app_of};
 ghost use Rattle.clap.specs.declared.builder.command.Command.TheViews.{out-Command};
-ghost use Rattle.rabit_words.specs.Command.{place, option_with_word, option_alone, two_files_app, three_files_app, include_app, check_app, reduce_app, drill_app, union_app, intersect_app, rabit_app};
+ghost use Rattle.rabit_words.specs.Command.{place, option_with_word, option_alone, two_files_app, three_files_app, include_app, check_app, reduce_app, drill_app, union_app, intersect_app, shrink_app, deciding_app, empty_app, universal_app, rabit_app};
 
 use clap::{Arg, ArgAction, Command};
 use std::alloc::{AllocError, Global};
@@ -107,6 +107,42 @@ fn intersect<'a>(alloc: Global) -> Result<Command<'a>, AllocError>
     with_two_files(alloc, "intersect")?.arg(option_alone(alloc, "finite"))
 }
 
+/// `shrink A B CERT OUT`
+fn shrink<'a>(alloc: Global) -> Result<Command<'a>, AllocError>
+    ensures app { IfOk result (λ c. app_of c ≡ shrink_app) }
+    ensures local { IfOk result (λ c. (out-Command c).has_globals ≡ false) }
+{
+    with_three_files(alloc, "shrink")?.arg(place(alloc, "OUT"))
+}
+
+/// A command of this name with the places of an automaton, of another that is written, and of a certificate.
+fn deciding<'a>(alloc: Global, name: &'a str, other: &'a str) -> Result<Command<'a>, AllocError>
+    ensures app { IfOk result (λ c. app_of c ≡ deciding_app name.entry.now other.entry.now) }
+    ensures local { IfOk result (λ c. (out-Command c).has_globals ≡ false) }
+{
+    Command::new(alloc, name)
+        .arg(place(alloc, "A"))?
+        .arg(place(alloc, other))?
+        .arg(place(alloc, "CERT"))?
+        .arg(option_alone(alloc, "finite"))
+}
+
+/// `empty A E CERT [--finite]`
+fn empty<'a>(alloc: Global) -> Result<Command<'a>, AllocError>
+    ensures app { IfOk result (λ c. app_of c ≡ empty_app) }
+    ensures local { IfOk result (λ c. (out-Command c).has_globals ≡ false) }
+{
+    deciding(alloc, "empty", "E")
+}
+
+/// `universal A U CERT [--finite]`
+fn universal<'a>(alloc: Global) -> Result<Command<'a>, AllocError>
+    ensures app { IfOk result (λ c. app_of c ≡ universal_app) }
+    ensures local { IfOk result (λ c. (out-Command c).has_globals ≡ false) }
+{
+    deciding(alloc, "universal", "U")
+}
+
 /// The program's command, which needs one of its subcommands.
 pub fn rabit<'a>(alloc: Global) -> Result<Command<'a>, AllocError>
     ensures { IfOk result (λ c. app_of c ≡ rabit_app) }
@@ -118,5 +154,8 @@ pub fn rabit<'a>(alloc: Global) -> Result<Command<'a>, AllocError>
         .subcommand(reduce(alloc)?)?
         .subcommand(drill(alloc)?)?
         .subcommand(union(alloc)?)?
-        .subcommand(intersect(alloc)?)
+        .subcommand(intersect(alloc)?)?
+        .subcommand(shrink(alloc)?)?
+        .subcommand(empty(alloc)?)?
+        .subcommand(universal(alloc)?)
 }

@@ -2,6 +2,11 @@
 
 use auto_core::Mode;
 
+/// The lookahead of a decision that names none.
+pub const USUAL_LOOK: u32 = 3;
+/// The most elements of a search that names no limit.
+pub const USUAL_LIMIT: u32 = 20_000;
+
 /// A question: a command with its files' names and its numbers.
 #[derive(Debug, Drop)]
 pub enum Question {
@@ -62,6 +67,39 @@ pub enum Question {
         first: String,
         /// The second automaton's file.
         second: String,
+        /// Lassos or finite words.
+        mode: Mode,
+    },
+    /// Leaves out the letters of a certificate's lasso, or of its word, that are not needed.
+    Shrink {
+        /// The first automaton's file.
+        first: String,
+        /// The second automaton's file.
+        second: String,
+        /// The certificate's file.
+        certificate: String,
+        /// The file that the shorter certificate is written to.
+        shorter: String,
+    },
+    /// Decides whether an automaton accepts nothing, and writes an automaton that does and the certificate.
+    Empty {
+        /// The automaton's file.
+        automaton: String,
+        /// The file that the automaton without a lasso is written to.
+        made: String,
+        /// The file that the certificate is written to.
+        certificate: String,
+        /// Lassos or finite words.
+        mode: Mode,
+    },
+    /// Decides whether an automaton accepts everything over its labels, and writes an automaton that does and the certificate.
+    Universal {
+        /// The automaton's file.
+        automaton: String,
+        /// The file that the automaton with all lassos is written to.
+        made: String,
+        /// The file that the certificate is written to.
+        certificate: String,
         /// Lassos or finite words.
         mode: Mode,
     },

@@ -8,6 +8,7 @@ use Rattle.rabit_cli.specs.Commands.{Means}
 use Rattle.rabit_cli.specs.Drill.{MeansDrill}
 use Rattle.rabit_cli.specs.Union.{MeansUnion}
 use Rattle.rabit_cli.specs.Intersect.{MeansIntersect}
+use Rattle.rabit_cli.specs.Shrink.{MeansShrink}
 use Rattle.rabit_cli.proofs.commands.reply_to.Goals as goal
 
 pub returns-in-Drill : goal.returns-in-Drill
@@ -30,3 +31,9 @@ returns-in-Intersect c =
     let m = c.in-Intersect.mode in
     subst (λ q. IfOk c.reply-in-Intersect.result (Means (Some (told q)) values)) (sym c.in-Intersect.is)
     (IfOk-weaker c.reply-in-Intersect.result (λ (r : Reply). MeansIntersect m values r) (λ (r : Reply). MeansIntersect m values r) (λ r means. means) c.reply-in-Intersect.ensures)
+
+pub returns-in-Shrink : goal.returns-in-Shrink
+returns-in-Shrink c =
+    let values = c.args.values.now in
+    subst (λ q. IfOk c.reply-in-Shrink.result (Means (Some (told q)) values)) (sym c.in-Shrink.is)
+    (subst (λ name. IfOk c.reply-in-Shrink.result (λ (r : Reply). MeansShrink name values r)) c.as_str-in-Shrink.ensures.value c.reply-in-Shrink.ensures)

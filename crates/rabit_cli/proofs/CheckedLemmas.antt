@@ -1,0 +1,92 @@
+-- What `empty` and `universal` leave is right for a check.
+use Rattle.std.proofs.Common.{◌≡◌, ℕ, ◌^◌, ◌≤◌, List, [], ◌∷◌, length, inr, refl, sym, ◌∙◌, ap, arith}
+use Rattle.std.specs.FinMap as map
+use Rattle.shelf_io.specs.Shelf.{FileMap}
+use Rattle.auto_core.specs.declared.parts.Mode.{Mode}
+use Rattle.ba_format.specs.declared.parts.Named.{Named}
+use Rattle.ba_format.specs.declared.parts.Joined.{Joined}
+use Rattle.ba_format.specs.Reading.{Reads}
+use Rattle.ba_format.specs.Writing.{written}
+use Rattle.ba_format.proofs.FaultlessLemmas.{read_is_within}
+use Rattle.ba_format.proofs.LabelLemmas.{labels_fit}
+use Rattle.cert_text.specs.declared.types.Cert.{Cert}
+use Rattle.cert_text.specs.declared.types.Body.{Body}
+use Rattle.cert_text.specs.declared.types.Body.TheVariants.{Yes, NoLasso, NoWord, Listing}
+use Rattle.cert_text.specs.Text.{text}
+use Rattle.cert_check.specs.Laws.{IsValid}
+use Rattle.rabit_frame.specs.declared.parts.Value.TheVariants as value
+use Rattle.rabit_frame.specs.declared.parts.Status.TheVariants as status
+use Rattle.rabit_frame.specs.declared.parts.Reply.{Reply}
+use Rattle.rabit_frame.specs.Files.{Output}
+use Rattle.rabit_frame.specs.Reading.{FileReads, only_said}
+use Rattle.rabit_words.specs.Question.{NamesDiffer}
+use Rattle.rabit_cli.specs.Printed.{included_text, not_included_text, word_not_included_text, limit_text}
+use Rattle.rabit_cli.specs.Files.{check_limits, automaton_file, ReadsCertificate}
+use Rattle.rabit_cli.specs.Replies.{IsVerdictReply}
+use Rattle.rabit_cli.specs.Property.{IsPropertyReply, property_puts}
+use Rattle.rabit_cli.specs.Empty.{empty_text, emptiness}
+use Rattle.rabit_cli.specs.Universal.{all_loops, universality}
+use Rattle.rabit_cli.specs.Laws.{EmptyIsChecked, UniversalIsChecked}
+use Rattle.rabit_cli.proofs.EmptyLemmas.{empty_is_short}
+use Rattle.rabit_cli.proofs.UniversalLemmas.{universal_is_short}
+use Rattle.rabit_cli.proofs.LawLemmas.{written as put_there, other as put_elsewhere, reads_still}
+
+-- ---- the verdict of a check, beside what was found
+
+pub record Agrees (m : Mode) (pair : Joined) (body : Body) (r : Reply) : Type 0 where
+  pub checked : Reply
+  pub says : IsVerdictReply m pair body [] checked
+  pub same : checked.status ≡ r.status
+
+agrees : (m : Mode) (name : List ℕ) (pair : Joined) (body : Body) (puts : List Output) (r : Reply) → IsPropertyReply name pair body puts r → Agrees m pair body r
+agrees m name pair (Yes b) puts r e = record { checked = only_said status.Done (included_text m); says = refl; same = sym (ap (λ z. z.status) e) }
+agrees m name pair (NoLasso l) puts r e = record { checked = only_said status.Refuted (not_included_text pair.labels l); says = refl; same = sym (ap (λ z. z.status) e) }
+agrees m name pair (NoWord w) puts r e = record { checked = only_said status.Refuted (word_not_included_text pair.labels w); says = refl; same = sym (ap (λ z. z.status) e) }
+agrees m name pair (Listing l) puts r e = record { checked = only_said status.Limit (limit_text l.limit); says = refl; same = sym (ap (λ z. z.status) e) }
+
+-- ---- the files that are left
+
+module _ (files : FileMap) (a m c made : List ℕ) (cert : Cert) (apart : NamesDiffer a m c) where
+  abbrev left : FileMap
+  left = map.insert (map.insert files m made) c (text cert)
+
+  read_one : (one : Named) (number : ℕ) → FileReads files (automaton_file 1 check_limits a) (value.Automaton one) → FileReads left (automaton_file number check_limits a) (value.Automaton one)
+  read_one one number read =
+      let (bytes, has, few, reads) =
+      reads_still (map.insert files m made) c (text cert) (automaton_file 1 check_limits a) (value.Automaton one) (λ e. apart.1 (sym e))
+      (reads_still files m made (automaton_file 1 check_limits a) (value.Automaton one) (λ e. apart.0 (sym e)) read) in
+      (bytes, has, few, reads)
+
+  read_made : (other : Named) (number : ℕ) → length made ≤ 2 ^ 24 → Reads made check_limits other → FileReads left (automaton_file number check_limits m) (value.Automaton other)
+  read_made other number short reads = (made, put_elsewhere (map.insert files m made) c (text cert) m (λ e. apart.2 (sym e)) ∙ put_there files m made, short, reads)
+
+  read_cert : (pair : Joined) → IsValid pair cert → length (text cert) ≤ 2 ^ 30 → ReadsCertificate left c cert
+  read_cert pair valid short = (text cert, put_there (map.insert files m made) c (text cert), short, (valid.formed, refl))
+
+pub empty_checked : EmptyIsChecked
+empty_checked files a e c mode one other pair cert r apart is short says =
+    let answer = agrees cert.mode emptiness.name pair cert.body (property_puts e empty_text c cert) r says in (
+      answer.checked,
+      inr (
+        value.Automaton one ∷ value.Automaton other ∷ value.Certificate cert ∷ [],
+        (read_one files a e c empty_text cert apart one 1 is.read, (read_made files a e c empty_text cert apart other 2 empty_is_short is.made, (read_cert files a e c empty_text cert apart pair is.valid short, tt))),
+        (one, other, cert, refl, (pair, is.joined, inr (is.valid.keeps, answer.says))),
+      ),
+      answer.same,
+    )
+
+pub universal_checked : UniversalIsChecked
+universal_checked files a u c mode one other pair cert r apart is short says =
+    let made = written (all_loops (length one.labels)) one.labels in
+    let (bytes, has, few, read) = is.read in
+    let within = read_is_within bytes check_limits one read in
+    let made_short = universal_is_short one.labels (omega (arith, within.labels, within.labels_named)) (labels_fit bytes check_limits one read).0 in
+    let answer = agrees cert.mode universality.name pair cert.body (property_puts u made c cert) r says in (
+      answer.checked,
+      inr (
+        value.Automaton other ∷ value.Automaton one ∷ value.Certificate cert ∷ [],
+        (read_made files a u c made cert apart other 1 made_short is.made, (read_one files a u c made cert apart one 2 is.read, (read_cert files a u c made cert apart pair is.valid short, tt))),
+        (other, one, cert, refl, (pair, is.joined, inr (is.valid.keeps, answer.says))),
+      ),
+      answer.same,
+    )

@@ -1,0 +1,16 @@
+use Rattle.std.proofs.Common.{MatchOption, subst}
+use Rattle.rabit_cli.specs.Shrink.{IsNo, IsShrunkBody}
+use Rattle.rabit_cli.proofs.ShrinkLemmas.{letters_of_left, letters_of_left_word}
+use Rattle.rabit_cli.proofs.shrinking.shrunk.Goals as goal
+
+pub verdict-requires-clause-letters : goal.verdict-requires-clause-letters
+verdict-requires-clause-letters c =
+    let pair = c.args.pair.now in
+    let cert = c.args.cert.now in
+    letters_of_left pair cert c.in-Some.body c.requires.keeps (subst (λ left. MatchOption left (¬ IsNo cert.body) (IsShrunkBody pair cert.body)) c.in-Some.is c.in_ok-body.ensures)
+
+pub verdict-requires-clause-word : goal.verdict-requires-clause-word
+verdict-requires-clause-word c =
+    let pair = c.args.pair.now in
+    let cert = c.args.cert.now in
+    letters_of_left_word pair cert c.in-Some.body c.requires.keeps (subst (λ left. MatchOption left (¬ IsNo cert.body) (IsShrunkBody pair cert.body)) c.in-Some.is c.in_ok-body.ensures)

@@ -1,0 +1,57 @@
+//! `empty A E CERT`, with `--finite`
+
+ghost use Rattle.std.specs.Prelude.{◌≡◌, ℕ, List as Items, IfOk};
+ghost use Rattle.ba_format.specs.Reading.{IsWithinLimits};
+ghost use Rattle.rabit_frame.specs.Reading.{AreOfKinds};
+ghost use Rattle.rabit_cli.specs.Files.{check_limits};
+ghost use Rattle.rabit_cli.specs.Property.{property_inputs, IsPropertyDecidedFor, MeansProperty};
+ghost use Rattle.rabit_cli.specs.Empty.{empty_text, emptiness};
+
+use crate::files::joined;
+use crate::properties::{decided, read_back};
+use auto_core::{List, Memory, Mode};
+use ba_format::Named;
+use rabit_frame::{Put, Reply, Value, line};
+use std::alloc::Global;
+
+/// The text of an automaton that accepts nothing.
+fn empty_text(alloc: Global) -> Result<List<u8>, Memory>
+    ensures { IfOk result (λ text. text ≡ empty_text) }
+{
+    line(alloc, "[0]\n[1]\n")
+}
+
+/// The reply to the automaton: whether it is included in the one that accepts nothing.
+fn of_one<'a>(
+    alloc: Global,
+    made: &'a str,
+    certificate: &'a str,
+    mode: Mode,
+    one: &Named,
+) -> Result<Reply<'a>, Memory>
+    requires { IsWithinLimits check_limits one.now }
+    ensures { IfOk result (IsPropertyDecidedFor emptiness made.entry.now certificate.entry.now mode one.now) }
+{
+    let bytes = empty_text(alloc)?;
+    let other = read_back(alloc, bytes.as_slice())?;
+    let pair = joined(alloc, one, &other)?;
+    let put = Put { name: made, bytes };
+    decided(alloc, "empty", put, certificate, mode, &pair)
+}
+
+/// The reply to what was read.
+pub fn reply<'a>(
+    alloc: Global,
+    made: &'a str,
+    certificate: &'a str,
+    mode: Mode,
+    values: &[Value],
+) -> Result<Reply<'a>, Memory>
+    requires { (a : Items ℕ) × AreOfKinds (property_inputs a) values.now }
+    ensures { IfOk result (MeansProperty emptiness made.entry.now certificate.entry.now mode values.now) }
+{
+    match values {
+        [Value::Automaton(one)] => of_one(alloc, made, certificate, mode, one),
+        _ => unreachable!(),
+    }
+}

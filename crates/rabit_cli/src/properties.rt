@@ -1,0 +1,192 @@
+//! What `empty` and `universal` have in common: an automaton is read and another is made, and the one's inclusion in the other is decided.
+
+ghost use Rattle.std.specs.Prelude.{◌≡◌, ◌≤◌, ◌<◌, ◌^◌, ◌++◌, ℕ, List as Items, length, All, None, IfOk, OnOk, codes};
+ghost use Rattle.auto_core.specs.declared.parts.Lasso.{Lasso as ALasso};
+ghost use Rattle.ba_format.specs.Faults.{fault_of};
+ghost use Rattle.ba_format.specs.Reading.{Reads, IsWithinLimits};
+ghost use Rattle.cert_text.specs.declared.types.Body.TheVariants as form;
+ghost use Rattle.decide.specs.Laws.{CanDecide};
+ghost use Rattle.rabit_frame.specs.Lines.{line_end};
+ghost use Rattle.rabit_cli.specs.Printed.{lasso_lines, word_line, holds_text, lasso_against_text, word_against_text};
+ghost use Rattle.rabit_cli.specs.Files.{check_limits};
+ghost use Rattle.rabit_cli.specs.Property.{property_inputs, IsPropertyReply, IsPropertyDecided};
+
+use crate::files::{CHECK_LIMITS, checked_automaton};
+use crate::letters::push_word;
+use crate::replies::limit_met;
+use auto_core::{Lasso, List, Memory, Mode, Word};
+use ba_format::{Joined, Named, ReadFault, Texts};
+use cert_text::{Body, write_cert};
+use rabit_frame::{Put, Reply, Slot, Status, append};
+use rabit_words::{USUAL_LIMIT, USUAL_LOOK};
+use std::alloc::Global;
+
+/// The file that they read.
+pub fn slots<'a>(alloc: Global, name: &'a str) -> Result<List<Slot<'a>>, Memory>
+    ensures { IfOk result (λ slots. slots ≡ property_inputs name.entry.now) }
+{
+    let mut slots = List::new(alloc);
+    slots.push(checked_automaton(1, name))?;
+    Ok(slots)
+}
+
+/// The automaton that the made text reads as.
+pub fn read_back(alloc: Global, text: &[u8]) -> Result<Named, Memory>
+    requires short { length text.now ≤ 2 ^ 24 }
+    requires faultless { fault_of text.now check_limits ≡ None }
+    ensures reads { IfOk result (Reads text.now check_limits) }
+    ensures within { IfOk result (IsWithinLimits check_limits) }
+{
+    match ba_format::read(alloc, text, &CHECK_LIMITS) {
+        Ok(named) => Ok(named),
+        Err(ReadFault::Ba(_fault)) => unreachable!(),
+        Err(ReadFault::Memory) => Err(Memory),
+    }
+}
+
+/// The automaton has the property.
+fn holds(alloc: Global, property: &str) -> Result<List<u8>, Memory>
+    ensures { IfOk result (λ text. text ≡ holds_text property.now) }
+{
+    let mut text = List::new(alloc);
+    append(&mut text, property.as_bytes())?;
+    append(&mut text, b"\n")?;
+    Ok(text)
+}
+
+/// The automaton has not the property.
+fn fails(alloc: Global, property: &str) -> Result<List<u8>, Memory>
+    ensures { IfOk result (λ text. text ≡ codes "not " ++ (property.now ++ line_end)) }
+{
+    let mut text = List::new(alloc);
+    append(&mut text, b"not ")?;
+    append(&mut text, property.as_bytes())?;
+    append(&mut text, b"\n")?;
+    Ok(text)
+}
+
+/// Appends the lines of the lasso.
+fn push_lasso(out: &mut List<u8>, labels: &Texts, lasso: &Lasso) -> Result<(), Memory>
+    requires prefix { All (λ a. a < length labels.now) lasso.now.prefix }
+    requires turn { All (λ a. a < length labels.now) lasso.now.turn }
+    ensures { OnOk result (out.new ≡ out.old ++ lasso_lines labels.now lasso.now) }
+{
+    append(out, b"prefix:")?;
+    push_word(out, labels, lasso.prefix.as_slice())?;
+    append(out, b"\nloop:")?;
+    push_word(out, labels, lasso.turn.as_slice())?;
+    append(out, b"\n")
+}
+
+/// Appends the line of the word.
+fn push_word_line(out: &mut List<u8>, labels: &Texts, word: &Word) -> Result<(), Memory>
+    requires { All (λ a. a < length labels.now) word.now }
+    ensures { OnOk result (out.new ≡ out.old ++ word_line labels.now word.now) }
+{
+    append(out, b"word:")?;
+    push_word(out, labels, word.as_slice())?;
+    append(out, b"\n")
+}
+
+/// The lasso shows that the automaton has not the property.
+fn fails_by_lasso(
+    alloc: Global,
+    property: &str,
+    labels: &Texts,
+    lasso: &Lasso,
+) -> Result<List<u8>, Memory>
+    requires prefix { All (λ a. a < length labels.now) lasso.now.prefix }
+    requires turn { All (λ a. a < length labels.now) lasso.now.turn }
+    ensures { IfOk result (λ text. text ≡ lasso_against_text property.now labels.now lasso.now) }
+{
+    let mut text = fails(alloc, property)?;
+    push_lasso(&mut text, labels, lasso)?;
+    Ok(text)
+}
+
+/// The word shows that the automaton has not the property.
+fn fails_by_word(
+    alloc: Global,
+    property: &str,
+    labels: &Texts,
+    word: &Word,
+) -> Result<List<u8>, Memory>
+    requires { All (λ a. a < length labels.now) word.now }
+    ensures { IfOk result (λ text. text ≡ word_against_text property.now labels.now word.now) }
+{
+    let mut text = fails(alloc, property)?;
+    push_word_line(&mut text, labels, word)?;
+    Ok(text)
+}
+
+/// What an answer with this body says of the property, where these files are written before.
+fn verdict<'a>(
+    alloc: Global,
+    property: &str,
+    pair: &Joined,
+    body: &Body,
+    puts: List<Put<'a>>,
+) -> Result<Reply<'a>, Memory>
+    requires letters { (lasso : ALasso) → body.now ≡ form.NoLasso lasso → All (λ a. a < length pair.now.labels) lasso.prefix × All (λ a. a < length pair.now.labels) lasso.turn }
+    requires word { (word : Items ℕ) → body.now ≡ form.NoWord word → All (λ a. a < length pair.now.labels) word }
+    ensures { IfOk result (IsPropertyReply property.now pair.now body.now puts.entry) }
+{
+    match body {
+        Body::Yes(_) => {
+            let text = holds(alloc, property)?;
+            Ok(Reply {
+                status: Status::Done,
+                text,
+                puts,
+            })
+        },
+        Body::NoLasso(lasso) => {
+            let text = fails_by_lasso(alloc, property, &pair.labels, lasso)?;
+            Ok(Reply {
+                status: Status::Refuted,
+                text,
+                puts,
+            })
+        },
+        Body::NoWord(word) => {
+            let text = fails_by_word(alloc, property, &pair.labels, word)?;
+            Ok(Reply {
+                status: Status::Refuted,
+                text,
+                puts,
+            })
+        },
+        Body::Listing(list) => {
+            let text = limit_met(alloc, list.limit)?;
+            Ok(Reply {
+                status: Status::Limit,
+                text,
+                puts,
+            })
+        },
+    }
+}
+
+/// The reply to the joined automata: the made text and the answer's are to be written, in this order.
+pub fn decided<'a>(
+    alloc: Global,
+    property: &str,
+    made: Put<'a>,
+    certificate: &'a str,
+    mode: Mode,
+    pair: &Joined,
+) -> Result<Reply<'a>, Memory>
+    requires { CanDecide pair.now }
+    ensures { IfOk result (IsPropertyDecided property.now made.entry.bytes made.entry.name certificate.entry.now mode pair.now) }
+{
+    let cert = decide::include(alloc, pair, mode, USUAL_LOOK, USUAL_LIMIT)?;
+    let bytes = write_cert(alloc, &cert)?;
+    let answer = Put {
+        name: certificate,
+        bytes,
+    };
+    let mut puts = List::new(alloc);
+    puts.push(made)?;
+    puts.push(answer)?;
+    verdict(alloc, property, pair, &cert.body, puts)
+}

@@ -1,0 +1,141 @@
+//! `shrink A B CERT OUT`
+
+ghost use Rattle.std.specs.Prelude.{◌≡◌, ℕ, List as Items, IfOk, MatchOption};
+ghost use Rattle.ba_format.specs.declared.parts.Joined.{Joined as AJoined};
+ghost use Rattle.ba_format.specs.Reading.{IsWithinLimits};
+ghost use Rattle.ba_format.specs.Joining.{IsJoined};
+ghost use Rattle.cert_text.specs.WellFormed.{WellFormed};
+ghost use Rattle.cert_check.specs.Rules.{KeepsRules};
+ghost use Rattle.rabit_frame.specs.Reading.{AreOfKinds};
+ghost use Rattle.rabit_cli.specs.Files.{check_limits, large_limits, HasLabelTexts};
+ghost use Rattle.rabit_cli.specs.Replies.{nothing_to_shrink_reply};
+ghost use Rattle.rabit_cli.specs.Shrink.{shrink_inputs, IsNo, IsShrunkBody, IsShrinkReply, MeansShrink};
+
+use crate::combining::joined;
+use crate::files::{
+    automaton, certificate, certificate_slot, checked_automaton, first_automaton, large_automaton,
+};
+use crate::replies;
+use auto_core::{List, Memory};
+use ba_format::{Joined, Named};
+use cert_check::CheckFault;
+use cert_text::{Body, Cert, write_cert};
+use lasso_shrink::{shrink, shrink_word};
+use rabit_frame::{Put, Reply, Slot, Status, Value, line};
+use std::alloc::Global;
+
+/// The files that it reads.
+pub fn slots<'a>(
+    alloc: Global,
+    first: &'a str,
+    second: &'a str,
+    cert: &'a str,
+) -> Result<List<Slot<'a>>, Memory>
+    ensures { IfOk result (λ slots. slots ≡ shrink_inputs first.entry.now second.entry.now cert.entry.now) }
+{
+    let mut slots = List::new(alloc);
+    slots.push(large_automaton(first))?;
+    slots.push(checked_automaton(2, second))?;
+    slots.push(certificate_slot(cert))?;
+    Ok(slots)
+}
+
+/// The certificate is valid, and has neither a lasso nor a word.
+fn nothing_to_shrink<'a>(alloc: Global) -> Result<Reply<'a>, Memory>
+    ensures { IfOk result (λ reply. reply ≡ nothing_to_shrink_reply) }
+{
+    let text = line(alloc, "nothing to shrink\n")?;
+    Ok(Reply::saying(alloc, Status::NothingToShrink, text))
+}
+
+/// The body with what is left of its lasso or of its word, if it has one.
+fn left_of(alloc: Global, pair: &Joined, cert: &Cert) -> Result<Option<Body>, Memory>
+    requires { KeepsRules pair.now cert.now }
+    ensures { IfOk result (λ left. MatchOption left (¬ IsNo cert.now.body) (IsShrunkBody pair.now cert.now.body)) }
+{
+    match &cert.body {
+        Body::NoLasso(lasso) => {
+            let left = shrink(alloc, &pair.first, &pair.second, lasso)?;
+            Ok(Some(Body::NoLasso(left)))
+        },
+        Body::NoWord(word) => {
+            let left = shrink_word(alloc, &pair.first, &pair.second, word)?;
+            Ok(Some(Body::NoWord(left)))
+        },
+        Body::Yes(_) => Ok(None),
+        Body::Listing(_) => Ok(None),
+    }
+}
+
+/// The reply to a valid certificate.
+fn shrunk<'a>(alloc: Global, name: &'a str, pair: &Joined, cert: &Cert) -> Result<Reply<'a>, Memory>
+    requires keeps { KeepsRules pair.now cert.now }
+    ensures { IfOk result (IsShrinkReply name.entry.now pair.now cert.now) }
+{
+    let Some(body) = left_of(alloc, pair, cert)? else {
+        return nothing_to_shrink(alloc);
+    };
+    let left = Cert {
+        mode: cert.mode,
+        first_states: cert.first_states,
+        second_states: cert.second_states,
+        labels: cert.labels,
+        body,
+    };
+    let bytes = write_cert(alloc, &left)?;
+    let mut puts = List::new(alloc);
+    puts.push(Put { name, bytes })?;
+    replies::verdict(alloc, left.mode, pair, &left.body, puts)
+}
+
+/// The reply to the joined automata and the certificate.
+fn checked<'a>(
+    alloc: Global,
+    name: &'a str,
+    pair: &Joined,
+    cert: &Cert,
+) -> Result<Reply<'a>, Memory>
+    requires labels { HasLabelTexts pair.now }
+    requires well_formed { WellFormed cert.now }
+    ensures { IfOk result (IsShrinkReply name.entry.now pair.now cert.now) }
+{
+    match cert_check::check(alloc, pair, cert) {
+        Ok(_verdict) => shrunk(alloc, name, pair, cert),
+        Err(CheckFault::Refused(refusal)) => replies::refused(alloc, refusal),
+        Err(CheckFault::Memory) => Err(Memory),
+    }
+}
+
+/// The reply to the automata and the certificate.
+fn of_three<'a>(
+    alloc: Global,
+    name: &'a str,
+    one: &Named,
+    two: &Named,
+    cert: &Cert,
+) -> Result<Reply<'a>, Memory>
+    requires one { IsWithinLimits large_limits one.now }
+    requires two { IsWithinLimits check_limits two.now }
+    requires well_formed { WellFormed cert.now }
+    ensures { IfOk result (λ reply. (pair : AJoined) × IsJoined one.now two.now pair × IsShrinkReply name.entry.now pair cert.now reply) }
+{
+    let pair = joined(alloc, one, two)?;
+    checked(alloc, name, &pair, cert)
+}
+
+/// The reply to what was read.
+pub fn reply<'a>(alloc: Global, name: &'a str, values: &[Value]) -> Result<Reply<'a>, Memory>
+    requires { (a b c : Items ℕ) × AreOfKinds (shrink_inputs a b c) values.now }
+    ensures { IfOk result (MeansShrink name.entry.now values.now) }
+{
+    match values {
+        [first, second, third] => of_three(
+            alloc,
+            name,
+            first_automaton(first),
+            automaton(second),
+            certificate(third),
+        ),
+        _ => unreachable!(),
+    }
+}
