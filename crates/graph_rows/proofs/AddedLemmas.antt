@@ -1,8 +1,7 @@
 -- Columns added to a row, one addition after another, and row after row.
-use Rattle.std.proofs.Common.{◌≡◌, ℕ, ◌+◌, ◌*◌, ◌<◌, ◌≤◌, ◌↔◌, ◌⊎◌, inl, inr, true, false, List, refl, sym, ◌∙◌, subst, arith}
-use Rattle.std.proofs.lemmas.Bool.{cases_eq, false≢true}
-use Rattle.auto_core.specs.Automaton.{Automaton, IsAccepting, Moves, IsSuccessors, trans_at}
-use Rattle.auto_core.specs.Rows.{HasCell, cell_of, bit_of}
+use Rattle.std.proofs.Common.{◌≡◌, ℕ, ◌+◌, ◌*◌, ◌<◌, ◌≤◌, ◌↔◌, ◌⊎◌, inl, inr, List, refl, sym, ◌∙◌, subst, arith}
+use Rattle.std.proofs.lemmas.Bool.{cases_eq}
+use Rattle.auto_core.specs.Automaton.{Automaton, Moves, IsSuccessors, trans_at}
 use Rattle.auto_core.proofs.MoveLemmas.{successor_moves, moves_in_successors}
 use Rattle.graph_rows.specs.Added.{HasAdded}
 

@@ -1,5 +1,5 @@
 -- The row of a table as marks on what its arcs lead to.
-use Rattle.std.proofs.Common.{◌≡◌, ℕ, ◌*◌, ◌<◌, ◌≤◌, ◌↔◌, inl, inr, true, false, List, sym, ◌∙◌, arith}
+use Rattle.std.proofs.Common.{◌≡◌, ℕ, ◌*◌, ◌<◌, ◌≤◌, ◌↔◌, inl, inr, false, List, sym, ◌∙◌, arith}
 use Rattle.std.proofs.lemmas.Bool.{cases_lt, false≢true}
 use Rattle.auto_core.specs.Rows.{HasBit, HasCell, bit_of, cell_of}
 use Rattle.auto_core.specs.Reach.{IsTable, Arc}

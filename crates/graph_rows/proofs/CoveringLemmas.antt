@@ -1,59 +1,9 @@
 -- Rows with a bit in common, and covering row by row.
-use Rattle.std.proofs.Common.{◌≡◌, ℕ, ◌+◌, ◌*◌, ◌/◌, ◌%◌, ◌^◌, ◌<◌, ◌≤◌, ◌↔◌, inl, inr, ◌==◌, Bool, true, false, List, length, get_or, refl, sym, ap, ◌∙◌, subst, arith, min, bit_and, w64}
-use Rattle.std.specs.Int.{bit_at, trailing_zeros}
-use Rattle.std.proofs.lemmas.Bool.{cases_eq, cases_lt, cases_Bool, eqb-true, false≢true}
-use Rattle.std.proofs.lemmas.Nat.Bits.{bit_at_and, bit_at-lt, bit_at-zero, bit_at-trailing_zeros}
-use Rattle.auto_core.specs.Rows.{HasBit, bit_of}
-use Rattle.auto_core.specs.Reach.{Arc}
+use Rattle.std.proofs.Common.{◌≡◌, ℕ, ◌+◌, ◌<◌, ◌≤◌, ◌↔◌, inl, inr, Bool, true, false, List, sym, ◌∙◌, subst, arith}
+use Rattle.std.proofs.lemmas.Bool.{cases_eq, cases_lt, cases_Bool, false≢true}
+use Rattle.auto_core.specs.Rows.{HasBit}
 use Rattle.auto_core.specs.Graph.{Graph, IsGraph, Covers}
-use Rattle.auto_core.proofs.BitLemmas.{bit_past}
 use Rattle.graph_rows.specs.Covering.{CoversRow}
-use Rattle.graph_rows.proofs.NextLemmas.{bit_in_word}
-
-both_ones : (a b : ℕ) → a < 2 → b < 2 → min a b ≡ 1 → (a ≡ 1) × (b ≡ 1)
-both_ones a b a_bit b_bit h = omega arith
-
-not_both : (a b : ℕ) → min a b ≡ 0 → a ≡ 1 → b ≡ 1 → ⊥
-not_both a b h e f = omega arith
-
-pub meet_found :
-    (row other : List ℕ) (i : ℕ)
-    → bit_and (get_or row i 0) (get_or other i 0) < 2 ^ 64
-    → ¬ (bit_and (get_or row i 0) (get_or other i 0) ≡ 0)
-    → (q : ℕ) × HasBit row q × HasBit other q
-meet_found row other i fits some =
-    let a : ℕ = get_or row i 0 in
-    let b : ℕ = get_or other i 0 in
-    let word : ℕ = bit_and a b in
-    let positive : 0 < word = omega arith in
-    let lowest = bit_at-trailing_zeros w64 word positive fits in
-    let t : ℕ = trailing_zeros w64 word in
-    let t_in : t < 64 = lowest.0 in
-    let ones = both_ones (bit_at a t) (bit_at b t) (bit_at-lt a t) (bit_at-lt b t) (sym (bit_at_and a b t) ∙ lowest.1) in
-    let at : (i * 64 + t) / 64 ≡ i = omega arith in
-    let bit : (i * 64 + t) % 64 ≡ t = omega arith in (
-      i * 64 + t,
-      bit_in_word row i t (i * 64 + t) at bit ∙ ap (λ n. n == 1) ones.0,
-      bit_in_word other i t (i * 64 + t) at bit ∙ ap (λ n. n == 1) ones.1,
-    )
-
-pub none_meet :
-    (row other : List ℕ)
-    → ((k : ℕ) → k < length row → bit_and (get_or row k 0) (get_or other k 0) ≡ 0)
-    → (q : ℕ)
-    → HasBit row q
-    → HasBit other q
-    → ⊥
-none_meet row other none q first second =
-    elim (cases_lt (q / 64) (length row)) [
-      | inl near ↦
-          let a : ℕ = get_or row (q / 64) 0 in
-          let b : ℕ = get_or other (q / 64) 0 in
-          let t : ℕ = q % 64 in
-          let nothing : min (bit_at a t) (bit_at b t) ≡ 0 = sym (bit_at_and a b t) ∙ ap (λ n. bit_at n t) (none (q / 64) near) ∙ bit_at-zero t in
-          not_both (bit_at a t) (bit_at b t) nothing (eqb-true (bit_at a t) 1 first) (eqb-true (bit_at b t) 1 second)
-      | inr far ↦ false≢true (sym (bit_past row q far) ∙ first)
-    ]
 
 -- Each arc of g out of s to a state below `upto` has its answer.
 pub record CoversUpto (S : ℕ → ℕ → Type 0) (g h : Graph) (s upto : ℕ) : Type 0 where

@@ -1,9 +1,9 @@
 -- A row of a graph extended by a letter, from the lowest column of the row up.
-use Rattle.std.proofs.Common.{◌≡◌, ℕ, ◌+◌, ◌*◌, ◌<◌, ◌≤◌, ◌↔◌, ◌⊎◌, inl, inr, true, false, List, refl, sym, ◌∙◌, subst, arith}
+use Rattle.std.proofs.Common.{◌≡◌, ℕ, ◌+◌, ◌*◌, ◌<◌, ◌≤◌, ◌↔◌, ◌⊎◌, inl, inr, false, List, sym, ◌∙◌, subst, arith}
 use Rattle.std.proofs.lemmas.Bool.{cases_eq, cases_lt, false≢true}
-use Rattle.auto_core.specs.Automaton.{Automaton, IsAutomaton, IsAccepting, Moves}
-use Rattle.auto_core.specs.Rows.{HasCell, cell_of, bit_of}
-use Rattle.auto_core.specs.Reach.{IsTable, Arc}
+use Rattle.auto_core.specs.Automaton.{Automaton, IsAutomaton}
+use Rattle.auto_core.specs.Rows.{cell_of, bit_of}
+use Rattle.auto_core.specs.Reach.{Arc}
 use Rattle.auto_core.specs.Graph.{Graph, IsGraph, graph_of_tables, letter_graph, extended}
 use Rattle.auto_core.proofs.MoveLemmas.{move_in_range}
 

@@ -1,4 +1,3 @@
-pub mod NextLemmas
 pub mod AddedLemmas
 pub mod RowsLemmas
 pub mod ExtensionLemmas

@@ -1,12 +1,12 @@
 -- Tables filled row by row, and the graphs and blocks that they make.
-use Rattle.std.proofs.Common.{◌≡◌, ℕ, ◌+◌, ◌*◌, ◌/◌, ◌<◌, ◌≤◌, ◌↔◌, ◌⊎◌, inl, inr, true, false, List, ◌++◌, length, take, drop, refl, sym, ap, ◌∙◌, subst, arith}
+use Rattle.std.proofs.Common.{◌≡◌, ℕ, ◌+◌, ◌*◌, ◌<◌, ◌≤◌, ◌↔◌, inl, inr, false, List, ◌++◌, length, take, drop, sym, ap, ◌∙◌, subst, arith}
 use Rattle.std.proofs.Math.Seq.{take-append_seam, drop-append_seam}
 use Rattle.std.proofs.lemmas.Bool.{cases_eq, false≢true}
 use Rattle.auto_core.specs.Rows.{HasCell, cell_of, bit_of}
 use Rattle.auto_core.specs.Reach.{IsTable}
 use Rattle.auto_core.specs.Graph.{Graph, IsGraph, SameGraph, graph_of_tables}
 use Rattle.graph_rows.specs.Added.{HasAdded}
-use Rattle.graph_rows.specs.Block.{width_of, plane_len, joined_plane, past_plane, block_graph, IsFormed}
+use Rattle.graph_rows.specs.Block.{width_of, joined_plane, past_plane, block_graph, IsFormed}
 
 -- the first rows have the pairs of P, the others nothing
 pub record HasRows (width upto : ℕ) (P : ℕ → ℕ → Type 0) (table : List ℕ) : Type 0 where

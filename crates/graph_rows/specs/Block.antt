@@ -1,6 +1,5 @@
 -- Graphs held in blocks of words.
-use Rattle.std.specs.Prelude.{◌≡◌, ℕ, ◌+◌, ◌*◌, ◌/◌, ◌<◌, ◌↔◌, List, length, take, drop}
-use Rattle.auto_core.specs.Rows.{HasCell, cell_of}
+use Rattle.std.specs.Prelude.{◌≡◌, ℕ, ◌+◌, ◌*◌, ◌/◌, List, length, take, drop}
 use Rattle.auto_core.specs.Reach.{IsTable}
 use Rattle.auto_core.specs.Graph.{Graph, IsGraph, graph_of_tables}
 

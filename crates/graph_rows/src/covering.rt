@@ -8,22 +8,10 @@ ghost use Rattle.auto_core.specs.Graph.{Covers, IsGraph, graph_of_tables};
 ghost use Rattle.graph_rows.specs.Block.{width_of, block_graph, IsFormed};
 ghost use Rattle.graph_rows.specs.Covering.{CoversRow};
 
-use crate::{bits, block};
+use crate::block;
 use auto_core::rows;
 use bit_rel::Rel;
-
-/// Tells whether the rows, of the same length, have a bit in common.
-fn meets(row: &[u64], other: &[u64]) -> bool
-    requires { length row.now ≡ length other.now }
-    ensures { IsTrue result ↔ ((q : ℕ) × HasBit row.now q × HasBit other.now q) }
-{
-    for i in 0..row.len() {
-        if row[i] & other[i] != 0 {
-            return true;
-        }
-    }
-    false
-}
+use row_steps::{meets, next_bit};
 
 /// Tells whether an arc leads from the state of the row to some state that the order relates the target to: one of `past` if
 /// `flagged` says so, else one of `joined`.
@@ -76,7 +64,7 @@ fn covers_row(
 {
     let targets = rows::row_at(joined, width, row as usize);
     let mut at = 0;
-    while let Some(target) = bits::next_bit(targets, at) {
+    while let Some(target) = next_bit(targets, at) {
         let flagged = rows::has_cell(past, width, row as usize, target);
         if !answers(
             order,

@@ -7,8 +7,9 @@ ghost use Rattle.auto_core.specs.Graph.{IsGraph, SameGraph, graph_of_tables, let
 ghost use Rattle.graph_rows.specs.Block.{width_of, block_graph, IsFormed};
 ghost use Rattle.graph_rows.specs.Added.{HasAdded};
 
-use crate::{bits, block};
+use crate::block;
 use auto_core::{Auto, rows};
+use row_steps::next_bit;
 
 /// Joins the state of the row to the target, past an accepting state if the way to the target is or the target itself is one.
 fn add_arc(
@@ -86,7 +87,7 @@ fn add_row(
 {
     let reached = rows::row_at(from_joined, width, row as usize);
     let mut at = 0;
-    while let Some(middle) = bits::next_bit(reached, at) {
+    while let Some(middle) = next_bit(reached, at) {
         let flagged = rows::has_cell(from_past, width, row as usize, middle);
         add_moves(
             automaton,

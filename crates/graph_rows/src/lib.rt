@@ -2,7 +2,6 @@
 //! plane has the pairs of states that are joined, the second those that are joined past an accepting state.
 #![tactic(auto)]
 
-mod bits;
 mod block;
 mod covering;
 mod letters;

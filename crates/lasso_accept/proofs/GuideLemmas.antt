@@ -561,3 +561,34 @@ pub guide_leads :
     → HasCell (cond asked flagged any) width 0 p
 guide_leads A valid w target width any flagged g p true p_in l = (guide_along A valid w target width any flagged g p l.end l.flag p_in l.run l.lands).1 (l.passes refl)
 guide_leads A valid w target width any flagged g p false p_in l = (guide_along A valid w target width any flagged g p l.end l.flag p_in l.run l.lands).0
+
+-- Where the choice is between a row and itself, that row is chosen.
+chosen_itself : (A : Automaton) (row : List ℕ) (r : ℕ) → chosen A row row r ≡ row
+chosen_itself A row r = go (is_accepting A r) where
+  go : (b : Bool) → cond b row row ≡ row
+  go true = refl
+  go false = refl
+
+-- A row written back from the row at a place of a table.
+pub row_back :
+    (A : Automaton)
+    → IsAutomaton A
+    → (label width at : ℕ) (table row clear out : List ℕ)
+    → A.states ≤ width * 64
+    → ((q : ℕ) → q < width * 64 → bit_of row q ≡ cell_of table width at q)
+    → ((i : ℕ) → bit_of clear i ≡ false)
+    → ((p : ℕ) → p < width * 64 → HasCell out width 0 p ↔ (HasCell clear width 0 p ⊎ ((r : ℕ) × Moves A p label r × HasBit (chosen A row row r) r)))
+    → (p : ℕ)
+    → p < width * 64
+    → HasCell out width 0 p ↔ ((r : ℕ) × Moves A p label r × HasCell table width at r)
+row_back A valid label width at table row clear out room inside none here p p_in = (
+  λ h. elim ((here p p_in).0 h) [
+    | inl was ↦ absurd (false≢true (sym (none (0 * width * 64 + p)) ∙ was))
+    | inr (r, move, bit) ↦
+        let r_in = (move_in_range A valid p label r move).1 in
+        (r, move, sym (inside r (omega arith)) ∙ subst (λ x. HasBit x r) (chosen_itself A row r) bit)
+  ],
+  λ (r, move, cell).
+      let r_in = (move_in_range A valid p label r move).1 in
+      (here p p_in).1 (inr (r, move, subst (λ x. HasBit x r) (sym (chosen_itself A row r)) (inside r (omega arith) ∙ cell))),
+)

@@ -1,62 +1,59 @@
--- The states from which a loop is accepted, as those from which a place on a flagged cycle of its graph is reached; and accepted lassos
--- by them.
-use Rattle.std.proofs.Common.{◌↔◌, ℕ, suc, ◌<◌, ◌||◌, true, List, ◌++◌, drop, arith}
-use Rattle.auto_core.specs.Automaton.{Automaton, IsAutomaton}
+-- The states from which a loop is accepted, as those from which a flagged cycle of its graph is reached; and accepted lassos by them.
+use Rattle.std.proofs.Common.{◌≡◌, ◌↔◌, ℕ, suc, ◌<◌, ◌≤◌, ◌||◌, true, List, ◌∷◌, ◌++◌, length, take, drop, refl, ap, ◌∙◌, append-nil, arith}
+use Rattle.std.proofs.lemmas.List.{drop_all, take_all}
+use Rattle.auto_core.specs.Automaton.{Automaton, IsAutomaton, Moves, is_accepting}
 use Rattle.auto_core.specs.Run.{repeated}
 use Rattle.auto_core.specs.Accept.{AcceptsLasso}
 use Rattle.auto_core.specs.Pairs.{set_of}
 use Rattle.auto_core.specs.Rows.{HasBit}
-use Rattle.auto_core.specs.Reach.{Arc, ReturnsTo}
+use Rattle.auto_core.specs.Reach.{Arc}
 use Rattle.auto_core.proofs.PathLemmas.{run_join, run_split}
 use Rattle.auto_core.proofs.ReachLemmas.{close_trans}
 use Rattle.lasso_accept.specs.Plane.{ArePlanes}
-use Rattle.lasso_accept.specs.Looping.{LeadsToMark, AcceptsLoopFrom, AcceptsLassoFrom, AcceptsFromInitial, AreRests}
+use Rattle.loop_rows.specs.Loops.{LeadsToLoop}
+use Rattle.lasso_accept.specs.Looping.{AcceptsLoopFrom, AcceptsLassoFrom, AcceptsFromInitial, AreRests}
 use Rattle.lasso_accept.specs.Guide.{IsGuide}
 use Rattle.lasso_accept.proofs.GuideLemmas.{guide_rests}
 use Rattle.lasso_accept.proofs.LassoLemmas.{run_in_range, chain_as_run, run_as_chain, flagged_as_arcs}
 
-module _ (A : Automaton) (valid : IsAutomaton A) (v : List ℕ) (width : ℕ) (any flagged : List ℕ) (planes : ArePlanes A v width any flagged) (marks : List ℕ)
-    (turning : (p : ℕ) → HasBit marks p ↔ ((p < A.states) × ReturnsTo (Arc any A.states width) (Arc flagged A.states width) p)) where
-  leads_accepts : (p : ℕ) → LeadsToMark (Arc any A.states width) marks p → AcceptsLoopFrom A v p
-  leads_accepts p l =
-      let (at_in, (next, leaves, returns)) = (turning l.mark).0 l.marked in
-      let (g, way) = chain_as_run A valid v width any flagged planes l.way.0 p l.mark l.way.1 in
-      let (h, back) = chain_as_run A valid v width any flagged planes returns.0 next l.mark returns.1 in
-      let turn = (planes.flagged_runs l.mark next leaves.0 leaves.1).0 leaves.2 in
+-- A vector that was written whole holds what was written.
+pub written_whole : (new items : List ℕ) (len : ℕ) → length items ≤ length new → length new ≤ len → take len (new ++ drop (length new) items) ≡ new
+written_whole new items len short long = ap (λ x. take len (new ++ x)) (drop_all (length new) items short) ∙ ap (λ x. take len x) (append-nil new) ∙ take_all len new long
+
+module _ (A : Automaton) (valid : IsAutomaton A) (v : List ℕ) (width : ℕ) (any flagged : List ℕ) (planes : ArePlanes A v width any flagged) where
+  abbrev R : ℕ → ℕ → Type 0
+  R = Arc any A.states width
+
+  abbrev F : ℕ → ℕ → Type 0
+  F = Arc flagged A.states width
+
+  leads_accepts : (p : ℕ) → LeadsToLoop R F p → AcceptsLoopFrom A v p
+  leads_accepts p (x, way, (next, leaves, returns)) =
+      let (g, enters) = chain_as_run A valid v width any flagged planes way.0 p x way.1 in
+      let (h, back) = chain_as_run A valid v width any flagged planes returns.0 next x returns.1 in
+      let turn = (planes.flagged_runs x next leaves.0 leaves.1).0 leaves.2 in
       record {
-        before = l.way.0;
+        before = way.0;
         turns = suc returns.0;
-        state = l.mark;
+        state = x;
         flag = g;
-        enters = way;
+        enters = enters;
         some_turn = omega arith;
-        cycles = run_join A l.mark v next true (repeated v returns.0) l.mark h turn back;
+        cycles = run_join A x v next true (repeated v returns.0) x h turn back;
       }
 
-  accepts_leads : (p : ℕ) → p < A.states → AcceptsLoopFrom A v p → LeadsToMark (Arc any A.states width) marks p
+  accepts_leads : (p : ℕ) → p < A.states → AcceptsLoopFrom A v p → LeadsToLoop R F p
   accepts_leads p p_in a =
       let state_in = run_in_range A valid p (repeated v a.before) a.state a.flag p_in a.enters in
       let (x, y, to, turn, from) = flagged_as_arcs A valid v width any flagged planes a.turns a.state a.state state_in a.cycles in
       let way = run_as_chain A valid v width any flagged planes a.before p a.state a.flag p_in a.enters in
-      record {
-        mark = x;
-        way = close_trans (Arc any A.states width) p a.state x (a.before, way) to;
-        marked = (turning x).1 (turn.0, (y, turn, close_trans (Arc any A.states width) y a.state x from to));
-      }
+      (x, close_trans R p a.state x (a.before, way) to, (y, turn, close_trans R y a.state x from to))
 
-pub leads_as_accepts :
-    (A : Automaton)
-    → IsAutomaton A
-    → (v : List ℕ) (width : ℕ) (any flagged marks out : List ℕ)
-    → ArePlanes A v width any flagged
-    → ((p : ℕ) → HasBit marks p ↔ ((p < A.states) × ReturnsTo (Arc any A.states width) (Arc flagged A.states width) p))
-    → ((p : ℕ) → HasBit out p ↔ ((p < A.states) × LeadsToMark (Arc any A.states width) marks p))
-    → (p : ℕ)
-    → HasBit out p ↔ ((p < A.states) × AcceptsLoopFrom A v p)
-leads_as_accepts A valid v width any flagged marks out planes turning leading p = (
-  λ has. let b = (leading p).0 has in (b.0, leads_accepts A valid v width any flagged planes marks turning p b.1),
-  λ (p_in, a). (leading p).1 (p_in, accepts_leads A valid v width any flagged planes marks turning p p_in a),
-)
+  pub leads_as_accepts : (out : List ℕ) → ((p : ℕ) → HasBit out p ↔ ((p < A.states) × LeadsToLoop R F p)) → (p : ℕ) → HasBit out p ↔ ((p < A.states) × AcceptsLoopFrom A v p)
+  leads_as_accepts out leading p = (
+    λ has. let b = (leading p).0 has in (b.0, leads_accepts p b.1),
+    λ (p_in, a). (leading p).1 (p_in, accepts_leads p p_in a),
+  )
 
 -- A lasso is accepted where its prefix leads to a state from which its loop is.
 pub lasso_by_loop :
@@ -125,4 +122,11 @@ pub accepts_from_initial : AcceptsFromInitial
 accepts_from_initial A u v = (
   λ l. (lasso_by_loop A u v).1 (l.end, (l.flag, l.run), l.loop),
   λ a. let (p, run, loop) = (lasso_by_loop A u v).0 a in record { end = p; flag = run.0; run = run.1; loop = loop },
+)
+
+-- From a state a lasso with a letter more in front is accepted where a move with the letter leads to a state from which the lasso is.
+pub accepts_after_move : (A : Automaton) (a : ℕ) (u v : List ℕ) (p : ℕ) → AcceptsLassoFrom A (a ∷ u) v p ↔ ((r : ℕ) × Moves A p a r × AcceptsLassoFrom A u v r)
+accepts_after_move A a u v p = (
+  λ l. let (r, later, move, rest, e) = l.run in (r, move, record { end = l.end; flag = later; run = rest; loop = l.loop }),
+  λ (r, move, l). record { end = l.end; flag = is_accepting A r || l.flag; run = (r, l.flag, move, l.run, refl); loop = l.loop },
 )

@@ -3,14 +3,7 @@ use Rattle.std.specs.Prelude.{◌≡◌, ◌↔◌, ℕ, ◌+◌, ◌*◌, ◌<�
 use Rattle.auto_core.specs.Automaton.{Automaton}
 use Rattle.auto_core.specs.Run.{Run, repeated}
 use Rattle.auto_core.specs.Accept.{AcceptsLasso}
-use Rattle.auto_core.specs.Game.{Close}
-use Rattle.auto_core.specs.Rows.{HasBit, HasCell}
-
--- From the place p some marked place is reached along R, in any number of steps.
-pub record LeadsToMark (R : ℕ → ℕ → Type 0) (marks : List ℕ) (p : ℕ) : Type 0 where
-  pub mark : ℕ
-  pub way : Close R p mark
-  pub marked : HasBit marks mark
+use Rattle.auto_core.specs.Rows.{HasCell}
 
 -- From the state p the automaton accepts v^ω: for some k, some m of at least 1 and some state q, a run on k times v leads from p
 -- to q, and a run on m times v leads from q to q past an accepting state.

@@ -1,10 +1,11 @@
-//! Acceptance of a lasso: a cycle past an accepting state among the turns of its loop.
+//! Acceptance of a lasso: its prefix leads to a state from which its loop is accepted.
 
 ghost use Rattle.std.specs.Prelude.{◌↔◌, IfOk, IsTrue};
 ghost use Rattle.auto_core.specs.Accept.{AcceptsLasso};
 
-use crate::planes;
-use auto_core::{Auto, Lasso, Memory, reach, rows};
+use crate::looping::accepts_loop_from;
+use auto_core::{Auto, Lasso, Memory};
+use row_steps::meets;
 use set_rows::reached;
 use std::alloc::Global;
 
@@ -13,19 +14,7 @@ use std::alloc::Global;
 pub fn accepts_lasso(alloc: Global, automaton: &Auto, lasso: &Lasso) -> Result<bool, Memory>
     ensures { IfOk result (λ told. IsTrue told ↔ AcceptsLasso automaton.now lasso.now.prefix lasso.now.turn) }
 {
-    let states = automaton.states();
-    let width = rows::words_for(states);
-    let mut marks = reached(alloc, automaton, lasso.prefix.as_slice())?;
-    let turn = planes::planes_of(alloc, automaton, lasso.turn.as_slice(), width)?;
-    let mut back = Vec::from_slice(alloc, &marks)?;
-    let mut done = Vec::from_slice(alloc, &marks)?;
-    Ok(reach::has_flagged_cycle(
-        &turn.any,
-        &turn.flagged,
-        states,
-        width,
-        &mut marks,
-        &mut back,
-        &mut done,
-    ))
+    let ends = reached(alloc, automaton, lasso.prefix.as_slice())?;
+    let looping = accepts_loop_from(alloc, automaton, lasso.turn.as_slice())?;
+    Ok(meets(&ends, &looping))
 }

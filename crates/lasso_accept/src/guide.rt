@@ -1,6 +1,6 @@
 //! Where the rest of a word leads, place by place, made from its end to its beginning.
 
-ghost use Rattle.std.specs.Prelude.{◌≡◌, ◌+◌, ◌*◌, ◌^◌, ◌<◌, ◌≤◌, ◌↔◌, ◌⊎◌, ℕ, List, false, length, slice_index, IfOk, IsTrue};
+ghost use Rattle.std.specs.Prelude.{◌≡◌, ◌+◌, ◌-◌, ◌*◌, ◌^◌, ◌<◌, ◌≤◌, ◌↔◌, ◌⊎◌, ℕ, List, false, length, slice_index, IfOk, IsTrue};
 ghost use Rattle.auto_core.specs.Automaton.{IsAutomaton, Moves};
 ghost use Rattle.auto_core.specs.Rows.{HasBit, HasCell, bit_of, cell_of};
 ghost use Rattle.lasso_accept.specs.Plane.{chosen};
@@ -155,6 +155,36 @@ fn write_row(
     for word in 0..width {
         write_word(automaton, label, width, marked, plain, word, at, table);
     }
+}
+
+/// Writes the row before row `at` of the table: the states from which a move with the label leads to a state of that row. `row` and `out` are
+/// room for one row each.
+pub fn step_back(
+    automaton: &Auto,
+    label: u32,
+    width: usize,
+    at: usize,
+    table: &mut [u64],
+    row: &mut [u64],
+    out: &mut [u64],
+)
+    requires room { automaton.now.states ≤ width * 64 }
+    requires few { width < 2 ^ 32 }
+    requires valid { IsAutomaton automaton.now }
+    requires some { 1 ≤ at }
+    requires rows { at * width + width ≤ length table.old }
+    requires row_len { length row.old ≡ width }
+    requires out_len { length out.old ≡ width }
+    ensures here { (p : ℕ)
+        → p < width * 64
+        → HasCell table.new width (at - 1) p
+        ↔ ((r : ℕ) × Moves automaton.now p label r × HasCell table.old width at r) }
+    ensures others { (i p : ℕ) → p < width * 64 → ¬ (i ≡ at - 1) → cell_of table.new width i p ≡ cell_of table.old width i p }
+{
+    row.copy_from_slice(rows::row_at(table, width, at));
+    rows::clear_row(out);
+    write_row(automaton, label, width, row, row, 0, out);
+    row_steps::write_row(table, width, at - 1, out);
 }
 
 /// Writes all rows from the last one, which stands; the others are clear. `marked` and `plain` are room for one row each.

@@ -13,6 +13,7 @@ mod tables;
 mod words;
 
 pub use acceptance::accepts_lasso;
+pub use guide::step_back;
 pub use looping::{accepts_loop_from, rests_of};
 pub use runs::{LassoRun, run_of};
 pub use words::accepts_word;

@@ -7,6 +7,7 @@ ghost use Rattle.lasso_shrink.specs.Prefixes.{PrefixNeedsEach, HasLeftOut};
 
 use crate::copying::{copied, without};
 use crate::places::first_place;
+use crate::rests::Rests;
 use auto_core::{Auto, Lasso, Memory};
 use lasso_accept::{accepts_lasso, accepts_loop_from};
 use std::alloc::Global;
@@ -47,11 +48,15 @@ fn shrink_prefix(alloc: Global, first: &Auto, second: &Auto, lasso: Lasso) -> Re
 {
     let target = accepts_loop_from(alloc, first, lasso.turn.as_slice())?;
     let other_target = accepts_loop_from(alloc, second, lasso.turn.as_slice())?;
+    let mut rests = Rests::of(alloc, first, &lasso, &target)?;
+    let mut other_rests = Rests::of(alloc, second, &lasso, &other_target)?;
     let mut current = lasso;
-    let mut place = first_place(alloc, first, second, &current, &target, &other_target)?;
+    let mut place = first_place(alloc, first, second, &current, &rests, &other_rests)?;
     while let Some(at) = place {
+        rests.leave_out(first, &current, at);
+        other_rests.leave_out(second, &current, at);
         current = left_without(alloc, &current, at)?;
-        place = first_place(alloc, first, second, &current, &target, &other_target)?;
+        place = first_place(alloc, first, second, &current, &rests, &other_rests)?;
     }
     Ok(current)
 }

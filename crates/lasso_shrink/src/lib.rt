@@ -5,6 +5,7 @@ mod copying;
 mod lassos;
 pub mod laws;
 mod places;
+mod rests;
 mod words;
 
 pub use lassos::shrink;

@@ -6,8 +6,8 @@ ghost use Rattle.auto_core.specs.Graph.{LassoIn};
 ghost use Rattle.graph_rows.specs.Block.{width_of, block_graph, IsFormed};
 ghost use Rattle.lasso_test.specs.Loops.{HasLoop};
 
-use crate::looping::mark_in;
 use auto_core::{Memory, reach, rows};
+use loop_rows::{Room, mark_loops};
 use std::alloc::Global;
 use std::marker::Model;
 
@@ -18,6 +18,7 @@ pub struct Scratch {
     marks: Vec<u64>,
     back: Vec<u64>,
     done: Vec<u64>,
+    room: Room,
 }
 
 impl Model for Scratch {
@@ -46,11 +47,13 @@ impl Scratch {
         let marks = row(alloc, states)?;
         let back = row(alloc, states)?;
         let done = row(alloc, states)?;
+        let room = Room::new(alloc, states)?;
         Ok(Scratch {
             states,
             marks,
             back,
             done,
+            room,
         })
     }
 }
@@ -90,12 +93,7 @@ pub fn mark_looping(n: u32, h: &[u64], looping: &mut [u64], scratch: &mut Scratc
     ensures marked { (q : ℕ) → HasBit looping.new q ↔ HasLoop (block_graph n h.now) q }
     ensures kept { scratch.new ≡ n }
 {
-    mark_in(
-        n,
-        h,
-        looping,
-        &mut scratch.marks,
-        &mut scratch.back,
-        &mut scratch.done,
-    );
+    let joined = graph_rows::joined(n, h);
+    let past = graph_rows::past(n, h);
+    mark_loops(joined, past, n, looping, &mut scratch.room);
 }

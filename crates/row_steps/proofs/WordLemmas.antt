@@ -186,3 +186,7 @@ four_zero row at none k k_from k_in =
         ]
       ]
     ]
+
+-- the cells of a table's first row are its bits
+pub first_cell : (table : List ℕ) (width q : ℕ) → cell_of table width 0 q ≡ bit_of table q
+first_cell table width q = let e : 0 * width * 64 + q ≡ q = omega arith in ap (bit_of table) e

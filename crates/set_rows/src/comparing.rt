@@ -8,6 +8,7 @@ ghost use Rattle.set_rows.specs.Sets.{IsRow, IsSubset, IsBelow, IsCovered};
 
 use auto_core::{Auto, rows};
 use bit_rel::Rel;
+use row_steps::meets;
 
 /// Tells whether each member of the first set is one of the second. The rows have the same length.
 pub fn subset(row: &[u64], other: &[u64]) -> bool
@@ -20,19 +21,6 @@ pub fn subset(row: &[u64], other: &[u64]) -> bool
         }
     }
     true
-}
-
-/// Tells whether the rows, of the same length, have a bit in common.
-pub fn meets(row: &[u64], other: &[u64]) -> bool
-    requires { length row.now ≡ length other.now }
-    ensures { IsTrue result ↔ ((q : ℕ) × HasBit row.now q × HasBit other.now q) }
-{
-    for i in 0..row.len() {
-        if row[i] & other[i] != 0 {
-            return true;
-        }
-    }
-    false
 }
 
 /// Writes the states that the order relates to some member of the row's set. Another set is a subset of what is written just

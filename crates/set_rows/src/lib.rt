@@ -5,6 +5,6 @@ mod comparing;
 mod moving;
 mod reaching;
 
-pub use comparing::{covers, has_accepting, meets, subset, write_below};
+pub use comparing::{covers, has_accepting, subset, write_below};
 pub use moving::{write_after, write_one};
 pub use reaching::reached;

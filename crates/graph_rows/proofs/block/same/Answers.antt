@@ -1,4 +1,4 @@
-use Rattle.std.proofs.Common.{◌≡◌, ℕ, ◌^◌, ◌<◌, false, true, List, get_or, sym, ◌∙◌, rules}
+use Rattle.std.proofs.Common.{ℕ, ◌^◌, ◌<◌, List, get_or, sym, ◌∙◌, rules}
 use Rattle.std.proofs.Math.Facts.{Fits-lt-pow}
 use Rattle.std.proofs.lemmas.Bool.{false≢true}
 use Rattle.std.proofs.lemmas.Bool.Decides.{Decides-eqb}

@@ -1,5 +1,4 @@
-use Rattle.std.proofs.Common.{◌≡◌, ◌↔◌, ◌*◌, ℕ, ◌<◌, List, true, IsTrue, rules}
-use Rattle.auto_core.specs.Rows.{HasBit}
+use Rattle.std.proofs.Common.{ℕ}
 use Rattle.auto_core.specs.Reach.{Arc}
 use Rattle.auto_core.specs.Game.{Holds}
 use Rattle.graph_rows.proofs.ArcLemmas.{row_marks}

@@ -1,5 +1,4 @@
-use Rattle.std.proofs.Common.{◌≡◌, ◌↔◌, ℕ, ◌+◌, ◌<◌, true, false, IsTrue, refl, sym, ◌∙◌, subst, arith, rules}
-use Rattle.std.proofs.lemmas.Bool.{false≢true}
+use Rattle.std.proofs.Common.{◌≡◌, ◌↔◌, ℕ, true, IsTrue, refl, arith, rules}
 use Rattle.auto_core.specs.Game.{Holds}
 use Rattle.graph_rows.specs.Block.{block_graph}
 use Rattle.graph_rows.specs.Covering.{CoversRow}

@@ -1,10 +1,9 @@
-use Rattle.std.proofs.Common.{◌≡◌, ◌↔◌, ℕ, ◌+◌, ◌*◌, ◌^◌, ◌<◌, ◌≤◌, Bool, true, false, IsTrue, inl, inr, refl, sym, ◌∙◌, arith, rules}
-use Rattle.std.proofs.lemmas.Bool.{cases_Bool, false≢true}
-use Rattle.auto_core.specs.Rows.{HasBit, HasCell, bit_of, cell_of}
+use Rattle.std.proofs.Common.{◌≡◌, ℕ, ◌*◌, ◌^◌, ◌<◌, ◌≤◌, Bool, true, false, refl, sym, ◌∙◌, arith, rules}
+use Rattle.std.proofs.lemmas.Bool.{false≢true}
+use Rattle.auto_core.specs.Rows.{HasBit, HasCell, bit_of}
 use Rattle.auto_core.specs.Reach.{Arc}
 use Rattle.auto_core.specs.Game.{Holds}
 use Rattle.auto_core.specs.Graph.{graph_of_tables}
-use Rattle.graph_rows.specs.Covering.{CoversRow}
 use Rattle.graph_rows.proofs.ExtensionLemmas.{no_arc}
 use Rattle.graph_rows.proofs.CoveringLemmas.{covers_more, covers_all, row_refused}
 use Rattle.graph_rows.proofs.covering.covers_row.Goals as goal

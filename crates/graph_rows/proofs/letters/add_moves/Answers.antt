@@ -1,4 +1,4 @@
-use Rattle.std.proofs.Common.{◌≡◌, ℕ, ◌+◌, ◌<◌, ◌≤◌, ◌⊎◌, true, List, get_or, refl, sym, subst, arith, rules}
+use Rattle.std.proofs.Common.{◌≡◌, ℕ, ◌+◌, ◌≤◌, ◌⊎◌, true, List, get_or, refl, sym, subst, arith, rules}
 use Rattle.auto_core.specs.Automaton.{IsAccepting, Moves, trans, trans_at}
 use Rattle.auto_core.specs.declared.parts.Trans.{Trans}
 use Rattle.graph_rows.specs.Added.{HasAdded}

@@ -1,4 +1,4 @@
-use Rattle.std.proofs.Common.{◌≡◌, ℕ, ◌+◌, ◌*◌, ◌^◌, ◌<◌, ◌≤◌, ◌⊎◌, inl, inr, Bool, true, false, IfSome, IfNone, Fits, w32, sym, ◌∙◌, subst, arith, rules}
+use Rattle.std.proofs.Common.{◌≡◌, ℕ, ◌+◌, ◌*◌, ◌^◌, ◌<◌, ◌≤◌, ◌⊎◌, inl, inr, Bool, true, false, sym, ◌∙◌, subst, arith, rules}
 use Rattle.auto_core.specs.Automaton.{IsAccepting, Moves}
 use Rattle.auto_core.specs.Rows.{HasBit, HasCell, bit_of}
 use Rattle.auto_core.specs.Reach.{Arc}

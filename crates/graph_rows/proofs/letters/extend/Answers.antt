@@ -1,6 +1,6 @@
-use Rattle.std.proofs.Common.{◌≡◌, ℕ, ◌*◌, ◌++◌, List, length, subst, rules}
-use Rattle.auto_core.specs.Graph.{SameGraph, graph_of_tables, extended}
-use Rattle.graph_rows.specs.Block.{width_of, joined_plane, past_plane, block_graph, IsFormed}
+use Rattle.std.proofs.Common.{ℕ, rules}
+use Rattle.auto_core.specs.Graph.{extended}
+use Rattle.graph_rows.specs.Block.{block_graph}
 use Rattle.graph_rows.proofs.RowsLemmas.{formed_of_planes}
 use Rattle.graph_rows.proofs.ExtensionLemmas.{extended_is_graph}
 use Rattle.graph_rows.proofs.letters.extend.Goals as goal

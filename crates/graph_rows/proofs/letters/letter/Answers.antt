@@ -1,7 +1,5 @@
-use Rattle.std.proofs.Common.{◌≡◌, ℕ, ◌*◌, ◌++◌, List, length, subst, rules}
-use Rattle.auto_core.specs.Reach.{IsTable}
-use Rattle.auto_core.specs.Graph.{SameGraph, graph_of_tables, letter_graph}
-use Rattle.graph_rows.specs.Block.{width_of, block_graph, IsFormed}
+use Rattle.std.proofs.Common.{ℕ, rules}
+use Rattle.auto_core.specs.Graph.{letter_graph}
 use Rattle.graph_rows.proofs.RowsLemmas.{formed_of_planes}
 use Rattle.graph_rows.proofs.ExtensionLemmas.{letter_is_graph}
 use Rattle.graph_rows.proofs.letters.letter.Goals as goal

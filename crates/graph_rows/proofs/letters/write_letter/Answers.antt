@@ -3,7 +3,7 @@ use Rattle.std.proofs.lemmas.Bool.{false≢true}
 use Rattle.auto_core.specs.Automaton.{Moves, IsAccepting}
 use Rattle.auto_core.specs.Graph.{letter_graph}
 use Rattle.graph_rows.proofs.AddedLemmas.{added_as}
-use Rattle.graph_rows.proofs.RowsLemmas.{HasRows, rows_none, rows_more, rows_table, rows_graph}
+use Rattle.graph_rows.proofs.RowsLemmas.{HasRows, rows_more, rows_table, rows_graph}
 use Rattle.graph_rows.proofs.ExtensionLemmas.{letter_joined_in, letter_past_in}
 use Rattle.graph_rows.proofs.letters.write_letter.Goals as goal
 

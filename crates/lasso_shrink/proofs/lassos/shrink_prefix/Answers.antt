@@ -1,10 +1,8 @@
-use Rattle.std.proofs.Common.{◌≡◌, ◌↔◌, ◌<◌, ℕ, List, suc, sym, ap, ◌∙◌, subst, arith}
+use Rattle.std.proofs.Common.{◌≡◌, suc, sym, ap, ◌∙◌, subst, arith}
 use Rattle.std.proofs.lemmas.Option.{MatchOption-at_some}
-use Rattle.auto_core.specs.Rows.{HasBit}
 use Rattle.auto_core.specs.declared.parts.Lasso.{Lasso}
-use Rattle.lasso_accept.specs.Looping.{AcceptsLoopFrom}
 use Rattle.lasso_shrink.specs.Shrinking.{LassoLeavesOne, LassoSeparates, letters_of, lasso_without}
-use Rattle.lasso_shrink.specs.Prefixes.{PrefixNeedsEach, IsFirstPlace}
+use Rattle.lasso_shrink.specs.Prefixes.{AreKept, PrefixNeedsEach, IsFirstPlace}
 use Rattle.lasso_shrink.proofs.PrefixLemmas.{place_leaves, lasso_shorter, in_prefix}
 use Rattle.lasso_shrink.proofs.lassos.shrink_prefix.Goals as goal
 
@@ -47,34 +45,7 @@ loop-place-preserved c =
       left_out = (suc n, (now, before, leaves));
       separates = subst (LassoSeparates A B) (sym is) place.keeps;
       told = c.in_ok-place-2.ensures;
-      turn = ap (λ (x : Lasso). x.turn) (is ∙ in_prefix now at within) ∙ c.loop-place.invariant.turn;
+      rests = subst (λ (x : Lasso). AreKept A x.prefix x.turn c.leave_out.new.self) (sym (is ∙ in_prefix now at within)) c.leave_out.ensures;
+      other_rests = subst (λ (x : Lasso). AreKept B x.prefix x.turn c.leave_out-in-Some.new.self) (sym (is ∙ in_prefix now at within)) c.leave_out-in-Some.ensures;
       fewer = omega (arith, less, size, fewer);
     }
-
-pub first_place-requires-in-Some-clause-loops : goal.first_place-requires-in-Some-clause-loops
-first_place-requires-in-Some-clause-loops c =
-    let A = c.args.first.now in
-    let B = c.args.second.now in
-    let now = c.loop-place.current in
-    let at = c.in-Some.at in
-    let place : IsFirstPlace A B now at = MatchOption-at_some (PrefixNeedsEach A B now) (IsFirstPlace A B now) at c.in-Some.is c.loop-place.invariant.told in
-    let new = c.in_ok-current.current in
-    let is : new ≡ lasso_without now at = c.in_ok-current.ensures in
-    let turn : new.turn ≡ c.args.lasso.turn = ap (λ (x : Lasso). x.turn) (is ∙ in_prefix now at place.within) ∙ c.loop-place.invariant.turn in
-    let row : List ℕ = c.deref-in-Some.result.now in
-    let Q : List ℕ → List ℕ → Type 0 = λ row v. (p : ℕ) → HasBit row p ↔ ((p < c.args.first.now.states) × AcceptsLoopFrom c.args.first.now v p) in
-    subst (λ v. Q row v) (c.as_slice.ensures ∙ sym turn) (subst (λ r. Q r c.as_slice.result.now) (sym c.deref-in-Some.ensures.value) c.in_ok-target.ensures.members)
-
-pub first_place-requires-in-Some-clause-other_loops : goal.first_place-requires-in-Some-clause-other_loops
-first_place-requires-in-Some-clause-other_loops c =
-    let A = c.args.first.now in
-    let B = c.args.second.now in
-    let now = c.loop-place.current in
-    let at = c.in-Some.at in
-    let place : IsFirstPlace A B now at = MatchOption-at_some (PrefixNeedsEach A B now) (IsFirstPlace A B now) at c.in-Some.is c.loop-place.invariant.told in
-    let new = c.in_ok-current.current in
-    let is : new ≡ lasso_without now at = c.in_ok-current.ensures in
-    let turn : new.turn ≡ c.args.lasso.turn = ap (λ (x : Lasso). x.turn) (is ∙ in_prefix now at place.within) ∙ c.loop-place.invariant.turn in
-    let row : List ℕ = c.deref-in-Some-2.result.now in
-    let Q : List ℕ → List ℕ → Type 0 = λ row v. (p : ℕ) → HasBit row p ↔ ((p < c.args.second.now.states) × AcceptsLoopFrom c.args.second.now v p) in
-    subst (λ v. Q row v) (c.as_slice-2.ensures ∙ sym turn) (subst (λ r. Q r c.as_slice-2.result.now) (sym c.deref-in-Some-2.ensures.value) c.in_ok-other_target.ensures.members)

@@ -1,0 +1,232 @@
+-- Tables turned round, components, and what they settle.
+use Rattle.std.proofs.Common.{◌≡◌, ℕ, zero, suc, ◌+◌, ◌*◌, ◌<◌, ◌≤◌, ◌⊎◌, ◌↔◌, inl, inr, ◌||◌, ◌&&◌, Bool, true, false, List, length, refl, sym, ap, ◌∙◌, subst, arith}
+use Rattle.std.proofs.lemmas.Bool.{cases_eq, cases_lt, false≢true}
+use Rattle.auto_core.specs.Game.{Chain, Close}
+use Rattle.auto_core.specs.Rows.{bit_of, cell_of, HasBit, HasCell}
+use Rattle.auto_core.specs.Reach.{IsTable, Arc, ReturnsTo}
+use Rattle.auto_core.proofs.ReachLemmas.{close_refl, close_trans, close_one}
+use Rattle.row_steps.specs.Walks.{IsNextBit}
+use Rattle.loop_rows.specs.Loops.{LeadsToLoop, AreArcs, IsTurned}
+use Rattle.loop_rows.specs.Settling.{HasArcWithin, IsComponent, AreSettled}
+
+-- ---- bits
+
+pub or_has : (a b : Bool) → (a || b) ≡ true ↔ ((a ≡ true) ⊎ (b ≡ true))
+or_has true b = (λ h. inl refl, λ h. refl)
+or_has false b = (λ h. inr h, λ h. elim h [ inl p ↦ absurd (false≢true p) | inr q ↦ q ])
+
+pub and_has : (a b : Bool) → (a && b) ≡ true ↔ ((a ≡ true) × (b ≡ true))
+and_has true b = (λ h. (refl, h), λ h. h.1)
+and_has false b = (λ h. absurd (false≢true h), λ h. absurd (false≢true h.0))
+
+-- ---- one column more
+
+-- The cells of a table after this column was set in the rows that the row has bits for, up to one of them.
+abbrev pub HasColumn : List ℕ → List ℕ → List ℕ → ℕ → ℕ → ℕ → Type 0
+HasColumn row old new width column from =
+    (p q : ℕ) → q < width * 64 → HasCell new width p q ↔ (HasCell old width p q ⊎ ((q ≡ column) × (p < from) × HasBit row p))
+
+pub column_more :
+    (row old now new : List ℕ) (width column from place : ℕ)
+    → column < width * 64
+    → HasColumn row old now width column from
+    → IsNextBit row from place
+    → cell_of new width place column ≡ true
+    → ((r s : ℕ) → s < width * 64 → ((r ≡ place) × (s ≡ column) → ⊥) → cell_of new width r s ≡ cell_of now width r s)
+    → HasColumn row old new width column (place + 1)
+column_more row old now new width column from place column_in before next here others p q q_in =
+    let behind = next.behind in
+    elim (cases_eq p place) [
+      | inr apart ↦ elsewhere (λ e. apart e.0)
+      | inl p_is ↦ elim (cases_eq q column) [
+        | inr apart ↦ elsewhere (λ e. apart e.1)
+        | inl q_is ↦
+            let set : HasCell new width p q = subst (λ r. HasCell new width r q) (sym p_is) (subst (λ s. HasCell new width place s) (sym q_is) here) in (
+              λ h. inr (q_is, omega arith, subst (λ r. HasBit row r) (sym p_is) next.here),
+              λ h. set,
+            )
+      ]
+    ]
+  where
+    elsewhere : ((p ≡ place) × (q ≡ column) → ⊥) → HasCell new width p q ↔ (HasCell old width p q ⊎ ((q ≡ column) × (p < place + 1) × HasBit row p))
+    elsewhere apart =
+        let same = others p q q_in apart in
+        let behind = next.behind in (
+          λ h. elim ((before p q q_in).0 (sym same ∙ h)) [
+            | inl was ↦ inl was
+            | inr (q_is, lt, has) ↦ inr (q_is, omega (arith, lt), has)
+          ],
+          λ h. elim h [
+            | inl was ↦ same ∙ (before p q q_in).1 (inl was)
+            | inr (q_is, lt, has) ↦ elim (cases_lt p from) [
+              | inl low ↦ same ∙ (before p q q_in).1 (inr (q_is, low, has))
+              | inr high ↦ elim (cases_eq p place) [
+                | inl p_is ↦ absurd (apart (p_is, q_is))
+                | inr p_not ↦ absurd (false≢true (sym (next.none_between p high (omega (arith, lt))) ∙ has))
+              ]
+            ]
+          ],
+        )
+
+-- ---- a table turned round
+
+-- Its cells, so far as the rows below `from` are turned.
+abbrev pub IsTurnedBelow : List ℕ → List ℕ → ℕ → ℕ → Type 0
+IsTurnedBelow table turned width from =
+    (p q : ℕ) → q < width * 64 → HasCell turned width p q ↔ ((q < from) × (p < width * 64) × HasCell table width q p)
+
+pub turned_more :
+    (table now new row : List ℕ) (width from : ℕ)
+    → IsTurnedBelow table now width from
+    → ((p : ℕ) → p < width * 64 → bit_of row p ≡ cell_of table width from p)
+    → ((p : ℕ) → width * 64 ≤ p → bit_of row p ≡ false)
+    → ((p q : ℕ) → q < width * 64 → HasCell new width p q ↔ (HasCell now width p q ⊎ ((q ≡ from) × HasBit row p)))
+    → IsTurnedBelow table new width (from + 1)
+turned_more table now new row width from before inside outside is p q q_in = (
+  λ h. elim ((is p q q_in).0 h) [
+    | inl was ↦ let (lt, p_in, cell) = (before p q q_in).0 was in (omega (arith, lt), p_in, cell)
+    | inr (q_is, has) ↦ elim (cases_lt p (width * 64)) [
+      | inl near ↦ (omega arith, near, subst (λ s. HasCell table width s p) (sym q_is) (sym (inside p near) ∙ has))
+      | inr far ↦ absurd (false≢true (sym (outside p far) ∙ has))
+    ]
+  ],
+  λ (lt, p_in, cell). elim (cases_eq q from) [
+    | inl q_is ↦ (is p q q_in).1 (inr (q_is, inside p p_in ∙ subst (λ s. HasCell table width s p) q_is cell))
+    | inr q_not ↦ (is p q q_in).1 (inl ((before p q q_in).1 (omega (arith, lt), p_in, cell)))
+  ],
+)
+
+pub turned_all : (table turned : List ℕ) (n width from : ℕ) → IsTable table n width → length turned ≡ n * width → from ≡ n → IsTurnedBelow table turned width from → IsTurned table turned n width
+turned_all table turned n width from t len whole is =
+    let room = t.room in
+    record {
+      fits = record {
+        len = len;
+        room = room;
+        columns = λ p q p_in q_in h. let (lt, _, _) = (is p q q_in).0 h in omega (arith, lt);
+      };
+      each = λ p q. (
+        λ (p_in, q_in, h). (q_in, p_in, ((is p q (omega arith)).0 h).2),
+        λ (q_in, p_in, h). (p_in, q_in, (is p q (omega arith)).1 (omega arith, omega arith, h)),
+      );
+    }
+
+-- ---- chains turned round
+
+module _ (R T : ℕ → ℕ → Type 0) (turned : (p q : ℕ) → T p q → R q p) where
+  chain_turned : (n p q : ℕ) → Chain T n p q → Close R q p
+  chain_turned zero p q e = subst (λ x. Close R x p) e (close_refl R p)
+  chain_turned (suc n) p q (s, step, rest) = close_trans R q s p (chain_turned n s q rest) (close_one R s p (turned p s step))
+
+  pub close_turned : (p q : ℕ) → Close T p q → Close R q p
+  close_turned p q (n, c) = chain_turned n p q c
+
+pub close_in : (table : List ℕ) (n width p q : ℕ) → q < n → Close (Arc table n width) p q → p < n
+close_in table n width p q q_in (zero, e) = subst (λ x. x < n) (sym e) q_in
+close_in table n width p q q_in (suc m, (s, arc, rest)) = arc.0
+
+-- what the table turned round reaches is what reaches
+pub reached_back :
+    (table turned : List ℕ) (n width at : ℕ) (behind : List ℕ)
+    → IsTurned table turned n width
+    → ((q : ℕ) → HasBit behind q ↔ Close (Arc turned n width) at q)
+    → (q : ℕ)
+    → HasBit behind q ↔ Close (Arc table n width) q at
+reached_back table turned n width at behind t is q = (
+  λ has. close_turned (Arc table n width) (Arc turned n width) (λ p r a. (t.each p r).0 a) at q ((is q).0 has),
+  λ way. (is q).1 (close_turned (Arc turned n width) (Arc table n width) (λ p r a. (t.each r p).1 a) q at way),
+)
+
+-- the bits of a row are the arcs out of its place
+pub row_arc :
+    (table : List ℕ) (n width at : ℕ)
+    → IsTable table n width
+    → at < n
+    → (row : List ℕ)
+    → ((q : ℕ) → q < width * 64 → bit_of row q ≡ cell_of table width at q)
+    → ((q : ℕ) → width * 64 ≤ q → bit_of row q ≡ false)
+    → (q : ℕ)
+    → HasBit row q ↔ Arc table n width at q
+row_arc table n width at t at_in row inside outside q = (
+  λ has. elim (cases_lt q (width * 64)) [
+    | inl near ↦ let cell : HasCell table width at q = sym (inside q near) ∙ has in (at_in, t.columns at q at_in near cell, cell)
+    | inr far ↦ absurd (false≢true (sym (outside q far) ∙ has))
+  ],
+  λ (_, q_in, cell). let room = t.room in inside q (omega arith) ∙ cell,
+)
+
+-- ---- what a component settles
+
+module _ (any flagged : ℕ → ℕ → Type 0) (arcs : AreArcs flagged any) (at : ℕ) (component : List ℕ) (is : IsComponent any at component) where
+  -- a flagged arc within it leads back
+  pub within_returns : HasArcWithin flagged component → (x : ℕ) × Close any at x × ReturnsTo any flagged x
+  within_returns (p, q, p_in, arc, q_in) = (p, ((is p).0 p_in).0, (q, arc, close_trans any q at p ((is q).0 q_in).1 ((is p).0 p_in).0))
+
+  -- a flagged arc that leads back lies within it
+  pub returns_within : (x : ℕ) → HasBit component x → ReturnsTo any flagged x → HasArcWithin flagged component
+  returns_within x x_in (next, arc, back) =
+      let (to, from) = (is x).0 x_in in
+      (x, next, x_in, arc, (is next).1 (close_trans any at x next to (close_one any x next (arcs x next arc)), close_trans any next x at back from))
+
+module _ (any flagged : ℕ → ℕ → Type 0) (count at : ℕ) (looping settled : List ℕ) (s : AreSettled any flagged count looping settled at) where
+  pub settled_over : HasBit looping at ⊎ HasBit settled at → AreSettled any flagged count looping settled (at + 1)
+  settled_over here = record {
+    sound = s.sound;
+    closed = s.closed;
+    plain = s.plain;
+    all = λ q lt. elim (cases_eq q at) [
+      | inl e ↦ elim here [ inl h ↦ inl (subst (λ x. HasBit looping x) (sym e) h) | inr h ↦ inr (subst (λ x. HasBit settled x) (sym e) h) ]
+      | inr apart ↦ s.all q (omega arith)
+    ];
+  }
+
+  pub settled_looping : (behind new : List ℕ) → ((q : ℕ) → HasBit behind q ↔ Close any q at) → ((q : ℕ) → Close any q at → q < count) → ((i : ℕ) → bit_of new i ≡ (bit_of looping i || bit_of behind i))
+      → ((x : ℕ) × Close any at x × ReturnsTo any flagged x)
+      → AreSettled any flagged count new settled (at + 1)
+  settled_looping behind new reach below is (x, way, returns) = record {
+    sound = λ q h. elim ((or_has (bit_of looping q) (bit_of behind q)).0 (sym (is q) ∙ h)) [
+      | inl was ↦ s.sound q was
+      | inr now ↦ let to = (reach q).0 now in (below q to, (x, close_trans any q at x to way, returns))
+    ];
+    closed = λ p q c h. elim ((or_has (bit_of looping q) (bit_of behind q)).0 (sym (is q) ∙ h)) [
+      | inl was ↦ is p ∙ (or_has (bit_of looping p) (bit_of behind p)).1 (inl (s.closed p q c was))
+      | inr now ↦ is p ∙ (or_has (bit_of looping p) (bit_of behind p)).1 (inr ((reach p).1 (close_trans any p q at c ((reach q).0 now))))
+    ];
+    plain = s.plain;
+    all = λ q lt. elim (cases_eq q at) [
+      | inl e ↦ inl (is q ∙ (or_has (bit_of looping q) (bit_of behind q)).1 (inr ((reach q).1 (subst (λ z. Close any z at) (sym e) (close_refl any at)))))
+      | inr apart ↦ elim (s.all q (omega arith)) [
+        | inl was ↦ inl (is q ∙ (or_has (bit_of looping q) (bit_of behind q)).1 (inl was))
+        | inr was ↦ inr was
+      ]
+    ];
+  }
+
+  pub settled_plain : (component new : List ℕ) → IsComponent any at component → ((i : ℕ) → bit_of new i ≡ (bit_of settled i || bit_of component i)) → ((x : ℕ) → HasBit component x → ReturnsTo any flagged x → ⊥)
+      → AreSettled any flagged count looping new (at + 1)
+  settled_plain component new reach is none = record {
+    sound = s.sound;
+    closed = s.closed;
+    plain = λ q h. elim ((or_has (bit_of settled q) (bit_of component q)).0 (sym (is q) ∙ h)) [
+      | inl was ↦ s.plain q was
+      | inr now ↦ none q now
+    ];
+    all = λ q lt. elim (cases_eq q at) [
+      | inl e ↦ inr (is q ∙ (or_has (bit_of settled q) (bit_of component q)).1 (inr ((reach q).1 (subst (λ z. Close any at z × Close any z at) (sym e) (close_refl any at, close_refl any at)))))
+      | inr apart ↦ elim (s.all q (omega arith)) [
+        | inl was ↦ inl was
+        | inr was ↦ inr (is q ∙ (or_has (bit_of settled q) (bit_of component q)).1 (inl was))
+      ]
+    ];
+  }
+
+-- once all are settled, just those are marked that lead to a loop
+pub all_settled : (any flagged : ℕ → ℕ → Type 0) (count at : ℕ) (looping settled : List ℕ) → count ≤ at → ((p q : ℕ) → flagged p q → p < count) → AreSettled any flagged count looping settled at
+    → (q : ℕ) → HasBit looping q ↔ ((q < count) × LeadsToLoop any flagged q)
+all_settled any flagged count at looping settled over inside s q = (
+  s.sound q,
+  λ (q_in, (x, way, returns)). elim (s.all x (let lt = inside x returns.0 returns.1 in omega arith)) [
+    | inl has ↦ s.closed q x way has
+    | inr has ↦ absurd (s.plain x has returns)
+  ],
+)
