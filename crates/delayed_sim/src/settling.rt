@@ -1,7 +1,7 @@
 //! Taking pairs away until each move of a left state is answered by a pair that is left. A row is marked when it has lost pairs and the moves
 //! to its state are not tried again yet.
 
-ghost use Rattle.std.specs.Prelude.{◌≡◌, ◌+◌, ◌*◌, ◌/◌, ◌^◌, ◌<◌, ◌↔◌, ℕ, length, true, false};
+ghost use Rattle.std.specs.Prelude.{◌≡◌, ◌+◌, ◌*◌, ◌/◌, ◌^◌, ◌<◌, ◌↔◌, ℕ, length, true, false, IfSome, IfNone};
 ghost use Rattle.auto_core.specs.Automaton.{IsAutomaton};
 ghost use Rattle.auto_core.specs.Game.{Holds};
 ghost use Rattle.auto_core.specs.Rows.{bit_of, HasBit};
@@ -12,6 +12,25 @@ use crate::before::write_before;
 use auto_core::{Auto, rows};
 use bit_rel::Rel;
 
+/// A place that the one row has and the other has not, one in this word if it has such a place.
+fn missing_near(one: &[u64], other: &[u64], word: usize) -> Option<usize>
+    requires equal { length one.now ≡ length other.now }
+    requires few { length one.now < 2 ^ 32 }
+    ensures found { IfSome result (λ q. HasBit one.now q × (bit_of other.now q ≡ false)) }
+    ensures none { IfNone result ((q : ℕ) → HasBit one.now q → HasBit other.now q) }
+{
+    if word < one.len() {
+        let here = rows::row_at(one, 1, word);
+        if let Some(at) = rows::first_missing(here, rows::row_at(other, 1, word)) {
+            return Some(word * 64 + at);
+        }
+    }
+    match rows::first_missing(one, other) {
+        Some(q) => Some(q),
+        None => None,
+    }
+}
+
 /// Takes away the pairs of the left state whose right state the row has not, and tells whether there were any.
 fn keep_in_row(rel: &mut Rel, p: u32, row: &[u64]) -> bool
     requires left { p < rel.old.size }
@@ -21,9 +40,11 @@ fn keep_in_row(rel: &mut Rel, p: u32, row: &[u64]) -> bool
     ensures { IsFiltered rel.old rel.new p (λ q. HasBit row.now q) result }
 {
     let mut changed = false;
-    while let Some(q) = rows::first_missing(rel.row(p), row) {
+    let mut word = 0;
+    while let Some(q) = missing_near(rel.row(p), row, word) {
         rel.clear(p, q as u32);
         changed = true;
+        word = q / 64;
     }
     changed
 }
@@ -71,8 +92,8 @@ fn try_into(
     any
 }
 
-/// Tries the moves to each marked state, each once, and tells whether pairs were taken away. `ends` and `row` are room for one row, `made`
-/// for a row for each letter.
+/// Tries the moves to each marked state, each once, the last state first, and tells whether pairs were taken away. `ends` and `row` are
+/// room for one row, `made` for a row for each letter.
 fn pass(
     automaton: &Auto,
     rel: &mut Rel,
@@ -97,7 +118,7 @@ fn pass(
     ensures besides { IsAnsweredBesides automaton.now (Holds rel.new.pairs) marks.new }
 {
     let mut any = false;
-    for to in 0..automaton.states() {
+    for to in (0..automaton.states()).rev() {
         if rows::has_bit(marks, to as usize) {
             rows::clear_bit(marks, to as usize);
             if try_into(automaton, rel, to, marks, ends, made, width, row) {

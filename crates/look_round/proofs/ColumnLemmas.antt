@@ -2,6 +2,7 @@
 use Rattle.std.proofs.Common.{◌≡◌, ℕ, ◌+◌, ◌*◌, ◌<◌, ◌≤◌, ◌↔◌, inl, inr, true, List, refl, sym, ap, ◌∙◌, subst, arith}
 use Rattle.std.proofs.lemmas.Bool.{cases_eq}
 use Rattle.auto_core.specs.Rows.{bit_of, cell_of, HasBit, HasCell}
+use Rattle.row_steps.proofs.WordLemmas.{first_cell}
 use Rattle.look_round.specs.Words.{AreMatches, AddsColumns, IsRowNarrowed}
 
 -- The row marks just those below n of which P holds; one more is tried.
@@ -87,10 +88,6 @@ adds_one old now new width count more made row a h bits here others =
             (is.0, omega arith, λ q near. others i q near apart ∙ is.2 q near)
       ];
     }
-
--- a table of one row
-pub first_cell : (table : List ℕ) (w q : ℕ) → cell_of table w 0 q ≡ bit_of table q
-first_cell table w q = ap (λ i. bit_of table i) (omega arith)
 
 -- The rows below p are narrowed, and the others are as they were.
 abbrev pub AreRowsNarrowed : List ℕ → List ℕ → ℕ → List ℕ → ℕ → ℕ → Type 0

@@ -1,12 +1,13 @@
 -- Lanes: for each state a word whose bits tell which of some columns the state has.
-use Rattle.std.proofs.Common.{◌≡◌, ℕ, ◌+◌, ◌*◌, ◌<◌, ◌≤◌, ◌⊎◌, ◌↔◌, inl, inr, true, false, ◌||◌, List, ◌∷◌, length, get_or, Contains, refl, sym, ap, ◌∙◌, subst, arith}
+use Rattle.std.proofs.Common.{◌≡◌, ℕ, ◌+◌, ◌*◌, ◌/◌, ◌<◌, ◌≤◌, ◌⊎◌, ◌↔◌, inl, inr, true, false, ◌||◌, List, ◌∷◌, length, get_or, Contains, refl, sym, ap, ◌∙◌, subst, arith}
 use Rattle.std.proofs.lemmas.Bool.{cases_eq, cases_lt, or_cases, or_left, or_right, false≢true}
 use Rattle.std.proofs.lemmas.List.{get_or_default}
 use Rattle.auto_core.specs.Rows.{bit_of, cell_of, HasBit, HasCell}
 use Rattle.row_steps.specs.Walks.{IsNextBit}
+use Rattle.row_steps.proofs.WordLemmas.{bit_of_zero_word}
 use Rattle.look_round.specs.declared.moves.Move.{Move}
 use Rattle.look_round.specs.Sides.{move}
-use Rattle.look_round.specs.Words.{AreColumns, AreLanes, AreLanesOf, LeadsToLane, AddsColumns}
+use Rattle.look_round.specs.Words.{AreColumns, AreLanes, AreLanesOf, LeadsToLane, HasNear, AddsColumns}
 
 -- The rows that the bits of `row` below `next` name are marked at one place.
 pub record IsMarkedUpto (old now row : List ℕ) (width count at next : ℕ) : Type 0 where
@@ -279,3 +280,75 @@ filled_more n old new columns column width count used at room h at_in free bits 
   few = omega arith;
   rest = λ q j q_in from near. others q j near (λ e. omega arith) ∙ h.rest q j q_in (omega arith) near;
 }
+
+-- Of the first n moves of the list none leads to a state that has a lane.
+abbrev pub LeadToNoLane : List Move → List ℕ → ℕ → Type 0
+LeadToNoLane moves lanes n = (j : ℕ) → j < n → get_or lanes (get_or moves j (move 0 0)).to 0 ≡ 0
+
+pub leads_to_no_lane :
+    (moves : List Move) (lanes : List ℕ) (n : ℕ) (m : Move)
+    → LeadToNoLane moves lanes n
+    → m ≡ get_or moves n (move 0 0)
+    → get_or lanes m.to 0 ≡ 0
+    → LeadToNoLane moves lanes (n + 1)
+leads_to_no_lane moves lanes n m h is none j j_in = elim (cases_eq j n) [
+  | inl e ↦
+      let P : Move → Type 0 = λ x. get_or lanes x.to 0 ≡ 0 in
+      subst P (is ∙ ap (λ i. get_or moves i (move 0 0)) (sym e)) none
+  | inr apart ↦ h j (omega arith)
+]
+
+pub all_to_no_lane :
+    (moves : List Move) (lanes : List ℕ) (n : ℕ) (goes : ℕ → ℕ → Type 0)
+    → ((a r : ℕ) → Contains moves (move a r) ↔ goes a r)
+    → n ≡ length moves
+    → LeadToNoLane moves lanes n
+    → (a r : ℕ)
+    → goes a r
+    → get_or lanes r 0 ≡ 0
+all_to_no_lane moves lanes n goes lists all h a r go =
+    let (j, j_in, is) = (lists a r).1 go in
+    let here : get_or moves j (move 0 0) ≡ move a r = get_or_default moves j (move 0 0) (move a r) j_in ∙ is in
+    let P : Move → Type 0 = λ x. get_or lanes x.to 0 ≡ 0 in
+    subst P here (h j (omega arith))
+
+-- a state with no lane at all
+pub no_lane : (lanes : List ℕ) (r j : ℕ) → j < 64 → get_or lanes r 0 ≡ 0 → HasCell lanes 1 r j → ⊥
+no_lane lanes r j near none cell =
+    let word : (r * 1 * 64 + j) / 64 ≡ r = omega arith in
+    false≢true (sym (bit_of_zero_word lanes (r * 1 * 64 + j) (ap (λ i. get_or lanes i 0) word ∙ none)) ∙ cell)
+
+pub near_marked :
+    (M : ℕ → ℕ → ℕ → Type 0) (lanes near new : List ℕ) (n : ℕ)
+    → HasNear M n lanes near
+    → bit_of new n ≡ true
+    → ((i : ℕ) → ¬ (i ≡ n) → bit_of new i ≡ bit_of near i)
+    → HasNear M (n + 1) lanes new
+near_marked M lanes near new n h here others q a r j q_in go j_in lane = elim (cases_eq q n) [
+  | inl e ↦ subst (λ x. HasBit new x) (sym e) here
+  | inr apart ↦ others q apart ∙ h q a r j (omega arith) go j_in lane
+]
+
+pub near_passed :
+    (M : ℕ → ℕ → ℕ → Type 0) (lanes near : List ℕ) (n : ℕ)
+    → HasNear M n lanes near
+    → ((a r : ℕ) → M n a r → get_or lanes r 0 ≡ 0)
+    → HasNear M (n + 1) lanes near
+near_passed M lanes near n h none q a r j q_in go j_in lane = elim (cases_eq q n) [
+  | inl e ↦ absurd (no_lane lanes r j j_in (none a r (subst (λ x. M x a r) e go)) lane)
+  | inr apart ↦ h q a r j (omega arith) go j_in lane
+]
+
+-- a state from which no move leads to a lane is passed over
+pub step_passed :
+    (P : ℕ → ℕ → Type 0) (made : List ℕ) (width q : ℕ)
+    → AreStepsUpto P made width q
+    → ((j : ℕ) → j < 64 → P j q → ⊥)
+    → AreStepsUpto P made width (q + 1)
+step_passed P made width q h none j s j_in near = (
+  λ cell. let is = (h j s j_in near).0 cell in let lt = is.0 in (omega arith, is.1),
+  λ is. elim (cases_eq s q) [
+    | inl e ↦ absurd (none j j_in (subst (λ x. P j x) e is.1))
+    | inr apart ↦ let lt = is.0 in (h j s j_in near).1 (omega arith, is.1)
+  ],
+)

@@ -8,3 +8,4 @@ pub mod HavingLemmas
 pub mod ColumnLemmas
 pub mod LaneLemmas
 pub mod BoundLemmas
+pub mod KnownLemmas

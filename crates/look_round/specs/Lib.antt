@@ -4,3 +4,4 @@ pub mod Replies
 pub mod Room
 pub mod RoomStored
 pub mod Words
+pub mod Known

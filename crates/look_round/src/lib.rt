@@ -3,6 +3,7 @@
 
 mod bounding;
 mod kinds;
+mod known;
 mod moves;
 mod replies;
 mod round;

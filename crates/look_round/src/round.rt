@@ -3,8 +3,10 @@
 ghost use Rattle.std.specs.Prelude.{◌≡◌, ◌+◌, ◌*◌, ◌/◌, ◌<◌, ◌≤◌, ◌↔◌, ℕ, length, IsTrue};
 ghost use Rattle.auto_core.specs.Automaton.{IsAutomaton};
 ghost use Rattle.auto_core.specs.Game.{Round, Holds};
+ghost use Rattle.look_round.specs.Known.{AreKnown};
 ghost use Rattle.look_round.specs.Replies.{HasReply, RoundFrom, RoundAfter, HasRows, KeepsRows};
 
+use crate::known::{is_known, note};
 use crate::moves::Move;
 use crate::replies;
 use crate::scratch::Scratch;
@@ -24,6 +26,9 @@ fn step_answered<S: Side>(
     step: Move,
     path: &mut SmallVec<Move, 6>,
     sets: &mut [u64],
+    letters: &mut [u32],
+    held: &mut [u64],
+    known: &mut [u64],
     width: usize,
 ) -> bool
     requires valid { IsAutomaton automaton.now }
@@ -33,13 +38,29 @@ fn step_answered<S: Side>(
     requires width { width ≡ (automaton.now.states + 63) / 64 }
     requires path { length path.old.items + left ≤ path.old.capacity }
     requires sets { HasRows sets.old width (length path.old.items + left) }
+    requires letters { left < length letters.old }
+    requires held { HasRows held.old width left }
+    requires known { HasRows known.old width left }
+    requires answered { AreKnown (S.goes side.now automaton.now) (S.keeps side.now automaton.now) (Holds rel.now.pairs) automaton.now.states width letters.old held.old known.old }
     ensures told { IsTrue result
         ↔ RoundAfter (S.goes side.now automaton.now) (S.keeps side.now automaton.now) (Holds rel.now.pairs) left step.label step.to (HasReply sets.old automaton.now.states width (length path.old.items)) }
     ensures path { path.new.items ≡ path.old.items }
     ensures capacity { path.new.capacity ≡ path.old.capacity }
     ensures kept { KeepsRows sets.old sets.new width (length path.old.items) }
+    ensures answered { AreKnown (S.goes side.now automaton.now) (S.keeps side.now automaton.now) (Holds rel.now.pairs) automaton.now.states width letters.new held.new known.new }
 {
     let place = path.len();
+    if is_known(
+        letters,
+        held,
+        known,
+        width,
+        left,
+        step,
+        rows::row_at(sets, width, place),
+    ) {
+        return true;
+    }
     if replies::one_has_reply_in(side, automaton, step, sets, width, place, rel.row(step.to)) {
         return true;
     }
@@ -51,9 +72,33 @@ fn step_answered<S: Side>(
     }
     replies::step_replies(side, automaton, step, sets, width, place);
     path.push_reserved(step);
-    let answered = round_from(side, automaton, rel, left - 1, step.to, path, sets, width);
+    let answered = round_from(
+        side,
+        automaton,
+        rel,
+        left - 1,
+        step.to,
+        path,
+        sets,
+        letters,
+        held,
+        known,
+        width,
+    );
     path.pop();
-    answered
+    if !answered {
+        return false;
+    }
+    note(
+        letters,
+        held,
+        known,
+        width,
+        left,
+        step,
+        rows::row_at(sets, width, place),
+    );
+    true
 }
 
 /// Tells whether Spoiler's paths of `left` moves from `p`, or shorter ones to a dead end, are answered. The path holds Spoiler's
@@ -67,6 +112,9 @@ fn round_from<S: Side>(
     p: u32,
     path: &mut SmallVec<Move, 6>,
     sets: &mut [u64],
+    letters: &mut [u32],
+    held: &mut [u64],
+    known: &mut [u64],
     width: usize,
 ) -> bool
     requires valid { IsAutomaton automaton.now }
@@ -76,15 +124,22 @@ fn round_from<S: Side>(
     requires width { width ≡ (automaton.now.states + 63) / 64 }
     requires path { length path.old.items + left ≤ path.old.capacity }
     requires sets { HasRows sets.old width (length path.old.items + left) }
+    requires letters { left < length letters.old }
+    requires held { HasRows held.old width left }
+    requires known { HasRows known.old width left }
+    requires answered { AreKnown (S.goes side.now automaton.now) (S.keeps side.now automaton.now) (Holds rel.now.pairs) automaton.now.states width letters.old held.old known.old }
     ensures told { IsTrue result
         ↔ RoundFrom (S.goes side.now automaton.now) (S.keeps side.now automaton.now) (Holds rel.now.pairs) left p (HasReply sets.old automaton.now.states width (length path.old.items)) }
     ensures path { path.new.items ≡ path.old.items }
     ensures capacity { path.new.capacity ≡ path.old.capacity }
     ensures kept { KeepsRows sets.old sets.new width (length path.old.items) }
+    ensures answered { AreKnown (S.goes side.now automaton.now) (S.keeps side.now automaton.now) (Holds rel.now.pairs) automaton.now.states width letters.new held.new known.new }
 {
     for at in 0..side.moves(automaton, p) {
         let step = side.nth(automaton, p, at);
-        if !step_answered(side, automaton, rel, left, step, path, sets, width) {
+        if !step_answered(
+            side, automaton, rel, left, step, path, sets, letters, held, known, width,
+        ) {
             return false;
         }
     }
@@ -100,6 +155,9 @@ fn whole_round<S: Side>(
     q: u32,
     path: &mut SmallVec<Move, 6>,
     sets: &mut [u64],
+    letters: &mut [u32],
+    held: &mut [u64],
+    known: &mut [u64],
 ) -> bool
     requires look { 1 ≤ look }
     requires equal { rel.now.size ≡ automaton.now.states }
@@ -107,6 +165,9 @@ fn whole_round<S: Side>(
     requires right { q < automaton.now.states }
     requires path { look ≤ path.old.capacity }
     requires sets { length sets.old ≡ (look + 1) * ((automaton.now.states + 63) / 64) }
+    requires letters { length letters.old ≡ look + 1 }
+    requires held { length held.old ≡ (look + 1) * ((automaton.now.states + 63) / 64) }
+    requires known { length known.old ≡ (look + 1) * ((automaton.now.states + 63) / 64) }
     ensures told { IsTrue result
         ↔ Round (S.goes side.now automaton.now) (S.goes side.now automaton.now) (S.keeps side.now automaton.now) look (Holds rel.now.pairs) p q }
     ensures capacity { path.new.capacity ≡ path.old.capacity }
@@ -115,7 +176,10 @@ fn whole_round<S: Side>(
     path.clear();
     replies::clear_table_row(sets, width, 0);
     rows::set_cell(sets, width, 0, q as usize);
-    round_from(side, automaton, rel, look, p, path, sets, width)
+    rows::clear_row(known);
+    round_from(
+        side, automaton, rel, look, p, path, sets, letters, held, known, width,
+    )
 }
 
 /// Tells whether the round from `p` and `q` holds: each path of `look` moves that Spoiler may show from `p`, or shorter one to a
@@ -149,5 +213,8 @@ pub fn round_holds<S: Side>(
         q,
         &mut scratch.path,
         &mut scratch.sets,
+        &mut scratch.letters,
+        &mut scratch.held,
+        &mut scratch.known,
     )
 }

@@ -8,7 +8,8 @@ use smallvec::SmallVec;
 use std::alloc::Global;
 use std::marker::Model;
 
-/// Room for the rounds on an automaton at a lookahead: Spoiler's path, and a row of bits for each of its places and for its start.
+/// Room for the rounds on an automaton at a lookahead: Spoiler's path, a row of bits for each of its places and for its start, and room for
+/// what a round remembers.
 /// Contracts see the number of states and the lookahead that it was made for.
 #[derive(Drop)]
 pub struct Scratch {
@@ -16,6 +17,9 @@ pub struct Scratch {
     pub(crate) look: u32,
     pub(crate) path: SmallVec<Move, 6>,
     pub(crate) sets: Vec<u64>,
+    pub(crate) letters: Vec<u32>,
+    pub(crate) held: Vec<u64>,
+    pub(crate) known: Vec<u64>,
 }
 
 impl Model for Scratch {
@@ -36,12 +40,19 @@ impl Scratch {
         ensures { IfOk result (λ s. s ≡ record { states = automaton.now.states; look = look }) }
     {
         let states = automaton.states();
-        let sets = vec![in alloc; 0; (look as usize + 1) * rows::words_for(states)]?;
+        let room = (look as usize + 1) * rows::words_for(states);
+        let sets = vec![in alloc; 0; room]?;
+        let letters = vec![in alloc; 0; look as usize + 1]?;
+        let held = vec![in alloc; 0; room]?;
+        let known = vec![in alloc; 0; room]?;
         Ok(Scratch {
             states,
             look,
             path: SmallVec::new(alloc),
             sets,
+            letters,
+            held,
+            known,
         })
     }
 }

@@ -1,9 +1,9 @@
 //! Short words that states have, as columns of bits: a column is on the states that have its word.
 
-ghost use Rattle.std.specs.Prelude.{◌≡◌, ◌+◌, ◌*◌, ◌/◌, ◌^◌, ◌<◌, ◌≤◌, ◌↔◌, ◌⊎◌, ℕ, length, All};
+ghost use Rattle.std.specs.Prelude.{◌≡◌, ◌+◌, ◌*◌, ◌/◌, ◌^◌, ◌<◌, ◌≤◌, ◌↔◌, ◌⊎◌, ℕ, false, length, slice_index, All};
 ghost use Rattle.auto_core.specs.Automaton.{IsAutomaton};
 ghost use Rattle.auto_core.specs.Rows.{cell_of, HasBit, HasCell};
-ghost use Rattle.look_round.specs.Words.{LeadsToLane, AddsColumns, AreColumns, AreLanes, AreLanesOf, AreMatches};
+ghost use Rattle.look_round.specs.Words.{LeadsToLane, HasNear, AddsColumns, AreColumns, AreLanes, AreLanesOf, AreMatches};
 
 use crate::sides::Side;
 use auto_core::{Auto, rows};
@@ -55,14 +55,43 @@ fn find_lanes<S: Side>(
     }
 }
 
-/// Writes into the row of each lane the states from which a move by the letter leads to a state of the row `asked` that has the lane.
-/// `found` is one word.
+/// Tells whether a move from the state leads to a state that has a lane.
+fn moves_to_lane<S: Side>(side: &S, automaton: &Auto, q: u32, lanes: &[u64]) -> bool
+    requires state { q < automaton.now.states }
+    requires lanes { length lanes.now ≡ automaton.now.states }
+    ensures { result ≡ false → (a r : ℕ) → S.goes side.now automaton.now q a r → slice_index lanes.now r ≡ 0 }
+{
+    for at in 0..side.moves(automaton, q) {
+        if lanes[side.nth(automaton, q, at).to as usize] != 0 {
+            return true;
+        }
+    }
+    false
+}
+
+/// Writes into the row the states from which a move leads to a state that has a lane.
+fn find_near<S: Side>(side: &S, automaton: &Auto, lanes: &[u64], near: &mut [u64])
+    requires lanes { length lanes.now ≡ automaton.now.states }
+    requires near { length near.old ≡ (automaton.now.states + 63) / 64 }
+    ensures { HasNear (S.goes side.now automaton.now) automaton.now.states lanes.now near.new }
+{
+    rows::clear_row(near);
+    for p in 0..automaton.states() {
+        if moves_to_lane(side, automaton, p, lanes) {
+            rows::set_bit(near, p as usize);
+        }
+    }
+}
+
+/// Writes into the row of each lane the states from which a move by the letter leads to a state of the row `asked` that has the lane. A
+/// move from each of them leads to a state that has a lane: the row `near` has these. `found` is one word.
 fn step_back<S: Side>(
     side: &S,
     automaton: &Auto,
     label: u32,
     asked: &[u64],
     lanes: &[u64],
+    near: &[u64],
     found: &mut [u64],
     made: &mut [u64],
     width: usize,
@@ -70,14 +99,18 @@ fn step_back<S: Side>(
     requires width { width ≡ (automaton.now.states + 63) / 64 }
     requires asked { length asked.now ≡ width }
     requires lanes { length lanes.now ≡ automaton.now.states }
+    requires near_len { length near.now ≡ width }
+    requires near { HasNear (S.goes side.now automaton.now) automaton.now.states lanes.now near.now }
     requires found { length found.old ≡ 1 }
     requires made { length made.old ≡ 64 * width }
     ensures { (j q : ℕ) → j < 64 → q < automaton.now.states → HasCell made.new width j q ↔ LeadsToLane (S.goes side.now automaton.now) lanes.now asked.now label j q }
 {
     rows::clear_row(made);
     for q in 0..automaton.states() {
-        find_lanes(side, automaton, q, label, asked, lanes, found);
-        mark_down(made, width, LANES, q as usize, found);
+        if rows::has_bit(near, q as usize) {
+            find_lanes(side, automaton, q, label, asked, lanes, found);
+            mark_down(made, width, LANES, q as usize, found);
+        }
     }
 }
 
@@ -85,12 +118,15 @@ fn step_back<S: Side>(
 fn is_new(columns: &[u64], width: usize, count: usize, row: &[u64]) -> bool
     requires { count * width ≤ length columns.now }
 {
+    if row.iter().all(|word| *word == 0) {
+        return false;
+    }
     for i in 0..count {
         if &columns[i * width..i * width + width] == row {
             return false;
         }
     }
-    row.iter().any(|word| *word != 0)
+    true
 }
 
 /// Adds the first rows of `made` that are new as columns, as far as there is room for columns, and tells how many there are then.
@@ -127,6 +163,7 @@ fn lengthen_by<S: Side>(
     asked: &[u64],
     lanes: &[u64],
     used: usize,
+    near: &[u64],
     columns: &mut [u64],
     width: usize,
     count: usize,
@@ -142,6 +179,8 @@ fn lengthen_by<S: Side>(
     requires lanes_len { length lanes.now ≡ automaton.now.states }
     requires lanes { AreLanes (S.goes side.now automaton.now) (S.keeps side.now automaton.now) automaton.now.states lanes.now used }
     requires used { used ≤ 64 }
+    requires near_len { length near.now ≡ width }
+    requires near { HasNear (S.goes side.now automaton.now) automaton.now.states lanes.now near.now }
     requires room { length columns.old ≡ room * width }
     requires count { count ≤ room }
     requires columns { AreColumns (S.goes side.now automaton.now) (S.keeps side.now automaton.now) automaton.now.states columns.old width count }
@@ -152,13 +191,16 @@ fn lengthen_by<S: Side>(
 {
     let mut count = count;
     for label in 0..letters {
-        step_back(side, automaton, label, asked, lanes, found, made, width);
+        step_back(
+            side, automaton, label, asked, lanes, near, found, made, width,
+        );
         count = add_columns(columns, width, count, room, made, used);
     }
     count
 }
 
-/// Adds the columns of the words that go on, by one letter and a state of each kind, with the words of the lanes.
+/// Adds the columns of the words that go on, by one letter and a state of each kind, with the words of the lanes. `near` is room for one
+/// row.
 fn lengthen<S: Side>(
     side: &S,
     automaton: &Auto,
@@ -166,6 +208,7 @@ fn lengthen<S: Side>(
     kinds: &[u32],
     lanes: &[u64],
     used: usize,
+    near: &mut [u64],
     columns: &mut [u64],
     width: usize,
     count: usize,
@@ -182,6 +225,7 @@ fn lengthen<S: Side>(
     requires lanes_len { length lanes.now ≡ automaton.now.states }
     requires lanes { AreLanes (S.goes side.now automaton.now) (S.keeps side.now automaton.now) automaton.now.states lanes.now used }
     requires used { used ≤ 64 }
+    requires near { length near.old ≡ width }
     requires room { length columns.old ≡ room * width }
     requires count { count ≤ room }
     requires columns { AreColumns (S.goes side.now automaton.now) (S.keeps side.now automaton.now) automaton.now.states columns.old width count }
@@ -190,11 +234,12 @@ fn lengthen<S: Side>(
     ensures columns { AreColumns (S.goes side.now automaton.now) (S.keeps side.now automaton.now) automaton.now.states columns.new width result }
     ensures room { result ≤ room }
 {
+    find_near(side, automaton, lanes, near);
     let mut count = count;
     for kind in kinds {
         let asked = rows::row_at(matches, width, *kind as usize);
         count = lengthen_by(
-            side, automaton, *kind, asked, lanes, used, columns, width, count, room, letters,
+            side, automaton, *kind, asked, lanes, used, near, columns, width, count, room, letters,
             found, made,
         );
     }
@@ -285,7 +330,7 @@ fn fill_lanes(
 }
 
 /// Adds columns of words, each one letter longer than that of a column whose turn it is, as far as there is room, and tells how many
-/// columns there are then. A former walk tried the first `walked` columns.
+/// columns there are then. A former walk tried the first `walked` columns. `near` is room for one row.
 fn walk_columns<S: Side>(
     side: &S,
     automaton: &Auto,
@@ -297,6 +342,7 @@ fn walk_columns<S: Side>(
     count: usize,
     room: usize,
     letters: u32,
+    near: &mut [u64],
     lanes: &mut [u64],
     found: &mut [u64],
     made: &mut [u64],
@@ -310,6 +356,7 @@ fn walk_columns<S: Side>(
     requires room { length columns.old ≡ room * width }
     requires count { count ≤ room }
     requires columns { AreColumns (S.goes side.now automaton.now) (S.keeps side.now automaton.now) automaton.now.states columns.old width count }
+    requires near { length near.old ≡ width }
     requires lanes { length lanes.old ≡ automaton.now.states }
     requires found { length found.old ≡ 1 }
     requires made { length made.old ≡ 64 * width }
@@ -331,6 +378,7 @@ fn walk_columns<S: Side>(
                 kinds,
                 lanes,
                 filled.used,
+                near,
                 columns,
                 width,
                 count,
@@ -379,13 +427,14 @@ pub(crate) fn write_columns<S: Side>(
     mark_below(ends, automaton.states());
     write_row(columns, width, 0, ends);
     let count = walk_columns(
-        side, automaton, matches, kinds, columns, width, 0, 1, room, letters, lanes, found, made,
+        side, automaton, matches, kinds, columns, width, 0, 1, room, letters, ends, lanes, found,
+        made,
     );
     if kinds.len() < 2 {
         return count;
     }
     walk_columns(
-        side, automaton, matches, kinds, columns, width, count, count, room, letters, lanes, found,
-        made,
+        side, automaton, matches, kinds, columns, width, count, count, room, letters, ends, lanes,
+        found, made,
     )
 }

@@ -9,5 +9,5 @@ invariant-loop-to l =
     Shrinks l.automaton l.fn.rel l.rel
     × (length l.rel.pairs ≤ length l.fn.rel.pairs)
     × (l.any ≡ true → length l.rel.pairs < length l.fn.rel.pairs)
-    × (l.any ≡ false → (x : ℕ) → x < l.to → bit_of l.marks x ≡ false)
+    × (l.any ≡ false → (x : ℕ) → l.to ≤ x → x < l.automaton.states → bit_of l.marks x ≡ false)
     × IsAnsweredBesides l.automaton (Holds l.rel.pairs) l.marks

@@ -1,9 +1,11 @@
 use Rattle.std.proofs.Common.{rules, arith, ◌≡◌, ◌+◌, ◌-◌, ◌*◌, ◌<◌, ◌≤◌, ◌↔◌, ℕ, length, IsTrue, true, false, [], ◌∷◌, refl, sym, ap, ◌∙◌, subst, inl, inr, length-append}
 use Rattle.std.proofs.lemmas.Bool.{iff_false, false≢true}
-use Rattle.auto_core.specs.Rows.{HasBit}
+use Rattle.auto_core.specs.Rows.{cell_of, HasBit}
 use Rattle.auto_core.specs.Game.{Holds, IsDead}
 use Rattle.look_round.specs.Replies.{HasReply, HasReplyFrom, RoundFrom, RoundAfter, KeepsRows}
-use Rattle.look_round.proofs.RoundLemmas.{met, ended, goes_on}
+use Rattle.look_round.proofs.RoundLemmas.{after_same, met, ended, goes_on}
+use Rattle.look_round.proofs.StepLemmas.{reply_same}
+use Rattle.look_round.proofs.KnownLemmas.{known_answered, known_more}
 use Rattle.look_round.proofs.RoundLoop.{told_first, one_answered, all_answered, one_unanswered, dead_from, alive_from}
 use Rattle.look_round.proofs.round.+round.Goals as goal
 
@@ -59,6 +61,7 @@ round_from-loop-at-preserved g t c =
       c.step_answered.ensures.capacity ∙ c.loop-at.invariant.1,
       one_answered M ok W moves left n w L room c.args.sets.now c.loop-at.sets c.step_answered.new.sets c.loop-at.at m c.loop-at.invariant.2 c.nth-step.ensures.item
           (told.0 held) (subst Q same c.step_answered.ensures.kept),
+      c.step_answered.ensures.answered,
     )
 
 pub round_from-returns-clause-told : goal.round_from-returns-clause-told
@@ -147,6 +150,56 @@ step_answered-returns-then-moves-eq0-clause-told g t c =
       λ h. absurd (ended M ok W c.args.left a p D E (λ r. (λ x. x, λ x. x)) none (inr (more, dead)) h),
     )
 
+pub step_answered-returns-then-is_known-clause-told : goal.step_answered-returns-then-is_known-clause-told
+step_answered-returns-then-is_known-clause-told g t c =
+    let A = c.args.automaton.now in
+    let s = c.args.side.now in
+    let M = g.S.Side.goes s A in
+    let ok = g.S.Side.keeps s A in
+    let W = Holds c.args.rel.now.pairs in
+    let n = A.states in
+    let w = c.args.width in
+    let a = c.args.step.label in
+    let p = c.args.step.to in
+    let width = c.requires.width in
+    let room : n ≤ w * 64 = omega arith in
+    let near : p < w * 64 = omega (arith, c.requires.step) in
+    let known = c.is_known.ensures c.if-is_known.true in
+    let P : ℕ → Type 0 = λ x. RoundAfter M ok W c.args.left a p (HasReply c.args.sets.now n w x) in
+    let answered = known_answered M ok W n w room c.args.letters.now c.args.held.now c.args.known.now c.args.sets.now c.row_at.result.now c.args.left c.len-place.result a p near c.requires.answered known.0 known.1 c.row_at.ensures.bits in
+    (λ h. subst P c.len-place.ensures.value answered, λ h. refl)
+
+pub step_answered-returns-then-not-answered-clause-told : goal.step_answered-returns-then-not-answered-clause-told
+step_answered-returns-then-not-answered-clause-told g t c =
+    let A = c.args.automaton.now in
+    let s = c.args.side.now in
+    let M = g.S.Side.goes s A in
+    let ok = g.S.Side.keeps s A in
+    let W = Holds c.args.rel.now.pairs in
+    let n = A.states in
+    let w = c.args.width in
+    let a = c.args.step.label in
+    let p = c.args.step.to in
+    let old = c.args.sets.now in
+    let new = c.step_replies.new.table in
+    let place = c.len-place.result in
+    let P : ℕ → Type 0 = λ x. (r : ℕ) → HasReply new n w (place + 1) r ↔ HasReplyFrom M ok a p (HasReply old n w x) r in
+    let replies = subst P c.len-place.ensures.value c.step_replies.ensures.next in
+    let Q1 : ℕ → Type 0 = λ x. IsTrue c.one_has_reply_in.result ↔ ((r : ℕ) × HasReplyFrom M ok a p (HasReply old n w x) r × HasBit c.row.result.now r) in
+    let one = subst Q1 c.len-place.ensures.value c.one_has_reply_in.ensures in
+    let apart = iff_false one c.if-one_has_reply_in.false in
+    let none : (r : ℕ) → HasReply new n w (place + 1) r → W p r → ⊥ = λ r is related. apart (r, (replies r).0 is, (c.row.ensures.bits r).1 related) in
+    let alive : IsDead M p → ⊥ = alive_from M (g.S.Side.list s A p) p (g.met.S.Side.lists s A p) (λ e. c.if-moves-eq0.false (c.moves.ensures ∙ e)) in
+    let some = c.requires.left in
+    let more : 1 < c.args.left = omega (arith, c.if-left-eq1.false) in
+    let both = goes_on M ok W c.args.left a p (HasReply old n w (length c.args.path.now.items)) (HasReply new n w (place + 1)) replies (c.args.left - 1) (omega arith) (omega arith) none alive in
+    let size : length c.push_reserved.new.self.items ≡ place + 1 =
+    ap length c.push_reserved.ensures.items ∙ length-append c.args.path.now.items (c.args.step ∷ []) ∙ ap (λ x. x + 1) (sym c.len-place.ensures.value) in
+    let Q : ℕ → Type 0 = λ x. IsTrue c.round_from-answered.result ↔ RoundFrom M ok W (c.args.left - 1) p (HasReply new n w x) in
+    let told = subst Q size c.round_from-answered.ensures.told in
+    let failed : c.round_from-answered.result ≡ false = search rules in
+    (λ h. absurd (false≢true h), λ h. absurd (false≢true (sym failed ∙ told.1 (both.0 h))))
+
 pub step_answered-returns-clause-told : goal.step_answered-returns-clause-told
 step_answered-returns-clause-told g t c =
     let A = c.args.automaton.now in
@@ -175,7 +228,60 @@ step_answered-returns-clause-told g t c =
     ap length c.push_reserved.ensures.items ∙ length-append c.args.path.now.items (c.args.step ∷ []) ∙ ap (λ x. x + 1) (sym c.len-place.ensures.value) in
     let Q : ℕ → Type 0 = λ x. IsTrue c.round_from-answered.result ↔ RoundFrom M ok W (c.args.left - 1) p (HasReply new n w x) in
     let told = subst Q size c.round_from-answered.ensures.told in
-    (λ h. both.1 (told.0 h), λ h. told.1 (both.0 h))
+    let holds : c.round_from-answered.result ≡ true = search rules in
+    (λ h. both.1 (told.0 holds), λ h. refl)
+
+pub step_answered-returns-clause-answered : goal.step_answered-returns-clause-answered
+step_answered-returns-clause-answered g t c =
+    let A = c.args.automaton.now in
+    let s = c.args.side.now in
+    let M = g.S.Side.goes s A in
+    let ok = g.S.Side.keeps s A in
+    let W = Holds c.args.rel.now.pairs in
+    let n = A.states in
+    let w = c.args.width in
+    let a = c.args.step.label in
+    let p = c.args.step.to in
+    let old = c.args.sets.now in
+    let new = c.step_replies.new.table in
+    let place = c.len-place.result in
+    let P : ℕ → Type 0 = λ x. (r : ℕ) → HasReply new n w (place + 1) r ↔ HasReplyFrom M ok a p (HasReply old n w x) r in
+    let replies = subst P c.len-place.ensures.value c.step_replies.ensures.next in
+    let Q1 : ℕ → Type 0 = λ x. IsTrue c.one_has_reply_in.result ↔ ((r : ℕ) × HasReplyFrom M ok a p (HasReply old n w x) r × HasBit c.row.result.now r) in
+    let one = subst Q1 c.len-place.ensures.value c.one_has_reply_in.ensures in
+    let apart = iff_false one c.if-one_has_reply_in.false in
+    let none : (r : ℕ) → HasReply new n w (place + 1) r → W p r → ⊥ = λ r is related. apart (r, (replies r).0 is, (c.row.ensures.bits r).1 related) in
+    let alive : IsDead M p → ⊥ = alive_from M (g.S.Side.list s A p) p (g.met.S.Side.lists s A p) (λ e. c.if-moves-eq0.false (c.moves.ensures ∙ e)) in
+    let some = c.requires.left in
+    let more : 1 < c.args.left = omega (arith, c.if-left-eq1.false) in
+    let both = goes_on M ok W c.args.left a p (HasReply old n w (length c.args.path.now.items)) (HasReply new n w (place + 1)) replies (c.args.left - 1) (omega arith) (omega arith) none alive in
+    let size : length c.push_reserved.new.self.items ≡ place + 1 =
+    ap length c.push_reserved.ensures.items ∙ length-append c.args.path.now.items (c.args.step ∷ []) ∙ ap (λ x. x + 1) (sym c.len-place.ensures.value) in
+    let Q : ℕ → Type 0 = λ x. IsTrue c.round_from-answered.result ↔ RoundFrom M ok W (c.args.left - 1) p (HasReply new n w x) in
+    let told = subst Q size c.round_from-answered.ensures.told in
+    let holds : c.round_from-answered.result ≡ true = search rules in
+    let answered = both.1 (told.0 holds) in
+    let value : place ≡ length c.args.path.now.items = c.len-place.ensures.value in
+    let room : n ≤ w * 64 = omega (arith, c.requires.width) in
+    let sets = c.round_from-answered.new.sets in
+    let kept : (q : ℕ) → q < w * 64 → cell_of sets w place q ≡ cell_of old w place q =
+    λ q near. c.round_from-answered.ensures.kept place q (omega (arith, size)) near ∙ c.step_replies.ensures.others place q near (λ e. omega arith) in
+    let same = reply_same old sets n w place room kept in
+    let D : ℕ → Type 0 = HasReply sets n w place in
+    let P2 : ℕ → Type 0 = λ x. RoundAfter M ok W c.args.left a p (HasReply old n w x) in
+    let here : RoundAfter M ok W c.args.left a p (HasReply old n w place) = subst P2 (sym value) answered in
+    let now : RoundAfter M ok W c.args.left a p D = after_same M ok W (HasReply old n w place) D (λ q. (same q).1) c.args.left a p here in
+    known_more M ok W n w room c.round_from-answered.new.letters c.round_from-answered.new.held c.round_from-answered.new.known c.note.new.letters c.note.new.held c.note.new.known sets c.row_at-2.result.now
+    c.args.left place a p c.round_from-answered.ensures.answered c.note.ensures c.row_at-2.ensures.bits now
+
+pub step_answered-returns-then-not-answered-clause-kept : goal.step_answered-returns-then-not-answered-clause-kept
+step_answered-returns-then-not-answered-clause-kept g t c =
+    let place = c.len-place.result in
+    let value : place ≡ length c.args.path.now.items = c.len-place.ensures.value in
+    let size : length c.push_reserved.new.self.items ≡ place + 1 =
+    ap length c.push_reserved.ensures.items ∙ length-append c.args.path.now.items (c.args.step ∷ []) ∙ ap (λ x. x + 1) (sym c.len-place.ensures.value) in
+    λ i q i_in near.
+    c.round_from-answered.ensures.kept i q (omega (arith, size, value)) near ∙ c.step_replies.ensures.others i q near (λ e. omega (arith, value))
 
 pub step_answered-returns-clause-kept : goal.step_answered-returns-clause-kept
 step_answered-returns-clause-kept g t c =
