@@ -1,12 +1,11 @@
 -- The least better transition, found where the candidates stand.
-use Rattle.std.proofs.Common.{◌≡◌, Option, Some, None, IfNone, ℕ, ◌+◌, ◌*◌, ◌/◌, ◌%◌, ◌<◌, ◌≤◌, ◌⊎◌, ◌==◌, false, inl, inr, List, length, get_or, sym, ap, ◌∙◌, arith}
-use Rattle.std.specs.Int.{bit_at}
+use Rattle.std.proofs.Common.{◌≡◌, Option, Some, None, IfNone, ℕ, ◌+◌, ◌<◌, ◌≤◌, false, inl, inr, List, length, get_or, sym, ap, ◌∙◌, arith}
 use Rattle.std.proofs.lemmas.Bool.{cases_lt, cases_eq, false≢true}
-use Rattle.std.proofs.lemmas.Nat.Bits.{bit_at-zero}
 use Rattle.auto_core.specs.Automaton.{Automaton, IsAutomaton, IsBefore, IsSuccessors, IsBelowPair, IsAbovePair, trans, trans_at}
 use Rattle.auto_core.specs.Pruning.{AtSource, AtTarget, IsBetterAt}
 use Rattle.auto_core.specs.Rows.{bit_of, HasBit}
 use Rattle.auto_core.specs.declared.parts.Trans.{Trans}
+use Rattle.row_steps.specs.Walks.{IsNextBit}
 use Rattle.prune_pairs.specs.Least.{IsLeastOf, HasNone, IsLeastBetter}
 
 -- by pair 1 the sources are the same, by pair 2 the targets
@@ -28,13 +27,6 @@ held_source n back p q some h = elim h [
   | inl e ↦ absurd (omega (arith, e.0))
   | inr h ↦ elim h [ inl e ↦ e.1.0 | inr h ↦ elim h [ inl e ↦ e.1 | inr e ↦ e.1.0 ] ]
 ]
-
--- a word that is zero has no bit
-no_bit : (row : List ℕ) (w q : ℕ) → q / 64 ≡ w → get_or row w 0 ≡ 0 → HasBit row q → ⊥
-no_bit row w q at zeros has =
-    let is : bit_of row q ≡ false =
-    ap (λ k. bit_at (get_or row k 0) (q % 64) == 1) at ∙ ap (λ x. bit_at x (q % 64) == 1) zeros ∙ ap (λ x. x == 1) (bit_at-zero (q % 64)) in
-    false≢true (sym is ∙ has)
 
 -- a transition out of p with the letter a is in the range of its successors
 pub in_successors : (A : Automaton) (p a b e : ℕ) → IsSuccessors A p a b e → (v : ℕ) → v < length A.transitions → (trans_at A v).source ≡ p → (trans_at A v).label ≡ a → (b ≤ v) × (v < e)
@@ -74,56 +66,47 @@ module _ (A : Automaton) (n : ℕ) (back ahead : ℕ → ℕ → Type 0) (t : �
       not_before : (x y : Trans) → y.source < x.source → IsBefore x y → ⊥
       not_before x y less h = omega arith
 
-  -- the least out of a state of a range, where there is no better one out of the states of the range before it
-  pub least_in_range : IsAutomaton A → (b e s u : ℕ) → b ≤ s → s < e → ((v : ℕ) → b ≤ (trans_at A v).source → (trans_at A v).source < s → IsGood v → ⊥)
-      → IsLeastOf (λ v. (trans_at A v).source ≡ s) IsGood u → IsLeastOf (λ v. (b ≤ (trans_at A v).source) × ((trans_at A v).source < e)) IsGood u
-  least_in_range valid b e s u from upto none h = record {
-    among = let at = h.among in (omega arith, omega arith);
-    holds = h.holds;
-    least = λ v among good. elim (cases_lt (trans_at A v).source s) [
-      | inl lt ↦ absurd (none v among.0 lt good)
-      | inr le ↦ elim (cases_eq (trans_at A v).source s) [
-        | inl e ↦ h.least v e good
-        | inr other ↦ source_order valid u v h.holds.by (let at = h.among in omega arith)
+  -- The bits of the row are on the states to which the relation relates the source of t. Out of the states before the next bit there is no
+  -- better one, if there is none out of those before `at`.
+  none_before_next : 2 ≤ n → (row : List ℕ) (at q : ℕ) → ((p : ℕ) → back (trans_at A t).source p → HasBit row p) → IsNextBit row at q
+      → ((v : ℕ) → (trans_at A v).source < at → IsGood v → ⊥) → (v : ℕ) → (trans_at A v).source < q → IsGood v → ⊥
+  none_before_next some row at q bits next none v lt good =
+      let p = (trans_at A v).source in
+      elim (cases_lt p at) [
+        | inl before ↦ none v before good
+        | inr from ↦ false≢true (sym (next.none_between p from lt) ∙ bits p (held_source n back (trans_at A t).source p some good.better.source))
       ]
-    ];
-  }
 
-  -- no better one out of the states before the range: the least out of the range is the least
-  pub least_past : IsAutomaton A → (b e u : ℕ) → ((v : ℕ) → (trans_at A v).source < b → IsGood v → ⊥)
-      → IsLeastOf (λ v. (b ≤ (trans_at A v).source) × ((trans_at A v).source < e)) IsGood u → IsLeastBetter A n back ahead t u
-  least_past valid b e u none h = record {
+  -- the least better one out of the next of these states is the least
+  pub least_of_next : 2 ≤ n → IsAutomaton A → (row : List ℕ) (at q u : ℕ) → ((p : ℕ) → back (trans_at A t).source p → HasBit row p) → IsNextBit row at q
+      → ((v : ℕ) → (trans_at A v).source < at → IsGood v → ⊥) → IsLeastOf (λ v. (trans_at A v).source ≡ q) IsGood u → IsLeastBetter A n back ahead t u
+  least_of_next some valid row at q u bits next none h = record {
     better = h.holds;
-    least = λ v good. elim (cases_lt (trans_at A v).source b) [
-      | inl lt ↦ absurd (none v lt good)
-      | inr from ↦ elim (cases_lt (trans_at A v).source e) [
-        | inl upto ↦ h.least v (from, upto) good
-        | inr le ↦ source_order valid u v h.holds.by (let at = h.among.1 in omega arith)
+    least = λ v good. elim (cases_lt (trans_at A v).source q) [
+      | inl lt ↦ absurd (none_before_next some row at q bits next none v lt good)
+      | inr le ↦ elim (cases_eq (trans_at A v).source q) [
+        | inl e ↦ h.least v e good
+        | inr other ↦ source_order valid u v h.holds.by (let same = h.among in omega arith)
       ]
     ];
   }
 
-  -- a word of a row further: its states hold no better one
-  source_in : IsAutomaton A → (v : ℕ) → IsGood v → (trans_at A v).source < A.states
-  source_in valid v good = (valid.in_range v (trans 0 0 0) good.by).0
-
-  pub none_past_range : IsAutomaton A → (w e : ℕ) → (e ≡ A.states) ⊎ (e ≡ w * 64 + 64) → ((v : ℕ) → (trans_at A v).source < w * 64 → IsGood v → ⊥)
-      → HasNone (λ v. (w * 64 ≤ (trans_at A v).source) × ((trans_at A v).source < e)) IsGood → (v : ℕ) → (trans_at A v).source < (w + 1) * 64 → IsGood v → ⊥
-  none_past_range valid w e end before none v upto good =
-      let near = source_in valid v good in
-      elim (cases_lt (trans_at A v).source (w * 64)) [
-        | inl lt ↦ before v lt good
-        | inr from ↦ none v (from, elim end [ inl is ↦ omega arith | inr is ↦ omega arith ]) good
-      ]
-
-  pub none_past_zeros : 2 ≤ n → (row : List ℕ) (w : ℕ) → get_or row w 0 ≡ 0 → ((q : ℕ) → back (trans_at A t).source q → HasBit row q)
-      → ((v : ℕ) → (trans_at A v).source < w * 64 → IsGood v → ⊥) → (v : ℕ) → (trans_at A v).source < (w + 1) * 64 → IsGood v → ⊥
-  none_past_zeros some row w zeros bits before v upto good = elim (cases_lt (trans_at A v).source (w * 64)) [
-    | inl lt ↦ before v lt good
-    | inr from ↦
-        let q = (trans_at A v).source in
-        no_bit row w q (omega arith) zeros (bits q (held_source n back (trans_at A t).source q some good.better.source))
+  pub none_past_next : 2 ≤ n → (row : List ℕ) (at q : ℕ) → ((p : ℕ) → back (trans_at A t).source p → HasBit row p) → IsNextBit row at q
+      → ((v : ℕ) → (trans_at A v).source < at → IsGood v → ⊥) → HasNone (λ v. (trans_at A v).source ≡ q) IsGood
+      → (v : ℕ) → (trans_at A v).source < q + 1 → IsGood v → ⊥
+  none_past_next some row at q bits next none here v upto good = elim (cases_eq (trans_at A v).source q) [
+    | inl e ↦ here v e good
+    | inr other ↦ none_before_next some row at q bits next none v (omega arith) good
   ]
+
+  pub none_past_last : 2 ≤ n → (row : List ℕ) (at : ℕ) → ((p : ℕ) → back (trans_at A t).source p → HasBit row p) → ((i : ℕ) → at ≤ i → bit_of row i ≡ false)
+      → ((v : ℕ) → (trans_at A v).source < at → IsGood v → ⊥) → (v : ℕ) → IsGood v → ⊥
+  none_past_last some row at bits rest none v good =
+      let p = (trans_at A v).source in
+      elim (cases_lt p at) [
+        | inl before ↦ none v before good
+        | inr from ↦ false≢true (sym (rest p from) ∙ bits p (held_source n back (trans_at A t).source p some good.better.source))
+      ]
 
 -- a part of the transition that was read
 pub letter_read : (A : Automaton) (ts : List Trans) (t : ℕ) → ts ≡ A.transitions → (get_or ts t (trans 0 0 0)).label ≡ (trans_at A t).label

@@ -9,6 +9,7 @@ ghost use Rattle.prune_pairs.specs.Least.{IsLeastOf, HasNone, IsTransition, HasN
 use crate::comparing::{at_source, better};
 use auto_core::{Auto, Span};
 use bit_rel::Rel;
+use row_steps::next_bit;
 
 /// The least transition of the range that is better than `t`.
 fn first_within(
@@ -167,51 +168,8 @@ fn first_out_of_related(
     }
 }
 
-/// The same for the states from `begin` up to `end`: in order, since transitions are sorted by source.
-fn first_out_of_range(
-    automaton: &Auto,
-    pair: u32,
-    back: &Rel,
-    ahead: &Rel,
-    t: u32,
-    begin: u32,
-    end: u32,
-) -> Option<u32>
-    requires sound { IsAutomaton automaton.now }
-    requires pair_from { 2 ≤ pair }
-    requires pair_upto { pair ≤ 4 }
-    requires back { back.now.size ≡ automaton.now.states }
-    requires ahead { ¬ (pair ≡ 2) → ahead.now.size ≡ automaton.now.states }
-    requires t { t < length automaton.now.transitions }
-    requires within { end ≤ automaton.now.states }
-    ensures some { IfSome result (IsLeastOf (λ u. (begin ≤ (trans_at automaton.now u).source) × ((trans_at automaton.now u).source < end)) (IsBetterAt automaton.now pair (Holds back.now.pairs) (Holds ahead.now.pairs) t)) }
-    ensures none { IfNone result (HasNone (λ u. (begin ≤ (trans_at automaton.now u).source) × ((trans_at automaton.now u).source < end)) (IsBetterAt automaton.now pair (Holds back.now.pairs) (Holds ahead.now.pairs) t)) }
-{
-    for source in begin..end {
-        match first_out_of_related(automaton, pair, back, ahead, t, source) {
-            Some(by) => return Some(by),
-            None => {}
-        }
-    }
-    None
-}
-
-/// The first number past the bits of the word, and at most the number of states.
-fn end_of_word(states: u32, word: usize) -> u32
-    requires { word * 64 < states }
-    ensures end { (result ≡ states) ⊎ (result ≡ word * 64 + 64) }
-    ensures within { result ≤ states }
-    ensures upto { result ≤ word * 64 + 64 }
-{
-    let end = word * 64 + 64;
-    if end < states as usize {
-        end as u32
-    } else {
-        states
-    }
-}
-
-/// The least transition that is better than `t`, for pairs 2 to 4: the states that the row of the source of `t` holds, word by word.
+/// The least transition that is better than `t`, for pairs 2 to 4: out of the states that the row of the source of `t` holds, in order, since
+/// transitions are sorted by source.
 fn first_by_source(automaton: &Auto, pair: u32, back: &Rel, ahead: &Rel, t: u32) -> Option<u32>
     requires pair_from { 2 ≤ pair }
     requires pair_upto { pair ≤ 4 }
@@ -221,17 +179,14 @@ fn first_by_source(automaton: &Auto, pair: u32, back: &Rel, ahead: &Rel, t: u32)
     ensures some { IfSome result (IsLeastBetter automaton.now pair (Holds back.now.pairs) (Holds ahead.now.pairs) t) }
     ensures none { IfNone result (HasBetter automaton.now pair (Holds back.now.pairs) (Holds ahead.now.pairs) t → ⊥) }
 {
-    let states = automaton.states();
     let row = back.row(automaton.transitions()[t as usize].source);
-    for word in 0..row.len() {
-        if row[word] != 0 {
-            let begin = (word * 64) as u32;
-            let end = end_of_word(states, word);
-            match first_out_of_range(automaton, pair, back, ahead, t, begin, end) {
-                Some(by) => return Some(by),
-                None => {}
-            }
+    let mut at = 0;
+    while let Some(source) = next_bit(row, at) {
+        match first_out_of_related(automaton, pair, back, ahead, t, source as u32) {
+            Some(by) => return Some(by),
+            None => {}
         }
+        at = source + 1;
     }
     None
 }

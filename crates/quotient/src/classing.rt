@@ -1,6 +1,6 @@
 //! The classes of a relation.
 
-ghost use Rattle.std.specs.Prelude.{◌≡◌, ◌<◌, ◌≤◌, ℕ, length, IfOk};
+ghost use Rattle.std.specs.Prelude.{◌≡◌, ◌^◌, ◌<◌, ◌≤◌, ℕ, length, IfOk};
 ghost use Rattle.auto_core.specs.Game.{Holds};
 ghost use Rattle.auto_core.specs.Quotient.{AreClassesOf};
 ghost use Rattle.quotient.specs.Counting.{IsClassFor};
@@ -8,18 +8,25 @@ ghost use Rattle.quotient.specs.Counting.{IsClassFor};
 use crate::classes::{Classes, counted};
 use auto_core::Memory;
 use bit_rel::Rel;
+use row_steps::next_bit;
 use std::alloc::Global;
 
 /// The class of a state before this one that the relation relates to it both ways; `next` where there is none.
 fn class_for(rel: &Rel, of: &[u32], state: u32, next: u32) -> u32
     requires is_state { state < rel.now.size }
+    requires few { rel.now.size < 2 ^ 32 }
     requires len { length of.now ≡ state }
     ensures { IsClassFor (Holds rel.now.pairs) of.now state next result }
 {
-    for before in 0..state {
-        if rel.both_ways(before, state) {
-            return of[before as usize];
+    let mut at = 0;
+    while let Some(before) = next_bit(rel.row(state), at) {
+        if before >= state as usize {
+            return next;
         }
+        if rel.both_ways(before as u32, state) {
+            return of[before];
+        }
+        at = before + 1;
     }
     next
 }

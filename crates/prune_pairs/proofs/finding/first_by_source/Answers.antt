@@ -1,23 +1,50 @@
-use Rattle.std.proofs.Common.{◌+◌, ◌*◌, ◌<◌, ℕ, inl, inr, sym, ◌∙◌, subst}
+use Rattle.std.proofs.Common.{◌≡◌, ◌+◌, ◌<◌, ◌↔◌, ℕ, List, sym, subst, arith}
 use Rattle.auto_core.specs.Automaton.{trans_at}
 use Rattle.auto_core.specs.Game.{Holds}
-use Rattle.auto_core.specs.Pruning.{IsBetterAt}
-use Rattle.prune_pairs.proofs.FindLemmas.{least_past, none_past_range, none_past_zeros, source_read}
+use Rattle.auto_core.specs.Rows.{HasBit}
+use Rattle.bit_rel.specs.Relation.{Relation, IsRelation}
+use Rattle.prune_pairs.proofs.FindLemmas.{least_of_next, none_past_next, none_past_last, source_read}
 use Rattle.prune_pairs.proofs.finding.first_by_source.Goals as goal
-use Rattle.prune_pairs.proofs.finding.first_by_source.Goals.{then-row-word-ne0+in-None, else-row-word-ne0}
 
-pub returns-in-Some-clause-some : goal.returns-in-Some-clause-some
-returns-in-Some-clause-some c =
-    least_past c.args.automaton.now c.args.pair (Holds c.args.back.now.pairs) (Holds c.args.ahead.now.pairs) c.args.t c.states-states.ensures.valid (c.loop-word.word * 64) c.end_of_word-end.result c.in-Some.by c.loop-word.invariant c.in-Some.ensures.some
+state_below : (R : Relation) (row : List ℕ) (n p q : ℕ) → R.size ≡ n → IsRelation R → HasBit row q → HasBit row q ↔ Holds R.pairs p q → q < n
+state_below R row n p q size valid bit both = let lt = (valid.in_range p q (both.0 bit)).1 in omega arith
 
-pub loop-word-preserved : goal.loop-word-preserved
-loop-word-preserved c =
+pub first_out_of_related-requires-clause-source : goal.first_out_of_related-requires-clause-source
+first_out_of_related-requires-clause-source c =
+    let q = c.in-Some.source in
+    state_below c.args.back.now c.row-row.result.now c.args.automaton.now.states _ q c.requires.back c.row-row.ensures.valid c.in-Some.ensures.found.here (c.row-row.ensures.bits q)
+
+pub returns-in-Some-first_out_of_related-clause-some : goal.returns-in-Some-first_out_of_related-clause-some
+returns-in-Some-first_out_of_related-clause-some c =
     let A = c.args.automaton.now in
     let B = Holds c.args.back.now.pairs in
-    let F = Holds c.args.ahead.now.pairs in
-    let w : ℕ = c.loop-word.word in
-    elim c.if-row-word-ne0.branch as (λ _. (u : ℕ) → (trans_at A u).source < (w + 1) * 64 → IsBetterAt A c.args.pair B F c.args.t u → ⊥) [
-      | then-row-word-ne0+in-None k ↦ none_past_range A c.args.pair B F c.args.t c.states-states.ensures.valid w k.end_of_word-end.result (elim k.end_of_word-end.ensures.end [ inl e ↦ inl (e ∙ c.states-states.ensures.count) | inr e ↦ inr e ]) c.loop-word.invariant k.in-None.ensures.none
-      | else-row-word-ne0 k ↦ none_past_zeros A c.args.pair B F c.args.t c.requires.pair_from c.row-row.result.now w k.if-row-word-ne0.false
-          (λ q h. (c.row-row.ensures.bits q).1 (subst (λ p. B p q) (sym (source_read A c.transitions.result.now c.args.t c.transitions.ensures.list)) h)) c.loop-word.invariant
-    ]
+    least_of_next A c.args.pair B (Holds c.args.ahead.now.pairs) c.args.t c.requires.pair_from c.transitions.ensures.valid c.row-row.result.now c.loop-source.at c.in-Some.source c.in-Some-first_out_of_related.by
+    (λ q h. (c.row-row.ensures.bits q).1 (subst (λ p. B p q) (sym (source_read A c.transitions.result.now c.args.t c.transitions.ensures.list)) h))
+    c.in-Some.ensures.found c.loop-source.invariant.1 c.in-Some-first_out_of_related.ensures.some
+
+pub loop-source-smaller : goal.loop-source-smaller
+loop-source-smaller c =
+    let q = c.in-Some.source in
+    let below = state_below c.args.back.now c.row-row.result.now c.args.automaton.now.states _ q c.requires.back c.row-row.ensures.valid c.in-Some.ensures.found.here (c.row-row.ensures.bits q) in
+    let behind = c.in-Some.ensures.found.behind in
+    omega arith
+
+pub loop-source-preserved : goal.loop-source-preserved
+loop-source-preserved c =
+    let A = c.args.automaton.now in
+    let B = Holds c.args.back.now.pairs in
+    let q = c.in-Some.source in
+    let below = state_below c.args.back.now c.row-row.result.now A.states _ q c.requires.back c.row-row.ensures.valid c.in-Some.ensures.found.here (c.row-row.ensures.bits q) in (
+      omega arith,
+      none_past_next A c.args.pair B (Holds c.args.ahead.now.pairs) c.args.t c.requires.pair_from c.row-row.result.now c.loop-source.at q
+          (λ q h. (c.row-row.ensures.bits q).1 (subst (λ p. B p q) (sym (source_read A c.transitions.result.now c.args.t c.transitions.ensures.list)) h))
+          c.in-Some.ensures.found c.loop-source.invariant.1 c.in-None.ensures.none,
+    )
+
+pub returns-clause-none : goal.returns-clause-none
+returns-clause-none c = λ better.
+    let A = c.args.automaton.now in
+    let B = Holds c.args.back.now.pairs in
+    none_past_last A c.args.pair B (Holds c.args.ahead.now.pairs) c.args.t c.requires.pair_from c.row-row.result.now c.loop-source.at
+    (λ q h. (c.row-row.ensures.bits q).1 (subst (λ p. B p q) (sym (source_read A c.transitions.result.now c.args.t c.transitions.ensures.list)) h))
+    c.in_default.ensures.none c.loop-source.invariant.1 better.0 better.1
