@@ -9,7 +9,7 @@ use Rattle.auto_core.specs.Pairs.{PairSubsumes, pair_of}
 use Rattle.auto_core.specs.ClosedPairs.{ClosedPairs}
 use Rattle.auto_core.specs.Outcome.{At, Entry, Closed, TellsLive, arcs_in}
 use Rattle.auto_core.specs.PairOutcome.{PairSearchEnds, ArePairsListed, NoPairSubsumedBefore, pair_at, pair_rules}
-use Rattle.cert_text.specs.declared.types.Element.{Element}
+use Rattle.cert_value.specs.declared.types.Element.{Element}
 use Rattle.search_laws.specs.PairOutcomes.{HavePairOrigins}
 use Rattle.search_laws.proofs.PlaceLemmas.{at_some, at_within}
 use Rattle.search_laws.proofs.EntryLemmas.{arc_here}

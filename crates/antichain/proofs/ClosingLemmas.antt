@@ -6,10 +6,10 @@ use Rattle.auto_core.specs.Automaton.{Automaton, IsAutomaton}
 use Rattle.auto_core.specs.Game.{IsGreatestForward}
 use Rattle.auto_core.specs.Outcome.{At, Closed}
 use Rattle.auto_core.specs.PairOutcome.{PairSearchEnds, pair_rules}
-use Rattle.cert_text.specs.declared.types.Element.{Element}
-use Rattle.cert_text.specs.declared.types.Mark.{Mark}
-use Rattle.cert_text.specs.declared.types.Mark.TheVariants.{Live, Under}
-use Rattle.cert_text.specs.declared.types.StepLine.{StepLine}
+use Rattle.cert_value.specs.declared.types.Element.{Element}
+use Rattle.cert_value.specs.declared.types.Mark.{Mark}
+use Rattle.cert_value.specs.declared.types.Mark.TheVariants.{Live, Under}
+use Rattle.cert_value.specs.declared.types.StepLine.{StepLine}
 use Rattle.search_laws.proofs.PlaceLemmas.{at_some, same_maps}
 use Rattle.search_laws.proofs.ListLemmas.{read_map}
 use Rattle.antichain.specs.declared.parts.Held.{Held}
@@ -18,7 +18,7 @@ use Rattle.antichain.specs.declared.family.Family.{Family}
 use Rattle.antichain.specs.Kept.{IsWhole, entries_held}
 use Rattle.antichain.specs.Marks.{IsHeldMark, AreMarked}
 use Rattle.evidence.specs.Evidence.{AreLeastSubsumers, marked_live, IsEvidenceOf, IsStepOf}
-use Rattle.cert_text.specs.WellFormed.{is_live}
+use Rattle.cert_value.specs.WellFormed.{is_live}
 use Rattle.evidence.proofs.RangeLemmas.{filters_alike}
 use Rattle.antichain.proofs.ClosureLemmas.{marks_are}
 use Rattle.evidence.proofs.EntriesLemmas.{origins_of_entries}

@@ -4,9 +4,9 @@ use Rattle.auto_core.specs.Automaton.{Automaton, IsAutomaton, trans_at}
 use Rattle.auto_core.specs.Game.{IsGreatestForward}
 use Rattle.auto_core.specs.Outcome.{At, Entry, Closed, HasSubsumer, IsLeastSubsumer, next_entry}
 use Rattle.auto_core.specs.PairOutcome.{PairSearchEnds, start_entry, pair_rules}
-use Rattle.cert_text.specs.declared.types.Element.{Element}
-use Rattle.cert_text.specs.declared.types.Mark.{Mark}
-use Rattle.cert_text.specs.declared.types.Mark.TheVariants.{Live, Under}
+use Rattle.cert_value.specs.declared.types.Element.{Element}
+use Rattle.cert_value.specs.declared.types.Mark.{Mark}
+use Rattle.cert_value.specs.declared.types.Mark.TheVariants.{Live, Under}
 use Rattle.search_laws.specs.PairOutcomes.{HavePairOrigins}
 use Rattle.search_laws.proofs.PlaceLemmas.{at_same, at_within, at_some, at_cases}
 use Rattle.search_laws.proofs.SearchLemmas.{HasClosed}

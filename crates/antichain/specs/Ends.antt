@@ -7,7 +7,7 @@ use Rattle.auto_core.specs.ClosedPairs.{ClosedPairs}
 use Rattle.auto_core.specs.PairOutcome.{pair_rules, PairSearchEnds, ArePairsListed, NoPairSubsumedBefore}
 use Rattle.auto_core.specs.declared.parts.Mode.TheVariants.{Finite}
 use Rattle.auto_core.specs.Outcome.{Entry, Closed, Apart, Limit, origins_in}
-use Rattle.cert_text.specs.declared.types.Element.{Element}
+use Rattle.cert_value.specs.declared.types.Element.{Element}
 use Rattle.evidence.specs.declared.parts.Closure.{Closure}
 use Rattle.evidence.specs.Evidence.{IsEvidenceOf, LiveStandApart, marked_live}
 use Rattle.antichain.specs.declared.parts.WordOutcome.{WordOutcome}

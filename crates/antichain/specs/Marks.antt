@@ -1,9 +1,9 @@
 -- What the closing lines say of the kept elements.
 use Rattle.std.specs.Prelude.{◌≡◌, ℕ, Bool, true, false, List, length, slice_index_or}
 use Rattle.auto_core.specs.Outcome.{At}
-use Rattle.cert_text.specs.declared.types.Element.{Element}
-use Rattle.cert_text.specs.declared.types.Mark.{Mark}
-use Rattle.cert_text.specs.declared.types.Mark.TheVariants.{Live, Under}
+use Rattle.cert_value.specs.declared.types.Element.{Element}
+use Rattle.cert_value.specs.declared.types.Mark.{Mark}
+use Rattle.cert_value.specs.declared.types.Mark.TheVariants.{Live, Under}
 use Rattle.antichain.specs.declared.parts.Held.{Held}
 use Rattle.antichain.specs.declared.family.Family.{Family}
 use Rattle.evidence.specs.Tables.{numbers_at}

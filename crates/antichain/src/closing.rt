@@ -6,7 +6,7 @@ ghost use Rattle.auto_core.specs.Automaton.{IsAutomaton, trans_at};
 ghost use Rattle.auto_core.specs.Game.{IsGreatestForward};
 ghost use Rattle.auto_core.specs.Outcome.{At, Closed, Entry, HasSubsumer, next_entry};
 ghost use Rattle.auto_core.specs.PairOutcome.{PairSearchEnds, pair_rules, start_entry};
-ghost use Rattle.cert_text.specs.declared.types.StepLine.{StepLine};
+ghost use Rattle.cert_value.specs.declared.types.StepLine.{StepLine};
 ghost use Rattle.antichain.specs.declared.parts.Held.{Held};
 ghost use Rattle.antichain.specs.Kept.{FitsTogether, IsPrepared, IsWhole, entries_held};
 ghost use Rattle.evidence.specs.Evidence.{AreLeastSubsumers, IsEvidenceOf, IsStepOf};
@@ -19,7 +19,7 @@ use crate::parts::Held;
 use crate::sets::Sets;
 use auto_core::{Auto, List, Memory};
 use bit_rel::Rel;
-use cert_text::{Element, Mark, StepLine};
+use cert_value::{Element, Mark, StepLine};
 use evidence::Closure;
 use std::alloc::Global;
 

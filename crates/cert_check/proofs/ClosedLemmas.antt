@@ -16,16 +16,16 @@ use Rattle.graph_laws.proofs.ClosedLemmas.{closed_set_includes}
 use Rattle.graph_laws.proofs.OriginLemmas.{length-arcs_of, placed_arcs_are_real}
 use Rattle.search_laws.proofs.ClosedPairLemmas.{closed_pairs_include}
 use Rattle.search_laws.proofs.PairEntryLemmas.{placed_pairs_are_reached}
-use Rattle.cert_text.specs.declared.types.YesBody.{YesBody}
-use Rattle.cert_text.specs.declared.types.Element.{Element}
-use Rattle.cert_text.specs.declared.types.StepLine.{StepLine}
-use Rattle.cert_text.specs.WellFormed.{WellFormed, is_short, are_short, is_body, is_yes, is_listing, is_block, are_logs, is_live, is_origin, is_element, are_steps, is_step_of, is_first_step, is_second_step}
+use Rattle.cert_value.specs.declared.types.YesBody.{YesBody}
+use Rattle.cert_value.specs.declared.types.Element.{Element}
+use Rattle.cert_value.specs.declared.types.StepLine.{StepLine}
+use Rattle.cert_value.specs.WellFormed.{WellFormed, is_short, are_short, is_body, is_yes, is_listing, is_block, are_logs, is_live, is_origin, is_element, are_steps, is_step_of, is_first_step, is_second_step}
 use Rattle.ba_format.specs.declared.parts.Joined.{Joined}
-use Rattle.cert_text.specs.declared.types.Cert.{Cert}
-use Rattle.cert_text.specs.declared.types.Body.TheVariants.{Yes, Listing}
-use Rattle.cert_text.specs.declared.types.ListBody.{ListBody}
-use Rattle.cert_text.specs.declared.types.FirstStep.{FirstStep}
-use Rattle.cert_text.specs.declared.types.SecondStep.{SecondStep}
+use Rattle.cert_value.specs.declared.types.Cert.{Cert}
+use Rattle.cert_value.specs.declared.types.Body.TheVariants.{Yes, Listing}
+use Rattle.cert_value.specs.declared.types.ListBody.{ListBody}
+use Rattle.cert_value.specs.declared.types.FirstStep.{FirstStep}
+use Rattle.cert_value.specs.declared.types.SecondStep.{SecondStep}
 use Rattle.cert_check.specs.Laws.{ValidYesIncludes, ValidNoSeparates, ValidNoSeparatesByWord}
 use Rattle.cert_check.specs.Rules.{lasso_checks, word_checks, YesHolds, BodyHolds, KeepsRules}
 use Rattle.log_check.specs.Ends.{item_after}

@@ -1,9 +1,9 @@
 -- The parts of what is asked of a certificate of inclusion, tested one after another.
 use Rattle.std.proofs.Common.{ℕ, List, ◌++◌, Result, Ok, Err, inr}
 use Rattle.auto_core.specs.Automaton.{Automaton}
-use Rattle.cert_text.specs.declared.types.YesBody.{YesBody}
-use Rattle.cert_text.specs.declared.types.FirstStep.{FirstStep}
-use Rattle.cert_text.specs.declared.types.SecondStep.{SecondStep}
+use Rattle.cert_value.specs.declared.types.YesBody.{YesBody}
+use Rattle.cert_value.specs.declared.types.FirstStep.{FirstStep}
+use Rattle.cert_value.specs.declared.types.SecondStep.{SecondStep}
 use Rattle.auto_core.specs.declared.parts.Mode.{Mode}
 use Rattle.ba_format.specs.declared.parts.Joined.{Joined}
 use Rattle.log_check.specs.declared.faults.CheckFault.{CheckFault}

@@ -1,5 +1,5 @@
 -- Elements with the same key are the same supergraph, in finite mode the same pair, and the other way round.
-use Rattle.std.proofs.Common.{◌≡◌, ◌↔◌, ◌⊎◌, ℕ, ◌+◌, ◌*◌, ◌/◌, ◌%◌, ◌^◌, ◌<◌, ◌==◌, Bool, true, false, cond, inl, inr, Vec, Global, List, [], ◌∷◌, ◌++◌, length, get_or, slice_index_or, refl, sym, ap, ◌∙◌, subst, arith}
+use Rattle.std.proofs.Common.{◌≡◌, ◌↔◌, ◌⊎◌, ℕ, ◌+◌, ◌*◌, ◌/◌, ◌%◌, ◌<◌, ◌==◌, Bool, true, false, cond, inl, inr, Vec, Global, List, [], ◌∷◌, ◌++◌, length, get_or, slice_index_or, refl, sym, ap, ◌∙◌, subst, arith}
 use Rattle.std.specs.Int.{bit_at}
 use Rattle.std.specs.Cmp.{both_ways}
 use Rattle.std.specs.BTreeSet.{BTreeSet}
@@ -8,9 +8,9 @@ use Rattle.std.specs.Ordering.{nat_cmp, is_eq}
 use Rattle.std.specs.Str.{bytes_eq}
 use Rattle.std.proofs.lemmas.Map.Text.{is_eq-slice_cmp}
 use Rattle.std.proofs.lemmas.Slice.Eq.{bytes_eq-Decides}
-use Rattle.std.proofs.lemmas.Bool.{cases_lt, cases_eq, eqb-true, eq-eqb, false≢true}
+use Rattle.std.proofs.lemmas.Bool.{cases_eq, eqb-true, eq-eqb, false≢true}
 use Rattle.std.proofs.lemmas.Grind.{same_number_lists}
-use Rattle.std.proofs.lemmas.List.{get_or_append_left, get_or_past, take-append-drop}
+use Rattle.std.proofs.lemmas.List.{take-append-drop}
 use Rattle.std.proofs.lemmas.Nat.Bits.{bit_at-lt, same_from_bits_below}
 use Rattle.auto_core.specs.Automaton.{Automaton}
 use Rattle.auto_core.specs.Rows.{HasBit, bit_of}
@@ -23,38 +23,12 @@ use Rattle.graph_rows.proofs.SameLemmas.{joined_same, past_same}
 use Rattle.set_rows.specs.Sets.{IsRow}
 use Rattle.supergraph.specs.declared.arcs.Arc.{Arc}
 use Rattle.supergraph.specs.Stands.{with_word}
-use Rattle.cert_text.specs.declared.types.Element.{Element}
+use Rattle.cert_value.specs.declared.types.Element.{Element}
 use Rattle.cert_check.specs.Inclusion.{element_arcs}
 use Rattle.cert_check.specs.Listing.{SameIn, DiffersFromEarlier}
-use Rattle.cert_check.specs.Supers.{StandFor, AreSupers, held_arc, held_block, key_of, flag_word, Fit, has_key, HasKey}
+use Rattle.cert_check.specs.Supers.{StandFor, AreSupers, held_arc, held_block, held_number, key_of, key_at, flag_word, Fit, has_key, HasKey}
+use Rattle.cert_check.specs.Firsts.{AreFirsts}
 use Rattle.cert_check.specs.declared.elements.Supers.{Supers}
-
--- The front of words that fit.
-fit_front : (xs ys : List ℕ) → Fit (xs ++ ys) → Fit xs
-fit_front xs ys fit k = elim (cases_lt k (length xs)) [
-  | inl h ↦ subst (λ n. n < 2 ^ 64) (get_or_append_left xs ys 0 k h) (fit k)
-  | inr h ↦ subst (λ n. n < 2 ^ 64) (sym (get_or_past xs k 0 h)) (omega arith)
-]
-
-pub fit_block : (m : Mode) (arc : Arc) (block : List ℕ) → Fit (key_of m arc block) → Fit block
-fit_block Buchi arc block fit = fit_front block (arc.from ∷ arc.to ∷ flag_word arc.accepting ∷ []) fit
-fit_block Finite arc block fit = fit_front block (arc.to ∷ []) fit
-
-same_head : (x y : ℕ) (xs ys : List ℕ) → x ∷ xs ≡ y ∷ ys → x ≡ y
-same_head x y xs ys e = cc
-
-same_tail : (x y : ℕ) (xs ys : List ℕ) → x ∷ xs ≡ y ∷ ys → xs ≡ ys
-same_tail x y xs ys e = cc
-
--- Lists with fronts of one length are equal only with equal fronts and equal ends.
-append_parts : (xs ys us vs : List ℕ) → length xs ≡ length ys → xs ++ us ≡ ys ++ vs → (xs ≡ ys) × (us ≡ vs)
-append_parts [] [] us vs size same = (refl, same)
-append_parts [] (y ∷ ys) us vs size same = absurd (omega arith)
-append_parts (x ∷ xs) [] us vs size same = absurd (omega arith)
-append_parts (x ∷ xs) (y ∷ ys) us vs size same =
-    let rest = append_parts xs ys us vs (omega arith) (same_tail x y (xs ++ us) (ys ++ vs) same) in
-    let head : x ≡ y = same_head x y (xs ++ us) (ys ++ vs) same in
-    (ap (λ z. z ∷ xs) head ∙ ap (λ l. y ∷ l) rest.0, rest.1)
 
 flag_of_word : (a b : Bool) → flag_word a ≡ flag_word b → a ≡ b
 flag_of_word false false e = refl
@@ -84,7 +58,7 @@ same_row n a b first second a_fit b_fit same = same_number_lists a b (first.len 
     (sym (of a) ∙ both_ways (bit_of a q) (bit_of b q) (same q).0 (same q).1 ∙ of b)))
 
 -- Blocks with the same graph are equal.
-module _ (A B : Automaton) (a b : Arc) (g h : List ℕ) (x y : WordArc) where
+module _ (A B : Automaton) (a b : Arc) (g h : List ℕ) (i j : ℕ) (x y : WordArc) where
   same_block : StandFor Buchi A B a g x → StandFor Buchi A B b h y → Fit g → Fit h → SameGraph (graph_of B x.word) (graph_of B y.word) → g ≡ h
   same_block s t g_fit h_fit same =
       let n : ℕ = B.states in
@@ -111,59 +85,61 @@ module _ (A B : Automaton) (a b : Arc) (g h : List ℕ) (x y : WordArc) where
   back_by_arc m s t X f same = sym (ap f s.arc) ∙ same ∙ ap f t.arc
 
   -- Equal keys stand for the same.
-  pub same_from_keys : (m : Mode) → StandFor m A B a g x → StandFor m A B b h y → key_of m a g ≡ key_of m b h → SameIn m B x y
-  same_from_keys Buchi s t same =
-      let parts = append_parts g h (a.from ∷ a.to ∷ flag_word a.accepting ∷ []) (b.from ∷ b.to ∷ flag_word b.accepting ∷ []) (s.formed.len ∙ sym t.formed.len) same in
+  pub same_from_keys : (m : Mode) → StandFor m A B a g x → StandFor m A B b h y → (i ≡ j → g ≡ h) → key_of m a i ≡ key_of m b j → SameIn m B x y
+  same_from_keys Buchi s t blocks same = record {
+    from = back_by_arc Buchi s t ℕ (λ z. z.from) (ap (λ l. slice_index_or l 1 0) same);
+    to = back_by_arc Buchi s t ℕ (λ z. z.to) (ap (λ l. slice_index_or l 2 0) same);
+    flag = back_by_arc Buchi s t Bool (λ z. z.flag) (flag_of_word a.accepting b.accepting (ap (λ l. slice_index_or l 3 0) same));
+    graph = same_words s t (blocks (ap (λ l. slice_index_or l 0 0) same));
+  }
+  same_from_keys Finite s t blocks same =
+      let rows : g ≡ h = blocks (ap (λ l. slice_index_or l 0 0) same) in
       record {
-        from = back_by_arc Buchi s t ℕ (λ z. z.from) (ap (λ l. slice_index_or l 0 0) parts.1);
-        to = back_by_arc Buchi s t ℕ (λ z. z.to) (ap (λ l. slice_index_or l 1 0) parts.1);
-        flag = back_by_arc Buchi s t Bool (λ z. z.flag) (flag_of_word a.accepting b.accepting (ap (λ l. slice_index_or l 2 0) parts.1));
-        graph = same_words s t parts.0;
-      }
-  same_from_keys Finite s t same =
-      let parts = append_parts g h (a.to ∷ []) (b.to ∷ []) (s.formed.len ∙ sym t.formed.len) same in
-      record {
-        state = back_by_arc Finite s t ℕ (λ z. z.to) (ap (λ l. slice_index_or l 0 0) parts.1);
+        state = back_by_arc Finite s t ℕ (λ z. z.to) (ap (λ l. slice_index_or l 1 0) same);
         members = λ q. (
-          λ is. (t.word q).0 (subst (λ l. HasBit l q) parts.0 ((s.word q).1 is)),
-          λ is. (s.word q).0 (subst (λ l. HasBit l q) (sym parts.0) ((t.word q).1 is)),
+          λ is. (t.word q).0 (subst (λ l. HasBit l q) rows ((s.word q).1 is)),
+          λ is. (s.word q).0 (subst (λ l. HasBit l q) (sym rows) ((t.word q).1 is)),
         );
       }
 
   -- The same have equal keys.
-  pub keys_from_same : (m : Mode) → StandFor m A B a g x → StandFor m A B b h y → Fit g → Fit h → SameIn m B x y → key_of m a g ≡ key_of m b h
-  keys_from_same Buchi s t g_fit h_fit same =
+  pub keys_from_same : (m : Mode) → StandFor m A B a g x → StandFor m A B b h y → Fit g → Fit h → (g ≡ h → i ≡ j) → SameIn m B x y → key_of m a i ≡ key_of m b j
+  keys_from_same Buchi s t g_fit h_fit firsts same =
       let from : a.from ≡ b.from = by_arc Buchi s t ℕ (λ z. z.from) same.from in
       let to : a.to ≡ b.to = by_arc Buchi s t ℕ (λ z. z.to) same.to in
       let flag : a.accepting ≡ b.accepting = by_arc Buchi s t Bool (λ z. z.flag) same.flag in
-      ap (λ l. l ++ a.from ∷ a.to ∷ flag_word a.accepting ∷ []) (same_block s t g_fit h_fit same.graph)
-      ∙ ap (λ k. h ++ k ∷ a.to ∷ flag_word a.accepting ∷ []) from
-      ∙ ap (λ k. h ++ b.from ∷ k ∷ flag_word a.accepting ∷ []) to
-      ∙ ap (λ f. h ++ b.from ∷ b.to ∷ flag_word f ∷ []) flag
-  keys_from_same Finite s t g_fit h_fit same =
+      ap (λ k. k ∷ a.from ∷ a.to ∷ flag_word a.accepting ∷ []) (firsts (same_block s t g_fit h_fit same.graph))
+      ∙ ap (λ k. j ∷ k ∷ a.to ∷ flag_word a.accepting ∷ []) from
+      ∙ ap (λ k. j ∷ b.from ∷ k ∷ flag_word a.accepting ∷ []) to
+      ∙ ap (λ f. j ∷ b.from ∷ b.to ∷ flag_word f ∷ []) flag
+  keys_from_same Finite s t g_fit h_fit firsts same =
       let to : a.to ≡ b.to = by_arc Finite s t ℕ (λ z. z.to) same.state in
       let rows : g ≡ h = same_row B.states g h s.formed t.formed g_fit h_fit (λ q. (
         λ has. (t.word q).1 ((same.members q).0 ((s.word q).0 has)),
         λ has. (s.word q).1 ((same.members q).1 ((t.word q).0 has)),
       )) in
-      ap (λ l. l ++ a.to ∷ []) rows ∙ ap (λ k. h ++ k ∷ []) to
+      ap (λ k. k ∷ a.to ∷ []) (firsts rows) ∙ ap (λ k. j ∷ k ∷ []) to
 
 -- The keys of all elements.
-module _ (m : Mode) (A B : Automaton) (elements : List Element) (S : Supers) (are : AreSupers m A B elements (length elements) S) where
-  abbrev pub key_at : ℕ → List ℕ
-  key_at d = key_of m (held_arc S d) (held_block S d)
+module _ (m : Mode) (A B : Automaton) (elements : List Element) (S : Supers) (are : AreSupers m A B elements (length elements) S) (firsts : List ℕ) (apart : AreFirsts S.graphs.graphs.items firsts) where
+  abbrev first_of : ℕ → ℕ
+  first_of d = slice_index_or firsts (held_number S d) 0
 
-  pub differs_by_keys : (e : ℕ) → e < length elements → ((d : ℕ) → d < e → Fit (key_at d)) → Fit (key_at e) → ((d : ℕ) → d < e → key_at d ≡ key_at e → ⊥) → DiffersFromEarlier m A B elements e
+  blocks_alike : (d e : ℕ) → d < length elements → e < length elements → (first_of d ≡ first_of e) ↔ (held_block S d ≡ held_block S e)
+  blocks_alike d e d_in e_in = apart (held_number S d) (held_number S e) (are.within d d_in) (are.within e e_in)
+
+  pub differs_by_keys : (e : ℕ) → e < length elements → ((d : ℕ) → d < e → Fit (held_block S d)) → Fit (held_block S e) →
+      ((d : ℕ) → d < e → key_at m S firsts d ≡ key_at m S firsts e → ⊥) → DiffersFromEarlier m A B elements e
   differs_by_keys e lt fits fit differ d before same =
       let d_in : d < length elements = omega arith in
-      differ d before (keys_from_same A B (held_arc S d) (held_arc S e) (held_block S d) (held_block S e) (arc_at A (element_arcs A elements) d) (arc_at A (element_arcs A elements) e)
-      m (are.each d d_in) (are.each e lt) (fit_block m (held_arc S d) (held_block S d) (fits d before)) (fit_block m (held_arc S e) (held_block S e) fit) same)
+      differ d before (keys_from_same A B (held_arc S d) (held_arc S e) (held_block S d) (held_block S e) (first_of d) (first_of e)
+      (arc_at A (element_arcs A elements) d) (arc_at A (element_arcs A elements) e) m (are.each d d_in) (are.each e lt) (fits d before) fit (blocks_alike d e d_in lt).1 same)
 
-  pub same_by_keys : (d e : ℕ) → d < e → e < length elements → key_at d ≡ key_at e → DiffersFromEarlier m A B elements e → ⊥
+  pub same_by_keys : (d e : ℕ) → d < e → e < length elements → key_at m S firsts d ≡ key_at m S firsts e → DiffersFromEarlier m A B elements e → ⊥
   same_by_keys d e before lt same new =
       let d_in : d < length elements = omega arith in
-      new d before (same_from_keys A B (held_arc S d) (held_arc S e) (held_block S d) (held_block S e) (arc_at A (element_arcs A elements) d) (arc_at A (element_arcs A elements) e)
-      m (are.each d d_in) (are.each e lt) same)
+      new d before (same_from_keys A B (held_arc S d) (held_arc S e) (held_block S d) (held_block S e) (first_of d) (first_of e)
+      (arc_at A (element_arcs A elements) d) (arc_at A (element_arcs A elements) e) m (are.each d d_in) (are.each e lt) (blocks_alike d e d_in lt).0 same)
 
 -- A set with one key more.
 pub one_added : (old new : BTreeSet (Vec ℕ Global)) (key : Vec ℕ Global) → ((q : Vec ℕ Global) → has_key new q ≡ cond (is_eq (slice_cmp nat_cmp key.items q.items)) true (has_key old q)) →

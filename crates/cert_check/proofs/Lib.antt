@@ -1,6 +1,7 @@
 pub mod PlaceLemmas
 pub mod ClosedLemmas
 pub mod SuperLemmas
+pub mod FirstLemmas
 pub mod KeyLemmas
 pub mod ListingLemmas
 pub mod PairLemmas

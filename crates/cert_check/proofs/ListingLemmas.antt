@@ -11,12 +11,12 @@ use Rattle.auto_core.specs.declared.parts.Mode.TheVariants.{Buchi, Finite}
 use Rattle.auto_core.specs.declared.parts.Origin.{Origin}
 use Rattle.auto_core.specs.declared.parts.Origin.TheVariants.{Start}
 use Rattle.ba_format.specs.declared.parts.Joined.{Joined}
-use Rattle.cert_text.specs.declared.types.Body.TheVariants.{Listing}
-use Rattle.cert_text.specs.declared.types.Cert.{Cert}
-use Rattle.cert_text.specs.declared.types.Element.{Element}
-use Rattle.cert_text.specs.declared.types.ListBody.{ListBody}
-use Rattle.cert_text.specs.declared.types.Mark.TheVariants.{Live}
-use Rattle.cert_text.specs.WellFormed.{WellFormed, is_origin, is_listing}
+use Rattle.cert_value.specs.declared.types.Body.TheVariants.{Listing}
+use Rattle.cert_value.specs.declared.types.Cert.{Cert}
+use Rattle.cert_value.specs.declared.types.Element.{Element}
+use Rattle.cert_value.specs.declared.types.ListBody.{ListBody}
+use Rattle.cert_value.specs.declared.types.Mark.TheVariants.{Live}
+use Rattle.cert_value.specs.WellFormed.{WellFormed, is_origin, is_listing}
 use Rattle.log_check.specs.Checks.{RuleCheck, AllHold, FirstBroken, Tells, checks_of_each}
 use Rattle.log_check.specs.Ends.{item_after}
 use Rattle.log_check.proofs.CheckLemmas.{all_front, all_back, broken_back, tells_fault, tells_after, each_of}

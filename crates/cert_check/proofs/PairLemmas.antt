@@ -1,86 +1,88 @@
--- Lists of numbers that are added to under a condition, and the pairs of elements.
-use Rattle.std.proofs.Common.{◌≡◌, ◌↔◌, ℕ, ◌+◌, ◌<◌, inl, inr, Bool, true, List, [], ◌∷◌, ◌++◌, length, take, slice_index_or, sym, ap, ◌∙◌, subst, arith, length-append, Contains}
-use Rattle.std.proofs.lemmas.Bool.{cases_lt}
-use Rattle.std.proofs.lemmas.List.{take_more, get_or_append_left, get_or_push}
+-- The turns of a certificate, and the pairs of elements.
+use Rattle.std.proofs.Common.{◌≡◌, ◌↔◌, ◌⊎◌, ℕ, ◌+◌, ◌<◌, inl, inr, Bool, true, List, [], ◌∷◌, length, slice_index_or, Vec, Global, refl, sym, ap, ◌∙◌, subst, arith, Contains}
+use Rattle.std.specs.BTreeSet.{BTreeSet}
+use Rattle.std.proofs.lemmas.Bool.{cases_lt, cases_eq}
 use Rattle.std.proofs.lemmas.List.Elements.{Contains-append_left, Contains-push_cases, Contains-push}
 use Rattle.auto_core.specs.Automaton.{Automaton}
 use Rattle.auto_core.specs.Graph.{WordArc, LassoIn, IsTested, super_of, graph_of, arc_at}
 use Rattle.auto_core.specs.Closed.{IsLive}
 use Rattle.auto_core.specs.declared.parts.Mode.TheVariants.{Buchi}
-use Rattle.graph_rows.specs.Block.{block_graph}
-use Rattle.cert_text.specs.declared.types.YesBody.{YesBody}
+use Rattle.graph_rows.specs.Block.{block_graph, IsFormed}
+use Rattle.shared_graphs.specs.declared.graphs.Graph.{Graph}
+use Rattle.shared_graphs.specs.Graphs.{block_at}
+use Rattle.evidence.specs.Tables.{numbers_at}
+use Rattle.cert_value.specs.declared.types.YesBody.{YesBody}
 use Rattle.cert_check.specs.Inclusion.{element_arcs, live_in, PassesWithAll}
-use Rattle.cert_check.specs.Supers.{AreSupers, held_block, held_arc, IsTurn, ListsJust, AddsIf, AreTurnsByState}
+use Rattle.cert_check.specs.Supers.{AreSupers, held_block, held_arc, held_number, Key, HasKey}
+use Rattle.cert_check.specs.Turns.{IsTurn, IsTurnAt, AreTurns, HasAddedAt, HasLassos}
 use Rattle.cert_check.specs.declared.elements.Supers.{Supers}
 use Rattle.cert_check.proofs.SuperLemmas.{arcs_count, lassos_alike}
 
-pub kept_alone : (P : ℕ → Type 0) (e : ℕ) (xs : List ℕ) → (P e → ⊥) → AddsIf P e xs xs
-kept_alone P e xs not_e f = (
-  λ h. inl h,
-  λ h. elim h [ inl x ↦ x | inr (is, p) ↦ absurd (not_e (subst P is p)) ],
-)
+-- What was listed stays, and the number that was added is listed.
+pub listed_stay : (old new : List (Vec ℕ Global)) (p g : ℕ) → HasAddedAt old new p g → (q h : ℕ) → Contains (numbers_at old q) h → Contains (numbers_at new q) h
+listed_stay old new p g added q h there = elim (cases_eq q p) [
+  | inl same ↦
+      subst (λ k. Contains (numbers_at new k) h) (sym same)
+      (subst (λ l. Contains l h) (sym added.here) (Contains-append_left (numbers_at old p) (g ∷ []) h (subst (λ k. Contains (numbers_at old k) h) same there)))
+  | inr other ↦ subst (λ l. Contains l h) (sym (added.others q other)) there
+]
 
-pub one_added : (P : ℕ → Type 0) (e : ℕ) (xs ys : List ℕ) → ys ≡ xs ++ e ∷ [] → P e → AddsIf P e xs ys
-one_added P e xs ys is p f = (
-  λ h. elim (Contains-push_cases xs e f (subst (λ l. Contains l f) is h)) [
-    | inl x ↦ inl x
-    | inr same ↦ inr (sym same, subst P same p)
-  ],
-  λ h. elim h [
-    | inl x ↦ subst (λ l. Contains l f) (sym is) (Contains-append_left xs (e ∷ []) f x)
-    | inr (same, q) ↦ subst (λ l. Contains l f) (sym is) (subst (λ n. Contains (xs ++ n ∷ []) f) same (Contains-push xs f))
-  ],
-)
+pub listed_now : (old new : List (Vec ℕ Global)) (p g : ℕ) → HasAddedAt old new p g → Contains (numbers_at new p) g
+listed_now old new p g added = subst (λ l. Contains l g) (sym added.here) (Contains-push (numbers_at old p) g)
 
--- Numbers below one more.
-pub upto_more : (P : ℕ → Type 0) (e : ℕ) (xs ys : List ℕ) → ((f : ℕ) → Contains xs f ↔ ((f < e) × P f)) → AddsIf P e xs ys → (f : ℕ) → Contains ys f ↔ ((f < e + 1) × P f)
-upto_more P e xs ys has adds f = (
-  λ h. elim ((adds f).0 h) [
-    | inl x ↦ let r = (has f).0 x in let lt = r.0 in (omega arith, r.1)
-    | inr (is, p) ↦ (omega arith, p)
-  ],
-  λ (lt, p). elim (cases_lt f e) [
-    | inl less ↦ (adds f).1 (inl ((has f).1 (less, p)))
-    | inr more ↦ (adds f).1 (inr (omega arith, p))
-  ],
-)
+-- One element more: its graph is listed already if it is a turn, or it comes now.
+module _ (evidence : YesBody) (supers : Supers) (e states : ℕ) where
+  later : (p g : ℕ) → IsTurnAt evidence supers e p g → IsTurnAt evidence supers (e + 1) p g
+  later p g at = let before = at.before in record { element = at.element; before = omega arith; turn = at.turn; state = at.state; graph = at.graph }
 
--- Numbers of one more of a list.
-pub chosen_more : (P : ℕ → Type 0) (all : List ℕ) (k e : ℕ) (xs ys : List ℕ) → k < length all → e ≡ slice_index_or all k 0 →
-    ((f : ℕ) → Contains xs f ↔ (Contains (take k all) f × P f)) → AddsIf P e xs ys → (f : ℕ) → Contains ys f ↔ (Contains (take (k + 1) all) f × P f)
-chosen_more P all k e xs ys lt is has adds f = (
-  λ h. elim ((adds f).0 h) [
-    | inl x ↦ let r = (has f).0 x in (subst (λ l. Contains l f) (sym more) (Contains-append_left (take k all) (e ∷ []) f r.0), r.1)
-    | inr (same, p) ↦ (subst (λ l. Contains l f) (sym more) (subst (λ n. Contains (take k all ++ n ∷ []) f) same (Contains-push (take k all) f)), p)
-  ],
-  λ (there, p). elim (Contains-push_cases (take k all) e f (subst (λ l. Contains l f) more there)) [
-    | inl before ↦ (adds f).1 (inl ((has f).1 (before, p)))
-    | inr same ↦ (adds f).1 (inr (sym same, p))
-  ],
-)
-  where
-    more : take (k + 1) all ≡ take k all ++ e ∷ []
-    more = take_more all k 0 lt ∙ ap (λ n. take k all ++ n ∷ []) (sym is)
+  one_more : (turns : List (Vec ℕ Global)) (p g : ℕ) → (IsTurnAt evidence supers e p g → Contains (numbers_at turns p) g) →
+      (IsTurn evidence supers e → Contains (numbers_at turns (held_arc supers e).from) (held_number supers e)) → IsTurnAt evidence supers (e + 1) p g → Contains (numbers_at turns p) g
+  one_more turns p g listed here at = elim (cases_lt at.element e) [
+    | inl before ↦ listed (record { element = at.element; before = before; turn = at.turn; state = at.state; graph = at.graph })
+    | inr after ↦
+        let within = at.before in
+        let last : at.element ≡ e = omega arith in
+        let turn : IsTurn evidence supers e = subst (IsTurn evidence supers) last at.turn in
+        let state : (held_arc supers e).from ≡ p = subst (λ k. (held_arc supers k).from ≡ p) last at.state in
+        let graph : held_number supers e ≡ g = subst (λ k. held_number supers k ≡ g) last at.graph in
+        subst (λ k. Contains (numbers_at turns k) g) state (subst (Contains (numbers_at turns (held_arc supers e).from)) graph (here turn))
+  ]
 
--- One more state.
-pub turns_more : (evidence : YesBody) (supers : Supers) (n : ℕ) (all list : List ℕ) (before : List (List ℕ)) → AreTurnsByState evidence supers n before → ListsJust all (IsTurn evidence supers) →
-    ListsJust list (λ e. Contains all e × ((held_arc supers e).from ≡ n)) → AreTurnsByState evidence supers (n + 1) (before ++ list ∷ [])
-turns_more evidence supers n all list before has just chosen = record {
-  count = length-append before (list ∷ []) ∙ ap (λ m. m + 1) has.count;
-  each = λ p lt. elim (cases_lt p n) [
-    | inl less ↦ subst (λ l. ListsJust l (λ e. IsTurn evidence supers e × ((held_arc supers e).from ≡ p))) (sym (get_or_append_left before (list ∷ []) [] p (omega (arith, has.count)))) (has.each p less)
-    | inr more ↦
-        let is : n ≡ p = omega arith in
-        subst (λ m. ListsJust (slice_index_or (before ++ list ∷ []) m []) (λ e. IsTurn evidence supers e × ((held_arc supers e).from ≡ m))) is
-        (subst (λ l. ListsJust l (λ e. IsTurn evidence supers e × ((held_arc supers e).from ≡ n))) (sym (get_or_push before list [] n has.count)) last)
-  ];
-}
-  where
-    last : ListsJust list (λ e. IsTurn evidence supers e × ((held_arc supers e).from ≡ n))
-    last e = (
-      λ h. let r = (chosen e).0 h in ((just e).0 r.0, r.1),
-      λ (turn, from). (chosen e).1 ((just e).1 turn, from),
-    )
+  pub turns_kept : (turns : List (Vec ℕ Global)) → AreTurns evidence supers e states turns →
+      (IsTurn evidence supers e → Contains (numbers_at turns (held_arc supers e).from) (held_number supers e)) → AreTurns evidence supers (e + 1) states turns
+  turns_kept turns are here = record {
+    count = are.count;
+    only = λ p g there. later p g (are.only p g there);
+    all = λ p g at. one_more turns p g (are.all p g) here at;
+  }
+
+  pub turns_added : (old new : List (Vec ℕ Global)) → AreTurns evidence supers e states old → IsTurn evidence supers e →
+      HasAddedAt old new (held_arc supers e).from (held_number supers e) → AreTurns evidence supers (e + 1) states new
+  turns_added old new are turn added = record {
+    count = added.size ∙ are.count;
+    only = λ p g there. elim (cases_eq p (held_arc supers e).from) [
+      | inl same ↦ elim (Contains-push_cases (numbers_at old (held_arc supers e).from) (held_number supers e) g (subst (λ l. Contains l g) added.here (subst (λ k. Contains (numbers_at new k) g) same there))) [
+        | inl before ↦ later p g (are.only p g (subst (λ k. Contains (numbers_at old k) g) (sym same) before))
+        | inr is ↦ record { element = e; before = omega arith; turn = turn; state = sym same; graph = is }
+      ]
+      | inr other ↦ later p g (are.only p g (subst (λ l. Contains l g) (added.others p other) there))
+    ];
+    all = λ p g at. one_more new p g (λ before. listed_stay old new (held_arc supers e).from (held_number supers e) added p g (are.all p g before))
+        (λ _. listed_now old new (held_arc supers e).from (held_number supers e) added) at;
+  }
+
+-- Keys of a state and a graph.
+key_parts : (xs ys : List ℕ) (p g q h : ℕ) → xs ≡ p ∷ g ∷ [] → ys ≡ q ∷ h ∷ [] → xs ≡ ys → (p ≡ q) × (g ≡ h)
+key_parts xs ys p g q h x y same = let both = sym x ∙ same ∙ y in (ap (λ l. slice_index_or l 0 0) both, ap (λ l. slice_index_or l 1 0) both)
+
+-- One key more, of which this holds.
+pub keys_more : (P : ℕ → ℕ → Type 0) (old new : BTreeSet Key) (key : Key) (p g : ℕ) → key.items ≡ p ∷ g ∷ [] →
+    ((other : Key) → HasKey new other ↔ (HasKey old other ⊎ (other.items ≡ key.items))) → P p g →
+    ((k : Key) (q h : ℕ) → HasKey old k → k.items ≡ q ∷ h ∷ [] → P q h) → (k : Key) (q h : ℕ) → HasKey new k → k.items ≡ q ∷ h ∷ [] → P q h
+keys_more P old new key p g is added here before k q h has k_is = elim ((added k).0 has) [
+  | inl was ↦ before k q h was k_is
+  | inr same ↦ let parts = key_parts key.items k.items p g q h is k_is (sym same) in subst (P q) parts.1 (subst (λ m. P m g) parts.0 here)
+]
 
 -- The test of one element against the turns at its end.
 module _ (A B : Automaton) (evidence : YesBody) (supers : Supers) (are : AreSupers Buchi A B evidence.elements (length evidence.elements) supers) where
@@ -122,26 +124,34 @@ module _ (A B : Automaton) (evidence : YesBody) (supers : Supers) (are : AreSupe
       lassos_alike A B (held_arc supers e) (held_arc supers f) (held_block supers e) (held_block supers f)
       (arc_at A (element_arcs A evidence.elements) e) (arc_at A (element_arcs A evidence.elements) f) B.initial (are.each e e_in) (are.each f f_in)
 
-  pub passes_told : (e : ℕ) (turns : List ℕ) (told : Bool) → e < length evidence.elements → live_in evidence e ≡ true → (held_arc supers e).from ≡ A.initial →
-      ListsJust turns (λ f. IsTurn evidence supers f × ((held_arc supers f).from ≡ (held_arc supers e).to)) →
-      ((told ≡ true) ↔ ((f : ℕ) → Contains turns f → LassoIn (block_graph B.states (held_block supers e)) (block_graph B.states (held_block supers f)) B.initial)) →
-      (told ≡ true) ↔ PassesWithAll A B evidence e
-  passes_told e turns told e_in live starts just asked = (
+  pub passes_told : (e : ℕ) (others : List ℕ) (told : Bool) → e < length evidence.elements → live_in evidence e ≡ true → (held_arc supers e).from ≡ A.initial →
+      ((g : ℕ) → Contains others g ↔ IsTurnAt evidence supers (length evidence.elements) (held_arc supers e).to g) →
+      ((told ≡ true) ↔ HasLassos B supers.graphs.graphs.items (held_number supers e) others) → (told ≡ true) ↔ PassesWithAll A B evidence e
+  passes_told e others told e_in live starts just asked = (
     λ is. λ _ f live_f. λ tested.
         let turn = turn_of_tested e f e_in live_f tested in
-        (blocks_of_words e f e_in turn.0.is).0 (asked.0 is f ((just f).1 turn)),
-    λ passes. asked.1 (λ f there.
-        let turn = (just f).0 there in
+        (blocks_of_words e f e_in turn.0.is).0
+        (asked.0 is (held_number supers f) ((just (held_number supers f)).1 (record { element = f; before = turn.0.is; turn = turn.0; state = turn.1; graph = refl }))),
+    λ passes. asked.1 (λ g there.
+        let at = (just g).0 there in
+        let f : ℕ = at.element in
         let live_e : IsLive (element_arcs A evidence.elements) (live_in evidence) e = (omega (arith, e_in, arcs_count A evidence.elements), live) in
-        let live_f : IsLive (element_arcs A evidence.elements) (live_in evidence) f = (omega (arith, turn.0.is, arcs_count A evidence.elements), turn.0.live) in
-        (blocks_of_words e f e_in turn.0.is).1 (passes live_e f live_f (tested_of_turn e f e_in starts turn.0 turn.1))),
+        let live_f : IsLive (element_arcs A evidence.elements) (live_in evidence) f = (omega (arith, at.turn.is, arcs_count A evidence.elements), at.turn.live) in
+        subst (λ k. LassoIn (block_graph B.states (held_block supers e)) (block_graph B.states (block_at supers.graphs.graphs.items k)) B.initial) at.graph
+        ((blocks_of_words e f e_in at.turn.is).1 (passes live_e f live_f (tested_of_turn e f e_in starts at.turn at.state)))),
   )
 
--- Lassos between blocks with other names.
-pub lassos_named : (n N : ℕ) (g G h H : List ℕ) (i I : ℕ) (told : Bool) → n ≡ N → g ≡ G → h ≡ H → i ≡ I →
-    ((told ≡ true) ↔ LassoIn (block_graph n g) (block_graph n h) i) → (told ≡ true) ↔ LassoIn (block_graph N G) (block_graph N H) I
-lassos_named n N g G h H i I told a b c d r =
-    subst (λ k. (told ≡ true) ↔ LassoIn (block_graph N G) (block_graph N H) k) d
-    (subst (λ l. (told ≡ true) ↔ LassoIn (block_graph N G) (block_graph N l) i) c
-    (subst (λ l. (told ≡ true) ↔ LassoIn (block_graph N l) (block_graph N h) i) b
-    (subst (λ m. (told ≡ true) ↔ LassoIn (block_graph m g) (block_graph m h) i) a r)))
+  -- A graph that is listed at a state is one of those held.
+  pub turn_formed : (p g : ℕ) → IsTurnAt evidence supers (length evidence.elements) p g → IsFormed B.states (block_at supers.graphs.graphs.items g)
+  turn_formed p g at = subst (λ k. IsFormed B.states (block_at supers.graphs.graphs.items k)) at.graph (are.each at.element at.turn.is).formed
+
+  pub turn_within : (p g : ℕ) → IsTurnAt evidence supers (length evidence.elements) p g → g < length supers.graphs.graphs.items
+  turn_within p g at = subst (λ k. k < length supers.graphs.graphs.items) at.graph (are.within at.element at.turn.is)
+
+-- Lassos of graphs with other names.
+pub lassos_named : (B : Automaton) (graphs known : List Graph) (g k : ℕ) (others list : List ℕ) (told : Bool) → graphs ≡ known → g ≡ k → others ≡ list →
+    ((told ≡ true) ↔ HasLassos B graphs g others) → (told ≡ true) ↔ HasLassos B known k list
+lassos_named B graphs known g k others list told a b c asked =
+    subst (λ l. (told ≡ true) ↔ HasLassos B known k l) c
+    (subst (λ m. (told ≡ true) ↔ HasLassos B known m others) b
+    (subst (λ gs. (told ≡ true) ↔ HasLassos B gs g others) a asked))

@@ -23,16 +23,21 @@ use Rattle.set_rows.specs.Sets.{IsRow, IsCovered}
 use Rattle.graph_rows.specs.Block.{block_graph, IsFormed}
 use Rattle.supergraph.specs.declared.arcs.Arc.{Arc}
 use Rattle.supergraph.specs.Stands.{with_word, with_graph}
-use Rattle.cert_text.specs.declared.types.Element.{Element}
+use Rattle.cert_value.specs.declared.types.Element.{Element}
+use Rattle.cert_value.specs.declared.types.YesBody.{YesBody}
+use Rattle.log_check.specs.Blocks.{IsBlockRelation}
 use Rattle.cert_check.specs.Inclusion.{element_arcs, starts_of, extensions_of, SubsumesIn}
 use Rattle.shared_graphs.specs.declared.memo.Memo.{Memo}
+use Rattle.shared_graphs.specs.declared.graphs.Graph.{Graph}
 use Rattle.shared_graphs.specs.declared.graphs.Graphs.{Graphs}
 use Rattle.shared_graphs.specs.Memo.{AllTold}
 use Rattle.shared_graphs.specs.Graphs.{block_at, HasGrown, HasNumber, IsGraphOf, IsStock, FitsLetter, FitsStep}
-use Rattle.shared_graphs.proofs.GraphsLemmas.{letters_stay, steps_stay}
-use Rattle.cert_check.specs.Supers.{held_arc, held_number, held_block, no_arc, IsBlock, IsArcIn, HasWord, StandFor, IsNumbered, IsLonger, AreSupers}
+use Rattle.shared_graphs.specs.GraphPairs.{FitsCovering}
+use Rattle.shared_graphs.proofs.GraphsLemmas.{letters_stay, steps_stay, coverings_stay}
+use Rattle.cert_check.specs.Supers.{held_arc, held_number, held_block, no_arc, IsBlock, IsArcIn, HasWord, StandFor, IsNumbered, IsLonger, AreSupers, IsOrder}
 use Rattle.cert_check.specs.declared.blocks.Numbered.{Numbered}
 use Rattle.cert_check.specs.declared.elements.Supers.{Supers}
+use Rattle.cert_check.specs.declared.orders.Order.{Order}
 
 -- More graphs.
 module _ (m : Mode) (A B : Automaton) (elements : List Element) (n : ℕ) (old new : Supers) (arcs : new.arcs.items ≡ old.arcs.items) (numbers : new.numbers.items ≡ old.numbers.items)
@@ -334,3 +339,26 @@ if_ok_both (Err e) P Q R f p q = tt
 pub any_ok : {T E : Type 0} (r : Result T E) (P : Type 0) → P → IfOk r (λ _. P)
 any_ok (Ok x) P p = p
 any_ok (Err e) P p = tt
+
+-- The certificate's relation, and what is remembered of the graphs by it: with a list of the graphs under another name, after an answer
+-- was noted, and with more graphs.
+pub order_told : (B : Automaton) (evidence : YesBody) (graphs known : List Graph) (order : Order) → known ≡ graphs → IsOrder B evidence graphs order →
+    AllTold (FitsCovering order.rel.size order.rel.pairs known) order.covers.told.items
+order_told B evidence graphs known order same is =
+    subst (λ l. AllTold (FitsCovering order.rel.size order.rel.pairs l) order.covers.told.items) (sym same)
+    (subst (λ n. AllTold (FitsCovering n order.rel.pairs graphs) order.covers.told.items) (sym is.relation.size) is.covers)
+
+pub order_kept : (B : Automaton) (evidence : YesBody) (graphs known : List Graph) (old new : Order) → known ≡ graphs → new.rel ≡ old.rel → IsOrder B evidence graphs old →
+    AllTold (FitsCovering old.rel.size old.rel.pairs known) new.covers.told.items → IsOrder B evidence graphs new
+order_kept B evidence graphs known old new same rel is told = record {
+  relation = subst (IsBlockRelation B.states evidence.order) (sym rel) is.relation;
+  covers = subst (λ r. AllTold (FitsCovering B.states r.pairs graphs) new.covers.told.items) (sym rel)
+      (subst (λ n. AllTold (FitsCovering n old.rel.pairs graphs) new.covers.told.items) is.relation.size
+      (subst (λ l. AllTold (FitsCovering old.rel.size old.rel.pairs l) new.covers.told.items) same told));
+}
+
+pub order_grown : (B : Automaton) (evidence : YesBody) (old now : List Graph) (order : Order) → HasGrown old now → IsOrder B evidence old order → IsOrder B evidence now order
+order_grown B evidence old now order grown is = record {
+  relation = is.relation;
+  covers = coverings_stay old now grown B.states order.rel.pairs order.covers.told.items is.covers;
+}

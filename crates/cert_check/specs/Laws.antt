@@ -4,11 +4,11 @@ use Rattle.auto_core.specs.Automaton.{IsAutomaton}
 use Rattle.auto_core.specs.Accept.{Includes, SeparatesLasso, SeparatesWord}
 use Rattle.auto_core.specs.declared.parts.Lasso.{Lasso}
 use Rattle.ba_format.specs.declared.parts.Joined.{Joined}
-use Rattle.cert_text.specs.declared.types.Cert.{Cert}
-use Rattle.cert_text.specs.declared.types.YesBody.{YesBody}
-use Rattle.cert_text.specs.declared.types.ListBody.{ListBody}
-use Rattle.cert_text.specs.declared.types.Body.TheVariants.{Yes, NoLasso, NoWord, Listing}
-use Rattle.cert_text.specs.WellFormed.{WellFormed}
+use Rattle.cert_value.specs.declared.types.Cert.{Cert}
+use Rattle.cert_value.specs.declared.types.YesBody.{YesBody}
+use Rattle.cert_value.specs.declared.types.ListBody.{ListBody}
+use Rattle.cert_value.specs.declared.types.Body.TheVariants.{Yes, NoLasso, NoWord, Listing}
+use Rattle.cert_value.specs.WellFormed.{WellFormed}
 use Rattle.log_check.specs.declared.faults.Refusal.{Refusal}
 use Rattle.cert_check.specs.Rules.{KeepsRules, BreaksRule, ListsRuns}
 

@@ -2,4 +2,6 @@ pub mod Rules
 pub mod Inclusion
 pub mod Listing
 pub mod Supers
+pub mod Turns
+pub mod Firsts
 pub mod Laws

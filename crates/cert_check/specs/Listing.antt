@@ -8,9 +8,9 @@ use Rattle.auto_core.specs.PairOutcome.{SamePair, ArePairsListed}
 use Rattle.auto_core.specs.declared.parts.Mode.{Mode}
 use Rattle.auto_core.specs.declared.parts.Mode.TheVariants.{Buchi, Finite}
 use Rattle.auto_core.specs.declared.parts.Origin.{Origin}
-use Rattle.cert_text.specs.declared.types.Element.{Element}
-use Rattle.cert_text.specs.declared.types.ListBody.{ListBody}
-use Rattle.cert_text.specs.declared.types.Mark.TheVariants.{Live}
+use Rattle.cert_value.specs.declared.types.Element.{Element}
+use Rattle.cert_value.specs.declared.types.ListBody.{ListBody}
+use Rattle.cert_value.specs.declared.types.Mark.TheVariants.{Live}
 use Rattle.log_check.specs.Checks.{RuleCheck, rule_at, checks_of_each}
 use Rattle.cert_check.specs.Inclusion.{element_arcs, element_checks}
 

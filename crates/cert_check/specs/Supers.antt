@@ -1,5 +1,5 @@
 -- What the check holds of a certificate's elements: of each the arc, and its word's graph, in finite mode its word's set.
-use Rattle.std.specs.Prelude.{◌≡◌, ℕ, ◌+◌, ◌*◌, ◌/◌, ◌^◌, ◌<◌, ◌↔◌, ◌⊎◌, Bool, true, false, List, [], ◌∷◌, ◌++◌, length, slice_index_or, Contains, Vec}
+use Rattle.std.specs.Prelude.{◌≡◌, ℕ, ◌+◌, ◌*◌, ◌/◌, ◌^◌, ◌<◌, ◌↔◌, Bool, true, false, List, [], ◌∷◌, ◌++◌, length, slice_index_or, Vec}
 use Rattle.std.specs.Global.{Global}
 use Rattle.std.specs.BTreeSet.{BTreeSet, contains}
 use Rattle.std.specs.Cmp.Lexicographic.{slice_cmp}
@@ -14,13 +14,18 @@ use Rattle.graph_rows.specs.Block.{width_of, block_graph, IsFormed}
 use Rattle.set_rows.specs.Sets.{IsRow}
 use Rattle.supergraph.specs.declared.arcs.Arc.{Arc}
 use Rattle.supergraph.specs.Stands.{with_word}
+use Rattle.shared_graphs.specs.declared.graphs.Graph.{Graph}
 use Rattle.shared_graphs.specs.declared.graphs.Graphs.{Graphs}
+use Rattle.shared_graphs.specs.Memo.{AllTold}
+use Rattle.shared_graphs.specs.GraphPairs.{FitsCovering}
 use Rattle.shared_graphs.specs.Graphs.{block_at, HasGrown, IsStock}
-use Rattle.cert_text.specs.declared.types.YesBody.{YesBody}
-use Rattle.cert_text.specs.declared.types.Element.{Element}
-use Rattle.cert_check.specs.Inclusion.{element_arcs, live_in}
+use Rattle.cert_value.specs.declared.types.Element.{Element}
+use Rattle.cert_value.specs.declared.types.YesBody.{YesBody}
+use Rattle.log_check.specs.Blocks.{IsBlockRelation}
+use Rattle.cert_check.specs.Inclusion.{element_arcs}
 use Rattle.cert_check.specs.declared.blocks.Numbered.{Numbered}
 use Rattle.cert_check.specs.declared.elements.Supers.{Supers}
+use Rattle.cert_check.specs.declared.orders.Order.{Order}
 
 -- The words of a block over n states: of two planes of rows for a graph, in finite mode of the one row of a set.
 abbrev pub block_len : Mode → ℕ → ℕ
@@ -98,30 +103,15 @@ abbrev pub flag_word : Bool → ℕ
 flag_word false = 0
 flag_word true = 1
 
--- By what elements are compared: the words of the block, and behind them the ends and the flag of the arc, in finite mode its end alone.
-abbrev pub key_of : Mode → Arc → List ℕ → List ℕ
-key_of Buchi arc block = block ++ arc.from ∷ arc.to ∷ flag_word arc.accepting ∷ []
-key_of Finite arc block = block ++ arc.to ∷ []
+-- By what elements are compared: the first number of the graph, in finite mode of the set, and the ends and the flag of the arc, in finite
+-- mode its end alone.
+abbrev pub key_of : Mode → Arc → ℕ → List ℕ
+key_of Buchi arc first = first ∷ arc.from ∷ arc.to ∷ flag_word arc.accepting ∷ []
+key_of Finite arc first = first ∷ arc.to ∷ []
 
--- The element is live and leads from its state back to it, past an accepting state.
-pub record IsTurn (evidence : YesBody) (supers : Supers) (e : ℕ) : Type 0 where
-  pub is : e < length evidence.elements
-  pub live : live_in evidence e ≡ true
-  pub returns : (held_arc supers e).from ≡ (held_arc supers e).to
-  pub flagged : (held_arc supers e).accepting ≡ true
-
--- The list has just these numbers.
-abbrev pub ListsJust : List ℕ → (ℕ → Type 0) → Type 0
-ListsJust numbers P = (e : ℕ) → Contains numbers e ↔ P e
-
--- The new list has what the old one has, and the number e if P holds of it.
-abbrev pub AddsIf : (ℕ → Type 0) → ℕ → List ℕ → List ℕ → Type 0
-AddsIf P e old new = (f : ℕ) → Contains new f ↔ (Contains old f ⊎ ((f ≡ e) × P f))
-
--- For each of the n states the turns at it.
-pub record AreTurnsByState (evidence : YesBody) (supers : Supers) (n : ℕ) (turns : List (List ℕ)) : Type 0 where
-  pub count : length turns ≡ n
-  pub each : (p : ℕ) → p < n → ListsJust (slice_index_or turns p []) (λ e. IsTurn evidence supers e × ((held_arc supers e).from ≡ p))
+-- The key of the element with this number.
+abbrev pub key_at : Mode → Supers → List ℕ → ℕ → List ℕ
+key_at mode supers firsts e = key_of mode (held_arc supers e) (slice_index_or firsts (held_number supers e) 0)
 
 -- The words fit in 64 bits.
 abbrev pub Fit : List ℕ → Type 0
@@ -137,3 +127,8 @@ has_key seen key = contains (λ v w. slice_cmp nat_cmp v.items w.items) seen key
 
 abbrev pub HasKey : BTreeSet Key → Key → Type 0
 HasKey seen key = has_key seen key ≡ true
+
+-- The relation is the certificate's, and what is remembered of graphs that cover others by it is so.
+pub record IsOrder (B : Automaton) (evidence : YesBody) (graphs : List Graph) (order : Order) : Type 0 where
+  pub relation : IsBlockRelation B.states evidence.order order.rel
+  pub covers : AllTold (FitsCovering B.states order.rel.pairs graphs) order.covers.told.items

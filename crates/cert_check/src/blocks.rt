@@ -6,16 +6,19 @@ ghost use Rattle.auto_core.specs.Automaton.{Automaton, trans_at};
 ghost use Rattle.auto_core.specs.Graph.{WordArc, start_arc, base_arc, extended_arc};
 ghost use Rattle.auto_core.specs.declared.parts.Mode.TheVariants.{Buchi, Finite};
 ghost use Rattle.cert_check.specs.Inclusion.{SubsumesIn};
+ghost use Rattle.shared_graphs.specs.Memo.{AllTold};
 ghost use Rattle.shared_graphs.specs.Graphs.{block_at, IsStock};
+ghost use Rattle.shared_graphs.specs.GraphPairs.{FitsCovering};
 ghost use Rattle.auto_core.specs.Rows.{HasBit};
 ghost use Rattle.auto_core.specs.Pairs.{set_after};
 ghost use Rattle.set_rows.specs.Sets.{IsRow};
 ghost use Rattle.supergraph.specs.Stands.{with_word};
 ghost use Rattle.cert_check.specs.Supers.{block_len, IsBlock, StandFor, IsLonger, IsNumbered};
 
+use crate::orders::Order;
 use auto_core::{Auto, Memory, Mode, rows};
 use bit_rel::Rel;
-use shared_graphs::{Graphs, block_of};
+use shared_graphs::{Graph, Graphs, block_of};
 use std::alloc::Global;
 use supergraph::Arc;
 
@@ -158,15 +161,43 @@ pub fn extend(
     Ok(Numbered { arc, number })
 }
 
-/// Tells whether the first arc with its block subsumes the second.
-pub fn subsumes(mode: Mode, order: &Rel, x: &Arc, block: &[u64], y: &Arc, other: &[u64]) -> bool
-    requires first { IsBlock mode order.now.size block.now }
-    requires second { IsBlock mode order.now.size other.now }
-    ensures { (A B : Automaton) (v w : WordArc) → B.states ≡ order.now.size → StandFor mode A B x.now block.now v → StandFor mode A B y.now other.now w
-        → IsTrue result ↔ SubsumesIn mode B order.now.pairs v w }
+/// Tells whether the first arc with its set subsumes the second.
+fn subsumes_set(order: &Rel, x: &Arc, set: &[u64], y: &Arc, other: &[u64]) -> bool
+    requires first { IsRow order.now.size set.now }
+    requires second { IsRow order.now.size other.now }
+    ensures { (A B : Automaton) (v w : WordArc) → B.states ≡ order.now.size → StandFor Finite A B x.now set.now v → StandFor Finite A B y.now other.now w
+        → IsTrue result ↔ SubsumesIn Finite B order.now.pairs v w }
+{
+    x.to == y.to && set_rows::covers(order, set, other)
+}
+
+/// Tells whether the first arc with its graph, in finite mode with its set, subsumes the second.
+pub fn subsumes(mode: Mode, order: &mut Order, graphs: &[Graph], x: &Numbered, y: &Numbered) -> bool
+    requires first { IsBlock mode order.old.rel.size (block_at graphs.now x.now.number) }
+    requires second { IsBlock mode order.old.rel.size (block_at graphs.now y.now.number) }
+    requires covers { AllTold (FitsCovering order.old.rel.size order.old.rel.pairs graphs.now) order.old.covers.told.items }
+    ensures relation { order.new.rel ≡ order.old.rel }
+    ensures covers { AllTold (FitsCovering order.old.rel.size order.old.rel.pairs graphs.now) order.new.covers.told.items }
+    ensures told { (A B : Automaton) (v w : WordArc) → B.states ≡ order.old.rel.size
+        → StandFor mode A B x.now.arc (block_at graphs.now x.now.number) v → StandFor mode A B y.now.arc (block_at graphs.now y.now.number) w
+        → IsTrue result ↔ SubsumesIn mode B order.old.rel.pairs v w }
 {
     match mode {
-        Mode::Buchi => supergraph::subsumes(order, x, block, y, other),
-        Mode::Finite => x.to == y.to && set_rows::covers(order, block, other),
+        Mode::Buchi => shared_graphs::subsumes(
+            &order.rel,
+            graphs,
+            &mut order.covers,
+            &x.arc,
+            x.number,
+            &y.arc,
+            y.number,
+        ),
+        Mode::Finite => subsumes_set(
+            &order.rel,
+            &x.arc,
+            block_of(graphs, x.number),
+            &y.arc,
+            block_of(graphs, y.number),
+        ),
     }
 }

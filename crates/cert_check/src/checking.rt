@@ -5,14 +5,14 @@ ghost use Rattle.auto_core.specs.Automaton.{IsAutomaton};
 ghost use Rattle.cert_check.specs.Inclusion.{inclusion_checks};
 ghost use Rattle.cert_check.specs.Listing.{listing_checks};
 ghost use Rattle.cert_check.specs.Rules.{HasSizes, TellsAfterLogs, KeepsRules, BreaksRule, IsVerdictOf, SaysTruly};
-ghost use Rattle.cert_text.specs.WellFormed.{WellFormed, are_logs, is_yes, is_listing};
+ghost use Rattle.cert_value.specs.WellFormed.{WellFormed, are_logs, is_yes, is_listing};
 ghost use Rattle.log_check.specs.Ends.{TellsBothLogs, item_after};
 
 use crate::faults::Verdict;
 use crate::{inclusion, lassos, listing, words};
 use auto_core::{List, Mode};
 use ba_format::Joined;
-use cert_text::{Body, Cert, FirstStep, ListBody, SecondStep, YesBody};
+use cert_value::{Body, Cert, FirstStep, ListBody, SecondStep, YesBody};
 use log_check::{CheckFault, Ends, Refusal, log_ends};
 use std::alloc::Global;
 

@@ -6,18 +6,16 @@ ghost use Rattle.auto_core.specs.Graph.{WordArc, base_arc};
 ghost use Rattle.auto_core.specs.declared.parts.Mode.TheVariants.{Buchi, Finite};
 ghost use Rattle.log_check.specs.Checks.{Tells, checks_of_each};
 ghost use Rattle.cert_check.specs.Inclusion.{live_in, IsOver, IsUnder, AreOver, AreElements, NamesElement, covered_in, under_checks, cover_checks, no_element};
-ghost use Rattle.log_check.specs.Blocks.{IsBlockRelation};
 ghost use Rattle.shared_graphs.specs.Graphs.{block_at};
-ghost use Rattle.cert_check.specs.Supers.{IsBlock, StandFor, AreSupers};
+ghost use Rattle.cert_check.specs.Supers.{IsBlock, StandFor, AreSupers, IsOrder};
 
 use crate::blocks;
 use crate::blocks::Numbered;
 use crate::elements::Supers;
+use crate::orders::Order;
 use auto_core::{Auto, Memory, Mode};
-use bit_rel::Rel;
-use cert_text::{Mark, YesBody};
+use cert_value::{Mark, YesBody};
 use log_check::{CheckFault, Refusal};
-use shared_graphs::block_of;
 use std::alloc::Global;
 
 /// Tells whether the element is live.
@@ -34,28 +32,24 @@ pub fn is_over(
     first: &Auto,
     second: &Auto,
     evidence: &YesBody,
-    order: &Rel,
+    order: &mut Order,
     supers: &Supers,
     j: u32,
     it: &Numbered,
 ) -> bool
     requires supers { AreSupers mode first.now second.now evidence.now.elements (length evidence.now.elements) supers.now }
-    requires order { IsBlockRelation second.now.states evidence.now.order order.now }
+    requires order { IsOrder second.now evidence.now supers.now.graphs.graphs.items order.old }
     requires element { j < length evidence.now.elements }
     requires formed { IsBlock mode second.now.states (block_at supers.now.graphs.graphs.items it.now.number) }
-    ensures { (x : WordArc) → StandFor mode first.now second.now it.now.arc (block_at supers.now.graphs.graphs.items it.now.number) x
+    ensures told { (x : WordArc) → StandFor mode first.now second.now it.now.arc (block_at supers.now.graphs.graphs.items it.now.number) x
         → IsTrue result ↔ IsOver mode first.now second.now evidence.now j x }
+    ensures order { IsOrder second.now evidence.now supers.now.graphs.graphs.items order.new }
 {
+    if !is_live(evidence, j) {
+        return false;
+    }
     let over = supers.element(j as usize);
-    is_live(evidence, j)
-        && blocks::subsumes(
-            mode,
-            order,
-            &over.arc,
-            block_of(&supers.graphs.graphs, over.number),
-            &it.arc,
-            block_of(&supers.graphs.graphs, it.number),
-        )
+    blocks::subsumes(mode, order, &supers.graphs.graphs, &over, it)
 }
 
 /// Tells whether the numbers are those of elements.
@@ -72,16 +66,17 @@ fn is_under(
     first: &Auto,
     second: &Auto,
     evidence: &YesBody,
-    order: &Rel,
+    order: &mut Order,
     supers: &Supers,
     e: usize,
     mark: &Mark,
 ) -> bool
     requires supers { AreSupers mode first.now second.now evidence.now.elements (length evidence.now.elements) supers.now }
-    requires order { IsBlockRelation second.now.states evidence.now.order order.now }
+    requires order { IsOrder second.now evidence.now supers.now.graphs.graphs.items order.old }
     requires number { e < length evidence.now.elements }
     requires names { NamesElement (length evidence.now.elements) mark.now }
-    ensures { IsTrue result ↔ IsUnder mode first.now second.now evidence.now e mark.now }
+    ensures told { IsTrue result ↔ IsUnder mode first.now second.now evidence.now e mark.now }
+    ensures order { IsOrder second.now evidence.now supers.now.graphs.graphs.items order.new }
 {
     match mark {
         Mark::Live => true,
@@ -105,15 +100,16 @@ pub fn check_under(
     second: &Auto,
     evidence: &YesBody,
     item: u32,
-    order: &Rel,
+    order: &mut Order,
     supers: &Supers,
 ) -> Result<(), CheckFault>
     requires supers { AreSupers mode first.now second.now evidence.now.elements (length evidence.now.elements) supers.now }
-    requires order { IsBlockRelation second.now.states evidence.now.order order.now }
+    requires order { IsOrder second.now evidence.now supers.now.graphs.graphs.items order.old }
     requires few { length evidence.now.elements < 10 ^ 9 }
     requires few_items { item + length evidence.now.elements < 2 ^ 32 }
     requires names { (e : ℕ) → e < length evidence.now.elements → NamesElement (length evidence.now.elements) (slice_index_or evidence.now.elements e no_element).mark }
-    ensures { Tells (checks_of_each (under_checks mode first.now second.now evidence.now item) 0 evidence.now.elements) result }
+    ensures tells { Tells (checks_of_each (under_checks mode first.now second.now evidence.now item) 0 evidence.now.elements) result }
+    ensures order { IsOrder second.now evidence.now supers.now.graphs.graphs.items order.new }
 {
     let elements = evidence.elements.as_slice();
     for e in 0..elements.len() {
@@ -142,17 +138,18 @@ fn is_over_letter(
     first: &Auto,
     second: &Auto,
     evidence: &YesBody,
-    order: &Rel,
+    order: &mut Order,
     supers: &mut Supers,
     j: u32,
     t: u32,
 ) -> Result<bool, Memory>
     requires supers { AreSupers Buchi first.now second.now evidence.now.elements (length evidence.now.elements) supers.old }
-    requires order { IsBlockRelation second.now.states evidence.now.order order.now }
+    requires order { IsOrder second.now evidence.now supers.old.graphs.graphs.items order.old }
     requires element { j < length evidence.now.elements }
     requires number { t < length first.now.transitions }
     ensures told { IfOk result (λ is. IsTrue is ↔ IsOver Buchi first.now second.now evidence.now j (base_arc first.now (trans_at first.now t))) }
     ensures supers { IfOk result (λ _. AreSupers Buchi first.now second.now evidence.now.elements (length evidence.now.elements) supers.new) }
+    ensures order { IfOk result (λ _. IsOrder second.now evidence.now supers.new.graphs.graphs.items order.new) }
 {
     let base = blocks::base(alloc, first, second, t, &mut supers.graphs)?;
     Ok(is_over(
@@ -173,14 +170,15 @@ fn covers_letters(
     first: &Auto,
     second: &Auto,
     evidence: &YesBody,
-    order: &Rel,
+    order: &mut Order,
     supers: &mut Supers,
 ) -> Result<bool, Memory>
     requires supers { AreSupers Buchi first.now second.now evidence.now.elements (length evidence.now.elements) supers.old }
-    requires order { IsBlockRelation second.now.states evidence.now.order order.now }
+    requires order { IsOrder second.now evidence.now supers.old.graphs.graphs.items order.old }
     requires names { AreElements evidence.now evidence.now.cover }
     ensures told { IfOk result (λ is. IsTrue is ↔ AreOver Buchi first.now second.now evidence.now evidence.now.cover (covered_in Buchi first.now)) }
     ensures supers { IfOk result (λ _. AreSupers Buchi first.now second.now evidence.now.elements (length evidence.now.elements) supers.new) }
+    ensures order { IfOk result (λ _. IsOrder second.now evidence.now supers.new.graphs.graphs.items order.new) }
 {
     let cover = evidence.cover.as_slice();
     let count = first.transitions().len();
@@ -203,14 +201,15 @@ fn covers_start(
     first: &Auto,
     second: &Auto,
     evidence: &YesBody,
-    order: &Rel,
+    order: &mut Order,
     supers: &mut Supers,
 ) -> Result<bool, Memory>
     requires supers { AreSupers Finite first.now second.now evidence.now.elements (length evidence.now.elements) supers.old }
-    requires order { IsBlockRelation second.now.states evidence.now.order order.now }
+    requires order { IsOrder second.now evidence.now supers.old.graphs.graphs.items order.old }
     requires names { AreElements evidence.now evidence.now.cover }
     ensures told { IfOk result (λ is. IsTrue is ↔ AreOver Finite first.now second.now evidence.now evidence.now.cover (covered_in Finite first.now)) }
     ensures supers { IfOk result (λ _. AreSupers Finite first.now second.now evidence.now.elements (length evidence.now.elements) supers.new) }
+    ensures order { IfOk result (λ _. IsOrder second.now evidence.now supers.new.graphs.graphs.items order.new) }
 {
     let cover = evidence.cover.as_slice();
     if cover.len() != 1 {
@@ -236,14 +235,15 @@ fn covers_all(
     first: &Auto,
     second: &Auto,
     evidence: &YesBody,
-    order: &Rel,
+    order: &mut Order,
     supers: &mut Supers,
 ) -> Result<bool, Memory>
     requires supers { AreSupers mode first.now second.now evidence.now.elements (length evidence.now.elements) supers.old }
-    requires order { IsBlockRelation second.now.states evidence.now.order order.now }
+    requires order { IsOrder second.now evidence.now supers.old.graphs.graphs.items order.old }
     requires names { AreElements evidence.now evidence.now.cover }
     ensures told { IfOk result (λ is. IsTrue is ↔ AreOver mode first.now second.now evidence.now evidence.now.cover (covered_in mode first.now)) }
     ensures supers { IfOk result (λ _. AreSupers mode first.now second.now evidence.now.elements (length evidence.now.elements) supers.new) }
+    ensures order { IfOk result (λ _. IsOrder second.now evidence.now supers.new.graphs.graphs.items order.new) }
 {
     match mode {
         Mode::Buchi => covers_letters(alloc, first, second, evidence, order, supers),
@@ -259,13 +259,14 @@ pub fn check_cover(
     second: &Auto,
     evidence: &YesBody,
     item: u32,
-    order: &Rel,
+    order: &mut Order,
     supers: &mut Supers,
 ) -> Result<(), CheckFault>
     requires supers { AreSupers mode first.now second.now evidence.now.elements (length evidence.now.elements) supers.old }
-    requires order { IsBlockRelation second.now.states evidence.now.order order.now }
+    requires order { IsOrder second.now evidence.now supers.old.graphs.graphs.items order.old }
     ensures tells { Tells (cover_checks mode first.now second.now evidence.now item) result }
     ensures supers { IfOk result (λ _. AreSupers mode first.now second.now evidence.now.elements (length evidence.now.elements) supers.new) }
+    ensures order { IfOk result (λ _. IsOrder second.now evidence.now supers.new.graphs.graphs.items order.new) }
 {
     if !are_elements(evidence, evidence.cover.as_slice()) {
         return Err(CheckFault::Refused(Refusal { rule: 1, item }));

@@ -2,7 +2,7 @@
 
 ghost use Rattle.std.specs.Prelude.{◌≡◌, ◌+◌, ◌++◌, [], ◌∷◌, ◌*◌, ◌^◌, ◌<◌, ◌≤◌, ◌↔◌, ℕ, true, All, length, slice_index_or, IfOk, IsTrue, MatchOption};
 ghost use Rattle.auto_core.specs.Graph.{arc_of};
-ghost use Rattle.cert_text.specs.WellFormed.{is_origin};
+ghost use Rattle.cert_value.specs.WellFormed.{is_origin};
 ghost use Rattle.log_check.specs.Checks.{AllHold, FirstBroken, Tells, checks_of_each};
 ghost use Rattle.cert_check.specs.Inclusion.{element_arcs, NamesOrigin, NamesElement, HasEarlierParent, GoesOn, no_element, element_checks};
 ghost use Rattle.cert_check.specs.Supers.{held, held_block, IsNumbered, AreSupers};
@@ -10,7 +10,7 @@ ghost use Rattle.cert_check.specs.Supers.{held, held_block, IsNumbered, AreSuper
 use crate::blocks;
 use crate::blocks::Numbered;
 use auto_core::{Auto, List, Memory, Mode, Origin};
-use cert_text::{Element, Mark};
+use cert_value::{Element, Mark};
 use log_check::{CheckFault, Refusal};
 use shared_graphs::{Graphs, block_of};
 use std::alloc::Global;

@@ -2,13 +2,13 @@
 
 ghost use Rattle.std.specs.Prelude.{◌≡◌, ◌+◌, ◌^◌, ◌<◌, true, All, IfOk, length};
 ghost use Rattle.auto_core.specs.Automaton.{IsAutomaton};
-ghost use Rattle.cert_text.specs.WellFormed.{is_origin};
+ghost use Rattle.cert_value.specs.WellFormed.{is_origin};
 ghost use Rattle.log_check.specs.Checks.{Tells};
 ghost use Rattle.cert_check.specs.Inclusion.{inclusion_checks};
 
 use crate::{covers, elements, orders, passing, steps};
 use auto_core::{Auto, Mode};
-use cert_text::YesBody;
+use cert_value::YesBody;
 use log_check::CheckFault;
 use std::alloc::Global;
 
@@ -31,7 +31,7 @@ pub fn check_inclusion(
     // the contract of this call says that the automaton is valid
     let _states = second.states();
     let count = evidence.elements.as_slice().len() as u32;
-    let order = orders::checked_order(alloc, second, evidence, item)?;
+    let mut order = orders::checked_order(alloc, second, evidence, item)?;
     let mut supers = elements::checked_elements(
         alloc,
         mode,
@@ -40,7 +40,7 @@ pub fn check_inclusion(
         &evidence.elements,
         item + 1,
     )?;
-    covers::check_under(mode, first, second, evidence, item + 1, &order, &supers)?;
+    covers::check_under(mode, first, second, evidence, item + 1, &mut order, &supers)?;
     covers::check_cover(
         alloc,
         mode,
@@ -48,7 +48,7 @@ pub fn check_inclusion(
         second,
         evidence,
         item + 1 + count,
-        &order,
+        &mut order,
         &mut supers,
     )?;
     steps::check_steps(
@@ -58,7 +58,7 @@ pub fn check_inclusion(
         second,
         evidence,
         item + 2 + count,
-        &order,
+        &mut order,
         &mut supers,
     )?;
     passing::check_passing(alloc, mode, first, second, evidence, item + 1, &supers)

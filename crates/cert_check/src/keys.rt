@@ -3,11 +3,12 @@
 ghost use Rattle.std.specs.Prelude.{◌≡◌, ◌⊎◌, ◌↔◌, ◌+◌, ◌^◌, ◌<◌, ℕ, not, length, IfOk};
 ghost use Rattle.log_check.specs.Checks.{Tells, checks_of_each};
 ghost use Rattle.cert_check.specs.Listing.{difference_checks};
-ghost use Rattle.cert_check.specs.Supers.{held_arc, held_block, key_of, flag_word, Fit, Key, has_key, HasKey, AreSupers};
+ghost use Rattle.cert_check.specs.Supers.{held_block, held_number, key_of, key_at, flag_word, Fit, Key, has_key, HasKey, AreSupers};
 
 use crate::elements::Supers;
+use crate::firsts::first_numbers;
 use auto_core::{Auto, List, Memory, Mode};
-use cert_text::Element;
+use cert_value::Element;
 use log_check::{CheckFault, Refusal};
 use std::alloc::Global;
 use std::collections::BTreeSet;
@@ -20,20 +21,27 @@ fn flag_of(arc: &Arc) -> u64
     if arc.accepting { 1 } else { 0 }
 }
 
-/// Adds the ends and the flag of the arc behind the words of its block, in finite mode its end alone.
-fn add_arc(mode: Mode, arc: &Arc, key: &mut Vec<u64>) -> Result<(), Memory>
-    ensures { IfOk result (λ _. key.new.items ≡ key_of mode arc.now key.old.items) }
+/// The key of these words.
+pub fn key_with(alloc: Global, words: &[u64]) -> Result<Vec<u64>, Memory>
+    ensures { IfOk result (λ key. key.items ≡ words.now) }
+{
+    let mut key = Vec::with_capacity(alloc, words.len())?;
+    key.extend_from_slice(words)?;
+    Ok(key)
+}
+
+/// The key of an arc and the first number of its graph, in finite mode of its set.
+fn arc_key(alloc: Global, mode: Mode, arc: &Arc, first: u64) -> Result<Vec<u64>, Memory>
+    ensures { IfOk result (λ key. key.items ≡ key_of mode arc.now first) }
 {
     match mode {
         Mode::Buchi => {
-            let words = [arc.from as u64, arc.to as u64, flag_of(arc)];
-            key.extend_from_slice(&words)?;
-            Ok(())
+            let words = [first, arc.from as u64, arc.to as u64, flag_of(arc)];
+            key_with(alloc, &words)
         }
         Mode::Finite => {
-            let words = [arc.to as u64];
-            key.extend_from_slice(&words)?;
-            Ok(())
+            let words = [first, arc.to as u64];
+            key_with(alloc, &words)
         }
     }
 }
@@ -44,23 +52,26 @@ fn note_fit(words: &[u64])
 {}
 
 /// The key of the element `e`.
-fn key_from(alloc: Global, mode: Mode, supers: &Supers, e: usize) -> Result<Vec<u64>, Memory>
+fn key_from(
+    alloc: Global,
+    mode: Mode,
+    supers: &Supers,
+    firsts: &[u64],
+    e: usize,
+) -> Result<Vec<u64>, Memory>
     requires arcs { e < length supers.now.arcs.items }
     requires numbers { e < length supers.now.numbers.items }
-    ensures key { IfOk result (λ key. key.items ≡ key_of mode (held_arc supers.now e) (held_block supers.now e)) }
-    ensures fits { IfOk result (λ key. Fit key.items) }
+    requires firsts { held_number supers.now e < length firsts.now }
+    ensures key { IfOk result (λ key. key.items ≡ key_at mode supers.now firsts.now e) }
+    ensures fits { IfOk result (λ _. Fit (held_block supers.now e)) }
 {
-    let block = supers.block(e);
-    // the arc has up to three words more
-    let mut key = Vec::with_capacity(alloc, block.len() + 3)?;
-    key.extend_from_slice(block)?;
-    add_arc(mode, &supers.arcs[e], &mut key)?;
-    note_fit(&key);
-    Ok(key)
+    note_fit(supers.block(e));
+    let it = supers.element(e);
+    arc_key(alloc, mode, &it.arc, firsts[it.number as usize])
 }
 
 /// Adds the key, and tells whether it was not there.
-fn is_new(seen: &mut BTreeSet<Vec<u64>>, key: Vec<u64>) -> Result<bool, Memory>
+pub fn is_new(seen: &mut BTreeSet<Vec<u64>>, key: Vec<u64>) -> Result<bool, Memory>
     ensures told { IfOk result (λ new. new ≡ not (has_key seen.old key)) }
     ensures added { IfOk result (λ _. (other : Key) → HasKey seen.new other ↔ (HasKey seen.old other ⊎ (other.items ≡ key.items))) }
 {
@@ -85,10 +96,11 @@ pub fn check_differences(
     requires few_items { item + length elements.now < 2 ^ 32 }
     ensures { Tells (checks_of_each (difference_checks mode first.now second.now elements.now item) 0 elements.now) result }
 {
+    let firsts = first_numbers(alloc, &supers.graphs.graphs)?;
     let mut seen = BTreeSet::new(alloc);
     let items = elements.as_slice();
     for e in 0..items.len() {
-        let key = key_from(alloc, mode, supers, e)?;
+        let key = key_from(alloc, mode, supers, &firsts, e)?;
         if !is_new(&mut seen, key)? {
             return Err(CheckFault::Refused(Refusal {
                 rule: 18,

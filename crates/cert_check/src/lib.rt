@@ -6,6 +6,7 @@ mod checking;
 mod covers;
 mod elements;
 mod faults;
+mod firsts;
 mod inclusion;
 mod keys;
 mod lassos;

@@ -2,13 +2,13 @@
 
 ghost use Rattle.std.specs.Prelude.{◌≡◌, ◌+◌, ◌^◌, ◌<◌, true, IfOk, length};
 ghost use Rattle.std.specs.List.{list_all};
-ghost use Rattle.cert_text.specs.WellFormed.{is_origin};
+ghost use Rattle.cert_value.specs.WellFormed.{is_origin};
 ghost use Rattle.log_check.specs.Checks.{Tells};
 ghost use Rattle.cert_check.specs.Listing.{as_elements, listing_checks};
 
 use crate::{elements, keys};
 use auto_core::{Auto, List, Memory, Mode, Origin};
-use cert_text::{Element, ListBody, Mark};
+use cert_value::{Element, ListBody, Mark};
 use log_check::{CheckFault, Refusal};
 use std::alloc::Global;
 

@@ -1,16 +1,28 @@
 //! The relation of a certificate of inclusion: whether it names states, and whether it is stable.
 
-ghost use Rattle.std.specs.Prelude.{IfOk};
+ghost use Rattle.std.specs.Prelude.{List, IfOk};
 ghost use Rattle.log_check.specs.Checks.{Tells};
-ghost use Rattle.log_check.specs.Blocks.{IsBlockRelation};
+ghost use Rattle.shared_graphs.specs.declared.graphs.Graph.{Graph};
 ghost use Rattle.cert_check.specs.Inclusion.{order_checks};
+ghost use Rattle.cert_check.specs.Supers.{IsOrder};
 
 use auto_core::Auto;
 use bit_rel::Rel;
-use cert_text::YesBody;
+use cert_value::YesBody;
 use log_check::{CheckFault, Refusal, is_block_below, is_stable, relation_of};
 use look_round::Forward;
+use shared_graphs::Memo;
 use std::alloc::Global;
+
+/// How many answers about pairs of graphs are remembered.
+const PAIRS: usize = 16384;
+
+/// The relation of a certificate, and which graphs cover which by it, as far as that is remembered.
+#[derive(Drop)]
+pub struct Order {
+    pub rel: Rel,
+    pub covers: Memo,
+}
 
 /// The relation that the certificate lists, if it is one of states and stable forward at lookahead 1.
 pub fn checked_order(
@@ -18,9 +30,9 @@ pub fn checked_order(
     second: &Auto,
     evidence: &YesBody,
     item: u32,
-) -> Result<Rel, CheckFault>
+) -> Result<Order, CheckFault>
     ensures tells { Tells (order_checks second.now evidence.now item) result }
-    ensures relation { IfOk result (IsBlockRelation second.now.states evidence.now.order) }
+    ensures order { IfOk result (λ order. (graphs : List Graph) → IsOrder second.now evidence.now graphs order) }
 {
     let states = second.states();
     if !is_block_below(states, &evidence.order) {
@@ -30,5 +42,6 @@ pub fn checked_order(
     if !is_stable(alloc, &Forward, second, &rel, 1)? {
         return Err(CheckFault::Refused(Refusal { rule: 9, item }));
     }
-    Ok(rel)
+    let covers = Memo::new(alloc, PAIRS)?;
+    Ok(Order { rel, covers })
 }

@@ -1,20 +1,69 @@
-//! The pairs of live elements: each that is tested has a lasso.
+//! The pairs of live elements: each that is tested has a lasso. Many elements may have one graph, so each graph at a state is tested once
+//! against each other one there.
 
-ghost use Rattle.std.specs.Prelude.{◌≡◌, ◌+◌, ◌^◌, ◌<◌, ◌↔◌, ℕ, map, All, length, Contains, IfOk, IsTrue};
+ghost use Rattle.std.specs.Prelude.{◌≡◌, ◌+◌, ◌^◌, ◌<◌, ◌↔◌, ◌++◌, [], ◌∷◌, ℕ, length, Contains, IfOk, IsTrue};
 ghost use Rattle.auto_core.specs.Graph.{LassoIn};
 ghost use Rattle.auto_core.specs.declared.parts.Mode.TheVariants.{Buchi};
-ghost use Rattle.graph_rows.specs.Block.{block_graph};
+ghost use Rattle.graph_rows.specs.Block.{block_graph, IsFormed};
+ghost use Rattle.shared_graphs.specs.Graphs.{block_at};
+ghost use Rattle.shared_graphs.specs.Looping.{IsLoopRow};
+ghost use Rattle.evidence.specs.Tables.{numbers_at};
 ghost use Rattle.log_check.specs.Checks.{Tells, checks_of_each};
 ghost use Rattle.cert_check.specs.Inclusion.{PassesWithAll, pair_checks};
-ghost use Rattle.cert_check.specs.Supers.{held_block, block_len, held_arc, IsTurn, ListsJust, AddsIf, AreTurnsByState, AreSupers};
+ghost use Rattle.cert_check.specs.Supers.{Key, HasKey, AreSupers};
+ghost use Rattle.cert_check.specs.Turns.{IsTurn, AreTurns, HasAddedAt, AreListed, HasLassos, AreLoops, AreTests};
 
-use crate::covers;
 use crate::elements::Supers;
+use crate::{covers, keys};
 use auto_core::{Auto, Memory};
-use cert_text::YesBody;
-use lasso_test::Scratch;
+use cert_value::YesBody;
+use lasso_test::{Scratch, enters, passes};
 use log_check::{CheckFault, Refusal};
+use shared_graphs::{Graph, block_of, marked_row};
 use std::alloc::Global;
+use std::collections::BTreeSet;
+
+/// What is remembered of tests: the states and graphs that passed, for each graph how often it was asked for, and the states from which it
+/// has a loop past an accepting state, if it was asked for often, and room.
+#[derive(Drop)]
+pub struct Tests {
+    pub passed: BTreeSet<Vec<u64>>,
+    pub asked: Vec<u32>,
+    pub loops: Vec<Vec<u64>>,
+    pub scratch: Scratch,
+}
+
+/// The key of a state and a graph.
+fn pair_key(alloc: Global, state: u32, graph: u32) -> Result<Vec<u64>, Memory>
+    ensures { IfOk result (λ key. key.items ≡ state ∷ graph ∷ []) }
+{
+    let words = [state as u64, graph as u64];
+    keys::key_with(alloc, &words)
+}
+
+/// A table of so many lists, without numbers.
+fn empty_lists(alloc: Global, count: u32) -> Result<Vec<Vec<u32>>, Memory>
+    ensures size { IfOk result (λ lists. length lists.items ≡ count) }
+    ensures empty { IfOk result (λ lists. (k : ℕ) → numbers_at lists.items k ≡ []) }
+{
+    let mut lists = Vec::new(alloc);
+    for _place in 0..count {
+        lists.push(Vec::new(alloc))?;
+    }
+    Ok(lists)
+}
+
+/// A table of so many rows, without words.
+fn empty_rows(alloc: Global, count: usize) -> Result<Vec<Vec<u64>>, Memory>
+    ensures size { IfOk result (λ rows. length rows.items ≡ count) }
+    ensures empty { IfOk result (λ rows. (k : ℕ) → numbers_at rows.items k ≡ []) }
+{
+    let mut rows = Vec::new(alloc);
+    for _place in 0..count {
+        rows.push(Vec::new(alloc))?;
+    }
+    Ok(rows)
+}
 
 /// Tells whether the element is live and leads from its state back to it, past an accepting state.
 fn is_turn(evidence: &YesBody, supers: &Supers, e: u32) -> bool
@@ -26,147 +75,233 @@ fn is_turn(evidence: &YesBody, supers: &Supers, e: u32) -> bool
     covers::is_live(evidence, e) && arc.from == arc.to && arc.accepting
 }
 
-/// Adds the element, if it is a turn.
-fn add_turn(evidence: &YesBody, supers: &Supers, e: u32, turns: &mut Vec<u32>) -> Result<(), Memory>
-    requires element { e < length evidence.now.elements }
-    requires count { length supers.now.arcs.items ≡ length evidence.now.elements }
-    ensures { IfOk result (λ _. AddsIf (IsTurn evidence.now supers.now) e turns.old.items turns.new.items) }
+/// Adds the number to the list at the place.
+fn add_at(lists: &mut Vec<Vec<u32>>, place: usize, number: u32) -> Result<(), Memory>
+    requires { place < length lists.old.items }
+    ensures { IfOk result (λ _. HasAddedAt lists.old.items lists.new.items place number) }
 {
-    if !is_turn(evidence, supers, e) {
-        return Ok(());
-    }
-    turns.push(e)?;
+    lists[place].push(number)?;
     Ok(())
 }
 
-/// The turns.
-fn all_turns(alloc: Global, evidence: &YesBody, supers: &Supers) -> Result<Vec<u32>, Memory>
-    requires few { length evidence.now.elements < 10 ^ 9 }
-    requires count { length supers.now.arcs.items ≡ length evidence.now.elements }
-    ensures { IfOk result (λ turns. ListsJust turns.items (IsTurn evidence.now supers.now)) }
-{
-    let mut turns = Vec::new(alloc);
-    for e in 0..evidence.elements.as_slice().len() as u32 {
-        add_turn(evidence, supers, e, &mut turns)?;
-    }
-    Ok(turns)
-}
-
-/// Adds the element, if it begins in the state.
-fn add_beginning(supers: &Supers, state: u32, e: u32, chosen: &mut Vec<u32>) -> Result<(), Memory>
-    requires { e < length supers.now.arcs.items }
-    ensures { IfOk result (λ _. AddsIf (λ f. (held_arc supers.now f).from ≡ state) e chosen.old.items chosen.new.items) }
-{
-    if supers.arcs[e as usize].from != state {
-        return Ok(());
-    }
-    chosen.push(e)?;
-    Ok(())
-}
-
-/// Those of the elements that begin in the state.
-fn beginning_in(
+/// Adds the graph of the element to those at its state, if it is a turn and its graph is not there yet.
+fn add_turn(
     alloc: Global,
-    supers: &Supers,
-    elements: &[u32],
-    state: u32,
-) -> Result<Vec<u32>, Memory>
-    requires { All (λ e. e < length supers.now.arcs.items) elements.now }
-    ensures { IfOk result (λ chosen. ListsJust chosen.items (λ e. Contains elements.now e × ((held_arc supers.now e).from ≡ state))) }
-{
-    let mut chosen = Vec::new(alloc);
-    for e in elements {
-        add_beginning(supers, state, *e, &mut chosen)?;
-    }
-    Ok(chosen)
-}
-
-/// For each state of the first automaton the turns at it.
-fn turns_by_state(
-    alloc: Global,
-    first: &Auto,
-    evidence: &YesBody,
-    supers: &Supers,
-) -> Result<Vec<Vec<u32>>, Memory>
-    requires few { length evidence.now.elements < 10 ^ 9 }
-    requires count { length supers.now.arcs.items ≡ length evidence.now.elements }
-    ensures { IfOk result (λ turns. AreTurnsByState evidence.now supers.now first.now.states (map (λ list. list.items) turns.items)) }
-{
-    let all = all_turns(alloc, evidence, supers)?;
-    let mut turns = Vec::new(alloc);
-    for state in 0..first.states() {
-        turns.push(beginning_in(alloc, supers, &all, state)?)?;
-    }
-    Ok(turns)
-}
-
-/// Tells whether the element has a lasso with each of the others, from the second automaton's initial state.
-fn has_lassos(
     first: &Auto,
     second: &Auto,
     evidence: &YesBody,
     supers: &Supers,
-    e: usize,
-    others: &[u32],
-    scratch: &mut Scratch,
-) -> bool
+    e: u32,
+    seen: &mut BTreeSet<Vec<u64>>,
+    turns: &mut Vec<Vec<u32>>,
+) -> Result<(), Memory>
     requires supers { AreSupers Buchi first.now second.now evidence.now.elements (length evidence.now.elements) supers.now }
     requires element { e < length evidence.now.elements }
-    requires others { All (λ f. f < length evidence.now.elements) others.now }
+    requires turns { AreTurns evidence.now supers.now e first.now.states turns.old.items }
+    requires seen { AreListed seen.old turns.old.items }
+    ensures turns { IfOk result (λ _. AreTurns evidence.now supers.now (e + 1) first.now.states turns.new.items) }
+    ensures seen { IfOk result (λ _. AreListed seen.new turns.new.items) }
+{
+    if !is_turn(evidence, supers, e) {
+        return Ok(());
+    }
+    // the contract of this call says that the automaton is valid
+    let _states = first.states();
+    let it = supers.element(e as usize);
+    let key = pair_key(alloc, it.arc.from, it.number)?;
+    if !keys::is_new(seen, key)? {
+        return Ok(());
+    }
+    add_at(turns, it.arc.from as usize, it.number)
+}
+
+/// For each state of the first automaton the graphs of the turns at it.
+fn turns_by_state(
+    alloc: Global,
+    first: &Auto,
+    second: &Auto,
+    evidence: &YesBody,
+    supers: &Supers,
+) -> Result<Vec<Vec<u32>>, Memory>
+    requires few { length evidence.now.elements < 10 ^ 9 }
+    requires supers { AreSupers Buchi first.now second.now evidence.now.elements (length evidence.now.elements) supers.now }
+    ensures { IfOk result (λ turns. AreTurns evidence.now supers.now (length evidence.now.elements) first.now.states turns.items) }
+{
+    let mut turns = empty_lists(alloc, first.states())?;
+    let mut seen = BTreeSet::new(alloc);
+    for e in 0..evidence.elements.as_slice().len() as u32 {
+        add_turn(
+            alloc, first, second, evidence, supers, e, &mut seen, &mut turns,
+        )?;
+    }
+    Ok(turns)
+}
+
+/// Counts that the graph was asked for, and tells whether that was less often than there are states: until then one test costs less than
+/// marking its states.
+fn is_rare(states: u32, asked: &mut [u32], h: u32) -> bool {
+    if h as usize >= asked.len() {
+        return true;
+    }
+    let count = asked[h as usize].saturating_add(1);
+    asked[h as usize] = count;
+    count < states
+}
+
+/// Marks the states from which the graph has a loop, if they are not marked yet.
+fn mark_loops(
+    alloc: Global,
+    states: u32,
+    graphs: &[Graph],
+    h: u32,
+    loops: &mut Vec<Vec<u64>>,
+    scratch: &mut Scratch,
+) -> Result<(), Memory>
+    requires formed { IsFormed states (block_at graphs.now h) }
+    requires there { h < length loops.old.items }
+    requires loops { AreLoops states graphs.now loops.old.items }
+    requires room { scratch.old ≡ states }
+    ensures loops { IfOk result (λ _. AreLoops states graphs.now loops.new.items) }
+    ensures here { IfOk result (λ _. IsLoopRow states (block_graph states (block_at graphs.now h)) (numbers_at loops.new.items h)) }
+    ensures size { length loops.new.items ≡ length loops.old.items }
+    ensures room { scratch.new ≡ states }
+{
+    if loops[h as usize].len() > 0 {
+        return Ok(());
+    }
+    let row = marked_row(alloc, states, block_of(graphs, h), scratch)?;
+    loops[h as usize] = row;
+    Ok(())
+}
+
+/// Tells whether the graph has a lasso with the other one, from the second automaton's initial state.
+fn has_lasso(
+    alloc: Global,
+    second: &Auto,
+    graphs: &[Graph],
+    g: u32,
+    h: u32,
+    asked: &mut [u32],
+    loops: &mut Vec<Vec<u64>>,
+    scratch: &mut Scratch,
+) -> Result<bool, Memory>
+    requires formed { IsFormed second.now.states (block_at graphs.now g) }
+    requires other { IsFormed second.now.states (block_at graphs.now h) }
+    requires there { h < length loops.old.items }
+    requires loops { AreLoops second.now.states graphs.now loops.old.items }
     requires room { scratch.old ≡ second.now.states }
-    ensures told { IsTrue result ↔ ((f : ℕ) → Contains others.now f
-        → LassoIn (block_graph second.now.states (held_block supers.now e)) (block_graph second.now.states (held_block supers.now f)) second.now.initial) }
-    ensures room { scratch.new ≡ scratch.old }
+    ensures told { IfOk result (λ is. IsTrue is
+        ↔ LassoIn (block_graph second.now.states (block_at graphs.now g)) (block_graph second.now.states (block_at graphs.now h)) second.now.initial) }
+    ensures loops { IfOk result (λ _. AreLoops second.now.states graphs.now loops.new.items) }
+    ensures size { length loops.new.items ≡ length loops.old.items }
+    ensures room { scratch.new ≡ second.now.states }
 {
     let states = second.states();
-    for f in others {
-        if !lasso_test::passes(
+    if is_rare(states, asked, h) {
+        return Ok(passes(
             states,
-            supers.block(e),
-            supers.block(*f as usize),
+            block_of(graphs, g),
+            block_of(graphs, h),
             second.initial(),
             scratch,
-        ) {
-            return false;
+        ));
+    }
+    mark_loops(alloc, states, graphs, h, loops, scratch)?;
+    Ok(enters(
+        states,
+        block_of(graphs, g),
+        second.initial(),
+        &loops[h as usize],
+    ))
+}
+
+/// Tells whether the graph has a lasso with each of the others, from the second automaton's initial state.
+fn has_lassos(
+    alloc: Global,
+    second: &Auto,
+    graphs: &[Graph],
+    g: u32,
+    others: &[u32],
+    asked: &mut [u32],
+    loops: &mut Vec<Vec<u64>>,
+    scratch: &mut Scratch,
+) -> Result<bool, Memory>
+    requires formed { IsFormed second.now.states (block_at graphs.now g) }
+    requires others { (h : ℕ) → Contains others.now h → IsFormed second.now.states (block_at graphs.now h) }
+    requires there { (h : ℕ) → Contains others.now h → h < length loops.old.items }
+    requires loops { AreLoops second.now.states graphs.now loops.old.items }
+    requires room { scratch.old ≡ second.now.states }
+    ensures told { IfOk result (λ is. IsTrue is ↔ HasLassos second.now graphs.now g others.now) }
+    ensures loops { IfOk result (λ _. AreLoops second.now.states graphs.now loops.new.items) }
+    ensures size { length loops.new.items ≡ length loops.old.items }
+    ensures room { scratch.new ≡ second.now.states }
+{
+    for h in others {
+        if !has_lasso(alloc, second, graphs, g, *h, asked, loops, scratch)? {
+            return Ok(false);
         }
     }
-    true
+    Ok(true)
+}
+
+impl Tests {
+    /// No test of so many graphs was made.
+    fn new(alloc: Global, states: u32, graphs: usize) -> Result<Tests, Memory>
+        ensures passed { IfOk result (λ tests. (key : Key) → HasKey tests.passed key → ⊥) }
+        ensures size { IfOk result (λ tests. length tests.loops.items ≡ graphs) }
+        ensures empty { IfOk result (λ tests. (k : ℕ) → numbers_at tests.loops.items k ≡ []) }
+        ensures room { IfOk result (λ tests. tests.scratch ≡ states) }
+    {
+        Ok(Tests {
+            passed: BTreeSet::new(alloc),
+            asked: vec![in alloc; 0; graphs]?,
+            loops: empty_rows(alloc, graphs)?,
+            scratch: Scratch::new(alloc, states)?,
+        })
+    }
 }
 
 /// Tells whether the element, if it is live, passes with each live one.
 fn passes_with_all(
+    alloc: Global,
     first: &Auto,
     second: &Auto,
     evidence: &YesBody,
     supers: &Supers,
     turns: &[Vec<u32>],
     e: usize,
-    scratch: &mut Scratch,
-) -> bool
+    tests: &mut Tests,
+) -> Result<bool, Memory>
     requires few { length evidence.now.elements < 10 ^ 9 }
     requires supers { AreSupers Buchi first.now second.now evidence.now.elements (length evidence.now.elements) supers.now }
-    requires turns { AreTurnsByState evidence.now supers.now first.now.states (map (λ list. list.items) turns.now) }
+    requires turns { AreTurns evidence.now supers.now (length evidence.now.elements) first.now.states turns.now }
     requires element { e < length evidence.now.elements }
-    requires room { scratch.old ≡ second.now.states }
-    ensures told { IsTrue result ↔ PassesWithAll first.now second.now evidence.now e }
-    ensures room { scratch.new ≡ scratch.old }
+    requires tests { AreTests second.now supers.now.graphs.graphs.items turns.now tests.old }
+    ensures told { IfOk result (λ is. IsTrue is ↔ PassesWithAll first.now second.now evidence.now e) }
+    ensures tests { IfOk result (λ is. IsTrue is → AreTests second.now supers.now.graphs.graphs.items turns.now tests.new) }
 {
-    let arc = supers.arcs[e];
     if !covers::is_live(evidence, e as u32) {
-        return true;
+        return Ok(true);
     }
-    if arc.from != first.initial() {
-        return true;
+    let it = supers.element(e);
+    if it.arc.from != first.initial() {
+        return Ok(true);
     }
-    has_lassos(
-        first,
+    let key = pair_key(alloc, it.arc.to, it.number)?;
+    if !keys::is_new(&mut tests.passed, key)? {
+        return Ok(true);
+    }
+    let holds = has_lassos(
+        alloc,
         second,
-        evidence,
-        supers,
-        e,
-        &turns[arc.to as usize],
-        scratch,
-    )
+        &supers.graphs.graphs,
+        it.number,
+        &turns[it.arc.to as usize],
+        &mut tests.asked,
+        &mut tests.loops,
+        &mut tests.scratch,
+    )?;
+    Ok(holds)
 }
 
 /// Tests the pairs of each element, in order. `item` is the number of the first one's item.
@@ -183,10 +318,12 @@ pub fn check_pairs(
     requires few_items { item + length evidence.now.elements < 2 ^ 32 }
     ensures { Tells (checks_of_each (pair_checks Buchi first.now second.now evidence.now item) 0 evidence.now.elements) result }
 {
-    let turns = turns_by_state(alloc, first, evidence, supers)?;
-    let mut scratch = Scratch::new(alloc, second.states())?;
+    let turns = turns_by_state(alloc, first, second, evidence, supers)?;
+    let mut tests = Tests::new(alloc, second.states(), supers.graphs.graphs.len())?;
     for e in 0..evidence.elements.as_slice().len() {
-        if !passes_with_all(first, second, evidence, supers, &turns, e, &mut scratch) {
+        if !passes_with_all(
+            alloc, first, second, evidence, supers, &turns, e, &mut tests,
+        )? {
             return Err(CheckFault::Refused(Refusal {
                 rule: 15,
                 item: item + e as u32,

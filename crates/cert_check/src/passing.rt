@@ -9,7 +9,7 @@ ghost use Rattle.cert_check.specs.Supers.{AreSupers};
 use crate::elements::Supers;
 use crate::{covers, pairs};
 use auto_core::{Auto, Mode};
-use cert_text::YesBody;
+use cert_value::YesBody;
 use log_check::{CheckFault, Refusal};
 use std::alloc::Global;
 

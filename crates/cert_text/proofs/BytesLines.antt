@@ -4,10 +4,10 @@ use Rattle.std.specs.Fmt.{digits, digits_onto, digit_glyph}
 use Rattle.std.proofs.lemmas.List.Splits.{slice_split-cons_yes, slice_split-cons_no, join_with_byte-slice_split}
 use Rattle.std.proofs.lemmas.List.Folds.{list_all-append}
 use Rattle.std.proofs.lemmas.Bool.{and_parts, and_from, not-true, cond-true, cond_both}
-use Rattle.cert_text.specs.declared.keywords.Keyword.{Keyword}
-use Rattle.cert_text.specs.declared.keywords.Keyword.TheVariants as keyword
-use Rattle.cert_text.specs.Text.{Line, spelled, spaced, line_text, text_of, numbers}
-use Rattle.cert_text.specs.Tokens.{tokens_of}
+use Rattle.cert_value.specs.declared.keywords.Keyword.{Keyword}
+use Rattle.cert_value.specs.declared.keywords.Keyword.TheVariants as keyword
+use Rattle.cert_value.specs.Text.{Line, spelled, spaced, line_text, text_of, numbers}
+use Rattle.cert_value.specs.Tokens.{tokens_of}
 use Rattle.cert_text.specs.Grammar.{lines_of}
 
 -- A byte past the space.

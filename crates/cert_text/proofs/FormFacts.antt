@@ -2,19 +2,20 @@ use Rattle.std.proofs.Common.{◌≡◌, ℕ, zero, suc, ◌<◌, ◌≤◌, ◌
 use Rattle.std.specs.List.{list_all, list_any}
 use Rattle.std.proofs.lemmas.Slice.Eq.{bytes_eq-Decides}
 use Rattle.std.proofs.lemmas.Bool.{and_parts, and_from, or_right, or_from, cond-true, cond-false, or_cases}
-use Rattle.cert_text.specs.declared.keywords.Keyword.{Keyword}
-use Rattle.cert_text.specs.declared.keywords.Keyword.TheVariants as keyword
+use Rattle.cert_value.specs.declared.keywords.Keyword.{Keyword}
+use Rattle.cert_value.specs.declared.keywords.Keyword.TheVariants as keyword
 use Rattle.cert_text.specs.declared.forms.Place.{Place}
 use Rattle.cert_text.specs.declared.forms.Place.TheVariants.{Word, Number}
 use Rattle.cert_text.specs.declared.forms.Tail.{Tail}
 use Rattle.cert_text.specs.declared.forms.Tail.TheVariants as tail
 use Rattle.cert_text.specs.declared.faults.TextKind.{TextKind}
 use Rattle.cert_text.specs.declared.faults.TextKind.TheVariants as kind
-use Rattle.cert_text.specs.Text.{Line, spelled, numbers}
-use Rattle.cert_text.specs.WellFormed.{is_short, are_short, has_some}
+use Rattle.cert_value.specs.Text.{Line, spelled, numbers}
+use Rattle.cert_value.specs.WellFormed.{is_short, are_short, has_some}
 use Rattle.cert_text.specs.Forms.{is_number, value, has_empty, has_word, has_number, fits, is_closed, has_numbers, may_follow, has_count, line_fault, value_at, values_from}
 use Rattle.cert_text.specs.Lines.{Said, unless, as_form, in_order, either}
-use Rattle.cert_text.proofs.FormLemmas.{front_is, drop_one}
+use Rattle.cert_text.proofs.FormLemmas.{front_is}
+use Rattle.cert_value.proofs.SplitLemmas.{drop_one}
 use Rattle.cert_text.proofs.NumberFacts.{numeral, decimal_value, value_short, number_decimal, numbers_are, numbers_values, values_short}
 
 -- The line that these places say, with these numbers in them and these tokens after them.

@@ -25,10 +25,3 @@ front_is [] zero x d rest e = cc
 front_is [] (suc n) x d rest e = cc
 front_is (y ∷ ys) zero x d rest e = cc
 front_is (y ∷ ys) (suc n) x d rest e = front_is ys n x d rest e
-
--- one more dropped
-pub drop_one : {X : Type 0} (n : ℕ) (xs : List X) → drop 1 (drop n xs) ≡ drop (suc n) xs
-drop_one zero [] = refl
-drop_one (suc n) [] = refl
-drop_one zero (x ∷ xs) = refl
-drop_one (suc n) (x ∷ xs) = drop_one n xs

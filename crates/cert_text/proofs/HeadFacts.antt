@@ -6,24 +6,24 @@ use Rattle.auto_core.specs.declared.parts.Mode.{Mode}
 use Rattle.auto_core.specs.declared.parts.Mode.TheVariants as mode
 use Rattle.auto_core.specs.declared.parts.Origin.{Origin}
 use Rattle.auto_core.specs.declared.parts.Origin.TheVariants as origin
-use Rattle.cert_text.specs.declared.keywords.Keyword.{Keyword}
-use Rattle.cert_text.specs.declared.keywords.Keyword.TheVariants as keyword
+use Rattle.cert_value.specs.declared.keywords.Keyword.{Keyword}
+use Rattle.cert_value.specs.declared.keywords.Keyword.TheVariants as keyword
 use Rattle.cert_text.specs.declared.forms.Place.{Place}
 use Rattle.cert_text.specs.declared.forms.Place.TheVariants.{Word, Number}
 use Rattle.cert_text.specs.declared.forms.Tail.{Tail}
 use Rattle.cert_text.specs.declared.forms.Tail.TheVariants as tail
 use Rattle.cert_text.specs.declared.faults.TextKind.{TextKind}
 use Rattle.cert_text.specs.declared.faults.TextKind.TheVariants as kind
-use Rattle.cert_text.specs.declared.types.Answer.{Answer}
-use Rattle.cert_text.specs.declared.types.Answer.TheVariants as answer
-use Rattle.cert_text.specs.declared.types.GoneBy.{GoneBy}
-use Rattle.cert_text.specs.declared.types.Row.{Row}
-use Rattle.cert_text.specs.declared.types.RankRow.{RankRow}
-use Rattle.cert_text.specs.declared.types.Ranked.{Ranked}
-use Rattle.cert_text.specs.declared.types.Element.{Element}
-use Rattle.cert_text.specs.declared.types.Mark.{Mark}
-use Rattle.cert_text.specs.declared.types.Mark.TheVariants as mark
-use Rattle.cert_text.specs.declared.types.StepLine.{StepLine}
+use Rattle.cert_value.specs.declared.types.Answer.{Answer}
+use Rattle.cert_value.specs.declared.types.Answer.TheVariants as answer
+use Rattle.cert_value.specs.declared.types.GoneBy.{GoneBy}
+use Rattle.cert_value.specs.declared.types.Row.{Row}
+use Rattle.cert_value.specs.declared.types.RankRow.{RankRow}
+use Rattle.cert_value.specs.declared.types.Ranked.{Ranked}
+use Rattle.cert_value.specs.declared.types.Element.{Element}
+use Rattle.cert_value.specs.declared.types.Mark.{Mark}
+use Rattle.cert_value.specs.declared.types.Mark.TheVariants as mark
+use Rattle.cert_value.specs.declared.types.StepLine.{StepLine}
 use Rattle.cert_text.specs.declared.lines.Sizes.{Sizes}
 use Rattle.cert_text.specs.declared.lines.Heading.{Heading}
 use Rattle.cert_text.specs.declared.heads.FirstHead.{FirstHead}
@@ -32,8 +32,8 @@ use Rattle.cert_text.specs.declared.heads.SecondHead.{SecondHead}
 use Rattle.cert_text.specs.declared.heads.SecondHead.TheVariants as second
 use Rattle.cert_text.specs.declared.heads.Way.{Way}
 use Rattle.cert_text.specs.declared.heads.Way.TheVariants as way
-use Rattle.cert_text.specs.Text.{Line, spelled, numbers, ranked_numbers, gone_numbers, origin_line, mark_tokens, first_line, mode_word, answer_word}
-use Rattle.cert_text.specs.WellFormed.{is_short, are_short, has_some, ascend, rights_of, gone_of, blocks_due, is_row, is_ranked, is_rank_row, is_gone, are_gone, is_mark, is_origin, is_element, is_step_of, are_kept}
+use Rattle.cert_value.specs.Text.{Line, spelled, numbers, ranked_numbers, gone_numbers, origin_line, mark_tokens, first_line, mode_word, answer_word}
+use Rattle.cert_value.specs.WellFormed.{is_short, are_short, has_some, ascend, rights_of, gone_of, blocks_due, is_row, is_ranked, is_rank_row, is_gone, are_gone, is_mark, is_origin, is_element, is_step_of, are_kept}
 use Rattle.cert_text.specs.Forms.{is_number, value, fits, pair_up, may_follow, line_fault, value_at, values_from}
 use Rattle.cert_text.specs.Lines.{Said, unless, as_form, in_order, either, word_in, number_in, numbers_in, ascending_in, trim_in, sizes_in, row_of, row_in, ranked_of, rank_row_of, rank_row_in, gone_by_of, gone_by_in, first_cut_in, first_head_in, second_cut_in, merge_places, delayed_or_cut_in, merge_or_cut_in, second_head_in, start_places, base_places, next_places, next_origin_in, origin_in, live_base, live_start, live_next, under_base, under_start, under_next, live, under, next_element_in, base_element_in, start_element_in, element_in, step_of, step_in, heading_places, has_heading, is_heading, heading_or, finite_heading_in, heading_in}
 use Rattle.cert_text.proofs.NumberFacts.{value_decimal, values_numbers, numbers_are}

@@ -1,6 +1,3 @@
-pub mod TextLemmas
-pub mod CheckLemmas
-pub mod SplitLemmas
 pub mod FormLemmas
 pub mod PairLemmas
 pub mod Resume

@@ -5,10 +5,10 @@ use Rattle.std.proofs.Common.{rules}
 use Rattle.std.proofs.lemmas.Str.Parse.{IsNumeralModel, numerals_by_value, digits_value_short}
 use Rattle.std.proofs.lemmas.Fmt.{digits_decimal, digits_value-decimal, decimal-digits_value, decimal_nonempty, length-decimal-le_wide, first_decimal, decimal_digit}
 use Rattle.std.proofs.lemmas.Bool.{and_parts, and_from, or_cases, or_left, or_right, cases_lt, not-true, cond-true, eqb-false}
-use Rattle.cert_text.specs.WellFormed.{is_short, are_short}
+use Rattle.cert_value.specs.WellFormed.{is_short, are_short}
 use Rattle.auto_core.specs.Digits.{is_digit}
 use Rattle.cert_text.specs.Forms.{is_number, number_of, value}
-use Rattle.cert_text.specs.Text.{numbers}
+use Rattle.cert_value.specs.Text.{numbers}
 
 own : IsNumeralModel (λ ds. list_all is_digit ds ≡ true) (digits_value 10)
 own = numerals_by_value _ (search rules)

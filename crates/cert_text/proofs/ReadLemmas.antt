@@ -6,16 +6,16 @@ use Rattle.cert_text.specs.declared.faults.LineFault.TheVariants.{Text, Memory}
 use Rattle.cert_text.specs.declared.faults.TextKind.{TextKind}
 use Rattle.cert_text.specs.declared.faults.TextKind.TheVariants.{Truncated, Trailing}
 use Rattle.cert_text.specs.declared.faults.TextFault.{TextFault}
-use Rattle.cert_text.specs.declared.types.Cert.{Cert}
+use Rattle.cert_value.specs.declared.types.Cert.{Cert}
 use Rattle.cert_text.specs.declared.machine.State.{State}
-use Rattle.cert_text.specs.Text.{Line}
-use Rattle.cert_text.specs.Tokens.{tokens_of}
+use Rattle.cert_value.specs.Text.{Line}
+use Rattle.cert_value.specs.Tokens.{tokens_of}
 use Rattle.cert_text.specs.Agrees.{Agrees}
 use Rattle.cert_text.specs.Told.{Told, located}
 use Rattle.cert_text.specs.Grammar.{ReadOutcome, Read, Stopped, after, lines_of, read_lines, reading, told_at, first_left, is_bare, finish}
 use Rattle.cert_text.specs.Machine.{step, ended, at_end}
 use Rattle.cert_text.proofs.ResumeState.{resume, state_law, state_last}
-use Rattle.cert_text.proofs.SplitLemmas.{split_none, split_some, rest_all}
+use Rattle.cert_value.proofs.SplitLemmas.{split_none, split_some, rest_all}
 
 pub split_cons : (p : ℕ → Bool) (bs : List ℕ) → (part : List ℕ) × (parts : List (List ℕ)) × (slice_split p bs ≡ part ∷ parts)
 split_cons p bs = has_first (slice_split p bs) (omega (arith, length-slice_split p bs)) where

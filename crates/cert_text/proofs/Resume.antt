@@ -3,30 +3,30 @@ use Rattle.std.proofs.lemmas.Bool.{cond-false}
 use Rattle.auto_core.specs.declared.parts.Mode.{Mode}
 use Rattle.auto_core.specs.declared.parts.Mode.TheVariants as mode
 use Rattle.auto_core.specs.declared.parts.Origin.{Origin}
-use Rattle.cert_text.specs.declared.keywords.Keyword.TheVariants as keyword
+use Rattle.cert_value.specs.declared.keywords.Keyword.TheVariants as keyword
 use Rattle.cert_text.specs.declared.forms.Tail.TheVariants as tail
 use Rattle.cert_text.specs.declared.faults.TextKind.TheVariants.{Truncated, Trailing}
 use Rattle.cert_text.specs.declared.parts.Step.{Step}
 use Rattle.cert_text.specs.declared.parts.Step.TheVariants.{More, Whole}
 use Rattle.cert_text.specs.declared.parts.Closed.{Closed}
 use Rattle.cert_text.specs.declared.parts.Limited.{Limited}
-use Rattle.cert_text.specs.declared.types.Answer.{Answer}
-use Rattle.cert_text.specs.declared.types.Answer.TheVariants as answer
-use Rattle.cert_text.specs.declared.types.Cert.{Cert}
-use Rattle.cert_text.specs.declared.types.Body.{Body}
-use Rattle.cert_text.specs.declared.types.Body.TheVariants as body
-use Rattle.cert_text.specs.declared.types.FirstStep.{FirstStep}
-use Rattle.cert_text.specs.declared.types.FirstStep.TheVariants as first
-use Rattle.cert_text.specs.declared.types.SecondStep.{SecondStep}
-use Rattle.cert_text.specs.declared.types.SecondStep.TheVariants as second
-use Rattle.cert_text.specs.declared.types.Grounds.TheVariants as grounds
-use Rattle.cert_text.specs.declared.types.GoneBy.{GoneBy}
-use Rattle.cert_text.specs.declared.types.RelBlock.{RelBlock}
-use Rattle.cert_text.specs.declared.types.RankBlock.{RankBlock}
-use Rattle.cert_text.specs.declared.types.Row.{Row}
-use Rattle.cert_text.specs.declared.types.RankRow.{RankRow}
-use Rattle.cert_text.specs.declared.types.Element.{Element}
-use Rattle.cert_text.specs.declared.types.StepLine.{StepLine}
+use Rattle.cert_value.specs.declared.types.Answer.{Answer}
+use Rattle.cert_value.specs.declared.types.Answer.TheVariants as answer
+use Rattle.cert_value.specs.declared.types.Cert.{Cert}
+use Rattle.cert_value.specs.declared.types.Body.{Body}
+use Rattle.cert_value.specs.declared.types.Body.TheVariants as body
+use Rattle.cert_value.specs.declared.types.FirstStep.{FirstStep}
+use Rattle.cert_value.specs.declared.types.FirstStep.TheVariants as first
+use Rattle.cert_value.specs.declared.types.SecondStep.{SecondStep}
+use Rattle.cert_value.specs.declared.types.SecondStep.TheVariants as second
+use Rattle.cert_value.specs.declared.types.Grounds.TheVariants as grounds
+use Rattle.cert_value.specs.declared.types.GoneBy.{GoneBy}
+use Rattle.cert_value.specs.declared.types.RelBlock.{RelBlock}
+use Rattle.cert_value.specs.declared.types.RankBlock.{RankBlock}
+use Rattle.cert_value.specs.declared.types.Row.{Row}
+use Rattle.cert_value.specs.declared.types.RankRow.{RankRow}
+use Rattle.cert_value.specs.declared.types.Element.{Element}
+use Rattle.cert_value.specs.declared.types.StepLine.{StepLine}
 use Rattle.cert_text.specs.declared.lines.Sizes.{Sizes}
 use Rattle.cert_text.specs.declared.lines.Heading.{Heading}
 use Rattle.cert_text.specs.declared.heads.FirstHead.{FirstHead}
@@ -56,12 +56,12 @@ use Rattle.cert_text.specs.declared.evidence.NoState.TheVariants as no_state
 use Rattle.cert_text.specs.declared.machine.Opening.{Opening}
 use Rattle.cert_text.specs.declared.machine.State.{State}
 use Rattle.cert_text.specs.declared.machine.State.TheVariants as state
-use Rattle.cert_text.specs.Text.{Line}
-use Rattle.cert_text.specs.WellFormed.{blocks_due, is_live}
+use Rattle.cert_value.specs.Text.{Line}
+use Rattle.cert_value.specs.WellFormed.{blocks_due, is_live}
 use Rattle.cert_text.specs.Lines.{Said, word_in, number_in, numbers_in, ascending_in, sizes_in, heading_in, row_in, rank_row_in, gone_by_in, first_head_in, second_head_in, origin_in, element_in, step_in}
 use Rattle.cert_text.specs.Grammar.{ReadOutcome, Read, Stopped, Then, after, next_line, read_rows, read_block, read_rank_rows, read_rank_block, read_blocks, read_classes, read_first_rest, read_first_steps, read_grounds, read_second_rest, read_second_steps, read_elements, read_steps, read_origins, read_cover, read_all_elements, read_closed, read_all_origins, read_limited, read_first_log, read_second_log, read_turn, read_lasso, read_word, yes_of, list_of, read_evidence, read_after_first, read_logs, read_body, finish, cert_of, read_end, read_rest, read_sizes, read_lines}
 use Rattle.cert_text.specs.Machine.{map_said, on_or, rows_due, step_block, rank_rows_due, step_ranks, blocks_left, with_block, first_started, step_first, first_left, with_first, step_first_log, rel_due, with_forward, with_backward, with_delayed, second_started, step_second, second_left, with_second, step_second_log, elements_left, live_from, step_or_whole, steps_left, with_order, step_yes, origins_left, step_list, step_no, whole, begun, with_no, with_first_log, evidence_due, with_second_log, with_yes, with_list, step}
-use Rattle.cert_text.proofs.FormLemmas.{drop_one}
+use Rattle.cert_value.proofs.SplitLemmas.{drop_one}
 
 -- How a state reads on, and what a step reads on.
 abbrev pub Resume : Type 0 → Type 0 → Type 0

@@ -2,11 +2,11 @@ use Rattle.std.proofs.Common.{◌≡◌, ℕ, List, [], ◌∷◌, ◌++◌, ◌
 use Rattle.cert_text.specs.declared.faults.CertReadFault.{CertReadFault}
 use Rattle.cert_text.specs.declared.faults.CertReadFault.TheVariants.{Text, Memory}
 use Rattle.cert_text.specs.Told.{Told}
-use Rattle.cert_text.specs.declared.types.Cert.{Cert}
+use Rattle.cert_value.specs.declared.types.Cert.{Cert}
 use Rattle.cert_text.specs.declared.faults.TextFault.{TextFault}
-use Rattle.cert_text.specs.Text.{Line, text_of, text, cert_lines}
-use Rattle.cert_text.specs.Tokens.{tokens_of}
-use Rattle.cert_text.specs.WellFormed.{has_text, has_some, WellFormed}
+use Rattle.cert_value.specs.Text.{Line, text_of, text, cert_lines}
+use Rattle.cert_value.specs.Tokens.{tokens_of}
+use Rattle.cert_value.specs.WellFormed.{has_text, has_some, WellFormed}
 use Rattle.cert_text.specs.Grammar.{ReadOutcome, Read, Stopped, lines_of, read_lines, reading, told_at, first_left, finish}
 use Rattle.cert_text.specs.Law.{OneText}
 use Rattle.cert_text.proofs.BytesLines.{lines_text, text_back}

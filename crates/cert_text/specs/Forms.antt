@@ -9,8 +9,8 @@ use Rattle.cert_text.specs.declared.forms.Tail.TheVariants as tail
 use Rattle.cert_text.specs.declared.faults.TextKind.{TextKind}
 use Rattle.cert_text.specs.declared.faults.TextKind.TheVariants as kind
 use Rattle.auto_core.specs.Digits.{is_digit}
-use Rattle.cert_text.specs.Text.{Line, spelled}
-use Rattle.cert_text.specs.WellFormed.{has_some}
+use Rattle.cert_value.specs.Text.{Line, spelled}
+use Rattle.cert_value.specs.WellFormed.{has_some}
 
 -- The token is `0`, or a digit other than 0 followed by at most eight digits.
 abbrev pub is_number : List ℕ → Bool

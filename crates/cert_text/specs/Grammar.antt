@@ -5,27 +5,27 @@ use Rattle.std.specs.List.{slice_split}
 use Rattle.auto_core.specs.declared.parts.Mode.{Mode}
 use Rattle.auto_core.specs.declared.parts.Mode.TheVariants as mode
 use Rattle.auto_core.specs.declared.parts.Origin.{Origin}
-use Rattle.cert_text.specs.declared.keywords.Keyword.TheVariants as keyword
+use Rattle.cert_value.specs.declared.keywords.Keyword.TheVariants as keyword
 use Rattle.cert_text.specs.declared.forms.Tail.TheVariants as tail
 use Rattle.cert_text.specs.declared.faults.TextKind.{TextKind}
 use Rattle.cert_text.specs.declared.faults.TextKind.TheVariants.{Truncated, Trailing}
 use Rattle.cert_text.specs.declared.faults.TextFault.{TextFault}
-use Rattle.cert_text.specs.declared.types.Answer.{Answer}
-use Rattle.cert_text.specs.declared.types.Answer.TheVariants as answer
-use Rattle.cert_text.specs.declared.types.Cert.{Cert}
-use Rattle.cert_text.specs.declared.types.Body.{Body}
-use Rattle.cert_text.specs.declared.types.Body.TheVariants as body
-use Rattle.cert_text.specs.declared.types.FirstStep.{FirstStep}
-use Rattle.cert_text.specs.declared.types.FirstStep.TheVariants as first
-use Rattle.cert_text.specs.declared.types.SecondStep.{SecondStep}
-use Rattle.cert_text.specs.declared.types.SecondStep.TheVariants as second
-use Rattle.cert_text.specs.declared.types.Grounds.TheVariants as grounds
-use Rattle.cert_text.specs.declared.types.RelBlock.{RelBlock}
-use Rattle.cert_text.specs.declared.types.RankBlock.{RankBlock}
-use Rattle.cert_text.specs.declared.types.Row.{Row}
-use Rattle.cert_text.specs.declared.types.RankRow.{RankRow}
-use Rattle.cert_text.specs.declared.types.Element.{Element}
-use Rattle.cert_text.specs.declared.types.StepLine.{StepLine}
+use Rattle.cert_value.specs.declared.types.Answer.{Answer}
+use Rattle.cert_value.specs.declared.types.Answer.TheVariants as answer
+use Rattle.cert_value.specs.declared.types.Cert.{Cert}
+use Rattle.cert_value.specs.declared.types.Body.{Body}
+use Rattle.cert_value.specs.declared.types.Body.TheVariants as body
+use Rattle.cert_value.specs.declared.types.FirstStep.{FirstStep}
+use Rattle.cert_value.specs.declared.types.FirstStep.TheVariants as first
+use Rattle.cert_value.specs.declared.types.SecondStep.{SecondStep}
+use Rattle.cert_value.specs.declared.types.SecondStep.TheVariants as second
+use Rattle.cert_value.specs.declared.types.Grounds.TheVariants as grounds
+use Rattle.cert_value.specs.declared.types.RelBlock.{RelBlock}
+use Rattle.cert_value.specs.declared.types.RankBlock.{RankBlock}
+use Rattle.cert_value.specs.declared.types.Row.{Row}
+use Rattle.cert_value.specs.declared.types.RankRow.{RankRow}
+use Rattle.cert_value.specs.declared.types.Element.{Element}
+use Rattle.cert_value.specs.declared.types.StepLine.{StepLine}
 use Rattle.cert_text.specs.declared.parts.Closed.{Closed}
 use Rattle.cert_text.specs.declared.parts.Limited.{Limited}
 use Rattle.cert_text.specs.declared.lines.Sizes.{Sizes}
@@ -36,9 +36,9 @@ use Rattle.cert_text.specs.declared.heads.SecondHead.{SecondHead}
 use Rattle.cert_text.specs.declared.heads.SecondHead.TheVariants as second_head
 use Rattle.cert_text.specs.declared.heads.Way.{Way}
 use Rattle.cert_text.specs.declared.heads.Way.TheVariants as way
-use Rattle.cert_text.specs.Text.{Line}
-use Rattle.cert_text.specs.Tokens.{tokens_of}
-use Rattle.cert_text.specs.WellFormed.{blocks_due, is_live, has_some}
+use Rattle.cert_value.specs.Text.{Line}
+use Rattle.cert_value.specs.Tokens.{tokens_of}
+use Rattle.cert_value.specs.WellFormed.{blocks_due, is_live, has_some}
 use Rattle.cert_text.specs.Lines.{Said, word_in, number_in, numbers_in, ascending_in, sizes_in, heading_in, row_in, rank_row_in, gone_by_in, first_head_in, second_head_in, origin_in, element_in, step_in}
 
 -- What comes of reading lines: a certificate, or a fault at the first of these lines.

@@ -1,9 +1,9 @@
 -- The law of texts, and when a fault is the first one.
 use Rattle.std.specs.Prelude.{◌≡◌, ℕ, List, [], ◌++◌, Result, Ok, Err}
-use Rattle.cert_text.specs.declared.types.Cert.{Cert}
+use Rattle.cert_value.specs.declared.types.Cert.{Cert}
 use Rattle.cert_text.specs.declared.faults.TextFault.{TextFault}
-use Rattle.cert_text.specs.Text.{text}
-use Rattle.cert_text.specs.WellFormed.{WellFormed}
+use Rattle.cert_value.specs.Text.{text}
+use Rattle.cert_value.specs.WellFormed.{WellFormed}
 use Rattle.cert_text.specs.Grammar.{reading}
 
 -- No text of a certificate is a proper front of another's, and different certificates have different texts.

@@ -1,7 +1,3 @@
-pub mod Text
-pub mod WellFormed
-pub mod Printed
-pub mod Tokens
 pub mod Forms
 pub mod Lines
 pub mod Agrees

@@ -4,24 +4,24 @@ use Rattle.auto_core.specs.declared.parts.Mode.{Mode}
 use Rattle.auto_core.specs.declared.parts.Mode.TheVariants as mode
 use Rattle.auto_core.specs.declared.parts.Origin.{Origin}
 use Rattle.auto_core.specs.declared.parts.Origin.TheVariants as origin
-use Rattle.cert_text.specs.declared.keywords.Keyword.{Keyword}
-use Rattle.cert_text.specs.declared.keywords.Keyword.TheVariants as keyword
+use Rattle.cert_value.specs.declared.keywords.Keyword.{Keyword}
+use Rattle.cert_value.specs.declared.keywords.Keyword.TheVariants as keyword
 use Rattle.cert_text.specs.declared.forms.Place.{Place}
 use Rattle.cert_text.specs.declared.forms.Place.TheVariants.{Word, Number}
 use Rattle.cert_text.specs.declared.forms.Tail.{Tail}
 use Rattle.cert_text.specs.declared.forms.Tail.TheVariants as tail
 use Rattle.cert_text.specs.declared.faults.TextKind.{TextKind}
 use Rattle.cert_text.specs.declared.faults.TextKind.TheVariants as kind
-use Rattle.cert_text.specs.declared.types.Answer.{Answer}
-use Rattle.cert_text.specs.declared.types.Answer.TheVariants as answer
-use Rattle.cert_text.specs.declared.types.GoneBy.{GoneBy}
-use Rattle.cert_text.specs.declared.types.Row.{Row}
-use Rattle.cert_text.specs.declared.types.RankRow.{RankRow}
-use Rattle.cert_text.specs.declared.types.Ranked.{Ranked}
-use Rattle.cert_text.specs.declared.types.Element.{Element}
-use Rattle.cert_text.specs.declared.types.Mark.{Mark}
-use Rattle.cert_text.specs.declared.types.Mark.TheVariants as mark
-use Rattle.cert_text.specs.declared.types.StepLine.{StepLine}
+use Rattle.cert_value.specs.declared.types.Answer.{Answer}
+use Rattle.cert_value.specs.declared.types.Answer.TheVariants as answer
+use Rattle.cert_value.specs.declared.types.GoneBy.{GoneBy}
+use Rattle.cert_value.specs.declared.types.Row.{Row}
+use Rattle.cert_value.specs.declared.types.RankRow.{RankRow}
+use Rattle.cert_value.specs.declared.types.Ranked.{Ranked}
+use Rattle.cert_value.specs.declared.types.Element.{Element}
+use Rattle.cert_value.specs.declared.types.Mark.{Mark}
+use Rattle.cert_value.specs.declared.types.Mark.TheVariants as mark
+use Rattle.cert_value.specs.declared.types.StepLine.{StepLine}
 use Rattle.cert_text.specs.declared.lines.Sizes.{Sizes}
 use Rattle.cert_text.specs.declared.lines.Heading.{Heading}
 use Rattle.cert_text.specs.declared.heads.FirstHead.{FirstHead}
@@ -30,8 +30,8 @@ use Rattle.cert_text.specs.declared.heads.SecondHead.{SecondHead}
 use Rattle.cert_text.specs.declared.heads.SecondHead.TheVariants as second
 use Rattle.cert_text.specs.declared.heads.Way.{Way}
 use Rattle.cert_text.specs.declared.heads.Way.TheVariants as way
-use Rattle.cert_text.specs.Text.{Line, mode_word, answer_word}
-use Rattle.cert_text.specs.WellFormed.{ascend, rights_of, gone_of, blocks_due}
+use Rattle.cert_value.specs.Text.{Line, mode_word, answer_word}
+use Rattle.cert_value.specs.WellFormed.{ascend, rights_of, gone_of, blocks_due}
 use Rattle.cert_text.specs.Forms.{fits, line_fault, value_at, values_from}
 
 -- What a line says, or what is wrong with it.

@@ -3,30 +3,30 @@ use Rattle.std.specs.Prelude.{ℕ, ◌+◌, ◌-◌, List, [], ◌∷◌, ◌++�
 use Rattle.auto_core.specs.declared.parts.Mode.{Mode}
 use Rattle.auto_core.specs.declared.parts.Mode.TheVariants as mode
 use Rattle.auto_core.specs.declared.parts.Origin.{Origin}
-use Rattle.cert_text.specs.declared.keywords.Keyword.TheVariants as keyword
+use Rattle.cert_value.specs.declared.keywords.Keyword.TheVariants as keyword
 use Rattle.cert_text.specs.declared.forms.Tail.TheVariants as tail
 use Rattle.cert_text.specs.declared.faults.TextKind.TheVariants as kind
 use Rattle.cert_text.specs.declared.parts.Step.{Step}
 use Rattle.cert_text.specs.declared.parts.Step.TheVariants.{More, Whole}
 use Rattle.cert_text.specs.declared.parts.Closed.{Closed}
 use Rattle.cert_text.specs.declared.parts.Limited.{Limited}
-use Rattle.cert_text.specs.declared.types.Answer.{Answer}
-use Rattle.cert_text.specs.declared.types.Answer.TheVariants as answer
-use Rattle.cert_text.specs.declared.types.Cert.{Cert}
-use Rattle.cert_text.specs.declared.types.Body.{Body}
-use Rattle.cert_text.specs.declared.types.Body.TheVariants as body
-use Rattle.cert_text.specs.declared.types.FirstStep.{FirstStep}
-use Rattle.cert_text.specs.declared.types.FirstStep.TheVariants as first
-use Rattle.cert_text.specs.declared.types.SecondStep.{SecondStep}
-use Rattle.cert_text.specs.declared.types.SecondStep.TheVariants as second
-use Rattle.cert_text.specs.declared.types.Grounds.TheVariants as grounds
-use Rattle.cert_text.specs.declared.types.GoneBy.{GoneBy}
-use Rattle.cert_text.specs.declared.types.RelBlock.{RelBlock}
-use Rattle.cert_text.specs.declared.types.RankBlock.{RankBlock}
-use Rattle.cert_text.specs.declared.types.Row.{Row}
-use Rattle.cert_text.specs.declared.types.RankRow.{RankRow}
-use Rattle.cert_text.specs.declared.types.Element.{Element}
-use Rattle.cert_text.specs.declared.types.StepLine.{StepLine}
+use Rattle.cert_value.specs.declared.types.Answer.{Answer}
+use Rattle.cert_value.specs.declared.types.Answer.TheVariants as answer
+use Rattle.cert_value.specs.declared.types.Cert.{Cert}
+use Rattle.cert_value.specs.declared.types.Body.{Body}
+use Rattle.cert_value.specs.declared.types.Body.TheVariants as body
+use Rattle.cert_value.specs.declared.types.FirstStep.{FirstStep}
+use Rattle.cert_value.specs.declared.types.FirstStep.TheVariants as first
+use Rattle.cert_value.specs.declared.types.SecondStep.{SecondStep}
+use Rattle.cert_value.specs.declared.types.SecondStep.TheVariants as second
+use Rattle.cert_value.specs.declared.types.Grounds.TheVariants as grounds
+use Rattle.cert_value.specs.declared.types.GoneBy.{GoneBy}
+use Rattle.cert_value.specs.declared.types.RelBlock.{RelBlock}
+use Rattle.cert_value.specs.declared.types.RankBlock.{RankBlock}
+use Rattle.cert_value.specs.declared.types.Row.{Row}
+use Rattle.cert_value.specs.declared.types.RankRow.{RankRow}
+use Rattle.cert_value.specs.declared.types.Element.{Element}
+use Rattle.cert_value.specs.declared.types.StepLine.{StepLine}
 use Rattle.cert_text.specs.declared.lines.Sizes.{Sizes}
 use Rattle.cert_text.specs.declared.lines.Heading.{Heading}
 use Rattle.cert_text.specs.declared.heads.FirstHead.{FirstHead}
@@ -56,8 +56,8 @@ use Rattle.cert_text.specs.declared.evidence.NoState.TheVariants as no_state
 use Rattle.cert_text.specs.declared.machine.Opening.{Opening}
 use Rattle.cert_text.specs.declared.machine.State.{State}
 use Rattle.cert_text.specs.declared.machine.State.TheVariants as state
-use Rattle.cert_text.specs.Text.{Line}
-use Rattle.cert_text.specs.WellFormed.{blocks_due, is_live}
+use Rattle.cert_value.specs.Text.{Line}
+use Rattle.cert_value.specs.WellFormed.{blocks_due, is_live}
 use Rattle.cert_text.specs.Lines.{Said, word_in, number_in, numbers_in, ascending_in, sizes_in, heading_in, row_in, rank_row_in, gone_by_in, first_head_in, second_head_in, origin_in, element_in, step_in}
 use Rattle.cert_text.specs.Grammar.{ReadOutcome, Stopped, finish, yes_of, list_of, cert_of}
 

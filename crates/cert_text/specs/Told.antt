@@ -5,7 +5,7 @@ use Rattle.cert_text.specs.declared.faults.CertReadFault.TheVariants.{Text, Memo
 use Rattle.cert_text.specs.declared.faults.LineFault.{LineFault}
 use Rattle.cert_text.specs.declared.faults.LineFault.TheVariants as line_fault
 use Rattle.cert_text.specs.declared.faults.TextFault.{TextFault}
-use Rattle.cert_text.specs.declared.types.Cert.{Cert}
+use Rattle.cert_value.specs.declared.types.Cert.{Cert}
 
 -- It gives what the text is, or want of memory.
 abbrev pub Told : Result Cert TextFault → Result Cert CertReadFault → Type 0

@@ -1,16 +1,15 @@
 //! Relations, read line by line.
 
 ghost use Rattle.std.specs.Prelude.{◌≡◌, ◌+◌, ◌∷◌, [], ◌++◌, drop};
-ghost use Rattle.cert_text.specs.Tokens.{tokens_of};
+ghost use Rattle.cert_value.specs.Tokens.{tokens_of};
 ghost use Rattle.cert_text.specs.Agrees.{Agrees};
 ghost use Rattle.cert_text.specs.Machine.{rows_due, rank_rows_due, step_block, step_ranks};
 
 use crate::faults::LineFault;
-use crate::keywords::Keyword;
 use crate::lines::{number_in, rank_row_in, row_in};
 use crate::parts::{Step, pushed};
-use crate::types::{RankBlock, RankRow, RelBlock, Row};
 use auto_core::List;
+use cert_value::{Keyword, RankBlock, RankRow, RelBlock, Row};
 use std::alloc::Global;
 
 /// What is due in a relation.

@@ -1,20 +1,18 @@
 //! The first log, read line by line.
 
 ghost use Rattle.std.specs.Prelude.{◌≡◌, ◌+◌, ◌∷◌, [], ◌++◌, drop};
-ghost use Rattle.cert_text.specs.Tokens.{tokens_of};
+ghost use Rattle.cert_value.specs.Tokens.{tokens_of};
 ghost use Rattle.cert_text.specs.Agrees.{Agrees};
 ghost use Rattle.cert_text.specs.Machine.{blocks_left, with_block, first_started, step_first, first_left, with_first, step_first_log, step_block, map_said};
 
 use crate::blocks::{BlockState, step_block};
-use crate::checks::blocks_due;
 use crate::faults::LineFault;
 use crate::forms::Tail;
 use crate::heads::{FirstHead, first_head_in};
-use crate::keywords::Keyword;
 use crate::lines::{gone_by_in, number_in, numbers_in};
 use crate::parts::{Step, pushed};
-use crate::types::{FirstStep, GoneBy, RelBlock};
 use auto_core::List;
+use cert_value::{FirstStep, GoneBy, Keyword, RelBlock, blocks_due};
 use std::alloc::Global;
 
 /// What is due in a step of the first log.

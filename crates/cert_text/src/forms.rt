@@ -1,16 +1,15 @@
 //! What one line of a certificate's text says.
 
 ghost use Rattle.std.specs.Prelude.{◌≡◌, ◌+◌, ◌<◌, ◌++◌, ◌∷◌, [], length, map, drop, Bool, true, false, IsTrue, nat_lt, slice_index_or, Option, Some, None, bytes_eq, IfOk, nat_le, not};
-ghost use Rattle.cert_text.specs.WellFormed.{has_some};
+ghost use Rattle.cert_value.specs.WellFormed.{has_some};
 ghost use Rattle.std.specs.List.{list_all};
-ghost use Rattle.cert_text.specs.Tokens.{tokens_of};
+ghost use Rattle.cert_value.specs.Tokens.{tokens_of};
 ghost use Rattle.auto_core.specs.Digits.{is_digit};
 ghost use Rattle.cert_text.specs.Forms.{is_number, value, has_empty, has_word, has_number, fits, has_numbers, line_fault, value_at, values_from, number_of, may_follow, pair_up};
 
 use crate::faults::TextKind;
-use crate::keywords::Keyword;
-use crate::tokens::Tokens;
 use auto_core::{List, Memory};
+use cert_value::{Keyword, Tokens};
 use std::alloc::Global;
 
 /// What is due at a place of a line.

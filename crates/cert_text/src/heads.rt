@@ -1,17 +1,16 @@
 //! The heads of steps.
 
 ghost use Rattle.std.specs.Prelude.{◌≡◌, ◌∷◌, []};
-ghost use Rattle.cert_text.specs.Tokens.{tokens_of};
+ghost use Rattle.cert_value.specs.Tokens.{tokens_of};
 ghost use Rattle.cert_text.specs.Lines.{first_cut_in, first_head_in, second_head_in, delayed_or_cut_in, merge_or_cut_in, trim_in};
 ghost use Rattle.cert_text.specs.declared.heads.SecondHead.TheVariants as second_head;
 ghost use Rattle.cert_text.specs.Agrees.{Agrees};
 
-use crate::checks::blocks_due;
 use crate::faults::{LineFault, TextKind};
 use crate::forms::{Place, Tail, fits, line_fault, value_at};
-use crate::keywords::Keyword;
 use crate::lines::{ascending_in, word_in};
 use auto_core::{List, Mode};
+use cert_value::{Keyword, blocks_due};
 use std::alloc::Global;
 
 /// The head of a step of the first log.

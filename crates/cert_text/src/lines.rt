@@ -1,17 +1,17 @@
 //! What each kind of line says.
 
 ghost use Rattle.std.specs.Prelude.{◌≡◌, ◌∷◌, [], ◌++◌, IfOk};
-ghost use Rattle.cert_text.specs.Tokens.{tokens_of};
+ghost use Rattle.cert_value.specs.Tokens.{tokens_of};
 ghost use Rattle.cert_text.specs.Lines.{word_in, number_in, numbers_in, ascending_in, sizes_in, row_in, rank_row_in, gone_by_in, step_in, ranked_of, gone_by_of, heading_in, has_heading, is_heading, finite_heading_in};
 ghost use Rattle.cert_text.specs.Agrees.{Agrees};
 
-use crate::checks::{ascend, gone_ascend, rights_ascend};
 use crate::faults::{LineFault, TextKind};
 use crate::forms::{Place, Tail, line_fault, value_at, values_from};
-use crate::keywords::Keyword;
-use crate::types::{Answer, GoneBy, RankRow, Ranked, Row, StepLine};
 use crate::write::{answer_word, mode_word};
 use auto_core::{List, Memory, Mode};
+use cert_value::{
+    Answer, GoneBy, Keyword, RankRow, Ranked, Row, StepLine, ascend, gone_ascend, rights_ascend,
+};
 use std::alloc::Global;
 
 /// The sizes that a certificate names.

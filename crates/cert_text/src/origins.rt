@@ -1,15 +1,14 @@
 //! The lines of elements.
 
 ghost use Rattle.std.specs.Prelude.{◌≡◌, ◌∷◌, []};
-ghost use Rattle.cert_text.specs.Tokens.{tokens_of};
+ghost use Rattle.cert_value.specs.Tokens.{tokens_of};
 ghost use Rattle.cert_text.specs.Lines.{next_origin_in, origin_in, next_element_in, element_in, base_element_in, start_element_in};
 ghost use Rattle.cert_text.specs.Agrees.{Agrees};
 
 use crate::faults::LineFault;
 use crate::forms::{Place, Tail, fits, line_fault, value_at};
-use crate::keywords::Keyword;
-use crate::types::{Element, Mark};
 use auto_core::{Mode, Origin};
+use cert_value::{Element, Keyword, Mark};
 
 /// An element of a list that comes from another.
 fn next_origin_in(line: &[u8]) -> Result<Origin, LineFault>

@@ -4,8 +4,8 @@ ghost use Rattle.std.specs.Prelude.{◌≡◌, ◌∷◌, [], ◌++◌, MatchRes
 ghost use Rattle.cert_text.specs.declared.faults.LineFault.TheVariants as fault;
 
 use crate::faults::LineFault;
-use crate::types::{Element, RelBlock, StepLine};
 use auto_core::{List, Memory, Origin};
+use cert_value::{Element, RelBlock, StepLine};
 
 /// What comes of a line: there is more to read, or the part is whole.
 #[derive(Debug, Drop)]

@@ -1,20 +1,20 @@
 //! The reader of certificates.
 
 ghost use Rattle.std.specs.Prelude.{◌≡◌, ◌==◌, ◌≤◌, ◌^◌, ◌∷◌, [], ℕ, length, position, ◌<◌, ◌⊎◌, Ok, Err, MatchOption, IfSome, IfOk};
-ghost use Rattle.cert_text.specs.Tokens.{tokens_of};
+ghost use Rattle.cert_value.specs.Tokens.{tokens_of};
 ghost use Rattle.cert_text.specs.Grammar.{lines_of, reading, told_at};
 ghost use Rattle.cert_text.specs.Told.{Told, located};
 ghost use Rattle.cert_text.specs.Machine.{done_cert, at_end};
 ghost use Rattle.cert_text.specs.Law.{FirstFault};
-ghost use Rattle.cert_text.specs.Text.{text};
-ghost use Rattle.cert_text.specs.WellFormed.{WellFormed};
-ghost use Rattle.cert_text.specs.declared.types.Cert.{Cert};
+ghost use Rattle.cert_value.specs.Text.{text};
+ghost use Rattle.cert_value.specs.WellFormed.{WellFormed};
+ghost use Rattle.cert_value.specs.declared.types.Cert.{Cert};
 ghost use Rattle.cert_text.specs.declared.faults.TextFault.{TextFault};
 ghost use Rattle.cert_text.specs.declared.faults.CertReadFault.TheVariants as fault;
 
 use crate::faults::{CertReadFault, LineFault, TextFault, TextKind};
 use crate::machine::{State, next_state};
-use crate::types::Cert;
+use cert_value::Cert;
 use std::alloc::Global;
 
 /// Where the first LF stands.

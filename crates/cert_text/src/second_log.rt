@@ -1,7 +1,7 @@
 //! The second log, read line by line.
 
 ghost use Rattle.std.specs.Prelude.{◌≡◌, ◌+◌, ◌∷◌, [], ◌++◌, drop};
-ghost use Rattle.cert_text.specs.Tokens.{tokens_of};
+ghost use Rattle.cert_value.specs.Tokens.{tokens_of};
 ghost use Rattle.cert_text.specs.Agrees.{Agrees};
 ghost use Rattle.cert_text.specs.Machine.{rel_due, with_forward, with_backward, with_delayed, second_started, step_second, second_left, with_second, step_second_log, step_block, step_ranks, map_said};
 
@@ -9,11 +9,10 @@ use crate::blocks::{BlockState, RankState, step_block, step_ranks};
 use crate::faults::LineFault;
 use crate::forms::Tail;
 use crate::heads::{SecondHead, Way, second_head_in};
-use crate::keywords::Keyword;
 use crate::lines::{ascending_in, number_in, numbers_in};
 use crate::parts::{Step, pushed};
-use crate::types::{Grounds, SecondStep};
 use auto_core::{List, Mode};
+use cert_value::{Grounds, Keyword, SecondStep};
 use std::alloc::Global;
 
 /// What is due in a step of the second log.

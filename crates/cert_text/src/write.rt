@@ -1,15 +1,14 @@
 //! The writer of certificates.
 
 ghost use Rattle.std.specs.Prelude.{◌≡◌, ◌++◌, ◌∷◌, [], OnOk, IfOk, codes, decimal};
-ghost use Rattle.cert_text.specs.declared.keywords.Keyword.TheVariants as keyword;
-ghost use Rattle.cert_text.specs.Text.{spelled, text_of, line_text, text, first_lines, second_lines, yes_lines, list_lines, body_lines, first_line, closed_lines, limit_lines, answer_of, mode_word, answer_word};
+ghost use Rattle.cert_value.specs.declared.keywords.Keyword.TheVariants as keyword;
+ghost use Rattle.cert_value.specs.Text.{spelled, text_of, line_text, text, first_lines, second_lines, yes_lines, list_lines, body_lines, first_line, closed_lines, limit_lines, answer_of, mode_word, answer_word};
 
-use crate::keywords::Keyword;
-use crate::printing::{Print, print_all, print_count, print_keyword, print_line};
-use crate::types::{
-    Answer, Body, Cert, Element, FirstStep, ListBody, SecondStep, StepLine, YesBody,
-};
 use auto_core::{List, Memory, Mode, Origin};
+use cert_value::{
+    Answer, Body, Cert, Element, FirstStep, Keyword, ListBody, Print, SecondStep, StepLine,
+    YesBody, print_all, print_count, print_keyword, print_line,
+};
 use std::alloc::Global;
 
 /// Writes the first log.

@@ -22,14 +22,14 @@ use Rattle.search_laws.proofs.OutcomeLemmas.{apart_end, apart_separates, limit_l
 use Rattle.search_laws.proofs.PairOutcomeLemmas.{apart_end as apart_pair_end, apart_separates_word, limit_lists_pairs}
 use Rattle.std.proofs.lemmas.Option.{get_or_from_slice_get}
 use Rattle.ba_format.specs.declared.parts.Joined.{Joined}
-use Rattle.cert_text.specs.declared.types.Cert.{Cert}
-use Rattle.cert_text.specs.declared.types.Body.{Body}
-use Rattle.cert_text.specs.declared.types.Body.TheVariants.{Yes, NoLasso, NoWord, Listing}
-use Rattle.cert_text.specs.declared.types.YesBody.{YesBody}
-use Rattle.cert_text.specs.declared.types.ListBody.{ListBody}
-use Rattle.cert_text.specs.declared.types.FirstStep.{FirstStep}
-use Rattle.cert_text.specs.declared.types.SecondStep.{SecondStep}
-use Rattle.cert_text.specs.WellFormed.{WellFormed, is_short, are_short, is_body, is_block, are_logs, are_steps, is_element, is_origin, has_some}
+use Rattle.cert_value.specs.declared.types.Cert.{Cert}
+use Rattle.cert_value.specs.declared.types.Body.{Body}
+use Rattle.cert_value.specs.declared.types.Body.TheVariants.{Yes, NoLasso, NoWord, Listing}
+use Rattle.cert_value.specs.declared.types.YesBody.{YesBody}
+use Rattle.cert_value.specs.declared.types.ListBody.{ListBody}
+use Rattle.cert_value.specs.declared.types.FirstStep.{FirstStep}
+use Rattle.cert_value.specs.declared.types.SecondStep.{SecondStep}
+use Rattle.cert_value.specs.WellFormed.{WellFormed, is_short, are_short, is_body, is_block, are_logs, are_steps, is_element, is_origin, has_some}
 use Rattle.cert_check.specs.Inclusion.{origins_of, live_in}
 use Rattle.evidence.specs.Evidence.{LiveStandApart}
 use Rattle.log_check.specs.Ends.{item_after}

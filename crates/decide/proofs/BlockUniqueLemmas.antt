@@ -9,12 +9,12 @@ use Rattle.std.proofs.lemmas.List.Elements.{Contains-append_cases, Contains-appe
 use Rattle.std.proofs.lemmas.Option.{same_Some, none-some}
 use Rattle.auto_core.specs.Delayed.{RankedPairs}
 use Rattle.auto_core.proofs.PathLemmas.{Contains-cons_cases, Contains-here, Contains-later, none_in_nil}
-use Rattle.cert_text.specs.declared.types.RelBlock.{RelBlock}
-use Rattle.cert_text.specs.declared.types.Row.{Row}
-use Rattle.cert_text.specs.declared.types.RankBlock.{RankBlock}
-use Rattle.cert_text.specs.declared.types.RankRow.{RankRow}
-use Rattle.cert_text.specs.declared.types.Ranked.{Ranked}
-use Rattle.cert_text.specs.WellFormed.{is_short, are_short, has_some, ascend, ascend_from, is_row, are_rows, is_ranked, rights_of, is_rank_row, are_rank_rows}
+use Rattle.cert_value.specs.declared.types.RelBlock.{RelBlock}
+use Rattle.cert_value.specs.declared.types.Row.{Row}
+use Rattle.cert_value.specs.declared.types.RankBlock.{RankBlock}
+use Rattle.cert_value.specs.declared.types.RankRow.{RankRow}
+use Rattle.cert_value.specs.declared.types.Ranked.{Ranked}
+use Rattle.cert_value.specs.WellFormed.{is_short, are_short, has_some, ascend, ascend_from, is_row, are_rows, is_ranked, rights_of, is_rank_row, are_rank_rows}
 use Rattle.log_check.specs.Blocks.{pairs_of_row, rank_of, ranked_of_row}
 use Rattle.decide.specs.Written.{IsBlockOf, IsRankBlockOf}
 use Rattle.decide.proofs.RowLemmas.{in_row, of_row, ascend_above, rows_above, row_parts}

@@ -10,9 +10,9 @@ use Rattle.auto_core.specs.Pruning.{look_back, look_ahead}
 use Rattle.auto_core.specs.declared.parts.Mode.{Mode}
 use Rattle.bit_rel.specs.Relation.{Relation}
 use Rattle.ba_format.specs.declared.parts.Joined.{Joined}
-use Rattle.cert_text.specs.declared.types.FirstStep.{FirstStep}
-use Rattle.cert_text.specs.declared.types.SecondStep.{SecondStep}
-use Rattle.cert_text.specs.WellFormed.{is_short, is_first_step, is_second_step, are_logs}
+use Rattle.cert_value.specs.declared.types.FirstStep.{FirstStep}
+use Rattle.cert_value.specs.declared.types.SecondStep.{SecondStep}
+use Rattle.cert_value.specs.WellFormed.{is_short, is_first_step, is_second_step, are_logs}
 use Rattle.log_check.specs.declared.ends.Ends.{Ends}
 use Rattle.reduce_loop.specs.declared.steps.Step.{Step}
 use Rattle.reduce_loop.specs.declared.steps.Kind.{Kind}

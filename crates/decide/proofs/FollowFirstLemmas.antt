@@ -17,11 +17,11 @@ use Rattle.reduce_loop.specs.declared.steps.Step.{Step}
 use Rattle.reduce_loop.specs.Kinds.{kinds_of, After}
 use Rattle.reduce_loop.specs.Logs.{IsBackOf, IsAheadOf, IsCutOf, IsStepEntry, IsLog, pairs_given as relation_pairs}
 use Rattle.reduce_loop.proofs.MakingLemmas.{useful_below}
-use Rattle.cert_text.specs.declared.types.FirstStep.{FirstStep}
-use Rattle.cert_text.specs.declared.types.FirstStep.TheVariants as first
-use Rattle.cert_text.specs.declared.types.GoneBy.{GoneBy}
-use Rattle.cert_text.specs.declared.types.RelBlock.{RelBlock}
-use Rattle.cert_text.specs.WellFormed.{gone_of, is_block, blocks_due}
+use Rattle.cert_value.specs.declared.types.FirstStep.{FirstStep}
+use Rattle.cert_value.specs.declared.types.FirstStep.TheVariants as first
+use Rattle.cert_value.specs.declared.types.GoneBy.{GoneBy}
+use Rattle.cert_value.specs.declared.types.RelBlock.{RelBlock}
+use Rattle.cert_value.specs.WellFormed.{gone_of, is_block, blocks_due}
 use Rattle.log_check.specs.Blocks.{IsBlockBelow}
 use Rattle.log_check.specs.Follows.{StepFollows}
 use Rattle.log_check.specs.FirstLog.{back_of, ahead_of, IsAtMost, IsAsGood, IsNotBack, IsNotRelatedBack, IsGoneIn, AreStable, first_rules, FirstLogFollows}

@@ -28,12 +28,12 @@ use Rattle.reduce_loop.proofs.DelayedLemmas.{same_pairs}
 use Rattle.reduce_loop.proofs.MergeLemmas.{same_classes, same_closure}
 use Rattle.reduce_loop.proofs.StepLemmas.{after_valid}
 use Rattle.useful_states.proofs.KeepLaws.{kept_by_members}
-use Rattle.cert_text.specs.declared.types.RelBlock.{RelBlock}
-use Rattle.cert_text.specs.declared.types.Row.{Row}
-use Rattle.cert_text.specs.declared.types.RankBlock.{RankBlock}
-use Rattle.cert_text.specs.declared.types.RankRow.{RankRow}
-use Rattle.cert_text.specs.declared.types.Ranked.{Ranked}
-use Rattle.cert_text.specs.WellFormed.{is_short, has_some, ascend, rights_of, is_ranked, is_row, are_rows, is_rank_row, are_rank_rows}
+use Rattle.cert_value.specs.declared.types.RelBlock.{RelBlock}
+use Rattle.cert_value.specs.declared.types.Row.{Row}
+use Rattle.cert_value.specs.declared.types.RankBlock.{RankBlock}
+use Rattle.cert_value.specs.declared.types.RankRow.{RankRow}
+use Rattle.cert_value.specs.declared.types.Ranked.{Ranked}
+use Rattle.cert_value.specs.WellFormed.{is_short, has_some, ascend, rights_of, is_ranked, is_row, are_rows, is_rank_row, are_rank_rows}
 use Rattle.log_check.specs.Blocks.{pairs_of_row, IsRowBelow, IsBlockBelow, rank_of, ranked_of_row, IsRankRowBelow, IsRankBlockBelow}
 use Rattle.log_check.specs.Follows.{LogRules, StepFollows, Follows}
 use Rattle.decide.specs.Written.{IsBlockOf, IsRankBlockOf, AreWritten}

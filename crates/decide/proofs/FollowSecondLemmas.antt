@@ -17,11 +17,11 @@ use Rattle.reduce_loop.specs.declared.steps.Step.{Step}
 use Rattle.reduce_loop.specs.Kinds.{kinds_of, After}
 use Rattle.reduce_loop.specs.Logs.{IsMergeOf, IsDelayedMergeOf, IsStepEntry, IsLog, pairs_given as relation_pairs}
 use Rattle.reduce_loop.proofs.MakingLemmas.{useful_below}
-use Rattle.cert_text.specs.declared.types.SecondStep.{SecondStep}
-use Rattle.cert_text.specs.declared.types.SecondStep.TheVariants as second
-use Rattle.cert_text.specs.declared.types.Grounds.TheVariants as grounds
-use Rattle.cert_text.specs.declared.types.RelBlock.{RelBlock}
-use Rattle.cert_text.specs.declared.types.RankBlock.{RankBlock}
+use Rattle.cert_value.specs.declared.types.SecondStep.{SecondStep}
+use Rattle.cert_value.specs.declared.types.SecondStep.TheVariants as second
+use Rattle.cert_value.specs.declared.types.Grounds.TheVariants as grounds
+use Rattle.cert_value.specs.declared.types.RelBlock.{RelBlock}
+use Rattle.cert_value.specs.declared.types.RankBlock.{RankBlock}
 use Rattle.log_check.specs.Blocks.{pairs_of, IsBlockBelow, ranked_pairs_of, IsRankBlockBelow}
 use Rattle.log_check.specs.Follows.{StepFollows}
 use Rattle.log_check.specs.Parts.{IsLook, AreTransitions}

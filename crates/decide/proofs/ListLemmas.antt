@@ -9,9 +9,9 @@ use Rattle.auto_core.specs.declared.parts.Mode.TheVariants.{Buchi, Finite}
 use Rattle.auto_core.specs.declared.parts.Origin.{Origin}
 use Rattle.auto_core.specs.declared.parts.Origin.TheVariants.{Start}
 use Rattle.search_laws.proofs.PlaceLemmas.{at_within}
-use Rattle.cert_text.specs.declared.types.Element.{Element}
-use Rattle.cert_text.specs.declared.types.ListBody.{ListBody}
-use Rattle.cert_text.specs.declared.types.Mark.TheVariants.{Live}
+use Rattle.cert_value.specs.declared.types.Element.{Element}
+use Rattle.cert_value.specs.declared.types.ListBody.{ListBody}
+use Rattle.cert_value.specs.declared.types.Mark.TheVariants.{Live}
 use Rattle.log_check.specs.Checks.{AllHold, checks_of_each}
 use Rattle.log_check.proofs.CheckLemmas.{all_join}
 use Rattle.cert_check.specs.Inclusion.{no_element, element_checks, NamesOrigin}

@@ -7,9 +7,9 @@ use Rattle.auto_core.specs.declared.parts.Lasso.{Lasso}
 use Rattle.auto_core.specs.declared.parts.Memory.{Memory}
 use Rattle.auto_core.specs.declared.parts.Origin.{Origin}
 use Rattle.ba_format.specs.declared.parts.Joined.{Joined}
-use Rattle.cert_text.specs.declared.types.Cert.{Cert}
-use Rattle.cert_text.specs.declared.types.Body.{Body}
-use Rattle.cert_text.specs.declared.types.Body.TheVariants.{NoLasso, NoWord}
+use Rattle.cert_value.specs.declared.types.Cert.{Cert}
+use Rattle.cert_value.specs.declared.types.Body.{Body}
+use Rattle.cert_value.specs.declared.types.Body.TheVariants.{NoLasso, NoWord}
 use Rattle.cert_check.specs.Rules.{HasSizes}
 use Rattle.evidence.specs.declared.parts.Closure.{Closure}
 use Rattle.evidence.specs.Evidence.{IsEvidenceOf}

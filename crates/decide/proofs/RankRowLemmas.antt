@@ -10,9 +10,9 @@ use Rattle.auto_core.specs.Delayed.{RankedPairs, HoldsPair, HasRank, HasPairsOnc
 use Rattle.auto_core.proofs.PathLemmas.{Contains-cons_cases, Contains-here, Contains-later, none_in_nil}
 use Rattle.search_laws.proofs.ListLemmas.{in_map, map_has}
 use Rattle.bit_rel.specs.Relation.{IsPairBefore}
-use Rattle.cert_text.specs.declared.types.RankRow.{RankRow}
-use Rattle.cert_text.specs.declared.types.Ranked.{Ranked}
-use Rattle.cert_text.specs.WellFormed.{is_short, is_ranked, rights_of, has_some, ascend, ascend_from, is_rank_row, are_rank_rows}
+use Rattle.cert_value.specs.declared.types.RankRow.{RankRow}
+use Rattle.cert_value.specs.declared.types.Ranked.{Ranked}
+use Rattle.cert_value.specs.WellFormed.{is_short, is_ranked, rights_of, has_some, ascend, ascend_from, is_rank_row, are_rank_rows}
 use Rattle.delayed_sim.specs.Rankings.{Ranking, IsRanking, AreRankedInOrder}
 use Rattle.auto_core.proofs.MemberLemmas.{Rises, same_members}
 use Rattle.log_check.specs.Blocks.{rank_of, ranked_of_row}

@@ -11,8 +11,8 @@ use Rattle.auto_core.proofs.PathLemmas.{Contains-cons_cases, Contains-here, Cont
 use Rattle.search_laws.proofs.ListLemmas.{in_map, map_has}
 use Rattle.bit_rel.specs.Relation.{IsPairBefore, ArePairsAscending}
 use Rattle.bit_rel.proofs.PairLemmas.{same_pairs}
-use Rattle.cert_text.specs.declared.types.Row.{Row}
-use Rattle.cert_text.specs.WellFormed.{is_short, are_short, has_some, ascend, ascend_from, is_row, are_rows}
+use Rattle.cert_value.specs.declared.types.Row.{Row}
+use Rattle.cert_value.specs.WellFormed.{is_short, are_short, has_some, ascend, ascend_from, is_row, are_rows}
 use Rattle.log_check.specs.Blocks.{pairs_of_row}
 use Rattle.decide.specs.Written.{IsBlockOf}
 use Rattle.decide.specs.Rows.{AreRights, AreRows}

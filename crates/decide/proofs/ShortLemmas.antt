@@ -29,16 +29,16 @@ use Rattle.reduce_loop.proofs.DelayedLemmas.{none_in_finite}
 use Rattle.reduce_loop.proofs.MakingLemmas.{useful_below}
 use Rattle.reduce_loop.proofs.PassLemmas.{log_through, through_valid, through_smaller}
 use Rattle.reduce_loop.proofs.StepLemmas.{after_valid, after_smaller}
-use Rattle.cert_text.specs.declared.types.FirstStep.{FirstStep}
-use Rattle.cert_text.specs.declared.types.FirstStep.TheVariants as first
-use Rattle.cert_text.specs.declared.types.SecondStep.{SecondStep}
-use Rattle.cert_text.specs.declared.types.SecondStep.TheVariants as second
-use Rattle.cert_text.specs.declared.types.Grounds.{Grounds}
-use Rattle.cert_text.specs.declared.types.Grounds.TheVariants as grounds
-use Rattle.cert_text.specs.declared.types.GoneBy.{GoneBy}
-use Rattle.cert_text.specs.declared.types.RelBlock.{RelBlock}
-use Rattle.cert_text.specs.declared.types.RankBlock.{RankBlock}
-use Rattle.cert_text.specs.WellFormed.{is_short, are_short, has_some, ascend, ascend_from, is_block, is_rank_block, gone_of, is_gone, are_gone, are_kept, are_classes, blocks_due, is_first_step, are_grounds, is_second_step}
+use Rattle.cert_value.specs.declared.types.FirstStep.{FirstStep}
+use Rattle.cert_value.specs.declared.types.FirstStep.TheVariants as first
+use Rattle.cert_value.specs.declared.types.SecondStep.{SecondStep}
+use Rattle.cert_value.specs.declared.types.SecondStep.TheVariants as second
+use Rattle.cert_value.specs.declared.types.Grounds.{Grounds}
+use Rattle.cert_value.specs.declared.types.Grounds.TheVariants as grounds
+use Rattle.cert_value.specs.declared.types.GoneBy.{GoneBy}
+use Rattle.cert_value.specs.declared.types.RelBlock.{RelBlock}
+use Rattle.cert_value.specs.declared.types.RankBlock.{RankBlock}
+use Rattle.cert_value.specs.WellFormed.{is_short, are_short, has_some, ascend, ascend_from, is_block, is_rank_block, gone_of, is_gone, are_gone, are_kept, are_classes, blocks_due, is_first_step, are_grounds, is_second_step}
 use Rattle.decide.specs.Written.{given, AreWritten, AreBlocksOf, gone_by, IsFirstWritten, IsSecondWritten, AreFirstWritten, AreSecondWritten}
 use Rattle.decide.proofs.RowLemmas.{all_short}
 use Rattle.decide.proofs.FollowLemmas.{IsPair, pair_listed, listed_better, cut_leads}

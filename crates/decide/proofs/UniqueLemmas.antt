@@ -9,11 +9,11 @@ use Rattle.bit_rel.proofs.PairLemmas.{same_pairs}
 use Rattle.search_laws.proofs.OutcomeLemmas.{one_outcome}
 use Rattle.search_laws.proofs.PairOutcomeLemmas.{one_pair_outcome}
 use Rattle.ba_format.specs.declared.parts.Joined.{Joined}
-use Rattle.cert_text.specs.declared.types.Cert.{Cert}
-use Rattle.cert_text.specs.declared.types.Body.{Body}
-use Rattle.cert_text.specs.declared.types.Body.TheVariants.{Yes, NoLasso, NoWord, Listing}
-use Rattle.cert_text.specs.declared.types.YesBody.{YesBody}
-use Rattle.cert_text.specs.declared.types.ListBody.{ListBody}
+use Rattle.cert_value.specs.declared.types.Cert.{Cert}
+use Rattle.cert_value.specs.declared.types.Body.{Body}
+use Rattle.cert_value.specs.declared.types.Body.TheVariants.{Yes, NoLasso, NoWord, Listing}
+use Rattle.cert_value.specs.declared.types.YesBody.{YesBody}
+use Rattle.cert_value.specs.declared.types.ListBody.{ListBody}
 use Rattle.evidence.specs.declared.parts.Closure.{Closure}
 use Rattle.evidence.specs.Evidence.{IsEvidenceOf}
 use Rattle.evidence.proofs.UniqueLemmas.{one_closure}

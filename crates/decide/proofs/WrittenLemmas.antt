@@ -2,7 +2,7 @@
 use Rattle.std.proofs.Common.{◌≡◌, ℕ, ◌+◌, ◌<◌, ◌≤◌, Option, None, Some, List, [], ◌∷◌, ◌++◌, length, map, take, slice_index_or, refl, sym, ap, ◌∙◌, subst, take_all}
 use Rattle.std.proofs.lemmas.List.{take_more}
 use Rattle.bit_rel.specs.Relation.{Relation}
-use Rattle.cert_text.specs.declared.types.RelBlock.{RelBlock}
+use Rattle.cert_value.specs.declared.types.RelBlock.{RelBlock}
 use Rattle.decide.specs.Written.{IsBlockOf, AreWritten, AreBlocksOf, given}
 use Rattle.decide.specs.Logs.{one_given}
 

@@ -26,13 +26,13 @@ use Rattle.search_laws.proofs.EntryLemmas.{arcs_size, arc_here}
 use Rattle.search_laws.proofs.OutcomeLemmas.{origins_fit, closed_end, closed_list_is_closed_set, closed_list_includes, live_ones_stand_apart}
 use Rattle.search_laws.proofs.PairOutcomeLemmas.{pair_origins_fit, closed_end as closed_pairs_end, closed_list_is_closed_pairs, closed_list_includes_words, live_pairs_stand_apart}
 use Rattle.std.proofs.lemmas.List.Elements.{Contains-append_left, Contains-append_right}
-use Rattle.cert_text.specs.declared.types.YesBody.{YesBody}
-use Rattle.cert_text.specs.declared.types.Element.{Element}
-use Rattle.cert_text.specs.declared.types.Mark.{Mark}
-use Rattle.cert_text.specs.declared.types.Mark.TheVariants.{Live, Under}
-use Rattle.cert_text.specs.declared.types.Row.{Row}
-use Rattle.cert_text.specs.declared.types.StepLine.{StepLine}
-use Rattle.cert_text.specs.WellFormed.{is_live, is_short, are_short, is_element, is_mark, is_origin, is_step_of, are_steps, is_row, are_rows, is_block}
+use Rattle.cert_value.specs.declared.types.YesBody.{YesBody}
+use Rattle.cert_value.specs.declared.types.Element.{Element}
+use Rattle.cert_value.specs.declared.types.Mark.{Mark}
+use Rattle.cert_value.specs.declared.types.Mark.TheVariants.{Live, Under}
+use Rattle.cert_value.specs.declared.types.Row.{Row}
+use Rattle.cert_value.specs.declared.types.StepLine.{StepLine}
+use Rattle.cert_value.specs.WellFormed.{is_live, is_short, are_short, is_element, is_mark, is_origin, is_step_of, are_steps, is_row, are_rows, is_block}
 use Rattle.log_check.specs.Checks.{AllHold}
 use Rattle.log_check.specs.Blocks.{pairs_of, pairs_of_row, IsRowBelow}
 use Rattle.cert_check.specs.Inclusion.{origins_of, element_arcs, no_element, live_in, NamesOrigin, NamesElement, HasEarlierParent, GoesOn, SubsumesIn, IsOver, IsUnder, AreOver, PassesBy, covered_in, extensions_of, order_checks, element_checks, under_checks, step_checks, pair_checks, inclusion_checks}

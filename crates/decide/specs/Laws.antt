@@ -4,14 +4,14 @@ use Rattle.auto_core.specs.Automaton.{IsAutomaton}
 use Rattle.auto_core.specs.Accept.{Includes, SeparatesLasso, SeparatesWord}
 use Rattle.auto_core.specs.Outcome.{Outcome, Entry}
 use Rattle.ba_format.specs.declared.parts.Joined.{Joined}
-use Rattle.cert_text.specs.declared.types.Cert.{Cert}
-use Rattle.cert_text.specs.declared.types.Body.{Body}
-use Rattle.cert_text.specs.declared.types.Body.TheVariants.{Yes, NoLasso, NoWord, Listing}
-use Rattle.cert_text.specs.declared.types.YesBody.{YesBody}
-use Rattle.cert_text.specs.declared.types.ListBody.{ListBody}
-use Rattle.cert_text.specs.declared.types.FirstStep.{FirstStep}
-use Rattle.cert_text.specs.declared.types.SecondStep.{SecondStep}
-use Rattle.cert_text.specs.WellFormed.{WellFormed}
+use Rattle.cert_value.specs.declared.types.Cert.{Cert}
+use Rattle.cert_value.specs.declared.types.Body.{Body}
+use Rattle.cert_value.specs.declared.types.Body.TheVariants.{Yes, NoLasso, NoWord, Listing}
+use Rattle.cert_value.specs.declared.types.YesBody.{YesBody}
+use Rattle.cert_value.specs.declared.types.ListBody.{ListBody}
+use Rattle.cert_value.specs.declared.types.FirstStep.{FirstStep}
+use Rattle.cert_value.specs.declared.types.SecondStep.{SecondStep}
+use Rattle.cert_value.specs.WellFormed.{WellFormed}
 use Rattle.log_check.specs.declared.ends.Ends.{Ends}
 use Rattle.log_check.specs.Ends.{AreEnds}
 use Rattle.reduce_loop.specs.Settled.{IsSettled}

@@ -3,10 +3,10 @@ use Rattle.std.specs.Prelude.{◌≡◌, ℕ, ◌+◌, ◌<◌, ◌≤◌, ◌�
 use Rattle.std.specs.List.{flat_map, list_all}
 use Rattle.auto_core.specs.Delayed.{RankedPairs, HasRank}
 use Rattle.auto_core.specs.Game.{Holds}
-use Rattle.cert_text.specs.declared.types.RankRow.{RankRow}
-use Rattle.cert_text.specs.declared.types.Ranked.{Ranked}
-use Rattle.cert_text.specs.declared.types.Row.{Row}
-use Rattle.cert_text.specs.WellFormed.{ascend, are_rows, rights_of, is_ranked, are_rank_rows}
+use Rattle.cert_value.specs.declared.types.RankRow.{RankRow}
+use Rattle.cert_value.specs.declared.types.Ranked.{Ranked}
+use Rattle.cert_value.specs.declared.types.Row.{Row}
+use Rattle.cert_value.specs.WellFormed.{ascend, are_rows, rights_of, is_ranked, are_rank_rows}
 use Rattle.delayed_sim.specs.Rankings.{Ranking}
 use Rattle.log_check.specs.Blocks.{pairs_of_row, rank_of, ranked_of_row}
 

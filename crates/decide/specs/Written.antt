@@ -8,16 +8,16 @@ use Rattle.reduce_loop.specs.declared.steps.Step.{Step}
 use Rattle.reduce_loop.specs.declared.steps.Step.TheVariants as step
 use Rattle.reduce_loop.specs.declared.steps.MergeBy.{MergeBy}
 use Rattle.reduce_loop.specs.declared.steps.MergeBy.TheVariants as by
-use Rattle.cert_text.specs.declared.types.FirstStep.{FirstStep}
-use Rattle.cert_text.specs.declared.types.FirstStep.TheVariants as first
-use Rattle.cert_text.specs.declared.types.SecondStep.{SecondStep}
-use Rattle.cert_text.specs.declared.types.SecondStep.TheVariants as second
-use Rattle.cert_text.specs.declared.types.Grounds.{Grounds}
-use Rattle.cert_text.specs.declared.types.Grounds.TheVariants as grounds
-use Rattle.cert_text.specs.declared.types.GoneBy.{GoneBy}
-use Rattle.cert_text.specs.declared.types.RelBlock.{RelBlock}
-use Rattle.cert_text.specs.declared.types.RankBlock.{RankBlock}
-use Rattle.cert_text.specs.WellFormed.{is_block, is_rank_block}
+use Rattle.cert_value.specs.declared.types.FirstStep.{FirstStep}
+use Rattle.cert_value.specs.declared.types.FirstStep.TheVariants as first
+use Rattle.cert_value.specs.declared.types.SecondStep.{SecondStep}
+use Rattle.cert_value.specs.declared.types.SecondStep.TheVariants as second
+use Rattle.cert_value.specs.declared.types.Grounds.{Grounds}
+use Rattle.cert_value.specs.declared.types.Grounds.TheVariants as grounds
+use Rattle.cert_value.specs.declared.types.GoneBy.{GoneBy}
+use Rattle.cert_value.specs.declared.types.RelBlock.{RelBlock}
+use Rattle.cert_value.specs.declared.types.RankBlock.{RankBlock}
+use Rattle.cert_value.specs.WellFormed.{is_block, is_rank_block}
 use Rattle.log_check.specs.Blocks.{pairs_of, ranked_pairs_of}
 
 -- The block lists just these pairs: its rows are not empty, and left and right numbers ascend.

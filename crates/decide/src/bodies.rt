@@ -11,7 +11,7 @@ use crate::terms::Terms;
 use antichain::WordOutcome;
 use auto_core::{Auto, List, Memory, Mode, Origin};
 use bit_rel::Rel;
-use cert_text::{Body, ListBody, YesBody};
+use cert_value::{Body, ListBody, YesBody};
 use evidence::Closure;
 use ramsey_search::Outcome;
 use std::alloc::Global;

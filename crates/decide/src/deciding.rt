@@ -3,10 +3,10 @@
 ghost use Rattle.std.specs.Prelude.{◌≡◌, ◌≤◌, ℕ, List, IfOk, length};
 ghost use Rattle.auto_core.specs.Accept.{Includes, SeparatesLasso, SeparatesWord};
 ghost use Rattle.auto_core.specs.declared.parts.Lasso.{Lasso};
-ghost use Rattle.cert_text.specs.WellFormed.{WellFormed};
-ghost use Rattle.cert_text.specs.declared.types.YesBody.{YesBody};
-ghost use Rattle.cert_text.specs.declared.types.ListBody.{ListBody};
-ghost use Rattle.cert_text.specs.declared.types.Body.TheVariants as body;
+ghost use Rattle.cert_value.specs.WellFormed.{WellFormed};
+ghost use Rattle.cert_value.specs.declared.types.YesBody.{YesBody};
+ghost use Rattle.cert_value.specs.declared.types.ListBody.{ListBody};
+ghost use Rattle.cert_value.specs.declared.types.Body.TheVariants as body;
 ghost use Rattle.decide.specs.Answer.{IsAnswer, HasFewParts};
 ghost use Rattle.decide.specs.Terms.{terms_of};
 ghost use Rattle.cert_check.specs.Laws.{IsValid};
@@ -18,7 +18,7 @@ use crate::logs::logs_of;
 use crate::terms::Terms;
 use auto_core::{Memory, Mode};
 use ba_format::Joined;
-use cert_text::Cert;
+use cert_value::Cert;
 use reduce_loop::reduce;
 use std::alloc::Global;
 

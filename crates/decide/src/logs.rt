@@ -10,7 +10,7 @@ ghost use Rattle.decide.specs.Logs.{IsOnFew, IsMergeOnFew, IsStepOnFew, AreSteps
 use crate::rows::{block_of, rank_block_of};
 use auto_core::{List, Memory};
 use bit_rel::Rel;
-use cert_text::{FirstStep, GoneBy, Grounds, RelBlock, SecondStep};
+use cert_value::{FirstStep, GoneBy, Grounds, RelBlock, SecondStep};
 use prune_pairs::Gone;
 use reduce_loop::{MergeBy, Step};
 use std::alloc::Global;

@@ -7,7 +7,7 @@ ghost use Rattle.log_check.specs.Blocks.{rank_of};
 
 use auto_core::{List, Memory};
 use bit_rel::Rel;
-use cert_text::{RankBlock, RankRow, Ranked, RelBlock, Row};
+use cert_value::{RankBlock, RankRow, Ranked, RelBlock, Row};
 use delayed_sim::Delayed;
 use std::alloc::Global;
 

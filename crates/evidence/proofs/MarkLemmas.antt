@@ -3,10 +3,10 @@ use Rattle.std.proofs.Common.{◌≡◌, ℕ, ◌<◌, true, false, List, length
 use Rattle.std.proofs.lemmas.Bool.{false≢true}
 use Rattle.std.proofs.lemmas.List.{length-map}
 use Rattle.auto_core.specs.Outcome.{Rules, Entry, StaysLive, IsDropped, TellsLive}
-use Rattle.cert_text.specs.WellFormed.{is_live}
-use Rattle.cert_text.specs.declared.types.Element.{Element}
-use Rattle.cert_text.specs.declared.types.Mark.{Mark}
-use Rattle.cert_text.specs.declared.types.Mark.TheVariants.{Live, Under}
+use Rattle.cert_value.specs.WellFormed.{is_live}
+use Rattle.cert_value.specs.declared.types.Element.{Element}
+use Rattle.cert_value.specs.declared.types.Mark.{Mark}
+use Rattle.cert_value.specs.declared.types.Mark.TheVariants.{Live, Under}
 use Rattle.search_laws.proofs.PlaceLemmas.{at_some}
 use Rattle.search_laws.proofs.ListLemmas.{read_map}
 use Rattle.evidence.specs.declared.parts.Closure.{Closure}

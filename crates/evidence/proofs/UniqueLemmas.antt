@@ -5,10 +5,10 @@ use Rattle.std.specs.List.{range_with_len}
 use Rattle.std.proofs.lemmas.Bool.{cases_lt}
 use Rattle.std.proofs.lemmas.List.{length-map}
 use Rattle.auto_core.specs.Outcome.{Rules, At, Entry, IsLeastSubsumer, origins_in}
-use Rattle.cert_text.specs.declared.types.Element.{Element}
-use Rattle.cert_text.specs.declared.types.Mark.{Mark}
-use Rattle.cert_text.specs.declared.types.Mark.TheVariants.{Live, Under}
-use Rattle.cert_text.specs.declared.types.StepLine.{StepLine}
+use Rattle.cert_value.specs.declared.types.Element.{Element}
+use Rattle.cert_value.specs.declared.types.Mark.{Mark}
+use Rattle.cert_value.specs.declared.types.Mark.TheVariants.{Live, Under}
+use Rattle.cert_value.specs.declared.types.StepLine.{StepLine}
 use Rattle.search_laws.proofs.PlaceLemmas.{at_same, at_within, at_some, same_by_places}
 use Rattle.search_laws.proofs.ListLemmas.{at_map}
 use Rattle.evidence.specs.declared.parts.Closure.{Closure}

@@ -6,11 +6,11 @@ use Rattle.auto_core.specs.Graph.{arc_at, arcs_of}
 use Rattle.auto_core.specs.declared.parts.Origin.{Origin}
 use Rattle.auto_core.specs.declared.parts.Origin.TheVariants.{Start}
 use Rattle.auto_core.specs.Outcome.{Rules, At, Entry, StaysLive, IsDropped, IsLeastSubsumer, origins_in}
-use Rattle.cert_text.specs.declared.types.Element.{Element}
-use Rattle.cert_text.specs.declared.types.Mark.{Mark}
-use Rattle.cert_text.specs.declared.types.Mark.TheVariants.{Live, Under}
-use Rattle.cert_text.specs.declared.types.StepLine.{StepLine}
-use Rattle.cert_text.specs.WellFormed.{is_live}
+use Rattle.cert_value.specs.declared.types.Element.{Element}
+use Rattle.cert_value.specs.declared.types.Mark.{Mark}
+use Rattle.cert_value.specs.declared.types.Mark.TheVariants.{Live, Under}
+use Rattle.cert_value.specs.declared.types.StepLine.{StepLine}
+use Rattle.cert_value.specs.WellFormed.{is_live}
 use Rattle.evidence.specs.declared.parts.Closure.{Closure}
 
 -- The mark of the element at the place: live where it stays so, and otherwise under the least live one that subsumes it.

@@ -1,7 +1,7 @@
 //! The evidence as a search gives it.
 
 use auto_core::List;
-use cert_text::{Element, StepLine};
+use cert_value::{Element, StepLine};
 
 /// The evidence of a closed set.
 #[derive(Debug, Drop)]

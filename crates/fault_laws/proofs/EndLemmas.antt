@@ -4,10 +4,10 @@ use Rattle.std.specs.List.{slice_split, join_with_byte}
 use Rattle.std.proofs.lemmas.Bool.{ne_eqb}
 use Rattle.std.proofs.lemmas.List.{length-append}
 use Rattle.std.proofs.lemmas.List.Splits.{join_with_byte-slice_split}
-use Rattle.cert_text.specs.declared.types.Cert.{Cert}
+use Rattle.cert_value.specs.declared.types.Cert.{Cert}
 use Rattle.cert_text.specs.declared.faults.TextKind.TheVariants.{Trailing}
-use Rattle.cert_text.specs.Text.{text, cert_lines}
-use Rattle.cert_text.specs.Tokens.{tokens_of}
+use Rattle.cert_value.specs.Text.{text, cert_lines}
+use Rattle.cert_value.specs.Tokens.{tokens_of}
 use Rattle.cert_text.specs.Grammar.{Read, Stopped, is_bare, finish, lines_of}
 use Rattle.cert_text.proofs.BytesLines.{lines_text}
 use Rattle.cert_text.proofs.PlainCert.{plain_cert}

@@ -3,11 +3,11 @@ use Rattle.std.proofs.Common.{◌≡◌, ℕ, zero, suc, ◌<◌, ◌≤◌, ◌
 use Rattle.std.specs.List.{list_all}
 use Rattle.std.proofs.lemmas.Bool.{and_parts, ltb-true, leb-true}
 use Rattle.auto_core.specs.declared.parts.Mode.TheVariants as mode
-use Rattle.cert_text.specs.declared.types.Cert.{Cert}
-use Rattle.cert_text.specs.declared.types.Row.{Row}
+use Rattle.cert_value.specs.declared.types.Cert.{Cert}
+use Rattle.cert_value.specs.declared.types.Row.{Row}
 use Rattle.cert_text.specs.declared.faults.TextKind.TheVariants.{Truncated}
-use Rattle.cert_text.specs.Text.{Line, text, spelled}
-use Rattle.cert_text.specs.WellFormed.{is_short, are_short, has_some, ascend}
+use Rattle.cert_value.specs.Text.{Line, text, spelled}
+use Rattle.cert_value.specs.WellFormed.{is_short, are_short, has_some, ascend}
 use Rattle.cert_text.specs.Law.{FirstFault}
 use Rattle.cert_text.specs.Lines.{row_in}
 use Rattle.cert_text.specs.Grammar.{Read, Then, lines_of, read_lines, read_rows, read_all_elements, read_end, cert_of, yes_of}

@@ -4,22 +4,22 @@ use Rattle.auto_core.specs.declared.parts.Mode.{Mode}
 use Rattle.auto_core.specs.declared.parts.Mode.TheVariants as mode
 use Rattle.auto_core.specs.declared.parts.Origin.{Origin}
 use Rattle.cert_text.specs.declared.faults.TextKind.TheVariants.{Header}
-use Rattle.cert_text.specs.declared.types.Cert.{Cert}
-use Rattle.cert_text.specs.declared.types.Body.{Body}
-use Rattle.cert_text.specs.declared.types.Body.TheVariants as body
-use Rattle.cert_text.specs.declared.types.FirstStep.{FirstStep}
-use Rattle.cert_text.specs.declared.types.FirstStep.TheVariants as first
-use Rattle.cert_text.specs.declared.types.SecondStep.{SecondStep}
-use Rattle.cert_text.specs.declared.types.SecondStep.TheVariants as second
-use Rattle.cert_text.specs.declared.types.Grounds.TheVariants as grounds
-use Rattle.cert_text.specs.declared.types.RelBlock.{RelBlock}
-use Rattle.cert_text.specs.declared.types.RankBlock.{RankBlock}
-use Rattle.cert_text.specs.declared.types.Row.{Row}
-use Rattle.cert_text.specs.declared.types.RankRow.{RankRow}
-use Rattle.cert_text.specs.declared.types.Element.{Element}
-use Rattle.cert_text.specs.declared.types.StepLine.{StepLine}
-use Rattle.cert_text.specs.WellFormed.{blocks_due, is_live}
-use Rattle.cert_text.specs.Text.{Line, answer_of}
+use Rattle.cert_value.specs.declared.types.Cert.{Cert}
+use Rattle.cert_value.specs.declared.types.Body.{Body}
+use Rattle.cert_value.specs.declared.types.Body.TheVariants as body
+use Rattle.cert_value.specs.declared.types.FirstStep.{FirstStep}
+use Rattle.cert_value.specs.declared.types.FirstStep.TheVariants as first
+use Rattle.cert_value.specs.declared.types.SecondStep.{SecondStep}
+use Rattle.cert_value.specs.declared.types.SecondStep.TheVariants as second
+use Rattle.cert_value.specs.declared.types.Grounds.TheVariants as grounds
+use Rattle.cert_value.specs.declared.types.RelBlock.{RelBlock}
+use Rattle.cert_value.specs.declared.types.RankBlock.{RankBlock}
+use Rattle.cert_value.specs.declared.types.Row.{Row}
+use Rattle.cert_value.specs.declared.types.RankRow.{RankRow}
+use Rattle.cert_value.specs.declared.types.Element.{Element}
+use Rattle.cert_value.specs.declared.types.StepLine.{StepLine}
+use Rattle.cert_value.specs.WellFormed.{blocks_due, is_live}
+use Rattle.cert_value.specs.Text.{Line, answer_of}
 use Rattle.cert_text.specs.Lines.{Said, is_heading, word_in, number_in, numbers_in, ascending_in, sizes_in, heading_or, finite_heading_in, heading_in, row_in, rank_row_in, gone_by_in, first_head_in, delayed_or_cut_in, merge_or_cut_in, second_head_in, origin_in, element_in, step_in}
 use Rattle.cert_text.specs.Grammar.{ReadOutcome, Then, read_rows, read_block, read_rank_rows, read_rank_block, read_blocks, read_classes, read_first_rest, read_first_steps, read_second_rest, read_second_steps, read_elements, read_steps, read_origins, read_cover, read_all_elements, read_closed, read_all_origins, read_limited, read_turn, read_lasso, read_word, yes_of, list_of, read_evidence, read_after_first, read_logs, read_body, finish, cert_of, read_end, read_rest, read_sizes, read_lines, next_line}
 use Rattle.fault_laws.proofs.ReaderLemmas.{Reader, TellsOwn, line_reads, finish_reads}

@@ -3,12 +3,12 @@ use Rattle.std.proofs.Common.{◌≡◌, ℕ, ◌≤◌, List, [], ◌∷◌, �
 use Rattle.std.specs.List.{join_with_byte}
 use Rattle.auto_core.specs.declared.parts.Mode.{Mode}
 use Rattle.auto_core.specs.declared.parts.Mode.TheVariants as mode
-use Rattle.cert_text.specs.declared.types.Cert.{Cert}
-use Rattle.cert_text.specs.declared.types.Body.{Body}
+use Rattle.cert_value.specs.declared.types.Cert.{Cert}
+use Rattle.cert_value.specs.declared.types.Body.{Body}
 use Rattle.cert_text.specs.declared.faults.TextKind.{TextKind}
 use Rattle.cert_text.specs.declared.faults.TextKind.TheVariants.{Header}
-use Rattle.cert_text.specs.Text.{Line, text, answer_of, first_line, cert_lines}
-use Rattle.cert_text.specs.WellFormed.{WellFormed}
+use Rattle.cert_value.specs.Text.{Line, text, answer_of, first_line, cert_lines}
+use Rattle.cert_value.specs.WellFormed.{WellFormed}
 use Rattle.cert_text.specs.Law.{FirstFault}
 use Rattle.cert_text.specs.Lines.{Said, is_heading, heading_or, finite_heading_in, heading_in}
 use Rattle.cert_text.specs.Grammar.{Stopped, after, lines_of, read_lines, read_sizes}

@@ -1,7 +1,7 @@
 use Rattle.std.proofs.Common.{◌≡◌, ℕ, ◌≤◌, ◌+◌, ◌-◌, ◌==◌, List, length, map, take, sym, ap, ◌∙◌, arith}
 use Rattle.std.proofs.lemmas.List.{take-take, take-map, length-take-le, length-map}
 use Rattle.std.proofs.lemmas.List.Splits.{length-slice_split}
-use Rattle.cert_text.specs.Tokens.{tokens_of}
+use Rattle.cert_value.specs.Tokens.{tokens_of}
 use Rattle.cert_text.specs.Grammar.{lines_of}
 use Rattle.fault_laws.specs.FirstFaults.{pieces, whole_lines, BeginAlike}
 

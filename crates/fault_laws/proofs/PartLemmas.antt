@@ -3,7 +3,7 @@ use Rattle.std.proofs.Common.{◌≡◌, ℕ, zero, suc, ◌<◌, ◌≤◌, ◌
 use Rattle.std.specs.List.{onto_first, join_with_byte}
 use Rattle.std.proofs.lemmas.List.{take-take, take-map, take_all, take-append-le, length-take-le, length-append, map-append}
 use Rattle.std.proofs.lemmas.List.Splits.{slice_split-cons_yes, slice_split-cons_no, join_with_byte-slice_split}
-use Rattle.cert_text.specs.Tokens.{tokens_of}
+use Rattle.cert_value.specs.Tokens.{tokens_of}
 use Rattle.cert_text.specs.Grammar.{lines_of}
 use Rattle.cert_text.proofs.ReadLemmas.{split_cons}
 use Rattle.fault_laws.specs.FirstFaults.{pieces, whole_lines}

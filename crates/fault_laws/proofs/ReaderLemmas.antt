@@ -2,10 +2,10 @@
 use Rattle.std.proofs.Common.{◌≡◌, ℕ, zero, suc, ◌<◌, ◌≤◌, ◌+◌, List, [], ◌∷◌, ◌++◌, length, take, Bool, true, false, cond, Ok, Err, refl, sym, ap, ◌∙◌, subst, arith}
 use Rattle.std.proofs.lemmas.Bool.{false≢true}
 use Rattle.std.proofs.lemmas.List.{length-append}
-use Rattle.cert_text.specs.declared.types.Cert.{Cert}
+use Rattle.cert_value.specs.declared.types.Cert.{Cert}
 use Rattle.cert_text.specs.declared.faults.TextKind.{TextKind}
 use Rattle.cert_text.specs.declared.faults.TextKind.TheVariants.{Header, Number, Shape, Order, Truncated, Trailing}
-use Rattle.cert_text.specs.Text.{Line}
+use Rattle.cert_value.specs.Text.{Line}
 use Rattle.cert_text.specs.Lines.{Said}
 use Rattle.cert_text.specs.Grammar.{ReadOutcome, Read, Stopped, Then, after, next_line, is_bare, finish}
 

@@ -4,7 +4,7 @@ use Rattle.auto_core.specs.declared.parts.Mode.{Mode}
 use Rattle.auto_core.specs.declared.parts.Mode.TheVariants as mode
 use Rattle.cert_text.specs.declared.faults.TextKind.{TextKind}
 use Rattle.cert_text.specs.declared.faults.TextKind.TheVariants as kind
-use Rattle.cert_text.specs.Text.{Line}
+use Rattle.cert_value.specs.Text.{Line}
 use Rattle.cert_text.specs.Forms.{fits, has_empty, has_numbers, has_count, line_fault}
 use Rattle.cert_text.specs.Lines.{Said, unless, as_form, in_order, either, word_in, number_in, numbers_in, ascending_in, sizes_in, row_in, rank_row_in, gone_by_in, trim_in, first_head_in, delayed_or_cut_in, second_head_in, origin_in, element_in, step_in, is_heading, heading_or, finite_heading_in, heading_in}
 use Rattle.fault_laws.proofs.ReaderLemmas.{SaysOwn, TellsOwn}

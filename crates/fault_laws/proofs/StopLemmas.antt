@@ -1,9 +1,9 @@
 -- Where a reader of lines stops: first for any machine of states, then for the certificates'.
 use Rattle.std.proofs.Common.{◌≡◌, ◌≢◌, ℕ, zero, suc, ◌<◌, ◌≤◌, ◌+◌, List, [], ◌∷◌, length, take, Bool, true, false, cond, Option, Some, None, Ok, Err, refl, sym, ap, ◌∙◌, subst, arith}
-use Rattle.cert_text.specs.declared.types.Cert.{Cert}
+use Rattle.cert_value.specs.declared.types.Cert.{Cert}
 use Rattle.cert_text.specs.declared.faults.TextKind.{TextKind}
 use Rattle.cert_text.specs.declared.faults.TextKind.TheVariants.{Truncated, Trailing}
-use Rattle.cert_text.specs.Text.{Line}
+use Rattle.cert_value.specs.Text.{Line}
 use Rattle.cert_text.specs.Lines.{Said}
 use Rattle.cert_text.specs.Grammar.{ReadOutcome, Read, Stopped, Then, after, next_line, is_bare}
 use Rattle.cert_text.specs.Machine.{ended}

@@ -1,11 +1,11 @@
 -- Where the first fault of a certificate's text stands, told by the texts of certificates.
 use Rattle.std.specs.Prelude.{◌≡◌, ◌≢◌, ◌==◌, ℕ, ◌+◌, ◌-◌, ◌<◌, ◌≤◌, List, [], ◌++◌, length, take}
 use Rattle.std.specs.List.{slice_split}
-use Rattle.cert_text.specs.declared.types.Cert.{Cert}
+use Rattle.cert_value.specs.declared.types.Cert.{Cert}
 use Rattle.cert_text.specs.declared.faults.TextFault.{TextFault}
 use Rattle.cert_text.specs.declared.faults.TextKind.TheVariants.{Truncated, Trailing}
-use Rattle.cert_text.specs.Text.{text}
-use Rattle.cert_text.specs.WellFormed.{WellFormed}
+use Rattle.cert_value.specs.Text.{text}
+use Rattle.cert_value.specs.WellFormed.{WellFormed}
 use Rattle.cert_text.specs.Law.{FirstFault}
 
 -- The bytes cut at each LF. The last piece is what follows the last LF.

@@ -1,10 +1,10 @@
 -- Texts of certificates and bytes with a first fault: each bytes are one of the two.
 use Rattle.std.specs.Prelude.{◌≡◌, ◌≢◌, ◌↔◌, ◌⊎◌, List, [], ◌++◌, ℕ, Ok}
-use Rattle.cert_text.specs.declared.types.Cert.{Cert}
+use Rattle.cert_value.specs.declared.types.Cert.{Cert}
 use Rattle.cert_text.specs.declared.faults.TextFault.{TextFault}
 use Rattle.cert_text.specs.declared.faults.TextKind.TheVariants.{Trailing}
-use Rattle.cert_text.specs.Text.{text}
-use Rattle.cert_text.specs.WellFormed.{WellFormed}
+use Rattle.cert_value.specs.Text.{text}
+use Rattle.cert_value.specs.WellFormed.{WellFormed}
 use Rattle.cert_text.specs.Grammar.{reading}
 use Rattle.cert_text.specs.Law.{FirstFault}
 

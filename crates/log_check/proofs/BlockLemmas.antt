@@ -6,7 +6,7 @@ use Rattle.std.proofs.lemmas.List.{map_more, take_more}
 use Rattle.std.proofs.lemmas.List.Elements.{Contains-append_cases, Contains-append_left, Contains-append_right, Contains-push_cases, Contains-push, All-push}
 use Rattle.std.proofs.lemmas.List.Concat.{flat_map-append}
 use Rattle.auto_core.specs.Game.{Holds, Answers, Stable, ArePairsBelow}
-use Rattle.cert_text.specs.declared.types.Row.{Row}
+use Rattle.cert_value.specs.declared.types.Row.{Row}
 use Rattle.log_check.specs.Blocks.{pairs_of_row}
 use Rattle.log_check.specs.Stability.{IsRowStable}
 

@@ -11,9 +11,9 @@ use Rattle.auto_core.proofs.PathLemmas.{none_in_nil}
 use Rattle.bit_rel.specs.Relation.{Relation, IsClosed}
 use Rattle.bit_rel.proofs.ClosingLemmas.{close_same}
 use Rattle.quotient.specs.Announced.{RelatesMembersBy}
-use Rattle.cert_text.specs.declared.types.GoneBy.{GoneBy}
-use Rattle.cert_text.specs.declared.types.RelBlock.{RelBlock}
-use Rattle.cert_text.specs.WellFormed.{blocks_due}
+use Rattle.cert_value.specs.declared.types.GoneBy.{GoneBy}
+use Rattle.cert_value.specs.declared.types.RelBlock.{RelBlock}
+use Rattle.cert_value.specs.WellFormed.{blocks_due}
 use Rattle.log_check.specs.Blocks.{pairs_of}
 use Rattle.log_check.specs.Closures.{IsClosureOf, JoinsMembers, IsAsGoodBy, IsBetterBy}
 use Rattle.log_check.specs.FirstLog.{no_block, pairs_at, back_of, ahead_of, IsAtMost, IsAsGood, IsNotRelatedBack, IsGoneIn}

@@ -17,14 +17,14 @@ use Rattle.useful_states.proofs.KeepLaws.{accepts_no_more, accepts_the_same}
 use Rattle.quotient.proofs.MergeLaws.{accepts_more, forward_same, backward_same}
 use Rattle.quotient.proofs.DelayedLaws.{delayed_quotient_is_same}
 use Rattle.prune_pairs.proofs.PruneLaws.{pruning_same}
-use Rattle.cert_text.specs.declared.types.FirstStep.{FirstStep}
-use Rattle.cert_text.specs.declared.types.FirstStep.TheVariants as first
-use Rattle.cert_text.specs.declared.types.SecondStep.{SecondStep}
-use Rattle.cert_text.specs.declared.types.SecondStep.TheVariants as second
-use Rattle.cert_text.specs.declared.types.Grounds.TheVariants.{Forward, Backward, Delayed}
-use Rattle.cert_text.specs.declared.types.GoneBy.{GoneBy}
-use Rattle.cert_text.specs.declared.types.RelBlock.{RelBlock}
-use Rattle.cert_text.specs.WellFormed.{gone_of, blocks_due, are_classes, is_first_step, is_second_step}
+use Rattle.cert_value.specs.declared.types.FirstStep.{FirstStep}
+use Rattle.cert_value.specs.declared.types.FirstStep.TheVariants as first
+use Rattle.cert_value.specs.declared.types.SecondStep.{SecondStep}
+use Rattle.cert_value.specs.declared.types.SecondStep.TheVariants as second
+use Rattle.cert_value.specs.declared.types.Grounds.TheVariants.{Forward, Backward, Delayed}
+use Rattle.cert_value.specs.declared.types.GoneBy.{GoneBy}
+use Rattle.cert_value.specs.declared.types.RelBlock.{RelBlock}
+use Rattle.cert_value.specs.WellFormed.{gone_of, blocks_due, are_classes, is_first_step, is_second_step}
 use Rattle.log_check.specs.Follows.{StepFollows}
 use Rattle.log_check.specs.FirstLog.{back_of, ahead_of, IsAtMost, IsAsGood, IsNotBack, IsNotRelatedBack, IsGoneIn, first_rules}
 use Rattle.log_check.specs.SecondLog.{second_rules}

@@ -4,11 +4,11 @@ use Rattle.auto_core.specs.Automaton.{Automaton}
 use Rattle.useful_states.proofs.KeepLaws.{kept_one}
 use Rattle.quotient.proofs.MergeLaws.{quotient_one}
 use Rattle.prune_pairs.proofs.OneLaws.{cut_one}
-use Rattle.cert_text.specs.declared.types.FirstStep.{FirstStep}
-use Rattle.cert_text.specs.declared.types.FirstStep.TheVariants as first
-use Rattle.cert_text.specs.declared.types.SecondStep.{SecondStep}
-use Rattle.cert_text.specs.declared.types.SecondStep.TheVariants as second
-use Rattle.cert_text.specs.WellFormed.{gone_of}
+use Rattle.cert_value.specs.declared.types.FirstStep.{FirstStep}
+use Rattle.cert_value.specs.declared.types.FirstStep.TheVariants as first
+use Rattle.cert_value.specs.declared.types.SecondStep.{SecondStep}
+use Rattle.cert_value.specs.declared.types.SecondStep.TheVariants as second
+use Rattle.cert_value.specs.WellFormed.{gone_of}
 use Rattle.log_check.specs.declared.faults.Refusal.{Refusal}
 use Rattle.log_check.specs.declared.ends.Ends.{Ends}
 use Rattle.log_check.specs.Checks.{RuleCheck, AllHold, FirstBroken}

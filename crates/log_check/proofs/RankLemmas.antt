@@ -9,10 +9,10 @@ use Rattle.auto_core.proofs.MemberLemmas.{Rises, map_from, map_has}
 use Rattle.auto_core.proofs.PathLemmas.{Contains-here, Contains-later, Contains-cons_cases, none_in_nil}
 use Rattle.delayed_sim.specs.Rankings.{Ranking, ranked_pair, ArePairsOf, DifferInStates, HasJust}
 use Rattle.delayed_sim.specs.declared.delayed.RankedPair.{RankedPair}
-use Rattle.cert_text.specs.declared.types.RankBlock.{RankBlock}
-use Rattle.cert_text.specs.declared.types.RankRow.{RankRow}
-use Rattle.cert_text.specs.declared.types.Ranked.{Ranked}
-use Rattle.cert_text.specs.WellFormed.{is_short, has_some, ascend_from, ascend, rights_of, is_ranked, are_rank_rows, is_rank_row, is_rank_block}
+use Rattle.cert_value.specs.declared.types.RankBlock.{RankBlock}
+use Rattle.cert_value.specs.declared.types.RankRow.{RankRow}
+use Rattle.cert_value.specs.declared.types.Ranked.{Ranked}
+use Rattle.cert_value.specs.WellFormed.{is_short, has_some, ascend_from, ascend, rights_of, is_ranked, are_rank_rows, is_rank_row, is_rank_block}
 use Rattle.log_check.specs.Blocks.{rank_of, ranked_of_row, ranked_pairs_of, IsRankRowBelow, IsRankBlockBelow, IsRankingOf}
 use Rattle.log_check.specs.RankedLists.{row_list, block_list}
 

@@ -12,7 +12,7 @@ use Rattle.auto_core.specs.declared.parts.Mode.{Mode}
 use Rattle.auto_core.proofs.MoveLemmas.{move_in_range}
 use Rattle.auto_core.proofs.PathLemmas.{none_in_nil}
 use Rattle.quotient.specs.Counting.{HasShapeFault}
-use Rattle.cert_text.specs.WellFormed.{ascend_from, ascend}
+use Rattle.cert_value.specs.WellFormed.{ascend_from, ascend}
 
 -- Numbers that have a shape fault are no classes.
 pub no_classes : (classes : List ℕ) → HasShapeFault classes → AreClasses classes → ⊥

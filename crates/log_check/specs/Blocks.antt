@@ -5,11 +5,11 @@ use Rattle.auto_core.specs.Game.{Holds}
 use Rattle.auto_core.specs.Delayed.{RankedPairs}
 use Rattle.bit_rel.specs.Relation.{Relation}
 use Rattle.delayed_sim.specs.Rankings.{Ranking}
-use Rattle.cert_text.specs.declared.types.RelBlock.{RelBlock}
-use Rattle.cert_text.specs.declared.types.Row.{Row}
-use Rattle.cert_text.specs.declared.types.RankBlock.{RankBlock}
-use Rattle.cert_text.specs.declared.types.RankRow.{RankRow}
-use Rattle.cert_text.specs.declared.types.Ranked.{Ranked}
+use Rattle.cert_value.specs.declared.types.RelBlock.{RelBlock}
+use Rattle.cert_value.specs.declared.types.Row.{Row}
+use Rattle.cert_value.specs.declared.types.RankBlock.{RankBlock}
+use Rattle.cert_value.specs.declared.types.RankRow.{RankRow}
+use Rattle.cert_value.specs.declared.types.Ranked.{Ranked}
 
 -- The pairs of a row.
 abbrev pub pairs_of_row : Row → List (ℕ × ℕ)

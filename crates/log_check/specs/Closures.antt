@@ -4,7 +4,7 @@ use Rattle.auto_core.specs.Automaton.{Automaton, trans_at}
 use Rattle.auto_core.specs.Game.{Close, Holds}
 use Rattle.auto_core.specs.Quotient.{class_of}
 use Rattle.bit_rel.specs.Relation.{Relation}
-use Rattle.cert_text.specs.declared.types.GoneBy.{GoneBy}
+use Rattle.cert_value.specs.declared.types.GoneBy.{GoneBy}
 
 -- The table holds just the pairs of states below n that the closure of R relates.
 pub record IsClosureOf (n : ℕ) (R : ℕ → ℕ → Type 0) (rel : Relation) : Type 0 where

@@ -2,8 +2,8 @@
 use Rattle.std.specs.Prelude.{◌⊎◌, ℕ, ◌+◌, List, length, Result, Ok, Err}
 use Rattle.auto_core.specs.Automaton.{Automaton}
 use Rattle.auto_core.specs.declared.parts.Mode.{Mode}
-use Rattle.cert_text.specs.declared.types.FirstStep.{FirstStep}
-use Rattle.cert_text.specs.declared.types.SecondStep.{SecondStep}
+use Rattle.cert_value.specs.declared.types.FirstStep.{FirstStep}
+use Rattle.cert_value.specs.declared.types.SecondStep.{SecondStep}
 use Rattle.log_check.specs.declared.ends.Ends.{Ends}
 use Rattle.log_check.specs.declared.faults.Refusal.{Refusal}
 use Rattle.log_check.specs.declared.faults.CheckFault.{CheckFault}

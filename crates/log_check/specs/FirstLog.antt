@@ -6,11 +6,11 @@ use Rattle.auto_core.specs.Useful.{IsUseful, IsKeptPart}
 use Rattle.auto_core.specs.Quotient.{IsQuotient}
 use Rattle.auto_core.specs.Pruning.{IsCut, IsStableBack, IsStableAhead}
 use Rattle.auto_core.specs.declared.parts.Mode.{Mode}
-use Rattle.cert_text.specs.declared.types.FirstStep.{FirstStep}
-use Rattle.cert_text.specs.declared.types.FirstStep.TheVariants.{Trim, Merge, Cut}
-use Rattle.cert_text.specs.declared.types.GoneBy.{GoneBy}
-use Rattle.cert_text.specs.declared.types.RelBlock.{RelBlock}
-use Rattle.cert_text.specs.WellFormed.{gone_of}
+use Rattle.cert_value.specs.declared.types.FirstStep.{FirstStep}
+use Rattle.cert_value.specs.declared.types.FirstStep.TheVariants.{Trim, Merge, Cut}
+use Rattle.cert_value.specs.declared.types.GoneBy.{GoneBy}
+use Rattle.cert_value.specs.declared.types.RelBlock.{RelBlock}
+use Rattle.cert_value.specs.WellFormed.{gone_of}
 use Rattle.log_check.specs.declared.faults.Refusal.{Refusal}
 use Rattle.log_check.specs.Checks.{RuleCheck, rule_at}
 use Rattle.log_check.specs.Blocks.{pairs_of, IsBlockBelow}

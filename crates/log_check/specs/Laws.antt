@@ -4,9 +4,9 @@ use Rattle.std.specs.List.{list_all}
 use Rattle.auto_core.specs.Automaton.{Automaton, IsAutomaton}
 use Rattle.auto_core.specs.Accept.{Includes}
 use Rattle.auto_core.specs.declared.parts.Mode.{Mode}
-use Rattle.cert_text.specs.declared.types.FirstStep.{FirstStep}
-use Rattle.cert_text.specs.declared.types.SecondStep.{SecondStep}
-use Rattle.cert_text.specs.WellFormed.{is_first_step, is_second_step}
+use Rattle.cert_value.specs.declared.types.FirstStep.{FirstStep}
+use Rattle.cert_value.specs.declared.types.SecondStep.{SecondStep}
+use Rattle.cert_value.specs.WellFormed.{is_first_step, is_second_step}
 use Rattle.log_check.specs.declared.faults.Refusal.{Refusal}
 use Rattle.log_check.specs.declared.ends.Ends.{Ends}
 use Rattle.log_check.specs.FirstLog.{FirstLogFollows}

@@ -3,9 +3,9 @@ use Rattle.std.specs.Prelude.{List, map}
 use Rattle.std.specs.List.{flat_map}
 use Rattle.delayed_sim.specs.declared.delayed.RankedPair.{RankedPair}
 use Rattle.delayed_sim.specs.Rankings.{ranked_pair}
-use Rattle.cert_text.specs.declared.types.RankBlock.{RankBlock}
-use Rattle.cert_text.specs.declared.types.RankRow.{RankRow}
-use Rattle.cert_text.specs.declared.types.Ranked.{Ranked}
+use Rattle.cert_value.specs.declared.types.RankBlock.{RankBlock}
+use Rattle.cert_value.specs.declared.types.RankRow.{RankRow}
+use Rattle.cert_value.specs.declared.types.Ranked.{Ranked}
 use Rattle.log_check.specs.Blocks.{rank_of}
 
 -- The pairs of a row.

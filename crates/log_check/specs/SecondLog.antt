@@ -7,11 +7,11 @@ use Rattle.auto_core.specs.Useful.{IsKeptPart}
 use Rattle.auto_core.specs.Quotient.{IsQuotient, RelatesMembers}
 use Rattle.auto_core.specs.Pruning.{IsCut}
 use Rattle.quotient.specs.Announced.{RelatesMembersBy}
-use Rattle.cert_text.specs.declared.types.SecondStep.{SecondStep}
-use Rattle.cert_text.specs.declared.types.SecondStep.TheVariants.{Trim, Merge, Cut}
-use Rattle.cert_text.specs.declared.types.Grounds.{Grounds}
-use Rattle.cert_text.specs.declared.types.Grounds.TheVariants.{Forward, Backward, Delayed}
-use Rattle.cert_text.specs.declared.types.RelBlock.{RelBlock}
+use Rattle.cert_value.specs.declared.types.SecondStep.{SecondStep}
+use Rattle.cert_value.specs.declared.types.SecondStep.TheVariants.{Trim, Merge, Cut}
+use Rattle.cert_value.specs.declared.types.Grounds.{Grounds}
+use Rattle.cert_value.specs.declared.types.Grounds.TheVariants.{Forward, Backward, Delayed}
+use Rattle.cert_value.specs.declared.types.RelBlock.{RelBlock}
 use Rattle.log_check.specs.declared.faults.Refusal.{Refusal}
 use Rattle.log_check.specs.Checks.{RuleCheck, rule_at}
 use Rattle.log_check.specs.Blocks.{pairs_of, IsBlockBelow, ranked_pairs_of, IsRankBlockBelow}

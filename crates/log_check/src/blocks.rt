@@ -6,7 +6,7 @@ ghost use Rattle.log_check.specs.Blocks.{pairs_of_row, IsRowBelow, IsBlockBelow,
 
 use auto_core::Memory;
 use bit_rel::Rel;
-use cert_text::{RelBlock, Row};
+use cert_value::{RelBlock, Row};
 use std::alloc::Global;
 
 fn is_row_below(states: u32, row: &Row) -> bool

@@ -3,7 +3,7 @@
 ghost use Rattle.std.specs.Prelude.{◌≡◌, ◌<◌, ◌≤◌, ◌↔◌, [], length, All, IfOk, IsTrue, MatchOption};
 ghost use Rattle.auto_core.specs.Game.{Holds, Stable};
 ghost use Rattle.auto_core.specs.Pruning.{IsStableBack, IsStableAhead};
-ghost use Rattle.cert_text.specs.WellFormed.{blocks_due};
+ghost use Rattle.cert_value.specs.WellFormed.{blocks_due};
 ghost use Rattle.log_check.specs.Blocks.{pairs_of, IsBlockBelow};
 ghost use Rattle.log_check.specs.Closures.{IsClosureOf, IsRowJoined, JoinsMembers};
 ghost use Rattle.log_check.specs.FirstLog.{back_of, ahead_of};
@@ -12,7 +12,7 @@ use crate::blocks::relation_of;
 use crate::stability::is_stable;
 use auto_core::{Auto, Memory};
 use bit_rel::Rel;
-use cert_text::RelBlock;
+use cert_value::RelBlock;
 use look_round::{Backward, Forward, Side};
 use quotient::Classes;
 use std::alloc::Global;

@@ -3,7 +3,7 @@
 ghost use Rattle.std.specs.Prelude.{◌≡◌, ◌<◌, ◌↔◌, All, IfOk, IsTrue, true};
 ghost use Rattle.auto_core.specs.Automaton.{IsAutomaton};
 ghost use Rattle.auto_core.specs.Pruning.{IsCut};
-ghost use Rattle.cert_text.specs.WellFormed.{ascend, blocks_due, gone_of};
+ghost use Rattle.cert_value.specs.WellFormed.{ascend, blocks_due, gone_of};
 ghost use Rattle.log_check.specs.Blocks.{IsBlockBelow};
 ghost use Rattle.log_check.specs.Closures.{IsAsGoodBy, IsBetterBy};
 ghost use Rattle.log_check.specs.FirstLog.{IsCutIn, IsGoneIn};
@@ -12,7 +12,7 @@ use crate::blocks::is_block_below;
 use crate::shapes::is_look;
 use auto_core::{Auto, Memory};
 use bit_rel::Rel;
-use cert_text::{GoneBy, RelBlock};
+use cert_value::{GoneBy, RelBlock};
 use std::alloc::Global;
 
 fn is_gone_in(automaton: &Auto, gone: GoneBy) -> bool

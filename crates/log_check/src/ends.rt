@@ -3,9 +3,9 @@
 ghost use Rattle.std.specs.Prelude.{◌≡◌, ◌^◌, ◌<◌, ◌≤◌, length, true, IfOk};
 ghost use Rattle.std.specs.List.{list_all};
 ghost use Rattle.auto_core.specs.declared.parts.Mode.{Mode};
-ghost use Rattle.cert_text.specs.declared.types.FirstStep.{FirstStep};
-ghost use Rattle.cert_text.specs.declared.types.SecondStep.{SecondStep};
-ghost use Rattle.cert_text.specs.WellFormed.{is_first_step, is_second_step};
+ghost use Rattle.cert_value.specs.declared.types.FirstStep.{FirstStep};
+ghost use Rattle.cert_value.specs.declared.types.SecondStep.{SecondStep};
+ghost use Rattle.cert_value.specs.WellFormed.{is_first_step, is_second_step};
 ghost use Rattle.log_check.specs.Ends.{TellsBothLogs};
 ghost use Rattle.log_check.specs.FirstLog.{first_rules};
 ghost use Rattle.log_check.specs.Follows.{TellsLog};
@@ -15,7 +15,7 @@ use crate::faults::CheckFault;
 use crate::first::first_step;
 use crate::second::second_step;
 use auto_core::{Auto, Memory, Mode};
-use cert_text::{FirstStep, SecondStep};
+use cert_value::{FirstStep, SecondStep};
 use prune_pairs::cut;
 use std::alloc::Global;
 

@@ -2,8 +2,8 @@
 
 ghost use Rattle.std.specs.Prelude.{◌≡◌, true};
 ghost use Rattle.auto_core.specs.declared.parts.Mode.{Mode};
-ghost use Rattle.cert_text.specs.declared.types.FirstStep.{FirstStep};
-ghost use Rattle.cert_text.specs.WellFormed.{is_cut, is_first_step};
+ghost use Rattle.cert_value.specs.declared.types.FirstStep.{FirstStep};
+ghost use Rattle.cert_value.specs.WellFormed.{is_cut, is_first_step};
 ghost use Rattle.log_check.specs.FirstLog.{first_rules};
 ghost use Rattle.log_check.specs.Follows.{TellsStep};
 
@@ -13,7 +13,7 @@ use crate::faults::{CheckFault, Refusal};
 use crate::keeping::{keep_listed, lists_useful};
 use crate::shapes::{are_states, classes_for};
 use auto_core::{Auto, Mode};
-use cert_text::{FirstStep, GoneBy, RelBlock};
+use cert_value::{FirstStep, GoneBy, RelBlock};
 use quotient::merge;
 use std::alloc::Global;
 

@@ -1,12 +1,12 @@
 //! The relations with ranks that certificates list.
 
 ghost use Rattle.std.specs.Prelude.{◌≡◌, ◌<◌, ◌↔◌, ◌++◌, true, IfOk, IsTrue};
-ghost use Rattle.cert_text.specs.WellFormed.{is_rank_block};
+ghost use Rattle.cert_value.specs.WellFormed.{is_rank_block};
 ghost use Rattle.log_check.specs.Blocks.{rank_of, IsRankRowBelow, IsRankBlockBelow, IsRankingOf};
 ghost use Rattle.log_check.specs.RankedLists.{row_list, block_list};
 
 use auto_core::Memory;
-use cert_text::{RankBlock, RankRow};
+use cert_value::{RankBlock, RankRow};
 use delayed_sim::{Delayed, RankedPair};
 use std::alloc::Global;
 

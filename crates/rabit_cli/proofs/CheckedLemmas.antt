@@ -9,10 +9,10 @@ use Rattle.ba_format.specs.Reading.{Reads}
 use Rattle.ba_format.specs.Writing.{written}
 use Rattle.ba_format.proofs.FaultlessLemmas.{read_is_within}
 use Rattle.ba_format.proofs.LabelLemmas.{labels_fit}
-use Rattle.cert_text.specs.declared.types.Cert.{Cert}
-use Rattle.cert_text.specs.declared.types.Body.{Body}
-use Rattle.cert_text.specs.declared.types.Body.TheVariants.{Yes, NoLasso, NoWord, Listing}
-use Rattle.cert_text.specs.Text.{text}
+use Rattle.cert_value.specs.declared.types.Cert.{Cert}
+use Rattle.cert_value.specs.declared.types.Body.{Body}
+use Rattle.cert_value.specs.declared.types.Body.TheVariants.{Yes, NoLasso, NoWord, Listing}
+use Rattle.cert_value.specs.Text.{text}
 use Rattle.cert_check.specs.Laws.{IsValid}
 use Rattle.rabit_frame.specs.declared.parts.Value.TheVariants as value
 use Rattle.rabit_frame.specs.declared.parts.Status.TheVariants as status

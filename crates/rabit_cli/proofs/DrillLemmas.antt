@@ -5,8 +5,8 @@ use Rattle.std.specs.Io.KnownBytes.{append_known}
 use Rattle.auto_core.specs.Outcome.{Entry, Outcome}
 use Rattle.auto_core.specs.Outcome as end
 use Rattle.ba_format.specs.declared.parts.Joined.{Joined}
-use Rattle.cert_text.specs.declared.types.Cert.{Cert}
-use Rattle.cert_text.specs.declared.types.Body.TheVariants.{NoWord}
+use Rattle.cert_value.specs.declared.types.Cert.{Cert}
+use Rattle.cert_value.specs.declared.types.Body.TheVariants.{NoWord}
 use Rattle.decide.specs.Answer.{Reductions, IsAnswer, IsBodyOf}
 use Rattle.decide.specs.Terms.{AreBounded}
 use Rattle.decide.specs.Laws.{CanDecide}

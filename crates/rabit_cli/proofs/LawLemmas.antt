@@ -13,10 +13,10 @@ use Rattle.ba_format.specs.declared.parts.Named.{Named}
 use Rattle.ba_format.specs.declared.parts.Joined.{Joined}
 use Rattle.ba_format.specs.Joining.{IsJoined}
 use Rattle.ba_format.proofs.LawLemmas.{joins_as_one}
-use Rattle.cert_text.specs.declared.types.Cert.{Cert}
-use Rattle.cert_text.specs.declared.types.Body.{Body}
-use Rattle.cert_text.specs.declared.types.Body.TheVariants.{Yes, NoLasso, NoWord, Listing}
-use Rattle.cert_text.specs.Text.{text}
+use Rattle.cert_value.specs.declared.types.Cert.{Cert}
+use Rattle.cert_value.specs.declared.types.Body.{Body}
+use Rattle.cert_value.specs.declared.types.Body.TheVariants.{Yes, NoLasso, NoWord, Listing}
+use Rattle.cert_value.specs.Text.{text}
 use Rattle.auto_core.specs.declared.parts.Mode.{Mode}
 use Rattle.decide.specs.declared.terms.Terms.{Terms}
 use Rattle.decide.specs.Answer.{IsAnswer}

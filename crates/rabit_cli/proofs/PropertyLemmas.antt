@@ -11,9 +11,9 @@ use Rattle.ba_format.specs.declared.parts.Joined.{Joined}
 use Rattle.ba_format.specs.Reading.{Reads, IsWithinLimits}
 use Rattle.ba_format.proofs.FaultlessLemmas.{read_is_within}
 use Rattle.ba_format.proofs.LawLemmas.{reads_as_one}
-use Rattle.cert_text.specs.declared.types.Cert.{Cert}
-use Rattle.cert_text.specs.declared.types.Body.{Body}
-use Rattle.cert_text.specs.declared.types.Body.TheVariants.{Yes, NoLasso, NoWord, Listing}
+use Rattle.cert_value.specs.declared.types.Cert.{Cert}
+use Rattle.cert_value.specs.declared.types.Body.{Body}
+use Rattle.cert_value.specs.declared.types.Body.TheVariants.{Yes, NoLasso, NoWord, Listing}
 use Rattle.decide.specs.Answer.{IsAnswer}
 use Rattle.decide.specs.Laws.{CanDecide, SaysTruth}
 use Rattle.decide.specs.Terms.{AreBounded}

@@ -14,10 +14,10 @@ use Rattle.ba_format.specs.declared.parts.Named.{Named}
 use Rattle.ba_format.specs.declared.parts.Joined.{Joined}
 use Rattle.ba_format.specs.Joining.{IsJoined}
 use Rattle.ba_format.proofs.LawLemmas.{joins_as_one}
-use Rattle.cert_text.specs.declared.types.Cert.{Cert}
-use Rattle.cert_text.specs.declared.types.Body.{Body}
-use Rattle.cert_text.specs.declared.types.Body.TheVariants.{Yes, NoLasso, NoWord, Listing}
-use Rattle.cert_text.specs.WellFormed.{WellFormed, is_short, are_short, has_some, is_body}
+use Rattle.cert_value.specs.declared.types.Cert.{Cert}
+use Rattle.cert_value.specs.declared.types.Body.{Body}
+use Rattle.cert_value.specs.declared.types.Body.TheVariants.{Yes, NoLasso, NoWord, Listing}
+use Rattle.cert_value.specs.WellFormed.{WellFormed, is_short, are_short, has_some, is_body}
 use Rattle.cert_check.specs.Rules.{KeepsRules, BodyHolds}
 use Rattle.cert_check.specs.Laws.{IsValid}
 use Rattle.cert_check.proofs.RuleLemmas.{one_rule, none_kept}

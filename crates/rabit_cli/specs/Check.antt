@@ -6,10 +6,10 @@ use Rattle.auto_core.specs.Accept.{Includes}
 use Rattle.ba_format.specs.declared.parts.Named.{Named}
 use Rattle.ba_format.specs.declared.parts.Joined.{Joined}
 use Rattle.ba_format.specs.Joining.{IsJoined}
-use Rattle.cert_text.specs.declared.types.Cert.{Cert}
-use Rattle.cert_text.specs.declared.types.YesBody.{YesBody}
-use Rattle.cert_text.specs.declared.types.ListBody.{ListBody}
-use Rattle.cert_text.specs.declared.types.Body.TheVariants.{Yes, Listing}
+use Rattle.cert_value.specs.declared.types.Cert.{Cert}
+use Rattle.cert_value.specs.declared.types.YesBody.{YesBody}
+use Rattle.cert_value.specs.declared.types.ListBody.{ListBody}
+use Rattle.cert_value.specs.declared.types.Body.TheVariants.{Yes, Listing}
 use Rattle.cert_check.specs.Rules.{KeepsRules, ListsRuns}
 use Rattle.cert_check.specs.Laws.{IsValid}
 use Rattle.rabit_frame.specs.declared.parts.Value.{Value}

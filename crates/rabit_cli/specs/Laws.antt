@@ -3,8 +3,8 @@ use Rattle.std.specs.Prelude.{◌≡◌, ◌≢◌, ◌≤◌, ◌^◌, ℕ, Lis
 use Rattle.std.specs.FinMap as map
 use Rattle.shelf_io.specs.Shelf.{FileMap}
 use Rattle.ba_format.specs.declared.parts.Joined.{Joined}
-use Rattle.cert_text.specs.declared.types.Cert.{Cert}
-use Rattle.cert_text.specs.Text.{text}
+use Rattle.cert_value.specs.declared.types.Cert.{Cert}
+use Rattle.cert_value.specs.Text.{text}
 use Rattle.decide.specs.Answer.{IsAnswer}
 use Rattle.decide.specs.Terms.{AreBounded}
 use Rattle.decide.specs.declared.terms.Terms.{Terms}

@@ -4,7 +4,7 @@ ghost use Rattle.std.specs.Prelude.{◌≡◌, ℕ, List as Items, IfOk};
 ghost use Rattle.ba_format.specs.declared.parts.Joined.{Joined as AJoined};
 ghost use Rattle.ba_format.specs.Reading.{IsWithinLimits};
 ghost use Rattle.ba_format.specs.Joining.{IsJoined};
-ghost use Rattle.cert_text.specs.WellFormed.{WellFormed};
+ghost use Rattle.cert_value.specs.WellFormed.{WellFormed};
 ghost use Rattle.rabit_frame.specs.Reading.{AreOfKinds};
 ghost use Rattle.rabit_cli.specs.Files.{check_limits, HasLabelTexts};
 ghost use Rattle.rabit_cli.specs.Check.{check_inputs, Concludes, MeansCheck};

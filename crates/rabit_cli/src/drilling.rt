@@ -1,8 +1,8 @@
 //! `drill SEED STATES LABELS`
 
 ghost use Rattle.std.specs.Prelude.{◌≡◌, ◌++◌, ℕ, List as Items, IfOk, OnOk, codes};
-ghost use Rattle.cert_text.specs.declared.types.Cert.{Cert as ACert};
-ghost use Rattle.cert_text.specs.declared.types.Body.TheVariants as form;
+ghost use Rattle.cert_value.specs.declared.types.Cert.{Cert as ACert};
+ghost use Rattle.cert_value.specs.declared.types.Body.TheVariants as form;
 ghost use Rattle.decide.specs.Answer.{IsAnswer};
 ghost use Rattle.decide.specs.Laws.{CanDecide};
 ghost use Rattle.drawing.specs.Drawn.{IsInBounds};

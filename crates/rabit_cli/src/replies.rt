@@ -3,7 +3,7 @@
 ghost use Rattle.std.specs.Prelude.{◌≡◌, ◌<◌, IfOk, All, List as Items, ℕ, length};
 ghost use Rattle.auto_core.specs.declared.parts.Lasso.{Lasso as ALasso};
 ghost use Rattle.ba_format.specs.declared.parts.Joined.{Joined};
-ghost use Rattle.cert_text.specs.declared.types.Body.TheVariants as form;
+ghost use Rattle.cert_value.specs.declared.types.Body.TheVariants as form;
 ghost use Rattle.rabit_frame.specs.Reading.{only_said, reply_with};
 ghost use Rattle.rabit_cli.specs.Printed.{refused_text, included_text, not_included_text, word_not_included_text, limit_text};
 ghost use Rattle.rabit_cli.specs.Replies.{usage_reply, IsVerdictReply};

@@ -11,8 +11,8 @@ use Rattle.ba_format.specs.Sight.{AreDifferent}
 use Rattle.ba_format.specs.Reading.{Reads, IsWithinLimits}
 use Rattle.cert_text.specs.declared.faults.TextFault.{TextFault}
 use Rattle.cert_text.specs.Law.{FirstFault}
-use Rattle.cert_text.specs.Text.{text}
-use Rattle.cert_text.specs.WellFormed.{WellFormed}
+use Rattle.cert_value.specs.Text.{text}
+use Rattle.cert_value.specs.WellFormed.{WellFormed}
 use Rattle.rabit_frame.specs.declared.parts.FileKind.{FileKind}
 use Rattle.rabit_frame.specs.declared.parts.FileKind.TheVariants as kind
 use Rattle.rabit_frame.specs.declared.parts.Value.{Value}

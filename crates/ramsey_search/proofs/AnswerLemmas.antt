@@ -7,7 +7,7 @@ use Rattle.auto_core.specs.Game.{Holds, IsGreatestForward}
 use Rattle.auto_core.specs.Graph.{Subsumes, super_of, arc_at, arcs_of}
 use Rattle.auto_core.specs.Closed.{ClosedSet}
 use Rattle.auto_core.specs.Outcome.{At, Entry, Closed, TellsLive, SearchEnds, AreListed, NoneSubsumedBefore, super_at, supergraph_rules, arcs_in}
-use Rattle.cert_text.specs.declared.types.Element.{Element}
+use Rattle.cert_value.specs.declared.types.Element.{Element}
 use Rattle.search_laws.specs.Outcomes.{HaveOrigins}
 use Rattle.search_laws.proofs.PlaceLemmas.{at_some, at_within}
 use Rattle.search_laws.proofs.EntryLemmas.{arc_here}

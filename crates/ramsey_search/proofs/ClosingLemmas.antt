@@ -6,10 +6,10 @@ use Rattle.auto_core.specs.Automaton.{Automaton, IsAutomaton}
 use Rattle.auto_core.specs.Game.{IsGreatestForward}
 use Rattle.std.proofs.lemmas.List.FromFn.{length-range_with_len}
 use Rattle.auto_core.specs.Outcome.{At, Closed, IsLeastSubsumer, SearchEnds, base_entry, all_steps, supergraph_rules}
-use Rattle.cert_text.specs.declared.types.Element.{Element}
-use Rattle.cert_text.specs.declared.types.Mark.{Mark}
-use Rattle.cert_text.specs.declared.types.Mark.TheVariants.{Live, Under}
-use Rattle.cert_text.specs.declared.types.StepLine.{StepLine}
+use Rattle.cert_value.specs.declared.types.Element.{Element}
+use Rattle.cert_value.specs.declared.types.Mark.{Mark}
+use Rattle.cert_value.specs.declared.types.Mark.TheVariants.{Live, Under}
+use Rattle.cert_value.specs.declared.types.StepLine.{StepLine}
 use Rattle.search_laws.proofs.PlaceLemmas.{at_some, same_maps}
 use Rattle.search_laws.proofs.ListLemmas.{read_map}
 use Rattle.ramsey_search.specs.Views.{Seen}
@@ -18,7 +18,7 @@ use Rattle.ramsey_search.specs.Views.{View}
 use Rattle.ramsey_search.specs.Kept.{IsWhole, entries_held}
 use Rattle.ramsey_search.specs.Marks.{IsHeldMark, AreMarked}
 use Rattle.evidence.specs.Evidence.{marked_live, IsEvidenceOf, IsStepOf}
-use Rattle.cert_text.specs.WellFormed.{is_live}
+use Rattle.cert_value.specs.WellFormed.{is_live}
 use Rattle.evidence.proofs.StepLemmas.{subsumers_of_map}
 use Rattle.evidence.proofs.RangeLemmas.{at_range, filters_alike}
 use Rattle.ramsey_search.proofs.ClosureLemmas.{marks_are}

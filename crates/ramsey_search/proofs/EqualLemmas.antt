@@ -4,9 +4,9 @@ use Rattle.auto_core.specs.Automaton.{Automaton}
 use Rattle.auto_core.specs.Game.{Holds, IsGreatestForward}
 use Rattle.auto_core.specs.Graph.{Subsumes}
 use Rattle.auto_core.specs.Outcome.{At, Entry, HasSubsumer, supergraph_rules}
-use Rattle.cert_text.specs.declared.types.Element.{Element}
-use Rattle.cert_text.specs.declared.types.Mark.{Mark}
-use Rattle.cert_text.specs.declared.types.Mark.TheVariants.{Live, Under}
+use Rattle.cert_value.specs.declared.types.Element.{Element}
+use Rattle.cert_value.specs.declared.types.Mark.{Mark}
+use Rattle.cert_value.specs.declared.types.Mark.TheVariants.{Live, Under}
 use Rattle.evidence.specs.Tables.{numbers_at}
 use Rattle.graph_rows.specs.Block.{block_graph}
 use Rattle.search_laws.proofs.ListLemmas.{at_map}

@@ -6,7 +6,7 @@ use Rattle.auto_core.specs.Graph.{arcs_of}
 use Rattle.auto_core.specs.Closed.{ClosedSet}
 use Rattle.auto_core.specs.declared.parts.Mode.TheVariants.{Buchi}
 use Rattle.auto_core.specs.Outcome.{AreListed, NoneSubsumedBefore, Entry, Closed, Apart, Limit, SearchEnds, supergraph_rules, origins_in}
-use Rattle.cert_text.specs.declared.types.Element.{Element}
+use Rattle.cert_value.specs.declared.types.Element.{Element}
 use Rattle.evidence.specs.declared.parts.Closure.{Closure}
 use Rattle.evidence.specs.Evidence.{IsEvidenceOf, LiveStandApart, marked_live}
 use Rattle.ramsey_search.specs.declared.parts.Outcome.{Outcome}

@@ -3,7 +3,7 @@ use Rattle.std.specs.Prelude.{filter}
 use Rattle.std.specs.List.{range_with_len}
 use Rattle.auto_core.specs.Outcome.{At}
 use Rattle.auto_core.specs.PairOutcome.{pair_rules}
-use Rattle.cert_text.specs.declared.types.StepLine.{StepLine}
+use Rattle.cert_value.specs.declared.types.StepLine.{StepLine}
 use Rattle.antichain.specs.Kept.{entries_held}
 use Rattle.antichain.specs.Made.{AreMade}
 use Rattle.evidence.specs.Evidence.{IsStepOf}

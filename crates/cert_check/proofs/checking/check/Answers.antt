@@ -1,5 +1,5 @@
 use Rattle.std.proofs.Common.{sym, subst, rules}
-use Rattle.cert_text.specs.declared.types.Body.{Body}
+use Rattle.cert_value.specs.declared.types.Body.{Body}
 use Rattle.cert_check.specs.Rules.{HasSizes, BodyHolds}
 use Rattle.cert_check.proofs.ClosedLemmas.{valid_yes_includes}
 use Rattle.cert_check.proofs.ListingLemmas.{kept_list_shows}

@@ -1,8 +1,8 @@
 use Rattle.std.proofs.Common.{◌≡◌, ◌^◌, ◌<◌, true, List, length, sym, subst}
 use Rattle.std.specs.List.{list_all}
-use Rattle.cert_text.specs.declared.types.FirstStep.{FirstStep}
-use Rattle.cert_text.specs.declared.types.SecondStep.{SecondStep}
-use Rattle.cert_text.specs.WellFormed.{is_first_step, is_second_step}
+use Rattle.cert_value.specs.declared.types.FirstStep.{FirstStep}
+use Rattle.cert_value.specs.declared.types.SecondStep.{SecondStep}
+use Rattle.cert_value.specs.WellFormed.{is_first_step, is_second_step}
 use Rattle.log_check.specs.Ends.{TellsBothLogs}
 use Rattle.cert_check.proofs.ClosedLemmas.{log_parts}
 use Rattle.cert_check.proofs.checking.ends_of.Goals as goal

@@ -4,7 +4,7 @@ use Rattle.auto_core.specs.Automaton.{trans_at}
 use Rattle.auto_core.specs.Graph.{base_arc, start_arc}
 use Rattle.auto_core.specs.declared.parts.Mode.TheVariants.{Buchi}
 use Rattle.auto_core.specs.declared.parts.Trans.{Trans}
-use Rattle.cert_text.specs.declared.types.YesBody.{YesBody}
+use Rattle.cert_value.specs.declared.types.YesBody.{YesBody}
 use Rattle.cert_check.specs.Inclusion.{IsOver, starts_of}
 use Rattle.log_check.proofs.BlockLemmas.{below_more}
 use Rattle.cert_check.proofs.SuperLemmas.{start_at, starts_count}
@@ -41,4 +41,5 @@ loop-t-preserved c =
       below_more (λ i. IsOver Buchi A B E (slice_index E.cover i) (slice_index_or (starts_of A) i (start_arc A))) t c.loop-t.invariant.0
           (subst (IsOver Buchi A B E (slice_index E.cover t)) (sym (start_at A t lt)) here),
       c.in_ok-is_over_letter.ensures.supers,
+      c.in_ok-is_over_letter.ensures.order,
     )

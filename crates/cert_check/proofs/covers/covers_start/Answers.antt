@@ -1,9 +1,9 @@
 use Rattle.std.proofs.Common.{ℕ, ◌≡◌, ◌↔◌, IsTrue, List, [], ◌∷◌, length, slice_index, slice_index_or, refl, sym, ap, ◌∙◌, subst, arith}
 use Rattle.auto_core.specs.Graph.{start_arc}
 use Rattle.auto_core.specs.declared.parts.Mode.TheVariants.{Finite}
-use Rattle.cert_text.specs.declared.types.YesBody.{YesBody}
+use Rattle.cert_value.specs.declared.types.YesBody.{YesBody}
 use Rattle.cert_check.specs.Inclusion.{IsOver}
-use Rattle.cert_check.proofs.SuperLemmas.{supers_grown}
+use Rattle.cert_check.proofs.SuperLemmas.{supers_grown, order_grown}
 use Rattle.cert_check.proofs.covers.covers_start.Goals as goal
 
 pub is_over-requires-clause-supers : goal.is_over-requires-clause-supers
@@ -24,7 +24,7 @@ returns-clause-told c =
     let count : length E.cover ≡ 1 = sym (ap length c.as_slice-cover.ensures) ∙ c.if-cover-ne1.false in
     let told : IsTrue c.is_over.result ↔ IsOver Finite A B E (slice_index E.cover 0) (start_arc A) =
     subst (λ (l : List ℕ). IsTrue c.is_over.result ↔ IsOver Finite A B E (slice_index l 0) (start_arc A)) c.as_slice-cover.ensures
-    (c.is_over.ensures (start_arc A) c.in_ok-start.ensures.stands) in (
+    (c.is_over.ensures.told (start_arc A) c.in_ok-start.ensures.stands) in (
       λ is. record {
         count = count;
         each = λ i lt.
@@ -33,3 +33,7 @@ returns-clause-told c =
       },
       λ all. told.1 (all.each 0 (omega arith)),
     )
+
+pub is_over-requires-clause-order : goal.is_over-requires-clause-order
+is_over-requires-clause-order c =
+    order_grown c.args.second.now c.args.evidence.now c.args.supers.now.graphs.graphs.items c.start.new.graphs.graphs.items c.args.order.now c.in_ok-start.ensures.grown c.requires.order

@@ -4,7 +4,7 @@ use Rattle.auto_core.specs.Graph.{WordArc, arc_at, arc_of}
 use Rattle.auto_core.specs.declared.parts.Mode.{Mode}
 use Rattle.auto_core.specs.declared.parts.Origin.{Origin}
 use Rattle.auto_core.specs.declared.parts.Origin.TheVariants.{Start}
-use Rattle.cert_text.specs.declared.types.Element.{Element}
+use Rattle.cert_value.specs.declared.types.Element.{Element}
 use Rattle.cert_check.specs.Inclusion.{element_arcs, no_element}
 use Rattle.supergraph.specs.declared.arcs.Arc.{Arc}
 use Rattle.shared_graphs.specs.declared.graphs.Graphs.{Graphs}

@@ -7,7 +7,7 @@ use Rattle.auto_core.specs.declared.parts.Origin.{Origin}
 use Rattle.shared_graphs.specs.declared.graphs.Graph.{Graph}
 use Rattle.shared_graphs.specs.declared.graphs.Graphs.{Graphs}
 use Rattle.shared_graphs.specs.Graphs.{block_at}
-use Rattle.cert_text.specs.WellFormed.{is_origin}
+use Rattle.cert_value.specs.WellFormed.{is_origin}
 use Rattle.cert_check.specs.Inclusion.{element_arcs, HasEarlierParent, GoesOn}
 use Rattle.cert_check.specs.Supers.{StandFor, IsNumbered}
 use Rattle.cert_check.specs.declared.blocks.Numbered.{Numbered}

@@ -1,11 +1,13 @@
 use Rattle.std.proofs.Common.{◌≡◌, ◌+◌, ℕ, ◌<◌, true, false, inl, inr, refl, sym, ap, ◌∙◌, subst, arith, rules, List, length}
 use Rattle.std.proofs.lemmas.Bool.{cases_lt, false≢true}
 use Rattle.auto_core.specs.declared.parts.Mode.{Mode}
-use Rattle.cert_text.specs.declared.types.Element.{Element}
+use Rattle.cert_value.specs.declared.types.Element.{Element}
 use Rattle.cert_check.specs.Inclusion.{no_element}
 use Rattle.cert_check.specs.Listing.{difference_checks}
 use Rattle.cert_check.specs.declared.elements.Supers.{Supers}
-use Rattle.cert_check.specs.Supers.{held_arc, held_block, key_of, Fit, has_key}
+use Rattle.cert_check.specs.Supers.{held_block, key_at, Fit, has_key}
+use Rattle.cert_check.specs.Firsts.{AreFirsts}
+use Rattle.shared_graphs.specs.declared.graphs.Graph.{Graph}
 use Rattle.log_check.proofs.CheckLemmas.{more_of, broken_of}
 use Rattle.cert_check.proofs.KeyLemmas.{differs_by_keys, same_by_keys}
 use Rattle.cert_check.proofs.keys.check_differences.Goals as goal
@@ -20,17 +22,19 @@ loop-e-preserved c =
     let e : ℕ = c.loop-e.e in
     let inv = c.loop-e.invariant in
     let lt : e < length es = omega (arith, c.loop-e-test.true, ap length c.as_slice-items.ensures) in
-    let K : ℕ → List ℕ = λ d. key_of m (held_arc S d) (held_block S d) in
-    let key_is : c.in_ok-key.key.items ≡ K e = c.in_ok-key.ensures.key in
-    let fit : Fit (K e) = subst Fit key_is c.in_ok-key.ensures.fits in
+    let F : List ℕ = c.in_ok-firsts.firsts.items in
+    let apart : AreFirsts S.graphs.graphs.items F = subst (λ (l : List Graph). AreFirsts l F) c.deref.ensures.value c.in_ok-firsts.ensures.firsts in
+    let K : ℕ → List ℕ = key_at m S F in
+    let key_is : c.in_ok-key.key.items ≡ K e = c.in_ok-key.ensures.key ∙ ap (λ (l : List ℕ). key_at m S l e) c.deref-in-loop-e.ensures.value in
+    let fit : Fit (held_block S e) = c.in_ok-key.ensures.fits in
     let missing : has_key c.loop-e.seen c.in_ok-key.key ≡ false = search rules in
-    let new = differs_by_keys m A B es S c.requires.supers e lt inv.fits fit
+    let new = differs_by_keys m A B es S c.requires.supers F apart e lt inv.fits fit
     (λ d before same. false≢true (sym missing ∙ (inv.seen c.in_ok-key.key).1 (d, before, key_is ∙ sym same))) in
     record {
       told = more_of (difference_checks m A B es c.args.item) e es c.as_slice-items.result.now no_element c.as_slice-items.ensures c.loop-e-test.true inv.told (new, tt);
       fits = λ d below. elim (cases_lt d e) [
         | inl before ↦ inv.fits d before
-        | inr last ↦ let is : d ≡ e = omega arith in subst (λ k. Fit (K k)) (sym is) fit
+        | inr last ↦ let is : d ≡ e = omega arith in subst (λ k. Fit (held_block S k)) (sym is) fit
       ];
       seen = λ v. (
         λ has. elim ((c.in_ok-is_new.ensures.added v).0 has) [
@@ -54,9 +58,11 @@ returns-then-not-branch c =
     let e : ℕ = c.loop-e.e in
     let inv = c.loop-e.invariant in
     let lt : e < length es = omega (arith, c.loop-e-test.true, ap length c.as_slice-items.ensures) in
-    let K : ℕ → List ℕ = λ d. key_of m (held_arc S d) (held_block S d) in
-    let key_is : c.in_ok-key.key.items ≡ K e = c.in_ok-key.ensures.key in
+    let F : List ℕ = c.in_ok-firsts.firsts.items in
+    let apart : AreFirsts S.graphs.graphs.items F = subst (λ (l : List Graph). AreFirsts l F) c.deref.ensures.value c.in_ok-firsts.ensures.firsts in
+    let K : ℕ → List ℕ = key_at m S F in
+    let key_is : c.in_ok-key.key.items ≡ K e = c.in_ok-key.ensures.key ∙ ap (λ (l : List ℕ). key_at m S l e) c.deref-in-loop-e.ensures.value in
     let there : has_key c.loop-e.seen c.in_ok-key.key ≡ true = search rules in
     let (d, before, is) = (inv.seen c.in_ok-key.key).0 there in
     broken_of (difference_checks m A B es c.args.item) e es c.as_slice-items.result.now no_element (record { rule = 18; item = c.args.item + e }) c.as_slice-items.ensures c.loop-e-test.true inv.told
-    (inl (same_by_keys m A B es S c.requires.supers d e before lt (sym is ∙ key_is), refl))
+    (inl (same_by_keys m A B es S c.requires.supers F apart d e before lt (sym is ∙ key_is), refl))

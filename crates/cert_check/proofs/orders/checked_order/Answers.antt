@@ -5,6 +5,8 @@ use Rattle.auto_core.specs.Game.{Holds, MatchesForward, StableForward}
 use Rattle.log_check.specs.Blocks.{IsBlockBelow, pairs_of}
 use Rattle.log_check.specs.Blocks.{IsBlockRelation}
 use Rattle.log_check.proofs.BlockLemmas.{stable_alike}
+use Rattle.shared_graphs.specs.GraphPairs.{FitsCovering}
+use Rattle.shared_graphs.proofs.GraphsLemmas.{told_none}
 use Rattle.cert_check.proofs.orders.checked_order.Goals as goal
 
 pub returns-then-not-branch-clause-tells : goal.returns-then-not-branch-clause-tells
@@ -34,3 +36,9 @@ returns-clause-tells c =
       below,
       (stable_alike (Moves B) (MatchesForward B B) 1 (Holds c.in_ok-rel.rel.pairs) (Holds pairs) same.pairs (told.0 is), tt),
     )
+
+pub returns-clause-order : goal.returns-clause-order
+returns-clause-order c = λ graphs.
+    let B = c.args.second.now in
+    let same : IsBlockRelation B.states c.args.evidence.now.order c.in_ok-rel.rel = search rules in
+    record { relation = same; covers = told_none (FitsCovering B.states c.in_ok-rel.rel.pairs graphs) c.in_ok-covers.covers.told.items c.in_ok-covers.ensures }

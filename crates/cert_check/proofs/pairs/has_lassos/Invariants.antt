@@ -1,11 +1,11 @@
-use Rattle.std.proofs.Common.{◌≡◌, ℕ, Contains, take}
-use Rattle.auto_core.specs.Graph.{LassoIn}
-use Rattle.graph_rows.specs.Block.{block_graph}
-use Rattle.cert_check.specs.Supers.{held_block}
+use Rattle.std.proofs.Common.{◌≡◌, length, take}
+use Rattle.cert_check.specs.Turns.{HasLassos, AreLoops}
 use Rattle.cert_check.proofs.pairs.has_lassos.Given as goal
 
-abbrev pub invariant-loop-f : goal.invariant-loop-f
-invariant-loop-f l =
-    ((f : ℕ) → Contains (take l.f-index l.others) f →
-    LassoIn (block_graph l.second.states (held_block l.supers l.e)) (block_graph l.second.states (held_block l.supers f)) l.second.initial)
-    × (l.scratch ≡ l.fn.scratch)
+abbrev pub invariant-loop-h : goal.invariant-loop-h
+invariant-loop-h l = record {
+  told : HasLassos l.second l.graphs l.g (take l.h-index l.others);
+  loops : AreLoops l.second.states l.graphs l.loops.items;
+  size : length l.loops.items ≡ length l.fn.loops.items;
+  room : l.scratch ≡ l.second.states;
+}

@@ -1,66 +1,143 @@
-use Rattle.std.proofs.Common.{ℕ, ◌≡◌, ◌<◌, [], List, length, map, slice_index_or, Vec, Global, true, sym, ap, ◌∙◌, subst, arith}
-use Rattle.std.proofs.lemmas.List.{get_or-map, get_or_default, length-map}
-use Rattle.std.proofs.lemmas.List.Elements.{Contains-get_or}
+use Rattle.std.proofs.Common.{ℕ, ◌≡◌, ◌<◌, ◌↔◌, ◌∷◌, [], List, length, Contains, IsTrue, true, refl, sym, ap, ◌∙◌, subst, arith, rules}
+use Rattle.auto_core.specs.Automaton.{Automaton}
 use Rattle.auto_core.specs.Graph.{arc_at}
 use Rattle.auto_core.specs.declared.parts.Mode.TheVariants.{Buchi}
-use Rattle.supergraph.specs.declared.arcs.Arc.{Arc}
+use Rattle.graph_rows.specs.Block.{IsFormed}
+use Rattle.shared_graphs.specs.declared.graphs.Graph.{Graph}
+use Rattle.shared_graphs.specs.Graphs.{block_at}
+use Rattle.evidence.specs.Tables.{numbers_at}
+use Rattle.evidence.proofs.TableLemmas.{numbers_is}
+use Rattle.cert_value.specs.declared.types.YesBody.{YesBody}
 use Rattle.cert_check.specs.Inclusion.{element_arcs, live_in}
-use Rattle.cert_check.specs.Supers.{no_arc, held_block, held_arc, IsTurn, ListsJust}
+use Rattle.cert_check.specs.Supers.{held_arc, held_block, held_number, has_key}
+use Rattle.cert_check.specs.Turns.{IsTurnAt, HasLassos, AreLoops}
+use Rattle.cert_check.specs.declared.blocks.Numbered.{Numbered}
+use Rattle.cert_check.specs.declared.elements.Supers.{Supers}
 use Rattle.cert_check.proofs.SuperLemmas.{held_ends}
-use Rattle.cert_check.proofs.PairLemmas.{passes_told}
+use Rattle.cert_check.proofs.PairLemmas.{keys_more, passes_told, turn_formed, turn_within, lassos_named}
 use Rattle.cert_check.proofs.pairs.passes_with_all.Goals as goal
 
-pub bounds-turns-arc : goal.bounds-turns-arc
-bounds-turns-arc c =
-    let A = c.args.first.now in
-    let B = c.args.second.now in
+pub returns-then-not-branch-clause-told : goal.returns-then-not-branch-clause-told
+returns-then-not-branch-clause-told c =
+    let A : Automaton = c.args.first.now in
+    let B : Automaton = c.args.second.now in
+    let ev : YesBody = c.args.evidence.now in
+    let su : Supers = c.args.supers.now in
     let e : ℕ = c.args.e in
-    let items : Vec ℕ Global → List ℕ = λ list. list.items in
-    let is_arc : c.index-arc.result.now ≡ held_arc c.args.supers.now e =
-    c.index-arc.ensures ∙ get_or_default c.args.supers.now.arcs.items e c.index-arc.result.now no_arc (omega (arith, c.requires.supers.count, c.requires.element)) in
-    let ends : (held_arc c.args.supers.now e).to < A.states =
-    held_ends Buchi A B (held_arc c.args.supers.now e) (held_block c.args.supers.now e) (arc_at A (element_arcs A c.args.evidence.now.elements) e) c.initial.ensures.valid (c.requires.supers.each e c.requires.element) in
-    let here : c.index-arc.result.now.to < A.states = subst (λ (a : Arc). a.to < A.states) (sym is_arc) ends in
-    omega (arith, here, c.requires.turns.count, length-map c.args.turns.now items)
+    let to : ℕ = (held_arc su e).to in
+    let live : live_in ev e ≡ true = c.is_live.ensures.0 c.if-not-is_live.false in
+    let starts : (held_arc su e).from ≡ A.initial = ap (λ (m : Numbered). m.arc.from) (sym c.element-it.ensures) ∙ c.if-it-initial.false ∙ c.initial.ensures.state in
+    let key_is : c.in_ok-key.key.items ≡ to ∷ held_number su e ∷ [] = c.in_ok-key.ensures ∙ ap (λ (m : Numbered). m.arc.to ∷ m.number ∷ []) c.element-it.ensures in
+    let there : has_key c.args.tests.now.passed c.in_ok-key.key ≡ true = search rules in
+    let lassos : HasLassos B su.graphs.graphs.items (held_number su e) (numbers_at c.args.turns.now to) = c.requires.tests.passed c.in_ok-key.key to (held_number su e) there key_is in
+    passes_told A B ev su c.requires.supers e (numbers_at c.args.turns.now to) true c.requires.element live starts
+    (λ g. (c.requires.turns.only to g, c.requires.turns.all to g)) (λ _. lassos, λ _. refl)
+
+pub returns-then-not-branch-clause-tests : goal.returns-then-not-branch-clause-tests
+returns-then-not-branch-clause-tests c = λ _.
+    let B : Automaton = c.args.second.now in
+    let su : Supers = c.args.supers.now in
+    let e : ℕ = c.args.e in
+    let to : ℕ = (held_arc su e).to in
+    let key_is : c.in_ok-key.key.items ≡ to ∷ held_number su e ∷ [] = c.in_ok-key.ensures ∙ ap (λ (m : Numbered). m.arc.to ∷ m.number ∷ []) c.element-it.ensures in
+    let there : has_key c.args.tests.now.passed c.in_ok-key.key ≡ true = search rules in
+    record {
+      passed = keys_more (λ p g. HasLassos B su.graphs.graphs.items g (numbers_at c.args.turns.now p)) c.args.tests.now.passed c.is_new.new.seen c.in_ok-key.key to (held_number su e) key_is
+          c.in_ok-is_new.ensures.added (c.requires.tests.passed c.in_ok-key.key to (held_number su e) there key_is) c.requires.tests.passed;
+      loops = c.requires.tests.loops;
+      size = c.requires.tests.size;
+      room = c.requires.tests.room;
+    }
+
+pub bounds-turns-it : goal.bounds-turns-it
+bounds-turns-it c =
+    let A : Automaton = c.args.first.now in
+    let su : Supers = c.args.supers.now in
+    let e : ℕ = c.args.e in
+    let ends : (held_arc su e).to < A.states =
+    held_ends Buchi A c.args.second.now (held_arc su e) (held_block su e) (arc_at A (element_arcs A c.args.evidence.now.elements) e) c.initial.ensures.valid (c.requires.supers.each e c.requires.element) in
+    let to : c.element-it.result.arc.to ≡ (held_arc su e).to = ap (λ (m : Numbered). m.arc.to) c.element-it.ensures in
+    omega (arith, ends, to, c.requires.turns.count)
 
 pub has_lassos-requires-clause-others : goal.has_lassos-requires-clause-others
-has_lassos-requires-clause-others c = λ k d lt.
-    let A = c.args.first.now in
-    let B = c.args.second.now in
+has_lassos-requires-clause-others c = λ h there.
+    let A : Automaton = c.args.first.now in
+    let B : Automaton = c.args.second.now in
+    let su : Supers = c.args.supers.now in
     let e : ℕ = c.args.e in
-    let items : Vec ℕ Global → List ℕ = λ list. list.items in
-    let p : ℕ = c.index-arc.result.now.to in
-    let is_arc : c.index-arc.result.now ≡ held_arc c.args.supers.now e =
-    c.index-arc.ensures ∙ get_or_default c.args.supers.now.arcs.items e c.index-arc.result.now no_arc (omega (arith, c.requires.supers.count, c.requires.element)) in
-    let ends : (held_arc c.args.supers.now e).to < A.states =
-    held_ends Buchi A B (held_arc c.args.supers.now e) (held_block c.args.supers.now e) (arc_at A (element_arcs A c.args.evidence.now.elements) e) c.initial.ensures.valid (c.requires.supers.each e c.requires.element) in
-    let here : p < A.states = subst (λ (a : Arc). a.to < A.states) (sym is_arc) ends in
-    let p_in : p < length c.args.turns.now = omega (arith, here, c.requires.turns.count, length-map c.args.turns.now items) in
-    let list : slice_index_or (map items c.args.turns.now) p [] ≡ c.deref.result.now =
-    get_or-map items c.args.turns.now p c.index-turns-arc.result [] p_in ∙ sym (ap items c.index-turns-arc.is) ∙ sym c.deref.ensures.value in
-    let just : ListsJust c.deref.result.now (λ f. IsTurn c.args.evidence.now c.args.supers.now f × ((held_arc c.args.supers.now f).from ≡ p)) =
-    subst (λ (l : List ℕ). ListsJust l (λ f. IsTurn c.args.evidence.now c.args.supers.now f × ((held_arc c.args.supers.now f).from ≡ p))) list (c.requires.turns.each p here) in
-    ((just (slice_index_or c.deref.result.now k d)).0 (Contains-get_or c.deref.result.now k d lt)).0.is
+    let p : ℕ = c.element-it.result.arc.to in
+    let ends : (held_arc su e).to < A.states =
+    held_ends Buchi A B (held_arc su e) (held_block su e) (arc_at A (element_arcs A c.args.evidence.now.elements) e) c.initial.ensures.valid (c.requires.supers.each e c.requires.element) in
+    let to : p ≡ (held_arc su e).to = ap (λ (m : Numbered). m.arc.to) c.element-it.ensures in
+    let within : p < length c.args.turns.now = omega (arith, ends, to, c.requires.turns.count) in
+    let list : c.deref-2.result.now ≡ numbers_at c.args.turns.now p =
+    c.deref-2.ensures.value ∙ sym (numbers_is c.args.turns.now p c.index-turns-it.result within c.index-turns-it.is) in
+    let turn : IsTurnAt c.args.evidence.now su (length c.args.evidence.now.elements) p h = c.requires.turns.only p h (subst (λ (l : List ℕ). Contains l h) list there) in
+    subst (λ (l : List Graph). IsFormed B.states (block_at l h)) (sym c.deref.ensures.value) (turn_formed A B c.args.evidence.now su c.requires.supers p h turn)
+
+pub has_lassos-requires-clause-there : goal.has_lassos-requires-clause-there
+has_lassos-requires-clause-there c = λ h there.
+    let A : Automaton = c.args.first.now in
+    let B : Automaton = c.args.second.now in
+    let su : Supers = c.args.supers.now in
+    let e : ℕ = c.args.e in
+    let p : ℕ = c.element-it.result.arc.to in
+    let ends : (held_arc su e).to < A.states =
+    held_ends Buchi A B (held_arc su e) (held_block su e) (arc_at A (element_arcs A c.args.evidence.now.elements) e) c.initial.ensures.valid (c.requires.supers.each e c.requires.element) in
+    let to : p ≡ (held_arc su e).to = ap (λ (m : Numbered). m.arc.to) c.element-it.ensures in
+    let within : p < length c.args.turns.now = omega (arith, ends, to, c.requires.turns.count) in
+    let list : c.deref-2.result.now ≡ numbers_at c.args.turns.now p =
+    c.deref-2.ensures.value ∙ sym (numbers_is c.args.turns.now p c.index-turns-it.result within c.index-turns-it.is) in
+    let turn : IsTurnAt c.args.evidence.now su (length c.args.evidence.now.elements) p h = c.requires.turns.only p h (subst (λ (l : List ℕ). Contains l h) list there) in
+    let small : h < length su.graphs.graphs.items = turn_within A B c.args.evidence.now su c.requires.supers p h turn in
+    omega (arith, small, c.requires.tests.size)
 
 pub returns-clause-told : goal.returns-clause-told
 returns-clause-told c =
-    let A = c.args.first.now in
-    let B = c.args.second.now in
+    let A : Automaton = c.args.first.now in
+    let B : Automaton = c.args.second.now in
+    let ev : YesBody = c.args.evidence.now in
+    let su : Supers = c.args.supers.now in
     let e : ℕ = c.args.e in
-    let items : Vec ℕ Global → List ℕ = λ list. list.items in
-    let p : ℕ = c.index-arc.result.now.to in
-    let is_arc : c.index-arc.result.now ≡ held_arc c.args.supers.now e =
-    c.index-arc.ensures ∙ get_or_default c.args.supers.now.arcs.items e c.index-arc.result.now no_arc (omega (arith, c.requires.supers.count, c.requires.element)) in
-    let ends : (held_arc c.args.supers.now e).to < A.states =
-    held_ends Buchi A B (held_arc c.args.supers.now e) (held_block c.args.supers.now e) (arc_at A (element_arcs A c.args.evidence.now.elements) e) c.initial.ensures.valid (c.requires.supers.each e c.requires.element) in
-    let here : p < A.states = subst (λ (a : Arc). a.to < A.states) (sym is_arc) ends in
-    let p_in : p < length c.args.turns.now = omega (arith, here, c.requires.turns.count, length-map c.args.turns.now items) in
-    let list : slice_index_or (map items c.args.turns.now) p [] ≡ c.deref.result.now =
-    get_or-map items c.args.turns.now p c.index-turns-arc.result [] p_in ∙ sym (ap items c.index-turns-arc.is) ∙ sym c.deref.ensures.value in
-    let just : ListsJust c.deref.result.now (λ f. IsTurn c.args.evidence.now c.args.supers.now f × ((held_arc c.args.supers.now f).from ≡ p)) =
-    subst (λ (l : List ℕ). ListsJust l (λ f. IsTurn c.args.evidence.now c.args.supers.now f × ((held_arc c.args.supers.now f).from ≡ p))) list (c.requires.turns.each p here) in
-    let live : live_in c.args.evidence.now e ≡ true = c.is_live.ensures.0 c.if-not-is_live.false in
-    let starts : (held_arc c.args.supers.now e).from ≡ A.initial = ap (λ (a : Arc). a.from) (sym is_arc) ∙ c.if-arc-initial.false ∙ c.initial.ensures.state in
-    let at_end : ListsJust c.deref.result.now (λ f. IsTurn c.args.evidence.now c.args.supers.now f × ((held_arc c.args.supers.now f).from ≡ (held_arc c.args.supers.now e).to)) =
-    subst (λ m. ListsJust c.deref.result.now (λ f. IsTurn c.args.evidence.now c.args.supers.now f × ((held_arc c.args.supers.now f).from ≡ m))) (ap (λ (a : Arc). a.to) is_arc) just in
-    passes_told A B c.args.evidence.now c.args.supers.now c.requires.supers e c.deref.result.now c.has_lassos.result c.requires.element live starts at_end c.has_lassos.ensures.told
+    let to : ℕ = (held_arc su e).to in
+    let p : ℕ = c.element-it.result.arc.to in
+    let ends : to < A.states =
+    held_ends Buchi A B (held_arc su e) (held_block su e) (arc_at A (element_arcs A ev.elements) e) c.initial.ensures.valid (c.requires.supers.each e c.requires.element) in
+    let to_is : p ≡ to = ap (λ (m : Numbered). m.arc.to) c.element-it.ensures in
+    let within : p < length c.args.turns.now = omega (arith, ends, to_is, c.requires.turns.count) in
+    let list : c.deref-2.result.now ≡ numbers_at c.args.turns.now to =
+    c.deref-2.ensures.value ∙ sym (numbers_is c.args.turns.now p c.index-turns-it.result within c.index-turns-it.is) ∙ ap (numbers_at c.args.turns.now) to_is in
+    let live : live_in ev e ≡ true = c.is_live.ensures.0 c.if-not-is_live.false in
+    let starts : (held_arc su e).from ≡ A.initial = ap (λ (m : Numbered). m.arc.from) (sym c.element-it.ensures) ∙ c.if-it-initial.false ∙ c.initial.ensures.state in
+    let asked : IsTrue c.in_ok-holds.holds ↔ HasLassos B su.graphs.graphs.items (held_number su e) (numbers_at c.args.turns.now to) =
+    lassos_named B c.deref.result.now su.graphs.graphs.items c.element-it.result.number (held_number su e) c.deref-2.result.now (numbers_at c.args.turns.now to) c.in_ok-holds.holds
+    c.deref.ensures.value (ap (λ (m : Numbered). m.number) c.element-it.ensures) list c.in_ok-holds.ensures.told in
+    passes_told A B ev su c.requires.supers e (numbers_at c.args.turns.now to) c.in_ok-holds.holds c.requires.element live starts
+    (λ g. (c.requires.turns.only to g, c.requires.turns.all to g)) asked
+
+pub returns-clause-tests : goal.returns-clause-tests
+returns-clause-tests c = λ is.
+    let A : Automaton = c.args.first.now in
+    let B : Automaton = c.args.second.now in
+    let ev : YesBody = c.args.evidence.now in
+    let su : Supers = c.args.supers.now in
+    let e : ℕ = c.args.e in
+    let to : ℕ = (held_arc su e).to in
+    let p : ℕ = c.element-it.result.arc.to in
+    let ends : to < A.states =
+    held_ends Buchi A B (held_arc su e) (held_block su e) (arc_at A (element_arcs A ev.elements) e) c.initial.ensures.valid (c.requires.supers.each e c.requires.element) in
+    let to_is : p ≡ to = ap (λ (m : Numbered). m.arc.to) c.element-it.ensures in
+    let within : p < length c.args.turns.now = omega (arith, ends, to_is, c.requires.turns.count) in
+    let list : c.deref-2.result.now ≡ numbers_at c.args.turns.now to =
+    c.deref-2.ensures.value ∙ sym (numbers_is c.args.turns.now p c.index-turns-it.result within c.index-turns-it.is) ∙ ap (numbers_at c.args.turns.now) to_is in
+    let key_is : c.in_ok-key.key.items ≡ to ∷ held_number su e ∷ [] = c.in_ok-key.ensures ∙ ap (λ (m : Numbered). m.arc.to ∷ m.number ∷ []) c.element-it.ensures in
+    let asked : IsTrue c.in_ok-holds.holds ↔ HasLassos B su.graphs.graphs.items (held_number su e) (numbers_at c.args.turns.now to) =
+    lassos_named B c.deref.result.now su.graphs.graphs.items c.element-it.result.number (held_number su e) c.deref-2.result.now (numbers_at c.args.turns.now to) c.in_ok-holds.holds
+    c.deref.ensures.value (ap (λ (m : Numbered). m.number) c.element-it.ensures) list c.in_ok-holds.ensures.told in
+    record {
+      passed = keys_more (λ q g. HasLassos B su.graphs.graphs.items g (numbers_at c.args.turns.now q)) c.args.tests.now.passed c.is_new.new.seen c.in_ok-key.key to (held_number su e) key_is
+          c.in_ok-is_new.ensures.added (asked.0 is) c.requires.tests.passed;
+      loops = subst (λ (l : List Graph). AreLoops B.states l c.has_lassos.new.loops.items) c.deref.ensures.value c.in_ok-holds.ensures.loops;
+      size = c.in_ok-holds.ensures.size ∙ c.requires.tests.size;
+      room = c.in_ok-holds.ensures.room;
+    }

@@ -1,6 +1,5 @@
-use Rattle.std.proofs.Common.{map}
-use Rattle.cert_check.specs.Supers.{AreTurnsByState}
+use Rattle.cert_check.specs.Turns.{AreTurns, AreListed}
 use Rattle.cert_check.proofs.pairs.turns_by_state.Given as goal
 
-abbrev pub invariant-loop-state : goal.invariant-loop-state
-invariant-loop-state l = AreTurnsByState l.evidence l.supers l.state (map (λ list. list.items) l.turns.items)
+abbrev pub invariant-loop-e : goal.invariant-loop-e
+invariant-loop-e l = AreTurns l.evidence l.supers l.e l.first.states l.turns.items × AreListed l.seen l.turns.items

@@ -1,7 +1,7 @@
 use Rattle.std.proofs.Common.{◌≡◌, ◌<◌, ◌+◌, List, length, true, false, inl, refl, sym, ◌∙◌, subst, rules}
 use Rattle.std.proofs.lemmas.Bool.{false≢true}
 use Rattle.auto_core.specs.declared.parts.Mode.TheVariants.{Finite}
-use Rattle.cert_text.specs.declared.types.Element.{Element}
+use Rattle.cert_value.specs.declared.types.Element.{Element}
 use Rattle.cert_check.specs.Inclusion.{no_element, pair_checks}
 use Rattle.log_check.proofs.CheckLemmas.{more_of, broken_of}
 use Rattle.cert_check.proofs.passing.check_alone.Goals as goal

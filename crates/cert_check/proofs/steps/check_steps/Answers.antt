@@ -1,7 +1,7 @@
 use Rattle.std.proofs.Common.{ℕ, ◌+◌, List, MatchOption, slice_index_or, subst}
 use Rattle.std.specs.Prelude.{Option}
-use Rattle.cert_text.specs.declared.types.YesBody.{YesBody}
-use Rattle.cert_text.specs.declared.types.StepLine.{StepLine}
+use Rattle.cert_value.specs.declared.types.YesBody.{YesBody}
+use Rattle.cert_value.specs.declared.types.StepLine.{StepLine}
 use Rattle.log_check.specs.Checks.{RuleCheck, AllHold, FirstBroken}
 use Rattle.cert_check.specs.Inclusion.{step_checks}
 use Rattle.log_check.proofs.CheckLemmas.{more_of, broken_of}
@@ -31,4 +31,5 @@ loop-k-preserved c =
     c.in-None.is (c.in_ok-broken.ensures.told c.args.item k) in (
       more_of checks k E.steps c.as_slice-lines.result.now line c.as_slice-lines.ensures c.loop-k-test.true c.loop-k.invariant.0 (subst (λ (s : StepLine). AllHold (checks k s)) c.index-lines-k.is told),
       c.in_ok-broken.ensures.supers,
+      c.in_ok-broken.ensures.order,
     )

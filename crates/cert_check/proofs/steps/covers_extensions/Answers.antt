@@ -3,7 +3,7 @@ use Rattle.std.proofs.lemmas.Bool.{false≢true}
 use Rattle.auto_core.specs.Automaton.{IsOutgoing, trans_at}
 use Rattle.auto_core.specs.Graph.{WordArc, extended_arc, start_arc, arc_at}
 use Rattle.auto_core.specs.declared.parts.Mode.{Mode}
-use Rattle.cert_text.specs.declared.types.YesBody.{YesBody}
+use Rattle.cert_value.specs.declared.types.YesBody.{YesBody}
 use Rattle.cert_check.specs.Inclusion.{IsOver, element_arcs, extensions_of}
 use Rattle.cert_check.specs.Supers.{held_arc, held_block}
 use Rattle.cert_check.specs.declared.blocks.Numbered.{Numbered}
@@ -132,6 +132,7 @@ loop-i-preserved c =
       below_more (λ k. IsOver m A B E (slice_index by k) (slice_index_or (extensions_of A x) k (start_arc A))) i c.loop-i.invariant.0
           (subst (IsOver m A B E (slice_index by i)) (sym (extension_at A x b e out i lt)) here),
       c.in_ok-is_over_extension.ensures.supers,
+      c.in_ok-is_over_extension.ensures.order,
     )
 
 pub returns-clause-told : goal.returns-clause-told

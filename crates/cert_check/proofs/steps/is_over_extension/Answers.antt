@@ -7,7 +7,7 @@ use Rattle.shared_graphs.specs.Graphs.{block_at}
 use Rattle.cert_check.specs.Inclusion.{element_arcs}
 use Rattle.cert_check.specs.Supers.{StandFor, IsNumbered}
 use Rattle.cert_check.specs.declared.blocks.Numbered.{Numbered}
-use Rattle.cert_check.proofs.SuperLemmas.{supers_grown}
+use Rattle.cert_check.proofs.SuperLemmas.{supers_grown, order_grown}
 use Rattle.cert_check.proofs.steps.is_over_extension.Goals as goal
 
 pub extend-requires-clause-leaves : goal.extend-requires-clause-leaves
@@ -66,7 +66,7 @@ returns-clause-told c =
     let from : StandFor m A B c.element-from.result.arc (block_at G c.element-from.result.number) x =
     subst (λ (n : Numbered). StandFor m A B n.arc (block_at G n.number) x) (sym c.element-from.ensures) (c.requires.supers.each c.args.e c.requires.element) in
     let new : IsNumbered m A B c.args.supers.now.graphs c.extend.new.graphs (extended_arc A x (trans_at A c.args.t)) c.in_ok-longer.longer = c.in_ok-longer.ensures x from in
-    c.is_over.ensures (extended_arc A x (trans_at A c.args.t)) new.stands
+    c.is_over.ensures.told (extended_arc A x (trans_at A c.args.t)) new.stands
 
 pub returns-clause-supers : goal.returns-clause-supers
 returns-clause-supers c =
@@ -79,3 +79,15 @@ returns-clause-supers c =
     subst (λ (n : Numbered). StandFor m A B n.arc (block_at G n.number) x) (sym c.element-from.ensures) (c.requires.supers.each c.args.e c.requires.element) in
     let new : IsNumbered m A B c.args.supers.now.graphs c.extend.new.graphs (extended_arc A x (trans_at A c.args.t)) c.in_ok-longer.longer = c.in_ok-longer.ensures x from in
     supers_grown m A B c.args.evidence.now.elements (length c.args.evidence.now.elements) c.args.supers.now _ refl refl new.stock new.grown c.requires.supers
+
+pub is_over-requires-clause-order : goal.is_over-requires-clause-order
+is_over-requires-clause-order c =
+    let A = c.args.first.now in
+    let B = c.args.second.now in
+    let m : Mode = c.args.mode in
+    let G : List Graph = c.args.supers.now.graphs.graphs.items in
+    let x : WordArc = arc_at A (element_arcs A c.args.evidence.now.elements) c.args.e in
+    let from : StandFor m A B c.element-from.result.arc (block_at G c.element-from.result.number) x =
+    subst (λ (n : Numbered). StandFor m A B n.arc (block_at G n.number) x) (sym c.element-from.ensures) (c.requires.supers.each c.args.e c.requires.element) in
+    let new : IsNumbered m A B c.args.supers.now.graphs c.extend.new.graphs (extended_arc A x (trans_at A c.args.t)) c.in_ok-longer.longer = c.in_ok-longer.ensures x from in
+    order_grown B c.args.evidence.now G c.extend.new.graphs.graphs.items c.args.order.now new.grown c.requires.order

@@ -1,5 +1,5 @@
 use Rattle.std.proofs.Common.{◌≡◌, [], ap, sym, ◌∙◌}
-use Rattle.cert_text.specs.Tokens.{tokens_of}
+use Rattle.cert_value.specs.Tokens.{tokens_of}
 use Rattle.cert_text.specs.Forms.{value}
 use Rattle.cert_text.proofs.FormLemmas.{front_is}
 use Rattle.cert_text.proofs.forms.value_at.Goals as goal

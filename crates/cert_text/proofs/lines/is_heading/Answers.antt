@@ -1,6 +1,6 @@
 use Rattle.std.proofs.Common.{ap, ◌∙◌}
-use Rattle.cert_text.specs.Text.{mode_word}
-use Rattle.cert_text.specs.Tokens.{tokens_of}
+use Rattle.cert_value.specs.Text.{mode_word}
+use Rattle.cert_value.specs.Tokens.{tokens_of}
 use Rattle.cert_text.specs.Lines.{has_heading}
 use Rattle.cert_text.proofs.lines.is_heading.Goals as goal
 

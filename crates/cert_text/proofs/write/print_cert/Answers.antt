@@ -1,6 +1,6 @@
 use Rattle.std.proofs.Common.{◌++◌, ap, sym, ◌∙◌}
-use Rattle.cert_text.specs.Text.{text_of, line_text, first_line, sizes_line, body_lines, end_line, answer_of}
-use Rattle.cert_text.proofs.TextLemmas.{four_writes, text_parts}
+use Rattle.cert_value.specs.Text.{text_of, line_text, first_line, sizes_line, body_lines, end_line, answer_of}
+use Rattle.cert_value.proofs.TextLemmas.{four_writes, text_parts}
 use Rattle.cert_text.proofs.write.print_cert.Goals as goal
 
 pub returns : goal.returns

@@ -1,8 +1,8 @@
 use Rattle.std.proofs.Common.{◌∷◌, [], ◌++◌, decimal, length, ap, sym, ◌∙◌, append-nil}
-use Rattle.cert_text.specs.Text.{spelled, line_text, text_of, element_lines, elements_line, numbers, step_lines, each}
-use Rattle.cert_text.specs.declared.keywords.Keyword.TheVariants as keyword
-use Rattle.cert_text.specs.Printed.{joined}
-use Rattle.cert_text.proofs.TextLemmas.{text_each, four_writes, text_append}
+use Rattle.cert_value.specs.Text.{spelled, line_text, text_of, element_lines, elements_line, numbers, step_lines, each}
+use Rattle.cert_value.specs.declared.keywords.Keyword.TheVariants as keyword
+use Rattle.cert_value.specs.Printed.{joined}
+use Rattle.cert_value.proofs.TextLemmas.{text_each, four_writes, text_append}
 use Rattle.cert_text.proofs.write.print_elements.Goals as goal
 
 pub returns : goal.returns

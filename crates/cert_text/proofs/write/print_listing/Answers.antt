@@ -1,8 +1,8 @@
 use Rattle.std.proofs.Common.{◌∷◌, [], ◌++◌, decimal, length, ap, sym, ◌∙◌, append-nil}
-use Rattle.cert_text.specs.Text.{text_of, first_lines, second_lines, limit_lines}
-use Rattle.cert_text.specs.declared.keywords.Keyword.TheVariants as keyword
-use Rattle.cert_text.specs.Printed.{joined}
-use Rattle.cert_text.proofs.TextLemmas.{three_writes, text_three}
+use Rattle.cert_value.specs.Text.{text_of, first_lines, second_lines, limit_lines}
+use Rattle.cert_value.specs.declared.keywords.Keyword.TheVariants as keyword
+use Rattle.cert_value.specs.Printed.{joined}
+use Rattle.cert_value.proofs.TextLemmas.{three_writes, text_three}
 use Rattle.cert_text.proofs.write.print_listing.Goals as goal
 
 pub returns : goal.returns

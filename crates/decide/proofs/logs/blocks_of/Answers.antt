@@ -1,7 +1,7 @@
 use Rattle.std.proofs.Common.{List, [], ◌++◌, sym, subst}
 use Rattle.std.proofs.lemmas.Result.{IfOk-weaker}
 use Rattle.bit_rel.specs.Relation.{Relation}
-use Rattle.cert_text.specs.declared.types.RelBlock.{RelBlock}
+use Rattle.cert_value.specs.declared.types.RelBlock.{RelBlock}
 use Rattle.decide.specs.Written.{AreBlocksOf, given}
 use Rattle.decide.specs.Logs.{one_given}
 use Rattle.decide.proofs.WrittenLemmas.{given_are}

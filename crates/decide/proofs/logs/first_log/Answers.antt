@@ -1,5 +1,5 @@
 use Rattle.std.proofs.Common.{subst}
-use Rattle.cert_text.specs.declared.types.FirstStep.{FirstStep}
+use Rattle.cert_value.specs.declared.types.FirstStep.{FirstStep}
 use Rattle.reduce_loop.specs.declared.steps.Step.{Step}
 use Rattle.decide.specs.Written.{IsFirstWritten}
 use Rattle.decide.proofs.WrittenLemmas.{written_more}

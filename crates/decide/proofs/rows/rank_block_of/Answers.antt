@@ -1,6 +1,6 @@
 use Rattle.std.proofs.Common.{◌≡◌, ◌+◌, ◌++◌, ◌∷◌, [], List, length, ◌==◌, refl, sym, ap, ◌∙◌, subst, arith}
 use Rattle.std.proofs.lemmas.Bool.{eqb-true}
-use Rattle.cert_text.specs.declared.types.Ranked.{Ranked}
+use Rattle.cert_value.specs.declared.types.Ranked.{Ranked}
 use Rattle.decide.specs.Rows.{AreRankRows}
 use Rattle.decide.proofs.RankRowLemmas.{rank_rows_more, rank_rows_same, rank_rows_are_block, some_ranked_from_test}
 use Rattle.decide.proofs.rows.rank_block_of.Goals.{then-not-is_empty+in_ok-push, else-not-is_empty}

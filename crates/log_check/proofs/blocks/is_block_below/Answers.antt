@@ -1,5 +1,5 @@
 use Rattle.std.proofs.Common.{ℕ, ◌≡◌, ◌<◌, ◌≤◌, List, length, slice_index_or, true, All, refl, ap, ◌∙◌, subst, rules, take_all}
-use Rattle.cert_text.specs.declared.types.Row.{Row}
+use Rattle.cert_value.specs.declared.types.Row.{Row}
 use Rattle.log_check.specs.Blocks.{IsRowBelow}
 use Rattle.log_check.proofs.BlockLemmas.{all_more}
 use Rattle.log_check.proofs.blocks.is_block_below.Goals as goal

@@ -1,6 +1,6 @@
 use Rattle.std.proofs.Common.{ℕ, ◌↔◌, ◌<◌, ◌≤◌, List, length, slice_index_or, ap, ◌∙◌, subst}
 use Rattle.auto_core.specs.Game.{Holds}
-use Rattle.cert_text.specs.declared.types.Row.{Row}
+use Rattle.cert_value.specs.declared.types.Row.{Row}
 use Rattle.log_check.proofs.BlockLemmas.{rows_more, whole_rows}
 use Rattle.log_check.proofs.blocks.relation_of.Goals as goal
 

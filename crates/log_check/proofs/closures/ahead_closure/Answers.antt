@@ -1,5 +1,5 @@
 use Rattle.std.proofs.Common.{◌≡◌, ◌<◌, inl, inr, length, ap, arith}
-use Rattle.cert_text.specs.WellFormed.{blocks_due}
+use Rattle.cert_value.specs.WellFormed.{blocks_due}
 use Rattle.auto_core.specs.Pruning.{look_ahead}
 use Rattle.log_check.proofs.ClosureLemmas.{ahead_told, ahead_one, ahead_both, four_left}
 use Rattle.log_check.proofs.closures.ahead_closure.Goals as goal

@@ -1,5 +1,5 @@
 use Rattle.std.proofs.Common.{◌≡◌, true, refl, slice_index_or, rules}
-use Rattle.cert_text.specs.declared.types.GoneBy.{GoneBy}
+use Rattle.cert_value.specs.declared.types.GoneBy.{GoneBy}
 use Rattle.log_check.specs.Closures.{IsAsGoodBy}
 use Rattle.log_check.proofs.BlockLemmas.{all_more, all_told}
 use Rattle.log_check.proofs.cuts.are_as_good.Goals as goal

@@ -1,6 +1,6 @@
 use Rattle.std.proofs.Common.{◌≡◌, true, false, refl, sym, ◌∙◌, slice_index_or, rules}
 use Rattle.std.proofs.lemmas.Bool.{false≢true}
-use Rattle.cert_text.specs.declared.types.GoneBy.{GoneBy}
+use Rattle.cert_value.specs.declared.types.GoneBy.{GoneBy}
 use Rattle.log_check.specs.Closures.{IsBetterBy}
 use Rattle.log_check.proofs.BlockLemmas.{all_more, all_told}
 use Rattle.log_check.proofs.cuts.are_better.Goals as goal

@@ -1,5 +1,5 @@
 use Rattle.std.proofs.Common.{◌≡◌, take}
-use Rattle.cert_text.specs.WellFormed.{gone_of}
+use Rattle.cert_value.specs.WellFormed.{gone_of}
 use Rattle.log_check.proofs.cuts.numbers_of.Given as goal
 
 abbrev pub invariant-loop-one : goal.invariant-loop-one

@@ -1,6 +1,6 @@
 use Rattle.std.proofs.Common.{◌+◌, Err, subst}
 use Rattle.std.proofs.lemmas.Result.{err_from_is_err_and}
-use Rattle.cert_text.specs.declared.types.FirstStep.{FirstStep}
+use Rattle.cert_value.specs.declared.types.FirstStep.{FirstStep}
 use Rattle.log_check.specs.FirstLog.{first_rules}
 use Rattle.log_check.specs.Follows.{StepFollows, TellsStep}
 use Rattle.log_check.proofs.FollowLemmas.{follows_more, end_fails}

@@ -1,5 +1,5 @@
 use Rattle.std.proofs.Common.{take}
-use Rattle.cert_text.specs.declared.types.FirstStep.{FirstStep}
+use Rattle.cert_value.specs.declared.types.FirstStep.{FirstStep}
 use Rattle.log_check.specs.FirstLog.{first_rules}
 use Rattle.log_check.specs.Follows.{Follows}
 use Rattle.log_check.proofs.ends.first_end.Given as goal

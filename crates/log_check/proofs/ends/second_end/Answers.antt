@@ -1,6 +1,6 @@
 use Rattle.std.proofs.Common.{◌+◌, Err, subst}
 use Rattle.std.proofs.lemmas.Result.{err_from_is_err_and}
-use Rattle.cert_text.specs.declared.types.SecondStep.{SecondStep}
+use Rattle.cert_value.specs.declared.types.SecondStep.{SecondStep}
 use Rattle.log_check.specs.SecondLog.{second_rules}
 use Rattle.log_check.specs.Follows.{StepFollows, TellsStep}
 use Rattle.log_check.proofs.FollowLemmas.{follows_more, end_fails}

@@ -1,5 +1,5 @@
 use Rattle.std.proofs.Common.{take}
-use Rattle.cert_text.specs.declared.types.SecondStep.{SecondStep}
+use Rattle.cert_value.specs.declared.types.SecondStep.{SecondStep}
 use Rattle.log_check.specs.Follows.{Follows}
 use Rattle.log_check.specs.SecondLog.{second_rules}
 use Rattle.log_check.proofs.ends.second_end.Given as goal

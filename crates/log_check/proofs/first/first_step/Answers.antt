@@ -1,8 +1,8 @@
 use Rattle.std.proofs.Common.{◌≡◌, List, ℕ, sym, ap, ◌∙◌, subst}
-use Rattle.cert_text.specs.declared.types.FirstStep.{FirstStep}
-use Rattle.cert_text.specs.declared.types.FirstStep.TheVariants.{Merge, Cut}
-use Rattle.cert_text.specs.declared.types.GoneBy.{GoneBy}
-use Rattle.cert_text.specs.declared.types.RelBlock.{RelBlock}
+use Rattle.cert_value.specs.declared.types.FirstStep.{FirstStep}
+use Rattle.cert_value.specs.declared.types.FirstStep.TheVariants.{Merge, Cut}
+use Rattle.cert_value.specs.declared.types.GoneBy.{GoneBy}
+use Rattle.cert_value.specs.declared.types.RelBlock.{RelBlock}
 use Rattle.log_check.specs.FirstLog.{first_rules}
 use Rattle.log_check.specs.Follows.{TellsStep}
 use Rattle.log_check.proofs.first.first_step.Goals as goal

@@ -1,6 +1,6 @@
 use Rattle.std.proofs.Common.{◌≡◌, ◌++◌, map, take}
 use Rattle.delayed_sim.specs.Rankings.{ranked_pair}
-use Rattle.cert_text.specs.declared.types.Ranked.{Ranked}
+use Rattle.cert_value.specs.declared.types.Ranked.{Ranked}
 use Rattle.log_check.specs.Blocks.{rank_of}
 use Rattle.log_check.proofs.rankings.add_row.Given as goal
 

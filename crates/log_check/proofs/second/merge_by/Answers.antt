@@ -1,8 +1,8 @@
 use Rattle.std.proofs.Common.{sym, subst}
-use Rattle.cert_text.specs.declared.types.Grounds.{Grounds}
-use Rattle.cert_text.specs.declared.types.Grounds.TheVariants.{Forward, Backward}
-use Rattle.cert_text.specs.declared.types.SecondStep.{SecondStep}
-use Rattle.cert_text.specs.declared.types.SecondStep.TheVariants.{Merge}
+use Rattle.cert_value.specs.declared.types.Grounds.{Grounds}
+use Rattle.cert_value.specs.declared.types.Grounds.TheVariants.{Forward, Backward}
+use Rattle.cert_value.specs.declared.types.SecondStep.{SecondStep}
+use Rattle.cert_value.specs.declared.types.SecondStep.TheVariants.{Merge}
 use Rattle.log_check.specs.Follows.{TellsStep}
 use Rattle.log_check.specs.SecondLog.{second_rules}
 use Rattle.log_check.proofs.FollowLemmas.{tells_step}

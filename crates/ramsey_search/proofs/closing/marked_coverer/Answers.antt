@@ -1,6 +1,6 @@
 use Rattle.std.proofs.Common.{◌<◌, List, length, refl, sym, subst, inl, inr}
 use Rattle.auto_core.specs.Outcome.{At}
-use Rattle.cert_text.specs.declared.types.Element.{Element}
+use Rattle.cert_value.specs.declared.types.Element.{Element}
 use Rattle.shared_graphs.specs.declared.graphs.Graph.{Graph}
 use Rattle.ramsey_search.proofs.EqualLemmas.{has_mark, covers_by_mark}
 use Rattle.ramsey_search.proofs.closing.marked_coverer.Goals as goal

@@ -3,7 +3,7 @@ use Rattle.auto_core.specs.Automaton.{Automaton, trans_at, IsOutgoing}
 use Rattle.auto_core.specs.Graph.{WordArc}
 use Rattle.auto_core.specs.Outcome.{At, Entry, HasSubsumer, IsLeastSubsumer, next_entry, supergraph_rules}
 use Rattle.graph_rows.specs.Block.{IsFormed}
-use Rattle.cert_text.specs.declared.types.StepLine.{StepLine}
+use Rattle.cert_value.specs.declared.types.StepLine.{StepLine}
 use Rattle.search_laws.proofs.PlaceLemmas.{at_same, at_within, at_cases, read_at}
 use Rattle.ramsey_search.specs.declared.parts.Held.{Held}
 use Rattle.ramsey_search.specs.declared.family.Family.{Family}

@@ -2,7 +2,7 @@ use Rattle.std.proofs.Common.{◌≡◌, ℕ, false, map, slice_index_or}
 use Rattle.std.specs.Prelude.{filter}
 use Rattle.std.specs.List.{range_with_len}
 use Rattle.auto_core.specs.Outcome.{At, supergraph_rules}
-use Rattle.cert_text.specs.declared.types.StepLine.{StepLine}
+use Rattle.cert_value.specs.declared.types.StepLine.{StepLine}
 use Rattle.evidence.specs.Evidence.{IsStepOf}
 use Rattle.shared_graphs.specs.Graphs.{IsStock, HasGrown}
 use Rattle.shared_graphs.specs.Memo.{AllTold}

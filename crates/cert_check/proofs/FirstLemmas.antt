@@ -1,0 +1,76 @@
+-- The first numbers of graphs, as blocks become known.
+use Rattle.std.proofs.Common.{◌≡◌, ◌↔◌, ◌⊎◌, ℕ, ◌+◌, ◌<◌, inl, inr, Bool, true, false, cond, List, [], ◌∷◌, ◌++◌, length, slice_index_or, Some, None, Bor, refl, sym, ap, ◌∙◌, subst, arith}
+use Rattle.std.specs.BTreeMap.{BTreeMap}
+use Rattle.std.specs.Str.{bytes_eq}
+use Rattle.std.proofs.lemmas.Slice.Eq.{bytes_eq-Decides}
+use Rattle.std.proofs.lemmas.Bool.{cases_lt, false≢true}
+use Rattle.std.proofs.lemmas.List.{get_or_append_left, get_or_push}
+use Rattle.search_laws.proofs.ListLemmas.{read_map}
+use Rattle.search_laws.proofs.PlaceLemmas.{read_at}
+use Rattle.shared_graphs.specs.declared.graphs.Graph.{Graph}
+use Rattle.shared_graphs.specs.Graphs.{block_at}
+use Rattle.cert_check.specs.Firsts.{known_by, IsKnown, AreFirsts}
+
+some_is : {X : Type 0} (x y : X) → Some x ≡ Some y → x ≡ y
+some_is x y e = cc
+
+none_is_some : {X : Type 0} (x : X) → None ≡ Some x → ⊥
+none_is_some x e = cc
+
+-- The block was known, or it becomes known.
+pub known_already : (known : BTreeMap (Bor (List ℕ)) ℕ) (block : List ℕ) (number first : ℕ) → known_by known block ≡ Some first → IsKnown known known block number first
+known_already known block number first is = record { here = is; stay = λ b k was. was; only = λ b k was. inl was }
+
+pub known_now : (old new : BTreeMap (Bor (List ℕ)) ℕ) (block : List ℕ) (number : ℕ) → known_by old block ≡ None →
+    ((b : List ℕ) → known_by new b ≡ cond (bytes_eq block b) (Some number) (known_by old b)) → IsKnown old new block number number
+known_now old new block number none updates = record {
+  here = elim (cases block) [ inl (same, is) ↦ is | inr (differs, is) ↦ absurd (differs refl) ];
+  stay = λ b k was. elim (cases b) [
+    | inl (same, is) ↦ absurd (none_is_some k (sym none ∙ ap (known_by old) same ∙ was))
+    | inr (differs, is) ↦ is ∙ was
+  ];
+  only = λ b k now. elim (cases b) [
+    | inl (same, is) ↦ inr (sym same, some_is k number (sym now ∙ is))
+    | inr (differs, is) ↦ inl (sym is ∙ now)
+  ];
+}
+  where
+    by : (b : List ℕ) (e : Bool) → ((e ≡ true) ↔ (block ≡ b)) → known_by new b ≡ cond e (Some number) (known_by old b) →
+        ((block ≡ b) × (known_by new b ≡ Some number)) ⊎ ((block ≡ b → ⊥) × (known_by new b ≡ known_by old b))
+    by b true same is = inl (same.0 refl, is)
+    by b false same is = inr (λ e. false≢true (same.1 e), is)
+
+    cases : (b : List ℕ) → ((block ≡ b) × (known_by new b ≡ Some number)) ⊎ ((block ≡ b → ⊥) × (known_by new b ≡ known_by old b))
+    cases b = by b (bytes_eq block b) (bytes_eq-Decides block b) (updates b)
+
+-- The block of the graph that stands there.
+pub block_is : (graphs : List Graph) (k : ℕ) (g : Graph) → k < length graphs → g ≡ slice_index_or graphs k g → block_at graphs k ≡ g.block.items
+block_is graphs k g lt is = read_map (λ (x : Graph). x.block.items) graphs k g [] (read_at graphs k g g lt is)
+
+-- One graph more.
+pub held_more : (graphs : List Graph) (old new : BTreeMap (Bor (List ℕ)) ℕ) (k first : ℕ) → ((b : List ℕ) (m : ℕ) → known_by old b ≡ Some m → block_at graphs m ≡ b) →
+    IsKnown old new (block_at graphs k) k first → (b : List ℕ) (m : ℕ) → known_by new b ≡ Some m → block_at graphs m ≡ b
+held_more graphs old new k first held known b m is = elim (known.only b m is) [
+  | inl was ↦ held b m was
+  | inr (same, last) ↦ ap (block_at graphs) last ∙ sym same
+]
+
+pub told_more : (graphs : List Graph) (old new : BTreeMap (Bor (List ℕ)) ℕ) (firsts next : List ℕ) (k first : ℕ) → length firsts ≡ k →
+    ((j : ℕ) → j < k → known_by old (block_at graphs j) ≡ Some (slice_index_or firsts j 0)) → IsKnown old new (block_at graphs k) k first → next ≡ firsts ++ first ∷ [] →
+    (j : ℕ) → j < k + 1 → known_by new (block_at graphs j) ≡ Some (slice_index_or next j 0)
+told_more graphs old new firsts next k first size told known next_is j lt = elim (cases_lt j k) [
+  | inl before ↦
+      known.stay (block_at graphs j) (slice_index_or firsts j 0) (told j before)
+      ∙ ap Some (sym (ap (λ l. slice_index_or l j 0) next_is ∙ get_or_append_left firsts (first ∷ []) 0 j (omega (arith, size))))
+  | inr after ↦
+      let last : j ≡ k = omega arith in
+      subst (λ i. known_by new (block_at graphs i) ≡ Some (slice_index_or next i 0)) (sym last)
+      (known.here ∙ ap Some (sym (ap (λ l. slice_index_or l k 0) next_is ∙ get_or_push firsts first 0 k size)))
+]
+
+pub firsts_told : (graphs : List Graph) (known : BTreeMap (Bor (List ℕ)) ℕ) (firsts : List ℕ) → ((b : List ℕ) (m : ℕ) → known_by known b ≡ Some m → block_at graphs m ≡ b) →
+    ((j : ℕ) → j < length graphs → known_by known (block_at graphs j) ≡ Some (slice_index_or firsts j 0)) → AreFirsts graphs firsts
+firsts_told graphs known firsts held told j k j_in k_in = (
+  λ same. sym (held (block_at graphs j) (slice_index_or firsts j 0) (told j j_in)) ∙ ap (block_at graphs) same ∙ held (block_at graphs k) (slice_index_or firsts k 0) (told k k_in),
+  λ same. some_is (slice_index_or firsts j 0) (slice_index_or firsts k 0) (sym (told j j_in) ∙ ap (known_by known) same ∙ told k k_in),
+)

@@ -1,6 +1,0 @@
-use Rattle.std.proofs.Common.{◌≡◌, ◌≤◌, drop, length}
-use Rattle.cert_text.specs.WellFormed.{are_rows}
-use Rattle.cert_text.proofs.checks.are_rows.Given as goal
-
-abbrev pub invariant-loop-row : goal.invariant-loop-row
-invariant-loop-row l = are_rows l.bound (drop l.row-index l.rows) ≡ are_rows 0 l.rows

@@ -1,6 +1,0 @@
-use Rattle.std.proofs.Common.{◌≡◌, ◌≤◌, drop, length}
-use Rattle.cert_text.specs.WellFormed.{ascend, ascend_from, rights_of}
-use Rattle.cert_text.proofs.checks.rights_ascend.Given as goal
-
-abbrev pub invariant-loop-pair : goal.invariant-loop-pair
-invariant-loop-pair l = ascend_from l.bound (rights_of (drop l.pair-index l.pairs)) ≡ ascend (rights_of l.pairs)

@@ -1,0 +1,6 @@
+use Rattle.std.proofs.Common.{◌≡◌, ◌≤◌, drop, length}
+use Rattle.cert_value.specs.WellFormed.{are_rank_rows}
+use Rattle.cert_value.proofs.checks.are_rank_rows.Given as goal
+
+abbrev pub invariant-loop-row : goal.invariant-loop-row
+invariant-loop-row l = are_rank_rows l.bound (drop l.row-index l.rows) ≡ are_rank_rows 0 l.rows

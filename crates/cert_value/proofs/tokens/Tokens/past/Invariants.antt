@@ -1,0 +1,7 @@
+use Rattle.std.proofs.Common.{◌≡◌, ◌++◌, map, drop, length, nat_le, ◌-◌}
+use Rattle.std.specs.List.{list_all}
+use Rattle.cert_value.specs.Tokens.{tokens_of}
+use Rattle.cert_value.proofs.tokens.Tokens.past.Given as goal
+
+abbrev pub invariant-loop-token : goal.invariant-loop-token
+invariant-loop-token l = l.tokens ≡ drop l._token (tokens_of l.fn.line)

@@ -1,0 +1,4 @@
+pub mod Text
+pub mod WellFormed
+pub mod Printed
+pub mod Tokens

@@ -1,0 +1,18 @@
+//! Certificates, version 1: the value, which values have a text, and how the lines of a text are spelled and written.
+#![tactic(auto)]
+
+mod checks;
+mod keywords;
+mod printed_parts;
+mod printing;
+mod tokens;
+mod types;
+
+pub use checks::{ascend, blocks_due, gone_ascend, is_live, rights_ascend, well_formed};
+pub use keywords::Keyword;
+pub use printing::{Print, print_all, print_count, print_keyword, print_line};
+pub use tokens::Tokens;
+pub use types::{
+    Answer, Body, Cert, Element, FirstStep, GoneBy, Grounds, ListBody, Mark, RankBlock, RankRow,
+    Ranked, RelBlock, Row, SecondStep, StepLine, YesBody,
+};

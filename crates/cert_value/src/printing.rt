@@ -1,0 +1,95 @@
+//! The text of a certificate, written.
+
+ghost use Rattle.std.specs.Prelude.{◌≡◌, ◌^◌, ◌<◌, ◌++◌, ◌∷◌, [], List as Items, OnOk, decimal, ℕ};
+ghost use Rattle.cert_value.specs.Text.{spelled, line_text, numbers};
+ghost use Rattle.cert_value.specs.Printed.{joined};
+
+use crate::keywords::Keyword;
+use auto_core::{List, Memory};
+
+/// What can be written onto the end of a text.
+pub trait Print: Drop {
+    ghost printed: { Self → Items ℕ };
+
+    /// Writes it onto the end.
+    fn print(&self, out: &mut List<u8>) -> Result<(), Memory>
+        ensures { OnOk result (out.new ≡ out.old ++ printed self.now) };
+}
+
+/// Writes all of them, in order.
+pub fn print_all<T: Print>(out: &mut List<u8>, items: &[T]) -> Result<(), Memory>
+    ensures { OnOk result (out.new ≡ out.old ++ joined T.printed items.now) }
+{
+    for item in items {
+        item.print(out)?;
+    }
+    Ok(())
+}
+
+/// Writes the bytes.
+pub(crate) fn print_bytes(out: &mut List<u8>, bytes: &[u8]) -> Result<(), Memory>
+    ensures { OnOk result (out.new ≡ out.old ++ bytes.now) }
+{
+    for byte in bytes {
+        out.push(*byte)?;
+    }
+    Ok(())
+}
+
+/// Writes the number's decimal digits.
+pub(crate) fn print_decimal(out: &mut List<u8>, number: usize) -> Result<(), Memory>
+    ensures { OnOk result (out.new ≡ out.old ++ decimal number) }
+{
+    if number >= 10 {
+        print_decimal(out, number / 10)?;
+    }
+    out.push(48 + (number % 10) as u8)?;
+    Ok(())
+}
+
+impl Print for u32 {
+    ghost use Rattle.std.specs.Prelude.{◌∷◌, decimal};
+
+    ghost printed = { λ n. 32 ∷ decimal n };
+
+    fn print(&self, out: &mut List<u8>) -> Result<(), Memory> {
+        out.push(b' ')?;
+        print_decimal(out, *self as usize)?;
+        Ok(())
+    }
+}
+
+/// Writes the word.
+pub fn print_keyword(out: &mut List<u8>, keyword: Keyword) -> Result<(), Memory>
+    ensures { OnOk result (out.new ≡ out.old ++ spelled keyword) }
+{
+    print_bytes(out, keyword.text())?;
+    Ok(())
+}
+
+/// Writes a line: a word and numbers.
+pub fn print_line(
+    out: &mut List<u8>,
+    keyword: Keyword,
+    heads: &[u32],
+    tail: &[u32],
+) -> Result<(), Memory>
+    ensures { OnOk result (out.new ≡ out.old ++ line_text (spelled keyword ∷ numbers (heads.now ++ tail.now))) }
+{
+    print_keyword(out, keyword)?;
+    print_all(out, heads)?;
+    print_all(out, tail)?;
+    out.push(b'\n')?;
+    Ok(())
+}
+
+/// Writes a line: a word and how many there are of something.
+pub fn print_count(out: &mut List<u8>, keyword: Keyword, count: usize) -> Result<(), Memory>
+    ensures { OnOk result (out.new ≡ out.old ++ line_text (spelled keyword ∷ decimal count ∷ [])) }
+{
+    print_keyword(out, keyword)?;
+    out.push(b' ')?;
+    print_decimal(out, count)?;
+    out.push(b'\n')?;
+    Ok(())
+}
