@@ -95,7 +95,7 @@ module _ (A : Automaton) (offset : ℕ) where
   accepting_apart n = apart_map (λ q. offset + q) (filter (is_accepting A) (range_with_len 0 n)) (λ x y x_in y_in e. omega arith)
       (apart_filter (is_accepting A) (range_with_len 0 n) (increasing_apart (range_with_len 0 n) (range_rises n)))
 
-accepting_below : (A : Automaton) → IsAutomaton A → (q : ℕ) → IsAccepting A q → q < A.states
+pub accepting_below : (A : Automaton) → IsAutomaton A → (q : ℕ) → IsAccepting A q → q < A.states
 accepting_below A valid q h = All-contains (λ x. x < A.states) A.accepting q valid.accepting_in_range h
 
 -- ---- state 0

@@ -29,7 +29,7 @@ fn count_first(automaton: &Auto) -> usize
 }
 
 /// Appends the transitions, with both of their states moved by the offset.
-fn add_moved(made: &mut Vec<Trans>, automaton: &Auto, offset: u32) -> Result<(), Memory>
+pub fn add_moved(made: &mut Vec<Trans>, automaton: &Auto, offset: u32) -> Result<(), Memory>
     requires { offset + automaton.now.states < 2 ^ 32 }
     ensures { OnOk result (made.new.items ≡ made.old.items ++ map (moved offset) automaton.now.transitions) }
 {
@@ -66,7 +66,7 @@ fn add_copied(made: &mut Vec<Trans>, automaton: &Auto, offset: u32) -> Result<()
 }
 
 /// Appends the accepting states, moved by the offset.
-fn add_accepting(made: &mut Vec<u32>, automaton: &Auto, offset: u32) -> Result<(), Memory>
+pub fn add_accepting(made: &mut Vec<u32>, automaton: &Auto, offset: u32) -> Result<(), Memory>
     requires { offset + automaton.now.states < 2 ^ 32 }
     ensures { OnOk result (made.new.items ≡ made.old.items ++ accepting_of_one automaton.now offset automaton.now.states) }
 {

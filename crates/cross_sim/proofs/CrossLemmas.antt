@@ -1,0 +1,162 @@
+-- A game across two automata is a game on the automaton of both side by side.
+use Rattle.std.proofs.Common.{◌≡◌, ℕ, ◌+◌, ◌-◌, ◌<◌, ◌≤◌, ◌↔◌, inl, inr, List, [], ◌∷◌, map, refl, sym, ap, subst, arith}
+use Rattle.auto_core.specs.Automaton.{Automaton, IsAutomaton, Moves}
+use Rattle.auto_core.specs.Run.{PathBy, Path, end_of}
+use Rattle.auto_core.specs.Game.{MatchesForward, MayShow, Answers, Round, Stable, Holds, ArePairsBelow, IsWithin, IsGreatest, StableAcross}
+use Rattle.auto_core.proofs.MoveLemmas.{move_in_range}
+use Rattle.auto_core.proofs.MemberLemmas.{map_has, map_from}
+use Rattle.path_laws.proofs.AppliedLemmas.{across_includes}
+use Rattle.cross_sim.specs.Cross.{IsGreatestCross, CrossIncludes}
+use Rattle.cross_sim.specs.Sides.{IsSideBySide, MatchesAcross}
+
+-- R holds the pairs of S, the right numbers moved by n
+abbrev Raises : ℕ → List (ℕ × ℕ) → List (ℕ × ℕ) → Type 0
+Raises n S R = (p q : ℕ) → Holds R p q ↔ ((r : ℕ) × (q ≡ n + r) × Holds S p r)
+
+abbrev raise : ℕ → ℕ × ℕ → ℕ × ℕ
+raise n x = (x.0, n + x.1)
+
+abbrev lower : ℕ → ℕ × ℕ → ℕ × ℕ
+lower n x = (x.0, x.1 - n)
+
+raised : (n : ℕ) (S : List (ℕ × ℕ)) → Raises n S (map (raise n) S)
+raised n S p q = (
+  λ h.
+      let (x, there, is) = map_from (raise n) S (p, q) h in
+      (x.1, sym (ap (λ (y : ℕ × ℕ). y.1) is), subst (λ z. Holds S z x.1) (ap (λ (y : ℕ × ℕ). y.0) is) there),
+  λ (r, e, h). subst (λ z. Holds (map (raise n) S) p z) (sym e) (map_has (raise n) S (p, r) h),
+)
+
+lowered : (n : ℕ) (R : List (ℕ × ℕ)) → ((p q : ℕ) → Holds R p q → n ≤ q) → Raises n (map (lower n) R) R
+lowered n R high p q = (
+  λ h. let le = high p q h in (q - n, omega arith, map_has (lower n) R (p, q) h),
+  λ (r, e, h).
+      let (x, there, is) = map_from (lower n) R (p, r) h in
+      let le = high x.0 x.1 there in
+      let left : x.0 ≡ p = ap (λ (y : ℕ × ℕ). y.0) is in
+      let right : x.1 - n ≡ r = ap (λ (y : ℕ × ℕ). y.1) is in
+      let same : x.1 ≡ q = omega arith in
+      subst (λ z. Holds R z q) left (subst (λ z. Holds R x.0 z) same there),
+)
+
+raised_back : (n : ℕ) (S R : List (ℕ × ℕ)) → Raises n S R → (p r : ℕ) → Holds R p (n + r) → Holds S p r
+raised_back n S R raises p r h =
+    let (s, e, there) = (raises p (n + r)).0 h in
+    let same : s ≡ r = omega arith in
+    subst (λ z. Holds S p z) same there
+
+module _ (A B U : Automaton) (a_valid : IsAutomaton A) (both : IsSideBySide A B U) (k : ℕ) where
+  move_in_both : (p a q : ℕ) → Moves A p a q → Moves U p a q
+  move_in_both p a q m = (both.first_moves p a q (move_in_range A a_valid p a q m).0).1 m
+
+  end_below : (p : ℕ) (w ps : List ℕ) → p < A.states → Path A p w ps → end_of p ps < A.states
+  end_below p [] [] lt path = lt
+  end_below p [] (q ∷ ps) lt path = absurd path
+  end_below p (a ∷ w) [] lt path = absurd path
+  end_below p (a ∷ w) (q ∷ ps) lt path = end_below q w ps (move_in_range A a_valid p a q path.0).1 path.1
+
+  path_in_both : (p : ℕ) (w ps : List ℕ) → Path A p w ps → PathBy (Moves U) p w ps
+  path_in_both p [] [] path = tt
+  path_in_both p [] (q ∷ ps) path = absurd path
+  path_in_both p (a ∷ w) [] path = absurd path
+  path_in_both p (a ∷ w) (q ∷ ps) path = (move_in_both p a q path.0, path_in_both q w ps path.1)
+
+  path_in_first : (p : ℕ) (w ps : List ℕ) → p < A.states → PathBy (Moves U) p w ps → Path A p w ps
+  path_in_first p [] [] lt path = tt
+  path_in_first p [] (q ∷ ps) lt path = absurd path
+  path_in_first p (a ∷ w) [] lt path = absurd path
+  path_in_first p (a ∷ w) (q ∷ ps) lt path =
+      let m = (both.first_moves p a q lt).0 path.0 in
+      (m, path_in_first q w ps (move_in_range A a_valid p a q m).1 path.1)
+
+  shown_in_both : (p : ℕ) (w ps : List ℕ) → p < A.states → Path A p w ps → MayShow (Moves A) k p w ps → MayShow (Moves U) k p w ps
+  shown_in_both p w ps lt path (inl e) = inl e
+  shown_in_both p w ps lt path (inr (some, short, dead)) = inr (some, short, λ a q m. dead a q ((both.first_moves (end_of p ps) a q (end_below p w ps lt path)).0 m))
+
+  shown_in_first : (p : ℕ) (w ps : List ℕ) → MayShow (Moves U) k p w ps → MayShow (Moves A) k p w ps
+  shown_in_first p w ps (inl e) = inl e
+  shown_in_first p w ps (inr (some, short, dead)) = inr (some, short, λ a q m. dead a q (move_in_both (end_of p ps) a q m))
+
+  matched_in_both : (p r : ℕ) → p < A.states → MatchesForward A B p r → MatchesAcross A.states U p (A.states + r)
+  matched_in_both p r lt ok = (lt, omega arith, λ h. (both.second_accepting r).1 (ok ((both.first_accepting p lt).0 h)))
+
+  matched_apart : (p r : ℕ) → MatchesAcross A.states U p (A.states + r) → MatchesForward A B p r
+  matched_apart p r ok h = (both.second_accepting r).0 (ok.2 ((both.first_accepting p ok.0).1 h))
+
+  module _ (S R : List (ℕ × ℕ)) (raises : Raises A.states S R) where
+    answered_in_both : (p q : ℕ) (w ps : List ℕ) → Path A p w ps → Answers (Moves B) (MatchesForward A B) (Holds S) q w ps → Answers (Moves U) (MatchesAcross A.states U) (Holds R) (A.states + q) w ps
+    answered_in_both p q [] ps path answer = absurd answer
+    answered_in_both p q (a ∷ w) [] path answer = absurd answer
+    answered_in_both p q (a ∷ w) (s ∷ ps) path (r, m, ok, next) = (
+      A.states + r,
+      (both.second_moves q a (A.states + r)).1 (r, refl, m),
+      matched_in_both s r (move_in_range A a_valid p a s path.0).1 ok,
+      elim next [ inl held ↦ inl ((raises s (A.states + r)).1 (r, refl, held)) | inr more ↦ inr (answered_in_both s r w ps path.1 more) ],
+    )
+
+    answered_in_second : (q : ℕ) (w ps : List ℕ) → Answers (Moves U) (MatchesAcross A.states U) (Holds R) (A.states + q) w ps → Answers (Moves B) (MatchesForward A B) (Holds S) q w ps
+    answered_in_second q [] ps answer = absurd answer
+    answered_in_second q (a ∷ w) [] answer = absurd answer
+    answered_in_second q (a ∷ w) (s ∷ ps) (x, m, ok, next) =
+        let (r, e, moves) = (both.second_moves q a x).0 m in (
+          r,
+          moves,
+          matched_apart s r (subst (λ z. MatchesAcross A.states U s z) e ok),
+          elim next [
+            | inl held ↦ inl (raised_back A.states S R raises s r (subst (λ z. Holds R s z) e held))
+            | inr more ↦ inr (answered_in_second r w ps (subst (λ z. Answers (Moves U) (MatchesAcross A.states U) (Holds R) z w ps) e more))
+          ],
+        )
+
+    stable_in_both : ArePairsBelow A.states B.states S → StableAcross A B k S → Stable (Moves U) (Moves U) (MatchesAcross A.states U) k (Holds R)
+    stable_in_both below stable p q h =
+        let (r, e, there) = (raises p q).0 h in
+        let (lt, _) = below p r there in
+        let (ok, round) = stable p r there in
+        let P : ℕ → Type 0 = λ z. MatchesAcross A.states U p z × Round (Moves U) (Moves U) (MatchesAcross A.states U) k (Holds R) p z in
+        subst P (sym e) (
+          matched_in_both p r lt ok,
+          λ w ps path may. let first = path_in_first p w ps lt path in answered_in_both p r w ps first (round w ps first (shown_in_first p w ps may)),
+        )
+
+    stable_apart : Stable (Moves U) (Moves U) (MatchesAcross A.states U) k (Holds R) → StableAcross A B k S
+    stable_apart stable p r h =
+        let (ok, round) = stable p (A.states + r) ((raises p (A.states + r)).1 (r, refl, h)) in (
+          matched_apart p r ok,
+          λ w ps path may. answered_in_second r w ps (round w ps (path_in_both p w ps path) (shown_in_both p w ps ok.0 path may)),
+        )
+
+  pub greatest_cross : (R : List (ℕ × ℕ)) → IsGreatest (Moves U) (Moves U) (MatchesAcross A.states U) k U.states U.states R → IsGreatestCross A B k R
+  greatest_cross R g = record {
+    across = S;
+    is_greatest = record { in_range = in_range; stable = stable_apart S R raises g.stable; has_each = has_each };
+    pairs = raises;
+  }
+    where
+      S : List (ℕ × ℕ)
+      S = map (lower A.states) R
+
+      raises : Raises A.states S R
+      raises = lowered A.states R (λ p q h. (g.stable p q h).0.1)
+
+      in_range : ArePairsBelow A.states B.states S
+      in_range p r h =
+          let there = (raises p (A.states + r)).1 (r, refl, h) in
+          let (_, lt) = g.in_range p (A.states + r) there in
+          ((g.stable p (A.states + r) there).0.0, omega (arith, lt, both.states))
+
+      has_each : (T : List (ℕ × ℕ)) → ArePairsBelow A.states B.states T → StableAcross A B k T → IsWithin T S
+      has_each T below stable p r h =
+          let up = raised A.states T in
+          let V = map (raise A.states) T in
+          let within : ArePairsBelow U.states U.states V = λ x y v. inside T below x y ((up x y).0 v) in
+          raised_back A.states S R raises p r (g.has_each V within (stable_in_both T V up below stable) p (A.states + r) ((up p (A.states + r)).1 (r, refl, h)))
+        where
+          inside : (T : List (ℕ × ℕ)) → ArePairsBelow A.states B.states T → (x y : ℕ) → ((r : ℕ) × (y ≡ A.states + r) × Holds T x r) → (x < U.states) × (y < U.states)
+          inside T below x y (r, e, there) =
+              let (left, right) = below x r there in
+              (omega (arith, left, both.states), omega (arith, right, e, both.states))
+
+pub cross_includes : CrossIncludes
+cross_includes A B k R valid some g held mode =
+    across_includes A B k g.across valid some g.is_greatest.stable (raised_back A.states g.across R g.pairs A.initial B.initial held) mode

@@ -1,0 +1,21 @@
+-- Two automata side by side in one, and what is asked there across them.
+use Rattle.std.specs.Prelude.{◌≡◌, ℕ, ◌+◌, ◌<◌, ◌≤◌, ◌↔◌}
+use Rattle.std.proofs.Common.{arith}
+use Rattle.auto_core.specs.Automaton.{Automaton, Moves, IsAccepting}
+use Rattle.auto_core.specs.Game.{MatchesForward}
+
+-- U is A and B side by side: A's states with A's moves, and then B's states with B's.
+pub record IsSideBySide (A B U : Automaton) : Type 0 where
+  pub states : U.states ≡ A.states + B.states
+  pub first_moves : (p a q : ℕ) → p < A.states → Moves U p a q ↔ Moves A p a q
+  pub second_moves : (p a q : ℕ) → Moves U (A.states + p) a q ↔ ((r : ℕ) × (q ≡ A.states + r) × Moves B p a r)
+  pub first_accepting : (p : ℕ) → p < A.states → IsAccepting U p ↔ IsAccepting A p
+  pub second_accepting : (p : ℕ) → IsAccepting U (A.states + p) ↔ IsAccepting B p
+
+-- p is one of the first n states and q is not, and q is accepting if p is.
+abbrev pub MatchesAcross : ℕ → Automaton → ℕ → ℕ → Type 0
+MatchesAcross n U p q = (p < n) × (n ≤ q) × MatchesForward U U p q
+
+-- What is matched so matches nothing itself.
+pub across_joins : (n : ℕ) (U : Automaton) (p q r : ℕ) → MatchesAcross n U p q → MatchesAcross n U q r → MatchesAcross n U p r
+across_joins n U p q r h k = let from = h.1 in let lt = k.0 in absurd (omega arith)

@@ -1,0 +1,50 @@
+//! The side of a game across two automata that stand side by side in one.
+
+ghost use Rattle.std.specs.Prelude.{◌≡◌, ◌<◌, ◌↔◌, length, slice_index_or, IsTrue};
+ghost use Rattle.auto_core.specs.Automaton.{Moves};
+ghost use Rattle.look_round.specs.Sides.{move, forward_moves};
+ghost use Rattle.look_round.specs.SideLaws.{forward_lists, forward_stays};
+ghost use Rattle.cross_sim.specs.Sides.{MatchesAcross, across_joins};
+
+use auto_core::Auto;
+use look_round::{Forward, Move, Side};
+
+/// The side where Spoiler moves in the first automaton and Duplicator in the second: moves go from source to target, a state of the
+/// first is matched by states of the second alone, and an accepting state asks for an accepting one.
+#[derive(Clone, Copy, Debug)]
+pub struct Across {
+    /// The number of the first automaton's states; the second's follow them.
+    pub first_states: u32,
+}
+
+impl Side for Across {
+    ghost list = { λ _ A p. forward_moves A p };
+
+    ghost goes = { λ _ A. Moves A };
+
+    ghost keeps = { λ s A. MatchesAcross s.first_states A };
+
+    ghost stays = { λ _ A valid p a q m. forward_stays A valid p a q m };
+
+    ghost lists = { λ _ A p a q. forward_lists A p a q };
+
+    ghost joins = { λ s A p q r. across_joins s.first_states A p q r };
+
+    fn moves(&self, automaton: &Auto, state: u32) -> u32 {
+        Forward.moves(automaton, state)
+    }
+
+    fn nth(&self, automaton: &Auto, state: u32, at: u32) -> Move {
+        Forward.nth(automaton, state, at)
+    }
+
+    fn matched(&self, automaton: &Auto, p: u32, q: u32) -> bool {
+        if p >= self.first_states {
+            return false;
+        }
+        if q < self.first_states {
+            return false;
+        }
+        Forward.matched(automaton, p, q)
+    }
+}
