@@ -1,49 +1,96 @@
--- Delayed simulation: Duplicator answers each move at once, and has to be accepting at the latest some moves after Spoiler is.
--- The rank of a pair bounds the moves that are left until then.
-use Rattle.std.specs.Prelude.{ℕ, ◌<◌, ◌≡◌, ◌≤◌, Option, Some, List, Contains}
+-- Delayed simulation: Duplicator answers each move at once, and has to be accepting at the latest some moves after Spoiler is. In a
+-- game with n announced letters Duplicator knows the next n letters of the word, not Spoiler's moves: the letter of the move that he
+-- answers, and the n - 1 letters after it. The rank of a triple bounds the moves that are left until he is accepting.
+use Rattle.std.specs.Prelude.{ℕ, zero, suc, Bool, ◌<◌, ◌==◌, ◌≡◌, ◌≤◌, ◌*◌, ◌^◌, nat_le, if◌then◌else◌, Option, Some, List, [], ◌∷◌, ◌++◌, length, All, Contains}
 use Rattle.auto_core.specs.Automaton.{Automaton, Moves, IsAccepting}
 
--- Pairs of states, each with a rank or without one.
-abbrev pub RankedPairs : Type 0
-RankedPairs = List (ℕ × ℕ × Option ℕ)
+-- Triples of a left state, announced letters and a right state, each with a rank or without one.
+abbrev pub RankedTriples : Type 0
+RankedTriples = List (ℕ × List ℕ × ℕ × Option ℕ)
 
--- The list holds the pair, with a rank or without one.
-abbrev pub HoldsPair : RankedPairs → ℕ → ℕ → Type 0
-HoldsPair X p q = (rank : Option ℕ) × Contains X (p, q, rank)
+-- The list holds the triple of p, the letters b and q, with a rank or without one.
+abbrev pub HoldsTriple : RankedTriples → List ℕ → ℕ → ℕ → Type 0
+HoldsTriple X b p q = (rank : Option ℕ) × Contains X (p, b, q, rank)
 
--- The list holds the pair with this rank.
-abbrev pub HasRank : RankedPairs → ℕ → ℕ → ℕ → Type 0
-HasRank X p q r = Contains X (p, q, Some r)
+-- The list holds the triple with this rank.
+abbrev pub HasRank : RankedTriples → List ℕ → ℕ → ℕ → ℕ → Type 0
+HasRank X b p q r = Contains X (p, b, q, Some r)
 
--- q answers the move of p by the letter a to p' with a pair of the list.
-abbrev pub IsAnswered : Automaton → RankedPairs → ℕ → ℕ → ℕ → Type 0
-IsAnswered A X q a p' = (q' : ℕ) × Moves A q a q' × HoldsPair X p' q'
+-- Where b is announced and then one more letter, the next letter is a, and then c is announced.
+abbrev pub Announces : List ℕ → ℕ → ℕ → List ℕ → Type 0
+Announces b more a c = b ++ (more ∷ []) ≡ a ∷ c
 
--- q answers it with a pair of lesser rank.
-abbrev pub IsAnsweredBelow : Automaton → RankedPairs → ℕ → ℕ → ℕ → ℕ → Type 0
-IsAnsweredBelow A X r q a p' = (q' s : ℕ) × Moves A q a q' × HasRank X p' q' s × (s < r)
+-- q answers the move of p by the letter a to p' with a triple of the list over c.
+abbrev pub IsAnswered : Automaton → RankedTriples → List ℕ → ℕ → ℕ → ℕ → Type 0
+IsAnswered A X c q a p' = (q' : ℕ) × Moves A q a q' × HoldsTriple X c p' q'
 
--- The pairs and ranks are right: each move of a left state is answered; a pair has a rank if its left state is accepting; at rank 0
--- the right state is accepting; and at a greater rank each move is answered with a lesser one.
-pub record IsRight (A : Automaton) (X : RankedPairs) : Type 0 where
-  pub answers : (p q a p' : ℕ) → HoldsPair X p q → Moves A p a p' → IsAnswered A X q a p'
-  pub ranked : (p q : ℕ) → HoldsPair X p q → IsAccepting A p → (r : ℕ) × HasRank X p q r
-  pub at_zero : (p q : ℕ) → HasRank X p q 0 → IsAccepting A q
-  pub above_zero : (p q r a p' : ℕ) → HasRank X p q r → 0 < r → Moves A p a p' → IsAnsweredBelow A X r q a p'
+-- q answers it with a triple of lesser rank.
+abbrev pub IsAnsweredBelow : Automaton → RankedTriples → ℕ → List ℕ → ℕ → ℕ → ℕ → Type 0
+IsAnsweredBelow A X r c q a p' = (q' s : ℕ) × Moves A q a q' × HasRank X c p' q' s × (s < r)
 
--- Both states of each pair are below n.
-abbrev pub AreRankedBelow : ℕ → RankedPairs → Type 0
-AreRankedBelow n X = (p q : ℕ) → HoldsPair X p q → (p < n) × (q < n)
+-- The triples and ranks are right: whatever letter is announced next, each move of a left state is answered; a triple has a rank if its
+-- left state is accepting; at rank 0 the right state is accepting; and at a greater rank each move is answered with a lesser one.
+pub record IsRight (A : Automaton) (X : RankedTriples) : Type 0 where
+  pub answers :
+      (b : List ℕ) (p q more a : ℕ) (c : List ℕ) (p' : ℕ)
+      → HoldsTriple X b p q
+      → more < A.labels
+      → Announces b more a c
+      → Moves A p a p'
+      → IsAnswered A X c q a p'
+  pub ranked : (b : List ℕ) (p q : ℕ) → HoldsTriple X b p q → IsAccepting A p → (r : ℕ) × HasRank X b p q r
+  pub at_zero : (b : List ℕ) (p q : ℕ) → HasRank X b p q 0 → IsAccepting A q
+  pub above_zero :
+      (b : List ℕ) (p q r more a : ℕ) (c : List ℕ) (p' : ℕ)
+      → HasRank X b p q r
+      → 0 < r
+      → more < A.labels
+      → Announces b more a c
+      → Moves A p a p'
+      → IsAnsweredBelow A X r c q a p'
 
--- No pair stands there in two ways, with two ranks or with one and without.
-abbrev pub HasPairsOnce : RankedPairs → Type 0
-HasPairsOnce X = (p q : ℕ) (o m : Option ℕ) → Contains X (p, q, o) → Contains X (p, q, m) → o ≡ m
+-- The letters stand between two states of a game with n announced letters over this many labels: n - 1 labels.
+abbrev pub AreAnnounced : ℕ → ℕ → List ℕ → Type 0
+AreAnnounced labels n b = (suc (length b) ≡ n) × All (λ a. a < labels) b
 
--- The greatest delayed relation: it is right, holds each pair that some right list of pairs of states holds, and gives each pair that
--- some such list ranks the least rank that any of them gives it.
-pub record IsGreatestDelayed (A : Automaton) (X : RankedPairs) : Type 0 where
-  pub in_range : AreRankedBelow A.states X
-  pub once : HasPairsOnce X
+-- Both states of each triple are below this number, and n - 1 labels stand between them.
+abbrev pub AreTriplesOf : ℕ → ℕ → ℕ → RankedTriples → Type 0
+AreTriplesOf states labels n X = (b : List ℕ) (p q : ℕ) → HoldsTriple X b p q → AreAnnounced labels n b × (p < states) × (q < states)
+
+-- No triple stands there in two ways, with two ranks or with one and without.
+abbrev pub HasTriplesOnce : RankedTriples → Type 0
+HasTriplesOnce X = (b : List ℕ) (p q : ℕ) (o m : Option ℕ) → Contains X (p, b, q, o) → Contains X (p, b, q, m) → o ≡ m
+
+-- The greatest delayed relation with n announced letters: it is right, holds each triple that some right list of triples of A holds, and
+-- gives each triple that some such list ranks the least rank that any of them gives it.
+pub record IsGreatestDelayed (A : Automaton) (n : ℕ) (X : RankedTriples) : Type 0 where
+  pub in_range : AreTriplesOf A.states A.labels n X
+  pub once : HasTriplesOnce X
   pub right : IsRight A X
-  pub has_each : (Y : RankedPairs) → AreRankedBelow A.states Y → IsRight A Y → (p q : ℕ) → HoldsPair Y p q → HoldsPair X p q
-  pub least : (Y : RankedPairs) → AreRankedBelow A.states Y → IsRight A Y → (p q s : ℕ) → HasRank Y p q s → (r : ℕ) × HasRank X p q r × (r ≤ s)
+  pub has_each :
+      (Y : RankedTriples) → AreTriplesOf A.states A.labels n Y → IsRight A Y
+      → (b : List ℕ) (p q : ℕ) → HoldsTriple Y b p q → HoldsTriple X b p q
+  pub least :
+      (Y : RankedTriples) → AreTriplesOf A.states A.labels n Y → IsRight A Y
+      → (b : List ℕ) (p q s : ℕ) → HasRank Y b p q s → (r : ℕ) × HasRank X b p q r × (r ≤ s)
+
+-- The state relation: q is related to p whatever letters are announced.
+abbrev pub AreRelatedAhead : ℕ → ℕ → RankedTriples → ℕ → ℕ → Type 0
+AreRelatedAhead labels n X p q = (b : List ℕ) → AreAnnounced labels n b → HoldsTriple X b p q
+
+-- Four million: the most triples, each with one more letter, of a game that is played.
+abbrev pub most_triples : ℕ
+most_triples = 4000000
+
+-- With n announced letters there are at most that many.
+abbrev pub are_few_triples : Automaton → ℕ → Bool
+are_few_triples A n = nat_le (A.states * A.states * A.labels ^ n) most_triples
+
+-- The greatest number of announced letters up to n, and at least 1, with at most that many.
+abbrev pub most_letters : Automaton → ℕ → ℕ
+most_letters A zero = 1
+most_letters A (suc n) = if are_few_triples A (suc n) then suc n else most_letters A n
+
+-- How many letters are announced where n are asked for: without labels one.
+abbrev pub letters_for : Automaton → ℕ → ℕ
+letters_for A n = if A.labels == 0 then 1 else most_letters A n

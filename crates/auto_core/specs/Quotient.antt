@@ -28,6 +28,10 @@ pub record IsQuotient (A : Automaton) (classes : List ℕ) (B : Automaton) : Typ
   pub moves : (c a d : ℕ) → Moves B c a d ↔ ((p q : ℕ) × Moves A p a q × (c ≡ class_of classes p) × (d ≡ class_of classes q))
   pub accepting : (c : ℕ) → IsAccepting B c ↔ ((q : ℕ) × IsAccepting A q × (c ≡ class_of classes q))
 
--- The closure of the list relates any two members of a class, and so both ways.
+-- The closure of R relates any two members of a class, and so both ways.
+abbrev pub RelatesMembersBy : Automaton → List ℕ → (ℕ → ℕ → Type 0) → Type 0
+RelatesMembersBy A classes R = (p q : ℕ) → p < A.states → q < A.states → class_of classes p ≡ class_of classes q → Close R p q
+
+-- So does the closure of the pairs of the list.
 abbrev pub RelatesMembers : Automaton → List ℕ → List (ℕ × ℕ) → Type 0
-RelatesMembers A classes S = (p q : ℕ) → p < A.states → q < A.states → class_of classes p ≡ class_of classes q → Close (Holds S) p q
+RelatesMembers A classes S = RelatesMembersBy A classes (Holds S)

@@ -1,10 +1,10 @@
 //! The checks and tables of which `Auto::build` makes an automaton.
 
-ghost use Rattle.std.specs.Prelude.{◌≡◌, ◌+◌, ◌^◌, ◌<◌, length, IsTrue, IfOk, All, slice_index, slice_index_or, ℕ, Err};
+ghost use Rattle.std.specs.Prelude.{◌≡◌, ◌+◌, ◌^◌, ◌<◌, ◌≤◌, true, length, IsTrue, IfOk, All, slice_index, slice_index_or, ℕ, Err};
 ghost use Rattle.std.specs.Bool.{OnTrue, OnFalse};
 ghost use Rattle.std.specs.List.Sorted.{IsPermutation, IsNonDecreasing, IsStrictlyIncreasing};
 ghost use Rattle.auto_core.specs.Automaton.{IsBefore, IsAscending, HasRepeat};
-ghost use Rattle.auto_core.specs.Build.{HasStateFault, HasStates, HasLabelFault, HasLabels, AreStarts, AreFlags, AreArrivals, sources_of, targets_at};
+ghost use Rattle.auto_core.specs.Build.{HasStateFault, HasStates, HasLabelFault, HasLabels, IsStart, AreStarts, AreFlags, AreArrivals, sources_of, targets_at};
 ghost use Rattle.auto_core.specs.Arrivals.{AreNumbered, arrival_numbers};
 
 use crate::automaton::BuildFault;
@@ -43,6 +43,27 @@ pub fn names_no_label(labels: u32, transitions: &[Trans]) -> bool
     transitions.iter().any(|t| t.label >= labels)
 }
 
+/// Tells whether the first transition stands before the second.
+fn is_before(t: Trans, u: Trans) -> bool
+    ensures { result ≡ true → IsBefore t u }
+{
+    t.source < u.source
+        || (t.source == u.source
+            && (t.label < u.label || (t.label == u.label && t.target < u.target)))
+}
+
+/// Tells whether each transition stands before the next.
+fn is_ascending(transitions: &[Trans]) -> bool
+    ensures { result ≡ true → IsAscending transitions.now }
+{
+    for i in 1..transitions.len() {
+        if !is_before(transitions[i - 1], transitions[i]) {
+            return false;
+        }
+    }
+    true
+}
+
 /// The transitions in order. `Repeat` where two of them are equal.
 pub fn sorted_transitions(alloc: Global, transitions: &[Trans]) -> Result<Vec<Trans>, BuildFault>
     ensures same { IfOk result (λ v. IsPermutation transitions.now v.items) }
@@ -52,6 +73,9 @@ pub fn sorted_transitions(alloc: Global, transitions: &[Trans]) -> Result<Vec<Tr
     ensures no_label_range { ¬ (result ≡ Err BuildFault.LabelRange) }
 {
     let mut sorted = Vec::from_slice(alloc, transitions).map_err(|_| BuildFault::Memory)?;
+    if is_ascending(&sorted) {
+        return Ok(sorted);
+    }
     sorted.sort().map_err(|_| BuildFault::Memory)?;
     if has_equal_neighbours(&sorted) {
         return Err(BuildFault::Repeat);
@@ -99,6 +123,21 @@ fn has_equal_states(states: &[u32]) -> bool
     false
 }
 
+/// Where the keys that are not below `p` start, if those before `from` are.
+fn start_from(keys: &[u32], from: usize, p: usize) -> usize
+    requires rising { IsNonDecreasing keys.now }
+    requires within { from ≤ length keys.now }
+    requires below { (k : ℕ) → k < from → slice_index keys.now k < p }
+    ensures { IsStart keys.now p result }
+{
+    for k in from..keys.len() {
+        if keys[k] as usize >= p {
+            return k;
+        }
+    }
+    keys.len()
+}
+
 /// For each number up to `count`, where the keys that are not below it start.
 pub fn starts_of(alloc: Global, keys: &[u32], count: u32) -> Result<Vec<u32>, Memory>
     requires rising { IsNonDecreasing keys.now }
@@ -106,9 +145,10 @@ pub fn starts_of(alloc: Global, keys: &[u32], count: u32) -> Result<Vec<u32>, Me
     ensures { IfOk result (λ starts. AreStarts keys.now count starts.items) }
 {
     let mut starts = Vec::with_capacity(alloc, count as usize + 1)?;
+    let mut at = 0;
     for p in 0..count as usize + 1 {
-        let start = keys.partition_point(|key| (*key as usize) < p);
-        starts.push(start as u32)?;
+        at = start_from(keys, at, p);
+        starts.push(at as u32)?;
     }
     Ok(starts)
 }

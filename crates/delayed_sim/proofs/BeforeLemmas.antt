@@ -2,15 +2,16 @@
 use Rattle.std.proofs.Common.{◌≡◌, ℕ, ◌+◌, ◌*◌, ◌<◌, ◌≤◌, ◌⊎◌, ◌↔◌, inl, inr, true, false, List, Option, None, Some, length, get_or, set, refl, sym, ap, ◌∙◌, subst, arith}
 use Rattle.std.proofs.lemmas.Bool.{cases_eq, cases_lt, false≢true}
 use Rattle.std.proofs.lemmas.Nat.{same_from_place, mul-add-lt}
+use Rattle.std.proofs.Math.Nat.{mul_comm}
 use Rattle.std.proofs.lemmas.List.{get_or-set_same, get_or-set_other}
 use Rattle.auto_core.specs.Automaton.{Automaton, Moves, trans_at}
 use Rattle.auto_core.specs.Rows.{bit_of, cell_of, HasBit, HasCell}
 use Rattle.auto_core.specs.Game.{Holds}
 use Rattle.auto_core.proofs.BitLemmas.{bit_past}
-use Rattle.bit_rel.specs.Relation.{Relation, IsRelation, Removes}
-use Rattle.bit_rel.proofs.LengthLemmas.{fewer, no_more}
+use Rattle.delayed_sim.specs.Pairings.{Pairing, IsPairing, Loses}
+use Rattle.delayed_sim.proofs.BoardLemmas.{fewer_pairs, no_more_pairs}
 use Rattle.row_steps.specs.Walks.{IsNextBit}
-use Rattle.delayed_sim.specs.Stored.{rank_at}
+use Rattle.delayed_sim.specs.Levels.{rank_at}
 use Rattle.delayed_sim.specs.Before.{LeadsTo}
 use Rattle.delayed_sim.specs.Boards.{row_words, IsRanked, GivesRank}
 
@@ -64,26 +65,26 @@ found_more A ns i old now new w a q label source by from was here others = elim 
 ]
 
 -- The rows of the letters that lead to a state mark the states from which a move leads into `ends` below a place.
-abbrev pub LettersLead : Automaton → ℕ → List ℕ → List ℕ → ℕ → ℕ → Type 0
-LettersLead A to ends made w at =
-    (p a q : ℕ) → Moves A p a to → q < w * 64 → HasCell made w a q ↔ ((q' : ℕ) × Moves A q a q' × (q' < at) × HasBit ends q')
+abbrev pub LettersLead : Automaton → Automaton → ℕ → List ℕ → List ℕ → ℕ → ℕ → Type 0
+LettersLead L A to ends made w at =
+    (p a q : ℕ) → Moves L p a to → q < w * 64 → HasCell made w a q ↔ ((q' : ℕ) × Moves A q a q' × (q' < at) × HasBit ends q')
 
 pub letters_none :
-    (A : Automaton) (to : ℕ) (ends made : List ℕ) (w : ℕ)
-    → ((p a q : ℕ) → Moves A p a to → q < w * 64 → cell_of made w a q ≡ false)
-    → LettersLead A to ends made w 0
-letters_none A to ends made w clear p a q move near = (
+    (L A : Automaton) (to : ℕ) (ends made : List ℕ) (w : ℕ)
+    → ((p a q : ℕ) → Moves L p a to → q < w * 64 → cell_of made w a q ≡ false)
+    → LettersLead L A to ends made w 0
+letters_none L A to ends made w clear p a q move near = (
   λ cell. absurd (false≢true (sym (clear p a q move near) ∙ cell)),
   λ is. let lt = is.2 in absurd (omega arith),
 )
 
 pub letters_more :
-    (A : Automaton) (to : ℕ) (ends old new : List ℕ) (w at right : ℕ)
-    → LettersLead A to ends old w at
+    (L A : Automaton) (to : ℕ) (ends old new : List ℕ) (w at right : ℕ)
+    → LettersLead L A to ends old w at
     → IsNextBit ends at right
     → ((a q : ℕ) → q < w * 64 → HasCell new w a q ↔ (HasCell old w a q ⊎ Moves A q a right))
-    → LettersLead A to ends new w (right + 1)
-letters_more A to ends old new w at right h next marks p a q move near = (
+    → LettersLead L A to ends new w (right + 1)
+letters_more L A to ends old new w at right h next marks p a q move near = (
   λ cell. elim ((marks a q near).0 cell) [
     | inl was ↦ let is = (h p a q move near).0 was in let lt = is.2 in let le = next.behind in (is.0, is.1, omega arith, is.3)
     | inr go ↦ (right, go, omega arith, next.here)
@@ -98,14 +99,14 @@ letters_more A to ends old new w at right h next marks p a q move near = (
 )
 
 pub letters_all :
-    (A : Automaton) (to : ℕ) (ends made : List ℕ) (w at : ℕ)
-    → LettersLead A to ends made w at
+    (L A : Automaton) (to : ℕ) (ends made : List ℕ) (w at : ℕ)
+    → LettersLead L A to ends made w at
     → ((i : ℕ) → at ≤ i → bit_of ends i ≡ false)
     → (p a q : ℕ)
-    → Moves A p a to
+    → Moves L p a to
     → q < w * 64
     → HasCell made w a q ↔ LeadsTo A a ends q
-letters_all A to ends made w at h none p a q move near = (
+letters_all L A to ends made w at h none p a q move near = (
   λ cell. let is = (h p a q move near).0 cell in (is.0, is.1, is.3),
   λ is. elim (cases_lt is.0 at) [
     | inl before ↦ (h p a q move near).1 (is.0, is.1, before, is.2)
@@ -115,46 +116,47 @@ letters_all A to ends made w at h none p a q move near = (
 
 -- the row of such a letter
 pub row_leads :
-    (A : Automaton) (to : ℕ) (made ends row : List ℕ) (w p a label : ℕ)
-    → Moves A p a to
+    (L A : Automaton) (to : ℕ) (made ends row : List ℕ) (w p a label : ℕ)
+    → Moves L p a to
     → label ≡ a
     → length row ≡ w
     → ((q : ℕ) → q < w * 64 → bit_of row q ≡ cell_of made w label q)
-    → ((p a q : ℕ) → Moves A p a to → q < w * 64 → HasCell made w a q ↔ LeadsTo A a ends q)
+    → ((p a q : ℕ) → Moves L p a to → q < w * 64 → HasCell made w a q ↔ LeadsTo A a ends q)
     → ((q a q' : ℕ) → Moves A q a q' → q < w * 64)
     → (q : ℕ)
     → HasBit row q ↔ LeadsTo A a ends q
-row_leads A to made ends row w p a label move e len bits are room q = (
+row_leads L A to made ends row w p a label move e len bits are room q = (
   λ bit. let near = bit_near row w q len bit in (are p a q move near).0 (subst (λ x. HasCell made w x q) e (sym (bits q near) ∙ bit)),
   λ leads. let near = room q a leads.0 leads.1 in bits q near ∙ subst (λ x. HasCell made w x q) (sym e) ((are p a q move near).1 leads),
 )
 
 -- Of the left state the pairs with states of the row below a place got the rank.
-pub record HasGiven (unranked : Relation) (ranks : List (Option ℕ)) (p : ℕ) (row : List ℕ) (rank : ℕ) (unranked' : Relation) (ranks' : List (Option ℕ)) (at : ℕ) : Type 0 where
-  pub size : unranked'.size ≡ unranked.size
-  pub valid : IsRelation unranked'
+pub record HasGiven (unranked : Pairing) (ranks : List (Option ℕ)) (p : ℕ) (row : List ℕ) (rank : ℕ) (unranked' : Pairing) (ranks' : List (Option ℕ)) (at : ℕ) : Type 0 where
+  pub places : unranked'.places ≡ unranked.places
+  pub states : unranked'.states ≡ unranked.states
+  pub valid : IsPairing unranked'
   pub len : length ranks' ≡ length ranks
   pub pairs : (r s : ℕ) → Holds unranked'.pairs r s ↔ (Holds unranked.pairs r s × ((r ≡ p) × (s < at) × HasBit row s → ⊥))
-  pub table : (r s : ℕ) → r < unranked.size → s < unranked.size
-      → ((r ≡ p) × (s < at) × HasBit row s × (rank_at ranks' unranked.size r s ≡ Some rank))
-      ⊎ (((r ≡ p) × (s < at) × HasBit row s → ⊥) × (rank_at ranks' unranked.size r s ≡ rank_at ranks unranked.size r s))
+  pub table : (r s : ℕ) → r < unranked.places → s < unranked.states
+      → ((r ≡ p) × (s < at) × HasBit row s × (rank_at ranks' unranked.states r s ≡ Some rank))
+      ⊎ (((r ≡ p) × (s < at) × HasBit row s → ⊥) × (rank_at ranks' unranked.states r s ≡ rank_at ranks unranked.states r s))
 
 -- The rank of one pair of the table is set.
 pub rank_set :
-    (ranks : List (Option ℕ)) (n p q rank at : ℕ)
-    → length ranks ≡ n * n
-    → p < n
+    (ranks : List (Option ℕ)) (m n p q rank at : ℕ)
+    → length ranks ≡ m * n
+    → p < m
     → q < n
     → at ≡ p * n + q
     → (r s : ℕ)
-    → r < n
+    → r < m
     → s < n
     → ((r ≡ p) × (s ≡ q) × (rank_at (set ranks at (Some rank)) n r s ≡ Some rank))
     ⊎ (((r ≡ p) × (s ≡ q) → ⊥) × (rank_at (set ranks at (Some rank)) n r s ≡ rank_at ranks n r s))
-rank_set ranks n p q rank at len p_in q_in is r s r_in s_in = elim (cases_eq (r * n + s) at) [
+rank_set ranks m n p q rank at len p_in q_in is r s r_in s_in = elim (cases_eq (r * n + s) at) [
   | inl e ↦
       let same = same_from_place r s p q n s_in q_in (e ∙ is) in
-      let inside : at < length ranks = omega (arith, mul-add-lt p n q n p_in q_in, len, is) in
+      let inside : at < length ranks = omega (arith, mul-add-lt p n q m p_in q_in, mul_comm n m, len, is) in
       inl (same.0, same.1, ap (λ i. get_or (set ranks at (Some rank)) i None) e ∙ get_or-set_same ranks at (Some rank) None inside)
   | inr far ↦ inr (
     λ these. far (ap (λ x. x * n + s) these.0 ∙ ap (λ y. p * n + y) these.1 ∙ sym is),
@@ -162,9 +164,10 @@ rank_set ranks n p q rank at len p_in q_in is r s r_in s_in = elim (cases_eq (r 
   )
 ]
 
-pub given_none : (unranked : Relation) (ranks : List (Option ℕ)) (p : ℕ) (row : List ℕ) (rank : ℕ) → IsRelation unranked → HasGiven unranked ranks p row rank unranked ranks 0
+pub given_none : (unranked : Pairing) (ranks : List (Option ℕ)) (p : ℕ) (row : List ℕ) (rank : ℕ) → IsPairing unranked → HasGiven unranked ranks p row rank unranked ranks 0
 given_none unranked ranks p row rank valid = record {
-  size = refl;
+  places = refl;
+  states = refl;
   valid = valid;
   len = refl;
   pairs = λ r s. (λ h. (h, λ is. let lt = is.1 in absurd (omega arith)), λ both. both.0);
@@ -172,22 +175,23 @@ given_none unranked ranks p row rank valid = record {
 }
 
 pub given_more :
-    (unranked now new : Relation) (ranks ranks' ranks'' : List (Option ℕ)) (p : ℕ) (row : List ℕ) (rank at q : ℕ)
+    (unranked now new : Pairing) (ranks ranks' ranks'' : List (Option ℕ)) (p : ℕ) (row : List ℕ) (rank at q : ℕ)
     → HasGiven unranked ranks p row rank now ranks' at
     → IsNextBit row at q
-    → Removes now new p q
-    → IsRelation new
+    → Loses now new p q
+    → IsPairing new
     → length ranks'' ≡ length ranks'
-    → ((r s : ℕ) → r < unranked.size → s < unranked.size
-    → ((r ≡ p) × (s ≡ q) × (rank_at ranks'' unranked.size r s ≡ Some rank)) ⊎ (((r ≡ p) × (s ≡ q) → ⊥) × (rank_at ranks'' unranked.size r s ≡ rank_at ranks' unranked.size r s)))
+    → ((r s : ℕ) → r < unranked.places → s < unranked.states
+    → ((r ≡ p) × (s ≡ q) × (rank_at ranks'' unranked.states r s ≡ Some rank)) ⊎ (((r ≡ p) × (s ≡ q) → ⊥) × (rank_at ranks'' unranked.states r s ≡ rank_at ranks' unranked.states r s)))
     → HasGiven unranked ranks p row rank new ranks'' (q + 1)
-given_more unranked now new ranks ranks' ranks'' p row rank at q h next removes valid len sets = record {
-  size = removes.size ∙ h.size;
+given_more unranked now new ranks ranks' ranks'' p row rank at q h next loses valid len sets = record {
+  places = loses.places ∙ h.places;
+  states = loses.states ∙ h.states;
   valid = valid;
   len = len ∙ h.len;
   pairs = λ r s. (
     λ held.
-        let two = (removes.pairs r s).0 held in
+        let two = (loses.pairs r s).0 held in
         let was = (h.pairs r s).0 two.0 in (
           was.0,
           λ is. elim (cases_eq s q) [
@@ -198,7 +202,7 @@ given_more unranked now new ranks ranks' ranks'' p row rank at q h next removes 
             ]
           ],
         ),
-    λ both. (removes.pairs r s).1 (
+    λ both. (loses.pairs r s).1 (
       (h.pairs r s).1 (both.0, λ is. let lt = is.1 in let le = next.behind in both.1 (is.0, omega arith, is.2)),
       λ is. let e = is.1 in both.1 (is.0, omega arith, subst (λ x. HasBit row x) (sym is.1) next.here),
     ),
@@ -221,21 +225,23 @@ given_more unranked now new ranks ranks' ranks'' p row rank at q h next removes 
   ];
 }
 
-module _ (A : Automaton) (S : ℕ → ℕ → Type 0) (rank : ℕ) (unranked : Relation) (ranks : List (Option ℕ)) where
+module _ (L A : Automaton) (S : ℕ → ℕ → Type 0) (rank : ℕ) (unranked : Pairing) (ranks : List (Option ℕ)) where
   -- The rows below p are done.
-  pub record GivesUpto (unranked' : Relation) (ranks' : List (Option ℕ)) (fresh : List ℕ) (p : ℕ) : Type 0 where
-    pub size : unranked'.size ≡ unranked.size
-    pub valid : IsRelation unranked'
+  pub record GivesUpto (unranked' : Pairing) (ranks' : List (Option ℕ)) (fresh : List ℕ) (p : ℕ) : Type 0 where
+    pub places : unranked'.places ≡ unranked.places
+    pub states : unranked'.states ≡ unranked.states
+    pub valid : IsPairing unranked'
     pub len : length ranks' ≡ length ranks
     pub pairs : (r s : ℕ) → Holds unranked'.pairs r s ↔ (Holds unranked.pairs r s × ((r < p) × S r s → ⊥))
-    pub table : (r s : ℕ) → r < A.states → s < A.states
+    pub table : (r s : ℕ) → r < L.states → s < A.states
         → ((r < p) × S r s × IsRanked A ranks' r s rank) ⊎ (((r < p) × S r s → ⊥) × (rank_at ranks' A.states r s ≡ rank_at ranks A.states r s))
     pub rows : (r s : ℕ) → r < p → s < A.states → HasCell fresh (row_words A) r s ↔ S r s
     pub columns : (r s : ℕ) → r < p → s < row_words A * 64 → HasCell fresh (row_words A) r s → s < A.states
 
-  pub gives_none : (fresh : List ℕ) → IsRelation unranked → GivesUpto unranked ranks fresh 0
+  pub gives_none : (fresh : List ℕ) → IsPairing unranked → GivesUpto unranked ranks fresh 0
   gives_none fresh valid = record {
-    size = refl;
+    places = refl;
+    states = refl;
     valid = valid;
     len = refl;
     pairs = λ r s. (λ h. (h, λ is. let lt = is.0 in absurd (omega arith)), λ both. both.0);
@@ -245,25 +251,28 @@ module _ (A : Automaton) (S : ℕ → ℕ → Type 0) (rank : ℕ) (unranked : R
   }
 
   pub gives_row :
-      (now new : Relation) (ranks' ranks'' : List (Option ℕ)) (fresh fresh' row : List ℕ) (p : ℕ)
-      → unranked.size ≡ A.states
-      → p < A.states
+      (now new : Pairing) (ranks' ranks'' : List (Option ℕ)) (fresh fresh' row : List ℕ) (p : ℕ)
+      → unranked.places ≡ L.states
+      → unranked.states ≡ A.states
+      → p < L.states
       → A.states ≤ row_words A * 64
       → GivesUpto now ranks' fresh p
       → ((q : ℕ) → HasBit row q ↔ S p q)
       → ((q : ℕ) → S p q → q < A.states)
       → ((q : ℕ) → q < row_words A * 64 → cell_of fresh' (row_words A) p q ≡ bit_of row q)
       → ((r q : ℕ) → q < row_words A * 64 → ¬ (r ≡ p) → cell_of fresh' (row_words A) r q ≡ cell_of fresh (row_words A) r q)
-      → new.size ≡ now.size
-      → IsRelation new
+      → new.places ≡ now.places
+      → new.states ≡ now.states
+      → IsPairing new
       → length ranks'' ≡ length ranks'
       → ((r s : ℕ) → Holds new.pairs r s ↔ (Holds now.pairs r s × ((r ≡ p) × HasBit row s → ⊥)))
-      → ((r s : ℕ) → r < now.size → s < now.size
-      → ((r ≡ p) × HasBit row s × (rank_at ranks'' now.size r s ≡ Some rank))
-      ⊎ (((r ≡ p) × HasBit row s → ⊥) × (rank_at ranks'' now.size r s ≡ rank_at ranks' now.size r s)))
+      → ((r s : ℕ) → r < now.places → s < now.states
+      → ((r ≡ p) × HasBit row s × (rank_at ranks'' now.states r s ≡ Some rank))
+      ⊎ (((r ≡ p) × HasBit row s → ⊥) × (rank_at ranks'' now.states r s ≡ rank_at ranks' now.states r s)))
       → GivesUpto new ranks'' fresh' (p + 1)
-  gives_row now new ranks' ranks'' fresh fresh' row p size p_in room h bits right here others same valid len opens gives = record {
-    size = same ∙ h.size;
+  gives_row now new ranks' ranks'' fresh fresh' row p places size p_in room h bits right here others same_places same valid len opens gives = record {
+    places = same_places ∙ h.places;
+    states = same ∙ h.states;
     valid = valid;
     len = len ∙ h.len;
     pairs = λ r s. (
@@ -308,22 +317,24 @@ module _ (A : Automaton) (S : ℕ → ℕ → Type 0) (rank : ℕ) (unranked : R
     ];
   }
     where
-      at_states : (r s : ℕ) → r < A.states → s < A.states
+      at_states : (r s : ℕ) → r < L.states → s < A.states
           → ((r ≡ p) × HasBit row s × IsRanked A ranks'' r s rank)
           ⊎ (((r ≡ p) × HasBit row s → ⊥) × (rank_at ranks'' A.states r s ≡ rank_at ranks' A.states r s))
       at_states r s r_in s_in =
-          let n_is : now.size ≡ A.states = h.size ∙ size in
+          let n_is : now.states ≡ A.states = h.states ∙ size in
+          let m_is : now.places ≡ L.states = h.places ∙ places in
           let P : ℕ → Type 0 = λ n. ((r ≡ p) × HasBit row s × (rank_at ranks'' n r s ≡ Some rank)) ⊎ (((r ≡ p) × HasBit row s → ⊥) × (rank_at ranks'' n r s ≡ rank_at ranks' n r s)) in
           subst P n_is (gives r s (omega arith) (omega arith))
 
   pub gives_all :
-      (unranked' : Relation) (ranks' : List (Option ℕ)) (fresh : List ℕ) (p : ℕ)
-      → A.states ≤ p
-      → ((r s : ℕ) → S r s → r < A.states)
+      (unranked' : Pairing) (ranks' : List (Option ℕ)) (fresh : List ℕ) (p : ℕ)
+      → L.states ≤ p
+      → ((r s : ℕ) → S r s → r < L.states)
       → GivesUpto unranked' ranks' fresh p
-      → GivesRank A S rank unranked ranks unranked' ranks' fresh
+      → GivesRank L A S rank unranked ranks unranked' ranks' fresh
   gives_all unranked' ranks' fresh p all below h = record {
-    size = h.size;
+    places = h.places;
+    states = h.states;
     valid = h.valid;
     len = h.len;
     pairs = λ r s. (
@@ -339,20 +350,20 @@ module _ (A : Automaton) (S : ℕ → ℕ → Type 0) (rank : ℕ) (unranked : R
   }
 
   pub gives_fewer :
-      (now new : Relation) (p q : ℕ)
-      → IsRelation now
-      → IsRelation new
+      (now new : Pairing) (p q : ℕ)
+      → IsPairing now
+      → IsPairing new
       → (row : List ℕ)
       → HasBit row q
       → Holds now.pairs p q
       → ((r s : ℕ) → Holds new.pairs r s ↔ (Holds now.pairs r s × ((r ≡ p) × HasBit row s → ⊥)))
       → length new.pairs < length now.pairs
-  gives_fewer now new p q valid after row bit held opens = fewer now new p q valid after (λ r s h. ((opens r s).0 h).0) held (λ h. ((opens p q).0 h).1 (refl, bit))
+  gives_fewer now new p q valid after row bit held opens = fewer_pairs now new p q valid after (λ r s h. ((opens r s).0 h).0) held (λ h. ((opens p q).0 h).1 (refl, bit))
 
   pub gives_no_more :
-      (now new : Relation) (p : ℕ) (row : List ℕ)
-      → IsRelation now
-      → IsRelation new
+      (now new : Pairing) (p : ℕ) (row : List ℕ)
+      → IsPairing now
+      → IsPairing new
       → ((r s : ℕ) → Holds new.pairs r s ↔ (Holds now.pairs r s × ((r ≡ p) × HasBit row s → ⊥)))
       → length new.pairs ≤ length now.pairs
-  gives_no_more now new p row valid after opens = no_more now new valid after (λ r s h. ((opens r s).0 h).0)
+  gives_no_more now new p row valid after opens = no_more_pairs now new valid after (λ r s h. ((opens r s).0 h).0)

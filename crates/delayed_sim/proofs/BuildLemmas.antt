@@ -1,112 +1,157 @@
--- Filling a relation and its ranks from a list of pairs.
-use Rattle.std.proofs.Common.{◌≡◌, ℕ, ◌+◌, ◌*◌, ◌<◌, ◌≤◌, inl, inr, Option, None, List, [], length, get_or, set, Contains, refl, sym, ap, ◌∙◌, subst, arith}
-use Rattle.std.proofs.lemmas.Bool.{cases_eq}
-use Rattle.std.proofs.lemmas.Nat.{same_from_place, mul-add-lt}
-use Rattle.std.proofs.lemmas.List.{get_or-set_same, get_or-set_other, length-set, get_or_default}
-use Rattle.auto_core.specs.Game.{Holds}
-use Rattle.auto_core.proofs.PathLemmas.{none_in_nil}
-use Rattle.bit_rel.specs.Relation.{Relation, IsRelation, Adds}
-use Rattle.delayed_sim.specs.Stored.{rank_at, with_ranks}
-use Rattle.delayed_sim.specs.Rankings.{ranked_pair, ArePairsOf, DifferInStates, HasJust}
-use Rattle.delayed_sim.specs.declared.delayed.RankedPair.{RankedPair}
-use Rattle.delayed_sim.proofs.RankLemmas.{ranks_have, ranks_from}
+-- Entries put in, one by one.
+use Rattle.std.proofs.Common.{◌≡◌, ℕ, ◌+◌, ◌-◌, ◌<◌, ◌≤◌, ◌⊎◌, ◌↔◌, inl, inr, Option, None, List, [], ◌∷◌, ◌++◌, length, map, take, drop, get_or, Contains, sym, ap, ◌∙◌, subst, arith}
+use Rattle.std.specs.List.{insert}
+use Rattle.std.specs.Ordering.{ordering_reverse}
+use Rattle.std.proofs.lemmas.Bool.{cases_eq, cases_order}
+use Rattle.std.proofs.lemmas.List.{get_or_default, map-append, take-map, drop-map}
+use Rattle.std.proofs.lemmas.List.Edits.{length-insert, get_or-insert_below, get_or-insert_at, get_or-insert_above}
+use Rattle.std.proofs.lemmas.List.Sorted.{Contains-permutation, IsPermutation-insert, IsPermutation-sym}
+use Rattle.auto_core.specs.Delayed.{RankedTriples, AreTriplesOf}
+use Rattle.auto_core.proofs.PathLemmas.{Contains-here, Contains-later, Contains-cons_cases, none_in_nil}
+use Rattle.delayed_sim.specs.declared.entries.Entry.{Entry}
+use Rattle.delayed_sim.specs.declared.delayed.RankedTriple.{RankedTriple}
+use Rattle.delayed_sim.specs.Rankings.{Triple, IsTripleBefore, AreTriplesInOrder, ranked_triple, AreTriplesGiven, DifferInTriples, HasJust}
+use Rattle.delayed_sim.specs.Stored.{triple_of, triples_of, no_entry, IsBetween, IsPutIn}
+use Rattle.delayed_sim.proofs.OrderLemmas.{triple_total}
+use Rattle.delayed_sim.proofs.EntryLemmas.{entry_triple, entry_count}
 
--- The pair with this number.
-abbrev pub item : List RankedPair → ℕ → RankedPair
-item pairs k = get_or pairs k (ranked_pair 0 0 None)
+-- the triples after an entry is put in
+pub triples_insert : (n : ℕ) (entries : List Entry) (at : ℕ) (e : Entry) → triples_of n (insert entries at e) ≡ insert (triples_of n entries) at (triple_of n e)
+triples_insert n entries at e =
+    map-append (triple_of n) (take at entries) (e ∷ drop at entries)
+    ∙ ap (λ xs. xs ++ triple_of n e ∷ map (triple_of n) (drop at entries)) (sym (take-map (triple_of n) at entries))
+    ∙ ap (λ ys. take at (triples_of n entries) ++ triple_of n e ∷ ys) (sym (drop-map (triple_of n) at entries))
 
--- The first i pairs are in the relation and the table, and no others.
-pub record IsFilled (n : ℕ) (pairs : List RankedPair) (i : ℕ) (R : Relation) (ranks : List (Option ℕ)) : Type 0 where
-  pub size : R.size ≡ n
-  pub valid : IsRelation R
-  pub len : length ranks ≡ n * n
-  pub from : (p q : ℕ) → Holds R.pairs p q → (k : ℕ) × (k < i) × ((item pairs k).left ≡ p) × ((item pairs k).right ≡ q)
-  pub held : (k : ℕ) → k < i → Holds R.pairs (item pairs k).left (item pairs k).right
-  pub rank : (k : ℕ) → k < i → rank_at ranks n (item pairs k).left (item pairs k).right ≡ (item pairs k).rank
-
-pub filled_none : (n : ℕ) (pairs : List RankedPair) (R : Relation) (ranks : List (Option ℕ)) → R ≡ record { size = n; pairs = [] } → length ranks ≡ n * n → IsFilled n pairs 0 R ranks
-filled_none n pairs R ranks is len =
-    let P : Relation → Type 0 = λ S. IsFilled n pairs 0 S ranks in
-    subst P (sym is) (record {
-      size = refl;
-      valid = record { in_range = λ p q h. absurd (none_in_nil (p, q) h); in_order = tt };
-      len = len;
-      from = λ p q h. absurd (none_in_nil (p, q) h);
-      held = λ k lt. absurd (omega arith);
-      rank = λ k lt. absurd (omega arith);
-    })
-
-pub pair_in : (n : ℕ) (pairs : List RankedPair) (k : ℕ) → ArePairsOf n pairs → k < length pairs → ((item pairs k).left < n) × ((item pairs k).right < n)
-pair_in n pairs k inside k_in = inside (item pairs k).left (item pairs k).right (item pairs k).rank (k, k_in, sym (get_or_default pairs k (ranked_pair 0 0 None) (item pairs k) k_in))
-
-pub filled_more :
-    (n : ℕ) (pairs : List RankedPair) (i : ℕ) (R S : Relation) (ranks : List (Option ℕ))
-    → ArePairsOf n pairs
-    → DifferInStates pairs
-    → i < length pairs
-    → IsFilled n pairs i R ranks
-    → Adds R S (item pairs i).left (item pairs i).right
-    → IsRelation S
-    → IsFilled n pairs (i + 1) S (set ranks ((item pairs i).left * n + (item pairs i).right) (item pairs i).rank)
-filled_more n pairs i R S ranks inside differ i_in h adds valid = record {
-  size = adds.size ∙ h.size;
-  valid = valid;
-  len = length-set ranks place (item pairs i).rank ∙ h.len;
-  from = λ p q is. elim ((adds.pairs p q).0 is) [
-    | inl old ↦ let was = h.from p q old in let lt = was.1 in (was.0, omega arith, was.2, was.3)
-    | inr new ↦ (i, omega arith, sym new.0, sym new.1)
-  ];
-  held = λ k lt. elim (cases_eq k i) [
-    | inl e ↦ subst (λ j. Holds S.pairs (item pairs j).left (item pairs j).right) (sym e) ((adds.pairs (item pairs i).left (item pairs i).right).1 (inr (refl, refl)))
-    | inr far ↦ (adds.pairs (item pairs k).left (item pairs k).right).1 (inl (h.held k (omega arith)))
-  ];
-  rank = λ k lt. elim (cases_eq k i) [
-    | inl e ↦
-        let P : ℕ → Type 0 = λ j. rank_at (set ranks place (item pairs i).rank) n (item pairs j).left (item pairs j).right ≡ (item pairs j).rank in
-        subst P (sym e) (get_or-set_same ranks place (item pairs i).rank None place_in)
-    | inr far ↦
-        get_or-set_other ranks place ((item pairs k).left * n + (item pairs k).right) (item pairs i).rank None
-        (λ same.
-        let k_in : k < length pairs = omega arith in
-        let these = same_from_place (item pairs k).left (item pairs k).right (item pairs i).left (item pairs i).right n (pair_in n pairs k inside k_in).1 (pair_in n pairs i inside i_in).1 same in
-        far (differ k i (ranked_pair 0 0 None) k_in i_in these.0 these.1))
-        ∙ h.rank k (omega arith)
-  ];
-}
+-- a list in order stays so where the new triple stands between those before it and those behind
+order_insert :
+    (T : RankedTriples) (at : ℕ) (t : Triple)
+    → at ≤ length T
+    → AreTriplesInOrder T
+    → ((k : ℕ) (d : Triple) → k < at → IsTripleBefore (get_or T k d) t)
+    → ((k : ℕ) (d : Triple) → at ≤ k → k < length T → IsTripleBefore t (get_or T k d))
+    → AreTriplesInOrder (insert T at t)
+order_insert T at t upto order before behind i j d lt j_in =
+    let len = length-insert T at t upto in
+    elim (cases_order j at) [
+      | inl e ↦
+          let P : ℕ → Type 0 = λ k. IsTripleBefore (get_or (insert T at t) i d) (get_or (insert T at t) k d) in
+          subst P (sym e) (subst (λ y. IsTripleBefore (get_or (insert T at t) i d) y) (sym (get_or-insert_at T at t d upto))
+          (subst (λ x. IsTripleBefore x t) (sym (get_or-insert_below T at t d i (omega arith) upto)) (before i d (omega arith))))
+      | inr (inl below) ↦
+          subst (λ x. IsTripleBefore x (get_or (insert T at t) j d)) (sym (get_or-insert_below T at t d i (omega arith) upto))
+          (subst (λ y. IsTripleBefore (get_or T i d) y) (sym (get_or-insert_below T at t d j below upto)) (order i j d lt (omega arith)))
+      | inr (inr above) ↦ later above (j - 1) (omega arith)
+    ]
   where
-    place : ℕ
-    place = (item pairs i).left * n + (item pairs i).right
+    later : at < j → (m : ℕ) → j ≡ m + 1 → IsTripleBefore (get_or (insert T at t) i d) (get_or (insert T at t) j d)
+    later higher m e =
+        let len = length-insert T at t upto in
+        let from : at ≤ m = omega arith in
+        let m_in : m < length T = omega arith in
+        let there : get_or (insert T at t) j d ≡ get_or T m d = ap (λ k. get_or (insert T at t) k d) e ∙ get_or-insert_above T at t d m from upto in
+        subst (λ y. IsTripleBefore (get_or (insert T at t) i d) y) (sym there) (elim (cases_order i at) [
+          | inl f ↦
+              let P : ℕ → Type 0 = λ k. IsTripleBefore (get_or (insert T at t) k d) (get_or T m d) in
+              subst P (sym f) (subst (λ x. IsTripleBefore x (get_or T m d)) (sym (get_or-insert_at T at t d upto)) (behind m d from m_in))
+          | inr (inl below) ↦ subst (λ x. IsTripleBefore x (get_or T m d)) (sym (get_or-insert_below T at t d i below upto)) (order i m d (omega arith) m_in)
+          | inr (inr above) ↦ last above (i - 1) (omega arith)
+        ])
+      where
+        last : at < i → (k : ℕ) → i ≡ k + 1 → IsTripleBefore (get_or (insert T at t) i d) (get_or T m d)
+        last upper k f =
+            let len = length-insert T at t upto in
+            let here : get_or (insert T at t) i d ≡ get_or T k d = ap (λ x. get_or (insert T at t) x d) f ∙ get_or-insert_above T at t d k (omega arith) upto in
+            subst (λ x. IsTripleBefore x (get_or T m d)) (sym here) (order k m d (omega arith) (omega arith))
 
-    place_in : place < length ranks
-    place_in =
-        let range = pair_in n pairs i inside i_in in
-        let lt = mul-add-lt (item pairs i).left n (item pairs i).right n range.0 range.1 in
-        let len = h.len in
-        omega arith
-
-pub filled_all : (n : ℕ) (pairs : List RankedPair) (i : ℕ) (R : Relation) (ranks : List (Option ℕ)) → ¬ (i < length pairs) → i ≤ length pairs → IsFilled n pairs i R ranks → HasJust (with_ranks R ranks) pairs
-filled_all n pairs i R ranks end upto h p q o = (
-  λ c.
-      let is = ranks_from R ranks p q o c in
-      let from = h.from p q is.0 in
-      let lt = from.1 in
-      let k_in : from.0 < length pairs = omega arith in
-      let at_n : rank_at ranks n p q ≡ o = subst (λ m. rank_at ranks m p q ≡ o) h.size is.1 in
-      let rank : (item pairs from.0).rank ≡ o =
-      sym (h.rank from.0 lt) ∙ ap (λ x. rank_at ranks n x (item pairs from.0).right) from.2 ∙ ap (λ y. rank_at ranks n p y) from.3 ∙ at_n in
-      (from.0, k_in, sym (get_or_default pairs from.0 (ranked_pair 0 0 None) (ranked_pair p q o) k_in) ∙ whole (item pairs from.0) p q o from.2 from.3 rank),
-  λ c.
-      let k : ℕ = c.0 in
-      let k_in : k < length pairs = c.1 in
-      let is : item pairs k ≡ ranked_pair p q o = get_or_default pairs k (ranked_pair 0 0 None) (ranked_pair p q o) k_in ∙ c.2 in
-      let lt : k < i = omega arith in
-      let left : (item pairs k).left ≡ p = ap (λ (x : RankedPair). x.left) is in
-      let right : (item pairs k).right ≡ q = ap (λ (x : RankedPair). x.right) is in
-      let rank : (item pairs k).rank ≡ o = ap (λ (x : RankedPair). x.rank) is in
-      let held : Holds R.pairs p q = subst (λ y. Holds R.pairs p y) right (subst (λ x. Holds R.pairs x (item pairs k).right) left (h.held k lt)) in
-      let at_n : rank_at ranks n p q ≡ o = ap (λ y. rank_at ranks n p y) (sym right) ∙ ap (λ x. rank_at ranks n x (item pairs k).right) (sym left) ∙ h.rank k lt ∙ rank in
-      subst (λ x. Contains (with_ranks R ranks) (p, q, x)) (subst (λ m. rank_at ranks m p q ≡ o) (sym h.size) at_n) (ranks_have R ranks p q held),
+-- the triples are the old ones and the new one
+contains_insert : (T : RankedTriples) (at : ℕ) (t x : Triple) → at ≤ length T → Contains (insert T at t) x ↔ (Contains T x ⊎ (t ≡ x))
+contains_insert T at t x upto = (
+  λ h. elim (Contains-cons_cases t x T (Contains-permutation (insert T at t) (t ∷ T) x (IsPermutation-sym (t ∷ T) (insert T at t) (IsPermutation-insert T at t)) h)) [
+    | inl e ↦ inr e
+    | inr there ↦ inl there
+  ],
+  λ either. Contains-permutation (t ∷ T) (insert T at t) x (IsPermutation-insert T at t) (elim either [
+    | inl there ↦ Contains-later t x T there
+    | inr e ↦ Contains-here t x T e
+  ]),
 )
-  where
-    whole : (x : RankedPair) (p q : ℕ) (o : Option ℕ) → x.left ≡ p → x.right ≡ q → x.rank ≡ o → x ≡ ranked_pair p q o
-    whole x p q o e f g = ap (λ a. ranked_pair a x.right x.rank) e ∙ ap (λ b. ranked_pair p b x.rank) f ∙ ap (λ c. ranked_pair p q c) g
+
+pub put_in : (n : ℕ) (entries : List Entry) (at : ℕ) (e : Entry) → AreTriplesInOrder (triples_of n entries) → IsBetween n entries (triple_of n e) at at → IsPutIn n entries (insert entries at e) e
+put_in n entries at e order gap =
+    let T = triples_of n entries in
+    let t = triple_of n e in
+    let within = gap.within in
+    let upto : at ≤ length T = omega (arith, entry_count n entries) in
+    let is = triples_insert n entries at e in
+    record {
+      in_order = subst AreTriplesInOrder (sym is) (order_insert T at t upto order
+          (λ k d lt. subst (λ x. IsTripleBefore x t) (sym (entry_triple n entries k d (omega arith))) (gap.below k lt))
+          (λ k d from k_in.
+          let k_entry : k < length entries = omega (arith, entry_count n entries) in
+          subst (λ x. IsTripleBefore t x) (sym (entry_triple n entries k d k_entry))
+          (triple_total.antisymm t (triple_of n (get_or entries k no_entry)) ∙ ap ordering_reverse (gap.above k from k_entry))));
+      triples = λ x. subst (λ X. Contains X x ↔ (Contains T x ⊎ (t ≡ x))) (sym is) (contains_insert T at t x upto);
+    }
+
+-- ---- a list of given triples
+
+-- The given triple with this number.
+abbrev pub given : List RankedTriple → ℕ → RankedTriple
+given triples k = get_or triples k (ranked_triple 0 [] 0 None)
+
+abbrev pub as_triple : RankedTriple → Triple
+as_triple x = (x.left, x.ahead, x.right, x.rank)
+
+-- The list has just the first i given triples, in order.
+pub record IsFilled (triples : List RankedTriple) (i : ℕ) (T : RankedTriples) : Type 0 where
+  pub each : (t : Triple) → Contains T t → (k : ℕ) × (k < i) × (as_triple (given triples k) ≡ t)
+  pub all : (k : ℕ) → k < i → Contains T (as_triple (given triples k))
+  pub in_order : AreTriplesInOrder T
+
+pub filled_none : (triples : List RankedTriple) → IsFilled triples 0 []
+filled_none triples = record {
+  each = λ t h. absurd (none_in_nil t h);
+  all = λ k lt. absurd (omega arith);
+  in_order = λ i j d lt j_in. absurd (omega arith);
+}
+
+pub filled_more : (n : ℕ) (triples : List RankedTriple) (i : ℕ) (old new : List Entry) (e : Entry) → IsFilled triples i (triples_of n old) → triple_of n e ≡ as_triple (given triples i) → IsPutIn n old new e → IsFilled triples (i + 1) (triples_of n new)
+filled_more n triples i old new e h is put = record {
+  each = λ t has. elim ((put.triples t).0 has) [
+    | inl was ↦ let (k, lt, at) = h.each t was in (k, omega arith, at)
+    | inr here ↦ (i, omega arith, sym is ∙ here)
+  ];
+  all = λ k lt. elim (cases_eq k i) [
+    | inl f ↦ subst (λ j. Contains (triples_of n new) (as_triple (given triples j))) (sym f) ((put.triples (as_triple (given triples i))).1 (inr is))
+    | inr apart ↦ (put.triples (as_triple (given triples k))).1 (inl (h.all k (omega arith)))
+  ];
+  in_order = put.in_order;
+}
+
+-- the next triple is not there
+pub filled_lacks : (triples : List RankedTriple) (i : ℕ) (T : RankedTriples) (rank : Option ℕ) → DifferInTriples triples → i < length triples → IsFilled triples i T → Contains T ((given triples i).left, (given triples i).ahead, (given triples i).right, rank) → ⊥
+filled_lacks triples i T rank differ i_in h has =
+    let (k, lt, is) = h.each ((given triples i).left, (given triples i).ahead, (given triples i).right, rank) has in
+    let same : k ≡ i = differ k i (ranked_triple 0 [] 0 None) (omega arith) i_in (ap (λ (t : Triple). t.0) is) (ap (λ (t : Triple). t.1) is) (ap (λ (t : Triple). t.2) is) in
+    omega arith
+
+whole : (x : RankedTriple) (p : ℕ) (b : List ℕ) (q : ℕ) (o : Option ℕ) → as_triple x ≡ (p, b, q, o) → x ≡ ranked_triple p b q o
+whole x p b q o e = ap (λ (t : Triple). ranked_triple t.0 t.1 t.2 t.3) e
+
+pub filled_all : (triples : List RankedTriple) (i : ℕ) (T : RankedTriples) → i ≡ length triples → IsFilled triples i T → HasJust T triples
+filled_all triples i T all h p b q o = (
+  λ has.
+      let (k, lt, is) = h.each (p, b, q, o) has in
+      let k_in : k < length triples = omega arith in
+      (k, k_in, get_or_default triples k (ranked_triple p b q o) (ranked_triple 0 [] 0 None) k_in ∙ whole (given triples k) p b q o is),
+  λ (k, k_in, is).
+      let at : given triples k ≡ ranked_triple p b q o = get_or_default triples k (ranked_triple 0 [] 0 None) (ranked_triple p b q o) k_in ∙ is in
+      subst (λ t. Contains T t) (ap as_triple at) (h.all k (omega arith)),
+)
+
+-- what is filled is of the states and labels
+pub filled_range : (states labels n : ℕ) (triples : List RankedTriple) (i : ℕ) (T : RankedTriples) → AreTriplesGiven states labels n triples → i ≤ length triples → IsFilled triples i T → AreTriplesOf states labels n T
+filled_range states labels n triples i T range upto h b p q (o, has) =
+    let (k, lt, is) = h.each (p, b, q, o) has in
+    let k_in : k < length triples = omega arith in
+    range p b q o (k, k_in, get_or_default triples k (ranked_triple p b q o) (ranked_triple 0 [] 0 None) k_in ∙ whole (given triples k) p b q o is)

@@ -4,30 +4,32 @@ use Rattle.std.proofs.lemmas.Bool.{cases_eq, cases_lt, false≢true}
 use Rattle.auto_core.specs.Automaton.{Automaton, Moves, trans_at}
 use Rattle.auto_core.specs.Rows.{bit_of, HasBit}
 use Rattle.auto_core.specs.Game.{Holds}
-use Rattle.auto_core.specs.Delayed.{HoldsPair}
-use Rattle.bit_rel.specs.Relation.{Relation, IsRelation, Removes}
-use Rattle.bit_rel.proofs.LengthLemmas.{fewer}
+use Rattle.delayed_sim.specs.Across.{HoldsPair}
+use Rattle.delayed_sim.specs.Pairings.{Pairing, IsPairing, Loses}
+use Rattle.delayed_sim.proofs.BoardLemmas.{fewer_pairs}
 use Rattle.row_steps.specs.Walks.{IsNextBit}
 use Rattle.delayed_sim.specs.Before.{LeadsTo}
-use Rattle.delayed_sim.specs.Settling.{HasAnswers, Shrinks, IsFiltered, IsAnsweredIn, IsAnsweredInto, IsAnsweredBesides, IsUnderWay, Tries}
+use Rattle.delayed_sim.specs.Settling.{AnswersAll, Shrinks, IsFiltered, IsAnsweredIn, IsAnsweredInto, IsAnsweredBesides, IsUnderWay, Tries}
 
 -- what a bit of the row of p says of a pair
-pub pair_below : (R : Relation) (row : List ℕ) (n p q : ℕ) → R.size ≡ n → IsRelation R → HasBit row q → HasBit row q ↔ Holds R.pairs p q → q < n
+pub pair_below : (R : Pairing) (row : List ℕ) (n p q : ℕ) → R.states ≡ n → IsPairing R → HasBit row q → HasBit row q ↔ Holds R.pairs p q → q < n
 pair_below R row n p q size valid bit both = let lt = (valid.in_range p q (both.0 bit)).1 in omega arith
 
 -- The pairs of p whose right state is below a place were tried.
-pub record HasTried (old now : Relation) (p : ℕ) (P : ℕ → Type 0) (changed : Bool) (at : ℕ) : Type 0 where
-  pub size : now.size ≡ old.size
-  pub valid : IsRelation now
+pub record HasTried (old now : Pairing) (p : ℕ) (P : ℕ → Type 0) (changed : Bool) (at : ℕ) : Type 0 where
+  pub places : now.places ≡ old.places
+  pub states : now.states ≡ old.states
+  pub valid : IsPairing now
   pub pairs : (r s : ℕ) → Holds now.pairs r s ↔ (Holds old.pairs r s × (r ≡ p → s < at → P s))
   pub upto : length now.pairs ≤ length old.pairs
   pub some : changed ≡ true → length now.pairs < length old.pairs
   pub same : changed ≡ false → now ≡ old
 
-module _ (old : Relation) (p : ℕ) (P : ℕ → Type 0) where
-  pub tried_none : IsRelation old → HasTried old old p P false 0
+module _ (old : Pairing) (p : ℕ) (P : ℕ → Type 0) where
+  pub tried_none : IsPairing old → HasTried old old p P false 0
   tried_none valid = record {
-    size = refl;
+    places = refl;
+    states = refl;
     valid = valid;
     pairs = λ r s. (λ h. (h, λ e lt. absurd (omega arith)), λ both. both.0);
     upto = omega arith;
@@ -37,14 +39,15 @@ module _ (old : Relation) (p : ℕ) (P : ℕ → Type 0) where
 
   -- the next pair of the row passes
   pub tried_passed :
-      (now : Relation) (changed : Bool) (row : List ℕ) (at q : ℕ)
+      (now : Pairing) (changed : Bool) (row : List ℕ) (at q : ℕ)
       → HasTried old now p P changed at
       → ((s : ℕ) → HasBit row s ↔ Holds now.pairs p s)
       → IsNextBit row at q
       → P q
       → HasTried old now p P changed (q + 1)
   tried_passed now changed row at q h bits next passes = record {
-    size = h.size;
+    places = h.places;
+    states = h.states;
     valid = h.valid;
     pairs = λ r s. (
       λ held. let was = (h.pairs r s).0 held in (
@@ -66,24 +69,25 @@ module _ (old : Relation) (p : ℕ) (P : ℕ → Type 0) where
 
   -- it does not, and goes
   pub tried_taken :
-      (now new : Relation) (changed : Bool) (row : List ℕ) (at q : ℕ)
+      (now new : Pairing) (changed : Bool) (row : List ℕ) (at q : ℕ)
       → HasTried old now p P changed at
       → ((s : ℕ) → HasBit row s ↔ Holds now.pairs p s)
       → IsNextBit row at q
       → (P q → ⊥)
-      → Removes now new p q
-      → IsRelation new
+      → Loses now new p q
+      → IsPairing new
       → HasTried old new p P true (q + 1)
-  tried_taken now new changed row at q h bits next fails removes valid =
+  tried_taken now new changed row at q h bits next fails loses valid =
       let held : Holds now.pairs p q = (bits q).0 next.here in
-      let fell = fewer now new p q h.valid valid (λ r s k. ((removes.pairs r s).0 k).0) held (λ k. ((removes.pairs p q).0 k).1 (refl, refl)) in
+      let fell = fewer_pairs now new p q h.valid valid (λ r s k. ((loses.pairs r s).0 k).0) held (λ k. ((loses.pairs p q).0 k).1 (refl, refl)) in
       let upto = h.upto in
       record {
-        size = removes.size ∙ h.size;
+        places = loses.places ∙ h.places;
+        states = loses.states ∙ h.states;
         valid = valid;
         pairs = λ r s. (
           λ k.
-              let two = (removes.pairs r s).0 k in
+              let two = (loses.pairs r s).0 k in
               let was = (h.pairs r s).0 two.0 in (
                 was.0,
                 λ e lt. elim (cases_eq s q) [
@@ -94,7 +98,7 @@ module _ (old : Relation) (p : ℕ) (P : ℕ → Type 0) where
                   ]
                 ],
               ),
-          λ both. (removes.pairs r s).1 (
+          λ both. (loses.pairs r s).1 (
             (h.pairs r s).1 (both.0, λ e lt. let le = next.behind in both.1 e (omega arith)),
             λ is. let f = is.1 in fails (subst P is.1 (both.1 is.0 (omega arith))),
           ),
@@ -105,13 +109,14 @@ module _ (old : Relation) (p : ℕ) (P : ℕ → Type 0) where
       }
 
   pub tried_all :
-      (now : Relation) (changed : Bool) (row : List ℕ) (at : ℕ)
+      (now : Pairing) (changed : Bool) (row : List ℕ) (at : ℕ)
       → HasTried old now p P changed at
       → ((s : ℕ) → HasBit row s ↔ Holds now.pairs p s)
       → ((s : ℕ) → at ≤ s → bit_of row s ≡ false)
       → IsFiltered old now p P changed
   tried_all now changed row at h bits none = record {
-    size = h.size;
+    places = h.places;
+    states = h.states;
     valid = h.valid;
     pairs = λ r s. (
       λ held. let was = (h.pairs r s).0 held in (
@@ -128,23 +133,25 @@ module _ (old : Relation) (p : ℕ) (P : ℕ → Type 0) where
   }
 
 -- one pair fewer
-pub removed_fewer : (now new : Relation) (p q : ℕ) → IsRelation now → IsRelation new → Removes now new p q → Holds now.pairs p q → length new.pairs < length now.pairs
-removed_fewer now new p q was valid removes held = fewer now new p q was valid (λ r s k. ((removes.pairs r s).0 k).0) held (λ k. ((removes.pairs p q).0 k).1 (refl, refl))
+pub lost_fewer : (now new : Pairing) (p q : ℕ) → IsPairing now → IsPairing new → Loses now new p q → Holds now.pairs p q → length new.pairs < length now.pairs
+lost_fewer now new p q was valid loses held = fewer_pairs now new p q was valid (λ r s k. ((loses.pairs r s).0 k).0) held (λ k. ((loses.pairs p q).0 k).1 (refl, refl))
 
 -- Pairs of p went whose right state does not pass.
-pub record HasTaken (old now : Relation) (p : ℕ) (P : ℕ → Type 0) (changed : Bool) : Type 0 where
-  pub size : now.size ≡ old.size
-  pub valid : IsRelation now
+pub record HasTaken (old now : Pairing) (p : ℕ) (P : ℕ → Type 0) (changed : Bool) : Type 0 where
+  pub places : now.places ≡ old.places
+  pub states : now.states ≡ old.states
+  pub valid : IsPairing now
   pub within : (r s : ℕ) → Holds now.pairs r s → Holds old.pairs r s
   pub stays : (r s : ℕ) → Holds old.pairs r s → (r ≡ p → P s) → Holds now.pairs r s
   pub upto : length now.pairs ≤ length old.pairs
   pub some : changed ≡ true → length now.pairs < length old.pairs
   pub same : changed ≡ false → now ≡ old
 
-module _ (old : Relation) (p : ℕ) (P : ℕ → Type 0) where
-  pub taken_none : IsRelation old → HasTaken old old p P false
+module _ (old : Pairing) (p : ℕ) (P : ℕ → Type 0) where
+  pub taken_none : IsPairing old → HasTaken old old p P false
   taken_none valid = record {
-    size = refl;
+    places = refl;
+    states = refl;
     valid = valid;
     within = λ r s h. h;
     stays = λ r s h passes. h;
@@ -155,30 +162,32 @@ module _ (old : Relation) (p : ℕ) (P : ℕ → Type 0) where
 
   -- one more pair goes
   pub taken_more :
-      (now new : Relation) (changed : Bool) (q : ℕ)
+      (now new : Pairing) (changed : Bool) (q : ℕ)
       → HasTaken old now p P changed
       → Holds now.pairs p q
       → (P q → ⊥)
-      → Removes now new p q
-      → IsRelation new
+      → Loses now new p q
+      → IsPairing new
       → HasTaken old new p P true
-  taken_more now new changed q h held fails removes valid =
-      let fell = removed_fewer now new p q h.valid valid removes held in
+  taken_more now new changed q h held fails loses valid =
+      let fell = lost_fewer now new p q h.valid valid loses held in
       let upto = h.upto in
       record {
-        size = removes.size ∙ h.size;
+        places = loses.places ∙ h.places;
+        states = loses.states ∙ h.states;
         valid = valid;
-        within = λ r s k. h.within r s ((removes.pairs r s).0 k).0;
-        stays = λ r s was passes. (removes.pairs r s).1 (h.stays r s was passes, λ is. fails (subst P is.1 (passes is.0)));
+        within = λ r s k. h.within r s ((loses.pairs r s).0 k).0;
+        stays = λ r s was passes. (loses.pairs r s).1 (h.stays r s was passes, λ is. fails (subst P is.1 (passes is.0)));
         upto = omega arith;
         some = λ e. omega arith;
         same = λ e. absurd (false≢true (sym e));
       }
 
   -- no other pair has to go
-  pub taken_all : (now : Relation) (changed : Bool) → HasTaken old now p P changed → ((s : ℕ) → Holds now.pairs p s → P s) → IsFiltered old now p P changed
+  pub taken_all : (now : Pairing) (changed : Bool) → HasTaken old now p P changed → ((s : ℕ) → Holds now.pairs p s → P s) → IsFiltered old now p P changed
   taken_all now changed h passes = record {
-    size = h.size;
+    places = h.places;
+    states = h.states;
     valid = h.valid;
     pairs = λ r s. (
       λ held. (h.within r s held, λ e. passes s (subst (λ x. Holds now.pairs x s) e held)),
@@ -188,13 +197,14 @@ module _ (old : Relation) (p : ℕ) (P : ℕ → Type 0) where
     same = h.same;
   }
 
-module _ (A : Automaton) where
-  pub shrinks_none : (R : Relation) → IsRelation R → Shrinks A R R
-  shrinks_none R valid = record { size = refl; valid = valid; within = λ p q h. h; leaves = λ X right inside. inside }
+module _ (L A : Automaton) where
+  pub shrinks_none : (R : Pairing) → IsPairing R → Shrinks L A R R
+  shrinks_none R valid = record { places = refl; states = refl; valid = valid; within = λ p q h. h; leaves = λ X right inside. inside }
 
-  pub shrinks_then : (R S T : Relation) → Shrinks A R S → Shrinks A S T → Shrinks A R T
+  pub shrinks_then : (R S T : Pairing) → Shrinks L A R S → Shrinks L A S T → Shrinks L A R T
   shrinks_then R S T first second = record {
-    size = second.size ∙ first.size;
+    places = second.places ∙ first.places;
+    states = second.states ∙ first.states;
     valid = second.valid;
     within = λ p q h. first.within p q (second.within p q h);
     leaves = λ X right inside. second.leaves X right (first.leaves X right inside);
@@ -202,14 +212,15 @@ module _ (A : Automaton) where
 
   -- the pairs of p went from whose right state no move by the letter a answers one of p to p'
   pub filter_shrinks :
-      (R S : Relation) (p a p' : ℕ) (row ends : List ℕ) (changed : Bool)
-      → Moves A p a p'
+      (R S : Pairing) (p a p' : ℕ) (row ends : List ℕ) (changed : Bool)
+      → Moves L p a p'
       → ((q : ℕ) → Holds R.pairs p' q → HasBit ends q)
       → ((q : ℕ) → HasBit row q ↔ LeadsTo A a ends q)
       → IsFiltered R S p (λ q. HasBit row q) changed
-      → Shrinks A R S
+      → Shrinks L A R S
   filter_shrinks R S p a p' row ends changed move inside_ends leads f = record {
-    size = f.size;
+    places = f.places;
+    states = f.states;
     valid = f.valid;
     within = λ r s h. ((f.pairs r s).0 h).0;
     leaves = λ X right inside r s h. (f.pairs r s).1 (
@@ -222,17 +233,17 @@ module _ (A : Automaton) where
 
   -- moves to a state stay answered as long as its row keeps its pairs
   pub into_stays :
-      (R S : Relation) (x : ℕ)
+      (R S : Pairing) (x : ℕ)
       → ((p q : ℕ) → Holds S.pairs p q → Holds R.pairs p q)
       → ((q : ℕ) → Holds R.pairs x q → Holds S.pairs x q)
-      → IsAnsweredInto A (Holds R.pairs) x
-      → IsAnsweredInto A (Holds S.pairs) x
+      → IsAnsweredInto L A (Holds R.pairs) x
+      → IsAnsweredInto L A (Holds S.pairs) x
   into_stays R S x within keeps h p a q move held = let answer = h p a q move (within p q held) in (answer.0, answer.1, keeps answer.0 answer.2)
 
-  pub all_answered : (R : Relation) (marks : List ℕ) → ((x : ℕ) → x < A.states → bit_of marks x ≡ false) → IsAnsweredBesides A (Holds R.pairs) marks → ((p a p' : ℕ) → Moves A p a p' → p' < A.states) → (p q : ℕ) → Holds R.pairs p q → HasAnswers A (Holds R.pairs) p q
+  pub all_answered : (R : Pairing) (marks : List ℕ) → ((x : ℕ) → x < L.states → bit_of marks x ≡ false) → IsAnsweredBesides L A (Holds R.pairs) marks → ((p a p' : ℕ) → Moves L p a p' → p' < L.states) → (p q : ℕ) → Holds R.pairs p q → AnswersAll L A (Holds R.pairs) p q
   all_answered R marks clear besides range p q held a p' move = besides p' (range p a p' move) (clear p' (range p a p' move)) p a q move held
 
-  pub tries_none : (R : Relation) (marks : List ℕ) → IsRelation R → Tries A R R marks marks false
+  pub tries_none : (R : Pairing) (marks : List ℕ) → IsPairing R → Tries L A R R marks marks false
   tries_none R marks valid = record {
     shrinks = shrinks_none R valid;
     upto = omega arith;
@@ -243,12 +254,12 @@ module _ (A : Automaton) where
 
   -- tried again, and pairs went now
   pub tries_more :
-      (R S T : Relation) (m m' m'' : List ℕ) (any : Bool)
-      → Tries A R S m m' any
-      → Shrinks A S T
+      (R S T : Pairing) (m m' m'' : List ℕ) (any : Bool)
+      → Tries L A R S m m' any
+      → Shrinks L A S T
       → length T.pairs < length S.pairs
       → ((x : ℕ) → bit_of m'' x ≡ false → bit_of m' x ≡ false)
-      → Tries A R T m m'' true
+      → Tries L A R T m m'' true
   tries_more R S T m m' m'' any h shrinks fell marked =
       let upto = h.upto in
       record {
@@ -261,12 +272,12 @@ module _ (A : Automaton) where
 
   -- none went now
   pub tries_same :
-      (R S T : Relation) (m m' m'' : List ℕ) (any : Bool)
-      → Tries A R S m m' any
-      → Shrinks A S T
+      (R S T : Pairing) (m m' m'' : List ℕ) (any : Bool)
+      → Tries L A R S m m' any
+      → Shrinks L A S T
       → length T.pairs ≤ length S.pairs
       → m'' ≡ m'
-      → Tries A R T m m'' any
+      → Tries L A R T m m'' any
   tries_same R S T m m' m'' any h shrinks less marks =
       let upto = h.upto in
       record {
@@ -279,11 +290,11 @@ module _ (A : Automaton) where
 
   -- Rows that lost pairs are marked: moves to the others stay answered.
   pub under_way_stays :
-      (to : ℕ) (ends : List ℕ) (R S : Relation) (marks marks' : List ℕ)
-      → IsUnderWay A to ends R marks
+      (to : ℕ) (ends : List ℕ) (R S : Pairing) (marks marks' : List ℕ)
+      → IsUnderWay L A to ends R marks
       → ((p q : ℕ) → Holds S.pairs p q → Holds R.pairs p q)
       → ((x : ℕ) → bit_of marks' x ≡ false → (bit_of marks x ≡ false) × ((q : ℕ) → Holds R.pairs x q → Holds S.pairs x q))
-      → IsUnderWay A to ends S marks'
+      → IsUnderWay L A to ends S marks'
   under_way_stays to ends R S marks marks' h within marked = record {
     others = λ x x_in apart clear. let m = marked x clear in into_stays R S x within m.1 (h.others x x_in apart m.0);
     inside = λ q held. h.inside q (within to q held);
@@ -291,27 +302,27 @@ module _ (A : Automaton) where
   }
 
 -- The first n moves into the state are answered, if it is not marked.
-abbrev pub HasAnswered : Automaton → ℕ → List ℕ → Relation → List ℕ → ℕ → Type 0
-HasAnswered A to ns R marks n =
-    bit_of marks to ≡ false → (k q : ℕ) → k < n → Holds R.pairs (trans_at A (get_or ns k 0)).source q → IsAnsweredIn A (Holds R.pairs) q (trans_at A (get_or ns k 0)).label to
+abbrev pub HasAnswered : Automaton → Automaton → ℕ → List ℕ → Pairing → List ℕ → ℕ → Type 0
+HasAnswered L A to ns R marks n =
+    bit_of marks to ≡ false → (k q : ℕ) → k < n → Holds R.pairs (trans_at L (get_or ns k 0)).source q → IsAnsweredIn A (Holds R.pairs) q (trans_at L (get_or ns k 0)).label to
 
 -- The row of the i-th move's source was filtered; rows that lost pairs are marked.
 pub answered_more :
-    (A : Automaton) (to : ℕ) (ns ends row : List ℕ) (R S : Relation) (marks marks' : List ℕ) (i : ℕ) (b : Bool)
-    → HasAnswered A to ns R marks i
-    → IsUnderWay A to ends R marks
-    → IsFiltered R S (trans_at A (get_or ns i 0)).source (λ q. HasBit row q) b
-    → ((q : ℕ) → HasBit row q ↔ LeadsTo A (trans_at A (get_or ns i 0)).label ends q)
+    (L A : Automaton) (to : ℕ) (ns ends row : List ℕ) (R S : Pairing) (marks marks' : List ℕ) (i : ℕ) (b : Bool)
+    → HasAnswered L A to ns R marks i
+    → IsUnderWay L A to ends R marks
+    → IsFiltered R S (trans_at L (get_or ns i 0)).source (λ q. HasBit row q) b
+    → ((q : ℕ) → HasBit row q ↔ LeadsTo A (trans_at L (get_or ns i 0)).label ends q)
     → ((x : ℕ) → bit_of marks' x ≡ false → (bit_of marks x ≡ false) × ((q : ℕ) → Holds R.pairs x q → Holds S.pairs x q))
-    → HasAnswered A to ns S marks' (i + 1)
-answered_more A to ns ends row R S marks marks' i b h way f leads marked clear k q lt held =
+    → HasAnswered L A to ns S marks' (i + 1)
+answered_more L A to ns ends row R S marks marks' i b h way f leads marked clear k q lt held =
     let m = marked to clear in
     elim (cases_eq k i) [
       | inl e ↦
-          let here : Holds S.pairs (trans_at A (get_or ns i 0)).source q = subst (λ j. Holds S.pairs (trans_at A (get_or ns j 0)).source q) e held in
-          let answer = (leads q).0 (((f.pairs (trans_at A (get_or ns i 0)).source q).0 here).1 refl) in
-          subst (λ j. IsAnsweredIn A (Holds S.pairs) q (trans_at A (get_or ns j 0)).label to) (sym e) (answer.0, answer.1, m.1 answer.0 (way.still m.0 answer.0 answer.2))
+          let here : Holds S.pairs (trans_at L (get_or ns i 0)).source q = subst (λ j. Holds S.pairs (trans_at L (get_or ns j 0)).source q) e held in
+          let answer = (leads q).0 (((f.pairs (trans_at L (get_or ns i 0)).source q).0 here).1 refl) in
+          subst (λ j. IsAnsweredIn A (Holds S.pairs) q (trans_at L (get_or ns j 0)).label to) (sym e) (answer.0, answer.1, m.1 answer.0 (way.still m.0 answer.0 answer.2))
       | inr apart ↦
-          let answer = h m.0 k q (omega arith) ((f.pairs (trans_at A (get_or ns k 0)).source q).0 held).0 in
+          let answer = h m.0 k q (omega arith) ((f.pairs (trans_at L (get_or ns k 0)).source q).0 held).0 in
           (answer.0, answer.1, m.1 answer.0 answer.2)
     ]

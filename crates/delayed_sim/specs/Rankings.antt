@@ -1,43 +1,77 @@
--- Relations some of whose pairs have a rank.
-use Rattle.std.specs.Prelude.{◌≡◌, ℕ, ◌<◌, ◌↔◌, Option, List, [], ◌∷◌, length, Contains, slice_index_or}
-use Rattle.auto_core.specs.Delayed.{RankedPairs, AreRankedBelow, HasPairsOnce}
-use Rattle.bit_rel.specs.Relation.{IsPairBefore}
-use Rattle.delayed_sim.specs.declared.delayed.RankedPair.{RankedPair}
+-- Relations over announced letters some of whose triples have a rank.
+use Rattle.std.specs.Prelude.{◌≡◌, ℕ, ◌<◌, ◌≤◌, ◌↔◌, Option, None, List, [], ◌∷◌, length, Contains, slice_index_or}
+use Rattle.std.specs.List.{AllPairs}
+use Rattle.std.specs.Cmp.Lexicographic.{slice_cmp}
+use Rattle.std.specs.Ordering.{nat_cmp, ordering_then}
+use Rattle.std.specs.declared.cmp.Ordering.{Ordering}
+use Rattle.std.specs.declared.cmp.Ordering.TheVariants.{Less}
+use Rattle.auto_core.specs.Delayed.{RankedTriples, AreAnnounced, AreTriplesOf, HasTriplesOnce}
+use Rattle.delayed_sim.specs.declared.delayed.RankedTriple.{RankedTriple}
 
--- A relation on the states below `size`: the list of its pairs, each with a rank or without one.
+-- A left state, announced letters and a right state, with a rank or without one.
+abbrev pub Triple : Type 0
+Triple = ℕ × List ℕ × ℕ × Option ℕ
+
+-- What the triples of one row share: the left state and the letters.
+abbrev pub row_key : Triple → List ℕ
+row_key x = x.0 ∷ x.1
+
+-- By left state, then by letters, then by right state.
+abbrev pub triple_cmp : Triple → Triple → Ordering
+triple_cmp x y = ordering_then (slice_cmp nat_cmp (row_key x) (row_key y)) (nat_cmp x.2 y.2)
+
+-- x stands before y.
+abbrev pub IsTripleBefore : Triple → Triple → Type 0
+IsTripleBefore x y = triple_cmp x y ≡ Less
+
+-- Each triple stands before all later ones.
+abbrev pub AreTriplesInOrder : RankedTriples → Type 0
+AreTriplesInOrder X = AllPairs IsTripleBefore X
+
+-- A relation on the states below `size` with `letters` announced letters over so many labels: the list of its triples, each with a rank or
+-- without one.
 pub record Ranking : Type 0 where
   pub size : ℕ
-  pub pairs : RankedPairs
+  pub labels : ℕ
+  pub letters : ℕ
+  pub triples : RankedTriples
 
--- Each pair stands before all later ones, as in a relation without ranks.
-abbrev pub AreRankedInOrder : RankedPairs → Type 0
-AreRankedInOrder [] = Unit {0}
-AreRankedInOrder (x ∷ xs) = ((y : ℕ × ℕ × Option ℕ) → Contains xs y → IsPairBefore (x.0, x.1) (y.0, y.1)) × AreRankedInOrder xs
-
--- A valid one: both states of each pair are below `size`, each pair has one rank or none, and the pairs ascend.
+-- A valid one: one to four letters are announced, the triples are of its states and labels, each has one rank or none, and they ascend.
 pub record IsRanking (R : Ranking) : Type 0 where
-  pub in_range : AreRankedBelow R.size R.pairs
-  pub once : HasPairsOnce R.pairs
-  pub in_order : AreRankedInOrder R.pairs
+  pub letters_from : 1 ≤ R.letters
+  pub letters_upto : R.letters ≤ 4
+  pub in_range : AreTriplesOf R.size R.labels R.letters R.triples
+  pub once : HasTriplesOnce R.triples
+  pub in_order : AreTriplesInOrder R.triples
 
--- The pair with this rank or without one.
-abbrev pub ranked_pair : ℕ → ℕ → Option ℕ → RankedPair
-ranked_pair p q rank = record { left = p; right = q; rank = rank }
+-- The triple at this place.
+abbrev pub triple_at : RankedTriples → ℕ → Triple
+triple_at X i = slice_index_or X i (0, [], 0, None)
 
--- Both states of each pair are below n.
-abbrev pub ArePairsOf : ℕ → List RankedPair → Type 0
-ArePairsOf n pairs = (p q : ℕ) (rank : Option ℕ) → Contains pairs (ranked_pair p q rank) → (p < n) × (q < n)
+-- The triple with this rank or without one.
+abbrev pub ranked_triple : ℕ → List ℕ → ℕ → Option ℕ → RankedTriple
+ranked_triple p b q rank = record { left = p; ahead = b; right = q; rank = rank }
 
--- No two of them have the same states.
-abbrev pub DifferInStates : List RankedPair → Type 0
-DifferInStates pairs =
-    (i j : ℕ) (d : RankedPair)
-    → i < length pairs
-    → j < length pairs
-    → (slice_index_or pairs i d).left ≡ (slice_index_or pairs j d).left
-    → (slice_index_or pairs i d).right ≡ (slice_index_or pairs j d).right
+-- Both states of each triple are below `states`, and n - 1 labels stand between them.
+abbrev pub AreTriplesGiven : ℕ → ℕ → ℕ → List RankedTriple → Type 0
+AreTriplesGiven states labels n triples =
+    (p : ℕ) (b : List ℕ) (q : ℕ) (rank : Option ℕ)
+    → Contains triples (ranked_triple p b q rank)
+    → AreAnnounced labels n b × (p < states) × (q < states)
+
+-- No two of them have the same states and letters.
+abbrev pub DifferInTriples : List RankedTriple → Type 0
+DifferInTriples triples =
+    (i j : ℕ) (d : RankedTriple)
+    → i < length triples
+    → j < length triples
+    → (slice_index_or triples i d).left ≡ (slice_index_or triples j d).left
+    → (slice_index_or triples i d).ahead ≡ (slice_index_or triples j d).ahead
+    → (slice_index_or triples i d).right ≡ (slice_index_or triples j d).right
     → i ≡ j
 
--- The list has just these pairs, each with the rank that it has there.
-abbrev pub HasJust : RankedPairs → List RankedPair → Type 0
-HasJust X pairs = (p q : ℕ) (rank : Option ℕ) → Contains X (p, q, rank) ↔ Contains pairs (ranked_pair p q rank)
+-- The list has just these triples, each with the rank that it has there.
+abbrev pub HasJust : RankedTriples → List RankedTriple → Type 0
+HasJust X triples =
+    (p : ℕ) (b : List ℕ) (q : ℕ) (rank : Option ℕ)
+    → Contains X (p, b, q, rank) ↔ Contains triples (ranked_triple p b q rank)

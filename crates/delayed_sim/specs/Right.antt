@@ -1,22 +1,29 @@
--- When a pair of a relation with ranks is right.
-use Rattle.std.specs.Prelude.{ℕ, ◌<◌}
+-- When a triple of a relation with ranks is right.
+use Rattle.std.specs.Prelude.{◌≡◌, ℕ, ◌<◌, Option, None, Some, List}
 use Rattle.auto_core.specs.Automaton.{Automaton, Moves, IsAccepting}
-use Rattle.auto_core.specs.Delayed.{RankedPairs, HoldsPair, HasRank, IsAnswered, IsAnsweredBelow}
+use Rattle.auto_core.specs.Delayed.{RankedTriples, HoldsTriple, HasRank, Announces}
+use Rattle.delayed_sim.specs.Rankings.{Triple}
 
--- Each move of p is answered from q.
-abbrev pub HasAnswersIn : Automaton → RankedPairs → ℕ → ℕ → Type 0
-HasAnswersIn A X p q = (a p' : ℕ) → Moves A p a p' → IsAnswered A X q a p'
+-- The list holds the triple, with a rank below the limit if there is one.
+abbrev pub Suits : RankedTriples → Option ℕ → List ℕ → ℕ → ℕ → Type 0
+Suits X None c p q = HoldsTriple X c p q
+Suits X (Some r) c p q = (s : ℕ) × HasRank X c p q s × (s < r)
 
--- Each move of p is answered from q with a rank below r.
-abbrev pub HasAnswersBelow : Automaton → RankedPairs → ℕ → ℕ → ℕ → Type 0
-HasAnswersBelow A X p q r = (a p' : ℕ) → Moves A p a p' → IsAnsweredBelow A X r q a p'
+-- q answers the move by the letter a to p' with such a triple over c.
+abbrev pub IsAnsweredWithin : Automaton → RankedTriples → Option ℕ → List ℕ → ℕ → ℕ → ℕ → Type 0
+IsAnsweredWithin A X limit c q a p' = (q' : ℕ) × Moves A q a q' × Suits X limit c p' q'
 
--- The rank of the pair, or that it has none, is right.
-pub record IsRankRight (A : Automaton) (X : RankedPairs) (p q : ℕ) : Type 0 where
-  pub ranked : IsAccepting A p → (r : ℕ) × HasRank X p q r
-  pub at_zero : HasRank X p q 0 → IsAccepting A q
-  pub above_zero : (r : ℕ) → HasRank X p q r → 0 < r → HasAnswersBelow A X p q r
+-- q answers it so whatever letter is announced next.
+abbrev pub IsAnsweredAhead : Automaton → RankedTriples → Option ℕ → List ℕ → ℕ → ℕ → ℕ → Type 0
+IsAnsweredAhead A X limit b q a p' = (more : ℕ) (c : List ℕ) → more < A.labels → Announces b more a c → IsAnsweredWithin A X limit c q a p'
 
--- If the list holds the pair, its moves are answered and its rank is right.
-abbrev pub IsPairRight : Automaton → RankedPairs → ℕ → ℕ → Type 0
-IsPairRight A X p q = HoldsPair X p q → HasAnswersIn A X p q × IsRankRight A X p q
+-- q answers each move of p so.
+abbrev pub HasAnswers : Automaton → RankedTriples → Option ℕ → List ℕ → ℕ → ℕ → Type 0
+HasAnswers A X limit b p q = (a p' : ℕ) → Moves A p a p' → IsAnsweredAhead A X limit b q a p'
+
+-- The moves of the triple are answered, and its rank, or that it has none, is right.
+pub record IsTripleRight (A : Automaton) (X : RankedTriples) (x : Triple) : Type 0 where
+  pub answers : HasAnswers A X None x.1 x.0 x.2
+  pub ranked : IsAccepting A x.0 → (r : ℕ) × (x.3 ≡ Some r)
+  pub at_zero : x.3 ≡ Some 0 → IsAccepting A x.2
+  pub above_zero : (r : ℕ) → x.3 ≡ Some r → 0 < r → HasAnswers A X (Some r) x.1 x.0 x.2

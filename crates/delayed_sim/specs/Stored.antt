@@ -1,23 +1,46 @@
--- How `Delayed` holds its pairs and ranks.
-use Rattle.std.specs.Prelude.{◌≡◌, ℕ, ◌+◌, ◌*◌, Option, None, List, length, map, slice_index_or}
-use Rattle.auto_core.specs.Delayed.{RankedPairs}
-use Rattle.bit_rel.specs.Relation.{Relation, IsRelation}
-use Rattle.delayed_sim.specs.Rankings.{Ranking}
+-- How `Delayed` holds its triples and ranks.
+use Rattle.std.specs.Prelude.{◌≡◌, ℕ, ◌-◌, ◌≤◌, ◌<◌, ◌⊎◌, ◌↔◌, None, List, [], map, take, length, Contains, slice_index_or}
+use Rattle.std.specs.declared.cmp.Ordering.TheVariants.{Less, Greater}
+use Rattle.auto_core.specs.Delayed.{RankedTriples, AreTriplesOf}
+use Rattle.delayed_sim.specs.Rankings.{Triple, Ranking, triple_cmp, AreTriplesInOrder}
+use Rattle.delayed_sim.specs.declared.entries.Entry.{Entry}
 use Rattle.delayed_sim.specs.declared.delayed.Delayed.TheInside.{Inside}
 
--- The rank that stands at the pair's place in a table of n rows and columns.
-abbrev pub rank_at : List (Option ℕ) → ℕ → ℕ → ℕ → Option ℕ
-rank_at ranks n p q = slice_index_or ranks (p * n + q) None
+-- The triple of an entry in a game with n letters.
+abbrev pub triple_of : ℕ → Entry → Triple
+triple_of n e = (e.left, take (n - 1) e.ahead, e.right, e.rank)
 
--- The pairs of the relation with the ranks of the table.
-abbrev pub with_ranks : Relation → List (Option ℕ) → RankedPairs
-with_ranks R ranks = map (λ (x : ℕ × ℕ). (x.0, x.1, rank_at ranks R.size x.0 x.1)) R.pairs
+-- Those of all entries.
+abbrev pub triples_of : ℕ → List Entry → RankedTriples
+triples_of n entries = map (triple_of n) entries
 
 -- What the fields stand for.
 abbrev pub ranking_of : Inside → Ranking
-ranking_of d = record { size = d.held.size; pairs = with_ranks d.held d.ranks.items }
+ranking_of d = record { size = d.states; labels = d.labels; letters = d.letters; triples = triples_of d.letters d.entries.items }
 
--- There is a place for each pair.
+-- They stand for a valid ranking.
 pub record IsStoredRanking (d : Inside) : Type 0 where
-  pub valid : IsRelation d.held
-  pub len : length d.ranks.items ≡ d.held.size * d.held.size
+  pub letters_from : 1 ≤ d.letters
+  pub letters_upto : d.letters ≤ 4
+  pub in_range : AreTriplesOf d.states d.labels d.letters (triples_of d.letters d.entries.items)
+  pub in_order : AreTriplesInOrder (triples_of d.letters d.entries.items)
+
+-- Some entry, where there is none at a place.
+abbrev pub no_entry : Entry
+no_entry = record { left = 0; ahead = []; right = 0; rank = None }
+
+-- The entry at the place has the triple of p, the letters b and q.
+abbrev pub IsFound : ℕ → List Entry → ℕ → List ℕ → ℕ → ℕ → Type 0
+IsFound n entries p b q i = (i < length entries) × Contains (triples_of n entries) (p, b, q, (slice_index_or entries i no_entry).rank)
+
+-- The entries below `low` stand before the triple, those from `high` on behind it.
+pub record IsBetween (n : ℕ) (entries : List Entry) (key : Triple) (low high : ℕ) : Type 0 where
+  pub upto : low ≤ high
+  pub within : high ≤ length entries
+  pub below : (i : ℕ) → i < low → triple_cmp (triple_of n (slice_index_or entries i no_entry)) key ≡ Less
+  pub above : (i : ℕ) → high ≤ i → i < length entries → triple_cmp (triple_of n (slice_index_or entries i no_entry)) key ≡ Greater
+
+-- What holds after the entry was put in.
+pub record IsPutIn (n : ℕ) (old new : List Entry) (e : Entry) : Type 0 where
+  pub in_order : AreTriplesInOrder (triples_of n new)
+  pub triples : (t : Triple) → Contains (triples_of n new) t ↔ (Contains (triples_of n old) t ⊎ (triple_of n e ≡ t))

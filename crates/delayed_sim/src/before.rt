@@ -8,18 +8,18 @@ ghost use Rattle.delayed_sim.specs.Before.{LeadsTo};
 use auto_core::{Auto, rows};
 use row_steps::{next_bit, write_row};
 
-/// Clears the rows of the letters by which moves lead to the state. The row `none` has no bit.
-fn clear_letters(automaton: &Auto, to: u32, none: &[u64], made: &mut [u64], width: usize)
-    requires valid { IsAutomaton automaton.now }
-    requires state { to < automaton.now.states }
+/// Clears the rows of the letters by which moves lead to the place. The row `none` has no bit.
+fn clear_letters(places: &Auto, to: u32, none: &[u64], made: &mut [u64], width: usize)
+    requires valid { IsAutomaton places.now }
+    requires place { to < places.now.states }
     requires none { (q : ℕ) → bit_of none.now q ≡ false }
     requires none_len { length none.now ≡ width }
-    requires made { length made.old ≡ automaton.now.labels * width }
-    ensures { (p a q : ℕ) → Moves automaton.now p a to → q < width * 64 → cell_of made.new width a q ≡ false }
+    requires made { length made.old ≡ places.now.labels * width }
+    ensures { (p a q : ℕ) → Moves places.now p a to → q < width * 64 → cell_of made.new width a q ≡ false }
 {
-    let before = automaton.predecessors(to);
+    let before = places.predecessors(to);
     for i in 0..before.len() {
-        let step = automaton.transitions()[before[i] as usize];
+        let step = places.transitions()[before[i] as usize];
         write_row(made, width, step.label as usize, none);
     }
 }
@@ -39,9 +39,10 @@ fn mark_before(automaton: &Auto, right: u32, made: &mut [u64], width: usize)
     }
 }
 
-/// Writes into the row of each letter by which moves lead to the state `to` the states from which a move by it leads to a state of
+/// Writes into the row of each letter by which moves lead to the place `to` the states from which a move by it leads to a state of
 /// `ends`. `row` is room for one row.
 pub fn write_before(
+    places: &Auto,
     automaton: &Auto,
     to: u32,
     ends: &[u64],
@@ -49,17 +50,19 @@ pub fn write_before(
     width: usize,
     row: &mut [u64],
 )
+    requires sound { IsAutomaton places.now }
     requires valid { IsAutomaton automaton.now }
-    requires state { to < automaton.now.states }
+    requires labels { places.now.labels ≡ automaton.now.labels }
+    requires place { to < places.now.states }
     requires ends { (q : ℕ) → HasBit ends.now q → q < automaton.now.states }
     requires width { width ≡ (automaton.now.states + 63) / 64 }
     requires ends_len { length ends.now ≡ width }
     requires made { length made.old ≡ automaton.now.labels * width }
     requires row { length row.old ≡ width }
-    ensures { (p a q : ℕ) → Moves automaton.now p a to → q < width * 64 → HasCell made.new width a q ↔ LeadsTo automaton.now a ends.now q }
+    ensures { (p a q : ℕ) → Moves places.now p a to → q < width * 64 → HasCell made.new width a q ↔ LeadsTo automaton.now a ends.now q }
 {
     rows::clear_row(row);
-    clear_letters(automaton, to, row, made, width);
+    clear_letters(places, to, row, made, width);
     let mut at = 0;
     while let Some(right) = next_bit(ends, at) {
         mark_before(automaton, right as u32, made, width);

@@ -1,34 +1,41 @@
-//! A relation on states some of whose pairs have a rank.
+//! A relation over announced letters some of whose triples have a rank.
 
-ghost use Rattle.std.specs.Prelude.{◌≡◌, ◌<◌, ◌≤◌, ◌↔◌, ◌⊎◌, ◌*◌, ℕ, length, slice_index_or, None, IsTrue, IfOk, IfSome, IfNone};
+ghost use Rattle.std.specs.Prelude.{◌≡◌, ◌<◌, ◌≤◌, ◌↔◌, ℕ, length, IsTrue, IfOk, IfSome, IfNone};
+ghost use Rattle.std.specs.Cmp.Lexicographic.{slice_cmp};
+ghost use Rattle.std.specs.Ordering.{nat_cmp};
+ghost use Rattle.std.specs.declared.cmp.Ordering.TheVariants.{Less};
 ghost use Rattle.auto_core.specs.Game.{Holds};
-ghost use Rattle.auto_core.specs.Delayed.{HoldsPair, HasRank};
-ghost use Rattle.bit_rel.specs.Relation.{IsRelation};
-ghost use Rattle.delayed_sim.specs.Rankings.{IsRanking, ArePairsOf, DifferInStates, HasJust};
+ghost use Rattle.auto_core.specs.Delayed.{AreAnnounced, HoldsTriple, HasRank, AreRelatedAhead};
+ghost use Rattle.delayed_sim.specs.Rankings.{IsRanking, AreTriplesGiven, DifferInTriples, HasJust, row_key, triple_at};
 
-use crate::pairs::place;
-use auto_core::Memory;
+use crate::entries::{self, Entry};
+use crate::relating;
+use auto_core::{Memory, Word};
 use bit_rel::Rel;
 use std::alloc::Global;
 use std::marker::Model;
 
-/// A pair of states, with a rank or without one.
-#[derive(Clone, Copy, Debug)]
-pub struct RankedPair {
+/// A triple of a left state, announced letters and a right state, with a rank or without one.
+#[derive(Debug, Drop)]
+pub struct RankedTriple {
     /// The left state.
     pub left: u32,
+    /// The announced letters, one fewer than the game has.
+    pub ahead: Word,
     /// The right state.
     pub right: u32,
-    /// The rank, if the pair has one.
+    /// The rank, if the triple has one.
     pub rank: Option<u32>,
 }
 
-/// A relation on the states below a number some of whose pairs have a rank. Contracts see it as a `Ranking`: that number and the
-/// list of the pairs with their ranks.
+/// A relation over announced letters some of whose triples have a rank. Contracts see it as a `Ranking`: the numbers of states, labels and
+/// letters, and the list of the triples with their ranks, in order. It holds the listed triples alone.
 #[derive(Debug, Drop)]
 pub struct Delayed {
-    pub(crate) held: Rel,
-    pub(crate) ranks: Vec<Option<u32>>,
+    pub(crate) states: u32,
+    pub(crate) labels: u32,
+    pub(crate) letters: u32,
+    pub(crate) entries: Vec<Entry>,
 }
 
 impl Model for Delayed {
@@ -44,21 +51,43 @@ impl Model for Delayed {
 }
 
 impl Delayed {
-    /// The relation of just these pairs and ranks.
-    pub fn build(alloc: Global, states: u32, pairs: &[RankedPair]) -> Result<Delayed, Memory>
-        requires in_range { ArePairsOf states pairs.now }
-        requires different { DifferInStates pairs.now }
+    /// The relation of just these triples and ranks.
+    pub fn build(
+        alloc: Global,
+        states: u32,
+        labels: u32,
+        letters: u32,
+        triples: &[RankedTriple],
+    ) -> Result<Delayed, Memory>
+        requires from { 1 ≤ letters }
+        requires upto { letters ≤ 4 }
+        requires in_range { AreTriplesGiven states labels letters triples.now }
+        requires different { DifferInTriples triples.now }
         ensures size { IfOk result (λ d. d.size ≡ states) }
-        ensures pairs { IfOk result (λ d. HasJust d.pairs pairs.now) }
+        ensures labels { IfOk result (λ d. d.labels ≡ labels) }
+        ensures letters { IfOk result (λ d. d.letters ≡ letters) }
+        ensures triples { IfOk result (λ d. HasJust d.triples triples.now) }
     {
-        let mut held = Rel::empty(alloc, states)?;
-        let mut ranks = no_ranks(alloc, states)?;
-        for i in 0..pairs.len() {
-            let pair = pairs[i];
-            held.set(pair.left, pair.right);
-            ranks[place(states, pair.left, pair.right)] = pair.rank;
+        let mut held = Vec::with_capacity(alloc, triples.len())?;
+        for i in 0..triples.len() {
+            let triple = &triples[i];
+            entries::put_in(
+                &mut held,
+                letters,
+                Entry {
+                    left: triple.left,
+                    ahead: entries::padded(triple.ahead.as_slice()),
+                    right: triple.right,
+                    rank: triple.rank,
+                },
+            )?;
         }
-        Ok(Delayed { held, ranks })
+        Ok(Delayed {
+            states,
+            labels,
+            letters,
+            entries: held,
+        })
     }
 
     /// The number of states.
@@ -66,52 +95,116 @@ impl Delayed {
         ensures count { result ≡ self.now.size }
         ensures valid { IsRanking self.now }
     {
-        self.held.size()
+        self.states
     }
 
-    /// Tells whether the relation holds the pair.
-    pub fn relates(&self, p: u32, q: u32) -> bool
-        requires left { p < self.now.size }
-        requires right { q < self.now.size }
-        ensures told { IsTrue result ↔ HoldsPair self.now.pairs p q }
+    /// The number of labels.
+    pub fn labels(&self) -> u32
+        ensures count { result ≡ self.now.labels }
         ensures valid { IsRanking self.now }
     {
-        self.held.get(p, q)
+        self.labels
     }
 
-    /// The rank of the pair; None where the pair is not held or has no rank.
-    pub fn rank(&self, p: u32, q: u32) -> Option<u32>
-        requires left { p < self.now.size }
-        requires right { q < self.now.size }
-        ensures some { IfSome result (HasRank self.now.pairs p q) }
-        ensures none { IfNone result ((r : ℕ) → HasRank self.now.pairs p q r → ⊥) }
+    /// The number of announced letters.
+    pub fn letters(&self) -> u32
+        ensures count { result ≡ self.now.letters }
         ensures valid { IsRanking self.now }
     {
-        if self.held.get(p, q) {
-            self.ranks[place(self.held.size(), p, q)]
-        } else {
-            None
+        self.letters
+    }
+
+    /// Tells whether the relation holds the triple.
+    pub fn relates(&self, p: u32, ahead: &[u32], q: u32) -> bool
+        requires letters { AreAnnounced self.now.labels self.now.letters ahead.now }
+        requires left { p < self.now.size }
+        requires right { q < self.now.size }
+        ensures told { IsTrue result ↔ HoldsTriple self.now.triples ahead.now p q }
+        ensures valid { IsRanking self.now }
+    {
+        match entries::find(&self.entries, self.letters, p, ahead, q) {
+            Some(_at) => true,
+            None => false,
         }
     }
 
-    /// The pairs without their ranks.
+    /// The rank of the triple; None where the triple is not held or has no rank.
+    pub fn rank(&self, p: u32, ahead: &[u32], q: u32) -> Option<u32>
+        requires letters { AreAnnounced self.now.labels self.now.letters ahead.now }
+        requires left { p < self.now.size }
+        requires right { q < self.now.size }
+        ensures some { IfSome result (HasRank self.now.triples ahead.now p q) }
+        ensures none { IfNone result ((r : ℕ) → HasRank self.now.triples ahead.now p q r → ⊥) }
+        ensures valid { IsRanking self.now }
+    {
+        match entries::find(&self.entries, self.letters, p, ahead, q) {
+            Some(at) => self.entries[at].rank,
+            None => None,
+        }
+    }
+
+    /// The state relation: the pairs of states that are related whatever letters are announced.
     pub fn relation(&self, alloc: Global) -> Result<Rel, Memory>
         ensures size { IfOk result (λ r. r.size ≡ self.now.size) }
-        ensures pairs { IfOk result (λ r. (p q : ℕ) → Holds r.pairs p q ↔ HoldsPair self.now.pairs p q) }
+        ensures pairs { IfOk result (λ r. (p q : ℕ) → Holds r.pairs p q
+            ↔ ((p < self.now.size) × (q < self.now.size) × AreRelatedAhead self.now.labels self.now.letters self.now.triples p q)) }
     {
-        self.held.copied(alloc)
+        relating::relation_of(alloc, self)
     }
-}
 
-/// A table of `n` rows and columns without ranks.
-pub(crate) fn no_ranks(alloc: Global, n: u32) -> Result<Vec<Option<u32>>, Memory>
-    ensures len { IfOk result (λ v. length v.items ≡ n * n) }
-    ensures none { IfOk result (λ v. (i : ℕ) → slice_index_or v.items i None ≡ None) }
-{
-    let count = n as usize * n as usize;
-    let mut ranks = Vec::with_capacity(alloc, count)?;
-    for _ in 0..count {
-        ranks.push(None)?;
+    /// The number of triples.
+    pub fn count(&self) -> usize
+        ensures count { result ≡ length self.now.triples }
+        ensures valid { IsRanking self.now }
+    {
+        self.entries.len()
     }
-    Ok(ranks)
+
+    /// The left state of the triple at this place.
+    pub fn left(&self, at: usize) -> u32
+        requires { at < length self.now.triples }
+        ensures state { result ≡ (triple_at self.now.triples at).0 }
+        ensures valid { IsRanking self.now }
+    {
+        self.entries[at].left
+    }
+
+    /// The announced letters of the triple at this place.
+    pub fn ahead(&self, at: usize) -> &[u32]
+        requires { at < length self.now.triples }
+        ensures letters { result.now ≡ (triple_at self.now.triples at).1 }
+        ensures valid { IsRanking self.now }
+    {
+        entries::ahead_of(&self.entries[at], self.letters)
+    }
+
+    /// The right state of the triple at this place.
+    pub fn right(&self, at: usize) -> u32
+        requires { at < length self.now.triples }
+        ensures state { result ≡ (triple_at self.now.triples at).2 }
+        ensures valid { IsRanking self.now }
+    {
+        self.entries[at].right
+    }
+
+    /// The rank of the triple at this place, if it has one.
+    pub fn rank_of(&self, at: usize) -> Option<u32>
+        requires { at < length self.now.triples }
+        ensures rank { result ≡ (triple_at self.now.triples at).3 }
+        ensures valid { IsRanking self.now }
+    {
+        self.entries[at].rank
+    }
+
+    /// The place past the last triple with the left state and the letters of the triple at this place.
+    pub fn row_end(&self, at: usize) -> usize
+        requires { at < length self.now.triples }
+        ensures onward { at < result }
+        ensures within { result ≤ length self.now.triples }
+        ensures same { (i : ℕ) → at ≤ i → i < result → row_key (triple_at self.now.triples i) ≡ row_key (triple_at self.now.triples at) }
+        ensures next { result < length self.now.triples → slice_cmp nat_cmp (row_key (triple_at self.now.triples at)) (row_key (triple_at self.now.triples result)) ≡ Less }
+        ensures valid { IsRanking self.now }
+    {
+        entries::row_end(&self.entries, self.letters, at)
+    }
 }

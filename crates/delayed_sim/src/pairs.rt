@@ -1,13 +1,13 @@
-//! Where pairs of states stand in a table.
+//! Where pairs stand in a table.
 
 ghost use Rattle.std.specs.Prelude.{◌≡◌, ◌+◌, ◌*◌, ◌<◌};
 
-/// The place of the pair in a table of `n` rows and columns.
-pub fn place(n: u32, p: u32, q: u32) -> usize
-    requires row { p < n }
-    requires column { q < n }
-    ensures place { result ≡ p * n + q }
-    ensures inside { result < n * n }
+/// The place of the pair in a table of so many rows and columns.
+pub fn place(rows: u32, columns: u32, p: u32, q: u32) -> usize
+    requires row { p < rows }
+    requires column { q < columns }
+    ensures place { result ≡ p * columns + q }
+    ensures inside { result < rows * columns }
 {
-    p as usize * n as usize + q as usize
+    p as usize * columns as usize + q as usize
 }

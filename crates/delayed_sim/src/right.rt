@@ -1,149 +1,200 @@
 //! Whether a relation with ranks is right.
 
-ghost use Rattle.std.specs.Prelude.{◌≡◌, ◌<◌, ◌↔◌, ◌≤◌, ℕ, IsTrue};
-ghost use Rattle.auto_core.specs.Automaton.{Moves, IsAccepting};
-ghost use Rattle.auto_core.specs.Delayed.{HoldsPair, HasRank, IsAnswered, IsAnsweredBelow, IsRight};
-ghost use Rattle.delayed_sim.specs.Right.{HasAnswersIn, HasAnswersBelow, IsRankRight, IsPairRight};
+ghost use Rattle.std.specs.Prelude.{◌≡◌, ◌+◌, ◌<◌, ◌≤◌, ◌↔◌, ℕ, Option, [], ◌∷◌, ◌++◌, length, take, drop, slice_index, IsTrue};
+ghost use Rattle.auto_core.specs.Automaton.{Moves, IsAccepting, trans_at};
+ghost use Rattle.auto_core.specs.Delayed.{AreAnnounced, HasRank, IsRight};
+ghost use Rattle.delayed_sim.specs.Rankings.{triple_at};
+ghost use Rattle.delayed_sim.specs.Right.{Suits, IsAnsweredWithin, IsAnsweredAhead, HasAnswers, IsTripleRight};
 
 use crate::delayed::Delayed;
 use auto_core::{Auto, Trans};
 
-/// Tells whether the state answers the move with a pair of the relation.
-fn is_answered(automaton: &Auto, delayed: &Delayed, q: u32, step: Trans) -> bool
-    requires equal { delayed.now.size ≡ automaton.now.states }
-    requires state { q < automaton.now.states }
-    requires target { step.target < automaton.now.states }
-    ensures { IsTrue result ↔ IsAnswered automaton.now delayed.now.pairs q step.label step.target }
-{
-    let span = automaton.successors(q, step.label);
-    for u in span.begin..span.end {
-        if delayed.relates(step.target, automaton.transitions()[u as usize].target) {
-            return true;
-        }
-    }
-    false
-}
-
-/// Tells whether the pair has a rank below this one.
-fn is_below(delayed: &Delayed, p: u32, q: u32, rank: u32) -> bool
+/// Tells whether the triple has a rank below this one.
+fn is_below(delayed: &Delayed, p: u32, ahead: &[u32], q: u32, rank: u32) -> bool
+    requires letters { AreAnnounced delayed.now.labels delayed.now.letters ahead.now }
     requires left { p < delayed.now.size }
     requires right { q < delayed.now.size }
-    ensures { IsTrue result ↔ ((s : ℕ) × HasRank delayed.now.pairs p q s × (s < rank)) }
+    ensures { IsTrue result ↔ ((s : ℕ) × HasRank delayed.now.triples ahead.now p q s × (s < rank)) }
 {
-    match delayed.rank(p, q) {
+    match delayed.rank(p, ahead, q) {
         Some(other) => other < rank,
         None => false,
     }
 }
 
-/// Tells whether the state answers the move with a pair of lesser rank.
-fn is_answered_below(automaton: &Auto, delayed: &Delayed, q: u32, step: Trans, rank: u32) -> bool
+/// Tells whether the relation holds the triple, with a rank below the limit if there is one.
+fn suits(delayed: &Delayed, p: u32, ahead: &[u32], q: u32, limit: Option<u32>) -> bool
+    requires letters { AreAnnounced delayed.now.labels delayed.now.letters ahead.now }
+    requires left { p < delayed.now.size }
+    requires right { q < delayed.now.size }
+    ensures { IsTrue result ↔ Suits delayed.now.triples limit ahead.now p q }
+{
+    match limit {
+        None => delayed.relates(p, ahead, q),
+        Some(rank) => is_below(delayed, p, ahead, q, rank),
+    }
+}
+
+/// Tells whether the state answers the move, after which these letters are announced, with a triple of the relation, of a rank below the
+/// limit if there is one.
+fn is_answered(
+    automaton: &Auto,
+    delayed: &Delayed,
+    q: u32,
+    step: Trans,
+    ahead: &[u32],
+    limit: Option<u32>,
+) -> bool
     requires equal { delayed.now.size ≡ automaton.now.states }
     requires state { q < automaton.now.states }
     requires target { step.target < automaton.now.states }
-    ensures { IsTrue result ↔ IsAnsweredBelow automaton.now delayed.now.pairs rank q step.label step.target }
+    requires letters { AreAnnounced delayed.now.labels delayed.now.letters ahead.now }
+    ensures { IsTrue result ↔ IsAnsweredWithin automaton.now delayed.now.triples limit ahead.now q step.label step.target }
 {
     let span = automaton.successors(q, step.label);
     for u in span.begin..span.end {
-        if is_below(
-            delayed,
-            step.target,
-            automaton.transitions()[u as usize].target,
-            rank,
-        ) {
+        let target = automaton.transitions()[u as usize].target;
+        if suits(delayed, step.target, ahead, target, limit) {
             return true;
         }
     }
     false
 }
 
-/// Tells whether each move of the left state is answered by a pair of the relation.
-fn has_answers(automaton: &Auto, delayed: &Delayed, p: u32, q: u32) -> bool
-    requires equal { delayed.now.size ≡ automaton.now.states }
-    requires left { p < automaton.now.states }
-    requires right { q < automaton.now.states }
-    ensures { IsTrue result ↔ HasAnswersIn automaton.now delayed.now.pairs p q }
+/// The letter after the one at this place, where `more` comes behind the announced letters.
+fn letter_after(ahead: &[u32], more: u32, at: usize) -> u32
+    requires { at < length ahead.now }
+    ensures { result ≡ slice_index (ahead.now ++ more ∷ []) (at + 1) }
 {
-    let span = automaton.outgoing(p);
-    for t in span.begin..span.end {
-        if !is_answered(automaton, delayed, q, automaton.transitions()[t as usize]) {
+    if at + 1 < ahead.len() {
+        ahead[at + 1]
+    } else {
+        more
+    }
+}
+
+/// The letters that are announced after a move, where `more` is announced next: the first ones of the three.
+fn next_ahead(ahead: &[u32], more: u32) -> [u32; 3]
+    requires { length ahead.now ≤ 3 }
+    ensures { take (length ahead.now) result ≡ drop 1 (ahead.now ++ more ∷ []) }
+{
+    let mut next = [0; 3];
+    for at in 0..ahead.len() {
+        next[at] = letter_after(ahead, more, at);
+    }
+    next
+}
+
+/// Tells whether the state answers the move whatever letter is announced next, with triples of a rank below the limit if there is one.
+fn is_answered_ahead(
+    automaton: &Auto,
+    delayed: &Delayed,
+    q: u32,
+    step: Trans,
+    ahead: &[u32],
+    limit: Option<u32>,
+) -> bool
+    requires equal { delayed.now.size ≡ automaton.now.states }
+    requires same { delayed.now.labels ≡ automaton.now.labels }
+    requires state { q < automaton.now.states }
+    requires target { step.target < automaton.now.states }
+    requires label { step.label < automaton.now.labels }
+    requires letters { AreAnnounced delayed.now.labels delayed.now.letters ahead.now }
+    requires some { 0 < length ahead.now }
+    requires short { length ahead.now ≤ 3 }
+    requires first { slice_index ahead.now 0 ≡ step.label }
+    ensures { IsTrue result ↔ IsAnsweredAhead automaton.now delayed.now.triples limit ahead.now q step.label step.target }
+{
+    for more in 0..automaton.labels() {
+        let next = next_ahead(ahead, more);
+        if !is_answered(automaton, delayed, q, step, &next[..ahead.len()], limit) {
             return false;
         }
     }
     true
 }
 
-/// Tells whether each move of the left state is answered by a pair of lesser rank.
-fn has_answers_below(automaton: &Auto, delayed: &Delayed, p: u32, q: u32, rank: u32) -> bool
+/// Tells whether the state answers the move of another one over these letters, if they allow it: at once where none are announced before it,
+/// and otherwise whatever letter is announced next.
+fn answers_move(
+    automaton: &Auto,
+    delayed: &Delayed,
+    q: u32,
+    step: Trans,
+    ahead: &[u32],
+    limit: Option<u32>,
+) -> bool
     requires equal { delayed.now.size ≡ automaton.now.states }
-    requires left { p < automaton.now.states }
-    requires right { q < automaton.now.states }
-    ensures { IsTrue result ↔ HasAnswersBelow automaton.now delayed.now.pairs p q rank }
+    requires same { delayed.now.labels ≡ automaton.now.labels }
+    requires state { q < automaton.now.states }
+    requires target { step.target < automaton.now.states }
+    requires label { step.label < automaton.now.labels }
+    requires letters { AreAnnounced delayed.now.labels delayed.now.letters ahead.now }
+    requires short { length ahead.now ≤ 3 }
+    ensures { IsTrue result ↔ IsAnsweredAhead automaton.now delayed.now.triples limit ahead.now q step.label step.target }
 {
-    let span = automaton.outgoing(p);
-    for t in span.begin..span.end {
-        if !is_answered_below(
-            automaton,
-            delayed,
-            q,
-            automaton.transitions()[t as usize],
-            rank,
-        ) {
-            return false;
-        }
+    if ahead.is_empty() {
+        return is_answered(automaton, delayed, q, step, ahead, limit);
     }
-    true
-}
-
-/// Tells whether the rank of the pair, or that there is none, is right.
-fn has_right_rank(automaton: &Auto, delayed: &Delayed, p: u32, q: u32) -> bool
-    requires equal { delayed.now.size ≡ automaton.now.states }
-    requires left { p < automaton.now.states }
-    requires right { q < automaton.now.states }
-    requires held { HoldsPair delayed.now.pairs p q }
-    ensures { IsTrue result ↔ IsRankRight automaton.now delayed.now.pairs p q }
-{
-    match delayed.rank(p, q) {
-        None => !automaton.accepting(p),
-        Some(0) => automaton.accepting(q),
-        Some(rank) => has_answers_below(automaton, delayed, p, q, rank),
-    }
-}
-
-/// Tells whether the pair, if it is held, is right.
-fn is_right(automaton: &Auto, delayed: &Delayed, p: u32, q: u32) -> bool
-    requires equal { delayed.now.size ≡ automaton.now.states }
-    requires left { p < automaton.now.states }
-    requires right { q < automaton.now.states }
-    ensures { IsTrue result ↔ IsPairRight automaton.now delayed.now.pairs p q }
-{
-    if !delayed.relates(p, q) {
+    if ahead[0] != step.label {
         return true;
     }
-    has_answers(automaton, delayed, p, q) && has_right_rank(automaton, delayed, p, q)
+    is_answered_ahead(automaton, delayed, q, step, ahead, limit)
 }
 
-/// Tells whether the pairs of the left state are right.
-fn is_right_row(automaton: &Auto, delayed: &Delayed, p: u32) -> bool
+/// Tells whether the right state answers each move of the left one over these letters, with triples of a rank below the limit if there is
+/// one.
+fn has_answers(
+    automaton: &Auto,
+    delayed: &Delayed,
+    p: u32,
+    ahead: &[u32],
+    q: u32,
+    limit: Option<u32>,
+) -> bool
     requires equal { delayed.now.size ≡ automaton.now.states }
+    requires same { delayed.now.labels ≡ automaton.now.labels }
     requires left { p < automaton.now.states }
-    ensures { IsTrue result ↔ ((q : ℕ) → q < automaton.now.states → IsPairRight automaton.now delayed.now.pairs p q) }
+    requires right { q < automaton.now.states }
+    requires letters { AreAnnounced delayed.now.labels delayed.now.letters ahead.now }
+    requires short { length ahead.now ≤ 3 }
+    ensures { IsTrue result ↔ HasAnswers automaton.now delayed.now.triples limit ahead.now p q }
 {
-    for q in 0..automaton.states() {
-        if !is_right(automaton, delayed, p, q) {
+    let span = automaton.outgoing(p);
+    for t in span.begin..span.end {
+        let step = automaton.transitions()[t as usize];
+        if !answers_move(automaton, delayed, q, step, ahead, limit) {
             return false;
         }
     }
     true
+}
+
+/// Tells whether the triple at this place is right.
+fn is_right(automaton: &Auto, delayed: &Delayed, at: usize) -> bool
+    requires equal { delayed.now.size ≡ automaton.now.states }
+    requires same { delayed.now.labels ≡ automaton.now.labels }
+    requires inside { at < length delayed.now.triples }
+    ensures { IsTrue result ↔ IsTripleRight automaton.now delayed.now.triples (triple_at delayed.now.triples at) }
+{
+    let p = delayed.left(at);
+    let q = delayed.right(at);
+    let ahead = delayed.ahead(at);
+    match delayed.rank_of(at) {
+        None => !automaton.accepting(p) && has_answers(automaton, delayed, p, ahead, q, None),
+        Some(0) => automaton.accepting(q) && has_answers(automaton, delayed, p, ahead, q, None),
+        Some(rank) => has_answers(automaton, delayed, p, ahead, q, Some(rank)),
+    }
 }
 
 /// Tells whether the relation with its ranks is right on the automaton.
 pub fn holds(automaton: &Auto, delayed: &Delayed) -> bool
     requires equal { delayed.now.size ≡ automaton.now.states }
-    ensures { IsTrue result ↔ IsRight automaton.now delayed.now.pairs }
+    requires same { delayed.now.labels ≡ automaton.now.labels }
+    ensures { IsTrue result ↔ IsRight automaton.now delayed.now.triples }
 {
-    for p in 0..delayed.states() {
-        if !is_right_row(automaton, delayed, p) {
+    for at in 0..delayed.count() {
+        if !is_right(automaton, delayed, at) {
             return false;
         }
     }

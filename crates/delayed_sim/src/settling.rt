@@ -5,12 +5,12 @@ ghost use Rattle.std.specs.Prelude.{◌≡◌, ◌+◌, ◌*◌, ◌/◌, ◌^�
 ghost use Rattle.auto_core.specs.Automaton.{IsAutomaton};
 ghost use Rattle.auto_core.specs.Game.{Holds};
 ghost use Rattle.auto_core.specs.Rows.{bit_of, HasBit};
-ghost use Rattle.bit_rel.specs.Relation.{IsRelation};
-ghost use Rattle.delayed_sim.specs.Settling.{HasAnswers, IsAnsweredInto, IsAnsweredBesides, IsFiltered, Shrinks, Tries};
+ghost use Rattle.delayed_sim.specs.Pairings.{IsPairing};
+ghost use Rattle.delayed_sim.specs.Settling.{AnswersAll, IsAnsweredInto, IsAnsweredBesides, IsFiltered, Shrinks, Tries};
 
 use crate::before::write_before;
+use crate::board::Board;
 use auto_core::{Auto, rows};
-use bit_rel::Rel;
 
 /// A place that the one row has and the other has not, one in this word if it has such a place.
 fn missing_near(one: &[u64], other: &[u64], word: usize) -> Option<usize>
@@ -32,17 +32,17 @@ fn missing_near(one: &[u64], other: &[u64], word: usize) -> Option<usize>
 }
 
 /// Takes away the pairs of the left state whose right state the row has not, and tells whether there were any.
-fn keep_in_row(rel: &mut Rel, p: u32, row: &[u64]) -> bool
-    requires left { p < rel.old.size }
-    requires few { rel.old.size < 2 ^ 32 }
-    requires valid { IsRelation rel.old }
-    requires len { length row.now ≡ (rel.old.size + 63) / 64 }
-    ensures { IsFiltered rel.old rel.new p (λ q. HasBit row.now q) result }
+fn keep_in_row(board: &mut Board, p: u32, row: &[u64]) -> bool
+    requires left { p < board.old.places }
+    requires few { board.old.states < 2 ^ 32 }
+    requires valid { IsPairing board.old }
+    requires len { length row.now ≡ (board.old.states + 63) / 64 }
+    ensures { IsFiltered board.old board.new p (λ q. HasBit row.now q) result }
 {
     let mut changed = false;
     let mut word = 0;
-    while let Some(q) = missing_near(rel.row(p), row, word) {
-        rel.clear(p, q as u32);
+    while let Some(q) = missing_near(board.row(p), row, word) {
+        board.clear(p, q as u32);
         changed = true;
         word = q / 64;
     }
@@ -52,8 +52,9 @@ fn keep_in_row(rel: &mut Rel, p: u32, row: &[u64]) -> bool
 /// Takes away the pairs from whose right state no move answers one to this state, marks the rows that lose pairs, and tells whether
 /// there were any. `ends` and `row` are room for one row, `made` for a row for each letter.
 fn try_into(
+    places: &Auto,
     automaton: &Auto,
-    rel: &mut Rel,
+    board: &mut Board,
     to: u32,
     marks: &mut [u64],
     ends: &mut [u64],
@@ -61,27 +62,30 @@ fn try_into(
     width: usize,
     row: &mut [u64],
 ) -> bool
+    requires over { IsAutomaton places.now }
     requires sound { IsAutomaton automaton.now }
-    requires state { to < automaton.now.states }
-    requires equal { rel.old.size ≡ automaton.now.states }
-    requires valid { IsRelation rel.old }
+    requires place { to < places.now.states }
+    requires places { board.old.places ≡ places.now.states }
+    requires states { board.old.states ≡ automaton.now.states }
+    requires labels { places.now.labels ≡ automaton.now.labels }
+    requires valid { IsPairing board.old }
     requires width { width ≡ (automaton.now.states + 63) / 64 }
-    requires marks_len { length marks.old ≡ (automaton.now.states + 63) / 64 }
+    requires marks_len { length marks.old ≡ (places.now.states + 63) / 64 }
     requires ends_len { length ends.old ≡ width }
     requires made_len { length made.old ≡ automaton.now.labels * width }
     requires row_len { length row.old ≡ width }
-    requires others { (x : ℕ) → x < automaton.now.states → ¬ (x ≡ to) → bit_of marks.old x ≡ false → IsAnsweredInto automaton.now (Holds rel.old.pairs) x }
-    ensures tries { Tries automaton.now rel.old rel.new marks.old marks.new result }
-    ensures answered { IsAnsweredBesides automaton.now (Holds rel.new.pairs) marks.new }
+    requires others { (x : ℕ) → x < places.now.states → ¬ (x ≡ to) → bit_of marks.old x ≡ false → IsAnsweredInto places.now automaton.now (Holds board.old.pairs) x }
+    ensures tries { Tries places.now automaton.now board.old board.new marks.old marks.new result }
+    ensures answered { IsAnsweredBesides places.now automaton.now (Holds board.new.pairs) marks.new }
 {
     let mut any = false;
-    ends.copy_from_slice(rel.row(to));
-    write_before(automaton, to, ends, made, width, row);
-    let before = automaton.predecessors(to);
+    ends.copy_from_slice(board.row(to));
+    write_before(places, automaton, to, ends, made, width, row);
+    let before = places.predecessors(to);
     for i in 0..before.len() {
-        let step = automaton.transitions()[before[i] as usize];
+        let step = places.transitions()[before[i] as usize];
         if keep_in_row(
-            rel,
+            board,
             step.source,
             rows::row_at(made, width, step.label as usize),
         ) {
@@ -95,33 +99,37 @@ fn try_into(
 /// Tries the moves to each marked state, each once, the last state first, and tells whether pairs were taken away. `ends` and `row` are
 /// room for one row, `made` for a row for each letter.
 fn pass(
+    places: &Auto,
     automaton: &Auto,
-    rel: &mut Rel,
+    board: &mut Board,
     marks: &mut [u64],
     ends: &mut [u64],
     made: &mut [u64],
     width: usize,
     row: &mut [u64],
 ) -> bool
+    requires over { IsAutomaton places.now }
     requires sound { IsAutomaton automaton.now }
-    requires equal { rel.old.size ≡ automaton.now.states }
-    requires valid { IsRelation rel.old }
-    requires marks_len { length marks.old ≡ (automaton.now.states + 63) / 64 }
+    requires places { board.old.places ≡ places.now.states }
+    requires states { board.old.states ≡ automaton.now.states }
+    requires labels { places.now.labels ≡ automaton.now.labels }
+    requires valid { IsPairing board.old }
+    requires marks_len { length marks.old ≡ (places.now.states + 63) / 64 }
     requires width { width ≡ (automaton.now.states + 63) / 64 }
     requires ends_len { length ends.old ≡ width }
     requires made_len { length made.old ≡ automaton.now.labels * width }
     requires row_len { length row.old ≡ width }
-    requires besides { IsAnsweredBesides automaton.now (Holds rel.old.pairs) marks.old }
-    ensures shrinks { Shrinks automaton.now rel.old rel.new }
-    ensures some { result ≡ true → length rel.new.pairs < length rel.old.pairs }
-    ensures none { result ≡ false → (x : ℕ) → x < automaton.now.states → bit_of marks.new x ≡ false }
-    ensures besides { IsAnsweredBesides automaton.now (Holds rel.new.pairs) marks.new }
+    requires besides { IsAnsweredBesides places.now automaton.now (Holds board.old.pairs) marks.old }
+    ensures shrinks { Shrinks places.now automaton.now board.old board.new }
+    ensures some { result ≡ true → length board.new.pairs < length board.old.pairs }
+    ensures none { result ≡ false → (x : ℕ) → x < places.now.states → bit_of marks.new x ≡ false }
+    ensures besides { IsAnsweredBesides places.now automaton.now (Holds board.new.pairs) marks.new }
 {
     let mut any = false;
-    for to in (0..automaton.states()).rev() {
+    for to in (0..places.states()).rev() {
         if rows::has_bit(marks, to as usize) {
             rows::clear_bit(marks, to as usize);
-            if try_into(automaton, rel, to, marks, ends, made, width, row) {
+            if try_into(places, automaton, board, to, marks, ends, made, width, row) {
                 any = true;
             }
         }
@@ -132,26 +140,30 @@ fn pass(
 /// Takes pairs away until each move of a left state is answered, where only moves to marked states need be tried. No mark is left; `ends`
 /// and `row` are room for one row, `made` for a row for each letter.
 pub fn settle(
+    places: &Auto,
     automaton: &Auto,
-    rel: &mut Rel,
+    board: &mut Board,
     marks: &mut [u64],
     ends: &mut [u64],
     made: &mut [u64],
     width: usize,
     row: &mut [u64],
 )
+    requires over { IsAutomaton places.now }
     requires sound { IsAutomaton automaton.now }
-    requires equal { rel.old.size ≡ automaton.now.states }
-    requires valid { IsRelation rel.old }
-    requires marks_len { length marks.old ≡ (automaton.now.states + 63) / 64 }
+    requires places { board.old.places ≡ places.now.states }
+    requires states { board.old.states ≡ automaton.now.states }
+    requires labels { places.now.labels ≡ automaton.now.labels }
+    requires valid { IsPairing board.old }
+    requires marks_len { length marks.old ≡ (places.now.states + 63) / 64 }
     requires width { width ≡ (automaton.now.states + 63) / 64 }
     requires ends_len { length ends.old ≡ width }
     requires made_len { length made.old ≡ automaton.now.labels * width }
     requires row_len { length row.old ≡ width }
-    requires besides { IsAnsweredBesides automaton.now (Holds rel.old.pairs) marks.old }
-    ensures shrinks { Shrinks automaton.now rel.old rel.new }
-    ensures unmarked { (x : ℕ) → x < automaton.now.states → bit_of marks.new x ≡ false }
-    ensures answered { (p q : ℕ) → Holds rel.new.pairs p q → HasAnswers automaton.now (Holds rel.new.pairs) p q }
+    requires besides { IsAnsweredBesides places.now automaton.now (Holds board.old.pairs) marks.old }
+    ensures shrinks { Shrinks places.now automaton.now board.old board.new }
+    ensures unmarked { (x : ℕ) → x < places.now.states → bit_of marks.new x ≡ false }
+    ensures answered { (p q : ℕ) → Holds board.new.pairs p q → AnswersAll places.now automaton.now (Holds board.new.pairs) p q }
 {
-    'passes: while pass(automaton, rel, marks, ends, made, width, row) {}
+    'passes: while pass(places, automaton, board, marks, ends, made, width, row) {}
 }

@@ -1,8 +1,8 @@
 -- That there are greatest relations.
-use Rattle.std.specs.Prelude.{ℕ, List}
+use Rattle.std.specs.Prelude.{ℕ, ◌≤◌, List}
 use Rattle.auto_core.specs.Automaton.{Automaton}
 use Rattle.auto_core.specs.Game.{IsGreatestForward, IsGreatestBackward, IsGreatestAcross}
-use Rattle.auto_core.specs.Delayed.{RankedPairs, IsGreatestDelayed}
+use Rattle.auto_core.specs.Delayed.{RankedTriples, IsGreatestDelayed}
 
 -- There is a greatest list that is stable forward, at each lookahead.
 abbrev pub GreatestForwardIsThere : Type 0
@@ -16,6 +16,6 @@ GreatestBackwardIsThere = (A : Automaton) (k : ℕ) → (S : List (ℕ × ℕ)) 
 abbrev pub GreatestAcrossIsThere : Type 0
 GreatestAcrossIsThere = (A B : Automaton) (k : ℕ) → (S : List (ℕ × ℕ)) × IsGreatestAcross A B k S
 
--- There is a greatest delayed relation, with its least ranks.
+-- There is a greatest delayed relation with n announced letters, with its least ranks.
 abbrev pub GreatestDelayedIsThere : Type 0
-GreatestDelayedIsThere = (A : Automaton) → (X : RankedPairs) × IsGreatestDelayed A X
+GreatestDelayedIsThere = (A : Automaton) (n : ℕ) → 1 ≤ n → (X : RankedTriples) × IsGreatestDelayed A n X

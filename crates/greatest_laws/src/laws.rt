@@ -17,7 +17,7 @@ pub fn a_greatest_relation_across_is_there()
     ensures { GreatestAcrossIsThere }
 {}
 
-/// Each automaton has a greatest delayed relation, with its least ranks.
+/// Each automaton has a greatest delayed relation with each number of announced letters, with its least ranks.
 pub fn a_greatest_delayed_relation_is_there()
     ensures { GreatestDelayedIsThere }
 {}

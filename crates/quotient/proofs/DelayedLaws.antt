@@ -1,25 +1,23 @@
 -- A quotient by the classes of a delayed relation accepts the same lassos: a path through classes is followed by a path through states
 -- that is accepting a bounded number of places later.
-use Rattle.std.proofs.Common.{◌≡◌, ℕ, zero, suc, ◌+◌, ◌*◌, ◌<◌, ◌≤◌, ◌⊎◌, inl, inr, Bool, true, false, Option, None, Some, List, [], ◌∷◌, ◌++◌, length, map, take, get_or, replicate, All, Contains, refl, sym, ap, ◌∙◌, subst, arith, length-append}
+use Rattle.std.proofs.Common.{◌≡◌, ℕ, zero, suc, ◌+◌, ◌*◌, ◌<◌, ◌≤◌, ◌⊎◌, inl, inr, Bool, true, false, Option, None, Some, List, [], ◌∷◌, ◌++◌, length, take, get_or, replicate, All, Contains, refl, sym, ap, ◌∙◌, subst, arith, length-append}
 use Rattle.std.proofs.lemmas.Bool.{cases_eq, false≢true}
 use Rattle.std.proofs.lemmas.List.{take_more, length-replicate, length-take-le}
 use Rattle.std.proofs.Math.Nat.{mul-le-mul_right}
-use Rattle.std.proofs.lemmas.List.Elements.{All-contains, All-head, All-tail}
+use Rattle.std.proofs.lemmas.List.Elements.{All-append, All-cons, All-contains, All-head, All-replicate, All-tail, All-take}
 use Rattle.auto_core.specs.Automaton.{Automaton, IsAutomaton, Moves, IsAccepting, is_accepting}
 use Rattle.auto_core.specs.Run.{Path}
 use Rattle.auto_core.specs.Game.{Chain, Close}
-use Rattle.auto_core.specs.Quotient.{class_of, IsQuotient}
-use Rattle.auto_core.specs.Delayed.{RankedPairs, HoldsPair, IsRight}
+use Rattle.auto_core.specs.Quotient.{class_of, IsQuotient, RelatesMembersBy}
+use Rattle.auto_core.specs.Delayed.{RankedTriples, HoldsTriple, HasRank, Announces, IsRight, AreAnnounced, AreRelatedAhead}
 use Rattle.auto_core.specs.declared.parts.Mode.TheVariants.{Buchi}
 use Rattle.auto_core.proofs.PathLemmas.{accepting_from_test, test_from_accepting, none_in_nil, Contains-cons_cases}
 use Rattle.auto_core.proofs.MoveLemmas.{move_in_range}
-use Rattle.auto_core.proofs.MemberLemmas.{map_has, map_from}
 use Rattle.auto_core.proofs.ReachLemmas.{close_refl, close_trans, close_one}
 use Rattle.path_laws.specs.Transfer.{AcceptsWithin, AllMatchedWithin, FollowsWithin}
 use Rattle.path_laws.proofs.PumpingLemmas.{chain_short}
 use Rattle.path_laws.proofs.TransferLemmas.{delayed_transfer}
-use Rattle.quotient.specs.Announced.{RankedTriples, HoldsTriple, HasTripleRank, Announces, IsRightAhead, IsAnnounced, AreRelatedAhead, RelatesMembersBy}
-use Rattle.quotient.specs.Laws.{AnnouncedQuotientIsSame, DelayedQuotientIsSame}
+use Rattle.quotient.specs.Laws.{DelayedQuotientIsSame}
 use Rattle.quotient.proofs.MergeLaws.{accepts_more}
 
 -- ---- bounds that a list of triples gives
@@ -38,7 +36,7 @@ abbrev rights_bound : RankedTriples → ℕ
 rights_bound [] = zero
 rights_bound (x ∷ xs) = suc x.2 + rights_bound xs
 
-rank_below : (X : RankedTriples) (b : List ℕ) (p q r : ℕ) → HasTripleRank X b p q r → r < ranks_bound X
+rank_below : (X : RankedTriples) (b : List ℕ) (p q r : ℕ) → HasRank X b p q r → r < ranks_bound X
 rank_below [] b p q r h = absurd (none_in_nil (p, b, q, Some r) h)
 rank_below (x ∷ xs) b p q r h = elim (Contains-cons_cases x (p, b, q, Some r) xs h) [
   | inl e ↦
@@ -56,18 +54,6 @@ right_below (x ∷ xs) b p q h = elim (Contains-cons_cases x (p, b, q, h.0) xs h
 
 -- ---- words of announced letters
 
-All-more : (P : ℕ → Type 0) (x : ℕ) (xs : List ℕ) → P x → All P xs → All P (x ∷ xs)
-All-more P x xs here later zero d lt = here
-All-more P x xs here later (suc i) d lt = later i d (omega arith)
-
-All-append : (P : ℕ → Type 0) (xs ys : List ℕ) → All P xs → All P ys → All P (xs ++ ys)
-All-append P [] ys a b = b
-All-append P (x ∷ xs) ys a b = All-more P x (xs ++ ys) (All-head P x xs a) (All-append P xs ys (All-tail P x xs a) b)
-
-All-replicate : (P : ℕ → Type 0) (n x : ℕ) → P x → All P (replicate n x)
-All-replicate P zero x h = λ i d lt. absurd (omega arith)
-All-replicate P (suc n) x h = All-more P x (replicate n x) h (All-replicate P n x h)
-
 -- the first k letters of a word, the word's first letter, and the first k letters after it
 announced_next : (k a : ℕ) (u : List ℕ) → k ≤ length u → Announces (take k (a ∷ u)) (get_or (a ∷ u) k 0) a (take k u)
 announced_next k a u le =
@@ -77,12 +63,7 @@ announced_next k a u le =
     plus_one : (n : ℕ) → n + 1 ≡ suc n
     plus_one n = omega arith
 
-All-take : (P : ℕ → Type 0) (k : ℕ) (u : List ℕ) → All P u → All P (take k u)
-All-take P zero u h = λ i d lt. absurd (omega arith)
-All-take P (suc k) [] h = λ i d lt. absurd (omega arith)
-All-take P (suc k) (a ∷ u) h = All-more P a (take k u) (All-head P a u h) (All-take P k u (All-tail P a u h))
-
-module _ (A : Automaton) (X : RankedTriples) (right : IsRightAhead A X) where
+module _ (A : Automaton) (X : RankedTriples) (right : IsRight A X) where
   -- a chain of triples over the letters b
   abbrev Below : List ℕ → ℕ → ℕ → Type 0
   Below b p q = Close (HoldsTriple X b) p q
@@ -167,16 +148,16 @@ module _ (A : Automaton) (X : RankedTriples) (right : IsRightAhead A X) where
   owes_from_rank :
       (d n : ℕ)
       → ((b : List ℕ) (x z : ℕ) → IsAccepting A x → Chain (HoldsTriple X b) n x z → Owes d b x z)
-      → (m s : ℕ) → s ≤ m → (b : List ℕ) (x r z : ℕ) → HasTripleRank X b x r s → Chain (HoldsTriple X b) n r z → Owes (m + d) b x z
+      → (m s : ℕ) → s ≤ m → (b : List ℕ) (x r z : ℕ) → HasRank X b x r s → Chain (HoldsTriple X b) n r z → Owes (m + d) b x z
   owes_from_rank d n ih zero s le b x r z ranked chain =
-      let here : HasTripleRank X b x r 0 = subst (λ y. HasTripleRank X b x r y) (none s le) ranked in
+      let here : HasRank X b x r 0 = subst (λ y. HasRank X b x r y) (none s le) ranked in
       owes_more (zero + d) d b x z (omega arith) (owes_after d b x r z (close_one (HoldsTriple X b) x r (Some s, ranked)) (ih b r z (right.at_zero b x r here) chain))
     where
       none : (s : ℕ) → s ≤ zero → s ≡ zero
       none s le = omega arith
   owes_from_rank d n ih (suc m) s le b x r z ranked chain = elim (cases_eq s 0) [
     | inl e ↦
-        let here : HasTripleRank X b x r 0 = subst (λ y. HasTripleRank X b x r y) e ranked in
+        let here : HasRank X b x r 0 = subst (λ y. HasRank X b x r y) e ranked in
         owes_more (suc m + d) d b x z (omega arith) (owes_after d b x r z (close_one (HoldsTriple X b) x r (Some s, ranked)) (ih b r z (right.at_zero b x r here) chain))
     | inr some ↦
         let step : Owes (suc (m + d)) b x z = (
@@ -220,12 +201,12 @@ module _ (A : Automaton) (X : RankedTriples) (right : IsRightAhead A X) where
       let less = chain_short (HoldsTriple X b) bound (λ s t lt held. let right_lt = right_below X b s t held in omega arith) n x z (omega arith) chain in
       owes_more delay (less.0 * ranks_bound X) b x z (mul-le-mul_right (ranks_bound X) (omega (arith, less.1))) (owes_along less.0 b x z accepting less.2)
 
-  module _ (valid : IsAutomaton A) (B : Automaton) (classes : List ℕ) (k : ℕ) (relates : RelatesMembersBy A classes (AreRelatedAhead A k X)) (is : IsQuotient A classes B) where
+  module _ (valid : IsAutomaton A) (B : Automaton) (classes : List ℕ) (k : ℕ) (relates : RelatesMembersBy A classes (AreRelatedAhead A.labels (suc k) X)) (is : IsQuotient A classes B) where
     -- members of one class are below one another, whatever k letters are announced
-    members_below : (b : List ℕ) → IsAnnounced A k b → (p q : ℕ) → p < A.states → q < A.states → class_of classes p ≡ class_of classes q → Below b p q
+    members_below : (b : List ℕ) → AreAnnounced A.labels (suc k) b → (p q : ℕ) → p < A.states → q < A.states → class_of classes p ≡ class_of classes q → Below b p q
     members_below b fits p q p_in q_in same = let way = relates p q p_in q_in same in (way.0, along way.0 p q way.1)
       where
-        along : (n p q : ℕ) → Chain (AreRelatedAhead A k X) n p q → Chain (HoldsTriple X b) n p q
+        along : (n p q : ℕ) → Chain (AreRelatedAhead A.labels (suc k) X) n p q → Chain (HoldsTriple X b) n p q
         along zero p q c = c
         along (suc n) p q (r, first, rest) = (r, first b fits, along n r q rest)
 
@@ -258,11 +239,11 @@ module _ (A : Automaton) (X : RankedTriples) (right : IsRightAhead A X) where
     path_labels c (a ∷ w) [] path = absurd path
     path_labels c (a ∷ w) (d ∷ ds) (move, rest) =
         let rep = (is.moves c a d).0 move in
-        All-more (λ a. a < A.labels) a w (move_in_range A valid rep.0 a rep.1 rep.2).2 (path_labels d w ds rest)
+        All-cons (λ a. a < A.labels) a w (move_in_range A valid rep.0 a rep.1 rep.2).2 (path_labels d w ds rest)
 
     -- the letters announced where the word u is still to come
-    fits_after : (u : List ℕ) → k ≤ length u → All (λ a. a < A.labels) u → IsAnnounced A k (take k u)
-    fits_after u long labels = (length-take-le k u long, All-take (λ a. a < A.labels) k u labels)
+    fits_after : (u : List ℕ) → k ≤ length u → All (λ a. a < A.labels) u → AreAnnounced A.labels (suc k) (take k u)
+    fits_after u long labels = (ap suc (length-take-le k u long), All-take (λ a. a < A.labels) k u labels)
 
     -- no debt is greater than the delay
     abbrev FitsDebt : Option ℕ → Type 0
@@ -282,7 +263,7 @@ module _ (A : Automaton) (X : RankedTriples) (right : IsRightAhead A X) where
 
     module _ (pad : List ℕ) (padded : length pad ≡ k) (pad_labels : All (λ a. a < A.labels) pad) where
       -- a state of the class d is reached with no debt: if the class is accepting, a debt begins
-      go_on : (w cs : List ℕ) → FollowsRest pad w cs → (d q z : ℕ) → Path B d w cs → q < A.states → class_of classes q ≡ d → IsAnnounced A k (take k (w ++ pad)) → Below (take k (w ++ pad)) q z
+      go_on : (w cs : List ℕ) → FollowsRest pad w cs → (d q z : ℕ) → Path B d w cs → q < A.states → class_of classes q ≡ d → AreAnnounced A.labels (suc k) (take k (w ++ pad)) → Below (take k (w ++ pad)) q z
           → (zs : List ℕ) × Path A z w zs × AllMatchedWithin B A delay cs zs × (IsAccepting B d → AcceptsWithin A delay (z ∷ zs))
       go_on w cs rest d q z path q_in of_d fits below = by_test (is_accepting B d) refl
         where
@@ -328,7 +309,7 @@ module _ (A : Automaton) (X : RankedTriples) (right : IsRightAhead A X) where
           u_labels = All-append (λ a. a < A.labels) w pad w_labels pad_labels
 
           all_labels : All (λ a. a < A.labels) (a ∷ u)
-          all_labels = All-more (λ a. a < A.labels) a u (All-head (λ a. a < A.labels) a w labels) u_labels
+          all_labels = All-cons (λ a. a < A.labels) a u (All-head (λ a. a < A.labels) a w labels) u_labels
 
           more : ℕ
           more = get_or (a ∷ u) k 0
@@ -339,10 +320,10 @@ module _ (A : Automaton) (X : RankedTriples) (right : IsRightAhead A X) where
           next : Announces (take k (a ∷ u)) more a (take k u)
           next = announced_next k a u long
 
-          now : IsAnnounced A k (take k (a ∷ u))
+          now : AreAnnounced A.labels (suc k) (take k (a ∷ u))
           now = fits_after (a ∷ u) (omega (arith, long)) all_labels
 
-          then : IsAnnounced A k (take k u)
+          then : AreAnnounced A.labels (suc k) (take k u)
           then = fits_after u long u_labels
 
           rep : (p q : ℕ) × Moves A p a q × (c ≡ class_of classes p) × (d ≡ class_of classes q)
@@ -405,77 +386,9 @@ module _ (A : Automaton) (X : RankedTriples) (right : IsRightAhead A X) where
         let way = follows pad (length-replicate k 0) (All-replicate (λ a. a < A.labels) k 0 some) (a ∷ w) cs labels B.initial A.initial A.initial None path valid.initial_is_state (sym is.initial) tt (close_refl (HoldsTriple X (take k ((a ∷ w) ++ pad))) A.initial) in
         (way.0, way.1, way.2)
 
-pub announced_quotient_is_same : AnnouncedQuotientIsSame
-announced_quotient_is_same A B classes k X valid right relates is = (
+pub delayed_quotient_is_same : DelayedQuotientIsSame
+delayed_quotient_is_same A B classes zero X valid some right relates is = absurd (omega arith)
+delayed_quotient_is_same A B classes (suc k) X valid some right relates is = (
   accepts_more A B classes Buchi is,
   delayed_transfer B A (delay A X right) valid (followed_within A X right valid B classes k relates is),
 )
-
--- ---- with no letter announced
-
-abbrev triple_of : ℕ × ℕ × Option ℕ → ℕ × List ℕ × ℕ × Option ℕ
-triple_of x = (x.0, [], x.1, x.2)
-
-abbrev triples_of : RankedPairs → RankedTriples
-triples_of X = map triple_of X
-
-triple_has : (X : RankedPairs) (p q : ℕ) (o : Option ℕ) → Contains X (p, q, o) → Contains (triples_of X) (p, [], q, o)
-triple_has X p q o h = map_has triple_of X (p, q, o) h
-
-triple_from : (X : RankedPairs) (b : List ℕ) (p q : ℕ) (o : Option ℕ) → Contains (triples_of X) (p, b, q, o) → ([] ≡ b) × Contains X (p, q, o)
-triple_from X b p q o h =
-    let (x, there, is) = map_from triple_of X (p, b, q, o) h in
-    let left : x.0 ≡ p = ap (λ (y : ℕ × List ℕ × ℕ × Option ℕ). y.0) is in
-    let right : x.1 ≡ q = ap (λ (y : ℕ × List ℕ × ℕ × Option ℕ). y.2) is in
-    let rank : x.2 ≡ o = ap (λ (y : ℕ × List ℕ × ℕ × Option ℕ). y.3) is in (
-      ap (λ (y : ℕ × List ℕ × ℕ × Option ℕ). y.1) is,
-      subst (λ z. Contains X (p, q, z)) rank (subst (λ z. Contains X (p, z, x.2)) right (subst (λ z. Contains X (z, x.1, x.2)) left there)),
-    )
-
--- after no letter the next one is the one that is announced
-next_is : (b : List ℕ) (more a : ℕ) (c : List ℕ) → [] ≡ b → Announces b more a c → (more ≡ a) × ([] ≡ c)
-next_is [] more a c none next = (ap first next, ap rest next)
-  where
-    first : List ℕ → ℕ
-    first [] = zero
-    first (x ∷ xs) = x
-
-    rest : List ℕ → List ℕ
-    rest [] = []
-    rest (x ∷ xs) = xs
-next_is (x ∷ b) more a c none next = absurd (no_letters none)
-  where
-    no_letters : [] ≡ x ∷ b → ⊥
-    no_letters e = let len : 0 ≡ length (x ∷ b) = ap length e in omega arith
-
-right_ahead : (A : Automaton) (X : RankedPairs) → IsRight A X → IsRightAhead A (triples_of X)
-right_ahead A X right = record {
-  answers = λ b p q more a c p' h label next move.
-      let pair = triple_from X b p q h.0 h.1 in
-      let letters = next_is b more a c pair.0 next in
-      let answer = right.answers p q a p' (h.0, pair.1) move in
-      (answer.0, answer.1, subst (λ c. HoldsTriple (triples_of X) c p' answer.0) letters.1 (answer.2.0, triple_has X p' answer.0 answer.2.0 answer.2.1));
-  ranked = λ b p q h accepting.
-      let pair = triple_from X b p q h.0 h.1 in
-      let has = right.ranked p q (h.0, pair.1) accepting in
-      (has.0, subst (λ b. HasTripleRank (triples_of X) b p q has.0) pair.0 (triple_has X p q (Some has.0) has.1));
-  at_zero = λ b p q h. right.at_zero p q (triple_from X b p q (Some 0) h).1;
-  above_zero = λ b p q r more a c p' h some label next move.
-      let pair = triple_from X b p q (Some r) h in
-      let letters = next_is b more a c pair.0 next in
-      let answer = right.above_zero p q r a p' pair.1 some move in
-      (answer.0, answer.1, answer.2, subst (λ c. HasTripleRank (triples_of X) c p' answer.0 answer.1) letters.1 (triple_has X p' answer.0 (Some answer.1) answer.3), answer.4);
-}
-
-related_ahead : (A : Automaton) (X : RankedPairs) (n p q : ℕ) → Chain (HoldsPair X) n p q → Chain (AreRelatedAhead A 0 (triples_of X)) n p q
-related_ahead A X zero p q c = c
-related_ahead A X (suc n) p q (r, first, rest) = (r, (λ b fits. at b fits.0), related_ahead A X n r q rest)
-  where
-    at : (b : List ℕ) → length b ≡ 0 → HoldsTriple (triples_of X) b p r
-    at [] none = (first.0, triple_has X p r first.0 first.1)
-    at (x ∷ b) none = absurd (omega arith)
-
-pub delayed_quotient_is_same : DelayedQuotientIsSame
-delayed_quotient_is_same A B classes X valid right relates is =
-    announced_quotient_is_same A B classes 0 (triples_of X) valid (right_ahead A X right)
-    (λ p q p_in q_in same. let way = relates p q p_in q_in same in (way.0, related_ahead A X way.0 p q way.1)) is

@@ -1,4 +1,3 @@
-pub mod Announced
 pub mod Laws
 pub mod Images
 pub mod Counting

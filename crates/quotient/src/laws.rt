@@ -1,6 +1,6 @@
 //! The laws of quotients: each is the contract of a function that does nothing.
 
-ghost use Rattle.quotient.specs.Laws.{QuotientAcceptsMore, ForwardQuotientIsSame, BackwardQuotientIsSame, AnnouncedQuotientIsSame, DelayedQuotientIsSame, QuotientIsOne};
+ghost use Rattle.quotient.specs.Laws.{QuotientAcceptsMore, ForwardQuotientIsSame, BackwardQuotientIsSame, DelayedQuotientIsSame, QuotientIsOne};
 
 /// A quotient by any classes accepts what the automaton accepts.
 pub fn quotient_accepts_more()
@@ -17,13 +17,7 @@ pub fn backward_quotient_is_same()
     ensures { BackwardQuotientIsSame }
 {}
 
-/// It accepts the same lassos if the closure of the states that one right delayed relation relates, whatever letters are announced,
-/// relates the members of each class.
-pub fn announced_quotient_is_same()
-    ensures { AnnouncedQuotientIsSame }
-{}
-
-/// It accepts the same lassos if the closure of the pairs of one right delayed relation relates the members of each class.
+/// It accepts the same lassos if the closure of the state relation of one right list of triples relates the members of each class.
 pub fn delayed_quotient_is_same()
     ensures { DelayedQuotientIsSame }
 {}

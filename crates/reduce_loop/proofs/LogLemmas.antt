@@ -3,7 +3,7 @@ use Rattle.std.proofs.Common.{◌≡◌, ℕ, zero, suc, ◌<◌, ◌↔◌, inl
 use Rattle.std.specs.List.Sorted.{IsStrictlyIncreasing}
 use Rattle.std.proofs.lemmas.List.Kept.{AllPairs-from_increasing}
 use Rattle.auto_core.specs.Automaton.{Automaton, IsAutomaton}
-use Rattle.auto_core.specs.Delayed.{HoldsPair}
+use Rattle.auto_core.specs.Delayed.{IsGreatestDelayed, AreRelatedAhead, letters_for}
 use Rattle.auto_core.specs.Game.{Close, Holds, IsGreatestForward, IsGreatestBackward}
 use Rattle.auto_core.specs.Pruning.{look_back, look_ahead}
 use Rattle.auto_core.specs.declared.parts.Mode.{Mode}
@@ -15,6 +15,7 @@ use Rattle.delayed_sim.proofs.OneLemmas.{greatest_one}
 use Rattle.direct_sim.proofs.GreatestLemmas.{greatest_is_one as forward_is_one}
 use Rattle.prune_pairs.specs.Least.{AreLeastBetter}
 use Rattle.prune_pairs.specs.declared.removing.Gone.{Gone}
+use Rattle.reduce_loop.specs.declared.steps.Foresight.{Foresight}
 use Rattle.reduce_loop.specs.declared.steps.Kind.{Kind}
 use Rattle.reduce_loop.specs.declared.steps.Kind.TheVariants.{Trim, Forward, Backward, Delayed, Prune}
 use Rattle.reduce_loop.specs.declared.steps.MergeBy.{MergeBy}
@@ -26,7 +27,7 @@ use Rattle.reduce_loop.specs.Logs.{IsRelationOf, IsMergeOf, IsDelayedMergeOf, Is
 use Rattle.reduce_loop.specs.Laws.{LogIsOne}
 use Rattle.reduce_loop.proofs.RelationLemmas.{same_relation}
 use Rattle.reduce_loop.proofs.MergeLemmas.{same_classes, same_closure}
-use Rattle.reduce_loop.proofs.DelayedLemmas.{same_pairs}
+use Rattle.reduce_loop.proofs.DelayedLemmas.{same_related}
 use Rattle.reduce_loop.proofs.PruneLemmas.{least_one}
 use Rattle.reduce_loop.proofs.StepLemmas.{after_valid, after_one}
 use Rattle.reduce_loop.proofs.PassLemmas.{log_through, through_valid, through_one}
@@ -57,11 +58,18 @@ module _ (A : Automaton) (Greatest : List (ℕ × ℕ) → Type 0) (one : (S T :
   given_one wanted (Some rel) None is also = absurd (also is.0)
   given_one wanted (Some rel) (Some other) is also = ap Some (relation_one rel other is.1 also.1)
 
-delayed_entry_one : (A : Automaton) (X Y : Ranking) (classes these : List ℕ) → IsDelayedMergeOf A X classes → IsDelayedMergeOf A Y these → step.Merge (by.Delayed X) classes ≡ step.Merge (by.Delayed Y) these
-delayed_entry_one A X Y classes these is also =
-    let same : X ≡ Y = greatest_one A X Y is.valid also.valid (is.on_states ∙ sym also.on_states) is.greatest also.greatest in
-    let equal : classes ≡ these = same_classes A.states (Close (HoldsPair X.pairs)) (Close (HoldsPair Y.pairs)) classes these is.joined also.joined
-    (same_closure (HoldsPair X.pairs) (HoldsPair Y.pairs) (same_pairs A X.pairs Y.pairs is.greatest also.greatest)) in
+delayed_entry_one :
+    (A : Automaton) (n : ℕ) (X Y : Ranking) (classes these : List ℕ)
+    → IsDelayedMergeOf A n X classes
+    → IsDelayedMergeOf A n Y these
+    → step.Merge (by.Delayed X) classes ≡ step.Merge (by.Delayed Y) these
+delayed_entry_one A n X Y classes these is also =
+    let greatest : IsGreatestDelayed A X.letters X.triples = subst (λ m. IsGreatestDelayed A m X.triples) (sym is.announced) is.greatest in
+    let other : IsGreatestDelayed A Y.letters Y.triples = subst (λ m. IsGreatestDelayed A m Y.triples) (sym also.announced) also.greatest in
+    let same : X ≡ Y = greatest_one A X Y is.valid also.valid (is.on_states ∙ sym also.on_states) (is.on_labels ∙ sym also.on_labels) (is.announced ∙ sym also.announced) greatest other in
+    let R : ℕ → ℕ → Type 0 = AreRelatedAhead A.labels n X.triples in
+    let S : ℕ → ℕ → Type 0 = AreRelatedAhead A.labels n Y.triples in
+    let equal : classes ≡ these = same_classes A.states (Close R) (Close S) classes these is.joined also.joined (same_closure R S (same_related A n X.triples Y.triples is.greatest also.greatest)) in
     λ i. step.Merge (by.Delayed (same i)) (equal i)
 
 cut_entry_one : (A : Automaton) (n k : ℕ) (gone these : List Gone) (back back' ahead ahead' : Option Relation) → IsCutOf A n k gone back ahead → IsCutOf A n k these back' ahead' → step.Cut n k gone back ahead ≡ step.Cut n k these back' ahead'
@@ -74,48 +82,48 @@ cut_entry_one A n k gone these back back' ahead ahead' is also =
     let same_gone : gone ≡ these = least_one A n (Close (Holds (pairs_given back'))) (Close (Holds (pairs_given ahead'))) gone these moved also.least in
     λ i. step.Cut n k (same_gone i) (same_back i) (same_ahead i)
 
-entry_one : (A : Automaton) (mode : Mode) (k : ℕ) (kind : Kind) (entry other : Step) → IsStepEntry A mode k kind entry → IsStepEntry A mode k kind other → entry ≡ other
-entry_one A mode k Trim entry other (kept, e, is) (these, f, also) =
+entry_one : (A : Automaton) (mode : Mode) (sight : Foresight) (kind : Kind) (entry other : Step) → IsStepEntry A mode sight kind entry → IsStepEntry A mode sight kind other → entry ≡ other
+entry_one A mode sight Trim entry other (kept, e, is) (these, f, also) =
     e
     ∙ ap step.Trim (same_numbers kept these is.ascending also.ascending (λ q. ((λ h. (also.useful q).1 ((is.useful q).0 h)), (λ h. (is.useful q).1 ((also.useful q).0 h)))))
     ∙ sym f
-entry_one A mode k Forward entry other (rel, classes, e, is) (rel', classes', f, also) =
-    e ∙ merge_entry_one A (IsGreatestForward A k) (forward_is_one A k) (λ r. by.Forward k r) rel rel' classes classes' is also ∙ sym f
-entry_one A mode k Backward entry other (rel, classes, e, is) (rel', classes', f, also) =
-    e ∙ merge_entry_one A (IsGreatestBackward A k) (backward_is_one A k) (λ r. by.Backward k r) rel rel' classes classes' is also ∙ sym f
-entry_one A mode k Delayed entry other (X, classes, e, is) (Y, classes', f, also) =
-    e ∙ delayed_entry_one A X Y classes classes' is also ∙ sym f
-entry_one A mode k (Prune n) entry other (gone, back, ahead, e, is) (gone', back', ahead', f, also) =
-    e ∙ cut_entry_one A n k gone gone' back back' ahead ahead' is also ∙ sym f
+entry_one A mode sight Forward entry other (rel, classes, e, is) (rel', classes', f, also) =
+    e ∙ merge_entry_one A (IsGreatestForward A sight.look) (forward_is_one A sight.look) (λ r. by.Forward sight.look r) rel rel' classes classes' is also ∙ sym f
+entry_one A mode sight Backward entry other (rel, classes, e, is) (rel', classes', f, also) =
+    e ∙ merge_entry_one A (IsGreatestBackward A sight.look) (backward_is_one A sight.look) (λ r. by.Backward sight.look r) rel rel' classes classes' is also ∙ sym f
+entry_one A mode sight Delayed entry other (X, classes, e, is) (Y, classes', f, also) =
+    e ∙ delayed_entry_one A (letters_for A sight.letters) X Y classes classes' is also ∙ sym f
+entry_one A mode sight (Prune n) entry other (gone, back, ahead, e, is) (gone', back', ahead', f, also) =
+    e ∙ cut_entry_one A n sight.look gone gone' back back' ahead ahead' is also ∙ sym f
 
 -- ---- logs
 
-logged_one : (A B : Automaton) (mode : Mode) (k : ℕ) (kind : Kind) (log other : List Step) → IsLogged A mode k kind B log → IsLogged A mode k kind B other → log ≡ other
-logged_one A B mode k kind log other (inl is) (inl also) = is.1 ∙ sym also.1
-logged_one A B mode k kind log other (inl is) (inr also) = absurd (also.0 is.0)
-logged_one A B mode k kind log other (inr is) (inl also) = absurd (is.0 also.0)
-logged_one A B mode k kind log other (inr (changed, (entry, is, e))) (inr (differs, (entry', also, f))) = e ∙ ap (λ x. x ∷ []) (entry_one A mode k kind entry entry' is also) ∙ sym f
+logged_one : (A B : Automaton) (mode : Mode) (sight : Foresight) (kind : Kind) (log other : List Step) → IsLogged A mode sight kind B log → IsLogged A mode sight kind B other → log ≡ other
+logged_one A B mode sight kind log other (inl is) (inl also) = is.1 ∙ sym also.1
+logged_one A B mode sight kind log other (inl is) (inr also) = absurd (also.0 is.0)
+logged_one A B mode sight kind log other (inr is) (inl also) = absurd (is.0 also.0)
+logged_one A B mode sight kind log other (inr (changed, (entry, is, e))) (inr (differs, (entry', also, f))) = e ∙ ap (λ x. x ∷ []) (entry_one A mode sight kind entry entry' is also) ∙ sym f
 
-through_log_one : (mode : Mode) (k : ℕ) (kinds : List Kind) (A B C : Automaton) (log other : List Step) → IsAutomaton A → LogThrough A mode k kinds B log → LogThrough A mode k kinds C other → log ≡ other
-through_log_one mode k [] A B C log other valid (e, none) (f, nothing) = none ∙ sym nothing
-through_log_one mode k (kind ∷ kinds) A B C log other valid (X, now, later, step, logged, rest, is) (Y, now', later', step', logged', rest', is') =
-    let same = after_one A X Y mode k kind valid step step' in
-    let first = logged_one A X mode k kind now now' logged (subst (λ Z. IsLogged A mode k kind Z now') (sym same) logged') in
-    let others = through_log_one mode k kinds X B C later later' (after_valid A X mode k kind step) rest (subst (λ Z. LogThrough Z mode k kinds C later') (sym same) rest') in
+through_log_one : (mode : Mode) (sight : Foresight) (kinds : List Kind) (A B C : Automaton) (log other : List Step) → IsAutomaton A → LogThrough A mode sight kinds B log → LogThrough A mode sight kinds C other → log ≡ other
+through_log_one mode sight [] A B C log other valid (e, none) (f, nothing) = none ∙ sym nothing
+through_log_one mode sight (kind ∷ kinds) A B C log other valid (X, now, later, step, logged, rest, is) (Y, now', later', step', logged', rest', is') =
+    let same = after_one A X Y mode sight kind valid step step' in
+    let first = logged_one A X mode sight kind now now' logged (subst (λ Z. IsLogged A mode sight kind Z now') (sym same) logged') in
+    let others = through_log_one mode sight kinds X B C later later' (after_valid A X mode sight kind step) rest (subst (λ Z. LogThrough Z mode sight kinds C later') (sym same) rest') in
     is ∙ (λ i. first i ++ others i) ∙ sym is'
 
-passes_log_one : (mode : Mode) (k n m : ℕ) (A B C : Automaton) (log other : List Step) → IsAutomaton A → LogPasses A mode k n B log → LogPasses A mode k m C other → log ≡ other
-passes_log_one mode k zero zero A B C log other valid (e, through) (f, also) = through_log_one mode k (kinds_of mode) A A A log other valid through also
-passes_log_one mode k zero (suc m) A B C log other valid (e, through) (Y, now', later', through', changed', rest', is') =
-    absurd (changed' (through_one mode k (kinds_of mode) A Y A valid (log_through mode k (kinds_of mode) A Y now' through') (log_through mode k (kinds_of mode) A A log through)))
-passes_log_one mode k (suc n) zero A B C log other valid (X, now, later, through, changed, rest, is) (e, also) =
-    absurd (changed (through_one mode k (kinds_of mode) A X A valid (log_through mode k (kinds_of mode) A X now through) (log_through mode k (kinds_of mode) A A other also)))
-passes_log_one mode k (suc n) (suc m) A B C log other valid (X, now, later, through, changed, rest, is) (Y, now', later', through', changed', rest', is') =
-    let path = log_through mode k (kinds_of mode) A X now through in
-    let same = through_one mode k (kinds_of mode) A X Y valid path (log_through mode k (kinds_of mode) A Y now' through') in
-    let first = through_log_one mode k (kinds_of mode) A X Y now now' valid through through' in
-    let others = passes_log_one mode k n m X B C later later' (through_valid mode k (kinds_of mode) A X valid path) rest (subst (λ Z. LogPasses Z mode k m C later') (sym same) rest') in
+passes_log_one : (mode : Mode) (sight : Foresight) (n m : ℕ) (A B C : Automaton) (log other : List Step) → IsAutomaton A → LogPasses A mode sight n B log → LogPasses A mode sight m C other → log ≡ other
+passes_log_one mode sight zero zero A B C log other valid (e, through) (f, also) = through_log_one mode sight (kinds_of mode) A A A log other valid through also
+passes_log_one mode sight zero (suc m) A B C log other valid (e, through) (Y, now', later', through', changed', rest', is') =
+    absurd (changed' (through_one mode sight (kinds_of mode) A Y A valid (log_through mode sight (kinds_of mode) A Y now' through') (log_through mode sight (kinds_of mode) A A log through)))
+passes_log_one mode sight (suc n) zero A B C log other valid (X, now, later, through, changed, rest, is) (e, also) =
+    absurd (changed (through_one mode sight (kinds_of mode) A X A valid (log_through mode sight (kinds_of mode) A X now through) (log_through mode sight (kinds_of mode) A A other also)))
+passes_log_one mode sight (suc n) (suc m) A B C log other valid (X, now, later, through, changed, rest, is) (Y, now', later', through', changed', rest', is') =
+    let path = log_through mode sight (kinds_of mode) A X now through in
+    let same = through_one mode sight (kinds_of mode) A X Y valid path (log_through mode sight (kinds_of mode) A Y now' through') in
+    let first = through_log_one mode sight (kinds_of mode) A X Y now now' valid through through' in
+    let others = passes_log_one mode sight n m X B C later later' (through_valid mode sight (kinds_of mode) A X valid path) rest (subst (λ Z. LogPasses Z mode sight m C later') (sym same) rest') in
     is ∙ (λ i. first i ++ others i) ∙ sym is'
 
 pub log_one : LogIsOne
-log_one A B C mode k log other valid some (n, passes) (m, also) = passes_log_one mode k n m A B C log other valid passes also
+log_one A B C mode sight log other valid some (n, passes) (m, also) = passes_log_one mode sight n m A B C log other valid passes also

@@ -2,6 +2,7 @@
 use Rattle.std.proofs.Common.{◌≡◌, ℕ, ◌≤◌, ◌↔◌, List, Contains}
 use Rattle.auto_core.specs.Automaton.{Automaton, IsAutomaton}
 use Rattle.auto_core.specs.Accept.{Same}
+use Rattle.auto_core.specs.Delayed.{letters_for}
 use Rattle.auto_core.specs.Game.{Close, Holds, IsGreatestForward, IsGreatestBackward}
 use Rattle.auto_core.specs.Quotient.{RelatesMembers}
 use Rattle.auto_core.specs.declared.parts.Mode.{Mode}
@@ -12,6 +13,7 @@ use Rattle.prune_pairs.proofs.PruneLaws.{pruned_same}
 use Rattle.prune_pairs.proofs.OneLaws.{pruned_one, pruned_itself}
 use Rattle.quotient.proofs.MergeLaws.{forward_same, backward_same}
 use Rattle.useful_states.proofs.KeepLaws.{trimmed_the_same, trimmed_one}
+use Rattle.reduce_loop.specs.declared.steps.Foresight.{Foresight}
 use Rattle.reduce_loop.specs.declared.steps.Kind.{Kind}
 use Rattle.reduce_loop.specs.declared.steps.Kind.TheVariants.{Trim, Forward, Backward, Delayed, Prune}
 use Rattle.reduce_loop.specs.Kinds.{kinds_of, AreDelayedPairs, IsMerged, After}
@@ -43,44 +45,44 @@ module _ (A : Automaton) (Greatest : List (ℕ × ℕ) → Type 0) where
 -- ---- the laws
 
 -- what a step makes is an automaton
-pub after_valid : (A B : Automaton) (mode : Mode) (k : ℕ) (kind : Kind) → After A mode k kind B → IsAutomaton B
-after_valid A B mode k Trim (kept, are, keeps) = keeps.valid
-after_valid A B mode k Forward m = m.quotient.valid
-after_valid A B mode k Backward m = m.quotient.valid
-after_valid A B mode k Delayed m = m.quotient.valid
-after_valid A B mode k (Prune n) p = p.cut.valid
+pub after_valid : (A B : Automaton) (mode : Mode) (sight : Foresight) (kind : Kind) → After A mode sight kind B → IsAutomaton B
+after_valid A B mode sight Trim (kept, are, keeps) = keeps.valid
+after_valid A B mode sight Forward m = m.quotient.valid
+after_valid A B mode sight Backward m = m.quotient.valid
+after_valid A B mode sight Delayed m = m.quotient.valid
+after_valid A B mode sight (Prune n) p = p.cut.valid
 
 -- it is the same automaton, or smaller
-pub after_smaller : (A B : Automaton) (mode : Mode) (k : ℕ) (kind : Kind) → IsAutomaton A → After A mode k kind B → IsSmaller A B
-after_smaller A B mode k Trim valid (kept, are, keeps) = kept_smaller A B kept valid keeps
-after_smaller A B mode k Forward valid m = merge_smaller A (IsGreatestForward A k) B valid m
-after_smaller A B mode k Backward valid m = merge_smaller A (IsGreatestBackward A k) B valid m
-after_smaller A B mode k Delayed valid m = merge_smaller A (AreDelayedPairs A) B valid m
-after_smaller A B mode k (Prune n) valid p = pruned_smaller A B n k valid p
+pub after_smaller : (A B : Automaton) (mode : Mode) (sight : Foresight) (kind : Kind) → IsAutomaton A → After A mode sight kind B → IsSmaller A B
+after_smaller A B mode sight Trim valid (kept, are, keeps) = kept_smaller A B kept valid keeps
+after_smaller A B mode sight Forward valid m = merge_smaller A (IsGreatestForward A sight.look) B valid m
+after_smaller A B mode sight Backward valid m = merge_smaller A (IsGreatestBackward A sight.look) B valid m
+after_smaller A B mode sight Delayed valid m = merge_smaller A (AreDelayedPairs A (letters_for A sight.letters)) B valid m
+after_smaller A B mode sight (Prune n) valid p = pruned_smaller A B n sight.look valid p
 
 -- a step makes one automaton
-pub after_one : (A B C : Automaton) (mode : Mode) (k : ℕ) (kind : Kind) → IsAutomaton A → After A mode k kind B → After A mode k kind C → B ≡ C
-after_one A B C mode k Trim valid b c = trimmed_one A B C mode b c
-after_one A B C mode k Forward valid b c = merge_one A (IsGreatestForward A k) (forward_is_one A k) B C b c
-after_one A B C mode k Backward valid b c = merge_one A (IsGreatestBackward A k) (backward_is_one A k) B C b c
-after_one A B C mode k Delayed valid b c = merge_one A (AreDelayedPairs A) (delayed_is_one A) B C b c
-after_one A B C mode k (Prune n) valid b c = pruned_one A B C n k valid b c
+pub after_one : (A B C : Automaton) (mode : Mode) (sight : Foresight) (kind : Kind) → IsAutomaton A → After A mode sight kind B → After A mode sight kind C → B ≡ C
+after_one A B C mode sight Trim valid b c = trimmed_one A B C mode b c
+after_one A B C mode sight Forward valid b c = merge_one A (IsGreatestForward A sight.look) (forward_is_one A sight.look) B C b c
+after_one A B C mode sight Backward valid b c = merge_one A (IsGreatestBackward A sight.look) (backward_is_one A sight.look) B C b c
+after_one A B C mode sight Delayed valid b c = merge_one A (AreDelayedPairs A (letters_for A sight.letters)) (delayed_is_one A (letters_for A sight.letters)) B C b c
+after_one A B C mode sight (Prune n) valid b c = pruned_one A B C n sight.look valid b c
 
 -- it accepts the same
-pub after_same : (A B : Automaton) (mode : Mode) (k : ℕ) (kind : Kind) → IsAutomaton A → 1 ≤ k → Contains (kinds_of mode) kind → After A mode k kind B → Same A B mode
-after_same A B mode k Trim valid some listed b = trimmed_the_same A B mode b
-after_same A B mode k Forward valid some listed m =
-    forward_same A B m.classes k m.pairs mode valid some m.greatest.stable (members_related A (IsGreatestForward A k) B m) m.quotient
-after_same A B mode k Backward valid some listed m =
-    backward_same A B m.classes k m.pairs mode valid some m.greatest.stable (members_related A (IsGreatestBackward A k) B m) m.quotient
-after_same A B Buchi k Delayed valid some listed m = merged_same A B m valid
-after_same A B Finite k Delayed valid some listed m = absurd (none_in_finite listed)
-after_same A B mode k (Prune n) valid some listed p = pruned_same A B n k mode valid some p
+pub after_same : (A B : Automaton) (mode : Mode) (sight : Foresight) (kind : Kind) → IsAutomaton A → 1 ≤ sight.look → Contains (kinds_of mode) kind → After A mode sight kind B → Same A B mode
+after_same A B mode sight Trim valid some listed b = trimmed_the_same A B mode b
+after_same A B mode sight Forward valid some listed m =
+    forward_same A B m.classes sight.look m.pairs mode valid some m.greatest.stable (members_related A (IsGreatestForward A sight.look) B m) m.quotient
+after_same A B mode sight Backward valid some listed m =
+    backward_same A B m.classes sight.look m.pairs mode valid some m.greatest.stable (members_related A (IsGreatestBackward A sight.look) B m) m.quotient
+after_same A B Buchi sight Delayed valid some listed m = merged_same A B sight.letters m valid
+after_same A B Finite sight Delayed valid some listed m = absurd (none_in_finite listed)
+after_same A B mode sight (Prune n) valid some listed p = pruned_same A B n sight.look mode valid some p
 
 -- a step that changes nothing has nothing to do
-pub after_settled : (A : Automaton) (mode : Mode) (k : ℕ) (kind : Kind) → After A mode k kind A → IsSettledAt A mode k kind
-after_settled A mode k Trim b = b
-after_settled A mode k Forward m = merge_settled A (IsGreatestForward A k) (forward_is_one A k) m
-after_settled A mode k Backward m = merge_settled A (IsGreatestBackward A k) (backward_is_one A k) m
-after_settled A mode k Delayed m = delayed_settled A m
-after_settled A mode k (Prune n) p = λ back ahead greatest_back greatest_ahead. (pruned_itself A n k back ahead p.cut.valid greatest_back greatest_ahead).0 p
+pub after_settled : (A : Automaton) (mode : Mode) (sight : Foresight) (kind : Kind) → After A mode sight kind A → IsSettledAt A mode sight kind
+after_settled A mode sight Trim b = b
+after_settled A mode sight Forward m = merge_settled A (IsGreatestForward A sight.look) (forward_is_one A sight.look) m
+after_settled A mode sight Backward m = merge_settled A (IsGreatestBackward A sight.look) (backward_is_one A sight.look) m
+after_settled A mode sight Delayed m = delayed_settled A (letters_for A sight.letters) m
+after_settled A mode sight (Prune n) p = λ back ahead greatest_back greatest_ahead. (pruned_itself A n sight.look back ahead p.cut.valid greatest_back greatest_ahead).0 p

@@ -1,13 +1,14 @@
 -- The kinds of steps, and what each makes of an automaton.
 use Rattle.std.specs.Prelude.{ℕ, ◌↔◌, List, [], ◌∷◌}
 use Rattle.auto_core.specs.Automaton.{Automaton}
-use Rattle.auto_core.specs.Delayed.{RankedPairs, HoldsPair, IsGreatestDelayed}
+use Rattle.auto_core.specs.Delayed.{RankedTriples, IsGreatestDelayed, AreRelatedAhead, letters_for}
 use Rattle.auto_core.specs.Game.{Close, Holds, IsGreatestForward, IsGreatestBackward}
 use Rattle.auto_core.specs.Pruning.{IsPruned}
 use Rattle.auto_core.specs.Useful.{IsTrimmed}
 use Rattle.auto_core.specs.Quotient.{AreClassesOf, IsQuotient}
 use Rattle.auto_core.specs.declared.parts.Mode.{Mode}
 use Rattle.auto_core.specs.declared.parts.Mode.TheVariants.{Buchi, Finite}
+use Rattle.reduce_loop.specs.declared.steps.Foresight.{Foresight}
 use Rattle.reduce_loop.specs.declared.steps.Kind.{Kind}
 use Rattle.reduce_loop.specs.declared.steps.Kind.TheVariants.{Trim, Forward, Backward, Delayed, Prune}
 
@@ -28,14 +29,15 @@ pub record IsMerged (A : Automaton) (Greatest : List (ℕ × ℕ) → Type 0) (B
   pub joined : AreClassesOf A.states (Close (Holds pairs)) classes
   pub quotient : IsQuotient A classes B
 
--- The list has just the pairs of the greatest delayed relation, without their ranks.
-abbrev pub AreDelayedPairs : Automaton → List (ℕ × ℕ) → Type 0
-AreDelayedPairs A S = (X : RankedPairs) × IsGreatestDelayed A X × ((p q : ℕ) → Holds S p q ↔ HoldsPair X p q)
+-- The list has just the pairs that the greatest delayed relation with n announced letters relates, whatever letters are announced.
+abbrev pub AreDelayedPairs : Automaton → ℕ → List (ℕ × ℕ) → Type 0
+AreDelayedPairs A n S = (X : RankedTriples) × IsGreatestDelayed A n X × ((p q : ℕ) → Holds S p q ↔ AreRelatedAhead A.labels n X p q)
 
--- B is A after a step of this kind at lookahead k, by the greatest relations of A as it is then.
-abbrev pub After : Automaton → Mode → ℕ → Kind → Automaton → Type 0
-After A mode k Trim B = IsTrimmed A mode B
-After A mode k Forward B = IsMerged A (IsGreatestForward A k) B
-After A mode k Backward B = IsMerged A (IsGreatestBackward A k) B
-After A mode k Delayed B = IsMerged A (AreDelayedPairs A) B
-After A mode k (Prune n) B = IsPruned A n k B
+-- B is A after a step of this kind, by the greatest relations of A as it is then: the direct ones at the lookahead, the delayed one with
+-- the letters that are announced on A.
+abbrev pub After : Automaton → Mode → Foresight → Kind → Automaton → Type 0
+After A mode sight Trim B = IsTrimmed A mode B
+After A mode sight Forward B = IsMerged A (IsGreatestForward A sight.look) B
+After A mode sight Backward B = IsMerged A (IsGreatestBackward A sight.look) B
+After A mode sight Delayed B = IsMerged A (AreDelayedPairs A (letters_for A sight.letters)) B
+After A mode sight (Prune n) B = IsPruned A n sight.look B

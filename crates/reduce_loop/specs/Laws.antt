@@ -1,8 +1,9 @@
 -- The laws of reduced automata.
-use Rattle.std.specs.Prelude.{◌≡◌, ℕ, ◌≤◌, List}
+use Rattle.std.specs.Prelude.{◌≡◌, ◌≤◌, List}
 use Rattle.auto_core.specs.Automaton.{Automaton, IsAutomaton}
 use Rattle.auto_core.specs.Accept.{Same}
 use Rattle.auto_core.specs.declared.parts.Mode.{Mode}
+use Rattle.reduce_loop.specs.declared.steps.Foresight.{Foresight}
 use Rattle.reduce_loop.specs.declared.steps.Step.{Step}
 use Rattle.reduce_loop.specs.Passes.{IsReduced}
 use Rattle.reduce_loop.specs.Settled.{IsSettled}
@@ -11,24 +12,24 @@ use Rattle.reduce_loop.specs.Size.{IsNoLarger}
 
 -- A reduced automaton accepts the same.
 abbrev pub ReducedAcceptsTheSame : Type 0
-ReducedAcceptsTheSame = (A B : Automaton) (mode : Mode) (k : ℕ) → IsAutomaton A → 1 ≤ k → IsReduced A mode k B → Same A B mode
+ReducedAcceptsTheSame = (A B : Automaton) (mode : Mode) (sight : Foresight) → IsAutomaton A → 1 ≤ sight.look → IsReduced A mode sight B → Same A B mode
 
 -- The reduced automaton has the same labels, and no more states and transitions than the automaton.
 abbrev pub ReducedIsNoLarger : Type 0
-ReducedIsNoLarger = (A B : Automaton) (mode : Mode) (k : ℕ) → IsAutomaton A → 1 ≤ k → IsReduced A mode k B → IsNoLarger A B
+ReducedIsNoLarger = (A B : Automaton) (mode : Mode) (sight : Foresight) → IsAutomaton A → 1 ≤ sight.look → IsReduced A mode sight B → IsNoLarger A B
 
 -- In it no step has anything to do.
 abbrev pub ReducedIsSettled : Type 0
-ReducedIsSettled = (A B : Automaton) (mode : Mode) (k : ℕ) → IsAutomaton A → 1 ≤ k → IsReduced A mode k B → IsSettled B mode k
+ReducedIsSettled = (A B : Automaton) (mode : Mode) (sight : Foresight) → IsAutomaton A → 1 ≤ sight.look → IsReduced A mode sight B → IsSettled B mode sight
 
 -- There is one automaton at most that is A reduced.
 abbrev pub ReducedIsOne : Type 0
-ReducedIsOne = (A B C : Automaton) (mode : Mode) (k : ℕ) → IsAutomaton A → 1 ≤ k → IsReduced A mode k B → IsReduced A mode k C → B ≡ C
+ReducedIsOne = (A B C : Automaton) (mode : Mode) (sight : Foresight) → IsAutomaton A → 1 ≤ sight.look → IsReduced A mode sight B → IsReduced A mode sight C → B ≡ C
 
 -- There is one log at most of the reduction of A.
 abbrev pub LogIsOne : Type 0
-LogIsOne = (A B C : Automaton) (mode : Mode) (k : ℕ) (log other : List Step) → IsAutomaton A → 1 ≤ k → IsLog A mode k B log → IsLog A mode k C other → log ≡ other
+LogIsOne = (A B C : Automaton) (mode : Mode) (sight : Foresight) (log other : List Step) → IsAutomaton A → 1 ≤ sight.look → IsLog A mode sight B log → IsLog A mode sight C other → log ≡ other
 
 -- Where a log leads from A to B, B is A reduced.
 abbrev pub LogIsOfReduced : Type 0
-LogIsOfReduced = (A B : Automaton) (mode : Mode) (k : ℕ) (log : List Step) → IsLog A mode k B log → IsReduced A mode k B
+LogIsOfReduced = (A B : Automaton) (mode : Mode) (sight : Foresight) (log : List Step) → IsLog A mode sight B log → IsReduced A mode sight B

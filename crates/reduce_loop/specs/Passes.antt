@@ -2,23 +2,24 @@
 use Rattle.std.specs.Prelude.{◌≡◌, ℕ, zero, suc, List, [], ◌∷◌}
 use Rattle.auto_core.specs.Automaton.{Automaton}
 use Rattle.auto_core.specs.declared.parts.Mode.{Mode}
+use Rattle.reduce_loop.specs.declared.steps.Foresight.{Foresight}
 use Rattle.reduce_loop.specs.declared.steps.Kind.{Kind}
 use Rattle.reduce_loop.specs.Kinds.{kinds_of, After}
 
 -- Steps of these kinds, one after the other, lead from A to C.
-abbrev pub Through : Automaton → Mode → ℕ → List Kind → Automaton → Type 0
-Through A mode k [] C = C ≡ A
-Through A mode k (kind ∷ kinds) C = (B : Automaton) × After A mode k kind B × Through B mode k kinds C
+abbrev pub Through : Automaton → Mode → Foresight → List Kind → Automaton → Type 0
+Through A mode sight [] C = C ≡ A
+Through A mode sight (kind ∷ kinds) C = (B : Automaton) × After A mode sight kind B × Through B mode sight kinds C
 
 -- B is A after one pass.
-abbrev pub IsPass : Automaton → Mode → ℕ → Automaton → Type 0
-IsPass A mode k B = Through A mode k (kinds_of mode) B
+abbrev pub IsPass : Automaton → Mode → Foresight → Automaton → Type 0
+IsPass A mode sight B = Through A mode sight (kinds_of mode) B
 
 -- n passes that each change the automaton lead from A to C, and the next pass leaves C as it is.
-abbrev pub LeadByPasses : Automaton → Mode → ℕ → ℕ → Automaton → Type 0
-LeadByPasses A mode k zero C = (C ≡ A) × IsPass A mode k A
-LeadByPasses A mode k (suc n) C = (B : Automaton) × IsPass A mode k B × (B ≡ A → ⊥) × LeadByPasses B mode k n C
+abbrev pub LeadByPasses : Automaton → Mode → Foresight → ℕ → Automaton → Type 0
+LeadByPasses A mode sight zero C = (C ≡ A) × IsPass A mode sight A
+LeadByPasses A mode sight (suc n) C = (B : Automaton) × IsPass A mode sight B × (B ≡ A → ⊥) × LeadByPasses B mode sight n C
 
 -- C is the first of A, A after one pass, A after two passes and so on that a further pass leaves as it is.
-abbrev pub IsReduced : Automaton → Mode → ℕ → Automaton → Type 0
-IsReduced A mode k C = (n : ℕ) × LeadByPasses A mode k n C
+abbrev pub IsReduced : Automaton → Mode → Foresight → Automaton → Type 0
+IsReduced A mode sight C = (n : ℕ) × LeadByPasses A mode sight n C

@@ -1,11 +1,12 @@
 -- Automata in which no step finds anything to do.
 use Rattle.std.specs.Prelude.{◌≡◌, ℕ, ◌<◌, List, Contains}
 use Rattle.auto_core.specs.Automaton.{Automaton}
-use Rattle.auto_core.specs.Delayed.{RankedPairs, HoldsPair, IsGreatestDelayed}
+use Rattle.auto_core.specs.Delayed.{RankedTriples, IsGreatestDelayed, AreRelatedAhead, letters_for}
 use Rattle.auto_core.specs.Game.{Close, Holds, IsGreatestForward, IsGreatestBackward}
 use Rattle.auto_core.specs.Pruning.{HasBetter, IsGreatestBack, IsGreatestAhead}
 use Rattle.auto_core.specs.Useful.{IsTrimmed}
 use Rattle.auto_core.specs.declared.parts.Mode.{Mode}
+use Rattle.reduce_loop.specs.declared.steps.Foresight.{Foresight}
 use Rattle.reduce_loop.specs.declared.steps.Kind.{Kind}
 use Rattle.reduce_loop.specs.declared.steps.Kind.TheVariants.{Trim, Forward, Backward, Delayed, Prune}
 use Rattle.reduce_loop.specs.Kinds.{kinds_of}
@@ -26,13 +27,16 @@ HasNoneBetter A n k =
 
 -- A step of this kind has nothing to do: A is its own trimmed automaton; the closure of the greatest relation joins no two states;
 -- no transition has a better one.
-abbrev pub IsSettledAt : Automaton → Mode → ℕ → Kind → Type 0
-IsSettledAt A mode k Trim = IsTrimmed A mode A
-IsSettledAt A mode k Forward = (S : List (ℕ × ℕ)) → IsGreatestForward A k S → HasNoTwins A (Close (Holds S))
-IsSettledAt A mode k Backward = (S : List (ℕ × ℕ)) → IsGreatestBackward A k S → HasNoTwins A (Close (Holds S))
-IsSettledAt A mode k Delayed = (X : RankedPairs) → IsGreatestDelayed A X → HasNoTwins A (Close (HoldsPair X))
-IsSettledAt A mode k (Prune n) = HasNoneBetter A n k
+abbrev pub IsSettledAt : Automaton → Mode → Foresight → Kind → Type 0
+IsSettledAt A mode sight Trim = IsTrimmed A mode A
+IsSettledAt A mode sight Forward = (S : List (ℕ × ℕ)) → IsGreatestForward A sight.look S → HasNoTwins A (Close (Holds S))
+IsSettledAt A mode sight Backward = (S : List (ℕ × ℕ)) → IsGreatestBackward A sight.look S → HasNoTwins A (Close (Holds S))
+IsSettledAt A mode sight Delayed =
+    (X : RankedTriples)
+    → IsGreatestDelayed A (letters_for A sight.letters) X
+    → HasNoTwins A (Close (AreRelatedAhead A.labels (letters_for A sight.letters) X))
+IsSettledAt A mode sight (Prune n) = HasNoneBetter A n sight.look
 
 -- No step of the mode has anything to do.
-abbrev pub IsSettled : Automaton → Mode → ℕ → Type 0
-IsSettled A mode k = (kind : Kind) → Contains (kinds_of mode) kind → IsSettledAt A mode k kind
+abbrev pub IsSettled : Automaton → Mode → Foresight → Type 0
+IsSettled A mode sight = (kind : Kind) → Contains (kinds_of mode) kind → IsSettledAt A mode sight kind

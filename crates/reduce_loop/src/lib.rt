@@ -11,8 +11,8 @@ mod pruning;
 mod reducing;
 mod steps;
 
-pub use reducing::reduce;
-pub use steps::{Kind, MergeBy, Reduced, Step};
+pub use reducing::{reduce, reduce_ahead};
+pub use steps::{Foresight, Kind, MergeBy, Reduced, Step};
 
 #[cfg(test)]
 mod backward_tests;
@@ -22,6 +22,8 @@ mod delayed_tests;
 mod forward_tests;
 #[cfg(test)]
 mod game_tests;
+#[cfg(test)]
+mod letters_tests;
 #[cfg(test)]
 mod pruning_tests;
 #[cfg(test)]

@@ -2,6 +2,8 @@
 
 ghost use Rattle.std.specs.Prelude.{◌≡◌, ◌<◌, ◌≤◌, ◌↔◌, ℕ, Contains, IfOk};
 ghost use Rattle.std.specs.List.Sorted.{IsStrictlyIncreasing};
+ghost use Rattle.auto_core.specs.Delayed.{IsGreatestDelayed, letters_for};
+ghost use Rattle.delayed_sim.specs.Rankings.{IsRanking};
 ghost use Rattle.reduce_loop.specs.Kinds.{After, kinds_of};
 ghost use Rattle.reduce_loop.specs.Known.{IsKnown};
 ghost use Rattle.reduce_loop.specs.Logs.{IsStepEntry};
@@ -9,8 +11,9 @@ ghost use Rattle.reduce_loop.specs.Logs.{IsStepEntry};
 use crate::joining::join_states;
 use crate::knowing::{Known, backward, forward};
 use crate::pruning::prune;
-use crate::steps::{Kind, Made, MergeBy, Step};
+use crate::steps::{Foresight, Kind, Made, MergeBy, Step};
 use auto_core::{Auto, List, Memory, Mode, StateSet};
+use delayed_sim::{Delayed, greatest, letters_for};
 use std::alloc::Global;
 use useful_states::{keep, useful};
 
@@ -31,9 +34,9 @@ fn members(alloc: Global, set: &StateSet, states: u32) -> Result<List<u32>, Memo
 }
 
 /// The useful states and the initial one.
-fn trim(alloc: Global, automaton: &Auto, mode: Mode, look: u32) -> Result<Made, Memory>
-    ensures after { IfOk result (λ made. After automaton.now mode look Kind.Trim made.automaton) }
-    ensures entry { IfOk result (λ made. IsStepEntry automaton.now mode look Kind.Trim made.entry) }
+fn trim(alloc: Global, automaton: &Auto, mode: Mode, sight: Foresight) -> Result<Made, Memory>
+    ensures after { IfOk result (λ made. After automaton.now mode sight Kind.Trim made.automaton) }
+    ensures entry { IfOk result (λ made. IsStepEntry automaton.now mode sight Kind.Trim made.entry) }
 {
     let states = automaton.states();
     let set = useful(alloc, automaton, mode)?;
@@ -51,21 +54,24 @@ fn merge_forward(
     automaton: &Auto,
     known: &mut Known,
     mode: Mode,
-    look: u32,
+    sight: Foresight,
 ) -> Result<Made, Memory>
-    requires look_from { 1 ≤ look }
-    requires look_upto { look ≤ 6 }
-    requires known { IsKnown automaton.now look known.old }
-    ensures after { IfOk result (λ made. After automaton.now mode look Kind.Forward made.automaton) }
-    ensures entry { IfOk result (λ made. IsStepEntry automaton.now mode look Kind.Forward made.entry) }
-    ensures known { IfOk result (λ _. IsKnown automaton.now look known.new) }
+    requires look_from { 1 ≤ sight.look }
+    requires look_upto { sight.look ≤ 6 }
+    requires known { IsKnown automaton.now sight.look known.old }
+    ensures after { IfOk result (λ made. After automaton.now mode sight Kind.Forward made.automaton) }
+    ensures entry { IfOk result (λ made. IsStepEntry automaton.now mode sight Kind.Forward made.entry) }
+    ensures known { IfOk result (λ _. IsKnown automaton.now sight.look known.new) }
 {
-    let rel = forward(alloc, automaton, &mut known.forward, look)?;
+    let rel = forward(alloc, automaton, &mut known.forward, sight.look)?;
     let joined = join_states(alloc, automaton, &rel)?;
     Ok(Made {
         automaton: joined.automaton,
         entry: Step::Merge {
-            by: MergeBy::Forward { look, rel },
+            by: MergeBy::Forward {
+                look: sight.look,
+                rel,
+            },
             classes: joined.classes,
         },
     })
@@ -77,33 +83,62 @@ fn merge_backward(
     automaton: &Auto,
     known: &mut Known,
     mode: Mode,
-    look: u32,
+    sight: Foresight,
 ) -> Result<Made, Memory>
-    requires look_from { 1 ≤ look }
-    requires look_upto { look ≤ 6 }
-    requires known { IsKnown automaton.now look known.old }
-    ensures after { IfOk result (λ made. After automaton.now mode look Kind.Backward made.automaton) }
-    ensures entry { IfOk result (λ made. IsStepEntry automaton.now mode look Kind.Backward made.entry) }
-    ensures known { IfOk result (λ _. IsKnown automaton.now look known.new) }
+    requires look_from { 1 ≤ sight.look }
+    requires look_upto { sight.look ≤ 6 }
+    requires known { IsKnown automaton.now sight.look known.old }
+    ensures after { IfOk result (λ made. After automaton.now mode sight Kind.Backward made.automaton) }
+    ensures entry { IfOk result (λ made. IsStepEntry automaton.now mode sight Kind.Backward made.entry) }
+    ensures known { IfOk result (λ _. IsKnown automaton.now sight.look known.new) }
 {
-    let rel = backward(alloc, automaton, &mut known.backward, look)?;
+    let rel = backward(alloc, automaton, &mut known.backward, sight.look)?;
     let joined = join_states(alloc, automaton, &rel)?;
     Ok(Made {
         automaton: joined.automaton,
         entry: Step::Merge {
-            by: MergeBy::Backward { look, rel },
+            by: MergeBy::Backward {
+                look: sight.look,
+                rel,
+            },
             classes: joined.classes,
         },
     })
 }
 
-/// The states that the greatest delayed relation joins become one.
-fn merge_delayed(alloc: Global, automaton: &Auto, mode: Mode, look: u32) -> Result<Made, Memory>
-    requires { automaton.now.states ≤ 65535 }
-    ensures after { IfOk result (λ made. After automaton.now mode look Kind.Delayed made.automaton) }
-    ensures entry { IfOk result (λ made. IsStepEntry automaton.now mode look Kind.Delayed made.entry) }
+/// The greatest delayed relation with as many letters up to `asked` as are announced on the automaton.
+pub(crate) fn greatest_delayed(
+    alloc: Global,
+    automaton: &Auto,
+    asked: u32,
+) -> Result<Delayed, Memory>
+    requires few { automaton.now.states ≤ 65535 }
+    requires letters_from { 1 ≤ asked }
+    requires letters_upto { asked ≤ 4 }
+    ensures size { IfOk result (λ d. d.size ≡ automaton.now.states) }
+    ensures labels { IfOk result (λ d. d.labels ≡ automaton.now.labels) }
+    ensures letters { IfOk result (λ d. d.letters ≡ letters_for automaton.now asked) }
+    ensures valid { IfOk result IsRanking }
+    ensures greatest { IfOk result (λ d. IsGreatestDelayed automaton.now (letters_for automaton.now asked) d.triples) }
 {
-    let ranks = delayed_sim::greatest(alloc, automaton)?;
+    let letters = letters_for(automaton, asked);
+    greatest(alloc, automaton, letters)
+}
+
+/// The states that the greatest delayed relation joins become one.
+fn merge_delayed(
+    alloc: Global,
+    automaton: &Auto,
+    mode: Mode,
+    sight: Foresight,
+) -> Result<Made, Memory>
+    requires few { automaton.now.states ≤ 65535 }
+    requires letters_from { 1 ≤ sight.letters }
+    requires letters_upto { sight.letters ≤ 4 }
+    ensures after { IfOk result (λ made. After automaton.now mode sight Kind.Delayed made.automaton) }
+    ensures entry { IfOk result (λ made. IsStepEntry automaton.now mode sight Kind.Delayed made.entry) }
+{
+    let ranks = greatest_delayed(alloc, automaton, sight.letters)?;
     let rel = ranks.relation(alloc)?;
     let joined = join_states(alloc, automaton, &rel)?;
     Ok(Made {
@@ -122,22 +157,24 @@ pub(crate) fn make(
     known: &mut Known,
     kind: Kind,
     mode: Mode,
-    look: u32,
+    sight: Foresight,
 ) -> Result<Made, Memory>
     requires listed { Contains (kinds_of mode) kind }
     requires few { automaton.now.states ≤ 65535 }
-    requires look_from { 1 ≤ look }
-    requires look_upto { look ≤ 6 }
-    requires known { IsKnown automaton.now look known.old }
-    ensures after { IfOk result (λ made. After automaton.now mode look kind made.automaton) }
-    ensures entry { IfOk result (λ made. IsStepEntry automaton.now mode look kind made.entry) }
-    ensures known { IfOk result (λ _. IsKnown automaton.now look known.new) }
+    requires look_from { 1 ≤ sight.look }
+    requires look_upto { sight.look ≤ 6 }
+    requires letters_from { 1 ≤ sight.letters }
+    requires letters_upto { sight.letters ≤ 4 }
+    requires known { IsKnown automaton.now sight.look known.old }
+    ensures after { IfOk result (λ made. After automaton.now mode sight kind made.automaton) }
+    ensures entry { IfOk result (λ made. IsStepEntry automaton.now mode sight kind made.entry) }
+    ensures known { IfOk result (λ _. IsKnown automaton.now sight.look known.new) }
 {
     match kind {
-        Kind::Trim => trim(alloc, automaton, mode, look),
-        Kind::Forward => merge_forward(alloc, automaton, known, mode, look),
-        Kind::Backward => merge_backward(alloc, automaton, known, mode, look),
-        Kind::Delayed => merge_delayed(alloc, automaton, mode, look),
-        Kind::Prune { pair } => prune(alloc, automaton, known, pair, mode, look),
+        Kind::Trim => trim(alloc, automaton, mode, sight),
+        Kind::Forward => merge_forward(alloc, automaton, known, mode, sight),
+        Kind::Backward => merge_backward(alloc, automaton, known, mode, sight),
+        Kind::Delayed => merge_delayed(alloc, automaton, mode, sight),
+        Kind::Prune { pair } => prune(alloc, automaton, known, pair, mode, sight),
     }
 }

@@ -12,7 +12,7 @@ ghost use Rattle.std.specs.List.Sorted.{IsStrictlyIncreasing};
 
 use crate::joining::closure;
 use crate::knowing::{Known, ahead_of, back_of};
-use crate::steps::{Kind, Made, Step};
+use crate::steps::{Foresight, Kind, Made, Step};
 use auto_core::{Auto, List, Memory, Mode};
 use bit_rel::Rel;
 use prune_pairs::{Gone, cut, removable};
@@ -76,17 +76,18 @@ pub(crate) fn prune(
     known: &mut Known,
     pair: u32,
     mode: Mode,
-    look: u32,
+    sight: Foresight,
 ) -> Result<Made, Memory>
     requires pair_from { 1 ≤ pair }
     requires pair_upto { pair ≤ 4 }
-    requires look_from { 1 ≤ look }
-    requires look_upto { look ≤ 6 }
-    requires known { IsKnown automaton.now look known.old }
-    ensures after { IfOk result (λ made. After automaton.now mode look (Kind.Prune pair) made.automaton) }
-    ensures entry { IfOk result (λ made. IsStepEntry automaton.now mode look (Kind.Prune pair) made.entry) }
-    ensures known { IfOk result (λ _. IsKnown automaton.now look known.new) }
+    requires look_from { 1 ≤ sight.look }
+    requires look_upto { sight.look ≤ 6 }
+    requires known { IsKnown automaton.now sight.look known.old }
+    ensures after { IfOk result (λ made. After automaton.now mode sight (Kind.Prune pair) made.automaton) }
+    ensures entry { IfOk result (λ made. IsStepEntry automaton.now mode sight (Kind.Prune pair) made.entry) }
+    ensures known { IfOk result (λ _. IsKnown automaton.now sight.look known.new) }
 {
+    let look = sight.look;
     let back = back_of(alloc, automaton, known, pair, look)?;
     let ahead = ahead_of(alloc, automaton, known, pair, look)?;
     let gone = removable_by(alloc, automaton, pair, look, &back, &ahead)?;

@@ -13,7 +13,7 @@ ghost use Rattle.reduce_loop.specs.declared.steps.Step.{Step};
 use crate::copying::{copied, is_same};
 use crate::knowing::nothing_known;
 use crate::making::make;
-use crate::steps::{Going, Kind, Reduced, Step};
+use crate::steps::{Foresight, Going, Kind, Reduced, Step};
 use auto_core::{Auto, List, Memory, Mode};
 use std::alloc::Global;
 
@@ -62,18 +62,26 @@ fn going(auto: Auto, log: List<Step>) -> Going
 }
 
 /// Takes a step, and logs it if it changed something. What is known of the automaton is kept as long as nothing changes.
-fn take(alloc: Global, state: Going, kind: Kind, mode: Mode, look: u32) -> Result<Going, Memory>
+fn take(
+    alloc: Global,
+    state: Going,
+    kind: Kind,
+    mode: Mode,
+    sight: Foresight,
+) -> Result<Going, Memory>
     requires listed { Contains (kinds_of mode) kind }
     requires few { state.auto.states ≤ 65535 }
-    requires look_from { 1 ≤ look }
-    requires look_upto { look ≤ 6 }
-    requires known { IsKnown state.auto look state.known }
-    ensures after { IfOk result (λ new. After state.auto mode look kind new.auto) }
-    ensures logged { IfOk result (λ new. (now : List Step) × IsLogged state.auto mode look kind new.auto now × (new.log ≡ state.log ++ now)) }
-    ensures known { IfOk result (λ new. IsKnown new.auto look new.known) }
+    requires look_from { 1 ≤ sight.look }
+    requires look_upto { sight.look ≤ 6 }
+    requires letters_from { 1 ≤ sight.letters }
+    requires letters_upto { sight.letters ≤ 4 }
+    requires known { IsKnown state.auto sight.look state.known }
+    ensures after { IfOk result (λ new. After state.auto mode sight kind new.auto) }
+    ensures logged { IfOk result (λ new. (now : List Step) × IsLogged state.auto mode sight kind new.auto now × (new.log ≡ state.log ++ now)) }
+    ensures known { IfOk result (λ new. IsKnown new.auto sight.look new.known) }
 {
     let mut known = state.known;
-    let made = make(alloc, &state.auto, &mut known, kind, mode, look)?;
+    let made = make(alloc, &state.auto, &mut known, kind, mode, sight)?;
     if is_same(&made.automaton, &state.auto) {
         return Ok(Going {
             auto: state.auto,
@@ -87,18 +95,20 @@ fn take(alloc: Global, state: Going, kind: Kind, mode: Mode, look: u32) -> Resul
 }
 
 /// Takes the steps of one pass.
-fn pass(alloc: Global, state: Going, mode: Mode, look: u32) -> Result<Going, Memory>
+fn pass(alloc: Global, state: Going, mode: Mode, sight: Foresight) -> Result<Going, Memory>
     requires few { state.auto.states ≤ 65535 }
-    requires look_from { 1 ≤ look }
-    requires look_upto { look ≤ 6 }
+    requires look_from { 1 ≤ sight.look }
+    requires look_upto { sight.look ≤ 6 }
+    requires letters_from { 1 ≤ sight.letters }
+    requires letters_upto { sight.letters ≤ 4 }
     requires valid { IsAutomaton state.auto }
-    requires known { IsKnown state.auto look state.known }
-    ensures logs { IfOk result (λ new. LogsOn state.auto mode look (kinds_of mode) state.log new.auto new.log) }
-    ensures known { IfOk result (λ new. IsKnown new.auto look new.known) }
+    requires known { IsKnown state.auto sight.look state.known }
+    ensures logs { IfOk result (λ new. LogsOn state.auto mode sight (kinds_of mode) state.log new.auto new.log) }
+    ensures known { IfOk result (λ new. IsKnown new.auto sight.look new.known) }
 {
     let mut state = state;
     for kind in kinds(mode) {
-        state = take(alloc, state, *kind, mode, look)?;
+        state = take(alloc, state, *kind, mode, sight)?;
     }
     Ok(state)
 }
@@ -115,21 +125,63 @@ fn finished(state: Going) -> Reduced
 
 /// The reduced automaton: the steps are taken in order, each by the greatest relations of the automaton as it is then, in passes until
 /// a pass changes nothing. The log has the steps that changed something.
-pub fn reduce(alloc: Global, automaton: &Auto, mode: Mode, look: u32) -> Result<Reduced, Memory>
+fn reduce_by(
+    alloc: Global,
+    automaton: &Auto,
+    mode: Mode,
+    sight: Foresight,
+) -> Result<Reduced, Memory>
     requires few { automaton.now.states ≤ 65535 }
-    requires look_from { 1 ≤ look }
-    requires look_upto { look ≤ 6 }
-    ensures reduced { IfOk result (λ r. IsReduced automaton.now mode look r.auto) }
-    ensures log { IfOk result (λ r. IsLog automaton.now mode look r.auto r.log) }
+    requires look_from { 1 ≤ sight.look }
+    requires look_upto { sight.look ≤ 6 }
+    requires letters_from { 1 ≤ sight.letters }
+    requires letters_upto { sight.letters ≤ 4 }
+    ensures reduced { IfOk result (λ r. IsReduced automaton.now mode sight r.auto) }
+    ensures log { IfOk result (λ r. IsLog automaton.now mode sight r.auto r.log) }
     ensures same { IfOk result (λ r. Same automaton.now r.auto mode) }
-    ensures settled { IfOk result (λ r. IsSettled r.auto mode look) }
+    ensures settled { IfOk result (λ r. IsSettled r.auto mode sight) }
 {
     let mut state = going(copied(alloc, automaton)?, List::new(alloc));
     loop {
         let before = state.log.as_slice().len();
-        state = pass(alloc, state, mode, look)?;
+        state = pass(alloc, state, mode, sight)?;
         if state.log.as_slice().len() == before {
             return Ok(finished(state));
         }
     }
+}
+
+/// The reduced automaton, with lookahead `look` in the direct games and one announced letter in the delayed one, and the steps that
+/// changed something.
+pub fn reduce(alloc: Global, automaton: &Auto, mode: Mode, look: u32) -> Result<Reduced, Memory>
+    requires few { automaton.now.states ≤ 65535 }
+    requires look_from { 1 ≤ look }
+    requires look_upto { look ≤ 6 }
+    ensures reduced { IfOk result (λ r. IsReduced automaton.now mode (record { look = look; letters = 1 }) r.auto) }
+    ensures log { IfOk result (λ r. IsLog automaton.now mode (record { look = look; letters = 1 }) r.auto r.log) }
+    ensures same { IfOk result (λ r. Same automaton.now r.auto mode) }
+    ensures settled { IfOk result (λ r. IsSettled r.auto mode (record { look = look; letters = 1 })) }
+{
+    reduce_by(alloc, automaton, mode, Foresight { look, letters: 1 })
+}
+
+/// The same with up to `letters` announced letters.
+pub fn reduce_ahead(
+    alloc: Global,
+    automaton: &Auto,
+    mode: Mode,
+    look: u32,
+    letters: u32,
+) -> Result<Reduced, Memory>
+    requires few { automaton.now.states ≤ 65535 }
+    requires look_from { 1 ≤ look }
+    requires look_upto { look ≤ 6 }
+    requires letters_from { 1 ≤ letters }
+    requires letters_upto { letters ≤ 4 }
+    ensures reduced { IfOk result (λ r. IsReduced automaton.now mode (record { look = look; letters = letters }) r.auto) }
+    ensures log { IfOk result (λ r. IsLog automaton.now mode (record { look = look; letters = letters }) r.auto r.log) }
+    ensures same { IfOk result (λ r. Same automaton.now r.auto mode) }
+    ensures settled { IfOk result (λ r. IsSettled r.auto mode (record { look = look; letters = letters })) }
+{
+    reduce_by(alloc, automaton, mode, Foresight { look, letters })
 }

@@ -24,6 +24,15 @@ pub enum Kind {
     },
 }
 
+/// How far Duplicator sees in the games of a reduction.
+#[derive(Clone, Copy, Debug, PartialEq, Eq)]
+pub struct Foresight {
+    /// The lookahead of the direct games: at most so many moves of Spoiler's.
+    pub look: u32,
+    /// The letters that are announced in the delayed game, fewer where that would be too many for the automaton.
+    pub letters: u32,
+}
+
 /// What joined the states that became one.
 #[derive(Debug, Drop)]
 pub enum MergeBy {
@@ -43,7 +52,7 @@ pub enum MergeBy {
     },
     /// The greatest delayed relation, given as it is, without being closed.
     Delayed {
-        /// The relation, with the least ranks.
+        /// The relation, with its announced letters and the least ranks.
         ranks: Delayed,
     },
 }

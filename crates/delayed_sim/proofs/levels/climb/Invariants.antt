@@ -6,9 +6,9 @@ use Rattle.delayed_sim.proofs.levels.climb.Given as goal
 
 abbrev pub invariant-levels : goal.invariant-levels
 invariant-levels l =
-    IsClimbed l.automaton (Holds l.within.pairs) l.rank l.unranked l.ranks l.answered l.fresh
-    × (l.any ≡ true → l.rank + length l.unranked.pairs ≤ l.automaton.states * l.automaton.states)
-    × (l.any ≡ false → AreLeastRanks l.automaton (Holds l.within.pairs) l.ranks)
+    IsClimbed l.places l.automaton (Holds l.within.pairs) l.rank l.unranked l.ranks l.answered l.fresh
+    × (l.any ≡ true → l.rank + length l.unranked.pairs ≤ l.places.states * l.automaton.states)
+    × (l.any ≡ false → AreLeastRanks l.places l.automaton (Holds l.within.pairs) l.ranks)
 
 abbrev pub decreases-levels : goal.decreases-levels
 decreases-levels l = length l.unranked.pairs + (if l.any then 1 else 0)

@@ -3,12 +3,12 @@ use Rattle.std.proofs.lemmas.Bool.{cases_lt, false≢true}
 use Rattle.std.proofs.lemmas.List.{length-set}
 use Rattle.auto_core.specs.Rows.{HasBit}
 use Rattle.auto_core.specs.Game.{Holds}
-use Rattle.bit_rel.specs.Relation.{Relation, IsRelation}
+use Rattle.delayed_sim.specs.Pairings.{Pairing, IsPairing}
 use Rattle.delayed_sim.proofs.BeforeLemmas.{rank_set, given_none, given_more}
 use Rattle.delayed_sim.proofs.levels.give_ranks.Goals as goal
 
 -- a pair of the relation is in range
-right_below : (R : Relation) (p q : ℕ) → IsRelation R → Holds R.pairs p q → q < R.size
+right_below : (R : Pairing) (p q : ℕ) → IsPairing R → Holds R.pairs p q → q < R.states
 right_below R p q valid held = (valid.in_range p q held).1
 
 pub loop-q-init : goal.loop-q-init
@@ -27,12 +27,12 @@ overflow_cast-q-in-Some c =
 pub clear-requires-clause-right : goal.clear-requires-clause-right
 clear-requires-clause-right c =
     let below = right_below c.args.unranked.now c.args.p c.in-Some.q c.requires.valid (c.requires.row c.in-Some.q c.in-Some.ensures.found.here) in
-    omega (arith, c.loop-q.invariant.0.size)
+    omega (arith, c.loop-q.invariant.0.states)
 
 pub place-requires-clause-column : goal.place-requires-clause-column
 place-requires-clause-column c =
     let below = right_below c.args.unranked.now c.args.p c.in-Some.q c.requires.valid (c.requires.row c.in-Some.q c.in-Some.ensures.found.here) in
-    omega (arith, c.loop-q.invariant.0.size, c.clear.ensures.pairs.size, c.size.ensures.count)
+    omega (arith, c.loop-q.invariant.0.states, c.clear.ensures.pairs.states, c.states.ensures.count)
 
 pub loop-q-smaller : goal.loop-q-smaller
 loop-q-smaller c =
@@ -43,16 +43,16 @@ loop-q-smaller c =
 pub loop-q-preserved : goal.loop-q-preserved
 loop-q-preserved c =
     let first = c.args.unranked.now in
-    let n = first.size in
+    let n = first.states in
     let p = c.args.p in
     let q = c.in-Some.q in
     let h = c.loop-q.invariant.0 in
     let ranks = c.loop-q.ranks in
     let below = right_below first p q c.requires.valid (c.requires.row q c.in-Some.ensures.found.here) in
-    let size : c.size.result ≡ n = c.size.ensures.count ∙ c.clear.ensures.pairs.size ∙ h.size in
+    let size : c.states.result ≡ n = c.states.ensures.count ∙ c.clear.ensures.pairs.states ∙ h.states in
     let at : c.place.result ≡ p * n + q = c.place.ensures.place ∙ ap (λ m. p * m + q) size in (
       given_more first c.loop-q.unranked c.clear.new.self c.args.ranks.now ranks (set ranks c.place.result (Some c.args.rank)) p c.args.row.now c.args.rank c.loop-q.at q h c.in-Some.ensures.found c.clear.ensures.pairs c.clear.ensures.valid
-          (length-set ranks c.place.result (Some c.args.rank)) (rank_set ranks n p q c.args.rank c.place.result (h.len ∙ c.requires.len) c.requires.left below at),
+          (length-set ranks c.place.result (Some c.args.rank)) (rank_set ranks first.places n p q c.args.rank c.place.result (h.len ∙ c.requires.len) c.requires.left below at),
       omega arith,
     )
 

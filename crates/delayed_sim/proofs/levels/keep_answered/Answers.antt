@@ -33,7 +33,6 @@ loop-t-preserved c = λ q near.
 
 pub returns : goal.returns
 returns c = λ q near.
-    let A = c.args.automaton.now in
     let p = c.args.p in
     let range = c.outgoing-span.ensures.range in
     let was = c.loop-t.invariant q near in (

@@ -18,6 +18,7 @@ loop-i-init c = λ t q t_in near. (λ cell. inl cell, λ either. elim either [ i
 
 pub loop-i-preserved : goal.loop-i-preserved
 loop-i-preserved c = λ t q t_in near.
+    let L = c.args.places.now in
     let A = c.args.automaton.now in
     let w : ℕ = c.args.width in
     let i = c.loop-i.i in
@@ -26,11 +27,11 @@ loop-i-preserved c = λ t q t_in near.
     let ends = c.args.ends.now in
     let row = c.row_at.result.now in
     let now : Trans = get_or c.transitions.result.now number (trans 0 0 0) in
-    let label : now.label ≡ (trans_at A number).label = ap (λ ts. (get_or ts number (trans 0 0 0)).label) c.transitions.ensures.list in
-    let move : Moves A (trans_at A number).source (trans_at A number).label c.args.to = incoming_moves A c.args.to ns c.predecessors-before.ensures.list i c.loop-i-test.true in
+    let label : now.label ≡ (trans_at L number).label = ap (λ ts. (get_or ts number (trans 0 0 0)).label) c.transitions.ensures.list in
+    let move : Moves L (trans_at L number).source (trans_at L number).label c.args.to = incoming_moves L c.args.to ns c.predecessors-before.ensures.list i c.loop-i-test.true in
     let room : (q a q' : ℕ) → Moves A q a q' → q < w * 64 = λ q a q' m. let lt = (move_in_range A c.requires.valid q a q' m).0 in omega (arith, lt, c.requires.width) in
-    let leads : HasBit row q ↔ LeadsTo A (trans_at A number).label ends q =
-    row_leads A c.args.to c.write_before.new.made ends row w (trans_at A number).source (trans_at A number).label now.label move label c.row_at.ensures.len c.row_at.ensures.bits c.write_before.ensures room q in
+    let leads : HasBit row q ↔ LeadsTo A (trans_at L number).label ends q =
+    row_leads L A c.args.to c.write_before.new.made ends row w (trans_at L number).source (trans_at L number).label now.label move label c.row_at.ensures.len c.row_at.ensures.bits c.write_before.ensures room q in
     let new = c.or_row.new.table in
     let before = c.loop-i.answered in
     let was = c.loop-i.invariant t q t_in near in (
@@ -42,7 +43,7 @@ loop-i-preserved c = λ t q t_in near.
                 | inl first ↦ inl first
                 | inr found ↦ let lt = found.1 in inr (found.0, omega arith, found.2, found.3)
               ]
-              | inr bit ↦ inr (i, omega arith, sym e, subst (λ x. LeadsTo A (trans_at A x).label ends q) (sym e) (leads.0 bit))
+              | inr bit ↦ inr (i, omega arith, sym e, subst (λ x. LeadsTo A (trans_at L x).label ends q) (sym e) (leads.0 bit))
             ]
         | inr apart ↦ elim (was.0 (sym (c.or_row.ensures.others t q near apart) ∙ cell)) [
           | inl first ↦ inl first
@@ -52,7 +53,7 @@ loop-i-preserved c = λ t q t_in near.
       λ either. elim (cases_eq t number) [
         | inl e ↦ subst (λ x. HasCell new w x q) (sym e) (c.or_row.ensures.here q near ∙ either_here (cell_of before w number q) (bit_of row q) (elim either [
           | inl first ↦ inl (subst (λ x. HasCell before w x q) e (was.1 (inl first)))
-          | inr found ↦ inr (leads.1 (subst (λ x. LeadsTo A (trans_at A x).label ends q) e found.3))
+          | inr found ↦ inr (leads.1 (subst (λ x. LeadsTo A (trans_at L x).label ends q) e found.3))
         ]))
         | inr apart ↦ c.or_row.ensures.others t q near apart ∙ was.1 (elim either [
           | inl first ↦ inl first
@@ -66,6 +67,7 @@ loop-i-preserved c = λ t q t_in near.
 
 pub returns : goal.returns
 returns c = λ t q t_in near.
+    let L = c.args.places.now in
     let A = c.args.automaton.now in
     let ns = c.predecessors-before.result.now in
     let was = c.loop-i.invariant t q t_in near in (
@@ -74,7 +76,7 @@ returns c = λ t q t_in near.
         | inr found ↦
             let lt = found.1 in
             let into = (c.predecessors-before.ensures.list.each found.0 0 (omega (arith, lt, c.loop-i.auto.i-end))).1 in
-            inr (ap (λ x. (trans_at A x).target) (sym found.2) ∙ into, found.3)
+            inr (ap (λ x. (trans_at L x).target) (sym found.2) ∙ into, found.3)
       ],
       λ either. was.1 (elim either [
         | inl first ↦ inl first

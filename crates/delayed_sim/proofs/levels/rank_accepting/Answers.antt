@@ -3,7 +3,7 @@ use Rattle.std.proofs.lemmas.Bool.{and_parts, and_from}
 use Rattle.auto_core.specs.Automaton.{Automaton, IsAccepting}
 use Rattle.auto_core.specs.Rows.{bit_of, cell_of, HasBit}
 use Rattle.auto_core.specs.Game.{Holds}
-use Rattle.bit_rel.specs.Relation.{Relation}
+use Rattle.delayed_sim.specs.Pairings.{Pairing}
 use Rattle.row_steps.proofs.WordLemmas.{first_cell}
 use Rattle.delayed_sim.specs.Boards.{row_words}
 use Rattle.delayed_sim.proofs.BeforeLemmas.{bit_near, gives_none, gives_row, gives_all}
@@ -11,7 +11,7 @@ use Rattle.delayed_sim.proofs.levels.rank_accepting.Goals as goal
 
 -- the row of the pairs whose right state is accepting
 accepting_bits :
-    (A : Automaton) (first now : Relation) (before ends row : List ℕ) (w p : ℕ)
+    (A : Automaton) (first now : Pairing) (before ends row : List ℕ) (w p : ℕ)
     → length row ≡ w
     → A.states ≤ w * 64
     → ((q : ℕ) → Holds first.pairs p q → q < A.states)
@@ -35,9 +35,10 @@ accepting_bits A first now before ends row w p len room below same bits acceptin
 
 pub loop-p-init : goal.loop-p-init
 loop-p-init c =
+    let L = c.args.places.now in
     let A = c.args.automaton.now in
     let first = c.args.unranked.now in
-    gives_none A (λ p q. Holds first.pairs p q × IsAccepting A q) 0 first c.args.ranks.now c.args.fresh.now c.requires.valid
+    gives_none L A (λ p q. Holds first.pairs p q × IsAccepting A q) 0 first c.args.ranks.now c.args.fresh.now c.requires.valid
 
 pub give_ranks-requires-clause-row : goal.give_ranks-requires-clause-row
 give_ranks-requires-clause-row c = λ q bit.
@@ -51,6 +52,7 @@ give_ranks-requires-clause-row c = λ q bit.
 
 pub loop-p-preserved : goal.loop-p-preserved
 loop-p-preserved c =
+    let L = c.args.places.now in
     let A = c.args.automaton.now in
     let w = c.args.width in
     let e : w ≡ row_words A = c.requires.width in
@@ -62,18 +64,19 @@ loop-p-preserved c =
     let h = c.loop-p.invariant in
     let row = c.and_row.new.table in
     let len : length row ≡ w = c.and_row.auto.table ∙ c.write_unranked.auto.row ∙ c.loop-p.auto.row ∙ c.requires.row in
-    let p_in : p < A.states = omega (arith, c.loop-p-test.true, c.states-p-end.ensures.count) in
-    let below : (q : ℕ) → Holds first.pairs p q → q < A.states = λ q held. let lt = (c.requires.valid.in_range p q held).1 in omega (arith, lt, c.requires.size) in
+    let p_in : p < L.states = omega (arith, c.loop-p-test.true, c.states-p-end.ensures.count) in
+    let below : (q : ℕ) → Holds first.pairs p q → q < A.states = λ q held. let lt = (c.requires.valid.in_range p q held).1 in omega (arith, lt, c.requires.states) in
     let same : (q : ℕ) → Holds now.pairs p q ↔ Holds first.pairs p q = λ q. (λ held. ((h.pairs p q).0 held).0, λ held. (h.pairs p q).1 (held, λ is. let lt = is.0 in absurd (omega arith))) in
     let bits = accepting_bits A first now c.write_unranked.new.row c.write_accepting.new.row row w p len (omega arith) below same c.write_unranked.ensures.bits c.write_accepting.ensures.bits c.and_row.ensures.here in
     let here = subst (λ v. (q : ℕ) → q < v * 64 → cell_of c.write_row.new.table v p q ≡ bit_of row q) e c.write_row.ensures.here in
     let others = subst (λ v. (r q : ℕ) → q < v * 64 → ¬ (r ≡ p) → cell_of c.write_row.new.table v r q ≡ cell_of c.loop-p.fresh v r q) e c.write_row.ensures.others in
-    gives_row A S 0 first c.args.ranks.now now new c.loop-p.ranks c.give_ranks.new.ranks c.loop-p.fresh c.write_row.new.table row p c.requires.size p_in (omega arith) h bits (λ q is. below q is.0) here others
-    c.give_ranks.ensures.size c.give_ranks.ensures.valid c.give_ranks.auto.ranks c.give_ranks.ensures.pairs c.give_ranks.ensures.table
+    gives_row L A S 0 first c.args.ranks.now now new c.loop-p.ranks c.give_ranks.new.ranks c.loop-p.fresh c.write_row.new.table row p c.requires.places c.requires.states p_in (omega arith) h bits (λ q is. below q is.0) here others
+    c.give_ranks.ensures.places c.give_ranks.ensures.states c.give_ranks.ensures.valid c.give_ranks.auto.ranks c.give_ranks.ensures.pairs c.give_ranks.ensures.table
 
 pub returns : goal.returns
 returns c =
+    let L = c.args.places.now in
     let A = c.args.automaton.now in
     let first = c.args.unranked.now in
-    gives_all A (λ p q. Holds first.pairs p q × IsAccepting A q) 0 first c.args.ranks.now c.loop-p.unranked c.loop-p.ranks c.loop-p.fresh c.loop-p.p (omega (arith, c.loop-p-test.false, c.states-p-end.ensures.count))
-    (λ p q is. let lt = (c.requires.valid.in_range p q is.0).0 in omega (arith, lt, c.requires.size)) c.loop-p.invariant
+    gives_all L A (λ p q. Holds first.pairs p q × IsAccepting A q) 0 first c.args.ranks.now c.loop-p.unranked c.loop-p.ranks c.loop-p.fresh c.loop-p.p (omega (arith, c.loop-p-test.false, c.states-p-end.ensures.count))
+    (λ p q is. let lt = (c.requires.valid.in_range p q is.0).0 in omega (arith, lt, c.requires.places)) c.loop-p.invariant

@@ -5,7 +5,7 @@ use Rattle.delayed_sim.proofs.levels.rank_ready.Given as goal
 
 abbrev pub invariant-loop-p : goal.invariant-loop-p
 invariant-loop-p l =
-    GivesUpto l.automaton (IsReady l.automaton l.fn.unranked l.answered) l.rank l.fn.unranked l.fn.ranks l.unranked l.ranks l.fresh l.p
+    GivesUpto l.places l.automaton (IsReady l.places l.automaton l.fn.unranked l.answered) l.rank l.fn.unranked l.fn.ranks l.unranked l.ranks l.fresh l.p
     × (length l.unranked.pairs ≤ length l.fn.unranked.pairs)
     × (l.any ≡ true → length l.unranked.pairs < length l.fn.unranked.pairs)
-    × (l.any ≡ false → (p q : ℕ) → p < l.p → IsReady l.automaton l.fn.unranked l.answered p q → ⊥)
+    × (l.any ≡ false → (p q : ℕ) → p < l.p → IsReady l.places l.automaton l.fn.unranked l.answered p q → ⊥)

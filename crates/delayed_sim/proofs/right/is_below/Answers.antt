@@ -7,7 +7,7 @@ pub returns-in-Some : goal.returns-in-Some
 returns-in-Some c = (
   (λ t. (c.in-Some.other, c.in-Some.ensures.some, ltb-true c.in-Some.other c.args.rank t)),
   λ has.
-      let same : c.in-Some.other ≡ has.0 = one_rank c.args.delayed.now.pairs c.rank.ensures.valid.once c.args.p c.args.q c.in-Some.other has.0 c.in-Some.ensures.some has.1 in
+      let same : c.in-Some.other ≡ has.0 = one_rank c.args.delayed.now.triples c.rank.ensures.valid.once c.args.ahead.now c.args.p c.args.q c.in-Some.other has.0 c.in-Some.ensures.some has.1 in
       let lt = has.2 in
       lt-ltb c.in-Some.other c.args.rank (omega (arith, same, lt)),
 )

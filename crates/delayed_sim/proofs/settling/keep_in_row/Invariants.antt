@@ -4,7 +4,7 @@ use Rattle.delayed_sim.proofs.SettleLemmas.{HasTaken}
 use Rattle.delayed_sim.proofs.settling.keep_in_row.Given as goal
 
 abbrev pub invariant-loop-q : goal.invariant-loop-q
-invariant-loop-q l = HasTaken l.fn.rel l.rel l.p (λ q. HasBit l.row q) l.changed
+invariant-loop-q l = HasTaken l.fn.board l.board l.p (λ q. HasBit l.row q) l.changed
 
 abbrev pub decreases-loop-q : goal.decreases-loop-q
-decreases-loop-q l = length l.rel.pairs
+decreases-loop-q l = length l.board.pairs

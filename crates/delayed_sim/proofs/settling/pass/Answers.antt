@@ -1,13 +1,13 @@
 use Rattle.std.proofs.Common.{rules, ◌≡◌, ℕ, ◌+◌, ◌-◌, inl, inr, false, sym, ap, ◌∙◌, subst, arith}
 use Rattle.std.proofs.lemmas.Bool.{cases_eq, false≢true}
 use Rattle.auto_core.specs.Rows.{bit_of}
-use Rattle.bit_rel.proofs.LengthLemmas.{no_more}
+use Rattle.delayed_sim.proofs.BoardLemmas.{no_more_pairs}
 use Rattle.delayed_sim.proofs.SettleLemmas.{shrinks_none, shrinks_then}
 use Rattle.delayed_sim.proofs.settling.pass.Goals as goal
 
 pub loop-to-init : goal.loop-to-init
 loop-to-init c = (
-  shrinks_none c.args.automaton.now c.args.rel.now c.requires.valid,
+  shrinks_none c.args.places.now c.args.automaton.now c.args.board.now c.requires.valid,
   omega arith,
   λ yes. absurd (false≢true yes),
   λ no x from x_in. absurd (omega (arith, c.states-to.ensures.count)),
@@ -19,11 +19,11 @@ try_into-requires-clause-others c = λ x x_in apart clear. c.loop-to.invariant.4
 
 pub loop-to-preserved-then-try_into : goal.loop-to-preserved-then-try_into
 loop-to-preserved-then-try_into c =
-    let R = c.loop-to.rel in
+    let R = c.loop-to.board in
     let h = c.loop-to.invariant in
     let upto = h.1 in
     let fell = c.try_into.ensures.tries.some c.if-try_into.true in (
-      shrinks_then c.args.automaton.now c.args.rel.now R c.try_into.new.rel h.0 c.try_into.ensures.tries.shrinks,
+      shrinks_then c.args.places.now c.args.automaton.now c.args.board.now R c.try_into.new.board h.0 c.try_into.ensures.tries.shrinks,
       omega arith,
       λ yes. omega arith,
       λ no. absurd (false≢true (sym no)),
@@ -35,13 +35,13 @@ loop-to-preserved-else-try_into c =
     let n = c.loop-to.to in
     let to : ℕ = n - 1 in
     let next : to + 1 ≡ n = search rules in
-    let R = c.loop-to.rel in
-    let S = c.try_into.new.rel in
+    let R = c.loop-to.board in
+    let S = c.try_into.new.board in
     let h = c.loop-to.invariant in
     let upto = h.1 in
     let shrinks = c.try_into.ensures.tries.shrinks in
-    let less = no_more R S h.0.valid shrinks.valid shrinks.within in (
-      shrinks_then c.args.automaton.now c.args.rel.now R S h.0 shrinks,
+    let less = no_more_pairs R S h.0.valid shrinks.valid shrinks.within in (
+      shrinks_then c.args.places.now c.args.automaton.now c.args.board.now R S h.0 shrinks,
       omega arith,
       λ yes. let fell = h.2 yes in omega arith,
       λ no x from x_in. ap (λ m. bit_of m x) (c.try_into.ensures.tries.same c.if-try_into.false) ∙ elim (cases_eq x to) [

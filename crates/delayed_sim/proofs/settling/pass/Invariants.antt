@@ -6,8 +6,8 @@ use Rattle.delayed_sim.proofs.settling.pass.Given as goal
 
 abbrev pub invariant-loop-to : goal.invariant-loop-to
 invariant-loop-to l =
-    Shrinks l.automaton l.fn.rel l.rel
-    × (length l.rel.pairs ≤ length l.fn.rel.pairs)
-    × (l.any ≡ true → length l.rel.pairs < length l.fn.rel.pairs)
-    × (l.any ≡ false → (x : ℕ) → l.to ≤ x → x < l.automaton.states → bit_of l.marks x ≡ false)
-    × IsAnsweredBesides l.automaton (Holds l.rel.pairs) l.marks
+    Shrinks l.places l.automaton l.fn.board l.board
+    × (length l.board.pairs ≤ length l.fn.board.pairs)
+    × (l.any ≡ true → length l.board.pairs < length l.fn.board.pairs)
+    × (l.any ≡ false → (x : ℕ) → l.to ≤ x → x < l.places.states → bit_of l.marks x ≡ false)
+    × IsAnsweredBesides l.places l.automaton (Holds l.board.pairs) l.marks

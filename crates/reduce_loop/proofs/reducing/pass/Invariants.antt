@@ -6,5 +6,5 @@ use Rattle.reduce_loop.proofs.reducing.pass.Given as goal
 
 abbrev pub invariant-loop-kind : goal.invariant-loop-kind
 invariant-loop-kind l =
-    LogsOn l.fn.state.auto l.mode l.look (take l.kind-index (kinds_of l.mode)) l.fn.state.log l.state.auto l.state.log
-    × IsKnown l.state.auto l.look l.state.known
+    LogsOn l.fn.state.auto l.mode l.sight (take l.kind-index (kinds_of l.mode)) l.fn.state.log l.state.auto l.state.log
+    × IsKnown l.state.auto l.sight.look l.state.known

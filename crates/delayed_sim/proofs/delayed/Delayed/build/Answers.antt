@@ -1,33 +1,91 @@
-use Rattle.std.proofs.Common.{◌+◌, set, sym, subst, arith}
-use Rattle.delayed_sim.proofs.BuildLemmas.{IsFilled, item, filled_none, filled_more, filled_all, pair_in}
+use Rattle.std.proofs.Common.{◌≡◌, ℕ, ◌-◌, ◌<◌, ◌≤◌, Option, None, List, [], length, take, Contains, sym, ap, ◌∙◌, subst, arith}
+use Rattle.std.proofs.lemmas.List.{get_or_default}
+use Rattle.auto_core.specs.Delayed.{AreAnnounced}
+use Rattle.delayed_sim.specs.declared.entries.Entry.{Entry}
+use Rattle.delayed_sim.specs.declared.delayed.RankedTriple.{RankedTriple}
+use Rattle.delayed_sim.specs.Rankings.{Triple, ranked_triple, AreTriplesGiven}
+use Rattle.delayed_sim.specs.Stored.{triples_of, IsPutIn}
+use Rattle.delayed_sim.proofs.BuildLemmas.{IsFilled, given, filled_none, filled_more, filled_lacks, filled_all, filled_range}
 use Rattle.delayed_sim.proofs.delayed.Delayed.build.Goals as goal
 
+-- The letters of a given triple are announced.
+given_letters : (states labels n : ℕ) (triples : List RankedTriple) (i : ℕ) → AreTriplesGiven states labels n triples → i < length triples → AreAnnounced labels n (given triples i).ahead
+given_letters states labels n triples i range i_in =
+    let x = given triples i in
+    (range x.left x.ahead x.right x.rank (i, i_in, get_or_default triples i x (ranked_triple 0 [] 0 None) i_in)).0
+
+-- The first letters of the three are those.
+first_letters : (labels n : ℕ) (b word : List ℕ) → AreAnnounced labels n b → take (length b) word ≡ b → take (n - 1) word ≡ b
+first_letters labels n b word announced is =
+    let len = announced.0 in
+    let count : n - 1 ≡ length b = omega arith in
+    ap (λ i. take i word) count ∙ is
+
+with_letters : (p : ℕ) (b c : List ℕ) (q : ℕ) (o : Option ℕ) → b ≡ c → ◌≡◌ {A = Triple} (p, b, q, o) (p, c, q, o)
+with_letters p b c q o e = ap (λ l. triple p l q o) e
+  where
+    triple : ℕ → List ℕ → ℕ → Option ℕ → Triple
+    triple p b q o = (p, b, q, o)
+
+abbrev entry_with : ℕ → List ℕ → ℕ → Option ℕ → Entry
+entry_with p word q o = record { left = p; ahead = word; right = q; rank = o }
+
+pub padded-requires : goal.padded-requires
+padded-requires c =
+    let announced = given_letters c.args.states c.args.labels c.args.letters c.args.triples.now c.loop-i.i c.requires.in_range c.loop-i-test.true in
+    let len = announced.0 in
+    let upto = c.requires.upto in
+    let same : c.index-triples-i.result ≡ given c.args.triples.now c.loop-i.i = c.index-triples-i.is ∙ get_or_default c.args.triples.now c.loop-i.i c.index-triples-i.result (ranked_triple 0 [] 0 None) c.loop-i-test.true in
+    omega (arith, ap (λ (l : List ℕ). length l) c.as_slice.ensures, ap (λ (x : RankedTriple). length x.ahead) same)
+
 pub loop-i-init : goal.loop-i-init
-loop-i-init c =
-    filled_none c.args.states c.args.pairs.now c.in_ok-held.held c.in_ok-ranks.ranks.items c.in_ok-held.ensures c.in_ok-ranks.ensures.len
+loop-i-init c = subst (λ l. IsFilled c.args.triples.now 0 (triples_of c.args.letters l)) (sym c.in_ok-held.ensures.items) (filled_none c.args.triples.now)
 
-pub set-requires-clause-left : goal.set-requires-clause-left
-set-requires-clause-left c =
-    let lt = (pair_in c.args.states c.args.pairs.now c.loop-i.i c.requires.in_range c.loop-i-test.true).0 in
-    omega (arith, lt, c.loop-i.invariant.size)
+pub put_in-requires-clause-in_order : goal.put_in-requires-clause-in_order
+put_in-requires-clause-in_order c = c.loop-i.invariant.in_order
 
-pub set-requires-clause-right : goal.set-requires-clause-right
-set-requires-clause-right c =
-    let lt = (pair_in c.args.states c.args.pairs.now c.loop-i.i c.requires.in_range c.loop-i-test.true).1 in
-    omega (arith, lt, c.loop-i.invariant.size)
-
-pub place-requires-clause-row : goal.place-requires-clause-row
-place-requires-clause-row c = (pair_in c.args.states c.args.pairs.now c.loop-i.i c.requires.in_range c.loop-i-test.true).0
-
-pub place-requires-clause-column : goal.place-requires-clause-column
-place-requires-clause-column c = (pair_in c.args.states c.args.pairs.now c.loop-i.i c.requires.in_range c.loop-i-test.true).1
+pub put_in-requires-clause-lacks : goal.put_in-requires-clause-lacks
+put_in-requires-clause-lacks c = λ rank has.
+    let triples = c.args.triples.now in
+    let i : ℕ = c.loop-i.i in
+    let n : ℕ = c.args.letters in
+    let x = given triples i in
+    let word = c.padded.result in
+    let same : c.index-triples-i.result ≡ x = c.index-triples-i.is ∙ get_or_default c.args.triples.now c.loop-i.i c.index-triples-i.result (ranked_triple 0 [] 0 None) c.loop-i-test.true in
+    let T = triples_of n c.loop-i.held.items in
+    let announced = given_letters c.args.states c.args.labels n triples i c.requires.in_range c.loop-i-test.true in
+    let letters : take (n - 1) word ≡ x.ahead = first_letters c.args.labels n x.ahead word announced (subst (λ (l : List ℕ). take (length l) word ≡ l) (c.as_slice.ensures ∙ ap (λ (y : RankedTriple). y.ahead) same) c.padded.ensures) in
+    filled_lacks triples i T rank c.requires.different c.loop-i-test.true c.loop-i.invariant (subst (λ (b : List ℕ). Contains T (x.left, b, x.right, rank)) letters
+    (subst (λ (z : RankedTriple). Contains T (z.left, take (n - 1) word, z.right, rank)) same has))
 
 pub loop-i-preserved : goal.loop-i-preserved
 loop-i-preserved c =
-    let x = item c.args.pairs.now c.loop-i.i in
-    subst (λ i. IsFilled c.args.states c.args.pairs.now (c.loop-i.i + 1) c.set.new.self (set c.loop-i.ranks.items i x.rank)) (sym c.place.ensures.place)
-    (filled_more c.args.states c.args.pairs.now c.loop-i.i c.loop-i.held c.set.new.self c.loop-i.ranks.items c.requires.in_range c.requires.different c.loop-i-test.true c.loop-i.invariant c.set.ensures.pairs c.set.ensures.valid)
+    let triples = c.args.triples.now in
+    let i : ℕ = c.loop-i.i in
+    let n : ℕ = c.args.letters in
+    let x = given triples i in
+    let word = c.padded.result in
+    let same : c.index-triples-i.result ≡ x = c.index-triples-i.is ∙ get_or_default c.args.triples.now c.loop-i.i c.index-triples-i.result (ranked_triple 0 [] 0 None) c.loop-i-test.true in
+    let announced = given_letters c.args.states c.args.labels n triples i c.requires.in_range c.loop-i-test.true in
+    let letters : take (n - 1) word ≡ x.ahead = first_letters c.args.labels n x.ahead word announced (subst (λ (l : List ℕ). take (length l) word ≡ l) (c.as_slice.ensures ∙ ap (λ (y : RankedTriple). y.ahead) same) c.padded.ensures) in
+    let e : Entry = entry_with x.left word x.right x.rank in
+    filled_more n triples i c.loop-i.held.items c.put_in.new.entries.items e c.loop-i.invariant (with_letters x.left (take (n - 1) word) x.ahead x.right x.rank letters)
+    (subst (λ (z : RankedTriple). IsPutIn n c.loop-i.held.items c.put_in.new.entries.items (entry_with z.left word z.right z.rank)) same c.in_ok-put_in.ensures)
 
-pub returns-clause-pairs : goal.returns-clause-pairs
-returns-clause-pairs c =
-    filled_all c.args.states c.args.pairs.now c.loop-i.i c.loop-i.held c.loop-i.ranks.items (λ lt. absurd (omega (arith, lt, c.loop-i-test.false))) c.loop-i.auto.i-end c.loop-i.invariant
+pub returns-clause-triples : goal.returns-clause-triples
+returns-clause-triples c =
+    let all : c.loop-i.i ≡ length c.args.triples.now = omega (arith, c.loop-i-test.false, c.loop-i.auto.i-end) in
+    filled_all c.args.triples.now c.loop-i.i (triples_of c.args.letters c.loop-i.held.items) all c.loop-i.invariant
+
+pub invariant_of-result : goal.invariant_of-result
+invariant_of-result c =
+    let n : ℕ = c.args.letters in
+    let triples = c.args.triples.now in
+    let T = triples_of n c.loop-i.held.items in
+    let upto : c.loop-i.i ≤ length triples = omega (arith, c.loop-i.auto.i-end) in
+    record {
+      letters_from = c.requires.from;
+      letters_upto = c.requires.upto;
+      in_range = filled_range c.args.states c.args.labels n triples c.loop-i.i T c.requires.in_range upto c.loop-i.invariant;
+      in_order = c.loop-i.invariant.in_order;
+    }

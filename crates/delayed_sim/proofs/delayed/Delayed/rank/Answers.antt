@@ -1,35 +1,29 @@
-use Rattle.std.proofs.Common.{ℕ, ◌≡◌, Some, subst}
-use Rattle.std.proofs.lemmas.Bool.{iff_false}
-use Rattle.std.specs.Prelude.{IfSome, IfNone}
+use Rattle.std.proofs.Common.{ℕ, List, subst, Some, sym}
+use Rattle.std.specs.Prelude.{IfNone}
 use Rattle.auto_core.specs.Delayed.{HasRank}
+use Rattle.delayed_sim.specs.declared.entries.Entry.{Entry}
 use Rattle.delayed_sim.specs.Rankings.{Ranking, IsRanking}
-use Rattle.delayed_sim.specs.Stored.{rank_at}
-use Rattle.delayed_sim.proofs.RankLemmas.{ranks_from, valid_ranking, none_told, some_told, place_default}
+use Rattle.delayed_sim.specs.Stored.{triples_of, IsFound}
+use Rattle.delayed_sim.proofs.EntryLemmas.{valid_stored, found_rank, found_default}
 use Rattle.delayed_sim.proofs.delayed.Delayed.rank.Goals as goal
 
-pub returns-then-get-clause-some : goal.returns-then-get-clause-some
-returns-then-get-clause-some c =
-    let R = c.self.inside.held in
-    let ranks = c.self.inside.ranks.items in
-    let is : rank_at ranks R.size c.args.p c.args.q ≡ c.index.result.now = place_default ranks R.size c.args.p c.args.q c.place.result c.size.result c.index.result.now c.size.ensures.count c.place.ensures.place c.place.ensures.inside c.self.invariant.len c.index.ensures in
-    let P : Ranking → Type 0 = λ D. IfSome c.index.result.now (HasRank D.pairs c.args.p c.args.q) in
-    subst P c.self.view_is (some_told R ranks c.args.p c.args.q c.index.result.now (c.get.ensures.told.0 c.if-get.true) is)
+pub returns-in-Some-clause-none : goal.returns-in-Some-clause-none
+returns-in-Some-clause-none c =
+    let n = c.self.inside.letters in
+    let entries : List Entry = c.self.inside.entries.items in
+    let found : IsFound n entries c.args.p c.args.ahead.now c.args.q c.in-Some.at = subst (λ es. IsFound n es c.args.p c.args.ahead.now c.args.q c.in-Some.at) c.deref.ensures.value c.in-Some.ensures.found in
+    let P : Ranking → Type 0 = λ R. IfNone c.index.result.now.rank ((r : ℕ) → HasRank R.triples c.args.ahead.now c.args.p c.args.q r → ⊥) in
+    subst P c.self.view_is (found_rank n entries c.args.p c.args.ahead.now c.args.q c.in-Some.at c.index.result.now.rank c.self.invariant.in_order found (found_default entries c.in-Some.at c.index.result.now found.0 c.index.ensures))
 
-pub returns-then-get-clause-none : goal.returns-then-get-clause-none
-returns-then-get-clause-none c =
-    let R = c.self.inside.held in
-    let ranks = c.self.inside.ranks.items in
-    let is : rank_at ranks R.size c.args.p c.args.q ≡ c.index.result.now = place_default ranks R.size c.args.p c.args.q c.place.result c.size.result c.index.result.now c.size.ensures.count c.place.ensures.place c.place.ensures.inside c.self.invariant.len c.index.ensures in
-    let P : Ranking → Type 0 = λ D. IfNone c.index.result.now ((r : ℕ) → HasRank D.pairs c.args.p c.args.q r → ⊥) in
-    subst P c.self.view_is (none_told R ranks c.args.p c.args.q c.index.result.now is)
+pub returns-in-Some-clause-valid : goal.returns-in-Some-clause-valid
+returns-in-Some-clause-valid c = subst IsRanking c.self.view_is (valid_stored c.self.inside c.self.invariant)
 
-pub returns-then-get-clause-valid : goal.returns-then-get-clause-valid
-returns-then-get-clause-valid c = subst IsRanking c.self.view_is (valid_ranking c.self.inside.held c.self.inside.ranks.items c.self.invariant.valid)
+pub returns-in-None-clause-none : goal.returns-in-None-clause-none
+returns-in-None-clause-none c =
+    let n = c.self.inside.letters in
+    let P : Ranking → Type 0 = λ R. (r : ℕ) → HasRank R.triples c.args.ahead.now c.args.p c.args.q r → ⊥ in
+    subst P c.self.view_is
+    (λ r h. c.in-None.ensures.none (Some r) (subst (λ es. HasRank (triples_of n es) c.args.ahead.now c.args.p c.args.q r) (sym c.deref.ensures.value) h))
 
-pub returns-else-get-clause-none : goal.returns-else-get-clause-none
-returns-else-get-clause-none c =
-    let P : Ranking → Type 0 = λ R. (r : ℕ) → HasRank R.pairs c.args.p c.args.q r → ⊥ in
-    subst P c.self.view_is (λ r h. iff_false c.get.ensures.told c.if-get.false (ranks_from c.self.inside.held c.self.inside.ranks.items c.args.p c.args.q (Some r) h).0)
-
-pub returns-else-get-clause-valid : goal.returns-else-get-clause-valid
-returns-else-get-clause-valid c = subst IsRanking c.self.view_is (valid_ranking c.self.inside.held c.self.inside.ranks.items c.self.invariant.valid)
+pub returns-in-None-clause-valid : goal.returns-in-None-clause-valid
+returns-in-None-clause-valid c = subst IsRanking c.self.view_is (valid_stored c.self.inside c.self.invariant)

@@ -1,15 +1,23 @@
-use Rattle.std.proofs.Common.{◌↔◌, subst}
+use Rattle.std.proofs.Common.{◌↔◌, false, Contains, subst, sym}
 use Rattle.std.specs.Prelude.{IsTrue}
-use Rattle.auto_core.specs.Delayed.{HoldsPair}
+use Rattle.std.proofs.lemmas.Bool.{false≢true}
+use Rattle.auto_core.specs.Delayed.{HoldsTriple}
 use Rattle.delayed_sim.specs.Rankings.{Ranking, IsRanking}
-use Rattle.delayed_sim.proofs.RankLemmas.{ranked_tells, valid_ranking}
+use Rattle.delayed_sim.specs.Stored.{triples_of}
+use Rattle.delayed_sim.proofs.EntryLemmas.{valid_stored}
 use Rattle.delayed_sim.proofs.delayed.Delayed.relates.Goals as goal
 
-pub returns-clause-told : goal.returns-clause-told
-returns-clause-told c =
-    let tells = ranked_tells c.self.inside.held c.self.inside.ranks.items c.args.p c.args.q in
-    let P : Ranking → Type 0 = λ R. IsTrue c.get.result ↔ HoldsPair R.pairs c.args.p c.args.q in
-    subst P c.self.view_is ((λ h. tells.0 (c.get.ensures.told.0 h)), λ h. c.get.ensures.told.1 (tells.1 h))
+pub returns-in-Some-clause-valid : goal.returns-in-Some-clause-valid
+returns-in-Some-clause-valid c = subst IsRanking c.self.view_is (valid_stored c.self.inside c.self.invariant)
 
-pub returns-clause-valid : goal.returns-clause-valid
-returns-clause-valid c = subst IsRanking c.self.view_is (valid_ranking c.self.inside.held c.self.inside.ranks.items c.self.invariant.valid)
+pub returns-in-None-clause-told : goal.returns-in-None-clause-told
+returns-in-None-clause-told c =
+    let n = c.self.inside.letters in
+    let P : Ranking → Type 0 = λ R. IsTrue false ↔ HoldsTriple R.triples c.args.ahead.now c.args.p c.args.q in
+    subst P c.self.view_is (
+      λ t. absurd (false≢true t),
+      λ h. absurd (c.in-None.ensures.none h.0 (subst (λ es. Contains (triples_of n es) (c.args.p, c.args.ahead.now, c.args.q, h.0)) (sym c.deref.ensures.value) h.1)),
+    )
+
+pub returns-in-None-clause-valid : goal.returns-in-None-clause-valid
+returns-in-None-clause-valid c = subst IsRanking c.self.view_is (valid_stored c.self.inside c.self.invariant)

@@ -1,0 +1,101 @@
+use Rattle.std.proofs.Common.{◌≡◌, ℕ, ◌-◌, ◌*◌, ◌/◌, ◌^◌, ◌<◌, ◌≤◌, List, Option, sym, ap, ◌∙◌, subst, arith}
+use Rattle.auto_core.specs.Automaton.{Automaton, IsAutomaton}
+use Rattle.auto_core.specs.Game.{Holds}
+use Rattle.auto_core.specs.Delayed.{RankedTriples, AreTriplesOf, IsGreatestDelayed}
+use Rattle.bit_rel.specs.Relation.{Relation}
+use Rattle.delayed_sim.specs.Pairings.{Pairing}
+use Rattle.delayed_sim.specs.Stored.{triples_of}
+use Rattle.delayed_sim.specs.Words.{ArePlaces, AreListed}
+use Rattle.delayed_sim.specs.Played.{HasEachRight, IsPlayed}
+use Rattle.delayed_sim.proofs.AheadGreatest.{greatest_ahead}
+use Rattle.delayed_sim.proofs.ListLemmas.{listed_pairs}
+use Rattle.delayed_sim.proofs.game.greatest_within.Goals as goal
+
+-- What is left of the game of the places is the greatest relation.
+left_over :
+    (A L : Automaton) (n w : ℕ) (first : Relation) (R S : Pairing) (ranks : List (Option ℕ)) (T : RankedTriples)
+    → 1 ≤ n
+    → IsAutomaton A
+    → ArePlaces A n L
+    → w ≡ A.labels ^ (n - 1)
+    → first.size ≡ A.states
+    → HasEachRight L A (λ x q. Holds first.pairs (x / A.labels ^ (n - 1)) q)
+    → R.places ≡ first.size * w
+    → R.states ≡ first.size
+    → ((x q : ℕ) → x < first.size * w → Holds first.pairs (x / w) q → Holds R.pairs x q)
+    → IsPlayed L A R S ranks
+    → AreListed A.labels n S ranks S.places 0 T
+    → IsGreatestDelayed A n T
+left_over A L n w first R S ranks T some valid places is equal each r_places r_states have played listed =
+    let all : first.size * w ≡ A.states * A.labels ^ (n - 1) = ap (λ s. s * w) equal ∙ ap (λ v. A.states * v) is in
+    let l_places : R.places ≡ L.states = r_places ∙ all ∙ sym places.states in
+    let l_states : R.states ≡ A.states = r_states ∙ equal in
+    let begins : HasEachRight L A (Holds R.pairs) = λ X below right x q h.
+    let x_in = (below x q h).0 in
+    let upto : x < first.size * w = omega (arith, all, places.states) in
+    have x q upto (subst (λ v. Holds first.pairs (x / v) q) (sym is) (each X below right x q h)) in
+    let s_states : S.states ≡ A.states = played.shrinks.states ∙ l_states in
+    let s_places : S.places ≡ A.states * A.labels ^ (n - 1) = played.shrinks.places ∙ r_places ∙ all in
+    greatest_ahead A n L valid places R S ranks begins l_places l_states played T
+    (listed_pairs A n S ranks T some s_states s_places played.shrinks.valid listed)
+
+-- The list is of the automaton's labels and of the ranks.
+listed_here : (A : Automaton) (n labels : ℕ) (S : Pairing) (read ranks : List (Option ℕ)) (T : RankedTriples) → labels ≡ A.labels → read ≡ ranks → AreListed labels n S read S.places 0 T → AreListed A.labels n S ranks S.places 0 T
+listed_here A n labels S read ranks T same is h =
+    subst (λ (l : ℕ). AreListed l n S ranks S.places 0 T) same (subst (λ (rs : List (Option ℕ)). AreListed labels n S rs S.places 0 T) is h)
+
+pub word_count-requires : goal.word_count-requires
+word_count-requires c =
+    subst (λ (l : ℕ). l ^ (c.args.letters - 1) < 2 ^ 32) (sym c.labels-labels.ensures.count) c.requires.word_count
+
+pub of_relation-requires-clause-some : goal.of_relation-requires-clause-some
+of_relation-requires-clause-some c =
+    let is : c.word_count.result ≡ c.args.automaton.now.labels ^ (c.args.letters - 1) = c.word_count.ensures ∙ ap (λ (l : ℕ). l ^ (c.args.letters - 1)) c.labels-labels.ensures.count in
+    let some = c.requires.words in
+    omega arith
+
+pub returns-clause-greatest : goal.returns-clause-greatest
+returns-clause-greatest c =
+    let A = c.args.automaton.now in
+    let n : ℕ = c.args.letters in
+    let is : c.word_count.result ≡ A.labels ^ (n - 1) = c.word_count.ensures ∙ ap (λ (l : ℕ). l ^ (n - 1)) c.labels-labels.ensures.count in
+    let S = c.play.new.board in
+    let ranks = c.in_ok-ranks.ranks.items in
+    let T : RankedTriples = triples_of n c.in_ok-entries.entries.items in
+    let listed : AreListed A.labels n S ranks S.places 0 T = listed_here A n c.labels-labels.result S c.deref.result.now ranks T c.labels-labels.ensures.count c.deref.ensures.value c.in_ok-entries.ensures in
+    left_over A c.args.places.now n c.word_count.result c.args.first.now c.in_ok-board.board S ranks T c.requires.from c.requires.valid c.requires.places is c.requires.equal c.requires.first c.in_ok-board.ensures.places c.in_ok-board.ensures.states c.in_ok-board.ensures.pairs c.in_ok-ranks.ensures listed
+
+pub invariant_of-result : goal.invariant_of-result
+invariant_of-result c =
+    let A = c.args.automaton.now in
+    let n : ℕ = c.args.letters in
+    let is : c.word_count.result ≡ A.labels ^ (n - 1) = c.word_count.ensures ∙ ap (λ (l : ℕ). l ^ (n - 1)) c.labels-labels.ensures.count in
+    let S = c.play.new.board in
+    let ranks = c.in_ok-ranks.ranks.items in
+    let T : RankedTriples = triples_of n c.in_ok-entries.entries.items in
+    let listed : AreListed A.labels n S ranks S.places 0 T = listed_here A n c.labels-labels.result S c.deref.result.now ranks T c.labels-labels.ensures.count c.deref.ensures.value c.in_ok-entries.ensures in
+    let all = left_over A c.args.places.now n c.word_count.result c.args.first.now c.in_ok-board.board S ranks T c.requires.from c.requires.valid c.requires.places is c.requires.equal c.requires.first c.in_ok-board.ensures.places c.in_ok-board.ensures.states c.in_ok-board.ensures.pairs c.in_ok-ranks.ensures listed in
+    record {
+      letters_from = c.requires.from;
+      letters_upto = c.requires.upto;
+      in_range = subst (λ (s : ℕ). AreTriplesOf s c.labels-labels.result n T) (sym c.states.ensures.count) (subst (λ (l : ℕ). AreTriplesOf A.states l n T) (sym c.labels-labels.ensures.count) all.in_range);
+      in_order = listed.in_order;
+    }
+
+pub returns-clause-valid : goal.returns-clause-valid
+returns-clause-valid c =
+    let A = c.args.automaton.now in
+    let n : ℕ = c.args.letters in
+    let is : c.word_count.result ≡ A.labels ^ (n - 1) = c.word_count.ensures ∙ ap (λ (l : ℕ). l ^ (n - 1)) c.labels-labels.ensures.count in
+    let S = c.play.new.board in
+    let ranks = c.in_ok-ranks.ranks.items in
+    let T : RankedTriples = triples_of n c.in_ok-entries.entries.items in
+    let listed : AreListed A.labels n S ranks S.places 0 T = listed_here A n c.labels-labels.result S c.deref.result.now ranks T c.labels-labels.ensures.count c.deref.ensures.value c.in_ok-entries.ensures in
+    let all = left_over A c.args.places.now n c.word_count.result c.args.first.now c.in_ok-board.board S ranks T c.requires.from c.requires.valid c.requires.places is c.requires.equal c.requires.first c.in_ok-board.ensures.places c.in_ok-board.ensures.states c.in_ok-board.ensures.pairs c.in_ok-ranks.ensures listed in
+    record {
+      letters_from = c.requires.from;
+      letters_upto = c.requires.upto;
+      in_range = subst (λ (s : ℕ). AreTriplesOf s c.labels-labels.result n T) (sym c.states.ensures.count) (subst (λ (l : ℕ). AreTriplesOf A.states l n T) (sym c.labels-labels.ensures.count) all.in_range);
+      once = all.once;
+      in_order = listed.in_order;
+    }

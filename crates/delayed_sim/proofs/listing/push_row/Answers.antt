@@ -1,0 +1,49 @@
+use Rattle.std.proofs.Common.{rules, ◌≡◌, ℕ, ◌+◌, ◌*◌, None, get_or, refl, sym, ap, ◌∙◌, subst, arith}
+use Rattle.delayed_sim.specs.declared.entries.Entry.{Entry}
+use Rattle.delayed_sim.specs.Levels.{rank_at}
+use Rattle.delayed_sim.specs.Stored.{triples_of}
+use Rattle.delayed_sim.specs.Words.{AreListed}
+use Rattle.delayed_sim.proofs.ListLemmas.{entry_here, listed_push, listed_row}
+use Rattle.delayed_sim.proofs.SettleLemmas.{pair_below}
+use Rattle.delayed_sim.proofs.listing.push_row.Goals as goal
+
+pub loop-q-init : goal.loop-q-init
+loop-q-init c = (c.requires.listed, omega arith)
+
+pub overflow_cast-q : goal.overflow_cast-q
+overflow_cast-q c =
+    let below = pair_below c.args.board.now c.row.result.now c.args.board.now.states c.args.x c.in-Some.q refl c.requires.valid c.in-Some.ensures.found.here (c.row.ensures.bits c.in-Some.q) in
+    search rules
+
+pub place-requires-clause-column : goal.place-requires-clause-column
+place-requires-clause-column c =
+    let below = pair_below c.args.board.now c.row.result.now c.args.board.now.states c.args.x c.in-Some.q refl c.requires.valid c.in-Some.ensures.found.here (c.row.ensures.bits c.in-Some.q) in
+    omega (arith, c.states.ensures.count)
+
+pub loop-q-smaller : goal.loop-q-smaller
+loop-q-smaller c =
+    let below = pair_below c.args.board.now c.row.result.now c.args.board.now.states c.args.x c.in-Some.q refl c.requires.valid c.in-Some.ensures.found.here (c.row.ensures.bits c.in-Some.q) in
+    let behind = c.in-Some.ensures.found.behind in
+    omega arith
+
+pub loop-q-preserved : goal.loop-q-preserved
+loop-q-preserved c =
+    let R = c.args.board.now in
+    let ranks = c.args.ranks.now in
+    let labels : ℕ = c.args.labels in
+    let n : ℕ = c.args.letters in
+    let x : ℕ = c.args.x in
+    let q : ℕ = c.in-Some.q in
+    let below = pair_below R c.row.result.now R.states x q refl c.requires.valid c.in-Some.ensures.found.here (c.row.ensures.bits q) in
+    let at : c.place.result ≡ x * R.states + q = c.place.ensures.place ∙ ap (λ m. x * m + q) c.states.ensures.count in
+    let e : Entry = record { left = c.args.left; ahead = c.args.ahead; right = q; rank = get_or ranks c.place.result None } in
+    let rank : get_or ranks c.place.result None ≡ rank_at ranks R.states x q = ap (λ i. get_or ranks i None) at in
+    let here = entry_here labels n R.states ranks x q e c.requires.state c.requires.word refl rank in (
+      subst (λ l. AreListed labels n R ranks x (q + 1) (triples_of n l)) (sym c.in_ok-push.ensures.items)
+          (listed_push labels n R ranks x c.loop-q.at q c.row.result.now c.loop-q.entries.items e c.requires.from c.requires.words c.requires.valid c.loop-q.invariant.0 c.row.ensures.bits c.in-Some.ensures.found here),
+      omega arith,
+    )
+
+pub returns : goal.returns
+returns c =
+    listed_row c.args.labels c.args.letters c.args.board.now c.args.ranks.now c.requires.from c.requires.words c.requires.valid c.args.x c.loop-q.at c.row.result.now (triples_of c.args.letters c.loop-q.entries.items) c.loop-q.invariant.0 c.row.ensures.bits c.in_default.ensures.none

@@ -1,7 +1,0 @@
-use Rattle.std.proofs.Common.{ℕ, ◌<◌, ◌≤◌}
-use Rattle.auto_core.specs.Automaton.{trans_at}
-use Rattle.auto_core.specs.Delayed.{IsAnsweredBelow}
-use Rattle.delayed_sim.proofs.right.has_answers_below.Given as goal
-
-abbrev pub invariant-loop-t : goal.invariant-loop-t
-invariant-loop-t l = (v : ℕ) → l.initial.t ≤ v → v < l.t → IsAnsweredBelow l.automaton l.delayed.pairs l.rank l.q (trans_at l.automaton v).label (trans_at l.automaton v).target

@@ -1,0 +1,156 @@
+//! Triples with ranks as they are stored, in their order.
+
+ghost use Rattle.std.specs.Prelude.{◌≡◌, ◌-◌, ◌<◌, ◌≤◌, ◌↔◌, ℕ, Option, None, length, slice_index_or, take, Contains, IsTrue, IfOk, IfErr, IfSome, IfNone};
+ghost use Rattle.delayed_sim.specs.Rankings.{triple_cmp, row_key, AreTriplesInOrder};
+ghost use Rattle.delayed_sim.specs.Stored.{triple_of, triples_of, no_entry, IsFound, IsBetween, IsPutIn};
+
+use auto_core::Memory;
+use std::cmp::Ordering;
+
+/// A triple with its rank, if it has one. Of `ahead` the first letters are announced, one fewer than the game has.
+#[derive(Clone, Copy, Debug)]
+pub(crate) struct Entry {
+    /// The left state.
+    pub left: u32,
+    /// The announced letters.
+    pub ahead: [u32; 3],
+    /// The right state.
+    pub right: u32,
+    /// The rank, if the triple has one.
+    pub rank: Option<u32>,
+}
+
+/// The announced letters of the entry in a game with so many.
+pub(crate) fn ahead_of(entry: &Entry, letters: u32) -> &[u32]
+    requires from { 1 ≤ letters }
+    requires upto { letters ≤ 4 }
+    ensures { result.now ≡ (triple_of letters entry.now).1 }
+{
+    &entry.ahead[..letters as usize - 1]
+}
+
+/// Compares the entry's triple with that of these states and letters.
+fn compare(entry: &Entry, letters: u32, left: u32, ahead: &[u32], right: u32) -> Ordering
+    requires from { 1 ≤ letters }
+    requires upto { letters ≤ 4 }
+    ensures { result ≡ triple_cmp (triple_of letters entry.now) (left, ahead.now, right, None) }
+{
+    match entry.left.cmp(&left) {
+        Ordering::Less => Ordering::Less,
+        Ordering::Greater => Ordering::Greater,
+        Ordering::Equal => match ahead_of(entry, letters).cmp(ahead) {
+            Ordering::Less => Ordering::Less,
+            Ordering::Greater => Ordering::Greater,
+            Ordering::Equal => entry.right.cmp(&right),
+        },
+    }
+}
+
+/// The place of the entry with these states and letters, or where it would stand.
+fn search(
+    entries: &[Entry],
+    letters: u32,
+    left: u32,
+    ahead: &[u32],
+    right: u32,
+) -> Result<usize, usize>
+    requires from { 1 ≤ letters }
+    requires upto { letters ≤ 4 }
+    requires in_order { AreTriplesInOrder (triples_of letters entries.now) }
+    ensures found { IfOk result (IsFound letters entries.now left ahead.now right) }
+    ensures gap { IfErr result (λ i. IsBetween letters entries.now (left, ahead.now, right, None) i i) }
+{
+    let mut low = 0;
+    let mut high = entries.len();
+    'halves: while low < high {
+        let middle = low + (high - low) / 2;
+        match compare(&entries[middle], letters, left, ahead, right) {
+            Ordering::Equal => return Ok(middle),
+            Ordering::Less => low = middle + 1,
+            Ordering::Greater => high = middle,
+        }
+    }
+    Err(low)
+}
+
+/// The place of the entry with these states and letters.
+pub(crate) fn find(
+    entries: &[Entry],
+    letters: u32,
+    left: u32,
+    ahead: &[u32],
+    right: u32,
+) -> Option<usize>
+    requires from { 1 ≤ letters }
+    requires upto { letters ≤ 4 }
+    requires in_order { AreTriplesInOrder (triples_of letters entries.now) }
+    ensures found { IfSome result (IsFound letters entries.now left ahead.now right) }
+    ensures none { IfNone result ((rank : Option ℕ) → Contains (triples_of letters entries.now) (left, ahead.now, right, rank) → ⊥) }
+{
+    match search(entries, letters, left, ahead, right) {
+        Ok(at) => Some(at),
+        Err(_at) => None,
+    }
+}
+
+/// Puts the entry where it belongs; none has its states and letters yet.
+pub(crate) fn put_in(entries: &mut Vec<Entry>, letters: u32, entry: Entry) -> Result<(), Memory>
+    requires from { 1 ≤ letters }
+    requires upto { letters ≤ 4 }
+    requires in_order { AreTriplesInOrder (triples_of letters entries.old.items) }
+    requires lacks { (rank : Option ℕ) → Contains (triples_of letters entries.old.items) (entry.left, (triple_of letters entry).1, entry.right, rank) → ⊥ }
+    ensures { IfOk result (λ _. IsPutIn letters entries.old.items entries.new.items entry) }
+{
+    match search(
+        entries,
+        letters,
+        entry.left,
+        ahead_of(&entry, letters),
+        entry.right,
+    ) {
+        Ok(_at) => Ok(()),
+        Err(at) => {
+            entries.insert(at, entry)?;
+            Ok(())
+        }
+    }
+}
+
+/// The three letters that begin with these.
+pub(crate) fn padded(ahead: &[u32]) -> [u32; 3]
+    requires { length ahead.now ≤ 3 }
+    ensures { take (length ahead.now) result ≡ ahead.now }
+{
+    let mut letters = [0; 3];
+    for at in 0..ahead.len() {
+        letters[at] = ahead[at];
+    }
+    letters
+}
+
+/// Tells whether the two entries have the same left state and letters.
+fn is_of_row(entry: &Entry, other: &Entry, letters: u32) -> bool
+    requires from { 1 ≤ letters }
+    requires upto { letters ≤ 4 }
+    ensures { IsTrue result ↔ (row_key (triple_of letters entry.now) ≡ row_key (triple_of letters other.now)) }
+{
+    entry.left == other.left && ahead_of(entry, letters) == ahead_of(other, letters)
+}
+
+/// The place past the last entry of the row of the entry at this place.
+pub(crate) fn row_end(entries: &[Entry], letters: u32, at: usize) -> usize
+    requires from { 1 ≤ letters }
+    requires upto { letters ≤ 4 }
+    requires inside { at < length entries.now }
+    ensures onward { at < result }
+    ensures within { result ≤ length entries.now }
+    ensures same { (i : ℕ) → at ≤ i → i < result → row_key (triple_of letters (slice_index_or entries.now i no_entry)) ≡ row_key (triple_of letters (slice_index_or entries.now at no_entry)) }
+    ensures other { result < length entries.now → ¬ (row_key (triple_of letters (slice_index_or entries.now result no_entry)) ≡ row_key (triple_of letters (slice_index_or entries.now at no_entry))) }
+{
+    for end in at + 1..entries.len() {
+        if !is_of_row(&entries[end], &entries[at], letters) {
+            return end;
+        }
+    }
+    entries.len()
+}

@@ -1,0 +1,86 @@
+//! The triples of a relation from places to states, in their order.
+
+ghost use Rattle.std.specs.Prelude.{◌≡◌, ◌+◌, ◌-◌, ◌*◌, ◌/◌, ◌%◌, ◌^◌, ◌<◌, ◌≤◌, ℕ, length, take, IfOk};
+ghost use Rattle.delayed_sim.specs.Pairings.{IsPairing};
+ghost use Rattle.delayed_sim.specs.Stored.{triples_of};
+ghost use Rattle.delayed_sim.specs.Words.{digits, AreListed};
+
+use crate::board::Board;
+use crate::entries::Entry;
+use crate::pairs::place;
+use crate::words::{letters_of, word_count};
+use auto_core::Memory;
+use row_steps::next_bit;
+use std::alloc::Global;
+
+/// Appends the triples of the place, which has this left state and these letters.
+fn push_row(
+    entries: &mut Vec<Entry>,
+    board: &Board,
+    ranks: &[Option<u32>],
+    labels: u32,
+    letters: u32,
+    x: u32,
+    left: u32,
+    ahead: [u32; 3],
+) -> Result<(), Memory>
+    requires from { 1 ≤ letters }
+    requires place { x < board.now.places }
+    requires few { board.now.states < 2 ^ 32 }
+    requires len { length ranks.now ≡ board.now.places * board.now.states }
+    requires valid { IsPairing board.now }
+    requires fits { labels ^ (letters - 1) < 2 ^ 32 }
+    requires words { board.now.places ≡ board.now.states * labels ^ (letters - 1) }
+    requires state { left ≡ x / labels ^ (letters - 1) }
+    requires word { take (letters - 1) ahead ≡ digits labels (letters - 1) (x % labels ^ (letters - 1)) }
+    requires listed { AreListed labels letters board.now ranks.now x 0 (triples_of letters entries.old.items) }
+    ensures { IfOk result (λ _. AreListed labels letters board.now ranks.now (x + 1) 0 (triples_of letters entries.new.items)) }
+{
+    let mut at = 0;
+    while let Some(q) = next_bit(board.row(x), at) {
+        let rank = ranks[place(board.places(), board.states(), x, q as u32)];
+        entries.push(Entry {
+            left,
+            ahead,
+            right: q as u32,
+            rank,
+        })?;
+        at = q + 1;
+    }
+    Ok(())
+}
+
+/// The triples of the relation with the ranks of the table.
+pub(crate) fn entries_of(
+    alloc: Global,
+    board: &Board,
+    ranks: &[Option<u32>],
+    labels: u32,
+    letters: u32,
+) -> Result<Vec<Entry>, Memory>
+    requires from { 1 ≤ letters }
+    requires upto { letters ≤ 4 }
+    requires few { board.now.states < 2 ^ 32 }
+    requires len { length ranks.now ≡ board.now.places * board.now.states }
+    requires valid { IsPairing board.now }
+    requires fits { labels ^ (letters - 1) < 2 ^ 32 }
+    requires words { board.now.places ≡ board.now.states * labels ^ (letters - 1) }
+    ensures { IfOk result (λ v. AreListed labels letters board.now ranks.now board.now.places 0 (triples_of letters v.items)) }
+{
+    let words = word_count(labels, letters - 1);
+    let mut entries = Vec::new(alloc);
+    for x in 0..board.places() {
+        let ahead = letters_of(labels, letters - 1, x % words);
+        push_row(
+            &mut entries,
+            board,
+            ranks,
+            labels,
+            letters,
+            x,
+            x / words,
+            ahead,
+        )?;
+    }
+    Ok(entries)
+}
