@@ -1,13 +1,11 @@
-use Rattle.std.proofs.Common.{◌≡◌, refl, sym, ap, ap₂, subst, ◌∙◌, append_assoc, append-nil, arith, eqb-true, eq-eqb, ⊎_elim, inl, inr, ◌⊎◌, ◌<◌, ◌≤◌, nat_lt, nat_le, decimal, add-one, ℕ, zero, suc, ◌+◌, ◌-◌, List, [], ◌∷◌, ◌++◌, length, map, Bool, true, false, not, ◌&&◌, Result, Ok, Err, cond, ◌==◌}
-use Rattle.std.specs.List.{slice_split}
+use Rattle.std.proofs.Common.{◌≡◌, refl, sym, ap, subst, ◌∙◌, append_assoc, append-nil, eq-eqb, ⊎_elim, nat_lt, decimal, ℕ, zero, suc, ◌+◌, List, [], ◌∷◌, ◌++◌, length, Bool, true, false, ◌&&◌, Ok, Err, cond, ◌==◌}
 use Rattle.auto_core.specs.declared.parts.Mode.{Mode}
 use Rattle.auto_core.specs.declared.parts.Mode.TheVariants as mode
 use Rattle.auto_core.specs.declared.parts.Origin.{Origin}
 use Rattle.cert_value.specs.declared.keywords.Keyword.TheVariants as keyword
 use Rattle.cert_text.specs.declared.forms.Tail.TheVariants as tail
 use Rattle.cert_text.specs.declared.faults.TextKind.{TextKind}
-use Rattle.cert_text.specs.declared.faults.TextKind.TheVariants.{Truncated, Trailing}
-use Rattle.cert_text.specs.declared.faults.TextFault.{TextFault}
+use Rattle.cert_text.specs.declared.faults.TextKind.TheVariants.{Trailing}
 use Rattle.cert_value.specs.declared.types.Answer.{Answer}
 use Rattle.cert_value.specs.declared.types.Answer.TheVariants as answer
 use Rattle.cert_value.specs.declared.types.Cert.{Cert}
@@ -26,27 +24,22 @@ use Rattle.cert_value.specs.declared.types.Element.{Element}
 use Rattle.cert_value.specs.declared.types.StepLine.{StepLine}
 use Rattle.cert_text.specs.declared.parts.Closed.{Closed}
 use Rattle.cert_text.specs.declared.parts.Limited.{Limited}
-use Rattle.cert_text.specs.declared.lines.Sizes.{Sizes}
-use Rattle.cert_text.specs.declared.lines.Heading.{Heading}
 use Rattle.cert_text.specs.declared.heads.FirstHead.{FirstHead}
 use Rattle.cert_text.specs.declared.heads.FirstHead.TheVariants as first_head
 use Rattle.cert_text.specs.declared.heads.SecondHead.{SecondHead}
 use Rattle.cert_text.specs.declared.heads.SecondHead.TheVariants as second_head
 use Rattle.cert_text.specs.declared.heads.Way.{Way}
 use Rattle.cert_text.specs.declared.heads.Way.TheVariants as way
-use Rattle.cert_value.specs.Text.{Line, spelled, numbers, each, row_lines, block_lines, rank_row_lines, rank_block_lines, classes_line, first_step_lines, merge_lines, second_step_lines, origin_line, origin_lines, mark_tokens, element_lines, step_lines, first_lines, second_lines, elements_line, closed_lines, yes_lines, limit_lines, list_lines, body_lines, answer_of, first_line, sizes_line, end_line, cert_lines, gone_numbers, ranked_numbers}
-use Rattle.cert_value.specs.declared.types.Grounds.{Grounds}
+use Rattle.cert_value.specs.Text.{Line, spelled, numbers, letters_tokens, each, row_lines, block_lines, rank_row_lines, rank_block_lines, classes_line, first_step_lines, second_step_lines, origin_lines, element_lines, step_lines, first_lines, second_lines, elements_line, closed_lines, limit_lines, body_lines, answer_of, first_line, sizes_line, end_line, cert_lines, gone_numbers}
 use Rattle.cert_value.specs.declared.types.GoneBy.{GoneBy}
-use Rattle.auto_core.specs.declared.parts.Origin.TheVariants as origin
-use Rattle.cert_value.specs.Tokens.{tokens_of}
-use Rattle.cert_value.specs.WellFormed.{blocks_due, is_live, has_some, is_short, are_short, ascend, is_row, are_rows, is_block, is_rank_row, are_rank_rows, is_rank_block, are_gone, are_kept, are_classes, is_cut, is_first_step, are_grounds, is_second_step, is_origin, is_element, is_step_of, are_steps, are_logs, is_yes, is_lasso, is_listing, is_body, has_text}
+use Rattle.cert_value.specs.WellFormed.{is_version, are_letters, rank_key, blocks_due, is_live, has_some, is_short, are_short, ascend, is_row, are_rows, is_block, is_rank_row, are_rank_rows, is_rank_block, are_gone, are_classes, is_first_step, is_second_step, is_origin, is_element, is_step_of, are_steps, are_logs, is_body, has_text}
 use Rattle.cert_text.specs.Lines.{Said, word_in, number_in, numbers_in, ascending_in, sizes_in, heading_in, row_in, rank_row_in, gone_by_in, first_head_in, second_head_in, origin_in, element_in, step_in}
-use Rattle.cert_text.specs.Grammar.{ReadOutcome, Read, Stopped, Then, after, next_line, read_rows, read_block, read_rank_rows, read_rank_block, read_blocks, read_classes, read_first_rest, read_first_steps, read_grounds, read_second_rest, read_second_steps, read_elements, read_steps, read_origins, read_cover, read_all_elements, read_closed, read_all_origins, read_limited, read_first_log, read_second_log, read_turn, read_lasso, read_word, yes_of, list_of, read_evidence, read_after_first, read_logs, read_body, is_bare, finish, cert_of, read_end, read_rest, read_sizes, read_lines}
+use Rattle.cert_text.specs.Grammar.{Read, Stopped, Then, after, next_line, read_rows, read_block, read_rank_rows, read_rank_block, read_blocks, read_classes, read_first_rest, read_first_steps, read_grounds, read_second_rest, read_second_steps, read_elements, read_steps, read_origins, read_cover, read_all_elements, read_closed, read_all_origins, read_limited, read_first_log, read_second_log, read_turn, read_lasso, read_word, yes_of, list_of, read_evidence, read_after_first, read_logs, read_body, is_bare, finish, cert_of, read_end, read_rest, read_sizes, read_lines}
 use Rattle.std.specs.List.{list_all}
-use Rattle.std.proofs.lemmas.Bool.{and_parts, and_from, cond-true, cond-false, cases_Bool, ltb-true}
-use Rattle.cert_text.proofs.LineFacts.{word_fw, word_bw, number_fw, number_bw, numbers_fw, numbers_bw, sorted_fw, sorted_bw, sizes_fw, sizes_bw, row_fw, row_bw, rank_row_fw, rank_row_bw, gone_fw, gone_bw, step_fw, step_bw, some_numbers, numbers_some, some_cons}
-use Rattle.cert_text.proofs.HeadFacts.{first_head_line, is_first_head, first_head_fw, first_head_bw, way_tokens, second_head_line, is_way, is_second_head, second_head_fw, second_head_bw}
-use Rattle.cert_text.proofs.OriginFacts.{origin_fw, origin_bw, element_fw, element_bw, heading_fw, heading_bw}
+use Rattle.std.proofs.lemmas.Bool.{and_parts, and_from, cond-true, cond-false, cases_Bool}
+use Rattle.cert_text.proofs.LineFacts.{word_bw, number_bw, numbers_bw, sorted_bw, sizes_bw, row_bw, rank_row_bw, gone_bw, step_bw, numbers_some}
+use Rattle.cert_text.proofs.HeadFacts.{first_head_line, is_first_head, first_head_bw, way_tokens, second_head_line, is_way, is_second_head, second_head_bw}
+use Rattle.cert_text.proofs.OriginFacts.{origin_bw, element_bw, heading_bw}
 
 -- What is taken off the lines before the rest is read to a certificate.
 pub record Took {A : Type 0} (Fine : A → Type 0) (lines_of : A → List Line) (next : Then A) (ls : List Line) (c : Cert) : Type 0 where
@@ -87,30 +80,30 @@ cut_cons f x xs ls after rest p q = p ∙ ap (λ y. f x ++ y) q ∙ sym (append_
 abbrev pub AreRows : ℕ → ℕ → List Row → Type 0
 AreRows n bound rows = (length rows ≡ n) × (are_rows bound rows ≡ true)
 
-pub rows_bw : (n bound : ℕ) (acc : List Row) (next : Then (List Row)) (ls : List Line) (c : Cert) → read_rows n bound acc next ls ≡ Read c
-    → Took (AreRows n bound) (λ rows. each row_lines rows) (λ rows rest. next (acc ++ rows) rest) ls c
-rows_bw zero bound acc next ls c e =
+pub rows_bw : (v : ℕ) (n bound : ℕ) (acc : List Row) (next : Then (List Row)) (ls : List Line) (c : Cert) → read_rows v n bound acc next ls ≡ Read c
+    → Took (AreRows n bound) (λ rows. each (row_lines v) rows) (λ rows rest. next (acc ++ rows) rest) ls c
+rows_bw v zero bound acc next ls c e =
     record { item = []; rest = ls; fine = (refl, refl); cut = refl; on = ap (λ x. next x ls) (append-nil acc) ∙ e }
-rows_bw (suc n) bound acc next ls c e =
-    let l = line_bw (row_in bound) (λ row. read_rows n (row.left + 1) (acc ++ row ∷ []) next) ls c e in
-    let f = row_bw bound l.line l.item l.told in
-    let t = rows_bw n (l.item.left + 1) (acc ++ l.item ∷ []) next l.rest c l.on in
+rows_bw v (suc n) bound acc next ls c e =
+    let l = line_bw (row_in v bound) (λ row. read_rows v n (row.left + 1) (acc ++ row ∷ []) next) ls c e in
+    let f = row_bw v bound l.line l.item l.told in
+    let t = rows_bw v n (l.item.left + 1) (acc ++ l.item ∷ []) next l.rest c l.on in
     record {
       item = l.item ∷ t.item;
       rest = t.rest;
       fine = (ap suc t.fine.0, and_from (is_row bound l.item) _ f.0 t.fine.1);
-      cut = cut_cons row_lines l.item t.item ls l.rest t.rest (l.cut ∙ ap (λ x. x ∷ l.rest) f.1) t.cut;
+      cut = cut_cons (row_lines v) l.item t.item ls l.rest t.rest (l.cut ∙ ap (λ x. x ∷ l.rest) f.1) t.cut;
       on = ap (λ x. next x t.rest) (sym (append_assoc acc (l.item ∷ []) t.item)) ∙ t.on;
     }
 
 abbrev pub IsBlock : RelBlock → Type 0
 IsBlock b = is_block b ≡ true
 
-pub block_bw : (next : Then RelBlock) (ls : List Line) (c : Cert) → read_block next ls ≡ Read c → Took IsBlock block_lines next ls c
-block_bw next ls c e =
-    let l = line_bw (number_in keyword.Rel) (λ n. read_rows n 0 [] (λ rows. next (record { rows = rows }))) ls c e in
+pub block_bw : (v : ℕ) (next : Then RelBlock) (ls : List Line) (c : Cert) → read_block v next ls ≡ Read c → Took IsBlock (block_lines v) next ls c
+block_bw v next ls c e =
+    let l = line_bw (number_in keyword.Rel) (λ n. read_rows v n 0 [] (λ rows. next (record { rows = rows }))) ls c e in
     let f = number_bw keyword.Rel l.line l.item l.told in
-    let t = rows_bw l.item 0 [] (λ rows. next (record { rows = rows })) l.rest c l.on in
+    let t = rows_bw v l.item 0 [] (λ rows. next (record { rows = rows })) l.rest c l.on in
     let head : spelled keyword.Rel ∷ decimal l.item ∷ [] ≡ spelled keyword.Rel ∷ decimal (length t.item) ∷ [] =
     ap (λ n. spelled keyword.Rel ∷ decimal n ∷ []) (sym t.fine.0) in
     record {
@@ -121,35 +114,35 @@ block_bw next ls c e =
       on = t.on;
     }
 
-abbrev pub AreRankRows : ℕ → ℕ → List RankRow → Type 0
-AreRankRows n bound rows = (length rows ≡ n) × (are_rank_rows bound rows ≡ true)
+abbrev pub AreRankRows : ℕ → ℕ → List ℕ → List RankRow → Type 0
+AreRankRows letters n key rows = (length rows ≡ n) × (are_rank_rows letters key rows ≡ true)
 
-pub rank_rows_bw : (n bound : ℕ) (acc : List RankRow) (next : Then (List RankRow)) (ls : List Line) (c : Cert)
-    → read_rank_rows n bound acc next ls ≡ Read c
-    → Took (AreRankRows n bound) (λ rows. each rank_row_lines rows) (λ rows rest. next (acc ++ rows) rest) ls c
-rank_rows_bw zero bound acc next ls c e =
+pub rank_rows_bw : (letters n : ℕ) (key : List ℕ) (acc : List RankRow) (next : Then (List RankRow)) (ls : List Line) (c : Cert)
+    → read_rank_rows letters n key acc next ls ≡ Read c
+    → Took (AreRankRows letters n key) (λ rows. each rank_row_lines rows) (λ rows rest. next (acc ++ rows) rest) ls c
+rank_rows_bw letters zero key acc next ls c e =
     record { item = []; rest = ls; fine = (refl, refl); cut = refl; on = ap (λ x. next x ls) (append-nil acc) ∙ e }
-rank_rows_bw (suc n) bound acc next ls c e =
-    let l = line_bw (rank_row_in bound) (λ row. read_rank_rows n (row.left + 1) (acc ++ row ∷ []) next) ls c e in
-    let f = rank_row_bw bound l.line l.item l.told in
-    let t = rank_rows_bw n (l.item.left + 1) (acc ++ l.item ∷ []) next l.rest c l.on in
+rank_rows_bw letters (suc n) key acc next ls c e =
+    let l = line_bw (rank_row_in letters key) (λ row. read_rank_rows letters n (rank_key row) (acc ++ row ∷ []) next) ls c e in
+    let f = rank_row_bw letters key l.line l.item l.told in
+    let t = rank_rows_bw letters n (rank_key l.item) (acc ++ l.item ∷ []) next l.rest c l.on in
     record {
       item = l.item ∷ t.item;
       rest = t.rest;
-      fine = (ap suc t.fine.0, and_from (is_rank_row bound l.item) _ f.0 t.fine.1);
+      fine = (ap suc t.fine.0, and_from (is_rank_row letters key l.item) _ f.0 t.fine.1);
       cut = cut_cons rank_row_lines l.item t.item ls l.rest t.rest (l.cut ∙ ap (λ x. x ∷ l.rest) f.1) t.cut;
       on = ap (λ x. next x t.rest) (sym (append_assoc acc (l.item ∷ []) t.item)) ∙ t.on;
     }
 
-abbrev pub IsRankBlock : RankBlock → Type 0
-IsRankBlock b = is_rank_block b ≡ true
+abbrev pub IsRankBlock : ℕ → RankBlock → Type 0
+IsRankBlock letters b = is_rank_block letters b ≡ true
 
-pub rank_block_bw : (next : Then RankBlock) (ls : List Line) (c : Cert) → read_rank_block next ls ≡ Read c
-    → Took IsRankBlock rank_block_lines next ls c
-rank_block_bw next ls c e =
-    let l = line_bw (number_in keyword.Rel) (λ n. read_rank_rows n 0 [] (λ rows. next (record { rows = rows }))) ls c e in
+pub rank_block_bw : (letters : ℕ) (next : Then RankBlock) (ls : List Line) (c : Cert) → read_rank_block letters next ls ≡ Read c
+    → Took (IsRankBlock letters) rank_block_lines next ls c
+rank_block_bw letters next ls c e =
+    let l = line_bw (number_in keyword.Rel) (λ n. read_rank_rows letters n [] [] (λ rows. next (record { rows = rows }))) ls c e in
     let f = number_bw keyword.Rel l.line l.item l.told in
-    let t = rank_rows_bw l.item 0 [] (λ rows. next (record { rows = rows })) l.rest c l.on in
+    let t = rank_rows_bw letters l.item [] [] (λ rows. next (record { rows = rows })) l.rest c l.on in
     let head : spelled keyword.Rel ∷ decimal l.item ∷ [] ≡ spelled keyword.Rel ∷ decimal (length t.item) ∷ [] =
     ap (λ n. spelled keyword.Rel ∷ decimal n ∷ []) (sym t.fine.0) in
     record {
@@ -163,18 +156,18 @@ rank_block_bw next ls c e =
 abbrev pub AreBlocks : ℕ → List RelBlock → Type 0
 AreBlocks n bs = (length bs ≡ n) × (list_all is_block bs ≡ true)
 
-pub blocks_bw : (n : ℕ) (acc : List RelBlock) (next : Then (List RelBlock)) (ls : List Line) (c : Cert) → read_blocks n acc next ls ≡ Read c
-    → Took (AreBlocks n) (λ bs. each block_lines bs) (λ bs rest. next (acc ++ bs) rest) ls c
-blocks_bw zero acc next ls c e =
+pub blocks_bw : (v : ℕ) (n : ℕ) (acc : List RelBlock) (next : Then (List RelBlock)) (ls : List Line) (c : Cert) → read_blocks v n acc next ls ≡ Read c
+    → Took (AreBlocks n) (λ bs. each (block_lines v) bs) (λ bs rest. next (acc ++ bs) rest) ls c
+blocks_bw v zero acc next ls c e =
     record { item = []; rest = ls; fine = (refl, refl); cut = refl; on = ap (λ x. next x ls) (append-nil acc) ∙ e }
-blocks_bw (suc n) acc next ls c e =
-    let l = block_bw (λ block. read_blocks n (acc ++ block ∷ []) next) ls c e in
-    let t = blocks_bw n (acc ++ l.item ∷ []) next l.rest c l.on in
+blocks_bw v (suc n) acc next ls c e =
+    let l = block_bw v (λ block. read_blocks v n (acc ++ block ∷ []) next) ls c e in
+    let t = blocks_bw v n (acc ++ l.item ∷ []) next l.rest c l.on in
     record {
       item = l.item ∷ t.item;
       rest = t.rest;
       fine = (ap suc t.fine.0, and_from (is_block l.item) _ l.fine t.fine.1);
-      cut = cut_cons block_lines l.item t.item ls l.rest t.rest l.cut t.cut;
+      cut = cut_cons (block_lines v) l.item t.item ls l.rest t.rest l.cut t.cut;
       on = ap (λ x. next x t.rest) (sym (append_assoc acc (l.item ∷ []) t.item)) ∙ t.on;
     }
 
@@ -198,11 +191,11 @@ classes_bw next ls c e =
 abbrev pub IsFirst : FirstStep → Type 0
 IsFirst s = is_first_step s ≡ true
 
-first_rest_bw : (h : FirstHead) (line : Line) (after : List Line) (next : Then FirstStep) (c : Cert) → is_first_head h ≡ true
-    → line ≡ first_head_line h → read_first_rest h next after ≡ Read c → Took IsFirst first_step_lines next (line ∷ after) c
-first_rest_bw (first_head.Trim kept) line after next c f g e =
+first_rest_bw : (v : ℕ) (h : FirstHead) (line : Line) (after : List Line) (next : Then FirstStep) (c : Cert) → is_first_head h ≡ true
+    → line ≡ first_head_line h → read_first_rest v h next after ≡ Read c → Took IsFirst (first_step_lines v) next (line ∷ after) c
+first_rest_bw v (first_head.Trim kept) line after next c f g e =
     record { item = first.Trim kept; rest = after; fine = f; cut = ap (λ x. x ∷ after) g; on = e }
-first_rest_bw (first_head.Merge) line after next c f g e =
+first_rest_bw v (first_head.Merge) line after next c f g e =
     let t = classes_bw (λ classes. next (first.Merge classes)) after c e in
     record {
       item = first.Merge t.item;
@@ -211,12 +204,12 @@ first_rest_bw (first_head.Merge) line after next c f g e =
       cut = ap (λ x. x ∷ after) g ∙ ap (λ y. (spelled keyword.Merge ∷ []) ∷ y) t.cut;
       on = t.on;
     }
-first_rest_bw (first_head.Cut pair look) line after next c f g e =
+first_rest_bw v (first_head.Cut pair look) line after next c f g e =
     let a = and_parts (nat_lt 0 (blocks_due pair)) (is_short look) f in
-    let k = λ (gone : List GoneBy). read_blocks (blocks_due pair) [] (λ blocks. next (first.Cut pair look gone blocks)) in
+    let k = λ (gone : List GoneBy). read_blocks v (blocks_due pair) [] (λ blocks. next (first.Cut pair look gone blocks)) in
     let l = line_bw gone_by_in k after c e in
     let gg = gone_bw l.line l.item l.told in
-    let t = blocks_bw (blocks_due pair) [] (λ blocks. next (first.Cut pair look l.item blocks)) l.rest c l.on in
+    let t = blocks_bw v (blocks_due pair) [] (λ blocks. next (first.Cut pair look l.item blocks)) l.rest c l.on in
     let head = spelled keyword.Cut ∷ decimal pair ∷ decimal look ∷ [] in
     let gone_line = spelled keyword.Gone ∷ numbers (gone_numbers l.item) in
     record {
@@ -230,42 +223,42 @@ first_rest_bw (first_head.Cut pair look) line after next c f g e =
       on = t.on;
     }
 
-pub first_step_bw : (next : Then FirstStep) (ls : List Line) (c : Cert)
-    → next_line first_head_in (λ head. read_first_rest head next) ls ≡ Read c → Took IsFirst first_step_lines next ls c
-first_step_bw next ls c e =
-    let l = line_bw first_head_in (λ head. read_first_rest head next) ls c e in
+pub first_step_bw : (v : ℕ) (next : Then FirstStep) (ls : List Line) (c : Cert)
+    → next_line first_head_in (λ head. read_first_rest v head next) ls ≡ Read c → Took IsFirst (first_step_lines v) next ls c
+first_step_bw v next ls c e =
+    let l = line_bw first_head_in (λ head. read_first_rest v head next) ls c e in
     let f = first_head_bw l.line l.item l.told in
-    let P : List Line → Type 0 = λ ls. Took IsFirst first_step_lines next ls c in
-    subst P (sym l.cut) (first_rest_bw l.item l.line l.rest next c f.0 f.1 l.on)
+    let P : List Line → Type 0 = λ ls. Took IsFirst (first_step_lines v) next ls c in
+    subst P (sym l.cut) (first_rest_bw v l.item l.line l.rest next c f.0 f.1 l.on)
 
 abbrev pub AreFirst : ℕ → List FirstStep → Type 0
 AreFirst n ss = (length ss ≡ n) × (list_all is_first_step ss ≡ true)
 
-pub first_steps_bw : (n : ℕ) (acc : List FirstStep) (next : Then (List FirstStep)) (ls : List Line) (c : Cert)
-    → read_first_steps n acc next ls ≡ Read c
-    → Took (AreFirst n) (λ ss. each first_step_lines ss) (λ ss rest. next (acc ++ ss) rest) ls c
-first_steps_bw zero acc next ls c e =
+pub first_steps_bw : (v : ℕ) (n : ℕ) (acc : List FirstStep) (next : Then (List FirstStep)) (ls : List Line) (c : Cert)
+    → read_first_steps v n acc next ls ≡ Read c
+    → Took (AreFirst n) (λ ss. each (first_step_lines v) ss) (λ ss rest. next (acc ++ ss) rest) ls c
+first_steps_bw v zero acc next ls c e =
     record { item = []; rest = ls; fine = (refl, refl); cut = refl; on = ap (λ x. next x ls) (append-nil acc) ∙ e }
-first_steps_bw (suc n) acc next ls c e =
-    let l = first_step_bw (λ step. read_first_steps n (acc ++ step ∷ []) next) ls c e in
-    let t = first_steps_bw n (acc ++ l.item ∷ []) next l.rest c l.on in
+first_steps_bw v (suc n) acc next ls c e =
+    let l = first_step_bw v (λ step. read_first_steps v n (acc ++ step ∷ []) next) ls c e in
+    let t = first_steps_bw v n (acc ++ l.item ∷ []) next l.rest c l.on in
     record {
       item = l.item ∷ t.item;
       rest = t.rest;
       fine = (ap suc t.fine.0, and_from (is_first_step l.item) _ l.fine t.fine.1);
-      cut = cut_cons first_step_lines l.item t.item ls l.rest t.rest l.cut t.cut;
+      cut = cut_cons (first_step_lines v) l.item t.item ls l.rest t.rest l.cut t.cut;
       on = ap (λ x. next x t.rest) (sym (append_assoc acc (l.item ∷ []) t.item)) ∙ t.on;
     }
 
 abbrev pub IsFirstLog : List FirstStep → Type 0
 IsFirstLog ss = (is_short (length ss) ≡ true) × (list_all is_first_step ss ≡ true)
 
-pub first_log_bw : (next : Then (List FirstStep)) (ls : List Line) (c : Cert) → read_first_log next ls ≡ Read c
-    → Took IsFirstLog first_lines next ls c
-first_log_bw next ls c e =
-    let l = line_bw (number_in keyword.Log1) (λ n. read_first_steps n [] next) ls c e in
+pub first_log_bw : (v : ℕ) (next : Then (List FirstStep)) (ls : List Line) (c : Cert) → read_first_log v next ls ≡ Read c
+    → Took IsFirstLog (first_lines v) next ls c
+first_log_bw v next ls c e =
+    let l = line_bw (number_in keyword.Log1) (λ n. read_first_steps v n [] next) ls c e in
     let f = number_bw keyword.Log1 l.line l.item l.told in
-    let t = first_steps_bw l.item [] next l.rest c l.on in
+    let t = first_steps_bw v l.item [] next l.rest c l.on in
     let head = ap (λ n. spelled keyword.Log1 ∷ decimal n ∷ []) (sym t.fine.0) in
     record {
       item = t.item;
@@ -276,14 +269,14 @@ first_log_bw next ls c e =
     }
 
 -- Steps of the second log.
-abbrev pub IsSecond : Mode → SecondStep → Type 0
-IsSecond m s = is_second_step m s ≡ true
+abbrev pub IsSecond : ℕ → Mode → SecondStep → Type 0
+IsSecond v m s = is_second_step v m s ≡ true
 
-merge_bw : (m : Mode) (by : Way) (classes : List ℕ) (after : List Line) (next : Then SecondStep) (c : Cert) → is_way m by ≡ true
-    → are_classes classes ≡ true → read_grounds by classes next after ≡ Read c
-    → Took (IsSecond m) second_step_lines next ((spelled keyword.Merge ∷ way_tokens by) ∷ classes_line classes ∷ after) c
-merge_bw m (way.Forward look) classes after next c w a e =
-    let t = block_bw (λ rel. next (second.Merge (grounds.Forward look rel) classes)) after c e in
+merge_bw : (v : ℕ) (m : Mode) (by : Way) (classes : List ℕ) (after : List Line) (next : Then SecondStep) (c : Cert) → is_way v m by ≡ true
+    → are_classes classes ≡ true → read_grounds v by classes next after ≡ Read c
+    → Took (IsSecond v m) (second_step_lines v) next ((spelled keyword.Merge ∷ way_tokens v by) ∷ classes_line classes ∷ after) c
+merge_bw v m (way.Forward look) classes after next c w a e =
+    let t = block_bw v (λ rel. next (second.Merge (grounds.Forward look rel) classes)) after c e in
     record {
       item = second.Merge (grounds.Forward look t.item) classes;
       rest = t.rest;
@@ -291,8 +284,8 @@ merge_bw m (way.Forward look) classes after next c w a e =
       cut = ap (λ y. (spelled keyword.Merge ∷ spelled keyword.Forward ∷ decimal look ∷ []) ∷ classes_line classes ∷ y) t.cut;
       on = t.on;
     }
-merge_bw m (way.Backward look) classes after next c w a e =
-    let t = block_bw (λ rel. next (second.Merge (grounds.Backward look rel) classes)) after c e in
+merge_bw v m (way.Backward look) classes after next c w a e =
+    let t = block_bw v (λ rel. next (second.Merge (grounds.Backward look rel) classes)) after c e in
     record {
       item = second.Merge (grounds.Backward look t.item) classes;
       rest = t.rest;
@@ -300,27 +293,27 @@ merge_bw m (way.Backward look) classes after next c w a e =
       cut = ap (λ y. (spelled keyword.Merge ∷ spelled keyword.Backward ∷ decimal look ∷ []) ∷ classes_line classes ∷ y) t.cut;
       on = t.on;
     }
-merge_bw (mode.Buchi) (way.Delayed) classes after next c w a e =
-    let t = rank_block_bw (λ ranks. next (second.Merge (grounds.Delayed ranks) classes)) after c e in
+merge_bw v (mode.Buchi) (way.Delayed letters) classes after next c w a e =
+    let t = rank_block_bw letters (λ ranks. next (second.Merge (grounds.Delayed letters ranks) classes)) after c e in
     record {
-      item = second.Merge (grounds.Delayed t.item) classes;
+      item = second.Merge (grounds.Delayed letters t.item) classes;
       rest = t.rest;
-      fine = and_from (are_classes classes) _ a t.fine;
-      cut = ap (λ y. (spelled keyword.Merge ∷ spelled keyword.Delayed ∷ []) ∷ classes_line classes ∷ y) t.cut;
+      fine = and_from (are_classes classes) _ a (and_from (are_letters v letters) (is_rank_block letters t.item) w t.fine);
+      cut = ap (λ y. (spelled keyword.Merge ∷ spelled keyword.Delayed ∷ letters_tokens v letters) ∷ classes_line classes ∷ y) t.cut;
       on = t.on;
     }
-merge_bw (mode.Finite) (way.Delayed) classes after next c w a e = absurd (cc)
+merge_bw v (mode.Finite) (way.Delayed letters) classes after next c w a e = absurd (cc)
 
-second_rest_bw : (m : Mode) (h : SecondHead) (line : Line) (after : List Line) (next : Then SecondStep) (c : Cert) → is_second_head m h ≡ true
-    → line ≡ second_head_line h → read_second_rest h next after ≡ Read c → Took (IsSecond m) second_step_lines next (line ∷ after) c
-second_rest_bw m (second_head.Trim kept) line after next c f g e =
+second_rest_bw : (v : ℕ) (m : Mode) (h : SecondHead) (line : Line) (after : List Line) (next : Then SecondStep) (c : Cert) → is_second_head v m h ≡ true
+    → line ≡ second_head_line v h → read_second_rest v h next after ≡ Read c → Took (IsSecond v m) (second_step_lines v) next (line ∷ after) c
+second_rest_bw v m (second_head.Trim kept) line after next c f g e =
     record { item = second.Trim kept; rest = after; fine = f; cut = ap (λ x. x ∷ after) g; on = e }
-second_rest_bw m (second_head.Merge by) line after next c f g e =
-    let t = classes_bw (λ classes. read_grounds by classes next) after c e in
-    let P : List Line → Type 0 = λ ls. Took (IsSecond m) second_step_lines next ls c in
-    subst P (sym (ap (λ x. x ∷ after) g ∙ ap (λ y. (spelled keyword.Merge ∷ way_tokens by) ∷ y) t.cut))
-    (merge_bw m by t.item t.rest next c f t.fine t.on)
-second_rest_bw m (second_head.Cut) line after next c f g e =
+second_rest_bw v m (second_head.Merge by) line after next c f g e =
+    let t = classes_bw (λ classes. read_grounds v by classes next) after c e in
+    let P : List Line → Type 0 = λ ls. Took (IsSecond v m) (second_step_lines v) next ls c in
+    subst P (sym (ap (λ x. x ∷ after) g ∙ ap (λ y. (spelled keyword.Merge ∷ way_tokens v by) ∷ y) t.cut))
+    (merge_bw v m by t.item t.rest next c f t.fine t.on)
+second_rest_bw v m (second_head.Cut) line after next c f g e =
     let l = line_bw (ascending_in keyword.Gone tail.SomeNumbers) (λ gone. next (second.Cut gone)) after c e in
     let r = sorted_bw keyword.Gone tail.SomeNumbers (λ ns. ns) l.line l.item l.told in
     let same : r.0 ≡ l.item = r.5 in
@@ -336,42 +329,42 @@ second_rest_bw m (second_head.Cut) line after next c f g e =
       on = l.on;
     }
 
-pub second_step_bw : (m : Mode) (next : Then SecondStep) (ls : List Line) (c : Cert)
-    → next_line (second_head_in m) (λ head. read_second_rest head next) ls ≡ Read c → Took (IsSecond m) second_step_lines next ls c
-second_step_bw m next ls c e =
-    let l = line_bw (second_head_in m) (λ head. read_second_rest head next) ls c e in
-    let f = second_head_bw m l.line l.item l.told in
-    let P : List Line → Type 0 = λ ls. Took (IsSecond m) second_step_lines next ls c in
-    subst P (sym l.cut) (second_rest_bw m l.item l.line l.rest next c f.0 f.1 l.on)
+pub second_step_bw : (v : ℕ) (m : Mode) (next : Then SecondStep) (ls : List Line) (c : Cert)
+    → next_line (second_head_in v m) (λ head. read_second_rest v head next) ls ≡ Read c → Took (IsSecond v m) (second_step_lines v) next ls c
+second_step_bw v m next ls c e =
+    let l = line_bw (second_head_in v m) (λ head. read_second_rest v head next) ls c e in
+    let f = second_head_bw v m l.line l.item l.told in
+    let P : List Line → Type 0 = λ ls. Took (IsSecond v m) (second_step_lines v) next ls c in
+    subst P (sym l.cut) (second_rest_bw v m l.item l.line l.rest next c f.0 f.1 l.on)
 
-abbrev pub AreSecond : Mode → ℕ → List SecondStep → Type 0
-AreSecond m n ss = (length ss ≡ n) × (list_all (is_second_step m) ss ≡ true)
+abbrev pub AreSecond : ℕ → Mode → ℕ → List SecondStep → Type 0
+AreSecond v m n ss = (length ss ≡ n) × (list_all (is_second_step v m) ss ≡ true)
 
-pub second_steps_bw : (m : Mode) (n : ℕ) (acc : List SecondStep) (next : Then (List SecondStep)) (ls : List Line) (c : Cert)
-    → read_second_steps m n acc next ls ≡ Read c
-    → Took (AreSecond m n) (λ ss. each second_step_lines ss) (λ ss rest. next (acc ++ ss) rest) ls c
-second_steps_bw m zero acc next ls c e =
+pub second_steps_bw : (v : ℕ) (m : Mode) (n : ℕ) (acc : List SecondStep) (next : Then (List SecondStep)) (ls : List Line) (c : Cert)
+    → read_second_steps v m n acc next ls ≡ Read c
+    → Took (AreSecond v m n) (λ ss. each (second_step_lines v) ss) (λ ss rest. next (acc ++ ss) rest) ls c
+second_steps_bw v m zero acc next ls c e =
     record { item = []; rest = ls; fine = (refl, refl); cut = refl; on = ap (λ x. next x ls) (append-nil acc) ∙ e }
-second_steps_bw m (suc n) acc next ls c e =
-    let l = second_step_bw m (λ step. read_second_steps m n (acc ++ step ∷ []) next) ls c e in
-    let t = second_steps_bw m n (acc ++ l.item ∷ []) next l.rest c l.on in
+second_steps_bw v m (suc n) acc next ls c e =
+    let l = second_step_bw v m (λ step. read_second_steps v m n (acc ++ step ∷ []) next) ls c e in
+    let t = second_steps_bw v m n (acc ++ l.item ∷ []) next l.rest c l.on in
     record {
       item = l.item ∷ t.item;
       rest = t.rest;
-      fine = (ap suc t.fine.0, and_from (is_second_step m l.item) _ l.fine t.fine.1);
-      cut = cut_cons second_step_lines l.item t.item ls l.rest t.rest l.cut t.cut;
+      fine = (ap suc t.fine.0, and_from (is_second_step v m l.item) _ l.fine t.fine.1);
+      cut = cut_cons (second_step_lines v) l.item t.item ls l.rest t.rest l.cut t.cut;
       on = ap (λ x. next x t.rest) (sym (append_assoc acc (l.item ∷ []) t.item)) ∙ t.on;
     }
 
-abbrev pub IsSecondLog : Mode → List SecondStep → Type 0
-IsSecondLog m ss = (is_short (length ss) ≡ true) × (list_all (is_second_step m) ss ≡ true)
+abbrev pub IsSecondLog : ℕ → Mode → List SecondStep → Type 0
+IsSecondLog v m ss = (is_short (length ss) ≡ true) × (list_all (is_second_step v m) ss ≡ true)
 
-pub second_log_bw : (m : Mode) (next : Then (List SecondStep)) (ls : List Line) (c : Cert) → read_second_log m next ls ≡ Read c
-    → Took (IsSecondLog m) second_lines next ls c
-second_log_bw m next ls c e =
-    let l = line_bw (number_in keyword.Log2) (λ n. read_second_steps m n [] next) ls c e in
+pub second_log_bw : (v : ℕ) (m : Mode) (next : Then (List SecondStep)) (ls : List Line) (c : Cert) → read_second_log v m next ls ≡ Read c
+    → Took (IsSecondLog v m) (second_lines v) next ls c
+second_log_bw v m next ls c e =
+    let l = line_bw (number_in keyword.Log2) (λ n. read_second_steps v m n [] next) ls c e in
     let f = number_bw keyword.Log2 l.line l.item l.told in
-    let t = second_steps_bw m l.item [] next l.rest c l.on in
+    let t = second_steps_bw v m l.item [] next l.rest c l.on in
     let head = ap (λ n. spelled keyword.Log2 ∷ decimal n ∷ []) (sym t.fine.0) in
     record {
       item = t.item;
@@ -476,10 +469,10 @@ pub record IsClosed (m : Mode) (k : Closed) : Type 0 where
   pub cover : are_short k.cover ≡ true
   pub steps : are_steps 0 k.elements k.steps ≡ true
 
-pub closed_bw : (m : Mode) (next : Then Closed) (ls : List Line) (c : Cert) → read_closed m next ls ≡ Read c
-    → Took (IsClosed m) (λ k. block_lines k.order ++ closed_lines k.elements k.cover k.steps) next ls c
-closed_bw m next ls c e =
-    let b = block_bw (λ order. read_all_elements m order next) ls c e in
+pub closed_bw : (v : ℕ) (m : Mode) (next : Then Closed) (ls : List Line) (c : Cert) → read_closed v m next ls ≡ Read c
+    → Took (IsClosed m) (λ k. block_lines v k.order ++ closed_lines k.elements k.cover k.steps) next ls c
+closed_bw v m next ls c e =
+    let b = block_bw v (λ order. read_all_elements m order next) ls c e in
     let n = line_bw (number_in keyword.Elements) (λ n. read_elements m n [] (λ elements. read_cover b.item elements next)) b.rest c b.on in
     let nf = number_bw keyword.Elements n.line n.item n.told in
     let es = elements_bw m n.item [] (λ elements. read_cover b.item elements next) n.rest c n.on in
@@ -506,7 +499,7 @@ closed_bw m next ls c e =
         cover = cf.0;
         steps = ss.fine;
       };
-      cut = b.cut ∙ ap (λ y. block_lines b.item ++ y) after_block ∙ sym (append_assoc (block_lines b.item) closed ss.rest);
+      cut = b.cut ∙ ap (λ y. block_lines v b.item ++ y) after_block ∙ sym (append_assoc (block_lines v b.item) closed ss.rest);
       on = ss.on;
     }
 
@@ -537,64 +530,64 @@ limited_bw m next ls c e =
     }
 
 -- The body.
-abbrev pub IsBodyOf : Mode → Answer → Body → Type 0
-IsBodyOf m a b = (is_body m b ≡ true) × (answer_of b ≡ a)
+abbrev pub IsBodyOf : ℕ → Mode → Answer → Body → Type 0
+IsBodyOf v m a b = (is_body v m b ≡ true) × (answer_of b ≡ a)
 
-abbrev pub TookBody : Mode → Answer → Then Body → List Line → Cert → Type 0
-TookBody m a next ls c = Took (IsBodyOf m a) body_lines next ls c
+abbrev pub TookBody : ℕ → Mode → Answer → Then Body → List Line → Cert → Type 0
+TookBody v m a next ls c = Took (IsBodyOf v m a) (body_lines v) next ls c
 
-logs_fine : (m : Mode) (firsts : List FirstStep) (seconds : List SecondStep) → IsFirstLog firsts → IsSecondLog m seconds → are_logs m firsts seconds ≡ true
-logs_fine m firsts seconds f s =
+logs_fine : (v : ℕ) (m : Mode) (firsts : List FirstStep) (seconds : List SecondStep) → IsFirstLog firsts → IsSecondLog v m seconds → are_logs v m firsts seconds ≡ true
+logs_fine v m firsts seconds f s =
     and_from (is_short (length firsts)) _ f.0
     (and_from (list_all is_first_step firsts) _ f.1 (and_from (is_short (length seconds)) _ s.0 s.1))
 
 three : (A B C rest : List Line) → A ++ (B ++ (C ++ rest)) ≡ (A ++ (B ++ C)) ++ rest
 three A B C rest = sym (append_assoc A (B ++ C) rest ∙ ap (λ y. A ++ y) (append_assoc B C rest))
 
-yes_bw : (m : Mode) (next : Then Body) (ls : List Line) (c : Cert) → read_logs m answer.Yes next ls ≡ Read c → TookBody m answer.Yes next ls c
-yes_bw m next ls c e =
-    let f = first_log_bw (λ firsts. read_after_first m answer.Yes firsts next) ls c e in
-    let s = second_log_bw m (λ seconds. read_evidence m answer.Yes f.item seconds next) f.rest c f.on in
-    let k = closed_bw m (λ closed. next (yes_of f.item s.item closed)) s.rest c s.on in
-    let C = block_lines k.item.order ++ closed_lines k.item.elements k.item.cover k.item.steps in
+yes_bw : (v : ℕ) (m : Mode) (next : Then Body) (ls : List Line) (c : Cert) → read_logs v m answer.Yes next ls ≡ Read c → TookBody v m answer.Yes next ls c
+yes_bw v m next ls c e =
+    let f = first_log_bw v (λ firsts. read_after_first v m answer.Yes firsts next) ls c e in
+    let s = second_log_bw v m (λ seconds. read_evidence v m answer.Yes f.item seconds next) f.rest c f.on in
+    let k = closed_bw v m (λ closed. next (yes_of f.item s.item closed)) s.rest c s.on in
+    let C = block_lines v k.item.order ++ closed_lines k.item.elements k.item.cover k.item.steps in
     record {
       item = yes_of f.item s.item k.item;
       rest = k.rest;
       fine = (
-        and_from (are_logs m f.item s.item) _ (logs_fine m f.item s.item f.fine s.fine)
+        and_from (are_logs v m f.item s.item) _ (logs_fine v m f.item s.item f.fine s.fine)
             (and_from (is_block k.item.order) _ k.fine.order
             (and_from (is_short (length k.item.elements)) _ k.fine.count
             (and_from (list_all (is_element m) k.item.elements) _ k.fine.elements
             (and_from (are_short k.item.cover) _ k.fine.cover k.fine.steps)))),
         refl,
       );
-      cut = f.cut ∙ ap (λ y. first_lines f.item ++ y) (s.cut ∙ ap (λ y. second_lines s.item ++ y) k.cut)
-          ∙ three (first_lines f.item) (second_lines s.item) C k.rest;
+      cut = f.cut ∙ ap (λ y. first_lines v f.item ++ y) (s.cut ∙ ap (λ y. second_lines v s.item ++ y) k.cut)
+          ∙ three (first_lines v f.item) (second_lines v s.item) C k.rest;
       on = k.on;
     }
 
-list_bw : (m : Mode) (next : Then Body) (ls : List Line) (c : Cert) → read_logs m answer.List next ls ≡ Read c → TookBody m answer.List next ls c
-list_bw m next ls c e =
-    let f = first_log_bw (λ firsts. read_after_first m answer.List firsts next) ls c e in
-    let s = second_log_bw m (λ seconds. read_evidence m answer.List f.item seconds next) f.rest c f.on in
+list_bw : (v : ℕ) (m : Mode) (next : Then Body) (ls : List Line) (c : Cert) → read_logs v m answer.List next ls ≡ Read c → TookBody v m answer.List next ls c
+list_bw v m next ls c e =
+    let f = first_log_bw v (λ firsts. read_after_first v m answer.List firsts next) ls c e in
+    let s = second_log_bw v m (λ seconds. read_evidence v m answer.List f.item seconds next) f.rest c f.on in
     let k = limited_bw m (λ limited. next (list_of f.item s.item limited)) s.rest c s.on in
     let C = limit_lines k.item.limit k.item.elements in
     record {
       item = list_of f.item s.item k.item;
       rest = k.rest;
       fine = (
-        and_from (are_logs m f.item s.item) _ (logs_fine m f.item s.item f.fine s.fine)
+        and_from (are_logs v m f.item s.item) _ (logs_fine v m f.item s.item f.fine s.fine)
             (and_from (is_short k.item.limit) _ k.fine.limit
             (and_from (is_short (length k.item.elements)) _ k.fine.count k.fine.elements)),
         refl,
       );
-      cut = f.cut ∙ ap (λ y. first_lines f.item ++ y) (s.cut ∙ ap (λ y. second_lines s.item ++ y) k.cut)
-          ∙ three (first_lines f.item) (second_lines s.item) C k.rest;
+      cut = f.cut ∙ ap (λ y. first_lines v f.item ++ y) (s.cut ∙ ap (λ y. second_lines v s.item ++ y) k.cut)
+          ∙ three (first_lines v f.item) (second_lines v s.item) C k.rest;
       on = k.on;
     }
 
-lasso_bw : (next : Then Body) (ls : List Line) (c : Cert) → read_lasso next ls ≡ Read c → TookBody mode.Buchi answer.No next ls c
-lasso_bw next ls c e =
+lasso_bw : (v : ℕ) (next : Then Body) (ls : List Line) (c : Cert) → read_lasso next ls ≡ Read c → TookBody v mode.Buchi answer.No next ls c
+lasso_bw v next ls c e =
     let p = line_bw (numbers_in keyword.Prefix tail.Numbers) (λ prefix. read_turn prefix next) ls c e in
     let pf = numbers_bw keyword.Prefix tail.Numbers p.line p.item p.told in
     let k = λ (turn : List ℕ). next (body.NoLasso (record { prefix = p.item; turn = turn })) in
@@ -609,8 +602,8 @@ lasso_bw next ls c e =
       on = t.on;
     }
 
-word_body_bw : (next : Then Body) (ls : List Line) (c : Cert) → read_word next ls ≡ Read c → TookBody mode.Finite answer.No next ls c
-word_body_bw next ls c e =
+word_body_bw : (v : ℕ) (next : Then Body) (ls : List Line) (c : Cert) → read_word next ls ≡ Read c → TookBody v mode.Finite answer.No next ls c
+word_body_bw v next ls c e =
     let p = line_bw (numbers_in keyword.Word tail.Numbers) (λ word. next (body.NoWord word)) ls c e in
     let pf = numbers_bw keyword.Word tail.Numbers p.line p.item p.told in
     record {
@@ -621,11 +614,11 @@ word_body_bw next ls c e =
       on = p.on;
     }
 
-pub body_bw : (m : Mode) (a : Answer) (next : Then Body) (ls : List Line) (c : Cert) → read_body m a next ls ≡ Read c → TookBody m a next ls c
-body_bw m (answer.Yes) next ls c e = yes_bw m next ls c e
-body_bw (mode.Buchi) (answer.No) next ls c e = lasso_bw next ls c e
-body_bw (mode.Finite) (answer.No) next ls c e = word_body_bw next ls c e
-body_bw m (answer.List) next ls c e = list_bw m next ls c e
+pub body_bw : (v : ℕ) (m : Mode) (a : Answer) (next : Then Body) (ls : List Line) (c : Cert) → read_body v m a next ls ≡ Read c → TookBody v m a next ls c
+body_bw v m (answer.Yes) next ls c e = yes_bw v m next ls c e
+body_bw v (mode.Buchi) (answer.No) next ls c e = lasso_bw v next ls c e
+body_bw v (mode.Finite) (answer.No) next ls c e = word_body_bw v next ls c e
+body_bw v m (answer.List) next ls c e = list_bw v m next ls c e
 
 bare_is : (piece : Line) → is_bare piece ≡ true → piece ≡ [] ∷ []
 bare_is [] e = absurd (cc)
@@ -649,25 +642,27 @@ pub cert_bw : (ls : List Line) (c : Cert) → read_lines ls ≡ Read c → (has_
 cert_bw ls c e =
     let bare : List Line = ([] ∷ []) ∷ [] in
     let h = line_bw heading_in read_sizes ls c e in
+    let v = h.item.version in
     let hf = heading_bw h.line h.item h.told in
     let s = line_bw sizes_in (read_rest h.item) h.rest c h.on in
     let sf = sizes_bw s.line s.item s.told in
-    let k = λ (b : Body). read_end (cert_of h.item.mode s.item b) in
-    let b = body_bw h.item.mode h.item.answer k s.rest c s.on in
-    let own = cert_of h.item.mode s.item b.item in
+    let k = λ (b : Body). read_end (cert_of v h.item.mode s.item b) in
+    let b = body_bw v h.item.mode h.item.answer k s.rest c s.on in
+    let own = cert_of v h.item.mode s.item b.item in
     let z = line_bw (word_in keyword.End) (λ u. finish own) b.rest c b.on in
     let zf = word_bw keyword.End z.line z.item z.told in
     let f = finish_bw own c z.rest z.on in
-    let B = body_lines b.item in
-    let first : h.line ≡ first_line h.item.mode (answer_of b.item) = hf ∙ ap (λ a. first_line h.item.mode a) (sym b.fine.1) in
+    let B = body_lines v b.item in
+    let first : h.line ≡ first_line v h.item.mode (answer_of b.item) = hf.1 ∙ ap (λ a. first_line v h.item.mode a) (sym b.fine.1) in
     let last : b.rest ≡ end_line ∷ bare = z.cut ∙ ap (λ x. x ∷ z.rest) zf ∙ ap (λ y. end_line ∷ y) f.1 in
     let after_sizes : s.rest ≡ (B ++ end_line ∷ []) ++ bare =
     b.cut ∙ ap (λ y. B ++ y) last ∙ sym (append_assoc B (end_line ∷ []) bare) in
     let sizes = sizes_line s.item.first_states s.item.second_states s.item.labels in
     let P : Cert → Type 0 = λ c. (has_text c ≡ true) × (ls ≡ cert_lines c ++ bare) in
     subst P f.0 (
-      and_from (is_short s.item.first_states) _ sf.0
-          (and_from (is_short s.item.second_states) _ sf.1 (and_from (is_short s.item.labels) _ sf.2 b.fine.0)),
+      and_from (is_version v) _ hf.0
+          (and_from (is_short s.item.first_states) _ sf.0
+          (and_from (is_short s.item.second_states) _ sf.1 (and_from (is_short s.item.labels) _ sf.2 b.fine.0))),
       h.cut ∙ ap (λ x. x ∷ h.rest) first
-          ∙ ap (λ y. first_line h.item.mode (answer_of b.item) ∷ y) (s.cut ∙ ap (λ x. x ∷ s.rest) sf.3 ∙ ap (λ y. sizes ∷ y) after_sizes),
+          ∙ ap (λ y. first_line v h.item.mode (answer_of b.item) ∷ y) (s.cut ∙ ap (λ x. x ∷ s.rest) sf.3 ∙ ap (λ y. sizes ∷ y) after_sizes),
     )

@@ -1,12 +1,12 @@
-use Rattle.std.proofs.Common.{◌≡◌, ℕ, zero, suc, ◌<◌, ◌≤◌, ◌+◌, ◌/◌, ◌%◌, ◌==◌, List, [], ◌∷◌, ◌++◌, length, map, Bool, true, false, not, ◌&&◌, cond, nat_lt, decimal, refl, sym, ap, ◌∙◌, subst, arith, ne_eqb, lt-ltb, ltb-true, append_assoc, append-nil, mod-lt, lit<}
+use Rattle.std.proofs.Common.{◌≡◌, ℕ, zero, suc, ◌<◌, ◌≤◌, ◌+◌, ◌/◌, ◌%◌, ◌==◌, List, [], ◌∷◌, ◌++◌, map, Bool, true, false, not, nat_lt, decimal, refl, sym, ap, ◌∙◌, arith, ne_eqb, lt-ltb, ltb-true, append_assoc, append-nil, mod-lt, lit<}
 use Rattle.std.specs.List.{list_all, slice_split, onto_first, join_with_byte}
 use Rattle.std.specs.Fmt.{digits, digits_onto, digit_glyph}
 use Rattle.std.proofs.lemmas.List.Splits.{slice_split-cons_yes, slice_split-cons_no, join_with_byte-slice_split}
 use Rattle.std.proofs.lemmas.List.Folds.{list_all-append}
-use Rattle.std.proofs.lemmas.Bool.{and_parts, and_from, not-true, cond-true, cond_both}
+use Rattle.std.proofs.lemmas.Bool.{and_parts, and_from, not-true, cond_both}
 use Rattle.cert_value.specs.declared.keywords.Keyword.{Keyword}
 use Rattle.cert_value.specs.declared.keywords.Keyword.TheVariants as keyword
-use Rattle.cert_value.specs.Text.{Line, spelled, spaced, line_text, text_of, numbers}
+use Rattle.cert_value.specs.Text.{Line, spelled, line_text, text_of, numbers}
 use Rattle.cert_value.specs.Tokens.{tokens_of}
 use Rattle.cert_text.specs.Grammar.{lines_of}
 
@@ -59,6 +59,7 @@ spelled_plain (keyword.List) = refl
 spelled_plain (keyword.No) = refl
 spelled_plain (keyword.One) = refl
 spelled_plain (keyword.RabitCert) = refl
+spelled_plain (keyword.Two) = refl
 spelled_plain (keyword.Yes) = refl
 spelled_plain (keyword.Word) = refl
 

@@ -1,7 +1,7 @@
-use Rattle.std.proofs.Common.{◌≡◌, ℕ, zero, suc, ◌<◌, ◌≤◌, ◌+◌, ◌==◌, List, [], ◌∷◌, ◌++◌, length, map, zip, drop, Bool, true, false, not, ◌&&◌, ◌||◌, cond, nat_lt, nat_le, decimal, Option, Some, None, Result, Ok, Err, bytes_eq, get_or, refl, sym, ap, ◌∙◌, subst, arith, ⊎_elim, inl, inr, ◌⊎◌, ne_eqb, le-leb, leb-true, lt-ltb, add-one}
-use Rattle.std.specs.List.{list_all, list_any}
+use Rattle.std.proofs.Common.{◌≡◌, ℕ, suc, ◌≤◌, ◌+◌, ◌==◌, List, [], ◌∷◌, length, zip, drop, Bool, true, false, not, ◌||◌, cond, nat_lt, nat_le, decimal, Option, Some, None, Ok, Err, bytes_eq, refl, sym, ap, ◌∙◌, arith, inl, inr, ◌⊎◌, ne_eqb, le-leb, leb-true, lt-ltb, add-one}
+use Rattle.std.specs.List.{list_all}
 use Rattle.std.proofs.lemmas.Slice.Eq.{bytes_eq-Decides}
-use Rattle.std.proofs.lemmas.Bool.{and_parts, and_from, or_right, or_from, cond-true, cond-false, or_cases}
+use Rattle.std.proofs.lemmas.Bool.{and_parts, and_from, or_right, or_from, cond-true, cond-false}
 use Rattle.cert_value.specs.declared.keywords.Keyword.{Keyword}
 use Rattle.cert_value.specs.declared.keywords.Keyword.TheVariants as keyword
 use Rattle.cert_text.specs.declared.forms.Place.{Place}
@@ -11,12 +11,12 @@ use Rattle.cert_text.specs.declared.forms.Tail.TheVariants as tail
 use Rattle.cert_text.specs.declared.faults.TextKind.{TextKind}
 use Rattle.cert_text.specs.declared.faults.TextKind.TheVariants as kind
 use Rattle.cert_value.specs.Text.{Line, spelled, numbers}
-use Rattle.cert_value.specs.WellFormed.{is_short, are_short, has_some}
-use Rattle.cert_text.specs.Forms.{is_number, value, has_empty, has_word, has_number, fits, is_closed, has_numbers, may_follow, has_count, line_fault, value_at, values_from}
-use Rattle.cert_text.specs.Lines.{Said, unless, as_form, in_order, either}
+use Rattle.cert_value.specs.WellFormed.{is_short, are_short}
+use Rattle.cert_text.specs.Forms.{is_number, value, has_empty, has_number, fits, is_closed, has_numbers, may_follow, has_count, line_fault, value_at, values_from}
+use Rattle.cert_text.specs.Lines.{Said, unless, as_form, in_order}
 use Rattle.cert_text.proofs.FormLemmas.{front_is}
 use Rattle.cert_value.proofs.SplitLemmas.{drop_one}
-use Rattle.cert_text.proofs.NumberFacts.{numeral, decimal_value, value_short, number_decimal, numbers_are, numbers_values, values_short}
+use Rattle.cert_text.proofs.NumberFacts.{numeral, decimal_value, value_short, number_decimal, numbers_values, values_short}
 
 -- The line that these places say, with these numbers in them and these tokens after them.
 abbrev pub filled : List Place → List ℕ → Line → Line
@@ -72,6 +72,7 @@ spelled_some (keyword.List) = refl
 spelled_some (keyword.No) = refl
 spelled_some (keyword.One) = refl
 spelled_some (keyword.RabitCert) = refl
+spelled_some (keyword.Two) = refl
 spelled_some (keyword.Yes) = refl
 spelled_some (keyword.Word) = refl
 
@@ -196,7 +197,7 @@ rest_numbers : (t : Tail) (ts : Line) → (is_closed t || list_all is_number ts)
 rest_numbers (tail.Nothing) ts e m = ap (λ xs. list_all is_number xs) (nothing_left ts m)
 rest_numbers (tail.Numbers) ts e m = e
 rest_numbers (tail.SomeNumbers) ts e m = e
-rest_numbers (tail.SomePairs) ts e m = e
+rest_numbers (tail.Pairs k) ts e m = e
 
 -- A line without a fault is filled with its own numbers.
 pub record Filled (ps : List Place) (t : Tail) (ts : Line) : Type 0 where

@@ -1,7 +1,7 @@
-use Rattle.std.proofs.Common.{◌≡◌, ℕ, zero, suc, ◌+◌, List, [], ◌∷◌, drop, get_or, true, refl}
+use Rattle.std.proofs.Common.{◌≡◌, ℕ, zero, suc, List, [], ◌∷◌, drop, get_or, true, refl}
 use Rattle.cert_text.specs.declared.forms.Place.{Place}
 use Rattle.cert_text.specs.declared.forms.Tail.{Tail}
-use Rattle.cert_text.specs.declared.forms.Tail.TheVariants.{Nothing, Numbers, SomeNumbers, SomePairs}
+use Rattle.cert_text.specs.declared.forms.Tail.TheVariants.{Nothing, Numbers, SomeNumbers, Pairs}
 use Rattle.cert_text.specs.Forms.{fits, has_numbers}
 
 -- what is true of every line without tokens
@@ -13,11 +13,11 @@ pub has_numbers_none : (places : List Place) (tail : Tail) → has_numbers place
 has_numbers_none [] Nothing = refl
 has_numbers_none [] Numbers = refl
 has_numbers_none [] SomeNumbers = refl
-has_numbers_none [] SomePairs = refl
+has_numbers_none [] (Pairs k) = refl
 has_numbers_none (place ∷ places) Nothing = refl
 has_numbers_none (place ∷ places) Numbers = refl
 has_numbers_none (place ∷ places) SomeNumbers = refl
-has_numbers_none (place ∷ places) SomePairs = refl
+has_numbers_none (place ∷ places) (Pairs k) = refl
 
 -- the first of what is left from an index on
 pub front_is : {X : Type 0} (xs : List X) (n : ℕ) (x d : X) (rest : List X) → drop n xs ≡ x ∷ rest → get_or xs n d ≡ x

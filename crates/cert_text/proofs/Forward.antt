@@ -1,14 +1,9 @@
-use Rattle.std.proofs.Common.{◌≡◌, refl, sym, ap, ap₂, subst, ◌∙◌, append_assoc, append-nil, arith, eqb-true, ⊎_elim, inl, inr, ◌⊎◌, ◌<◌, ◌≤◌, nat_lt, nat_le, decimal, add-one, ℕ, zero, suc, ◌+◌, ◌-◌, List, [], ◌∷◌, ◌++◌, length, map, Bool, true, false, not, ◌&&◌, Result, Ok, Err, cond, ◌==◌}
-use Rattle.std.specs.List.{slice_split}
+use Rattle.std.proofs.Common.{◌≡◌, refl, sym, ap, ◌∙◌, append_assoc, append-nil, eqb-true, nat_lt, decimal, ℕ, ◌+◌, List, [], ◌∷◌, ◌++◌, length, Bool, true, false, ◌&&◌, Ok, cond, ◌==◌}
 use Rattle.auto_core.specs.declared.parts.Mode.{Mode}
 use Rattle.auto_core.specs.declared.parts.Mode.TheVariants as mode
 use Rattle.auto_core.specs.declared.parts.Origin.{Origin}
 use Rattle.cert_value.specs.declared.keywords.Keyword.TheVariants as keyword
 use Rattle.cert_text.specs.declared.forms.Tail.TheVariants as tail
-use Rattle.cert_text.specs.declared.faults.TextKind.{TextKind}
-use Rattle.cert_text.specs.declared.faults.TextKind.TheVariants.{Truncated, Trailing}
-use Rattle.cert_text.specs.declared.faults.TextFault.{TextFault}
-use Rattle.cert_value.specs.declared.types.Answer.{Answer}
 use Rattle.cert_value.specs.declared.types.Answer.TheVariants as answer
 use Rattle.cert_value.specs.declared.types.Cert.{Cert}
 use Rattle.cert_value.specs.declared.types.Body.{Body}
@@ -28,25 +23,21 @@ use Rattle.cert_text.specs.declared.parts.Closed.{Closed}
 use Rattle.cert_text.specs.declared.parts.Limited.{Limited}
 use Rattle.cert_text.specs.declared.lines.Sizes.{Sizes}
 use Rattle.cert_text.specs.declared.lines.Heading.{Heading}
-use Rattle.cert_text.specs.declared.heads.FirstHead.{FirstHead}
 use Rattle.cert_text.specs.declared.heads.FirstHead.TheVariants as first_head
-use Rattle.cert_text.specs.declared.heads.SecondHead.{SecondHead}
 use Rattle.cert_text.specs.declared.heads.SecondHead.TheVariants as second_head
 use Rattle.cert_text.specs.declared.heads.Way.{Way}
 use Rattle.cert_text.specs.declared.heads.Way.TheVariants as way
-use Rattle.cert_value.specs.Text.{Line, spelled, numbers, each, row_lines, block_lines, rank_row_lines, rank_block_lines, classes_line, first_step_lines, merge_lines, second_step_lines, origin_line, origin_lines, mark_tokens, element_lines, step_lines, first_lines, second_lines, elements_line, closed_lines, yes_lines, limit_lines, list_lines, body_lines, answer_of, first_line, sizes_line, end_line, cert_lines, gone_numbers, ranked_numbers}
+use Rattle.cert_value.specs.Text.{Line, spelled, numbers, row_numbers, each, row_lines, block_lines, rank_row_lines, rank_block_lines, classes_line, first_step_lines, merge_lines, second_step_lines, origin_line, origin_lines, mark_tokens, element_lines, step_lines, first_lines, second_lines, elements_line, closed_lines, limit_lines, body_lines, answer_of, first_line, sizes_line, end_line, cert_lines, gone_numbers, ranked_numbers}
 use Rattle.cert_value.specs.declared.types.Grounds.{Grounds}
-use Rattle.cert_value.specs.declared.types.GoneBy.{GoneBy}
-use Rattle.auto_core.specs.declared.parts.Origin.TheVariants as origin
-use Rattle.cert_value.specs.Tokens.{tokens_of}
-use Rattle.cert_value.specs.WellFormed.{blocks_due, is_live, has_some, is_short, are_short, ascend, is_row, are_rows, is_block, is_rank_row, are_rank_rows, is_rank_block, are_gone, are_kept, are_classes, is_cut, is_first_step, are_grounds, is_second_step, is_origin, is_element, is_step_of, are_steps, are_logs, is_yes, is_lasso, is_listing, is_body, has_text}
+use Rattle.cert_value.specs.WellFormed.{is_version, are_letters, rank_key, blocks_due, is_live, has_some, is_short, are_short, ascend, is_row, are_rows, is_block, is_rank_row, are_rank_rows, is_rank_block, are_gone, are_classes, is_first_step, are_grounds, is_second_step, is_origin, is_element, is_step_of, are_steps, are_logs, is_body, has_text}
 use Rattle.cert_text.specs.Lines.{Said, word_in, number_in, numbers_in, ascending_in, sizes_in, heading_in, row_in, rank_row_in, gone_by_in, first_head_in, second_head_in, origin_in, element_in, step_in}
-use Rattle.cert_text.specs.Grammar.{ReadOutcome, Read, Stopped, Then, after, next_line, read_rows, read_block, read_rank_rows, read_rank_block, read_blocks, read_classes, read_first_rest, read_first_steps, read_grounds, read_second_rest, read_second_steps, read_elements, read_steps, read_origins, read_cover, read_all_elements, read_closed, read_all_origins, read_limited, read_first_log, read_second_log, read_turn, read_lasso, read_word, yes_of, list_of, read_evidence, read_after_first, read_logs, read_body, is_bare, finish, cert_of, read_end, read_rest, read_sizes, read_lines}
+use Rattle.cert_text.specs.Grammar.{Then, after, next_line, read_rows, read_block, read_rank_rows, read_rank_block, read_blocks, read_classes, read_first_rest, read_first_steps, read_grounds, read_second_rest, read_second_steps, read_elements, read_steps, read_origins, read_cover, read_all_elements, read_closed, read_all_origins, read_limited, read_first_log, read_second_log, read_turn, yes_of, list_of, read_evidence, read_after_first, read_body, finish, cert_of, read_end, read_rest, read_sizes, read_lines}
 use Rattle.std.specs.List.{list_all}
-use Rattle.std.proofs.lemmas.Bool.{and_parts, and_from, cond-true, cond-false, cases_Bool, ltb-true}
-use Rattle.cert_text.proofs.LineFacts.{word_fw, word_bw, number_fw, number_bw, numbers_fw, numbers_bw, sorted_fw, sorted_bw, sizes_fw, sizes_bw, row_fw, row_bw, rank_row_fw, rank_row_bw, gone_fw, gone_bw, step_fw, step_bw, some_numbers, numbers_some, some_cons}
-use Rattle.cert_text.proofs.HeadFacts.{first_head_line, is_first_head, first_head_fw, first_head_bw, way_tokens, second_head_line, is_way, is_second_head, second_head_fw, second_head_bw}
-use Rattle.cert_text.proofs.OriginFacts.{origin_fw, origin_bw, element_fw, element_bw, heading_fw, heading_bw}
+use Rattle.std.proofs.lemmas.Bool.{and_parts, and_from}
+use Rattle.cert_text.proofs.PairLemmas.{some_cons}
+use Rattle.cert_text.proofs.LineFacts.{word_fw, number_fw, numbers_fw, sorted_fw, sizes_fw, row_fw, rank_row_fw, gone_fw, step_fw, some_numbers}
+use Rattle.cert_text.proofs.HeadFacts.{first_head_fw, way_tokens, is_way, second_head_fw}
+use Rattle.cert_text.proofs.OriginFacts.{origin_fw, element_fw, heading_fw}
 
 -- a whole line is read
 pub line_fw : {A : Type 0} (said : Line → Said A) (next : Then A) (line : Line) (a : A) (rest : List Line) → said line ≡ Ok a
@@ -59,60 +50,61 @@ some_append [] rest h = h
 some_append (l ∷ ls) rest h = some_cons l (ls ++ rest)
 
 -- Rows.
-pub rows_fw : (rows acc : List Row) (bound : ℕ) (next : Then (List Row)) (rest : List Line) → are_rows bound rows ≡ true → has_some rest ≡ true
-    → read_rows (length rows) bound acc next (each row_lines rows ++ rest) ≡ next (acc ++ rows) rest
-rows_fw [] acc bound next rest e h = ap (λ x. next x rest) (sym (append-nil acc))
-rows_fw (row ∷ rows) acc bound next rest e h =
+pub rows_fw : (v : ℕ) (rows acc : List Row) (bound : ℕ) (next : Then (List Row)) (rest : List Line) → are_rows bound rows ≡ true → has_some rest ≡ true
+    → read_rows v (length rows) bound acc next (each (row_lines v) rows ++ rest) ≡ next (acc ++ rows) rest
+rows_fw v [] acc bound next rest e h = ap (λ x. next x rest) (sym (append-nil acc))
+rows_fw v (row ∷ rows) acc bound next rest e h =
     let a = and_parts (is_row bound row) _ e in
-    line_fw (row_in bound) (λ row. read_rows (length rows) (row.left + 1) (acc ++ row ∷ []) next)
-    (spelled keyword.Row ∷ decimal row.left ∷ numbers row.rights) row (each row_lines rows ++ rest) (row_fw bound row a.0)
-    (some_append (each row_lines rows) rest h)
-    ∙ rows_fw rows (acc ++ row ∷ []) (row.left + 1) next rest a.1 h
+    line_fw (row_in v bound) (λ row. read_rows v (length rows) (row.left + 1) (acc ++ row ∷ []) next)
+    (spelled keyword.Row ∷ decimal row.left ∷ numbers (row_numbers v row.runs)) row (each (row_lines v) rows ++ rest) (row_fw v bound row a.0)
+    (some_append (each (row_lines v) rows) rest h)
+    ∙ rows_fw v rows (acc ++ row ∷ []) (row.left + 1) next rest a.1 h
     ∙ ap (λ x. next x rest) (append_assoc acc (row ∷ []) rows)
 
-pub block_fw : (b : RelBlock) (next : Then RelBlock) (rest : List Line) → is_block b ≡ true → has_some rest ≡ true
-    → read_block next (block_lines b ++ rest) ≡ next b rest
-block_fw b next rest e h =
+pub block_fw : (v : ℕ) (b : RelBlock) (next : Then RelBlock) (rest : List Line) → is_block b ≡ true → has_some rest ≡ true
+    → read_block v next (block_lines v b ++ rest) ≡ next b rest
+block_fw v b next rest e h =
     let a = and_parts (is_short (length b.rows)) _ e in
-    line_fw (number_in keyword.Rel) (λ n. read_rows n 0 [] (λ rows. next (record { rows = rows })))
-    (spelled keyword.Rel ∷ decimal (length b.rows) ∷ []) (length b.rows) (each row_lines b.rows ++ rest)
-    (number_fw keyword.Rel (length b.rows) a.0) (some_append (each row_lines b.rows) rest h)
-    ∙ rows_fw b.rows [] 0 (λ rows. next (record { rows = rows })) rest a.1 h
+    line_fw (number_in keyword.Rel) (λ n. read_rows v n 0 [] (λ rows. next (record { rows = rows })))
+    (spelled keyword.Rel ∷ decimal (length b.rows) ∷ []) (length b.rows) (each (row_lines v) b.rows ++ rest)
+    (number_fw keyword.Rel (length b.rows) a.0) (some_append (each (row_lines v) b.rows) rest h)
+    ∙ rows_fw v b.rows [] 0 (λ rows. next (record { rows = rows })) rest a.1 h
 
-pub rank_rows_fw : (rows acc : List RankRow) (bound : ℕ) (next : Then (List RankRow)) (rest : List Line) → are_rank_rows bound rows ≡ true
-    → has_some rest ≡ true → read_rank_rows (length rows) bound acc next (each rank_row_lines rows ++ rest) ≡ next (acc ++ rows) rest
-rank_rows_fw [] acc bound next rest e h = ap (λ x. next x rest) (sym (append-nil acc))
-rank_rows_fw (row ∷ rows) acc bound next rest e h =
-    let a = and_parts (is_rank_row bound row) _ e in
-    line_fw (rank_row_in bound) (λ row. read_rank_rows (length rows) (row.left + 1) (acc ++ row ∷ []) next)
-    (spelled keyword.Row ∷ decimal row.left ∷ numbers (ranked_numbers row.rights)) row (each rank_row_lines rows ++ rest)
-    (rank_row_fw bound row a.0) (some_append (each rank_row_lines rows) rest h)
-    ∙ rank_rows_fw rows (acc ++ row ∷ []) (row.left + 1) next rest a.1 h
+pub rank_rows_fw : (letters : ℕ) (rows acc : List RankRow) (key : List ℕ) (next : Then (List RankRow)) (rest : List Line)
+    → are_rank_rows letters key rows ≡ true → has_some rest ≡ true
+    → read_rank_rows letters (length rows) key acc next (each rank_row_lines rows ++ rest) ≡ next (acc ++ rows) rest
+rank_rows_fw letters [] acc key next rest e h = ap (λ x. next x rest) (sym (append-nil acc))
+rank_rows_fw letters (row ∷ rows) acc key next rest e h =
+    let a = and_parts (is_rank_row letters key row) _ e in
+    line_fw (rank_row_in letters key) (λ row. read_rank_rows letters (length rows) (rank_key row) (acc ++ row ∷ []) next)
+    (spelled keyword.Row ∷ decimal row.left ∷ numbers (row.ahead ++ ranked_numbers row.rights)) row (each rank_row_lines rows ++ rest)
+    (rank_row_fw letters key row a.0) (some_append (each rank_row_lines rows) rest h)
+    ∙ rank_rows_fw letters rows (acc ++ row ∷ []) (rank_key row) next rest a.1 h
     ∙ ap (λ x. next x rest) (append_assoc acc (row ∷ []) rows)
 
-pub rank_block_fw : (b : RankBlock) (next : Then RankBlock) (rest : List Line) → is_rank_block b ≡ true → has_some rest ≡ true
-    → read_rank_block next (rank_block_lines b ++ rest) ≡ next b rest
-rank_block_fw b next rest e h =
+pub rank_block_fw : (letters : ℕ) (b : RankBlock) (next : Then RankBlock) (rest : List Line) → is_rank_block letters b ≡ true → has_some rest ≡ true
+    → read_rank_block letters next (rank_block_lines b ++ rest) ≡ next b rest
+rank_block_fw letters b next rest e h =
     let a = and_parts (is_short (length b.rows)) _ e in
-    line_fw (number_in keyword.Rel) (λ n. read_rank_rows n 0 [] (λ rows. next (record { rows = rows })))
+    line_fw (number_in keyword.Rel) (λ n. read_rank_rows letters n [] [] (λ rows. next (record { rows = rows })))
     (spelled keyword.Rel ∷ decimal (length b.rows) ∷ []) (length b.rows) (each rank_row_lines b.rows ++ rest)
     (number_fw keyword.Rel (length b.rows) a.0) (some_append (each rank_row_lines b.rows) rest h)
-    ∙ rank_rows_fw b.rows [] 0 (λ rows. next (record { rows = rows })) rest a.1 h
+    ∙ rank_rows_fw letters b.rows [] [] (λ rows. next (record { rows = rows })) rest a.1 h
 
 -- the lines of the first item stand before those of the others
 pub each_cons : {A : Type 0} (f : A → List Line) (x : A) (xs : List A) (rest : List Line)
     → each f (x ∷ xs) ++ rest ≡ f x ++ (each f xs ++ rest)
 each_cons f x xs rest = append_assoc (f x) (each f xs) rest
 
-pub blocks_fw : (bs acc : List RelBlock) (next : Then (List RelBlock)) (rest : List Line) → list_all is_block bs ≡ true
-    → has_some rest ≡ true → read_blocks (length bs) acc next (each block_lines bs ++ rest) ≡ next (acc ++ bs) rest
-blocks_fw [] acc next rest e h = ap (λ x. next x rest) (sym (append-nil acc))
-blocks_fw (b ∷ bs) acc next rest e h =
+pub blocks_fw : (v : ℕ) (bs acc : List RelBlock) (next : Then (List RelBlock)) (rest : List Line) → list_all is_block bs ≡ true
+    → has_some rest ≡ true → read_blocks v (length bs) acc next (each (block_lines v) bs ++ rest) ≡ next (acc ++ bs) rest
+blocks_fw v [] acc next rest e h = ap (λ x. next x rest) (sym (append-nil acc))
+blocks_fw v (b ∷ bs) acc next rest e h =
     let a = and_parts (is_block b) (list_all is_block bs) e in
-    let k : Then RelBlock = λ block. read_blocks (length bs) (acc ++ block ∷ []) next in
-    ap (λ ls. read_block k ls) (each_cons block_lines b bs rest)
-    ∙ block_fw b k (each block_lines bs ++ rest) a.0 (some_append (each block_lines bs) rest h)
-    ∙ blocks_fw bs (acc ++ b ∷ []) next rest a.1 h
+    let k : Then RelBlock = λ block. read_blocks v (length bs) (acc ++ block ∷ []) next in
+    ap (λ ls. read_block v k ls) (each_cons (block_lines v) b bs rest)
+    ∙ block_fw v b k (each (block_lines v) bs ++ rest) a.0 (some_append (each (block_lines v) bs) rest h)
+    ∙ blocks_fw v bs (acc ++ b ∷ []) next rest a.1 h
     ∙ ap (λ x. next x rest) (append_assoc acc (b ∷ []) bs)
 
 pub classes_fw : (classes : List ℕ) (next : Then (List ℕ)) (rest : List Line) → are_classes classes ≡ true → has_some rest ≡ true
@@ -123,16 +115,16 @@ classes_fw classes next rest e h =
     (numbers_fw keyword.Classes tail.SomeNumbers classes a.0 (some_numbers classes a.1)) h
 
 -- Steps of the first log.
-pub first_step_fw : (s : FirstStep) (next : Then FirstStep) (rest : List Line) → is_first_step s ≡ true → has_some rest ≡ true
-    → next_line first_head_in (λ head. read_first_rest head next) (first_step_lines s ++ rest) ≡ next s rest
-first_step_fw (first.Trim kept) next rest e h =
-    line_fw first_head_in (λ head. read_first_rest head next) (spelled keyword.Trim ∷ numbers kept) (first_head.Trim kept) rest
+pub first_step_fw : (v : ℕ) (s : FirstStep) (next : Then FirstStep) (rest : List Line) → is_first_step s ≡ true → has_some rest ≡ true
+    → next_line first_head_in (λ head. read_first_rest v head next) (first_step_lines v s ++ rest) ≡ next s rest
+first_step_fw v (first.Trim kept) next rest e h =
+    line_fw first_head_in (λ head. read_first_rest v head next) (spelled keyword.Trim ∷ numbers kept) (first_head.Trim kept) rest
     (first_head_fw (first_head.Trim kept) e) h
-first_step_fw (first.Merge classes) next rest e h =
-    line_fw first_head_in (λ head. read_first_rest head next) (spelled keyword.Merge ∷ []) first_head.Merge (classes_line classes ∷ rest)
+first_step_fw v (first.Merge classes) next rest e h =
+    line_fw first_head_in (λ head. read_first_rest v head next) (spelled keyword.Merge ∷ []) first_head.Merge (classes_line classes ∷ rest)
     (first_head_fw first_head.Merge refl) (some_cons (classes_line classes) rest)
     ∙ classes_fw classes (λ classes. next (first.Merge classes)) rest e h
-first_step_fw (first.Cut pair look gone blocks) next rest e h =
+first_step_fw v (first.Cut pair look gone blocks) next rest e h =
     let a = and_parts (nat_lt 0 (blocks_due pair)) _ e in
     let b = and_parts (is_short look) _ a.1 in
     let c = and_parts (are_gone gone) _ b.1 in
@@ -140,92 +132,94 @@ first_step_fw (first.Cut pair look gone blocks) next rest e h =
     let gone_line = spelled keyword.Gone ∷ numbers (gone_numbers gone) in
     let k : Then (List RelBlock) = λ blocks. next (first.Cut pair look gone blocks) in
     let due : length blocks ≡ blocks_due pair = eqb-true (length blocks) (blocks_due pair) d.0 in
-    line_fw first_head_in (λ head. read_first_rest head next) (spelled keyword.Cut ∷ decimal pair ∷ decimal look ∷ [])
-    (first_head.Cut pair look) (gone_line ∷ (each block_lines blocks ++ rest))
-    (first_head_fw (first_head.Cut pair look) (and_from _ (is_short look) a.0 b.0)) (some_cons gone_line (each block_lines blocks ++ rest))
-    ∙ line_fw gone_by_in (λ gone. read_blocks (blocks_due pair) [] (λ blocks. next (first.Cut pair look gone blocks))) gone_line gone
-    (each block_lines blocks ++ rest) (gone_fw gone c.0) (some_append (each block_lines blocks) rest h)
-    ∙ ap (λ n. read_blocks n [] k (each block_lines blocks ++ rest)) (sym due)
-    ∙ blocks_fw blocks [] k rest d.1 h
+    line_fw first_head_in (λ head. read_first_rest v head next) (spelled keyword.Cut ∷ decimal pair ∷ decimal look ∷ [])
+    (first_head.Cut pair look) (gone_line ∷ (each (block_lines v) blocks ++ rest))
+    (first_head_fw (first_head.Cut pair look) (and_from _ (is_short look) a.0 b.0)) (some_cons gone_line (each (block_lines v) blocks ++ rest))
+    ∙ line_fw gone_by_in (λ gone. read_blocks v (blocks_due pair) [] (λ blocks. next (first.Cut pair look gone blocks))) gone_line gone
+    (each (block_lines v) blocks ++ rest) (gone_fw gone c.0) (some_append (each (block_lines v) blocks) rest h)
+    ∙ ap (λ n. read_blocks v n [] k (each (block_lines v) blocks ++ rest)) (sym due)
+    ∙ blocks_fw v blocks [] k rest d.1 h
 
-pub first_steps_fw : (ss acc : List FirstStep) (next : Then (List FirstStep)) (rest : List Line) → list_all is_first_step ss ≡ true
-    → has_some rest ≡ true → read_first_steps (length ss) acc next (each first_step_lines ss ++ rest) ≡ next (acc ++ ss) rest
-first_steps_fw [] acc next rest e h = ap (λ x. next x rest) (sym (append-nil acc))
-first_steps_fw (s ∷ ss) acc next rest e h =
+pub first_steps_fw : (v : ℕ) (ss acc : List FirstStep) (next : Then (List FirstStep)) (rest : List Line) → list_all is_first_step ss ≡ true
+    → has_some rest ≡ true → read_first_steps v (length ss) acc next (each (first_step_lines v) ss ++ rest) ≡ next (acc ++ ss) rest
+first_steps_fw v [] acc next rest e h = ap (λ x. next x rest) (sym (append-nil acc))
+first_steps_fw v (s ∷ ss) acc next rest e h =
     let a = and_parts (is_first_step s) (list_all is_first_step ss) e in
-    let k : Then FirstStep = λ step. read_first_steps (length ss) (acc ++ step ∷ []) next in
-    ap (λ ls. next_line first_head_in (λ head. read_first_rest head k) ls) (each_cons first_step_lines s ss rest)
-    ∙ first_step_fw s k (each first_step_lines ss ++ rest) a.0 (some_append (each first_step_lines ss) rest h)
-    ∙ first_steps_fw ss (acc ++ s ∷ []) next rest a.1 h
+    let k : Then FirstStep = λ step. read_first_steps v (length ss) (acc ++ step ∷ []) next in
+    ap (λ ls. next_line first_head_in (λ head. read_first_rest v head k) ls) (each_cons (first_step_lines v) s ss rest)
+    ∙ first_step_fw v s k (each (first_step_lines v) ss ++ rest) a.0 (some_append (each (first_step_lines v) ss) rest h)
+    ∙ first_steps_fw v ss (acc ++ s ∷ []) next rest a.1 h
     ∙ ap (λ x. next x rest) (append_assoc acc (s ∷ []) ss)
 
-pub first_log_fw : (ss : List FirstStep) (next : Then (List FirstStep)) (rest : List Line) → is_short (length ss) ≡ true
-    → list_all is_first_step ss ≡ true → has_some rest ≡ true → read_first_log next (first_lines ss ++ rest) ≡ next ss rest
-first_log_fw ss next rest s e h =
-    line_fw (number_in keyword.Log1) (λ n. read_first_steps n [] next) (spelled keyword.Log1 ∷ decimal (length ss) ∷ []) (length ss)
-    (each first_step_lines ss ++ rest) (number_fw keyword.Log1 (length ss) s) (some_append (each first_step_lines ss) rest h)
-    ∙ first_steps_fw ss [] next rest e h
+pub first_log_fw : (v : ℕ) (ss : List FirstStep) (next : Then (List FirstStep)) (rest : List Line) → is_short (length ss) ≡ true
+    → list_all is_first_step ss ≡ true → has_some rest ≡ true → read_first_log v next (first_lines v ss ++ rest) ≡ next ss rest
+first_log_fw v ss next rest s e h =
+    line_fw (number_in keyword.Log1) (λ n. read_first_steps v n [] next) (spelled keyword.Log1 ∷ decimal (length ss) ∷ []) (length ss)
+    (each (first_step_lines v) ss ++ rest) (number_fw keyword.Log1 (length ss) s) (some_append (each (first_step_lines v) ss) rest h)
+    ∙ first_steps_fw v ss [] next rest e h
 
 -- Steps of the second log.
-merge_head_fw : (m : Mode) (by : Way) (classes : List ℕ) (next : Then SecondStep) (rest : List Line) → is_way m by ≡ true
+merge_head_fw : (v : ℕ) (m : Mode) (by : Way) (classes : List ℕ) (next : Then SecondStep) (rest : List Line) → is_way v m by ≡ true
     → are_classes classes ≡ true → has_some rest ≡ true
-    → next_line (second_head_in m) (λ head. read_second_rest head next) ((spelled keyword.Merge ∷ way_tokens by) ∷ classes_line classes ∷ rest)
-    ≡ read_grounds by classes next rest
-merge_head_fw m by classes next rest w e h =
-    line_fw (second_head_in m) (λ head. read_second_rest head next) (spelled keyword.Merge ∷ way_tokens by) (second_head.Merge by)
-    (classes_line classes ∷ rest) (second_head_fw m (second_head.Merge by) w) (some_cons (classes_line classes) rest)
-    ∙ classes_fw classes (λ classes. read_grounds by classes next) rest e h
+    → next_line (second_head_in v m) (λ head. read_second_rest v head next) ((spelled keyword.Merge ∷ way_tokens v by) ∷ classes_line classes ∷ rest)
+    ≡ read_grounds v by classes next rest
+merge_head_fw v m by classes next rest w e h =
+    line_fw (second_head_in v m) (λ head. read_second_rest v head next) (spelled keyword.Merge ∷ way_tokens v by) (second_head.Merge by)
+    (classes_line classes ∷ rest) (second_head_fw v m (second_head.Merge by) w) (some_cons (classes_line classes) rest)
+    ∙ classes_fw classes (λ classes. read_grounds v by classes next) rest e h
 
-merge_fw : (m : Mode) (by : Grounds) (classes : List ℕ) (next : Then SecondStep) (rest : List Line) → are_classes classes ≡ true
-    → are_grounds m by ≡ true → has_some rest ≡ true
-    → next_line (second_head_in m) (λ head. read_second_rest head next) (merge_lines by classes ++ rest) ≡ next (second.Merge by classes) rest
-merge_fw m (grounds.Forward look rel) classes next rest e g h =
+merge_fw : (v : ℕ) (m : Mode) (by : Grounds) (classes : List ℕ) (next : Then SecondStep) (rest : List Line) → are_classes classes ≡ true
+    → are_grounds v m by ≡ true → has_some rest ≡ true
+    → next_line (second_head_in v m) (λ head. read_second_rest v head next) (merge_lines v by classes ++ rest) ≡ next (second.Merge by classes) rest
+merge_fw v m (grounds.Forward look rel) classes next rest e g h =
     let a = and_parts (is_short look) (is_block rel) g in
-    merge_head_fw m (way.Forward look) classes next (block_lines rel ++ rest) a.0 e (some_append (block_lines rel) rest h)
-    ∙ block_fw rel (λ rel. next (second.Merge (grounds.Forward look rel) classes)) rest a.1 h
-merge_fw m (grounds.Backward look rel) classes next rest e g h =
+    merge_head_fw v m (way.Forward look) classes next (block_lines v rel ++ rest) a.0 e (some_append (block_lines v rel) rest h)
+    ∙ block_fw v rel (λ rel. next (second.Merge (grounds.Forward look rel) classes)) rest a.1 h
+merge_fw v m (grounds.Backward look rel) classes next rest e g h =
     let a = and_parts (is_short look) (is_block rel) g in
-    merge_head_fw m (way.Backward look) classes next (block_lines rel ++ rest) a.0 e (some_append (block_lines rel) rest h)
-    ∙ block_fw rel (λ rel. next (second.Merge (grounds.Backward look rel) classes)) rest a.1 h
-merge_fw (mode.Buchi) (grounds.Delayed ranks) classes next rest e g h =
-    merge_head_fw mode.Buchi way.Delayed classes next (rank_block_lines ranks ++ rest) refl e (some_append (rank_block_lines ranks) rest h)
-    ∙ rank_block_fw ranks (λ ranks. next (second.Merge (grounds.Delayed ranks) classes)) rest g h
-merge_fw (mode.Finite) (grounds.Delayed ranks) classes next rest e g h = absurd (cc)
+    merge_head_fw v m (way.Backward look) classes next (block_lines v rel ++ rest) a.0 e (some_append (block_lines v rel) rest h)
+    ∙ block_fw v rel (λ rel. next (second.Merge (grounds.Backward look rel) classes)) rest a.1 h
+merge_fw v (mode.Buchi) (grounds.Delayed letters ranks) classes next rest e g h =
+    let a = and_parts (are_letters v letters) (is_rank_block letters ranks) g in
+    merge_head_fw v mode.Buchi (way.Delayed letters) classes next (rank_block_lines ranks ++ rest) a.0 e
+    (some_append (rank_block_lines ranks) rest h)
+    ∙ rank_block_fw letters ranks (λ ranks. next (second.Merge (grounds.Delayed letters ranks) classes)) rest a.1 h
+merge_fw v (mode.Finite) (grounds.Delayed letters ranks) classes next rest e g h = absurd (cc)
 
-pub second_step_fw : (m : Mode) (s : SecondStep) (next : Then SecondStep) (rest : List Line) → is_second_step m s ≡ true → has_some rest ≡ true
-    → next_line (second_head_in m) (λ head. read_second_rest head next) (second_step_lines s ++ rest) ≡ next s rest
-second_step_fw m (second.Trim kept) next rest e h =
-    line_fw (second_head_in m) (λ head. read_second_rest head next) (spelled keyword.Trim ∷ numbers kept) (second_head.Trim kept) rest
-    (second_head_fw m (second_head.Trim kept) e) h
-second_step_fw m (second.Merge by classes) next rest e h =
-    let a = and_parts (are_classes classes) (are_grounds m by) e in
-    merge_fw m by classes next rest a.0 a.1 h
-second_step_fw m (second.Cut gone) next rest e h =
+pub second_step_fw : (v : ℕ) (m : Mode) (s : SecondStep) (next : Then SecondStep) (rest : List Line) → is_second_step v m s ≡ true → has_some rest ≡ true
+    → next_line (second_head_in v m) (λ head. read_second_rest v head next) (second_step_lines v s ++ rest) ≡ next s rest
+second_step_fw v m (second.Trim kept) next rest e h =
+    line_fw (second_head_in v m) (λ head. read_second_rest v head next) (spelled keyword.Trim ∷ numbers kept) (second_head.Trim kept) rest
+    (second_head_fw v m (second_head.Trim kept) e) h
+second_step_fw v m (second.Merge by classes) next rest e h =
+    let a = and_parts (are_classes classes) (are_grounds v m by) e in
+    merge_fw v m by classes next rest a.0 a.1 h
+second_step_fw v m (second.Cut gone) next rest e h =
     let a = and_parts (are_short gone) _ e in
     let b = and_parts (has_some gone) (ascend gone) a.1 in
     let gone_line = spelled keyword.Gone ∷ numbers gone in
-    line_fw (second_head_in m) (λ head. read_second_rest head next) (spelled keyword.Cut ∷ []) second_head.Cut (gone_line ∷ rest)
-    (second_head_fw m second_head.Cut refl) (some_cons gone_line rest)
+    line_fw (second_head_in v m) (λ head. read_second_rest v head next) (spelled keyword.Cut ∷ []) second_head.Cut (gone_line ∷ rest)
+    (second_head_fw v m second_head.Cut refl) (some_cons gone_line rest)
     ∙ line_fw (ascending_in keyword.Gone tail.SomeNumbers) (λ gone. next (second.Cut gone)) gone_line gone rest
     (sorted_fw keyword.Gone tail.SomeNumbers (λ ns. ns) gone a.0 b.1 (some_numbers gone b.0)) h
 
-pub second_steps_fw : (m : Mode) (ss acc : List SecondStep) (next : Then (List SecondStep)) (rest : List Line) → list_all (is_second_step m) ss ≡ true
-    → has_some rest ≡ true → read_second_steps m (length ss) acc next (each second_step_lines ss ++ rest) ≡ next (acc ++ ss) rest
-second_steps_fw m [] acc next rest e h = ap (λ x. next x rest) (sym (append-nil acc))
-second_steps_fw m (s ∷ ss) acc next rest e h =
-    let a = and_parts (is_second_step m s) (list_all (is_second_step m) ss) e in
-    let k : Then SecondStep = λ step. read_second_steps m (length ss) (acc ++ step ∷ []) next in
-    ap (λ ls. next_line (second_head_in m) (λ head. read_second_rest head k) ls) (each_cons second_step_lines s ss rest)
-    ∙ second_step_fw m s k (each second_step_lines ss ++ rest) a.0 (some_append (each second_step_lines ss) rest h)
-    ∙ second_steps_fw m ss (acc ++ s ∷ []) next rest a.1 h
+pub second_steps_fw : (v : ℕ) (m : Mode) (ss acc : List SecondStep) (next : Then (List SecondStep)) (rest : List Line) → list_all (is_second_step v m) ss ≡ true
+    → has_some rest ≡ true → read_second_steps v m (length ss) acc next (each (second_step_lines v) ss ++ rest) ≡ next (acc ++ ss) rest
+second_steps_fw v m [] acc next rest e h = ap (λ x. next x rest) (sym (append-nil acc))
+second_steps_fw v m (s ∷ ss) acc next rest e h =
+    let a = and_parts (is_second_step v m s) (list_all (is_second_step v m) ss) e in
+    let k : Then SecondStep = λ step. read_second_steps v m (length ss) (acc ++ step ∷ []) next in
+    ap (λ ls. next_line (second_head_in v m) (λ head. read_second_rest v head k) ls) (each_cons (second_step_lines v) s ss rest)
+    ∙ second_step_fw v m s k (each (second_step_lines v) ss ++ rest) a.0 (some_append (each (second_step_lines v) ss) rest h)
+    ∙ second_steps_fw v m ss (acc ++ s ∷ []) next rest a.1 h
     ∙ ap (λ x. next x rest) (append_assoc acc (s ∷ []) ss)
 
-pub second_log_fw : (m : Mode) (ss : List SecondStep) (next : Then (List SecondStep)) (rest : List Line) → is_short (length ss) ≡ true
-    → list_all (is_second_step m) ss ≡ true → has_some rest ≡ true → read_second_log m next (second_lines ss ++ rest) ≡ next ss rest
-second_log_fw m ss next rest s e h =
-    line_fw (number_in keyword.Log2) (λ n. read_second_steps m n [] next) (spelled keyword.Log2 ∷ decimal (length ss) ∷ []) (length ss)
-    (each second_step_lines ss ++ rest) (number_fw keyword.Log2 (length ss) s) (some_append (each second_step_lines ss) rest h)
-    ∙ second_steps_fw m ss [] next rest e h
+pub second_log_fw : (v : ℕ) (m : Mode) (ss : List SecondStep) (next : Then (List SecondStep)) (rest : List Line) → is_short (length ss) ≡ true
+    → list_all (is_second_step v m) ss ≡ true → has_some rest ≡ true → read_second_log v m next (second_lines v ss ++ rest) ≡ next ss rest
+second_log_fw v m ss next rest s e h =
+    line_fw (number_in keyword.Log2) (λ n. read_second_steps v m n [] next) (spelled keyword.Log2 ∷ decimal (length ss) ∷ []) (length ss)
+    (each (second_step_lines v) ss ++ rest) (number_fw keyword.Log2 (length ss) s) (some_append (each (second_step_lines v) ss) rest h)
+    ∙ second_steps_fw v m ss [] next rest e h
 
 -- Elements.
 pub elements_fw : (m : Mode) (es acc : List Element) (next : Then (List Element)) (rest : List Line) → list_all (is_element m) es ≡ true
@@ -282,18 +276,18 @@ steps_fw n (x ∷ xs) next rest h [] acc e = none_case (is_live x.mark) n xs acc
 steps_fw n (x ∷ xs) next rest h (s ∷ ss) acc e = some_case (is_live x.mark) n xs s ss acc next rest (steps_fw (n + 1) xs next rest h) h e
 
 -- What a yes has after its logs.
-pub closed_fw : (m : Mode) (order : RelBlock) (es : List Element) (cover : List ℕ) (ss : List StepLine) (next : Then Closed) (rest : List Line)
+pub closed_fw : (v : ℕ) (m : Mode) (order : RelBlock) (es : List Element) (cover : List ℕ) (ss : List StepLine) (next : Then Closed) (rest : List Line)
     → is_block order ≡ true → is_short (length es) ≡ true → list_all (is_element m) es ≡ true → are_short cover ≡ true → are_steps 0 es ss ≡ true
     → has_some rest ≡ true
-    → read_closed m next (block_lines order ++ (closed_lines es cover ss ++ rest))
+    → read_closed v m next (block_lines v order ++ (closed_lines es cover ss ++ rest))
     ≡ next (record { order = order; elements = es; cover = cover; steps = ss }) rest
-closed_fw m order es cover ss next rest a b c d e h =
+closed_fw v m order es cover ss next rest a b c d e h =
     let cover_line = spelled keyword.Cover ∷ numbers cover in
     let after_cover = each step_lines ss ++ rest in
     let after_elements = cover_line ∷ after_cover in
     let some_steps = some_append (each step_lines ss) rest h in
     let some_elements = some_cons cover_line after_cover in
-    block_fw order (λ order. read_all_elements m order next) (closed_lines es cover ss ++ rest) a
+    block_fw v order (λ order. read_all_elements m order next) (closed_lines es cover ss ++ rest) a
     (some_cons (elements_line (length es)) ((each element_lines es ++ (cover_line ∷ each step_lines ss)) ++ rest))
     ∙ ap (λ ls. read_all_elements m order next (elements_line (length es) ∷ ls))
     (append_assoc (each element_lines es) (cover_line ∷ each step_lines ss) rest)
@@ -319,10 +313,10 @@ limited_fw m limit es next rest a b c h =
     ∙ origins_fw m es [] (λ elements. next (record { limit = limit; elements = elements })) rest c h
 
 -- The body.
-pub body_fw : (m : Mode) (b : Body) (next : Then Body) (rest : List Line) → is_body m b ≡ true → has_some rest ≡ true
-    → read_body m (answer_of b) next (body_lines b ++ rest) ≡ next b rest
-body_fw m (body.Yes y) next rest e h =
-    let a = and_parts (are_logs m y.first y.second) _ e in
+pub body_fw : (v : ℕ) (m : Mode) (b : Body) (next : Then Body) (rest : List Line) → is_body v m b ≡ true → has_some rest ≡ true
+    → read_body v m (answer_of b) next (body_lines v b ++ rest) ≡ next b rest
+body_fw v m (body.Yes y) next rest e h =
+    let a = and_parts (are_logs v m y.first y.second) _ e in
     let l = and_parts (is_short (length y.first)) _ a.0 in
     let l1 = and_parts (list_all is_first_step y.first) _ l.1 in
     let l2 = and_parts (is_short (length y.second)) _ l1.1 in
@@ -331,20 +325,20 @@ body_fw m (body.Yes y) next rest e h =
     let d = and_parts (list_all (is_element m) y.elements) _ c.1 in
     let f = and_parts (are_short y.cover) _ d.1 in
     let closed = closed_lines y.elements y.cover y.steps in
-    let B = second_lines y.second in
-    let C = block_lines y.order in
+    let B = second_lines v y.second in
+    let C = block_lines v y.order in
     let after_second = C ++ (closed ++ rest) in
     let some2 = some_append C (closed ++ rest) (some_append closed rest h) in
     let after_first = B ++ after_second in
-    let k = λ (firsts : List FirstStep). read_after_first m answer.Yes firsts next in
-    let k2 = λ (seconds : List SecondStep). read_evidence m answer.Yes y.first seconds next in
-    ap (λ ls. read_first_log k ls)
-    (append_assoc (first_lines y.first) (B ++ (C ++ closed)) rest
-    ∙ ap (λ ls. first_lines y.first ++ ls) (append_assoc B (C ++ closed) rest ∙ ap (λ ls. B ++ ls) (append_assoc C closed rest)))
-    ∙ first_log_fw y.first k after_first l.0 l1.0 (some_append B after_second some2)
-    ∙ second_log_fw m y.second k2 after_second l2.0 l2.1 some2
-    ∙ closed_fw m y.order y.elements y.cover y.steps (λ closed. next (yes_of y.first y.second closed)) rest b.0 c.0 d.0 f.0 f.1 h
-body_fw (mode.Buchi) (body.NoLasso lasso) next rest e h =
+    let k = λ (firsts : List FirstStep). read_after_first v m answer.Yes firsts next in
+    let k2 = λ (seconds : List SecondStep). read_evidence v m answer.Yes y.first seconds next in
+    ap (λ ls. read_first_log v k ls)
+    (append_assoc (first_lines v y.first) (B ++ (C ++ closed)) rest
+    ∙ ap (λ ls. first_lines v y.first ++ ls) (append_assoc B (C ++ closed) rest ∙ ap (λ ls. B ++ ls) (append_assoc C closed rest)))
+    ∙ first_log_fw v y.first k after_first l.0 l1.0 (some_append B after_second some2)
+    ∙ second_log_fw v m y.second k2 after_second l2.0 l2.1 some2
+    ∙ closed_fw v m y.order y.elements y.cover y.steps (λ closed. next (yes_of y.first y.second closed)) rest b.0 c.0 d.0 f.0 f.1 h
+body_fw v (mode.Buchi) (body.NoLasso lasso) next rest e h =
     let a = and_parts (are_short lasso.prefix) _ e in
     let b = and_parts (are_short lasso.turn) (has_some lasso.turn) a.1 in
     let turn_line = spelled keyword.Loop ∷ numbers lasso.turn in
@@ -352,45 +346,47 @@ body_fw (mode.Buchi) (body.NoLasso lasso) next rest e h =
     (turn_line ∷ rest) (numbers_fw keyword.Prefix tail.Numbers lasso.prefix a.0 refl) (some_cons turn_line rest)
     ∙ line_fw (numbers_in keyword.Loop tail.SomeNumbers) (λ turn. next (body.NoLasso (record { prefix = lasso.prefix; turn = turn }))) turn_line
     lasso.turn rest (numbers_fw keyword.Loop tail.SomeNumbers lasso.turn b.0 (some_numbers lasso.turn b.1)) h
-body_fw (mode.Finite) (body.NoLasso lasso) next rest e h = absurd (cc)
-body_fw (mode.Buchi) (body.NoWord word) next rest e h = absurd (cc)
-body_fw (mode.Finite) (body.NoWord word) next rest e h =
+body_fw v (mode.Finite) (body.NoLasso lasso) next rest e h = absurd (cc)
+body_fw v (mode.Buchi) (body.NoWord word) next rest e h = absurd (cc)
+body_fw v (mode.Finite) (body.NoWord word) next rest e h =
     line_fw (numbers_in keyword.Word tail.Numbers) (λ word. next (body.NoWord word)) (spelled keyword.Word ∷ numbers word) word rest
     (numbers_fw keyword.Word tail.Numbers word e refl) h
-body_fw m (body.Listing list) next rest e h =
-    let a = and_parts (are_logs m list.first list.second) _ e in
+body_fw v m (body.Listing list) next rest e h =
+    let a = and_parts (are_logs v m list.first list.second) _ e in
     let l = and_parts (is_short (length list.first)) _ a.0 in
     let l1 = and_parts (list_all is_first_step list.first) _ l.1 in
     let l2 = and_parts (is_short (length list.second)) _ l1.1 in
     let b = and_parts (is_short list.limit) _ a.1 in
     let c = and_parts (is_short (length list.elements)) _ b.1 in
-    let B = second_lines list.second in
+    let B = second_lines v list.second in
     let C = limit_lines list.limit list.elements in
     let some2 = some_append C rest h in
-    let k = λ (firsts : List FirstStep). read_after_first m answer.List firsts next in
-    let k2 = λ (seconds : List SecondStep). read_evidence m answer.List list.first seconds next in
-    ap (λ ls. read_first_log k ls)
-    (append_assoc (first_lines list.first) (B ++ C) rest ∙ ap (λ ls. first_lines list.first ++ ls) (append_assoc B C rest))
-    ∙ first_log_fw list.first k (B ++ (C ++ rest)) l.0 l1.0 (some_append B (C ++ rest) some2)
-    ∙ second_log_fw m list.second k2 (C ++ rest) l2.0 l2.1 some2
+    let k = λ (firsts : List FirstStep). read_after_first v m answer.List firsts next in
+    let k2 = λ (seconds : List SecondStep). read_evidence v m answer.List list.first seconds next in
+    ap (λ ls. read_first_log v k ls)
+    (append_assoc (first_lines v list.first) (B ++ C) rest ∙ ap (λ ls. first_lines v list.first ++ ls) (append_assoc B C rest))
+    ∙ first_log_fw v list.first k (B ++ (C ++ rest)) l.0 l1.0 (some_append B (C ++ rest) some2)
+    ∙ second_log_fw v m list.second k2 (C ++ rest) l2.0 l2.1 some2
     ∙ limited_fw m list.limit list.elements (λ limited. next (list_of list.first list.second limited)) rest b.0 c.0 c.1 h
 
 -- the lines of a certificate are read as it, whatever follows
 pub cert_fw : (c : Cert) (rest : List Line) → has_text c ≡ true → has_some rest ≡ true → read_lines (cert_lines c ++ rest) ≡ finish c rest
 cert_fw c rest e h =
-    let a = and_parts (is_short c.first_states) _ e in
+    let v = c.version in
+    let w = and_parts (is_version v) _ e in
+    let a = and_parts (is_short c.first_states) _ w.1 in
     let b = and_parts (is_short c.second_states) _ a.1 in
     let d = and_parts (is_short c.labels) _ b.1 in
-    let heading : Heading = record { mode = c.mode; answer = answer_of c.body } in
+    let heading : Heading = record { version = v; mode = c.mode; answer = answer_of c.body } in
     let sizes : Sizes = record { first_states = c.first_states; second_states = c.second_states; labels = c.labels } in
     let the_end = end_line ∷ rest in
-    let k = λ (b : Body). read_end (cert_of c.mode sizes b) in
-    let B = body_lines c.body in
+    let k = λ (b : Body). read_end (cert_of v c.mode sizes b) in
+    let B = body_lines v c.body in
     let s = sizes_line c.first_states c.second_states c.labels in
-    line_fw heading_in read_sizes (first_line c.mode (answer_of c.body)) heading (s ∷ ((B ++ end_line ∷ []) ++ rest))
-    (heading_fw c.mode (answer_of c.body)) (some_cons s ((B ++ end_line ∷ []) ++ rest))
+    line_fw heading_in read_sizes (first_line v c.mode (answer_of c.body)) heading (s ∷ ((B ++ end_line ∷ []) ++ rest))
+    (heading_fw v c.mode (answer_of c.body) w.0) (some_cons s ((B ++ end_line ∷ []) ++ rest))
     ∙ ap (λ ls. read_sizes heading (s ∷ ls)) (append_assoc B (end_line ∷ []) rest)
     ∙ line_fw sizes_in (read_rest heading) s sizes (B ++ the_end) (sizes_fw c.first_states c.second_states c.labels a.0 b.0 d.0)
     (some_append B the_end (some_cons end_line rest))
-    ∙ body_fw c.mode c.body k the_end d.1 (some_cons end_line rest)
+    ∙ body_fw v c.mode c.body k the_end d.1 (some_cons end_line rest)
     ∙ line_fw (word_in keyword.End) (λ u. finish c) end_line tt rest (word_fw keyword.End) h

@@ -5,6 +5,7 @@ pub mod ResumeState
 pub mod ReadLemmas
 pub mod NumberFacts
 pub mod FormFacts
+pub mod RunFacts
 pub mod LineFacts
 pub mod HeadFacts
 pub mod OriginFacts

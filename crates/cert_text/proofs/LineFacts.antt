@@ -1,46 +1,28 @@
-use Rattle.std.proofs.Common.{◌≡◌, ℕ, zero, suc, ◌<◌, ◌≤◌, ◌+◌, ◌==◌, List, [], ◌∷◌, ◌++◌, length, map, drop, Bool, true, false, not, ◌&&◌, ◌||◌, cond, nat_lt, nat_le, decimal, Option, Some, None, Result, Ok, Err, refl, sym, ap, ap₂, ◌∙◌, subst, arith, ⊎_elim, inl, inr, ◌⊎◌, lt-ltb, eqb-true, eq-eqb}
+use Rattle.std.proofs.Common.{◌≡◌, ℕ, zero, suc, ◌+◌, ◌-◌, ◌==◌, List, [], ◌∷◌, ◌++◌, length, map, take, drop, true, ◌&&◌, nat_le, decimal, Ok, refl, sym, ap, ap₂, ◌∙◌, subst, arith, eqb-true, eq-eqb}
 use Rattle.std.specs.List.{list_all}
-use Rattle.std.proofs.lemmas.Bool.{and_parts, and_from, cond-true, cond-false}
-use Rattle.auto_core.specs.declared.parts.Mode.{Mode}
-use Rattle.auto_core.specs.declared.parts.Mode.TheVariants as mode
-use Rattle.auto_core.specs.declared.parts.Origin.{Origin}
-use Rattle.auto_core.specs.declared.parts.Origin.TheVariants as origin
+use Rattle.std.proofs.Math.Seq.{drop-nil, drop-append_seam, take-append_seam}
+use Rattle.std.proofs.lemmas.List.{drop-map, take-append-drop}
+use Rattle.std.proofs.lemmas.Bool.{and_parts, and_from}
 use Rattle.cert_value.specs.declared.keywords.Keyword.{Keyword}
 use Rattle.cert_value.specs.declared.keywords.Keyword.TheVariants as keyword
-use Rattle.cert_text.specs.declared.forms.Place.{Place}
 use Rattle.cert_text.specs.declared.forms.Place.TheVariants.{Word, Number}
 use Rattle.cert_text.specs.declared.forms.Tail.{Tail}
 use Rattle.cert_text.specs.declared.forms.Tail.TheVariants as tail
-use Rattle.cert_text.specs.declared.faults.TextKind.{TextKind}
-use Rattle.cert_text.specs.declared.faults.TextKind.TheVariants as kind
-use Rattle.cert_value.specs.declared.types.Answer.{Answer}
-use Rattle.cert_value.specs.declared.types.Answer.TheVariants as answer
 use Rattle.cert_value.specs.declared.types.GoneBy.{GoneBy}
 use Rattle.cert_value.specs.declared.types.Row.{Row}
+use Rattle.cert_value.specs.declared.types.Run.{Run}
 use Rattle.cert_value.specs.declared.types.RankRow.{RankRow}
 use Rattle.cert_value.specs.declared.types.Ranked.{Ranked}
-use Rattle.cert_value.specs.declared.types.Element.{Element}
-use Rattle.cert_value.specs.declared.types.Mark.{Mark}
-use Rattle.cert_value.specs.declared.types.Mark.TheVariants as mark
 use Rattle.cert_value.specs.declared.types.StepLine.{StepLine}
 use Rattle.cert_text.specs.declared.lines.Sizes.{Sizes}
-use Rattle.cert_text.specs.declared.lines.Heading.{Heading}
-use Rattle.cert_text.specs.declared.heads.FirstHead.{FirstHead}
-use Rattle.cert_text.specs.declared.heads.FirstHead.TheVariants as first
-use Rattle.cert_text.specs.declared.heads.SecondHead.{SecondHead}
-use Rattle.cert_text.specs.declared.heads.SecondHead.TheVariants as second
-use Rattle.cert_text.specs.declared.heads.Way.{Way}
-use Rattle.cert_text.specs.declared.heads.Way.TheVariants as way
-use Rattle.cert_value.specs.Text.{Line, spelled, numbers, ranked_numbers, gone_numbers, origin_line, mark_tokens, first_line, mode_word, answer_word}
-use Rattle.cert_value.specs.WellFormed.{is_short, are_short, has_some, ascend, rights_of, gone_of, blocks_due, is_row, is_ranked, is_rank_row, is_gone, are_gone, is_mark, is_origin, is_element, is_step_of}
-use Rattle.cert_text.specs.Forms.{is_number, value, fits, pair_up, may_follow, line_fault, value_at, values_from}
-use Rattle.cert_text.specs.Lines.{Said, unless, as_form, in_order, either, word_in, number_in, numbers_in, ascending_in, trim_in, sizes_in, row_of, row_in, ranked_of, rank_row_of, rank_row_in, gone_by_of, gone_by_in, first_cut_in, first_head_in, second_cut_in, merge_places, delayed_or_cut_in, merge_or_cut_in, second_head_in, start_places, base_places, next_places, next_origin_in, origin_in, live_base, live_start, live_next, under_base, under_start, under_next, live, under, next_element_in, base_element_in, start_element_in, element_in, step_of, step_in, heading_places, has_heading, is_heading, heading_or, finite_heading_in, heading_in}
+use Rattle.cert_value.specs.Text.{Line, spelled, numbers, row_numbers, ranked_numbers, gone_numbers}
+use Rattle.cert_value.specs.WellFormed.{is_short, are_short, has_some, ascend, is_run, runs_ascend, rank_key, is_less, rights_of, gone_of, is_row, is_ranked, is_rank_row, is_gone, are_gone, is_step_of}
+use Rattle.cert_text.specs.Forms.{value, pair_up, may_follow, value_at, values_from}
+use Rattle.cert_text.specs.Lines.{ranked, gone_by, Said, as_form, in_order, word_in, number_in, numbers_in, sizes_in, runs_of, row_ascends, row_tail, row_of, row_in, ranked_of, rank_row_of, rank_row_in, gone_by_of, gone_by_in, step_of, step_in}
+use Rattle.cert_text.proofs.PairLemmas.{some_cons, pairs_back, pairs_there, pairs_short, short_pairs, pairs_even, pairs_some, some_pairs}
+use Rattle.cert_text.proofs.RunFacts.{runs_back, runs_there, runs_short, short_runs, runs_follow, follow_some, runs_in_order, order_runs, short_append}
 use Rattle.cert_text.proofs.NumberFacts.{value_decimal, values_numbers, numbers_are}
-use Rattle.cert_text.proofs.FormFacts.{filled, Heads, heads_at, fw_fits, line_none, as_fw, unless_inv, Filled, line_back, as_bw, closed_none, order_fw, order_bw, either_bw}
-
--- A list with an item has some.
-pub some_cons : {A : Type 0} (x : A) (xs : List A) → has_some (x ∷ xs) ≡ true
-some_cons x xs = lt-ltb 0 (length (x ∷ xs)) (omega arith)
+use Rattle.cert_text.proofs.FormFacts.{as_fw, as_bw, closed_none, order_fw, order_bw}
 
 pub some_numbers : (ns : List ℕ) → has_some ns ≡ true → has_some (numbers ns) ≡ true
 some_numbers [] e = e
@@ -140,140 +122,156 @@ sizes_bw ts s e =
     subst P same (p.0.heads.0, p.0.heads.1.0, p.0.heads.1.1.0, closed_none ps ts p.0)
 
 -- Rows.
-pub row_fw : (bound : ℕ) (row : Row) → is_row bound row ≡ true
-    → row_in bound (spelled keyword.Row ∷ decimal row.left ∷ numbers row.rights) ≡ Ok row
-row_fw bound row e =
+pub row_fw : (v bound : ℕ) (row : Row) → is_row bound row ≡ true
+    → row_in v bound (spelled keyword.Row ∷ decimal row.left ∷ numbers (row_numbers v row.runs)) ≡ Ok row
+row_fw v bound row e =
     let a = and_parts (is_short row.left) _ e in
-    let b = and_parts (are_short row.rights) _ a.1 in
-    let c = and_parts (has_some row.rights) _ b.1 in
-    let f : ℕ → List ℕ → Said Row = λ l r. in_order (ascend r && nat_le bound l) (record { left = l; rights = r }) in
-    as_fw (Word keyword.Row ∷ Number ∷ []) (row.left ∷ []) (numbers row.rights) tail.SomeNumbers
-    (λ tokens. in_order (ascend (row_of tokens).rights && nat_le bound (row_of tokens).left) (row_of tokens))
-    (a.0, tt) (numbers_are row.rights b.0) (some_numbers row.rights c.0)
-    ∙ ap₂ f (value_decimal row.left a.0) (values_numbers row.rights b.0)
-    ∙ order_fw (ascend row.rights && nat_le bound row.left) row c.1
+    let b = and_parts (list_all is_run row.runs) _ a.1 in
+    let c = and_parts (has_some row.runs) _ b.1 in
+    let d = and_parts (runs_ascend row.runs) (nat_le bound row.left) c.1 in
+    let ns = row_numbers v row.runs in
+    let s = runs_short v row.runs b.0 in
+    let f : ℕ → List ℕ → Said Row = λ l xs. in_order (row_ascends v xs && nat_le bound l) (record { left = l; runs = runs_of v xs }) in
+    let g : List Run → Said Row = λ r. in_order (row_ascends v ns && nat_le bound row.left) (record { left = row.left; runs = r }) in
+    as_fw (Word keyword.Row ∷ Number ∷ []) (row.left ∷ []) (numbers ns) (row_tail v)
+    (λ tokens. in_order (row_ascends v (values_from 2 tokens) && nat_le bound (row_of v tokens).left) (row_of v tokens))
+    (a.0, tt) (numbers_are ns s) (runs_follow v row.runs c.0 d.0)
+    ∙ ap₂ f (value_decimal row.left a.0) (values_numbers ns s)
+    ∙ ap g (runs_back v row.runs d.0)
+    ∙ order_fw (row_ascends v ns && nat_le bound row.left) row
+    (and_from (row_ascends v ns) (nat_le bound row.left) (runs_in_order v row.runs d.0) d.1)
 
-pub row_bw : (bound : ℕ) (ts : Line) (row : Row) → row_in bound ts ≡ Ok row
-    → (is_row bound row ≡ true) × (ts ≡ spelled keyword.Row ∷ decimal row.left ∷ numbers row.rights)
-row_bw bound ts row e =
-    let p = as_bw (Word keyword.Row ∷ Number ∷ []) tail.SomeNumbers
-    (λ tokens. in_order (ascend (row_of tokens).rights && nat_le bound (row_of tokens).left) (row_of tokens)) ts row e in
-    let o = order_bw (ascend (values_from 2 ts) && nat_le bound (value_at ts 1)) (row_of ts) row p.1 in
-    let P : Row → Type 0 = λ row. (is_row bound row ≡ true) × (ts ≡ spelled keyword.Row ∷ decimal row.left ∷ numbers row.rights) in
+pub row_bw : (v bound : ℕ) (ts : Line) (row : Row) → row_in v bound ts ≡ Ok row
+    → (is_row bound row ≡ true) × (ts ≡ spelled keyword.Row ∷ decimal row.left ∷ numbers (row_numbers v row.runs))
+row_bw v bound ts row e =
+    let p = as_bw (Word keyword.Row ∷ Number ∷ []) (row_tail v)
+    (λ tokens. in_order (row_ascends v (values_from 2 tokens) && nat_le bound (row_of v tokens).left) (row_of v tokens)) ts row e in
+    let ns = values_from 2 ts in
+    let o = order_bw (row_ascends v ns && nat_le bound (value_at ts 1)) (row_of v ts) row p.1 in
+    let q = and_parts (row_ascends v ns) (nat_le bound (value_at ts 1)) o.0 in
+    let P : Row → Type 0 = λ row. (is_row bound row ≡ true) × (ts ≡ spelled keyword.Row ∷ decimal row.left ∷ numbers (row_numbers v row.runs)) in
     subst P o.1 (
       and_from (is_short (value_at ts 1)) _ p.0.heads.0
-          (and_from (are_short (values_from 2 ts)) _ p.0.short
-          (and_from (has_some (values_from 2 ts)) _ (numbers_some (values_from 2 ts) p.0.follows) o.0)),
-      p.0.line,
+          (and_from (list_all is_run (runs_of v ns)) _ (short_runs v ns p.0.short)
+          (and_from (has_some (runs_of v ns)) _ (follow_some v ns p.0.follows)
+          (and_from (runs_ascend (runs_of v ns)) _ (order_runs v ns q.0) q.1))),
+      p.0.line ∙ ap (λ xs. spelled keyword.Row ∷ decimal (value_at ts 1) ∷ numbers xs) (sym (runs_there v ns p.0.follows)),
     )
 
 -- Rows with ranks.
-pub ranked_back : (ps : List Ranked) → ranked_of (ranked_numbers ps) ≡ ps
-ranked_back [] = refl
-ranked_back (p ∷ ps) = ap (λ xs. p ∷ xs) (ranked_back ps)
+abbrev right : Ranked → ℕ
+right p = p.right
 
-pub ranked_there : (ns : List ℕ) → pair_up (numbers ns) ≡ true → ranked_numbers (ranked_of ns) ≡ ns
-ranked_there [] e = refl
-ranked_there (n ∷ []) e = absurd (cc)
-ranked_there (n ∷ m ∷ ns) e = ap (λ xs. n ∷ m ∷ xs) (ranked_there ns e)
+abbrev code : Ranked → ℕ
+code p = p.code
 
-pub ranked_short : (ps : List Ranked) → list_all is_ranked ps ≡ true → are_short (ranked_numbers ps) ≡ true
-ranked_short [] e = refl
-ranked_short (p ∷ ps) e =
-    let a = and_parts (is_ranked p) (list_all is_ranked ps) e in
-    let b = and_parts (is_short p.right) (is_short p.code) a.0 in
-    and_from (is_short p.right) _ b.0 (and_from (is_short p.code) _ b.1 (ranked_short ps a.1))
+-- The labels before the pairs.
+labels_told : (ts : Line) (k : ℕ) → drop (k + 2) ts ≡ drop k (drop 2 ts)
+labels_told [] k = drop-nil (k + 2) ∙ sym (drop-nil k)
+labels_told (t ∷ []) k = let e : k + 2 ≡ suc (suc k) = omega arith in ap (λ n. drop n (t ∷ [])) e ∙ drop-nil (suc k) ∙ sym (drop-nil k)
+labels_told (t ∷ u ∷ ts) k = let e : k + 2 ≡ suc (suc k) = omega arith in ap (λ n. drop n (t ∷ u ∷ ts)) e
 
-pub short_ranked : (ns : List ℕ) → are_short ns ≡ true → list_all is_ranked (ranked_of ns) ≡ true
-short_ranked [] e = refl
-short_ranked (n ∷ []) e = refl
-short_ranked (n ∷ m ∷ ns) e =
-    let a = and_parts (is_short n) _ e in
-    let b = and_parts (is_short m) _ a.1 in
-    and_from (is_short n && is_short m) _ (and_from (is_short n) (is_short m) a.0 b.0) (short_ranked ns b.1)
+labels_past : (xs ys : List ℕ) (k : ℕ) → length xs ≡ k → drop k (xs ++ ys) ≡ ys
+labels_past xs ys k e = ap (λ n. drop n (xs ++ ys)) (sym e) ∙ drop-append_seam xs ys
 
-pub ranked_pairs : (ps : List Ranked) → pair_up (numbers (ranked_numbers ps)) ≡ true
-ranked_pairs [] = refl
-ranked_pairs (p ∷ ps) = ranked_pairs ps
+labels_taken : (xs ys : List ℕ) (k : ℕ) → length xs ≡ k → take k (xs ++ ys) ≡ xs
+labels_taken xs ys k e = ap (λ n. take n (xs ++ ys)) (sym e) ∙ take-append_seam xs ys
 
-pub ranked_some : (ps : List Ranked) → has_some ps ≡ true → has_some (numbers (ranked_numbers ps)) ≡ true
-ranked_some [] e = e
-ranked_some (p ∷ ps) e = some_cons (decimal p.right) (decimal p.code ∷ numbers (ranked_numbers ps))
+short_taken : (k : ℕ) (ns : List ℕ) → are_short ns ≡ true → are_short (take k ns) ≡ true
+short_taken zero ns e = refl
+short_taken (suc k) [] e = refl
+short_taken (suc k) (n ∷ ns) e =
+    let a = and_parts (is_short n) (are_short ns) e in
+    and_from (is_short n) _ a.0 (short_taken k ns a.1)
 
-pub some_ranked : (ns : List ℕ) → has_some (numbers ns) ≡ true → pair_up (numbers ns) ≡ true → has_some (ranked_of ns) ≡ true
-some_ranked [] e f = e
-some_ranked (n ∷ []) e f = absurd (cc)
-some_ranked (n ∷ m ∷ ns) e f = let pair : Ranked = record { right = n; code = m } in some_cons pair (ranked_of ns)
+short_dropped : (k : ℕ) (ns : List ℕ) → are_short ns ≡ true → are_short (drop k ns) ≡ true
+short_dropped zero ns e = e
+short_dropped (suc k) [] e = refl
+short_dropped (suc k) (n ∷ ns) e =
+    let a = and_parts (is_short n) (are_short ns) e in
+    short_dropped k ns a.1
 
-pub rank_row_fw : (bound : ℕ) (row : RankRow) → is_rank_row bound row ≡ true
-    → rank_row_in bound (spelled keyword.Row ∷ decimal row.left ∷ numbers (ranked_numbers row.rights)) ≡ Ok row
-rank_row_fw bound row e =
+-- where something is left, all labels are there
+taken_whole : (k : ℕ) (ns : List ℕ) → has_some (numbers (drop k ns)) ≡ true → length (take k ns) ≡ k
+taken_whole zero ns e = refl
+taken_whole (suc k) [] e = absurd (cc)
+taken_whole (suc k) (n ∷ ns) e = ap suc (taken_whole k ns e)
+
+abbrev ranks_line : RankRow → Line
+ranks_line row = spelled keyword.Row ∷ decimal row.left ∷ numbers (row.ahead ++ ranked_numbers row.rights)
+
+pub rank_row_fw : (letters : ℕ) (key : List ℕ) (row : RankRow) → is_rank_row letters key row ≡ true
+    → rank_row_in letters key (spelled keyword.Row ∷ decimal row.left ∷ numbers (row.ahead ++ ranked_numbers row.rights)) ≡ Ok row
+rank_row_fw letters key row e =
+    let k = letters - 1 in
     let a = and_parts (is_short row.left) _ e in
-    let b = and_parts (list_all is_ranked row.rights) _ a.1 in
+    let h = and_parts (are_short row.ahead && (length row.ahead == k)) _ a.1 in
+    let h2 = and_parts (are_short row.ahead) (length row.ahead == k) h.0 in
+    let b = and_parts (list_all is_ranked row.rights) _ h.1 in
     let c = and_parts (has_some row.rights) _ b.1 in
-    let ns = ranked_numbers row.rights in
-    let s = ranked_short row.rights b.0 in
-    let f : ℕ → List Ranked → Said RankRow = λ l r. in_order (ascend (rights_of r) && nat_le bound l) (record { left = l; rights = r }) in
-    as_fw (Word keyword.Row ∷ Number ∷ []) (row.left ∷ []) (numbers ns) tail.SomePairs
-    (λ tokens. in_order (ascend (rights_of (rank_row_of tokens).rights) && nat_le bound (rank_row_of tokens).left) (rank_row_of tokens))
-    (a.0, tt) (numbers_are ns s) (and_from (has_some (numbers ns)) _ (ranked_some row.rights c.0) (ranked_pairs row.rights))
-    ∙ ap₂ f (value_decimal row.left a.0) (ap ranked_of (values_numbers ns s) ∙ ranked_back row.rights)
-    ∙ order_fw (ascend (rights_of row.rights) && nat_le bound row.left) row c.1
+    let rn = ranked_numbers row.rights in
+    let ns = row.ahead ++ rn in
+    let long : length row.ahead ≡ k = eqb-true (length row.ahead) k h2.1 in
+    let s = short_append row.ahead rn h2.0 (pairs_short ranked right code is_ranked (λ p. refl) row.rights b.0) in
+    let left : drop k (numbers ns) ≡ numbers rn = drop-map decimal k ns ∙ ap numbers (labels_past row.ahead rn k long) in
+    let follows : may_follow (tail.Pairs k) (numbers ns) ≡ true =
+    ap (λ xs. has_some xs && pair_up xs) left
+    ∙ and_from (has_some (numbers rn)) _ (pairs_some ranked right code row.rights c.0)
+    (pairs_even ranked right code row.rights) in
+    let ts = ranks_line row in
+    let told : values_from (k + 2) ts ≡ rn =
+    ap (λ xs. map value xs) (labels_told ts k ∙ left) ∙ values_numbers rn (pairs_short ranked right code is_ranked (λ p. refl) row.rights b.0) in
+    let f : ℕ → List ℕ → List Ranked → Said RankRow = λ l x r.
+    in_order (ascend (rights_of r) && is_less key (l ∷ x)) (record { left = l; ahead = x; rights = r }) in
+    as_fw (Word keyword.Row ∷ Number ∷ []) (row.left ∷ []) (numbers ns) (tail.Pairs k)
+    (λ tokens. in_order
+    (ascend (rights_of (rank_row_of k tokens).rights) && is_less key (rank_key (rank_row_of k tokens))) (rank_row_of k tokens))
+    (a.0, tt) (numbers_are ns s) follows
+    ∙ ap (λ l. f l (take k (values_from 2 ts)) (ranked_of (values_from (k + 2) ts))) (value_decimal row.left a.0)
+    ∙ ap (λ x. f row.left x (ranked_of (values_from (k + 2) ts)))
+    (ap (λ xs. take k xs) (values_numbers ns s) ∙ labels_taken row.ahead rn k long)
+    ∙ ap (λ r. f row.left row.ahead r) (ap ranked_of told ∙ pairs_back ranked right code (λ p. refl) row.rights)
+    ∙ order_fw (ascend (rights_of row.rights) && is_less key (rank_key row)) row c.1
 
-pub rank_row_bw : (bound : ℕ) (ts : Line) (row : RankRow) → rank_row_in bound ts ≡ Ok row
-    → (is_rank_row bound row ≡ true) × (ts ≡ spelled keyword.Row ∷ decimal row.left ∷ numbers (ranked_numbers row.rights))
-rank_row_bw bound ts row e =
-    let p = as_bw (Word keyword.Row ∷ Number ∷ []) tail.SomePairs
-    (λ tokens. in_order (ascend (rights_of (rank_row_of tokens).rights) && nat_le bound (rank_row_of tokens).left) (rank_row_of tokens)) ts row e in
+pub rank_row_bw : (letters : ℕ) (key : List ℕ) (ts : Line) (row : RankRow) → rank_row_in letters key ts ≡ Ok row
+    → (is_rank_row letters key row ≡ true)
+    × (ts ≡ spelled keyword.Row ∷ decimal row.left ∷ numbers (row.ahead ++ ranked_numbers row.rights))
+rank_row_bw letters key ts row e =
+    let k = letters - 1 in
+    let own = rank_row_of k ts in
+    let p = as_bw (Word keyword.Row ∷ Number ∷ []) (tail.Pairs k)
+    (λ tokens. in_order
+    (ascend (rights_of (rank_row_of k tokens).rights) && is_less key (rank_key (rank_row_of k tokens))) (rank_row_of k tokens)) ts row e in
     let ns = values_from 2 ts in
-    let o = order_bw (ascend (rights_of (ranked_of ns)) && nat_le bound (value_at ts 1)) (rank_row_of ts) row p.1 in
-    let m = and_parts (has_some (numbers ns)) (pair_up (numbers ns)) p.0.follows in
-    let P : RankRow → Type 0 = λ row. (is_rank_row bound row ≡ true)
-    × (ts ≡ spelled keyword.Row ∷ decimal row.left ∷ numbers (ranked_numbers row.rights)) in
+    let ms = drop k ns in
+    let o = order_bw (ascend (rights_of own.rights) && is_less key (rank_key own)) own row p.1 in
+    let m = and_parts (has_some (drop k (numbers ns))) (pair_up (drop k (numbers ns))) p.0.follows in
+    let left : drop k (numbers ns) ≡ numbers ms = drop-map decimal k ns in
+    let some : has_some (numbers ms) ≡ true = sym (ap has_some left) ∙ m.0 in
+    let pairs : pair_up (numbers ms) ≡ true = sym (ap pair_up left) ∙ m.1 in
+    let told : values_from (k + 2) ts ≡ ms = ap (λ xs. map value xs) (labels_told ts k) ∙ sym (drop-map value k (drop 2 ts)) in
+    let rights : own.rights ≡ ranked_of ms = ap ranked_of told in
+    let whole : own.ahead ++ ranked_numbers own.rights ≡ ns =
+    ap (λ r. own.ahead ++ ranked_numbers r) rights ∙ ap (λ xs. own.ahead ++ xs) (pairs_there ranked right code (λ n m. refl) (λ n m. refl) ms pairs) ∙ take-append-drop k ns in
+    let P : RankRow → Type 0 = λ row. (is_rank_row letters key row ≡ true)
+    × (ts ≡ spelled keyword.Row ∷ decimal row.left ∷ numbers (row.ahead ++ ranked_numbers row.rights)) in
     subst P o.1 (
-      and_from (is_short (value_at ts 1)) _ p.0.heads.0
-          (and_from (list_all is_ranked (ranked_of ns)) _ (short_ranked ns p.0.short)
-          (and_from (has_some (ranked_of ns)) _ (some_ranked ns m.0 m.1) o.0)),
-      p.0.line ∙ ap (λ xs. spelled keyword.Row ∷ decimal (value_at ts 1) ∷ numbers xs) (sym (ranked_there ns m.1)),
+      and_from (is_short own.left) _ p.0.heads.0
+          (and_from (are_short own.ahead && (length own.ahead == k)) _
+          (and_from (are_short own.ahead) (length own.ahead == k) (short_taken k ns p.0.short)
+          (eq-eqb (length own.ahead) k (taken_whole k ns some)))
+          (and_from (list_all is_ranked own.rights) _
+          (ap (λ r. list_all is_ranked r) rights ∙ short_pairs ranked right code is_ranked (λ n m. refl) ms (short_dropped k ns p.0.short))
+          (and_from (has_some own.rights) _ (ap (λ r. has_some r) rights ∙ some_pairs ranked ms some pairs) o.0))),
+      p.0.line ∙ ap (λ xs. spelled keyword.Row ∷ decimal (value_at ts 1) ∷ numbers xs) (sym whole),
     )
 
 -- What goes and by what.
-pub gone_back : (ps : List GoneBy) → gone_by_of (gone_numbers ps) ≡ ps
-gone_back [] = refl
-gone_back (p ∷ ps) = ap (λ xs. p ∷ xs) (gone_back ps)
+abbrev trans : GoneBy → ℕ
+trans p = p.trans
 
-pub gone_there : (ns : List ℕ) → pair_up (numbers ns) ≡ true → gone_numbers (gone_by_of ns) ≡ ns
-gone_there [] e = refl
-gone_there (n ∷ []) e = absurd (cc)
-gone_there (n ∷ m ∷ ns) e = ap (λ xs. n ∷ m ∷ xs) (gone_there ns e)
-
-pub gone_short : (ps : List GoneBy) → list_all is_gone ps ≡ true → are_short (gone_numbers ps) ≡ true
-gone_short [] e = refl
-gone_short (p ∷ ps) e =
-    let a = and_parts (is_gone p) (list_all is_gone ps) e in
-    let b = and_parts (is_short p.trans) (is_short p.by) a.0 in
-    and_from (is_short p.trans) _ b.0 (and_from (is_short p.by) _ b.1 (gone_short ps a.1))
-
-pub short_gone : (ns : List ℕ) → are_short ns ≡ true → list_all is_gone (gone_by_of ns) ≡ true
-short_gone [] e = refl
-short_gone (n ∷ []) e = refl
-short_gone (n ∷ m ∷ ns) e =
-    let a = and_parts (is_short n) _ e in
-    let b = and_parts (is_short m) _ a.1 in
-    and_from (is_short n && is_short m) _ (and_from (is_short n) (is_short m) a.0 b.0) (short_gone ns b.1)
-
-pub gone_pairs : (ps : List GoneBy) → pair_up (numbers (gone_numbers ps)) ≡ true
-gone_pairs [] = refl
-gone_pairs (p ∷ ps) = gone_pairs ps
-
-pub gone_some : (ps : List GoneBy) → has_some ps ≡ true → has_some (numbers (gone_numbers ps)) ≡ true
-gone_some [] e = e
-gone_some (p ∷ ps) e = some_cons (decimal p.trans) (decimal p.by ∷ numbers (gone_numbers ps))
-
-pub some_gone : (ns : List ℕ) → has_some (numbers ns) ≡ true → pair_up (numbers ns) ≡ true → has_some (gone_by_of ns) ≡ true
-some_gone [] e f = e
-some_gone (n ∷ []) e f = absurd (cc)
-some_gone (n ∷ m ∷ ns) e f = let pair : GoneBy = record { trans = n; by = m } in some_cons pair (gone_by_of ns)
+abbrev better : GoneBy → ℕ
+better p = p.by
 
 pub gone_fw : (ps : List GoneBy) → are_gone ps ≡ true
     → gone_by_in (spelled keyword.Gone ∷ numbers (gone_numbers ps)) ≡ Ok ps
@@ -281,27 +279,28 @@ gone_fw ps e =
     let a = and_parts (list_all is_gone ps) _ e in
     let b = and_parts (has_some ps) (ascend (gone_of ps)) a.1 in
     let ns = gone_numbers ps in
-    let s = gone_short ps a.0 in
+    let s = pairs_short gone_by trans better is_gone (λ p. refl) ps a.0 in
     let f : List GoneBy → Said (List GoneBy) = λ r. in_order (ascend (gone_of r)) r in
-    as_fw (Word keyword.Gone ∷ []) [] (numbers ns) tail.SomePairs
+    as_fw (Word keyword.Gone ∷ []) [] (numbers ns) (tail.Pairs 0)
     (λ tokens. in_order (ascend (gone_of (gone_by_of (values_from 1 tokens)))) (gone_by_of (values_from 1 tokens)))
-    tt (numbers_are ns s) (and_from (has_some (numbers ns)) _ (gone_some ps b.0) (gone_pairs ps))
-    ∙ ap f (ap gone_by_of (values_numbers ns s) ∙ gone_back ps)
+    tt (numbers_are ns s) (and_from (has_some (numbers ns)) _ (pairs_some gone_by trans better ps b.0)
+    (pairs_even gone_by trans better ps))
+    ∙ ap f (ap gone_by_of (values_numbers ns s) ∙ pairs_back gone_by trans better (λ p. refl) ps)
     ∙ order_fw (ascend (gone_of ps)) ps b.1
 
 pub gone_bw : (ts : Line) (ps : List GoneBy) → gone_by_in ts ≡ Ok ps
     → (are_gone ps ≡ true) × (ts ≡ spelled keyword.Gone ∷ numbers (gone_numbers ps))
 gone_bw ts ps e =
-    let p = as_bw (Word keyword.Gone ∷ []) tail.SomePairs
+    let p = as_bw (Word keyword.Gone ∷ []) (tail.Pairs 0)
     (λ tokens. in_order (ascend (gone_of (gone_by_of (values_from 1 tokens)))) (gone_by_of (values_from 1 tokens))) ts ps e in
     let ns = values_from 1 ts in
     let o = order_bw (ascend (gone_of (gone_by_of ns))) (gone_by_of ns) ps p.1 in
     let m = and_parts (has_some (numbers ns)) (pair_up (numbers ns)) p.0.follows in
     let P : List GoneBy → Type 0 = λ ps. (are_gone ps ≡ true) × (ts ≡ spelled keyword.Gone ∷ numbers (gone_numbers ps)) in
     subst P o.1 (
-      and_from (list_all is_gone (gone_by_of ns)) _ (short_gone ns p.0.short)
-          (and_from (has_some (gone_by_of ns)) _ (some_gone ns m.0 m.1) o.0),
-      p.0.line ∙ ap (λ xs. spelled keyword.Gone ∷ numbers xs) (sym (gone_there ns m.1)),
+      and_from (list_all is_gone (gone_by_of ns)) _ (short_pairs gone_by trans better is_gone (λ n m. refl) ns p.0.short)
+          (and_from (has_some (gone_by_of ns)) _ (some_pairs gone_by ns m.0 m.1) o.0),
+      p.0.line ∙ ap (λ xs. spelled keyword.Gone ∷ numbers xs) (sym (pairs_there gone_by trans better (λ n m. refl) (λ n m. refl) ns m.1)),
     )
 
 -- The lines of live elements.

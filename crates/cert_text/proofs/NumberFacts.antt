@@ -1,4 +1,4 @@
-use Rattle.std.proofs.Common.{◌≡◌, ℕ, zero, suc, ◌<◌, ◌≤◌, ◌^◌, ◌+◌, ◌==◌, List, [], ◌∷◌, ◌++◌, length, map, Bool, true, false, not, ◌&&◌, ◌||◌, nat_lt, nat_le, decimal, Option, Some, None, get_or, refl, sym, ap, ◌∙◌, subst, arith, lit<, ⊎_elim, lt-ltb, le-ltb, ltb-true, ne_eqb, eqb-true, unwrap_or, cond}
+use Rattle.std.proofs.Common.{◌≡◌, ℕ, ◌<◌, ◌≤◌, ◌^◌, ◌==◌, List, [], ◌∷◌, length, map, true, not, ◌||◌, nat_lt, decimal, Some, None, get_or, refl, ap, ◌∙◌, arith, lit<, ⊎_elim, lt-ltb, ltb-true, ne_eqb, unwrap_or}
 use Rattle.std.specs.List.{list_all}
 use Rattle.std.specs.Str.Parse.{digits_value}
 use Rattle.std.proofs.Common.{rules}
@@ -7,7 +7,7 @@ use Rattle.std.proofs.lemmas.Fmt.{digits_decimal, digits_value-decimal, decimal-
 use Rattle.std.proofs.lemmas.Bool.{and_parts, and_from, or_cases, or_left, or_right, cases_lt, not-true, cond-true, eqb-false}
 use Rattle.cert_value.specs.WellFormed.{is_short, are_short}
 use Rattle.auto_core.specs.Digits.{is_digit}
-use Rattle.cert_text.specs.Forms.{is_number, number_of, value}
+use Rattle.cert_text.specs.Forms.{is_number, value}
 use Rattle.cert_value.specs.Text.{numbers}
 
 own : IsNumeralModel (λ ds. list_all is_digit ds ≡ true) (digits_value 10)

@@ -1,46 +1,27 @@
-use Rattle.std.proofs.Common.{◌≡◌, ℕ, zero, suc, ◌<◌, ◌≤◌, ◌+◌, ◌==◌, List, [], ◌∷◌, ◌++◌, length, map, drop, Bool, true, false, not, ◌&&◌, ◌||◌, cond, nat_lt, nat_le, decimal, Option, Some, None, Result, Ok, Err, is_none, refl, sym, ap, ap₂, ◌∙◌, subst, arith, ⊎_elim, inl, inr, ◌⊎◌, lt-ltb, eqb-true, eq-eqb}
-use Rattle.std.specs.List.{list_all}
+use Rattle.std.proofs.Common.{◌≡◌, ℕ, ◌==◌, [], ◌∷◌, ◌++◌, Bool, true, false, ◌&&◌, cond, decimal, Option, Some, None, Ok, is_none, refl, sym, ap, ap₂, ◌∙◌, subst, ⊎_elim, inl, inr, ◌⊎◌, eqb-true}
 use Rattle.std.specs.Str.{bytes_eq}
-use Rattle.std.proofs.lemmas.Bool.{and_parts, and_from, and_left, and_right, cond-true, cond-false, cases_Bool}
+use Rattle.std.proofs.lemmas.Bool.{and_parts, and_from, or_cases}
 use Rattle.auto_core.specs.declared.parts.Mode.{Mode}
 use Rattle.auto_core.specs.declared.parts.Mode.TheVariants as mode
 use Rattle.auto_core.specs.declared.parts.Origin.{Origin}
 use Rattle.auto_core.specs.declared.parts.Origin.TheVariants as origin
-use Rattle.cert_value.specs.declared.keywords.Keyword.{Keyword}
 use Rattle.cert_value.specs.declared.keywords.Keyword.TheVariants as keyword
-use Rattle.cert_text.specs.declared.forms.Place.{Place}
-use Rattle.cert_text.specs.declared.forms.Place.TheVariants.{Word, Number}
-use Rattle.cert_text.specs.declared.forms.Tail.{Tail}
+use Rattle.cert_text.specs.declared.forms.Place.TheVariants.{Number}
 use Rattle.cert_text.specs.declared.forms.Tail.TheVariants as tail
 use Rattle.cert_text.specs.declared.faults.TextKind.{TextKind}
-use Rattle.cert_text.specs.declared.faults.TextKind.TheVariants as kind
 use Rattle.cert_value.specs.declared.types.Answer.{Answer}
 use Rattle.cert_value.specs.declared.types.Answer.TheVariants as answer
-use Rattle.cert_value.specs.declared.types.GoneBy.{GoneBy}
-use Rattle.cert_value.specs.declared.types.Row.{Row}
-use Rattle.cert_value.specs.declared.types.RankRow.{RankRow}
-use Rattle.cert_value.specs.declared.types.Ranked.{Ranked}
 use Rattle.cert_value.specs.declared.types.Element.{Element}
 use Rattle.cert_value.specs.declared.types.Mark.{Mark}
 use Rattle.cert_value.specs.declared.types.Mark.TheVariants as mark
-use Rattle.cert_value.specs.declared.types.StepLine.{StepLine}
-use Rattle.cert_text.specs.declared.lines.Sizes.{Sizes}
 use Rattle.cert_text.specs.declared.lines.Heading.{Heading}
-use Rattle.cert_text.specs.declared.heads.FirstHead.{FirstHead}
-use Rattle.cert_text.specs.declared.heads.FirstHead.TheVariants as first
-use Rattle.cert_text.specs.declared.heads.SecondHead.{SecondHead}
-use Rattle.cert_text.specs.declared.heads.SecondHead.TheVariants as second
-use Rattle.cert_text.specs.declared.heads.Way.{Way}
-use Rattle.cert_text.specs.declared.heads.Way.TheVariants as way
-use Rattle.cert_value.specs.Text.{Line, spelled, numbers, ranked_numbers, gone_numbers, origin_line, mark_tokens, first_line, mode_word, answer_word}
-use Rattle.cert_value.specs.WellFormed.{is_short, are_short, has_some, ascend, rights_of, gone_of, blocks_due, is_row, is_ranked, is_rank_row, is_gone, are_gone, is_mark, is_origin, is_element, is_step_of, are_kept}
-use Rattle.cert_text.specs.Forms.{is_number, has_empty, value, fits, pair_up, may_follow, line_fault, value_at, values_from}
-use Rattle.cert_text.specs.Lines.{Said, unless, as_form, in_order, either, word_in, number_in, numbers_in, ascending_in, trim_in, sizes_in, row_of, row_in, ranked_of, rank_row_of, rank_row_in, gone_by_of, gone_by_in, first_cut_in, first_head_in, second_cut_in, merge_places, delayed_or_cut_in, merge_or_cut_in, second_head_in, start_places, base_places, next_places, next_origin_in, origin_in, live_base, live_start, live_next, under_base, under_start, under_next, live, under, next_element_in, base_element_in, start_element_in, element_in, step_of, step_in, heading_places, has_heading, is_heading, heading_or, finite_heading_in, heading_in}
-use Rattle.cert_text.proofs.NumberFacts.{value_decimal, values_numbers, numbers_are}
-use Rattle.cert_text.proofs.FormFacts.{filled, Heads, heads_at, fw_fits, line_none, as_fw, unless_inv, Filled, line_back, as_bw, closed_none, order_fw, order_bw, either_bw}
-use Rattle.cert_text.proofs.LineFacts.{sorted_fw, sorted_bw, word_fw, word_bw}
-use Rattle.std.proofs.lemmas.Slice.Eq.{bytes_eq-Decides}
-use Rattle.cert_text.proofs.HeadFacts.{off, off_second, off_third, skip, choose, first_fits}
+use Rattle.cert_value.specs.Text.{Line, spelled, origin_line, mark_tokens, first_line}
+use Rattle.cert_value.specs.WellFormed.{is_short, is_mark, is_origin, is_element, is_version}
+use Rattle.cert_text.specs.Forms.{value, fits, line_fault, value_at}
+use Rattle.cert_text.specs.Lines.{Said, start_places, base_places, next_places, next_origin_in, origin_in, live_base, live_start, live_next, under_base, under_start, under_next, live, under, next_element_in, element_in, heading_places, is_heading, heading, or_else, if_heading, mode_heading_in, version_heading_in, heading_said, heading_in}
+use Rattle.cert_text.proofs.NumberFacts.{value_decimal}
+use Rattle.cert_text.proofs.FormFacts.{fw_fits, as_fw, line_back, as_bw, closed_none, either_bw}
+use Rattle.cert_text.proofs.HeadFacts.{off, off_second, off_third, skip, choose}
 
 base_next : bytes_eq (spelled keyword.Next) (spelled keyword.Base) ≡ false
 unfolding spelled
@@ -258,42 +239,73 @@ element_bw (mode.Finite) ts e h =
     (either_bw (fits live_start ts) _ _ e h)
 
 -- First lines.
-pub heading_fw : (m : Mode) (a : Answer) → heading_in (first_line m a) ≡ Ok (record { mode = m; answer = a })
+heading_one : (m : Mode) (a : Answer) → heading_in (first_line 1 m a) ≡ Ok (heading 1 m a)
 unfolding spelled
-heading_fw (mode.Buchi) (answer.Yes) = refl
-heading_fw (mode.Buchi) (answer.No) = refl
-heading_fw (mode.Buchi) (answer.List) = refl
-heading_fw (mode.Finite) (answer.Yes) = refl
-heading_fw (mode.Finite) (answer.No) = refl
-heading_fw (mode.Finite) (answer.List) = refl
+heading_one (mode.Buchi) (answer.Yes) = refl
+heading_one (mode.Buchi) (answer.No) = refl
+heading_one (mode.Buchi) (answer.List) = refl
+heading_one (mode.Finite) (answer.Yes) = refl
+heading_one (mode.Finite) (answer.No) = refl
+heading_one (mode.Finite) (answer.List) = refl
+
+heading_two : (m : Mode) (a : Answer) → heading_in (first_line 2 m a) ≡ Ok (heading 2 m a)
+unfolding spelled
+heading_two (mode.Buchi) (answer.Yes) = refl
+heading_two (mode.Buchi) (answer.No) = refl
+heading_two (mode.Buchi) (answer.List) = refl
+heading_two (mode.Finite) (answer.Yes) = refl
+heading_two (mode.Finite) (answer.No) = refl
+heading_two (mode.Finite) (answer.List) = refl
+
+pub heading_fw : (v : ℕ) (m : Mode) (a : Answer) → is_version v ≡ true → heading_in (first_line v m a) ≡ Ok (heading v m a)
+heading_fw v m a e =
+    let P : ℕ → Type 0 = λ v. heading_in (first_line v m a) ≡ Ok (heading v m a) in
+    ⊎_elim (λ one. subst P (sym (eqb-true v 1 one)) (heading_one m a)) (λ two. subst P (sym (eqb-true v 2 two)) (heading_two m a))
+    (or_cases (v == 1) (v == 2) e)
 
 none_from : (o : Option TextKind) → is_none o ≡ true → o ≡ None
 none_from None e = refl
 none_from (Some fault) e = absurd (cc)
 
-heading_inv : (b : Bool) (x h : Heading) (y : Said Heading) → cond b (Ok x) y ≡ Ok h → ((b ≡ true) × (x ≡ h)) ⊎ (y ≡ Ok h)
-heading_inv true x h y e = inl (refl, cc)
-heading_inv false x h y e = inr e
+-- A heading whose first line the line is.
+abbrev pub IsHeadingOf : Line → Heading → Type 0
+IsHeadingOf ts h = (is_version h.version ≡ true) × (ts ≡ first_line h.version h.mode h.answer)
 
-is_line : (m : Mode) (a : Answer) (ts : Line) → is_heading m a ts ≡ true → ts ≡ first_line m a
-is_line m a ts e =
-    let ps = heading_places (mode_word m) (answer_word a) in
-    closed_none ps ts (line_back ps tail.Nothing ts (none_from (line_fault ps tail.Nothing ts) e))
+if_bw : (b : Bool) (own h : Heading) → cond b (let o : Option Heading = Some own in o) None ≡ Some h → (b ≡ true) × (own ≡ h)
+if_bw true own h e = (refl, cc)
+if_bw false own h e = absurd (cc)
 
-heading_or_bw : (m : Mode) (a : Answer) (other : Line → Said Heading) (ts : Line) (h : Heading) → heading_or m a other ts ≡ Ok h
-    → (other ts ≡ Ok h → ts ≡ first_line h.mode h.answer) → ts ≡ first_line h.mode h.answer
-heading_or_bw m a other ts h e rest =
-    let own : Heading = record { mode = m; answer = a } in
-    let P : Heading → Type 0 = λ h. ts ≡ first_line h.mode h.answer in
-    ⊎_elim (λ d. subst P d.1 (is_line m a ts d.0)) rest (heading_inv (is_heading m a ts) own h (other ts) e)
+if_heading_bw : (own : Heading) (ts : Line) (h : Heading) → is_version own.version ≡ true → if_heading own ts ≡ Some h → IsHeadingOf ts h
+if_heading_bw own ts h v e =
+    let p = if_bw (is_heading own ts) own h e in
+    let ps = heading_places own in
+    let P : Heading → Type 0 = λ h. IsHeadingOf ts h in
+    subst P p.1 (v, closed_none ps ts (line_back ps tail.Nothing ts (none_from (line_fault ps tail.Nothing ts) p.0)))
 
-pub heading_bw : (ts : Line) (h : Heading) → heading_in ts ≡ Ok h → ts ≡ first_line h.mode h.answer
+else_bw : {A : Type 0} (o other : Option A) (a : A) → or_else o other ≡ Some a → (o ≡ Some a) ⊎ (other ≡ Some a)
+else_bw (Some x) other a e = inl e
+else_bw None other a e = inr e
+
+mode_heading_bw : (v : ℕ) (m : Mode) (ts : Line) (h : Heading) → is_version v ≡ true → mode_heading_in v m ts ≡ Some h → IsHeadingOf ts h
+mode_heading_bw v m ts h e f =
+    let yes_or = if_heading (heading v m answer.Yes) ts in
+    let no_or = if_heading (heading v m answer.No) ts in
+    let list_or = if_heading (heading v m answer.List) ts in
+    ⊎_elim (if_heading_bw (heading v m answer.Yes) ts h e)
+    (λ more. ⊎_elim (if_heading_bw (heading v m answer.No) ts h e) (if_heading_bw (heading v m answer.List) ts h e) (else_bw no_or list_or h more))
+    (else_bw yes_or (or_else no_or list_or) h f)
+
+version_heading_bw : (v : ℕ) (ts : Line) (h : Heading) → is_version v ≡ true → version_heading_in v ts ≡ Some h → IsHeadingOf ts h
+version_heading_bw v ts h e f =
+    ⊎_elim (mode_heading_bw v mode.Buchi ts h e) (mode_heading_bw v mode.Finite ts h e)
+    (else_bw (mode_heading_in v mode.Buchi ts) (mode_heading_in v mode.Finite ts) h f)
+
+said_bw : (o : Option Heading) (h : Heading) → heading_said o ≡ Ok h → o ≡ Some h
+said_bw (Some x) h e = let same : x ≡ h = cc in let f : Heading → Option Heading = λ y. Some y in ap f same
+said_bw None h e = absurd (cc)
+
+pub heading_bw : (ts : Line) (h : Heading) → heading_in ts ≡ Ok h → IsHeadingOf ts h
 heading_bw ts h e =
-    heading_or_bw mode.Buchi answer.Yes
-    (heading_or mode.Buchi answer.No (heading_or mode.Buchi answer.List finite_heading_in)) ts h e
-    (λ e. heading_or_bw mode.Buchi answer.No (heading_or mode.Buchi answer.List finite_heading_in) ts h e
-    (λ e. heading_or_bw mode.Buchi answer.List finite_heading_in ts h e
-    (λ e. heading_or_bw mode.Finite answer.Yes
-    (heading_or mode.Finite answer.No (heading_or mode.Finite answer.List (λ tokens. Err kind.Header))) ts h e
-    (λ e. heading_or_bw mode.Finite answer.No (heading_or mode.Finite answer.List (λ tokens. Err kind.Header)) ts h e
-    (λ e. heading_or_bw mode.Finite answer.List (λ tokens. Err kind.Header) ts h e (λ e. absurd (cc)))))))
+    ⊎_elim (version_heading_bw 1 ts h refl) (version_heading_bw 2 ts h refl)
+    (else_bw (version_heading_in 1 ts) (version_heading_in 2 ts) h
+    (said_bw (or_else (version_heading_in 1 ts) (version_heading_in 2 ts)) h e))

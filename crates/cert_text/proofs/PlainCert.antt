@@ -1,37 +1,27 @@
-use Rattle.std.proofs.Common.{◌≡◌, ℕ, List, [], ◌∷◌, ◌++◌, length, map, decimal, Bool, true, ◌&&◌, refl}
+use Rattle.std.proofs.Common.{◌≡◌, ℕ, List, [], ◌∷◌, ◌++◌, ◌==◌, length, decimal, Bool, true, false, cond, refl}
 use Rattle.std.specs.List.{list_all}
 use Rattle.std.proofs.lemmas.Bool.{and_from}
-use Rattle.auto_core.specs.declared.parts.Mode.{Mode}
-use Rattle.auto_core.specs.declared.parts.Mode.TheVariants as mode
 use Rattle.auto_core.specs.declared.parts.Origin.{Origin}
 use Rattle.auto_core.specs.declared.parts.Origin.TheVariants as origin
-use Rattle.auto_core.specs.declared.parts.Lasso.{Lasso}
 use Rattle.cert_value.specs.declared.keywords.Keyword.{Keyword}
 use Rattle.cert_value.specs.declared.keywords.Keyword.TheVariants as keyword
-use Rattle.cert_value.specs.declared.types.Answer.{Answer}
-use Rattle.cert_value.specs.declared.types.Answer.TheVariants as answer
 use Rattle.cert_value.specs.declared.types.Cert.{Cert}
 use Rattle.cert_value.specs.declared.types.Body.{Body}
 use Rattle.cert_value.specs.declared.types.Body.TheVariants as body
-use Rattle.cert_value.specs.declared.types.YesBody.{YesBody}
-use Rattle.cert_value.specs.declared.types.ListBody.{ListBody}
 use Rattle.cert_value.specs.declared.types.FirstStep.{FirstStep}
 use Rattle.cert_value.specs.declared.types.FirstStep.TheVariants as first
 use Rattle.cert_value.specs.declared.types.SecondStep.{SecondStep}
 use Rattle.cert_value.specs.declared.types.SecondStep.TheVariants as second
 use Rattle.cert_value.specs.declared.types.Grounds.{Grounds}
 use Rattle.cert_value.specs.declared.types.Grounds.TheVariants as grounds
-use Rattle.cert_value.specs.declared.types.GoneBy.{GoneBy}
 use Rattle.cert_value.specs.declared.types.RelBlock.{RelBlock}
 use Rattle.cert_value.specs.declared.types.Row.{Row}
 use Rattle.cert_value.specs.declared.types.RankBlock.{RankBlock}
 use Rattle.cert_value.specs.declared.types.RankRow.{RankRow}
-use Rattle.cert_value.specs.declared.types.Ranked.{Ranked}
-use Rattle.cert_value.specs.declared.types.Element.{Element}
 use Rattle.cert_value.specs.declared.types.Mark.{Mark}
 use Rattle.cert_value.specs.declared.types.Mark.TheVariants as mark
 use Rattle.cert_value.specs.declared.types.StepLine.{StepLine}
-use Rattle.cert_value.specs.Text.{Line, spelled, numbers, each, row_lines, block_lines, ranked_numbers, rank_row_lines, rank_block_lines, gone_numbers, classes_line, first_step_lines, merge_lines, second_step_lines, origin_line, mark_tokens, element_lines, origin_lines, step_lines, first_lines, second_lines, elements_line, closed_lines, yes_lines, limit_lines, list_lines, body_lines, mode_word, answer_word, answer_of, first_line, sizes_line, end_line, cert_lines}
+use Rattle.cert_value.specs.Text.{Line, spelled, numbers, row_numbers, letters_tokens, version_word, each, row_lines, block_lines, ranked_numbers, rank_row_lines, rank_block_lines, gone_numbers, first_step_lines, merge_lines, second_step_lines, origin_line, mark_tokens, element_lines, origin_lines, step_lines, first_lines, second_lines, closed_lines, limit_lines, body_lines, mode_word, answer_word, answer_of, end_line, cert_lines}
 use Rattle.cert_text.proofs.BytesLines.{plain, PlainLine, PlainLines, spelled_plain, decimal_plain, numbers_plain}
 
 -- A line of a word and plain tokens.
@@ -53,15 +43,15 @@ plain_each : {A : Type 0} (f : A → List Line) → ((x : A) → PlainLines (f x
 plain_each f p [] = tt
 plain_each f p (x ∷ xs) = plain_append (f x) (each f xs) (p x) (plain_each f p xs)
 
-plain_row : (row : Row) → PlainLines (row_lines row)
-plain_row row = (word_line keyword.Row (decimal row.left ∷ numbers row.rights) (number_then row.left (numbers row.rights) (numbers_plain row.rights)), tt)
+plain_row : (v : ℕ) (row : Row) → PlainLines (row_lines v row)
+plain_row v row = (word_line keyword.Row (decimal row.left ∷ numbers (row_numbers v row.runs)) (number_then row.left (numbers (row_numbers v row.runs)) (numbers_plain (row_numbers v row.runs))), tt)
 
-plain_block : (b : RelBlock) → PlainLines (block_lines b)
-plain_block b = (one_number keyword.Rel (length b.rows), plain_each row_lines plain_row b.rows)
+plain_block : (v : ℕ) (b : RelBlock) → PlainLines (block_lines v b)
+plain_block v b = (one_number keyword.Rel (length b.rows), plain_each (row_lines v) (plain_row v) b.rows)
 
 plain_rank_row : (row : RankRow) → PlainLines (rank_row_lines row)
 plain_rank_row row =
-    let ns = ranked_numbers row.rights in
+    let ns = row.ahead ++ ranked_numbers row.rights in
     (word_line keyword.Row (decimal row.left ∷ numbers ns) (number_then row.left (numbers ns) (numbers_plain ns)), tt)
 
 plain_rank_block : (b : RankBlock) → PlainLines (rank_block_lines b)
@@ -70,29 +60,33 @@ plain_rank_block b = (one_number keyword.Rel (length b.rows), plain_each rank_ro
 plain_numbers : (w : Keyword) (ns : List ℕ) → PlainLine (spelled w ∷ numbers ns)
 plain_numbers w ns = word_line w (numbers ns) (numbers_plain ns)
 
-plain_first : (s : FirstStep) → PlainLines (first_step_lines s)
-plain_first (first.Trim kept) = (plain_numbers keyword.Trim kept, tt)
-plain_first (first.Merge classes) = (word_line keyword.Merge [] refl, (plain_numbers keyword.Classes classes, tt))
-plain_first (first.Cut pair look gone blocks) = (
+plain_first : (v : ℕ) (s : FirstStep) → PlainLines (first_step_lines v s)
+plain_first v (first.Trim kept) = (plain_numbers keyword.Trim kept, tt)
+plain_first v (first.Merge classes) = (word_line keyword.Merge [] refl, (plain_numbers keyword.Classes classes, tt))
+plain_first v (first.Cut pair look gone blocks) = (
   word_line keyword.Cut (decimal pair ∷ decimal look ∷ []) (number_then pair (decimal look ∷ []) (number_then look [] refl)),
-  (plain_numbers keyword.Gone (gone_numbers gone), plain_each block_lines plain_block blocks),
+  (plain_numbers keyword.Gone (gone_numbers gone), plain_each (block_lines v) (plain_block v) blocks),
 )
 
 two_words : (w v : Keyword) (rest : Line) → list_all plain rest ≡ true → PlainLine (spelled w ∷ spelled v ∷ rest)
 two_words w v rest e = word_line w (spelled v ∷ rest) (and_from (plain (spelled v)) (list_all plain rest) (spelled_plain v) e)
 
-plain_merge : (by : Grounds) (classes : List ℕ) → PlainLines (merge_lines by classes)
-plain_merge (grounds.Forward look rel) classes =
-    (two_words keyword.Merge keyword.Forward (decimal look ∷ []) (number_then look [] refl), (plain_numbers keyword.Classes classes, plain_block rel))
-plain_merge (grounds.Backward look rel) classes =
-    (two_words keyword.Merge keyword.Backward (decimal look ∷ []) (number_then look [] refl), (plain_numbers keyword.Classes classes, plain_block rel))
-plain_merge (grounds.Delayed ranks) classes =
-    (two_words keyword.Merge keyword.Delayed [] refl, (plain_numbers keyword.Classes classes, plain_rank_block ranks))
+plain_letters : (b : Bool) (letters : ℕ) → list_all plain (cond b (decimal letters ∷ []) []) ≡ true
+plain_letters true letters = number_then letters [] refl
+plain_letters false letters = refl
 
-plain_second : (s : SecondStep) → PlainLines (second_step_lines s)
-plain_second (second.Trim kept) = (plain_numbers keyword.Trim kept, tt)
-plain_second (second.Merge by classes) = plain_merge by classes
-plain_second (second.Cut gone) = (word_line keyword.Cut [] refl, (plain_numbers keyword.Gone gone, tt))
+plain_merge : (v : ℕ) (by : Grounds) (classes : List ℕ) → PlainLines (merge_lines v by classes)
+plain_merge v (grounds.Forward look rel) classes =
+    (two_words keyword.Merge keyword.Forward (decimal look ∷ []) (number_then look [] refl), (plain_numbers keyword.Classes classes, plain_block v rel))
+plain_merge v (grounds.Backward look rel) classes =
+    (two_words keyword.Merge keyword.Backward (decimal look ∷ []) (number_then look [] refl), (plain_numbers keyword.Classes classes, plain_block v rel))
+plain_merge v (grounds.Delayed letters ranks) classes =
+    (two_words keyword.Merge keyword.Delayed (letters_tokens v letters) (plain_letters (v == 2) letters), (plain_numbers keyword.Classes classes, plain_rank_block ranks))
+
+plain_second : (v : ℕ) (s : SecondStep) → PlainLines (second_step_lines v s)
+plain_second v (second.Trim kept) = (plain_numbers keyword.Trim kept, tt)
+plain_second v (second.Merge by classes) = plain_merge v by classes
+plain_second v (second.Cut gone) = (word_line keyword.Cut [] refl, (plain_numbers keyword.Gone gone, tt))
 
 plain_origin : (from : Origin) → list_all plain (origin_line from) ≡ true
 plain_origin (origin.Start) = word_line keyword.Start [] refl
@@ -111,25 +105,25 @@ plain_element (mark.Under j) from = word_line keyword.Under (decimal j ∷ origi
 plain_step : (s : StepLine) → PlainLines (step_lines s)
 plain_step s = (word_line keyword.Step (decimal s.element ∷ numbers s.by) (number_then s.element (numbers s.by) (numbers_plain s.by)), tt)
 
-plain_logs : (fs : List FirstStep) (ss : List SecondStep) (after : List Line) → PlainLines after
-    → PlainLines (first_lines fs ++ (second_lines ss ++ after))
-plain_logs fs ss after h =
-    plain_append (first_lines fs) (second_lines ss ++ after) (one_number keyword.Log1 (length fs), plain_each first_step_lines plain_first fs)
-    (plain_append (second_lines ss) after (one_number keyword.Log2 (length ss), plain_each second_step_lines plain_second ss) h)
+plain_logs : (v : ℕ) (fs : List FirstStep) (ss : List SecondStep) (after : List Line) → PlainLines after
+    → PlainLines (first_lines v fs ++ (second_lines v ss ++ after))
+plain_logs v fs ss after h =
+    plain_append (first_lines v fs) (second_lines v ss ++ after) (one_number keyword.Log1 (length fs), plain_each (first_step_lines v) (plain_first v) fs)
+    (plain_append (second_lines v ss) after (one_number keyword.Log2 (length ss), plain_each (second_step_lines v) (plain_second v) ss) h)
 
-plain_body : (b : Body) → PlainLines (body_lines b)
-plain_body (body.Yes y) =
-    plain_logs y.first y.second (block_lines y.order ++ closed_lines y.elements y.cover y.steps)
-    (plain_append (block_lines y.order) (closed_lines y.elements y.cover y.steps) (plain_block y.order) (
+plain_body : (v : ℕ) (b : Body) → PlainLines (body_lines v b)
+plain_body v (body.Yes y) =
+    plain_logs v y.first y.second (block_lines v y.order ++ closed_lines y.elements y.cover y.steps)
+    (plain_append (block_lines v y.order) (closed_lines y.elements y.cover y.steps) (plain_block v y.order) (
       one_number keyword.Elements (length y.elements),
       plain_append (each element_lines y.elements) ((spelled keyword.Cover ∷ numbers y.cover) ∷ each step_lines y.steps)
           (plain_each element_lines (λ e. (plain_element e.mark e.origin, tt)) y.elements)
           (plain_numbers keyword.Cover y.cover, plain_each step_lines plain_step y.steps),
     ))
-plain_body (body.NoLasso lasso) = (plain_numbers keyword.Prefix lasso.prefix, (plain_numbers keyword.Loop lasso.turn, tt))
-plain_body (body.NoWord word) = (plain_numbers keyword.Word word, tt)
-plain_body (body.Listing list) =
-    plain_logs list.first list.second (limit_lines list.limit list.elements) (
+plain_body v (body.NoLasso lasso) = (plain_numbers keyword.Prefix lasso.prefix, (plain_numbers keyword.Loop lasso.turn, tt))
+plain_body v (body.NoWord word) = (plain_numbers keyword.Word word, tt)
+plain_body v (body.Listing list) =
+    plain_logs v list.first list.second (limit_lines list.limit list.elements) (
       one_number keyword.Limit list.limit,
       (one_number keyword.Elements (length list.elements), plain_each origin_lines (λ from. (origin_is from, tt)) list.elements),
     )
@@ -137,13 +131,13 @@ plain_body (body.Listing list) =
 -- all lines of a certificate are plain
 pub plain_cert : (c : Cert) → PlainLines (cert_lines c)
 plain_cert c = (
-  two_words keyword.RabitCert keyword.One (spelled (mode_word c.mode) ∷ spelled (answer_word (answer_of c.body)) ∷ [])
+  two_words keyword.RabitCert (version_word c.version) (spelled (mode_word c.mode) ∷ spelled (answer_word (answer_of c.body)) ∷ [])
       (and_from (plain (spelled (mode_word c.mode))) _ (spelled_plain (mode_word c.mode))
       (and_from (plain (spelled (answer_word (answer_of c.body)))) true (spelled_plain (answer_word (answer_of c.body))) refl)),
   (
     word_line keyword.Sizes (decimal c.first_states ∷ decimal c.second_states ∷ decimal c.labels ∷ [])
         (number_then c.first_states (decimal c.second_states ∷ decimal c.labels ∷ [])
         (number_then c.second_states (decimal c.labels ∷ []) (number_then c.labels [] refl))),
-    plain_append (body_lines c.body) (end_line ∷ []) (plain_body c.body) (word_line keyword.End [] refl, tt),
+    plain_append (body_lines c.version c.body) (end_line ∷ []) (plain_body c.version c.body) (word_line keyword.End [] refl, tt),
   ),
 )

@@ -12,7 +12,7 @@ use Rattle.cert_value.specs.Text.{Line}
 use Rattle.cert_value.specs.Tokens.{tokens_of}
 use Rattle.cert_text.specs.Agrees.{Agrees}
 use Rattle.cert_text.specs.Told.{Told, located}
-use Rattle.cert_text.specs.Grammar.{ReadOutcome, Read, Stopped, after, lines_of, read_lines, reading, told_at, first_left, is_bare, finish}
+use Rattle.cert_text.specs.Grammar.{ReadOutcome, Read, Stopped, after, lines_of, read_lines, reading, told_at, first_left, is_bare}
 use Rattle.cert_text.specs.Machine.{step, ended, at_end}
 use Rattle.cert_text.proofs.ResumeState.{resume, state_law, state_last}
 use Rattle.cert_value.proofs.SplitLemmas.{split_none, split_some, rest_all}

@@ -1,52 +1,27 @@
-use Rattle.std.proofs.Common.{◌≡◌, ℕ, zero, suc, ◌+◌, ◌-◌, List, [], ◌∷◌, ◌++◌, drop, Bool, cond, ◌==◌, Option, Some, None, Result, Ok, Err, refl, sym, ap, ◌∙◌, arith, add-one, ne_eqb, true, false}
-use Rattle.std.proofs.lemmas.Bool.{cond-false}
+use Rattle.std.proofs.Common.{◌≡◌, ℕ, zero, suc, ◌+◌, List, [], ◌∷◌, ◌++◌, drop, Bool, cond, Option, Some, refl, sym, ap, ◌∙◌, add-one, true, false}
 use Rattle.auto_core.specs.declared.parts.Mode.{Mode}
 use Rattle.auto_core.specs.declared.parts.Mode.TheVariants as mode
 use Rattle.auto_core.specs.declared.parts.Origin.{Origin}
 use Rattle.cert_value.specs.declared.keywords.Keyword.TheVariants as keyword
 use Rattle.cert_text.specs.declared.forms.Tail.TheVariants as tail
-use Rattle.cert_text.specs.declared.faults.TextKind.TheVariants.{Truncated, Trailing}
+use Rattle.cert_text.specs.declared.faults.TextKind.TheVariants.{Truncated}
 use Rattle.cert_text.specs.declared.parts.Step.{Step}
 use Rattle.cert_text.specs.declared.parts.Step.TheVariants.{More, Whole}
 use Rattle.cert_text.specs.declared.parts.Closed.{Closed}
 use Rattle.cert_text.specs.declared.parts.Limited.{Limited}
 use Rattle.cert_value.specs.declared.types.Answer.{Answer}
 use Rattle.cert_value.specs.declared.types.Answer.TheVariants as answer
-use Rattle.cert_value.specs.declared.types.Cert.{Cert}
 use Rattle.cert_value.specs.declared.types.Body.{Body}
 use Rattle.cert_value.specs.declared.types.Body.TheVariants as body
 use Rattle.cert_value.specs.declared.types.FirstStep.{FirstStep}
-use Rattle.cert_value.specs.declared.types.FirstStep.TheVariants as first
 use Rattle.cert_value.specs.declared.types.SecondStep.{SecondStep}
-use Rattle.cert_value.specs.declared.types.SecondStep.TheVariants as second
-use Rattle.cert_value.specs.declared.types.Grounds.TheVariants as grounds
-use Rattle.cert_value.specs.declared.types.GoneBy.{GoneBy}
 use Rattle.cert_value.specs.declared.types.RelBlock.{RelBlock}
-use Rattle.cert_value.specs.declared.types.RankBlock.{RankBlock}
-use Rattle.cert_value.specs.declared.types.Row.{Row}
-use Rattle.cert_value.specs.declared.types.RankRow.{RankRow}
 use Rattle.cert_value.specs.declared.types.Element.{Element}
 use Rattle.cert_value.specs.declared.types.StepLine.{StepLine}
 use Rattle.cert_text.specs.declared.lines.Sizes.{Sizes}
-use Rattle.cert_text.specs.declared.lines.Heading.{Heading}
-use Rattle.cert_text.specs.declared.heads.FirstHead.{FirstHead}
-use Rattle.cert_text.specs.declared.heads.FirstHead.TheVariants as first_head
-use Rattle.cert_text.specs.declared.heads.SecondHead.{SecondHead}
-use Rattle.cert_text.specs.declared.heads.SecondHead.TheVariants as second_head
-use Rattle.cert_text.specs.declared.heads.Way.{Way}
-use Rattle.cert_text.specs.declared.heads.Way.TheVariants as way
 use Rattle.cert_text.specs.declared.blocks.BlockState.{BlockState}
-use Rattle.cert_text.specs.declared.blocks.BlockState.TheVariants as block
-use Rattle.cert_text.specs.declared.blocks.RankState.{RankState}
-use Rattle.cert_text.specs.declared.blocks.RankState.TheVariants as rank
-use Rattle.cert_text.specs.declared.first_log.FirstState.{FirstState}
-use Rattle.cert_text.specs.declared.first_log.FirstState.TheVariants as first_state
 use Rattle.cert_text.specs.declared.first_log.FirstLog.{FirstLog}
-use Rattle.cert_text.specs.declared.first_log.FirstLog.TheVariants as first_log
-use Rattle.cert_text.specs.declared.second_log.SecondState.{SecondState}
-use Rattle.cert_text.specs.declared.second_log.SecondState.TheVariants as second_state
 use Rattle.cert_text.specs.declared.second_log.SecondLog.{SecondLog}
-use Rattle.cert_text.specs.declared.second_log.SecondLog.TheVariants as second_log
 use Rattle.cert_text.specs.declared.evidence.YesState.{YesState}
 use Rattle.cert_text.specs.declared.evidence.YesState.TheVariants as yes_state
 use Rattle.cert_text.specs.declared.evidence.ListState.{ListState}
@@ -57,10 +32,10 @@ use Rattle.cert_text.specs.declared.machine.Opening.{Opening}
 use Rattle.cert_text.specs.declared.machine.State.{State}
 use Rattle.cert_text.specs.declared.machine.State.TheVariants as state
 use Rattle.cert_value.specs.Text.{Line}
-use Rattle.cert_value.specs.WellFormed.{blocks_due, is_live}
-use Rattle.cert_text.specs.Lines.{Said, word_in, number_in, numbers_in, ascending_in, sizes_in, heading_in, row_in, rank_row_in, gone_by_in, first_head_in, second_head_in, origin_in, element_in, step_in}
-use Rattle.cert_text.specs.Grammar.{ReadOutcome, Read, Stopped, Then, after, next_line, read_rows, read_block, read_rank_rows, read_rank_block, read_blocks, read_classes, read_first_rest, read_first_steps, read_grounds, read_second_rest, read_second_steps, read_elements, read_steps, read_origins, read_cover, read_all_elements, read_closed, read_all_origins, read_limited, read_first_log, read_second_log, read_turn, read_lasso, read_word, yes_of, list_of, read_evidence, read_after_first, read_logs, read_body, finish, cert_of, read_end, read_rest, read_sizes, read_lines}
-use Rattle.cert_text.specs.Machine.{map_said, on_or, rows_due, step_block, rank_rows_due, step_ranks, blocks_left, with_block, first_started, step_first, first_left, with_first, step_first_log, rel_due, with_forward, with_backward, with_delayed, second_started, step_second, second_left, with_second, step_second_log, elements_left, live_from, step_or_whole, steps_left, with_order, step_yes, origins_left, step_list, step_no, whole, begun, with_no, with_first_log, evidence_due, with_second_log, with_yes, with_list, step, at_end}
+use Rattle.cert_value.specs.WellFormed.{is_live}
+use Rattle.cert_text.specs.Lines.{word_in, number_in, numbers_in, sizes_in, heading_in, origin_in, element_in, step_in}
+use Rattle.cert_text.specs.Grammar.{ReadOutcome, Stopped, Then, after, next_line, read_elements, read_steps, read_origins, read_cover, read_all_elements, read_all_origins, read_limited, read_turn, read_lasso, read_word, yes_of, list_of, read_evidence, read_after_first, finish, cert_of, read_end, read_rest, read_sizes}
+use Rattle.cert_text.specs.Machine.{step_block, step_first_log, step_second_log, elements_left, live_from, step_or_whole, steps_left, with_order, step_yes, origins_left, step_list, step_no, whole, begun, with_no, with_first_log, evidence_due, with_second_log, with_yes, with_list, step, at_end}
 use Rattle.cert_text.proofs.Resume.{Resume, on_step, arm, on_suc, resume_block, block_law, block_last, resume_first_log, first_log_law, first_log_last, resume_second_log, second_log_law, second_log_last}
 use Rattle.cert_value.proofs.SplitLemmas.{drop_one}
 
@@ -72,96 +47,96 @@ closed_next order elements cover next steps =
 abbrev pub cover_next : RelBlock → Then Closed → Then (List Element)
 cover_next order next elements = read_cover order elements next
 
-abbrev pub resume_yes : Mode → Resume YesState Closed
-resume_yes m (yes_state.Order at) next = resume_block at (λ order. read_all_elements m order next)
-resume_yes m (yes_state.Elements order) next = read_all_elements m order next
-resume_yes m (yes_state.Element order elements later) next = read_elements m (suc later) elements (cover_next order next)
-resume_yes m (yes_state.Cover order elements) next = read_cover order elements next
-resume_yes m (yes_state.Step order elements cover steps at) next =
+abbrev pub resume_yes : ℕ → Mode → Resume YesState Closed
+resume_yes v m (yes_state.Order at) next = resume_block v at (λ order. read_all_elements m order next)
+resume_yes v m (yes_state.Elements order) next = read_all_elements m order next
+resume_yes v m (yes_state.Element order elements later) next = read_elements m (suc later) elements (cover_next order next)
+resume_yes v m (yes_state.Cover order elements) next = read_cover order elements next
+resume_yes v m (yes_state.Step order elements cover steps at) next =
     next_line (step_in at)
     (λ step. read_steps (at + 1) (drop (at + 1) elements) (steps ++ step ∷ []) (closed_next order elements cover next))
 
-order_law : (m : Mode) (next : Then Closed) (s : Step BlockState RelBlock) (lines : List Line)
-    → on_step resume_block (λ order. read_all_elements m order next) s lines
-    ≡ on_step (resume_yes m) next (with_order s) lines
+order_law : (v : ℕ) (m : Mode) (next : Then Closed) (s : Step BlockState RelBlock) (lines : List Line)
+    → on_step (resume_block v) (λ order. read_all_elements m order next) s lines
+    ≡ on_step (resume_yes v m) next (with_order s) lines
 unfolding with_order
-order_law m next (More at) lines = refl
-order_law m next (Whole order) lines = refl
+order_law v m next (More at) lines = refl
+order_law v m next (Whole order) lines = refl
 
-elements_law : (m : Mode) (order : RelBlock) (elements : List Element) (n : ℕ) (next : Then Closed) (lines : List Line)
+elements_law : (v : ℕ) (m : Mode) (order : RelBlock) (elements : List Element) (n : ℕ) (next : Then Closed) (lines : List Line)
     → read_elements m n elements (cover_next order next) lines
-    ≡ on_step (resume_yes m) next (elements_left order elements n) lines
+    ≡ on_step (resume_yes v m) next (elements_left order elements n) lines
 unfolding elements_left
-elements_law m order elements zero next lines = refl
-elements_law m order elements (suc k) next lines =
-    sym (ap (λ s. on_step (resume_yes m) next s lines)
+elements_law v m order elements zero next lines = refl
+elements_law v m order elements (suc k) next lines =
+    sym (ap (λ s. on_step (resume_yes v m) next s lines)
     (on_suc k (More (yes_state.Cover order elements)) (λ later. More (yes_state.Element order elements later))))
 
-by_live : (m : Mode) (order : RelBlock) (elements : List Element) (cover : List ℕ) (steps : List StepLine) (next : Then Closed)
+by_live : (v : ℕ) (m : Mode) (order : RelBlock) (elements : List Element) (cover : List ℕ) (steps : List StepLine) (next : Then Closed)
     (lines : List Line) (b : Bool) (n : ℕ) (o : Option ℕ) (live dead : ReadOutcome)
-    → live ≡ on_step (resume_yes m) next (step_or_whole order elements cover steps (Some n)) lines
-    → dead ≡ on_step (resume_yes m) next (step_or_whole order elements cover steps o) lines
-    → cond b live dead ≡ on_step (resume_yes m) next (step_or_whole order elements cover steps (cond b (Some n) o)) lines
-by_live m order elements cover steps next lines true n o live dead p q = p
-by_live m order elements cover steps next lines false n o live dead p q = q
+    → live ≡ on_step (resume_yes v m) next (step_or_whole order elements cover steps (Some n)) lines
+    → dead ≡ on_step (resume_yes v m) next (step_or_whole order elements cover steps o) lines
+    → cond b live dead ≡ on_step (resume_yes v m) next (step_or_whole order elements cover steps (cond b (Some n) o)) lines
+by_live v m order elements cover steps next lines true n o live dead p q = p
+by_live v m order elements cover steps next lines false n o live dead p q = q
 
-live_law : (m : Mode) (order : RelBlock) (elements : List Element) (cover : List ℕ) (steps : List StepLine) (next : Then Closed)
+live_law : (v : ℕ) (m : Mode) (order : RelBlock) (elements : List Element) (cover : List ℕ) (steps : List StepLine) (next : Then Closed)
     (lines : List Line) (n : ℕ) (es : List Element) → drop n elements ≡ es
     → read_steps n es steps (closed_next order elements cover next) lines
-    ≡ on_step (resume_yes m) next (step_or_whole order elements cover steps (live_from n es)) lines
+    ≡ on_step (resume_yes v m) next (step_or_whole order elements cover steps (live_from n es)) lines
 unfolding step_or_whole
-live_law m order elements cover steps next lines n [] left = refl
-live_law m order elements cover steps next lines n (e ∷ es) left =
+live_law v m order elements cover steps next lines n [] left = refl
+live_law v m order elements cover steps next lines n (e ∷ es) left =
     let k = closed_next order elements cover next in
     let rest : drop (n + 1) elements ≡ es =
     ap (λ i. drop i elements) (add-one n) ∙ sym (drop_one n elements) ∙ ap (λ xs. drop 1 xs) left in
-    by_live m order elements cover steps next lines (is_live e.mark) n (live_from (n + 1) es)
+    by_live v m order elements cover steps next lines (is_live e.mark) n (live_from (n + 1) es)
     (next_line (step_in n) (λ step. read_steps (n + 1) es (steps ++ step ∷ []) k) lines)
     (read_steps (n + 1) es steps k lines)
     (ap (λ xs. next_line (step_in n) (λ step. read_steps (n + 1) xs (steps ++ step ∷ []) k) lines) (sym rest))
-    (live_law m order elements cover steps next lines (n + 1) es rest)
+    (live_law v m order elements cover steps next lines (n + 1) es rest)
 
-steps_law : (m : Mode) (order : RelBlock) (elements : List Element) (cover : List ℕ) (steps : List StepLine) (n : ℕ)
+steps_law : (v : ℕ) (m : Mode) (order : RelBlock) (elements : List Element) (cover : List ℕ) (steps : List StepLine) (n : ℕ)
     (next : Then Closed) (lines : List Line)
     → read_steps n (drop n elements) steps (closed_next order elements cover next) lines
-    ≡ on_step (resume_yes m) next (steps_left order elements cover steps n) lines
+    ≡ on_step (resume_yes v m) next (steps_left order elements cover steps n) lines
 unfolding steps_left
-steps_law m order elements cover steps n next lines =
-    live_law m order elements cover steps next lines n (drop n elements) refl
+steps_law v m order elements cover steps n next lines =
+    live_law v m order elements cover steps next lines n (drop n elements) refl
 
-pub yes_law : (m : Mode) (s : YesState) (next : Then Closed) (line other : Line) (rest : List Line)
-    → resume_yes m s next (line ∷ other ∷ rest)
-    ≡ after (step_yes m s line) (on_step (resume_yes m) next) (line ∷ other ∷ rest) (other ∷ rest)
+pub yes_law : (v : ℕ) (m : Mode) (s : YesState) (next : Then Closed) (line other : Line) (rest : List Line)
+    → resume_yes v m s next (line ∷ other ∷ rest)
+    ≡ after (step_yes v m s line) (on_step (resume_yes v m) next) (line ∷ other ∷ rest) (other ∷ rest)
 unfolding step_yes
-yes_law m (yes_state.Order at) next line other rest =
-    block_law at (λ order. read_all_elements m order next) line other rest
-    ∙ arm with_order (step_block at line) (on_step resume_block (λ order. read_all_elements m order next))
-    (on_step (resume_yes m) next) (order_law m next) (line ∷ other ∷ rest) (other ∷ rest)
-yes_law m (yes_state.Elements order) next line other rest =
+yes_law v m (yes_state.Order at) next line other rest =
+    block_law v at (λ order. read_all_elements m order next) line other rest
+    ∙ arm with_order (step_block v at line) (on_step (resume_block v) (λ order. read_all_elements m order next))
+    (on_step (resume_yes v m) next) (order_law v m next) (line ∷ other ∷ rest) (other ∷ rest)
+yes_law v m (yes_state.Elements order) next line other rest =
     arm (λ n. elements_left order [] n) (number_in keyword.Elements line)
-    (λ n. read_elements m n [] (cover_next order next)) (on_step (resume_yes m) next)
-    (λ n lines. elements_law m order [] n next lines) (line ∷ other ∷ rest) (other ∷ rest)
-yes_law m (yes_state.Element order elements later) next line other rest =
+    (λ n. read_elements m n [] (cover_next order next)) (on_step (resume_yes v m) next)
+    (λ n lines. elements_law v m order [] n next lines) (line ∷ other ∷ rest) (other ∷ rest)
+yes_law v m (yes_state.Element order elements later) next line other rest =
     arm (λ e. elements_left order (elements ++ e ∷ []) later) (element_in m line)
-    (λ e. read_elements m later (elements ++ e ∷ []) (cover_next order next)) (on_step (resume_yes m) next)
-    (λ e lines. elements_law m order (elements ++ e ∷ []) later next lines) (line ∷ other ∷ rest) (other ∷ rest)
-yes_law m (yes_state.Cover order elements) next line other rest =
+    (λ e. read_elements m later (elements ++ e ∷ []) (cover_next order next)) (on_step (resume_yes v m) next)
+    (λ e lines. elements_law v m order (elements ++ e ∷ []) later next lines) (line ∷ other ∷ rest) (other ∷ rest)
+yes_law v m (yes_state.Cover order elements) next line other rest =
     arm (λ cover. steps_left order elements cover [] 0) (numbers_in keyword.Cover tail.Numbers line)
-    (λ cover. read_steps 0 elements [] (closed_next order elements cover next)) (on_step (resume_yes m) next)
-    (λ cover lines. steps_law m order elements cover [] 0 next lines) (line ∷ other ∷ rest) (other ∷ rest)
-yes_law m (yes_state.Step order elements cover steps at) next line other rest =
+    (λ cover. read_steps 0 elements [] (closed_next order elements cover next)) (on_step (resume_yes v m) next)
+    (λ cover lines. steps_law v m order elements cover [] 0 next lines) (line ∷ other ∷ rest) (other ∷ rest)
+yes_law v m (yes_state.Step order elements cover steps at) next line other rest =
     arm (λ step. steps_left order elements cover (steps ++ step ∷ []) (at + 1)) (step_in at line)
     (λ step. read_steps (at + 1) (drop (at + 1) elements) (steps ++ step ∷ []) (closed_next order elements cover next))
-    (on_step (resume_yes m) next)
-    (λ step lines. steps_law m order elements cover (steps ++ step ∷ []) (at + 1) next lines) (line ∷ other ∷ rest) (other ∷ rest)
+    (on_step (resume_yes v m) next)
+    (λ step lines. steps_law v m order elements cover (steps ++ step ∷ []) (at + 1) next lines) (line ∷ other ∷ rest) (other ∷ rest)
 
-pub yes_last : (m : Mode) (s : YesState) (next : Then Closed) (piece : Line)
-    → resume_yes m s next (piece ∷ []) ≡ Stopped Truncated (piece ∷ [])
-yes_last m (yes_state.Order at) next piece = block_last at (λ order. read_all_elements m order next) piece
-yes_last m (yes_state.Elements order) next piece = refl
-yes_last m (yes_state.Element order elements later) next piece = refl
-yes_last m (yes_state.Cover order elements) next piece = refl
-yes_last m (yes_state.Step order elements cover steps at) next piece = refl
+pub yes_last : (v : ℕ) (m : Mode) (s : YesState) (next : Then Closed) (piece : Line)
+    → resume_yes v m s next (piece ∷ []) ≡ Stopped Truncated (piece ∷ [])
+yes_last v m (yes_state.Order at) next piece = block_last v at (λ order. read_all_elements m order next) piece
+yes_last v m (yes_state.Elements order) next piece = refl
+yes_last v m (yes_state.Element order elements later) next piece = refl
+yes_last v m (yes_state.Cover order elements) next piece = refl
+yes_last v m (yes_state.Step order elements cover steps at) next piece = refl
 
 -- The evidence of a list.
 abbrev pub limited_next : ℕ → Then Limited → Then (List Origin)
@@ -232,27 +207,28 @@ no_last (no_state.Word) next piece = refl
 
 -- The whole text.
 abbrev pub closing : Opening → Then Body
-closing o b = read_end (cert_of o.mode o.sizes b)
+closing o b = read_end (cert_of o.version o.mode o.sizes b)
 
 abbrev pub resume : State → List Line → ReadOutcome
 resume (state.Heading) = next_line heading_in read_sizes
 resume (state.Sizes h) = read_sizes h
 resume (state.No o at) = resume_no at (closing o)
-resume (state.First o at) = resume_first_log at (λ firsts. read_after_first o.mode o.answer firsts (closing o))
+resume (state.First o at) = resume_first_log o.version at (λ firsts. read_after_first o.version o.mode o.answer firsts (closing o))
 resume (state.Second o firsts at) =
-    resume_second_log o.mode at (λ seconds. read_evidence o.mode o.answer firsts seconds (closing o))
-resume (state.Yes o firsts seconds at) = resume_yes o.mode at (λ closed. closing o (yes_of firsts seconds closed))
+    resume_second_log o.version o.mode at (λ seconds. read_evidence o.version o.mode o.answer firsts seconds (closing o))
+resume (state.Yes o firsts seconds at) = resume_yes o.version o.mode at (λ closed. closing o (yes_of firsts seconds closed))
 resume (state.List o firsts seconds at) = resume_list o.mode at (λ limited. closing o (list_of firsts seconds limited))
 resume (state.End c) = read_end c
 resume (state.Done c) = finish c
 
-begun_law : (m : Mode) (a : Answer) (sizes : Sizes) (lines : List Line)
-    → read_rest (record { mode = m; answer = a }) sizes lines ≡ resume (begun (record { mode = m; answer = a }) sizes) lines
+begun_law : (v : ℕ) (m : Mode) (a : Answer) (sizes : Sizes) (lines : List Line)
+    → read_rest (record { version = v; mode = m; answer = a }) sizes lines
+    ≡ resume (begun (record { version = v; mode = m; answer = a }) sizes) lines
 unfolding begun
-begun_law m (answer.Yes) sizes lines = refl
-begun_law (mode.Buchi) (answer.No) sizes lines = refl
-begun_law (mode.Finite) (answer.No) sizes lines = refl
-begun_law m (answer.List) sizes lines = refl
+begun_law v m (answer.Yes) sizes lines = refl
+begun_law v (mode.Buchi) (answer.No) sizes lines = refl
+begun_law v (mode.Finite) (answer.No) sizes lines = refl
+begun_law v m (answer.List) sizes lines = refl
 
 with_no_law : (o : Opening) (s : Step NoState Body) (lines : List Line)
     → on_step resume_no (closing o) s lines ≡ resume (with_no o s) lines
@@ -261,29 +237,29 @@ with_no_law o (More at) lines = refl
 with_no_law o (Whole b) lines = refl
 
 with_first_log_law : (o : Opening) (s : Step FirstLog (List FirstStep)) (lines : List Line)
-    → on_step resume_first_log (λ firsts. read_after_first o.mode o.answer firsts (closing o)) s lines
+    → on_step (resume_first_log o.version) (λ firsts. read_after_first o.version o.mode o.answer firsts (closing o)) s lines
     ≡ resume (with_first_log o s) lines
 unfolding with_first_log
 with_first_log_law o (More at) lines = refl
 with_first_log_law o (Whole firsts) lines = refl
 
-evidence_law : (m : Mode) (a : Answer) (sizes : Sizes) (firsts : List FirstStep) (seconds : List SecondStep) (lines : List Line)
-    → read_evidence m a firsts seconds (closing (record { mode = m; answer = a; sizes = sizes })) lines
-    ≡ resume (evidence_due (record { mode = m; answer = a; sizes = sizes }) firsts seconds) lines
+evidence_law : (v : ℕ) (m : Mode) (a : Answer) (sizes : Sizes) (firsts : List FirstStep) (seconds : List SecondStep) (lines : List Line)
+    → read_evidence v m a firsts seconds (closing (record { version = v; mode = m; answer = a; sizes = sizes })) lines
+    ≡ resume (evidence_due (record { version = v; mode = m; answer = a; sizes = sizes }) firsts seconds) lines
 unfolding evidence_due
-evidence_law m (answer.Yes) sizes firsts seconds lines = refl
-evidence_law m (answer.No) sizes firsts seconds lines = refl
-evidence_law m (answer.List) sizes firsts seconds lines = refl
+evidence_law v m (answer.Yes) sizes firsts seconds lines = refl
+evidence_law v m (answer.No) sizes firsts seconds lines = refl
+evidence_law v m (answer.List) sizes firsts seconds lines = refl
 
 with_second_log_law : (o : Opening) (firsts : List FirstStep) (s : Step SecondLog (List SecondStep)) (lines : List Line)
-    → on_step (resume_second_log o.mode) (λ seconds. read_evidence o.mode o.answer firsts seconds (closing o)) s lines
+    → on_step (resume_second_log o.version o.mode) (λ seconds. read_evidence o.version o.mode o.answer firsts seconds (closing o)) s lines
     ≡ resume (with_second_log o firsts s) lines
 unfolding with_second_log
 with_second_log_law o firsts (More at) lines = refl
-with_second_log_law o firsts (Whole seconds) lines = evidence_law o.mode o.answer o.sizes firsts seconds lines
+with_second_log_law o firsts (Whole seconds) lines = evidence_law o.version o.mode o.answer o.sizes firsts seconds lines
 
 with_yes_law : (o : Opening) (firsts : List FirstStep) (seconds : List SecondStep) (s : Step YesState Closed) (lines : List Line)
-    → on_step (resume_yes o.mode) (λ closed. closing o (yes_of firsts seconds closed)) s lines
+    → on_step (resume_yes o.version o.mode) (λ closed. closing o (yes_of firsts seconds closed)) s lines
     ≡ resume (with_yes o firsts seconds s) lines
 unfolding with_yes whole
 with_yes_law o firsts seconds (More at) lines = refl
@@ -303,26 +279,26 @@ unfolding step
 state_law (state.Heading) line other rest =
     arm (λ h. state.Sizes h) (heading_in line) read_sizes resume (λ h lines. refl) (line ∷ other ∷ rest) (other ∷ rest)
 state_law (state.Sizes h) line other rest =
-    arm (begun h) (sizes_in line) (read_rest h) resume (λ sizes lines. begun_law h.mode h.answer sizes lines)
+    arm (begun h) (sizes_in line) (read_rest h) resume (λ sizes lines. begun_law h.version h.mode h.answer sizes lines)
     (line ∷ other ∷ rest) (other ∷ rest)
 state_law (state.No o at) line other rest =
     no_law at (closing o) line other rest
     ∙ arm (with_no o) (step_no at line) (on_step resume_no (closing o)) resume (with_no_law o)
     (line ∷ other ∷ rest) (other ∷ rest)
 state_law (state.First o at) line other rest =
-    let k = λ (firsts : List FirstStep). read_after_first o.mode o.answer firsts (closing o) in
-    first_log_law at k line other rest
-    ∙ arm (with_first_log o) (step_first_log at line) (on_step resume_first_log k) resume (with_first_log_law o)
+    let k = λ (firsts : List FirstStep). read_after_first o.version o.mode o.answer firsts (closing o) in
+    first_log_law o.version at k line other rest
+    ∙ arm (with_first_log o) (step_first_log o.version at line) (on_step (resume_first_log o.version) k) resume (with_first_log_law o)
     (line ∷ other ∷ rest) (other ∷ rest)
 state_law (state.Second o firsts at) line other rest =
-    let k = λ (seconds : List SecondStep). read_evidence o.mode o.answer firsts seconds (closing o) in
-    second_log_law o.mode at k line other rest
-    ∙ arm (with_second_log o firsts) (step_second_log o.mode at line) (on_step (resume_second_log o.mode) k) resume
+    let k = λ (seconds : List SecondStep). read_evidence o.version o.mode o.answer firsts seconds (closing o) in
+    second_log_law o.version o.mode at k line other rest
+    ∙ arm (with_second_log o firsts) (step_second_log o.version o.mode at line) (on_step (resume_second_log o.version o.mode) k) resume
     (with_second_log_law o firsts) (line ∷ other ∷ rest) (other ∷ rest)
 state_law (state.Yes o firsts seconds at) line other rest =
     let k = λ (closed : Closed). closing o (yes_of firsts seconds closed) in
-    yes_law o.mode at k line other rest
-    ∙ arm (with_yes o firsts seconds) (step_yes o.mode at line) (on_step (resume_yes o.mode) k) resume
+    yes_law o.version o.mode at k line other rest
+    ∙ arm (with_yes o firsts seconds) (step_yes o.version o.mode at line) (on_step (resume_yes o.version o.mode) k) resume
     (with_yes_law o firsts seconds) (line ∷ other ∷ rest) (other ∷ rest)
 state_law (state.List o firsts seconds at) line other rest =
     let k = λ (limited : Limited). closing o (list_of firsts seconds limited) in
@@ -340,11 +316,11 @@ state_last (state.Heading) piece = refl
 state_last (state.Sizes h) piece = refl
 state_last (state.No o at) piece = no_last at (closing o) piece
 state_last (state.First o at) piece =
-    first_log_last at (λ firsts. read_after_first o.mode o.answer firsts (closing o)) piece
+    first_log_last o.version at (λ firsts. read_after_first o.version o.mode o.answer firsts (closing o)) piece
 state_last (state.Second o firsts at) piece =
-    second_log_last o.mode at (λ seconds. read_evidence o.mode o.answer firsts seconds (closing o)) piece
+    second_log_last o.version o.mode at (λ seconds. read_evidence o.version o.mode o.answer firsts seconds (closing o)) piece
 state_last (state.Yes o firsts seconds at) piece =
-    yes_last o.mode at (λ closed. closing o (yes_of firsts seconds closed)) piece
+    yes_last o.version o.mode at (λ closed. closing o (yes_of firsts seconds closed)) piece
 state_last (state.List o firsts seconds at) piece =
     list_last o.mode at (λ limited. closing o (list_of firsts seconds limited)) piece
 state_last (state.End c) piece = refl

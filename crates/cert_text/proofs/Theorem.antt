@@ -1,20 +1,20 @@
-use Rattle.std.proofs.Common.{◌≡◌, ℕ, List, [], ◌∷◌, ◌++◌, ◌==◌, map, true, Result, Ok, Err, refl, sym, ap, ◌∙◌, append-nil, subst, inl, inr, ◌⊎◌, IfOk}
+use Rattle.std.proofs.Common.{◌≡◌, ℕ, List, [], ◌++◌, ◌==◌, map, true, Result, Ok, Err, refl, sym, ap, ◌∙◌, append-nil, subst, inl, inr, ◌⊎◌, IfOk}
 use Rattle.cert_text.specs.declared.faults.CertReadFault.{CertReadFault}
 use Rattle.cert_text.specs.declared.faults.CertReadFault.TheVariants.{Text, Memory}
 use Rattle.cert_text.specs.Told.{Told}
 use Rattle.cert_value.specs.declared.types.Cert.{Cert}
 use Rattle.cert_text.specs.declared.faults.TextFault.{TextFault}
-use Rattle.cert_value.specs.Text.{Line, text_of, text, cert_lines}
+use Rattle.cert_value.specs.Text.{text, cert_lines}
 use Rattle.cert_value.specs.Tokens.{tokens_of}
 use Rattle.cert_value.specs.WellFormed.{has_text, has_some, WellFormed}
-use Rattle.cert_text.specs.Grammar.{ReadOutcome, Read, Stopped, lines_of, read_lines, reading, told_at, first_left, finish}
+use Rattle.cert_text.specs.Grammar.{ReadOutcome, Read, Stopped, lines_of, read_lines, reading, told_at, finish}
 use Rattle.cert_text.specs.Law.{OneText}
+use Rattle.cert_text.proofs.PairLemmas.{some_cons}
 use Rattle.cert_text.proofs.BytesLines.{lines_text, text_back}
 use Rattle.cert_text.proofs.PlainCert.{plain_cert}
 use Rattle.cert_text.proofs.Forward.{cert_fw}
 use Rattle.cert_text.proofs.Backward.{cert_bw, finish_bw}
 use Rattle.cert_text.proofs.ReadLemmas.{told_read, split_cons}
-use Rattle.cert_text.proofs.LineFacts.{some_cons}
 
 some_lines : (bytes : List ℕ) → has_some (lines_of bytes) ≡ true
 some_lines bytes =

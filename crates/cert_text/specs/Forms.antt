@@ -1,6 +1,6 @@
 -- What one line says: its tokens, and what is due in each place.
-use Rattle.std.specs.Prelude.{ℕ, ◌+◌, ◌-◌, ◌%◌, List, [], ◌∷◌, length, map, zip, drop, slice_index, slice_index_or, Bool, true, false, ◌&&◌, ◌||◌, ◌==◌, not, nat_lt, nat_le, Option, Some, None, bytes_eq, unwrap_or, if◌then◌else◌}
-use Rattle.std.specs.List.{list_all, list_any, slice_split}
+use Rattle.std.specs.Prelude.{ℕ, List, [], ◌∷◌, length, map, zip, drop, slice_index, slice_index_or, Bool, true, false, ◌&&◌, ◌||◌, ◌==◌, not, nat_lt, nat_le, Option, Some, None, bytes_eq, unwrap_or, if◌then◌else◌}
+use Rattle.std.specs.List.{list_all, list_any}
 use Rattle.std.specs.Str.Parse.{digits_value}
 use Rattle.cert_text.specs.declared.forms.Place.{Place}
 use Rattle.cert_text.specs.declared.forms.Place.TheVariants as place
@@ -49,7 +49,7 @@ abbrev pub is_closed : Tail → Bool
 is_closed (tail.Nothing) = true
 is_closed (tail.Numbers) = false
 is_closed (tail.SomeNumbers) = false
-is_closed (tail.SomePairs) = false
+is_closed (tail.Pairs k) = false
 
 -- Every token in a number's place is a number. What follows the places is in numbers' places, unless nothing may follow.
 abbrev pub has_numbers : List Place → Tail → Line → Bool
@@ -68,7 +68,7 @@ abbrev pub may_follow : Tail → Line → Bool
 may_follow (tail.Nothing) tokens = not (has_some tokens)
 may_follow (tail.Numbers) tokens = true
 may_follow (tail.SomeNumbers) tokens = has_some tokens
-may_follow (tail.SomePairs) tokens = has_some tokens && pair_up tokens
+may_follow (tail.Pairs k) tokens = has_some (drop k tokens) && pair_up (drop k tokens)
 
 -- There are neither too few nor too many tokens.
 abbrev pub has_count : List Place → Tail → Line → Bool

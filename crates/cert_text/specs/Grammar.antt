@@ -1,6 +1,6 @@
 -- Which line may follow which. Each `read_..` takes what it reads off the lines that are left and goes on with `next`, so
 -- that no line is refused for what could not follow it.
-use Rattle.std.specs.Prelude.{ℕ, zero, suc, ◌+◌, ◌-◌, List, [], ◌∷◌, ◌++◌, length, map, Bool, true, false, not, ◌&&◌, Result, Ok, Err, cond, ◌==◌}
+use Rattle.std.specs.Prelude.{ℕ, zero, suc, ◌+◌, ◌-◌, List, [], ◌∷◌, ◌++◌, length, map, Bool, true, false, Result, Ok, Err, cond, ◌==◌}
 use Rattle.std.specs.List.{slice_split}
 use Rattle.auto_core.specs.declared.parts.Mode.{Mode}
 use Rattle.auto_core.specs.declared.parts.Mode.TheVariants as mode
@@ -38,7 +38,7 @@ use Rattle.cert_text.specs.declared.heads.Way.{Way}
 use Rattle.cert_text.specs.declared.heads.Way.TheVariants as way
 use Rattle.cert_value.specs.Text.{Line}
 use Rattle.cert_value.specs.Tokens.{tokens_of}
-use Rattle.cert_value.specs.WellFormed.{blocks_due, is_live, has_some}
+use Rattle.cert_value.specs.WellFormed.{blocks_due, is_live, rank_key}
 use Rattle.cert_text.specs.Lines.{Said, word_in, number_in, numbers_in, ascending_in, sizes_in, heading_in, row_in, rank_row_in, gone_by_in, first_head_in, second_head_in, origin_in, element_in, step_in}
 
 -- What comes of reading lines: a certificate, or a fault at the first of these lines.
@@ -62,72 +62,72 @@ next_line said next (piece ∷ []) = Stopped Truncated (piece ∷ [])
 next_line said next (line ∷ other ∷ rest) = after (said line) next (line ∷ other ∷ rest) (other ∷ rest)
 
 -- That many rows, whose left numbers ascend from the bound, after these.
-abbrev pub read_rows : ℕ → ℕ → List Row → Then (List Row) → List Line → ReadOutcome
-read_rows zero bound rows next lines = next rows lines
-read_rows (suc n) bound rows next lines =
-    next_line (row_in bound) (λ row. read_rows n (row.left + 1) (rows ++ row ∷ []) next) lines
+abbrev pub read_rows : ℕ → ℕ → ℕ → List Row → Then (List Row) → List Line → ReadOutcome
+read_rows v zero bound rows next lines = next rows lines
+read_rows v (suc n) bound rows next lines =
+    next_line (row_in v bound) (λ row. read_rows v n (row.left + 1) (rows ++ row ∷ []) next) lines
 
 -- A relation.
-abbrev pub read_block : Then RelBlock → List Line → ReadOutcome
-read_block next =
-    next_line (number_in keyword.Rel) (λ n. read_rows n 0 [] (λ rows. next (record { rows = rows })))
+abbrev pub read_block : ℕ → Then RelBlock → List Line → ReadOutcome
+read_block v next =
+    next_line (number_in keyword.Rel) (λ n. read_rows v n 0 [] (λ rows. next (record { rows = rows })))
 
--- That many rows with ranks.
-abbrev pub read_rank_rows : ℕ → ℕ → List RankRow → Then (List RankRow) → List Line → ReadOutcome
-read_rank_rows zero bound rows next lines = next rows lines
-read_rank_rows (suc n) bound rows next lines =
-    next_line (rank_row_in bound) (λ row. read_rank_rows n (row.left + 1) (rows ++ row ∷ []) next) lines
+-- That many rows with ranks, whose left numbers and labels ascend past the key, after these.
+abbrev pub read_rank_rows : ℕ → ℕ → List ℕ → List RankRow → Then (List RankRow) → List Line → ReadOutcome
+read_rank_rows letters zero key rows next lines = next rows lines
+read_rank_rows letters (suc n) key rows next lines =
+    next_line (rank_row_in letters key) (λ row. read_rank_rows letters n (rank_key row) (rows ++ row ∷ []) next) lines
 
 -- A relation with ranks.
-abbrev pub read_rank_block : Then RankBlock → List Line → ReadOutcome
-read_rank_block next =
-    next_line (number_in keyword.Rel) (λ n. read_rank_rows n 0 [] (λ rows. next (record { rows = rows })))
+abbrev pub read_rank_block : ℕ → Then RankBlock → List Line → ReadOutcome
+read_rank_block letters next =
+    next_line (number_in keyword.Rel) (λ n. read_rank_rows letters n [] [] (λ rows. next (record { rows = rows })))
 
 -- That many relations, after these.
-abbrev pub read_blocks : ℕ → List RelBlock → Then (List RelBlock) → List Line → ReadOutcome
-read_blocks zero blocks next lines = next blocks lines
-read_blocks (suc n) blocks next lines = read_block (λ block. read_blocks n (blocks ++ block ∷ []) next) lines
+abbrev pub read_blocks : ℕ → ℕ → List RelBlock → Then (List RelBlock) → List Line → ReadOutcome
+read_blocks v zero blocks next lines = next blocks lines
+read_blocks v (suc n) blocks next lines = read_block v (λ block. read_blocks v n (blocks ++ block ∷ []) next) lines
 
 -- The classes of the states.
 abbrev pub read_classes : Then (List ℕ) → List Line → ReadOutcome
 read_classes = next_line (numbers_in keyword.Classes tail.SomeNumbers)
 
 -- The rest of a step of the first log.
-abbrev pub read_first_rest : FirstHead → Then FirstStep → List Line → ReadOutcome
-read_first_rest (first_head.Trim kept) next = next (first.Trim kept)
-read_first_rest (first_head.Merge) next = read_classes (λ classes. next (first.Merge classes))
-read_first_rest (first_head.Cut pair look) next =
-    next_line gone_by_in (λ gone. read_blocks (blocks_due pair) [] (λ blocks. next (first.Cut pair look gone blocks)))
+abbrev pub read_first_rest : ℕ → FirstHead → Then FirstStep → List Line → ReadOutcome
+read_first_rest v (first_head.Trim kept) next = next (first.Trim kept)
+read_first_rest v (first_head.Merge) next = read_classes (λ classes. next (first.Merge classes))
+read_first_rest v (first_head.Cut pair look) next =
+    next_line gone_by_in (λ gone. read_blocks v (blocks_due pair) [] (λ blocks. next (first.Cut pair look gone blocks)))
 
 -- That many steps of the first log, after these.
-abbrev pub read_first_steps : ℕ → List FirstStep → Then (List FirstStep) → List Line → ReadOutcome
-read_first_steps zero steps next lines = next steps lines
-read_first_steps (suc n) steps next lines =
+abbrev pub read_first_steps : ℕ → ℕ → List FirstStep → Then (List FirstStep) → List Line → ReadOutcome
+read_first_steps v zero steps next lines = next steps lines
+read_first_steps v (suc n) steps next lines =
     next_line first_head_in
-    (λ head. read_first_rest head (λ step. read_first_steps n (steps ++ step ∷ []) next)) lines
+    (λ head. read_first_rest v head (λ step. read_first_steps v n (steps ++ step ∷ []) next)) lines
 
 -- The relation by which states of the second automaton are merged.
-abbrev pub read_grounds : Way → List ℕ → Then SecondStep → List Line → ReadOutcome
-read_grounds (way.Forward look) classes next =
-    read_block (λ rel. next (second.Merge (grounds.Forward look rel) classes))
-read_grounds (way.Backward look) classes next =
-    read_block (λ rel. next (second.Merge (grounds.Backward look rel) classes))
-read_grounds (way.Delayed) classes next =
-    read_rank_block (λ ranks. next (second.Merge (grounds.Delayed ranks) classes))
+abbrev pub read_grounds : ℕ → Way → List ℕ → Then SecondStep → List Line → ReadOutcome
+read_grounds v (way.Forward look) classes next =
+    read_block v (λ rel. next (second.Merge (grounds.Forward look rel) classes))
+read_grounds v (way.Backward look) classes next =
+    read_block v (λ rel. next (second.Merge (grounds.Backward look rel) classes))
+read_grounds v (way.Delayed letters) classes next =
+    read_rank_block letters (λ ranks. next (second.Merge (grounds.Delayed letters ranks) classes))
 
 -- The rest of a step of the second log.
-abbrev pub read_second_rest : SecondHead → Then SecondStep → List Line → ReadOutcome
-read_second_rest (second_head.Trim kept) next = next (second.Trim kept)
-read_second_rest (second_head.Merge way) next = read_classes (λ classes. read_grounds way classes next)
-read_second_rest (second_head.Cut) next =
+abbrev pub read_second_rest : ℕ → SecondHead → Then SecondStep → List Line → ReadOutcome
+read_second_rest v (second_head.Trim kept) next = next (second.Trim kept)
+read_second_rest v (second_head.Merge way) next = read_classes (λ classes. read_grounds v way classes next)
+read_second_rest v (second_head.Cut) next =
     next_line (ascending_in keyword.Gone tail.SomeNumbers) (λ gone. next (second.Cut gone))
 
 -- That many steps of the second log, after these.
-abbrev pub read_second_steps : Mode → ℕ → List SecondStep → Then (List SecondStep) → List Line → ReadOutcome
-read_second_steps m zero steps next lines = next steps lines
-read_second_steps m (suc n) steps next lines =
-    next_line (second_head_in m)
-    (λ head. read_second_rest head (λ step. read_second_steps m n (steps ++ step ∷ []) next)) lines
+abbrev pub read_second_steps : ℕ → Mode → ℕ → List SecondStep → Then (List SecondStep) → List Line → ReadOutcome
+read_second_steps v m zero steps next lines = next steps lines
+read_second_steps v m (suc n) steps next lines =
+    next_line (second_head_in v m)
+    (λ head. read_second_rest v head (λ step. read_second_steps v m n (steps ++ step ∷ []) next)) lines
 
 -- That many elements of a yes, after these.
 abbrev pub read_elements : Mode → ℕ → List Element → Then (List Element) → List Line → ReadOutcome
@@ -160,8 +160,8 @@ read_all_elements m order next =
     next_line (number_in keyword.Elements) (λ n. read_elements m n [] (λ elements. read_cover order elements next))
 
 -- What a yes has after the logs.
-abbrev pub read_closed : Mode → Then Closed → List Line → ReadOutcome
-read_closed m next = read_block (λ order. read_all_elements m order next)
+abbrev pub read_closed : ℕ → Mode → Then Closed → List Line → ReadOutcome
+read_closed v m next = read_block v (λ order. read_all_elements m order next)
 
 -- What a list has after the logs.
 abbrev pub read_all_origins : Mode → ℕ → Then Limited → List Line → ReadOutcome
@@ -173,12 +173,12 @@ abbrev pub read_limited : Mode → Then Limited → List Line → ReadOutcome
 read_limited m next = next_line (number_in keyword.Limit) (λ limit. read_all_origins m limit next)
 
 -- The first log.
-abbrev pub read_first_log : Then (List FirstStep) → List Line → ReadOutcome
-read_first_log next = next_line (number_in keyword.Log1) (λ n. read_first_steps n [] next)
+abbrev pub read_first_log : ℕ → Then (List FirstStep) → List Line → ReadOutcome
+read_first_log v next = next_line (number_in keyword.Log1) (λ n. read_first_steps v n [] next)
 
 -- The second log.
-abbrev pub read_second_log : Mode → Then (List SecondStep) → List Line → ReadOutcome
-read_second_log m next = next_line (number_in keyword.Log2) (λ n. read_second_steps m n [] next)
+abbrev pub read_second_log : ℕ → Mode → Then (List SecondStep) → List Line → ReadOutcome
+read_second_log v m next = next_line (number_in keyword.Log2) (λ n. read_second_steps v m n [] next)
 
 -- A lasso.
 abbrev pub read_turn : List ℕ → Then Body → List Line → ReadOutcome
@@ -207,24 +207,24 @@ abbrev pub list_of : List FirstStep → List SecondStep → Limited → Body
 list_of firsts seconds limited =
     body.Listing (record { first = firsts; second = seconds; limit = limited.limit; elements = limited.elements })
 
-abbrev pub read_evidence : Mode → Answer → List FirstStep → List SecondStep → Then Body → List Line → ReadOutcome
-read_evidence m (answer.Yes) firsts seconds next = read_closed m (λ closed. next (yes_of firsts seconds closed))
-read_evidence m (answer.No) firsts seconds next = read_closed m (λ closed. next (yes_of firsts seconds closed))
-read_evidence m (answer.List) firsts seconds next = read_limited m (λ limited. next (list_of firsts seconds limited))
+abbrev pub read_evidence : ℕ → Mode → Answer → List FirstStep → List SecondStep → Then Body → List Line → ReadOutcome
+read_evidence v m (answer.Yes) firsts seconds next = read_closed v m (λ closed. next (yes_of firsts seconds closed))
+read_evidence v m (answer.No) firsts seconds next = read_closed v m (λ closed. next (yes_of firsts seconds closed))
+read_evidence v m (answer.List) firsts seconds next = read_limited m (λ limited. next (list_of firsts seconds limited))
 
 -- The logs, and what follows them.
-abbrev pub read_after_first : Mode → Answer → List FirstStep → Then Body → List Line → ReadOutcome
-read_after_first m a firsts next = read_second_log m (λ seconds. read_evidence m a firsts seconds next)
+abbrev pub read_after_first : ℕ → Mode → Answer → List FirstStep → Then Body → List Line → ReadOutcome
+read_after_first v m a firsts next = read_second_log v m (λ seconds. read_evidence v m a firsts seconds next)
 
-abbrev pub read_logs : Mode → Answer → Then Body → List Line → ReadOutcome
-read_logs m a next = read_first_log (λ firsts. read_after_first m a firsts next)
+abbrev pub read_logs : ℕ → Mode → Answer → Then Body → List Line → ReadOutcome
+read_logs v m a next = read_first_log v (λ firsts. read_after_first v m a firsts next)
 
 -- The lines between the line of sizes and the last line.
-abbrev pub read_body : Mode → Answer → Then Body → List Line → ReadOutcome
-read_body m (answer.Yes) next = read_logs m answer.Yes next
-read_body (mode.Buchi) (answer.No) next = read_lasso next
-read_body (mode.Finite) (answer.No) next = read_word next
-read_body m (answer.List) next = read_logs m answer.List next
+abbrev pub read_body : ℕ → Mode → Answer → Then Body → List Line → ReadOutcome
+read_body v m (answer.Yes) next = read_logs v m answer.Yes next
+read_body v (mode.Buchi) (answer.No) next = read_lasso next
+read_body v (mode.Finite) (answer.No) next = read_word next
+read_body v m (answer.List) next = read_logs v m answer.List next
 
 -- There is no byte.
 abbrev pub is_bare : Line → Bool
@@ -240,8 +240,9 @@ finish c (piece ∷ []) = cond (is_bare piece) (Read c) (Stopped Trailing (piece
 finish c (line ∷ other ∷ rest) = Stopped Trailing (line ∷ other ∷ rest)
 
 -- The certificate of these parts.
-abbrev pub cert_of : Mode → Sizes → Body → Cert
-cert_of m sizes b = record {
+abbrev pub cert_of : ℕ → Mode → Sizes → Body → Cert
+cert_of v m sizes b = record {
+  version = v;
   mode = m;
   first_states = sizes.first_states;
   second_states = sizes.second_states;
@@ -255,7 +256,7 @@ read_end c = next_line (word_in keyword.End) (λ u. finish c)
 
 -- What follows the line of sizes.
 abbrev pub read_rest : Heading → Sizes → List Line → ReadOutcome
-read_rest h sizes = read_body h.mode h.answer (λ b. read_end (cert_of h.mode sizes b))
+read_rest h sizes = read_body h.version h.mode h.answer (λ b. read_end (cert_of h.version h.mode sizes b))
 
 -- What follows the first line.
 abbrev pub read_sizes : Heading → List Line → ReadOutcome

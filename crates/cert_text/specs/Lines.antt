@@ -1,5 +1,5 @@
 -- What each kind of line says, and what is wrong where it says nothing.
-use Rattle.std.specs.Prelude.{ℕ, ◌+◌, List, [], ◌∷◌, Bool, true, false, ◌&&◌, ◌==◌, nat_lt, nat_le, Option, Some, None, Result, Ok, Err, is_none, if◌then◌else◌}
+use Rattle.std.specs.Prelude.{ℕ, ◌+◌, ◌-◌, List, [], ◌∷◌, Bool, ◌&&◌, ◌==◌, nat_lt, nat_le, take, Option, Some, None, Result, Ok, Err, is_none, if◌then◌else◌}
 use Rattle.auto_core.specs.declared.parts.Mode.{Mode}
 use Rattle.auto_core.specs.declared.parts.Mode.TheVariants as mode
 use Rattle.auto_core.specs.declared.parts.Origin.{Origin}
@@ -16,10 +16,10 @@ use Rattle.cert_value.specs.declared.types.Answer.{Answer}
 use Rattle.cert_value.specs.declared.types.Answer.TheVariants as answer
 use Rattle.cert_value.specs.declared.types.GoneBy.{GoneBy}
 use Rattle.cert_value.specs.declared.types.Row.{Row}
+use Rattle.cert_value.specs.declared.types.Run.{Run}
 use Rattle.cert_value.specs.declared.types.RankRow.{RankRow}
 use Rattle.cert_value.specs.declared.types.Ranked.{Ranked}
 use Rattle.cert_value.specs.declared.types.Element.{Element}
-use Rattle.cert_value.specs.declared.types.Mark.{Mark}
 use Rattle.cert_value.specs.declared.types.Mark.TheVariants as mark
 use Rattle.cert_value.specs.declared.types.StepLine.{StepLine}
 use Rattle.cert_text.specs.declared.lines.Sizes.{Sizes}
@@ -28,10 +28,9 @@ use Rattle.cert_text.specs.declared.heads.FirstHead.{FirstHead}
 use Rattle.cert_text.specs.declared.heads.FirstHead.TheVariants as first
 use Rattle.cert_text.specs.declared.heads.SecondHead.{SecondHead}
 use Rattle.cert_text.specs.declared.heads.SecondHead.TheVariants as second
-use Rattle.cert_text.specs.declared.heads.Way.{Way}
 use Rattle.cert_text.specs.declared.heads.Way.TheVariants as way
-use Rattle.cert_value.specs.Text.{Line, mode_word, answer_word}
-use Rattle.cert_value.specs.WellFormed.{ascend, rights_of, gone_of, blocks_due}
+use Rattle.cert_value.specs.Text.{Line, version_word, mode_word, answer_word}
+use Rattle.cert_value.specs.WellFormed.{ascend, runs_ascend, rights_of, gone_of, blocks_due, are_letters, rank_key, is_less}
 use Rattle.cert_text.specs.Forms.{fits, line_fault, value_at, values_from}
 
 -- What a line says, or what is wrong with it.
@@ -78,41 +77,84 @@ sizes_in =
     as_form (Word keyword.Sizes ∷ Number ∷ Number ∷ Number ∷ []) tail.Nothing
     (λ tokens. Ok (record { first_states = value_at tokens 1; second_states = value_at tokens 2; labels = value_at tokens 3 }))
 
--- A row of a relation, its left number not below the bound.
-abbrev pub row_of : Line → Row
-row_of tokens = record { left = value_at tokens 1; rights = values_from 2 tokens }
+-- Numbers taken two by two; one that is left over is none of them.
+abbrev pub by_two : {A : Type 0} → (ℕ → ℕ → A) → List ℕ → List A
+by_two pair [] = []
+by_two pair (n ∷ []) = []
+by_two pair (n ∷ m ∷ ns) = pair n m ∷ by_two pair ns
 
-abbrev pub row_in : ℕ → Line → Said Row
-row_in bound =
-    as_form (Word keyword.Row ∷ Number ∷ []) tail.SomeNumbers
-    (λ tokens. in_order (ascend (row_of tokens).rights && nat_le bound (row_of tokens).left) (row_of tokens))
+-- Numbers as the ends of runs.
+abbrev pub run : ℕ → ℕ → Run
+run n m = record { first = n; last = m }
+
+abbrev pub runs_of_ends : List ℕ → List Run
+runs_of_ends ns = by_two run ns
+
+-- A run before others, joined with the first of them where that one begins right after it.
+abbrev pub onto_runs : Run → List Run → List Run
+onto_runs r [] = r ∷ []
+onto_runs r (next ∷ runs) = if r.last + 1 == next.first then run r.first next.last ∷ runs else r ∷ next ∷ runs
+
+-- Numbers as runs, those that follow one another joined.
+abbrev pub joined_runs : List ℕ → List Run
+joined_runs [] = []
+joined_runs (n ∷ ns) = onto_runs (run n n) (joined_runs ns)
+
+-- The runs of a row, from its numbers as the version has them.
+abbrev pub runs_of : ℕ → List ℕ → List Run
+runs_of v ns = if v == 2 then runs_of_ends ns else joined_runs ns
+
+-- What may follow the left number of a row: in version 1 numbers, in version 2 the ends of runs.
+abbrev pub row_tail : ℕ → Tail
+row_tail v = if v == 2 then tail.Pairs 0 else tail.SomeNumbers
+
+-- The numbers of a row are in order: in version 1 they ascend, in version 2 they are the ends of runs that ascend.
+abbrev pub row_ascends : ℕ → List ℕ → Bool
+row_ascends v ns = if v == 2 then runs_ascend (runs_of_ends ns) else ascend ns
+
+-- A row of a relation, its left number not below the bound.
+abbrev pub row_of : ℕ → Line → Row
+row_of v tokens = record { left = value_at tokens 1; runs = runs_of v (values_from 2 tokens) }
+
+abbrev pub row_in : ℕ → ℕ → Line → Said Row
+row_in v bound =
+    as_form (Word keyword.Row ∷ Number ∷ []) (row_tail v)
+    (λ tokens. in_order (row_ascends v (values_from 2 tokens) && nat_le bound (row_of v tokens).left) (row_of v tokens))
 
 -- Numbers as right numbers with their codes.
+abbrev pub ranked : ℕ → ℕ → Ranked
+ranked n m = record { right = n; code = m }
+
 abbrev pub ranked_of : List ℕ → List Ranked
-ranked_of [] = []
-ranked_of (n ∷ []) = []
-ranked_of (n ∷ m ∷ ns) = record { right = n; code = m } ∷ ranked_of ns
+ranked_of ns = by_two ranked ns
 
--- A row of a relation with ranks, its left number not below the bound.
-abbrev pub rank_row_of : Line → RankRow
-rank_row_of tokens = record { left = value_at tokens 1; rights = ranked_of (values_from 2 tokens) }
+-- A row of a relation with ranks after so many labels.
+abbrev pub rank_row_of : ℕ → Line → RankRow
+rank_row_of labels tokens = record {
+  left = value_at tokens 1;
+  ahead = take labels (values_from 2 tokens);
+  rights = ranked_of (values_from (labels + 2) tokens);
+}
 
-abbrev pub rank_row_in : ℕ → Line → Said RankRow
-rank_row_in bound =
-    as_form (Word keyword.Row ∷ Number ∷ []) tail.SomePairs
-    (λ tokens. in_order (ascend (rights_of (rank_row_of tokens).rights) && nat_le bound (rank_row_of tokens).left)
-    (rank_row_of tokens))
+-- A row of a relation with ranks for so many announced letters, its left number and labels past the key.
+abbrev pub rank_row_in : ℕ → List ℕ → Line → Said RankRow
+rank_row_in letters key =
+    as_form (Word keyword.Row ∷ Number ∷ []) (tail.Pairs (letters - 1))
+    (λ tokens. in_order
+    (ascend (rights_of (rank_row_of (letters - 1) tokens).rights) && is_less key (rank_key (rank_row_of (letters - 1) tokens)))
+    (rank_row_of (letters - 1) tokens))
 
 -- Numbers as what goes and by what.
+abbrev pub gone_by : ℕ → ℕ → GoneBy
+gone_by n m = record { trans = n; by = m }
+
 abbrev pub gone_by_of : List ℕ → List GoneBy
-gone_by_of [] = []
-gone_by_of (n ∷ []) = []
-gone_by_of (n ∷ m ∷ ns) = record { trans = n; by = m } ∷ gone_by_of ns
+gone_by_of ns = by_two gone_by ns
 
 -- What goes and by what.
 abbrev pub gone_by_in : Line → Said (List GoneBy)
 gone_by_in =
-    as_form (Word keyword.Gone ∷ []) tail.SomePairs
+    as_form (Word keyword.Gone ∷ []) (tail.Pairs 0)
     (λ tokens. in_order (ascend (gone_of (gone_by_of (values_from 1 tokens)))) (gone_by_of (values_from 1 tokens)))
 
 -- The head of a trim.
@@ -141,30 +183,44 @@ first_head_in =
 abbrev pub second_cut_in : Line → Said SecondHead
 second_cut_in = as_form (Word keyword.Cut ∷ []) tail.Nothing (λ tokens. Ok second.Cut)
 
--- The places of a merge by a relation.
+-- The places of a merge with a number.
 abbrev pub merge_places : Keyword → List Place
 merge_places direction = Word keyword.Merge ∷ Word direction ∷ Number ∷ []
 
--- The head of a merge by delayed simulation, in a Büchi file alone; elsewhere only a cut may stand there.
-abbrev pub delayed_or_cut_in : Mode → Line → Said SecondHead
-delayed_or_cut_in (mode.Buchi) =
-    either (Word keyword.Merge ∷ Word keyword.Delayed ∷ [])
-    (as_form (Word keyword.Merge ∷ Word keyword.Delayed ∷ []) tail.Nothing (λ tokens. Ok (second.Merge way.Delayed)))
-    second_cut_in
-delayed_or_cut_in (mode.Finite) = second_cut_in
+-- The head of a merge by delayed simulation: in version 1 one letter is announced.
+abbrev pub plain_delayed_in : Line → Said SecondHead
+plain_delayed_in =
+    as_form (Word keyword.Merge ∷ Word keyword.Delayed ∷ []) tail.Nothing (λ tokens. Ok (second.Merge (way.Delayed 1)))
+
+-- In version 2 the head says how many.
+abbrev pub announced_delayed_in : Line → Said SecondHead
+announced_delayed_in =
+    as_form (merge_places keyword.Delayed) tail.Nothing
+    (λ tokens. if are_letters 2 (value_at tokens 2)
+    then Ok (second.Merge (way.Delayed (value_at tokens 2)))
+    else Err kind.Shape)
+
+abbrev pub delayed_in : ℕ → Line → Said SecondHead
+delayed_in v tokens = if v == 2 then announced_delayed_in tokens else plain_delayed_in tokens
+
+-- The head of a merge by delayed simulation or of a cut; in a finite file only a cut may stand there.
+abbrev pub delayed_or_cut_in : ℕ → Mode → Line → Said SecondHead
+delayed_or_cut_in v (mode.Buchi) =
+    either (Word keyword.Merge ∷ Word keyword.Delayed ∷ []) (delayed_in v) second_cut_in
+delayed_or_cut_in v (mode.Finite) = second_cut_in
 
 -- The head of a merge or of a cut of the second log.
-abbrev pub merge_or_cut_in : Mode → Line → Said SecondHead
-merge_or_cut_in m =
+abbrev pub merge_or_cut_in : ℕ → Mode → Line → Said SecondHead
+merge_or_cut_in v m =
     either (merge_places keyword.Forward)
     (as_form (merge_places keyword.Forward) tail.Nothing (λ tokens. Ok (second.Merge (way.Forward (value_at tokens 2)))))
     (either (merge_places keyword.Backward)
     (as_form (merge_places keyword.Backward) tail.Nothing (λ tokens. Ok (second.Merge (way.Backward (value_at tokens 2)))))
-    (delayed_or_cut_in m))
+    (delayed_or_cut_in v m))
 
 -- The head of a step of the second log.
-abbrev pub second_head_in : Mode → Line → Said SecondHead
-second_head_in m = either (Word keyword.Trim ∷ []) (trim_in second.Trim) (merge_or_cut_in m)
+abbrev pub second_head_in : ℕ → Mode → Line → Said SecondHead
+second_head_in v m = either (Word keyword.Trim ∷ []) (trim_in second.Trim) (merge_or_cut_in v m)
 
 -- The places of an origin, after these.
 abbrev pub start_places : List Place
@@ -250,30 +306,41 @@ step_in n =
     (λ tokens. in_order ((step_of tokens).element == n) (step_of tokens))
 
 -- The places of the first line.
-abbrev pub heading_places : Keyword → Keyword → List Place
-heading_places of_mode of_answer = Word keyword.RabitCert ∷ Word keyword.One ∷ Word of_mode ∷ Word of_answer ∷ []
+abbrev pub heading_places : Heading → List Place
+heading_places h =
+    Word keyword.RabitCert ∷ Word (version_word h.version) ∷ Word (mode_word h.mode) ∷ Word (answer_word h.answer) ∷ []
 
--- Whether the line is the first line of a certificate with these words.
-abbrev pub has_heading : Keyword → Keyword → Line → Bool
-has_heading of_mode of_answer tokens = is_none (line_fault (heading_places of_mode of_answer) tail.Nothing tokens)
+-- Whether the line is the first line of a certificate of this version, mode and answer.
+abbrev pub is_heading : Heading → Line → Bool
+is_heading h tokens = is_none (line_fault (heading_places h) tail.Nothing tokens)
 
--- Whether the line is the first line of a certificate of this mode and answer.
-abbrev pub is_heading : Mode → Answer → Line → Bool
-is_heading m a tokens = has_heading (mode_word m) (answer_word a) tokens
+abbrev pub heading : ℕ → Mode → Answer → Heading
+heading v m a = record { version = v; mode = m; answer = a }
 
--- The heading, where the line is this one, and the other reading elsewhere.
-abbrev pub heading_or : Mode → Answer → (Line → Said Heading) → Line → Said Heading
-heading_or m a other tokens = if is_heading m a tokens then Ok (record { mode = m; answer = a }) else other tokens
+-- The first of two, if there is one, and else the second.
+abbrev pub or_else : {A : Type 0} → Option A → Option A → Option A
+or_else (Some a) other = Some a
+or_else None other = other
 
--- The first line is one of six.
-abbrev pub finite_heading_in : Line → Said Heading
-finite_heading_in =
-    heading_or mode.Finite answer.Yes
-    (heading_or mode.Finite answer.No
-    (heading_or mode.Finite answer.List (λ tokens. Err kind.Header)))
+-- The heading, if the line is the first line with it.
+abbrev pub if_heading : Heading → Line → Option Heading
+if_heading h tokens = if is_heading h tokens then Some h else None
 
+-- One of the three headings of this version and mode.
+abbrev pub mode_heading_in : ℕ → Mode → Line → Option Heading
+mode_heading_in v m tokens =
+    or_else (if_heading (heading v m answer.Yes) tokens)
+    (or_else (if_heading (heading v m answer.No) tokens) (if_heading (heading v m answer.List) tokens))
+
+-- One of the six headings of this version.
+abbrev pub version_heading_in : ℕ → Line → Option Heading
+version_heading_in v tokens = or_else (mode_heading_in v mode.Buchi tokens) (mode_heading_in v mode.Finite tokens)
+
+-- What there is, or else that the heading is wrong.
+abbrev pub heading_said : Option Heading → Said Heading
+heading_said (Some h) = Ok h
+heading_said None = Err kind.Header
+
+-- The first line has one of twelve headings.
 abbrev pub heading_in : Line → Said Heading
-heading_in =
-    heading_or mode.Buchi answer.Yes
-    (heading_or mode.Buchi answer.No
-    (heading_or mode.Buchi answer.List finite_heading_in))
+heading_in tokens = heading_said (or_else (version_heading_in 1 tokens) (version_heading_in 2 tokens))

@@ -1,5 +1,6 @@
 -- The reader's states, and what each line makes of them.
-use Rattle.std.specs.Prelude.{ℕ, ◌+◌, ◌-◌, List, [], ◌∷◌, ◌++◌, drop, Bool, true, false, cond, ◌==◌, Option, Some, None, Result, Ok, Err}
+use Rattle.std.specs.Prelude.{ℕ, ◌+◌, ◌-◌, List, [], ◌∷◌, ◌++◌, length, drop, cond, ◌==◌, Option, Some, None, Ok, Err}
+use Rattle.std.specs.List.{slice_get}
 use Rattle.auto_core.specs.declared.parts.Mode.{Mode}
 use Rattle.auto_core.specs.declared.parts.Mode.TheVariants as mode
 use Rattle.auto_core.specs.declared.parts.Origin.{Origin}
@@ -10,7 +11,6 @@ use Rattle.cert_text.specs.declared.parts.Step.{Step}
 use Rattle.cert_text.specs.declared.parts.Step.TheVariants.{More, Whole}
 use Rattle.cert_text.specs.declared.parts.Closed.{Closed}
 use Rattle.cert_text.specs.declared.parts.Limited.{Limited}
-use Rattle.cert_value.specs.declared.types.Answer.{Answer}
 use Rattle.cert_value.specs.declared.types.Answer.TheVariants as answer
 use Rattle.cert_value.specs.declared.types.Cert.{Cert}
 use Rattle.cert_value.specs.declared.types.Body.{Body}
@@ -57,7 +57,7 @@ use Rattle.cert_text.specs.declared.machine.Opening.{Opening}
 use Rattle.cert_text.specs.declared.machine.State.{State}
 use Rattle.cert_text.specs.declared.machine.State.TheVariants as state
 use Rattle.cert_value.specs.Text.{Line}
-use Rattle.cert_value.specs.WellFormed.{blocks_due, is_live}
+use Rattle.cert_value.specs.WellFormed.{blocks_due, is_live, key_before}
 use Rattle.cert_text.specs.Lines.{Said, word_in, number_in, numbers_in, ascending_in, sizes_in, heading_in, row_in, rank_row_in, gone_by_in, first_head_in, second_head_in, origin_in, element_in, step_in}
 use Rattle.cert_text.specs.Grammar.{ReadOutcome, Stopped, finish, yes_of, list_of, cert_of}
 
@@ -74,18 +74,22 @@ on_or n over more = cond (n == 0) over (more (n - 1))
 unfoldable pub rows_due : List Row → ℕ → ℕ → Step BlockState RelBlock
 rows_due rows bound n = on_or n (Whole (record { rows = rows })) (λ later. More (block.Row rows bound later))
 
-unfoldable pub step_block : BlockState → Line → Said (Step BlockState RelBlock)
-step_block (block.Count) line = map_said (λ n. rows_due [] 0 n) (number_in keyword.Rel line)
-step_block (block.Row rows bound later) line =
-    map_said (λ row. rows_due (rows ++ row ∷ []) (row.left + 1) later) (row_in bound line)
+unfoldable pub step_block : ℕ → BlockState → Line → Said (Step BlockState RelBlock)
+step_block v (block.Count) line = map_said (λ n. rows_due [] 0 n) (number_in keyword.Rel line)
+step_block v (block.Row rows bound later) line =
+    map_said (λ row. rows_due (rows ++ row ∷ []) (row.left + 1) later) (row_in v bound line)
 
-unfoldable pub rank_rows_due : List RankRow → ℕ → ℕ → Step RankState RankBlock
-rank_rows_due rows bound n = on_or n (Whole (record { rows = rows })) (λ later. More (rank.Row rows bound later))
+-- The left number and the labels of the last row, if there is one.
+abbrev pub last_key : List RankRow → List ℕ
+last_key rows = key_before (slice_get rows (length rows - 1))
 
-unfoldable pub step_ranks : RankState → Line → Said (Step RankState RankBlock)
-step_ranks (rank.Count) line = map_said (λ n. rank_rows_due [] 0 n) (number_in keyword.Rel line)
-step_ranks (rank.Row rows bound later) line =
-    map_said (λ row. rank_rows_due (rows ++ row ∷ []) (row.left + 1) later) (rank_row_in bound line)
+unfoldable pub rank_rows_due : List RankRow → ℕ → Step RankState RankBlock
+rank_rows_due rows n = on_or n (Whole (record { rows = rows })) (λ later. More (rank.Row rows later))
+
+unfoldable pub step_ranks : ℕ → RankState → Line → Said (Step RankState RankBlock)
+step_ranks letters (rank.Count) line = map_said (λ n. rank_rows_due [] n) (number_in keyword.Rel line)
+step_ranks letters (rank.Row rows later) line =
+    map_said (λ row. rank_rows_due (rows ++ row ∷ []) later) (rank_row_in letters (last_key rows) line)
 
 -- Steps of the first log.
 unfoldable pub blocks_left : ℕ → ℕ → List GoneBy → List RelBlock → ℕ → Step FirstState FirstStep
@@ -102,14 +106,14 @@ first_started (first_head.Trim kept) = Whole (first.Trim kept)
 first_started (first_head.Merge) = More first_state.Classes
 first_started (first_head.Cut pair look) = More (first_state.Gone pair look)
 
-unfoldable pub step_first : FirstState → Line → Said (Step FirstState FirstStep)
-step_first (first_state.Head) line = map_said first_started (first_head_in line)
-step_first (first_state.Classes) line =
+unfoldable pub step_first : ℕ → FirstState → Line → Said (Step FirstState FirstStep)
+step_first v (first_state.Head) line = map_said first_started (first_head_in line)
+step_first v (first_state.Classes) line =
     map_said (λ classes. Whole (first.Merge classes)) (numbers_in keyword.Classes tail.SomeNumbers line)
-step_first (first_state.Gone pair look) line =
+step_first v (first_state.Gone pair look) line =
     map_said (λ gone. blocks_left pair look gone [] (blocks_due pair)) (gone_by_in line)
-step_first (first_state.Blocks pair look gone blocks later at) line =
-    map_said (with_block pair look gone blocks later) (step_block at line)
+step_first v (first_state.Blocks pair look gone blocks later at) line =
+    map_said (with_block pair look gone blocks later) (step_block v at line)
 
 -- The first log.
 unfoldable pub first_left : List FirstStep → ℕ → Step FirstLog (List FirstStep)
@@ -119,15 +123,15 @@ unfoldable pub with_first : List FirstStep → ℕ → Step FirstState FirstStep
 with_first steps later (More at) = More (first_log.Steps steps later at)
 with_first steps later (Whole step) = first_left (steps ++ step ∷ []) later
 
-unfoldable pub step_first_log : FirstLog → Line → Said (Step FirstLog (List FirstStep))
-step_first_log (first_log.Count) line = map_said (λ n. first_left [] n) (number_in keyword.Log1 line)
-step_first_log (first_log.Steps steps later at) line = map_said (with_first steps later) (step_first at line)
+unfoldable pub step_first_log : ℕ → FirstLog → Line → Said (Step FirstLog (List FirstStep))
+step_first_log v (first_log.Count) line = map_said (λ n. first_left [] n) (number_in keyword.Log1 line)
+step_first_log v (first_log.Steps steps later at) line = map_said (with_first steps later) (step_first v at line)
 
 -- Steps of the second log.
 unfoldable pub rel_due : Way → List ℕ → SecondState
 rel_due (way.Forward look) classes = second_state.Forward look classes block.Count
 rel_due (way.Backward look) classes = second_state.Backward look classes block.Count
-rel_due (way.Delayed) classes = second_state.Delayed classes rank.Count
+rel_due (way.Delayed letters) classes = second_state.Delayed letters classes rank.Count
 
 unfoldable pub with_forward : ℕ → List ℕ → Step BlockState RelBlock → Step SecondState SecondStep
 with_forward look classes (More at) = More (second_state.Forward look classes at)
@@ -137,23 +141,23 @@ unfoldable pub with_backward : ℕ → List ℕ → Step BlockState RelBlock →
 with_backward look classes (More at) = More (second_state.Backward look classes at)
 with_backward look classes (Whole rel) = Whole (second.Merge (grounds.Backward look rel) classes)
 
-unfoldable pub with_delayed : List ℕ → Step RankState RankBlock → Step SecondState SecondStep
-with_delayed classes (More at) = More (second_state.Delayed classes at)
-with_delayed classes (Whole ranks) = Whole (second.Merge (grounds.Delayed ranks) classes)
+unfoldable pub with_delayed : ℕ → List ℕ → Step RankState RankBlock → Step SecondState SecondStep
+with_delayed letters classes (More at) = More (second_state.Delayed letters classes at)
+with_delayed letters classes (Whole ranks) = Whole (second.Merge (grounds.Delayed letters ranks) classes)
 
 unfoldable pub second_started : SecondHead → Step SecondState SecondStep
 second_started (second_head.Trim kept) = Whole (second.Trim kept)
 second_started (second_head.Merge by) = More (second_state.Classes by)
 second_started (second_head.Cut) = More second_state.Gone
 
-unfoldable pub step_second : Mode → SecondState → Line → Said (Step SecondState SecondStep)
-step_second m (second_state.Head) line = map_said second_started (second_head_in m line)
-step_second m (second_state.Classes by) line =
+unfoldable pub step_second : ℕ → Mode → SecondState → Line → Said (Step SecondState SecondStep)
+step_second v m (second_state.Head) line = map_said second_started (second_head_in v m line)
+step_second v m (second_state.Classes by) line =
     map_said (λ classes. More (rel_due by classes)) (numbers_in keyword.Classes tail.SomeNumbers line)
-step_second m (second_state.Forward look classes at) line = map_said (with_forward look classes) (step_block at line)
-step_second m (second_state.Backward look classes at) line = map_said (with_backward look classes) (step_block at line)
-step_second m (second_state.Delayed classes at) line = map_said (with_delayed classes) (step_ranks at line)
-step_second m (second_state.Gone) line =
+step_second v m (second_state.Forward look classes at) line = map_said (with_forward look classes) (step_block v at line)
+step_second v m (second_state.Backward look classes at) line = map_said (with_backward look classes) (step_block v at line)
+step_second v m (second_state.Delayed letters classes at) line = map_said (with_delayed letters classes) (step_ranks letters at line)
+step_second v m (second_state.Gone) line =
     map_said (λ gone. Whole (second.Cut gone)) (ascending_in keyword.Gone tail.SomeNumbers line)
 
 -- The second log.
@@ -164,9 +168,9 @@ unfoldable pub with_second : List SecondStep → ℕ → Step SecondState Second
 with_second steps later (More at) = More (second_log.Steps steps later at)
 with_second steps later (Whole step) = second_left (steps ++ step ∷ []) later
 
-unfoldable pub step_second_log : Mode → SecondLog → Line → Said (Step SecondLog (List SecondStep))
-step_second_log m (second_log.Count) line = map_said (λ n. second_left [] n) (number_in keyword.Log2 line)
-step_second_log m (second_log.Steps steps later at) line = map_said (with_second steps later) (step_second m at line)
+unfoldable pub step_second_log : ℕ → Mode → SecondLog → Line → Said (Step SecondLog (List SecondStep))
+step_second_log v m (second_log.Count) line = map_said (λ n. second_left [] n) (number_in keyword.Log2 line)
+step_second_log v m (second_log.Steps steps later at) line = map_said (with_second steps later) (step_second v m at line)
 
 -- The evidence of a yes.
 unfoldable pub elements_left : RelBlock → List Element → ℕ → Step YesState Closed
@@ -190,14 +194,14 @@ unfoldable pub with_order : Step BlockState RelBlock → Step YesState Closed
 with_order (More at) = More (yes_state.Order at)
 with_order (Whole order) = More (yes_state.Elements order)
 
-unfoldable pub step_yes : Mode → YesState → Line → Said (Step YesState Closed)
-step_yes m (yes_state.Order at) line = map_said with_order (step_block at line)
-step_yes m (yes_state.Elements order) line = map_said (λ n. elements_left order [] n) (number_in keyword.Elements line)
-step_yes m (yes_state.Element order elements later) line =
+unfoldable pub step_yes : ℕ → Mode → YesState → Line → Said (Step YesState Closed)
+step_yes v m (yes_state.Order at) line = map_said with_order (step_block v at line)
+step_yes v m (yes_state.Elements order) line = map_said (λ n. elements_left order [] n) (number_in keyword.Elements line)
+step_yes v m (yes_state.Element order elements later) line =
     map_said (λ e. elements_left order (elements ++ e ∷ []) later) (element_in m line)
-step_yes m (yes_state.Cover order elements) line =
+step_yes v m (yes_state.Cover order elements) line =
     map_said (λ cover. steps_left order elements cover [] 0) (numbers_in keyword.Cover tail.Numbers line)
-step_yes m (yes_state.Step order elements cover steps at) line =
+step_yes v m (yes_state.Step order elements cover steps at) line =
     map_said (λ step. steps_left order elements cover (steps ++ step ∷ []) (at + 1)) (step_in at line)
 
 -- The evidence of a list.
@@ -222,16 +226,16 @@ step_no (no_state.Word) line = map_said (λ word. Whole (body.NoWord word)) (num
 
 -- The whole text.
 unfoldable pub whole : Opening → Body → State
-whole o b = state.End (cert_of o.mode o.sizes b)
+whole o b = state.End (cert_of o.version o.mode o.sizes b)
 
 unfoldable pub begun : Heading → Sizes → State
 begun h sizes = elim h.answer [
-  | answer.Yes ↦ state.First (record { mode = h.mode; answer = answer.Yes; sizes = sizes }) first_log.Count
+  | answer.Yes ↦ state.First (record { version = h.version; mode = h.mode; answer = answer.Yes; sizes = sizes }) first_log.Count
   | answer.No ↦ elim h.mode [
-    | mode.Buchi ↦ state.No (record { mode = mode.Buchi; answer = answer.No; sizes = sizes }) no_state.Prefix
-    | mode.Finite ↦ state.No (record { mode = mode.Finite; answer = answer.No; sizes = sizes }) no_state.Word
+    | mode.Buchi ↦ state.No (record { version = h.version; mode = mode.Buchi; answer = answer.No; sizes = sizes }) no_state.Prefix
+    | mode.Finite ↦ state.No (record { version = h.version; mode = mode.Finite; answer = answer.No; sizes = sizes }) no_state.Word
   ]
-  | answer.List ↦ state.First (record { mode = h.mode; answer = answer.List; sizes = sizes }) first_log.Count
+  | answer.List ↦ state.First (record { version = h.version; mode = h.mode; answer = answer.List; sizes = sizes }) first_log.Count
 ]
 
 unfoldable pub with_no : Opening → Step NoState Body → State
@@ -266,9 +270,9 @@ unfoldable pub step : State → Line → Said State
 step (state.Heading) line = map_said (λ h. state.Sizes h) (heading_in line)
 step (state.Sizes h) line = map_said (begun h) (sizes_in line)
 step (state.No o at) line = map_said (with_no o) (step_no at line)
-step (state.First o at) line = map_said (with_first_log o) (step_first_log at line)
-step (state.Second o firsts at) line = map_said (with_second_log o firsts) (step_second_log o.mode at line)
-step (state.Yes o firsts seconds at) line = map_said (with_yes o firsts seconds) (step_yes o.mode at line)
+step (state.First o at) line = map_said (with_first_log o) (step_first_log o.version at line)
+step (state.Second o firsts at) line = map_said (with_second_log o firsts) (step_second_log o.version o.mode at line)
+step (state.Yes o firsts seconds at) line = map_said (with_yes o firsts seconds) (step_yes o.version o.mode at line)
 step (state.List o firsts seconds at) line = map_said (with_list o firsts seconds) (step_list o.mode at line)
 step (state.End c) line = map_said (λ u. state.Done c) (word_in keyword.End line)
 step (state.Done c) line = Err kind.Trailing

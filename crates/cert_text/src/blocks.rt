@@ -48,17 +48,18 @@ fn rows_due(rows: List<Row>, bound: u64, left: u32) -> Step<BlockState, RelBlock
 #[tactic(auto, unfolding(crate::specs::Machine::step_block))]
 pub(crate) fn step_block(
     alloc: Global,
+    version: u32,
     state: BlockState,
     line: &[u8],
 ) -> Result<Step<BlockState, RelBlock>, LineFault>
-    ensures { Agrees (step_block state (tokens_of line.now)) result }
+    ensures { Agrees (step_block version state (tokens_of line.now)) result }
 {
     match state {
         BlockState::Count => match number_in(Keyword::Rel, line) {
             Ok(count) => Ok(rows_due(List::new(alloc), 0, count)),
             Err(fault) => Err(fault),
         },
-        BlockState::Row { rows, bound, later } => match row_in(alloc, bound, line) {
+        BlockState::Row { rows, bound, later } => match row_in(alloc, version, bound, line) {
             Ok(row) => {
                 let bound = row.left as u64 + 1;
                 match pushed(rows, row) {
@@ -80,8 +81,6 @@ pub(crate) enum RankState {
     Row {
         /// The rows so far.
         rows: List<RankRow>,
-        /// One more than the last row's left number.
-        bound: u64,
         /// How many rows follow the one that is due.
         later: u32,
     },
@@ -89,42 +88,44 @@ pub(crate) enum RankState {
 
 /// What is due with these rows, and this many to come.
 #[tactic(auto, unfolding(crate::specs::Machine::rank_rows_due))]
-fn rank_rows_due(rows: List<RankRow>, bound: u64, left: u32) -> Step<RankState, RankBlock>
-    ensures { result ≡ rank_rows_due rows bound left }
+fn rank_rows_due(rows: List<RankRow>, left: u32) -> Step<RankState, RankBlock>
+    ensures { result ≡ rank_rows_due rows left }
 {
     if left == 0 {
         Step::Whole(RankBlock { rows })
     } else {
         Step::More(RankState::Row {
             rows,
-            bound,
             later: left - 1,
         })
     }
 }
 
-/// What the next line makes of it.
+/// What the next line makes of it, with so many letters announced.
 #[tactic(auto, unfolding(crate::specs::Machine::step_ranks))]
 pub(crate) fn step_ranks(
     alloc: Global,
+    letters: u32,
     state: RankState,
     line: &[u8],
 ) -> Result<Step<RankState, RankBlock>, LineFault>
-    ensures { Agrees (step_ranks state (tokens_of line.now)) result }
+    ensures { Agrees (step_ranks letters state (tokens_of line.now)) result }
 {
     match state {
         RankState::Count => match number_in(Keyword::Rel, line) {
-            Ok(count) => Ok(rank_rows_due(List::new(alloc), 0, count)),
+            Ok(count) => Ok(rank_rows_due(List::new(alloc), count)),
             Err(fault) => Err(fault),
         },
-        RankState::Row { rows, bound, later } => match rank_row_in(alloc, bound, line) {
-            Ok(row) => {
-                let bound = row.left as u64 + 1;
-                match pushed(rows, row) {
-                    Ok(rows) => Ok(rank_rows_due(rows, bound, later)),
-                    Err(fault) => Err(fault),
-                }
-            }
+        RankState::Row { rows, later } => match rank_row_in(
+            alloc,
+            letters,
+            rows.as_slice().last(),
+            line,
+        ) {
+            Ok(row) => match pushed(rows, row) {
+                Ok(rows) => Ok(rank_rows_due(rows, later)),
+                Err(fault) => Err(fault),
+            },
             Err(fault) => Err(fault),
         },
     }

@@ -146,12 +146,13 @@ fn steps_left(
 #[tactic(auto, unfolding(crate::specs::Machine::with_order))]
 fn next_in_order(
     alloc: Global,
+    version: u32,
     at: BlockState,
     line: &[u8],
 ) -> Result<Step<YesState, Closed>, LineFault>
-    ensures { Agrees (map_said with_order (step_block at (tokens_of line.now))) result }
+    ensures { Agrees (map_said with_order (step_block version at (tokens_of line.now))) result }
 {
-    match step_block(alloc, at, line) {
+    match step_block(alloc, version, at, line) {
         Ok(Step::More(at)) => Ok(Step::More(YesState::Order(at))),
         Ok(Step::Whole(order)) => Ok(Step::More(YesState::Elements(order))),
         Err(fault) => Err(fault),
@@ -161,13 +162,14 @@ fn next_in_order(
 /// The line of an element.
 #[tactic(auto, unfolding(crate::specs::Machine::step_yes))]
 fn next_element(
+    version: u32,
     mode: Mode,
     order: RelBlock,
     elements: List<Element>,
     later: u32,
     line: &[u8],
 ) -> Result<Step<YesState, Closed>, LineFault>
-    ensures { Agrees (step_yes mode (yes_state.Element order elements later) (tokens_of line.now)) result }
+    ensures { Agrees (step_yes version mode (yes_state.Element order elements later) (tokens_of line.now)) result }
 {
     match element_in(mode, line) {
         Ok(element) => match pushed(elements, element) {
@@ -205,14 +207,15 @@ fn next_step(
 #[tactic(auto, unfolding(crate::specs::Machine::step_yes))]
 pub(crate) fn step_yes(
     alloc: Global,
+    version: u32,
     mode: Mode,
     state: YesState,
     line: &[u8],
 ) -> Result<Step<YesState, Closed>, LineFault>
-    ensures { Agrees (step_yes mode state (tokens_of line.now)) result }
+    ensures { Agrees (step_yes version mode state (tokens_of line.now)) result }
 {
     match state {
-        YesState::Order(at) => next_in_order(alloc, at, line),
+        YesState::Order(at) => next_in_order(alloc, version, at, line),
         YesState::Elements(order) => match number_in(Keyword::Elements, line) {
             Ok(count) => Ok(elements_left(order, List::new(alloc), count)),
             Err(fault) => Err(fault),
@@ -221,7 +224,7 @@ pub(crate) fn step_yes(
             order,
             elements,
             later,
-        } => next_element(mode, order, elements, later, line),
+        } => next_element(version, mode, order, elements, later, line),
         YesState::Cover { order, elements } => match numbers_in(
             alloc,
             Keyword::Cover,

@@ -6,7 +6,7 @@ use thiserror::Error;
 /// What is wrong with a line of a certificate's text.
 #[derive(Clone, Copy, Debug, PartialEq, Eq)]
 pub enum TextKind {
-    /// The first line is none of the six.
+    /// The first line is none of the twelve.
     Header,
     /// A token in a number's place is not a number.
     Number,

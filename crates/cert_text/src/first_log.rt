@@ -103,6 +103,7 @@ fn first_started(head: FirstHead) -> Step<FirstState, FirstStep>
 #[tactic(auto, unfolding(crate::specs::Machine::with_block))]
 fn next_in_cut(
     alloc: Global,
+    version: u32,
     pair: u32,
     look: u32,
     gone: List<GoneBy>,
@@ -111,9 +112,9 @@ fn next_in_cut(
     at: BlockState,
     line: &[u8],
 ) -> Result<Step<FirstState, FirstStep>, LineFault>
-    ensures { Agrees (map_said (with_block pair look gone blocks later) (step_block at (tokens_of line.now))) result }
+    ensures { Agrees (map_said (with_block pair look gone blocks later) (step_block version at (tokens_of line.now))) result }
 {
-    match step_block(alloc, at, line) {
+    match step_block(alloc, version, at, line) {
         Ok(Step::More(at)) => Ok(Step::More(FirstState::Blocks {
             pair,
             look,
@@ -134,10 +135,11 @@ fn next_in_cut(
 #[tactic(auto, unfolding(crate::specs::Machine::step_first))]
 fn step_first(
     alloc: Global,
+    version: u32,
     state: FirstState,
     line: &[u8],
 ) -> Result<Step<FirstState, FirstStep>, LineFault>
-    ensures { Agrees (step_first state (tokens_of line.now)) result }
+    ensures { Agrees (step_first version state (tokens_of line.now)) result }
 {
     match state {
         FirstState::Head => match first_head_in(alloc, line) {
@@ -159,7 +161,7 @@ fn step_first(
             blocks,
             later,
             at,
-        } => next_in_cut(alloc, pair, look, gone, blocks, later, at, line),
+        } => next_in_cut(alloc, version, pair, look, gone, blocks, later, at, line),
     }
 }
 
@@ -183,14 +185,15 @@ fn first_left(steps: List<FirstStep>, left: u32) -> Step<FirstLog, List<FirstSte
 #[tactic(auto, unfolding(crate::specs::Machine::with_first))]
 fn next_in_first(
     alloc: Global,
+    version: u32,
     steps: List<FirstStep>,
     later: u32,
     at: FirstState,
     line: &[u8],
 ) -> Result<Step<FirstLog, List<FirstStep>>, LineFault>
-    ensures { Agrees (map_said (with_first steps later) (step_first at (tokens_of line.now))) result }
+    ensures { Agrees (map_said (with_first steps later) (step_first version at (tokens_of line.now))) result }
 {
-    match step_first(alloc, at, line) {
+    match step_first(alloc, version, at, line) {
         Ok(Step::More(at)) => Ok(Step::More(FirstLog::Steps { steps, later, at })),
         Ok(Step::Whole(step)) => match pushed(steps, step) {
             Ok(steps) => Ok(first_left(steps, later)),
@@ -204,16 +207,19 @@ fn next_in_first(
 #[tactic(auto, unfolding(crate::specs::Machine::step_first_log))]
 pub(crate) fn step_first_log(
     alloc: Global,
+    version: u32,
     state: FirstLog,
     line: &[u8],
 ) -> Result<Step<FirstLog, List<FirstStep>>, LineFault>
-    ensures { Agrees (step_first_log state (tokens_of line.now)) result }
+    ensures { Agrees (step_first_log version state (tokens_of line.now)) result }
 {
     match state {
         FirstLog::Count => match number_in(Keyword::Log1, line) {
             Ok(count) => Ok(first_left(List::new(alloc), count)),
             Err(fault) => Err(fault),
         },
-        FirstLog::Steps { steps, later, at } => next_in_first(alloc, steps, later, at, line),
+        FirstLog::Steps { steps, later, at } => next_in_first(
+            alloc, version, steps, later, at, line,
+        ),
     }
 }

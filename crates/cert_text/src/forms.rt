@@ -1,6 +1,6 @@
 //! What one line of a certificate's text says.
 
-ghost use Rattle.std.specs.Prelude.{◌≡◌, ◌+◌, ◌<◌, ◌++◌, ◌∷◌, [], length, map, drop, Bool, true, false, IsTrue, nat_lt, slice_index_or, Option, Some, None, bytes_eq, IfOk, nat_le, not};
+ghost use Rattle.std.specs.Prelude.{◌≡◌, ◌+◌, ◌<◌, take, ◌++◌, ◌∷◌, [], length, map, drop, Bool, true, false, IsTrue, nat_lt, slice_index_or, Option, Some, None, bytes_eq, IfOk, nat_le, not};
 ghost use Rattle.cert_value.specs.WellFormed.{has_some};
 ghost use Rattle.std.specs.List.{list_all};
 ghost use Rattle.cert_value.specs.Tokens.{tokens_of};
@@ -30,8 +30,8 @@ pub(crate) enum Tail {
     Numbers,
     /// At least one number.
     SomeNumbers,
-    /// At least one pair of numbers.
-    SomePairs,
+    /// So many numbers, and then at least one pair of numbers.
+    Pairs(usize),
 }
 
 /// The number that the token writes, if it writes one: `0`, or a digit other than 0 followed by at most eight digits.
@@ -167,6 +167,17 @@ fn is_over(all: Tokens) -> bool
     tokens.next().is_none()
 }
 
+/// The tokens past the places and so many more.
+fn past_both(line: &[u8], places: usize, count: usize) -> Tokens<'_>
+    ensures { result ≡ drop count (drop places (tokens_of line.now)) }
+{
+    let mut tokens = Tokens::past(line, places);
+    for _token in 0..count {
+        tokens.next();
+    }
+    tokens
+}
+
 /// Whether these tokens may follow the places.
 fn may_follow(tail: Tail, line: &[u8], places: usize) -> bool
     ensures { result ≡ may_follow tail (drop places (tokens_of line.now)) }
@@ -175,8 +186,8 @@ fn may_follow(tail: Tail, line: &[u8], places: usize) -> bool
         Tail::Nothing => is_over(Tokens::past(line, places)),
         Tail::Numbers => true,
         Tail::SomeNumbers => !is_over(Tokens::past(line, places)),
-        Tail::SomePairs => !is_over(Tokens::past(line, places))
-            && pair_up(Tokens::past(line, places)),
+        Tail::Pairs(count) => !is_over(past_both(line, places, count))
+            && pair_up(past_both(line, places, count)),
     }
 }
 
@@ -217,6 +228,26 @@ pub(crate) fn value_at(line: &[u8], number: usize) -> u32
         Some(token) => value(token),
         None => 0,
     }
+}
+
+/// What the tokens from this number on write, of so many of them at most.
+pub(crate) fn values_in(
+    alloc: Global,
+    line: &[u8],
+    number: usize,
+    count: usize,
+) -> Result<List<u32>, Memory>
+    ensures { IfOk result (λ values. values ≡ take count (values_from number (tokens_of line.now))) }
+{
+    let mut values = List::new(alloc);
+    let mut tokens = Tokens::past(line, number);
+    for _value in 0..count {
+        let Some(token) = tokens.next() else {
+            return Ok(values);
+        };
+        values.push(value(token))?;
+    }
+    Ok(values)
 }
 
 /// What the tokens from this number on write.

@@ -2,7 +2,7 @@
 
 ghost use Rattle.std.specs.Prelude.{◌≡◌, ◌∷◌, []};
 ghost use Rattle.cert_value.specs.Tokens.{tokens_of};
-ghost use Rattle.cert_text.specs.Lines.{first_cut_in, first_head_in, second_head_in, delayed_or_cut_in, merge_or_cut_in, trim_in};
+ghost use Rattle.cert_text.specs.Lines.{first_cut_in, first_head_in, second_head_in, plain_delayed_in, announced_delayed_in, delayed_in, delayed_or_cut_in, merge_or_cut_in, trim_in};
 ghost use Rattle.cert_text.specs.declared.heads.SecondHead.TheVariants as second_head;
 ghost use Rattle.cert_text.specs.Agrees.{Agrees};
 
@@ -10,7 +10,7 @@ use crate::faults::{LineFault, TextKind};
 use crate::forms::{Place, Tail, fits, line_fault, value_at};
 use crate::lines::{ascending_in, word_in};
 use auto_core::{List, Mode};
-use cert_value::{Keyword, blocks_due};
+use cert_value::{Keyword, are_letters, blocks_due};
 use std::alloc::Global;
 
 /// The head of a step of the first log.
@@ -31,8 +31,8 @@ pub(crate) enum Way {
     Forward(u32),
     /// A backward relation at this lookahead.
     Backward(u32),
-    /// A delayed relation.
-    Delayed,
+    /// A delayed relation for so many announced letters.
+    Delayed(u32),
 }
 
 /// The head of a step of the second log.
@@ -83,16 +83,54 @@ pub(crate) fn first_head_in(alloc: Global, line: &[u8]) -> Result<FirstHead, Lin
     first_cut_in(line)
 }
 
-/// The head of a merge by delayed simulation or of a cut.
-fn delayed_or_cut_in(mode: Mode, line: &[u8]) -> Result<SecondHead, LineFault>
-    ensures { Agrees (delayed_or_cut_in mode (tokens_of line.now)) result }
+/// The head of a merge by delayed simulation in version 1.
+fn plain_delayed_in(line: &[u8]) -> Result<SecondHead, LineFault>
+    ensures { Agrees (plain_delayed_in (tokens_of line.now)) result }
 {
     let places = [Place::Word(Keyword::Merge), Place::Word(Keyword::Delayed)];
-    if mode == Mode::Buchi && fits(&places, line) {
-        return match line_fault(&places, Tail::Nothing, line) {
-            Some(fault) => Err(LineFault::Text(fault)),
-            None => Ok(SecondHead::Merge(Way::Delayed)),
-        };
+    match line_fault(&places, Tail::Nothing, line) {
+        Some(fault) => Err(LineFault::Text(fault)),
+        None => Ok(SecondHead::Merge(Way::Delayed(1))),
+    }
+}
+
+/// The head of a merge by delayed simulation in version 2, which says how many letters are announced.
+fn announced_delayed_in(line: &[u8]) -> Result<SecondHead, LineFault>
+    ensures { Agrees (announced_delayed_in (tokens_of line.now)) result }
+{
+    let places = [
+        Place::Word(Keyword::Merge),
+        Place::Word(Keyword::Delayed),
+        Place::Number,
+    ];
+    if let Some(fault) = line_fault(&places, Tail::Nothing, line) {
+        return Err(LineFault::Text(fault));
+    }
+    let letters = value_at(line, 2);
+    if !are_letters(2, letters) {
+        return Err(LineFault::Text(TextKind::Shape));
+    }
+    Ok(SecondHead::Merge(Way::Delayed(letters)))
+}
+
+/// The head of a merge by delayed simulation.
+fn delayed_in(version: u32, line: &[u8]) -> Result<SecondHead, LineFault>
+    ensures { Agrees (delayed_in version (tokens_of line.now)) result }
+{
+    if version == 2 {
+        announced_delayed_in(line)
+    } else {
+        plain_delayed_in(line)
+    }
+}
+
+/// The head of a merge by delayed simulation or of a cut.
+fn delayed_or_cut_in(version: u32, mode: Mode, line: &[u8]) -> Result<SecondHead, LineFault>
+    ensures { Agrees (delayed_or_cut_in version mode (tokens_of line.now)) result }
+{
+    let delayed = [Place::Word(Keyword::Merge), Place::Word(Keyword::Delayed)];
+    if mode == Mode::Buchi && fits(&delayed, line) {
+        return delayed_in(version, line);
     }
     match word_in(Keyword::Cut, line) {
         Ok(()) => Ok(SecondHead::Cut),
@@ -111,8 +149,8 @@ fn second_trim_in(alloc: Global, line: &[u8]) -> Result<SecondHead, LineFault>
 }
 
 /// The head of a merge or of a cut of the second log.
-fn merge_or_cut_in(mode: Mode, line: &[u8]) -> Result<SecondHead, LineFault>
-    ensures { Agrees (merge_or_cut_in mode (tokens_of line.now)) result }
+fn merge_or_cut_in(version: u32, mode: Mode, line: &[u8]) -> Result<SecondHead, LineFault>
+    ensures { Agrees (merge_or_cut_in version mode (tokens_of line.now)) result }
 {
     let forward = [
         Place::Word(Keyword::Merge),
@@ -136,19 +174,20 @@ fn merge_or_cut_in(mode: Mode, line: &[u8]) -> Result<SecondHead, LineFault>
             None => Ok(SecondHead::Merge(Way::Backward(value_at(line, 2)))),
         };
     }
-    delayed_or_cut_in(mode, line)
+    delayed_or_cut_in(version, mode, line)
 }
 
 /// The head of a step of the second log.
 pub(crate) fn second_head_in(
     alloc: Global,
+    version: u32,
     mode: Mode,
     line: &[u8],
 ) -> Result<SecondHead, LineFault>
-    ensures { Agrees (second_head_in mode (tokens_of line.now)) result }
+    ensures { Agrees (second_head_in version mode (tokens_of line.now)) result }
 {
     if fits(&[Place::Word(Keyword::Trim)], line) {
         return second_trim_in(alloc, line);
     }
-    merge_or_cut_in(mode, line)
+    merge_or_cut_in(version, mode, line)
 }

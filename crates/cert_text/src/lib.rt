@@ -1,4 +1,4 @@
-//! The text of certificates, version 1: the reader with exact faults and the writer. The value is that of `cert_value`.
+//! The text of certificates, in both versions: the reader with exact faults and the writer. The value is that of `cert_value`.
 #![tactic(auto)]
 
 mod blocks;
@@ -18,9 +18,10 @@ mod write;
 
 pub use cert_value::{
     Body, Cert, Element, FirstStep, GoneBy, Grounds, ListBody, Mark, RankBlock, RankRow, Ranked,
-    RelBlock, Row, SecondStep, StepLine, YesBody, well_formed,
+    RelBlock, Row, Run, SecondStep, StepLine, YesBody, upgrade, well_formed,
 };
 pub use faults::{CertReadFault, TextFault, TextKind};
 pub use laws::one_text;
+pub use lines::joined_runs;
 pub use read::read_cert;
-pub use write::write_cert;
+pub use write::{write_cert, write_upgraded};

@@ -1,16 +1,19 @@
 //! What each kind of line says.
 
-ghost use Rattle.std.specs.Prelude.{◌≡◌, ◌∷◌, [], ◌++◌, IfOk};
+ghost use Rattle.std.specs.Prelude.{◌≡◌, ℕ, ◌+◌, ◌<◌, ◌≤◌, ◌^◌, ◌∷◌, [], ◌++◌, drop, length, slice_index, IfOk};
 ghost use Rattle.cert_value.specs.Tokens.{tokens_of};
-ghost use Rattle.cert_text.specs.Lines.{word_in, number_in, numbers_in, ascending_in, sizes_in, row_in, rank_row_in, gone_by_in, step_in, ranked_of, gone_by_of, heading_in, has_heading, is_heading, finite_heading_in};
+ghost use Rattle.cert_text.specs.Lines.{word_in, number_in, numbers_in, ascending_in, sizes_in, by_two, joined_runs, runs_of, row_ascends, row_tail, row_in, rank_row_of, rank_row_in, gone_by_in, step_in, heading_in, is_heading, if_heading, heading, mode_heading_in, version_heading_in};
+ghost use Rattle.std.specs.Option.{option_copied};
+ghost use Rattle.cert_value.specs.WellFormed.{key_before};
 ghost use Rattle.cert_text.specs.Agrees.{Agrees};
 
 use crate::faults::{LineFault, TextKind};
-use crate::forms::{Place, Tail, line_fault, value_at, values_from};
-use crate::write::{answer_word, mode_word};
+use crate::forms::{Place, Tail, line_fault, value_at, values_from, values_in};
+use crate::write::{answer_word, mode_word, version_word};
 use auto_core::{List, Memory, Mode};
 use cert_value::{
-    Answer, GoneBy, Keyword, RankRow, Ranked, Row, StepLine, ascend, gone_ascend, rights_ascend,
+    Answer, GoneBy, Keyword, RankRow, Ranked, Row, Run, StepLine, ascend, exceeds_last,
+    gone_ascend, rights_ascend, runs_ascend,
 };
 use std::alloc::Global;
 
@@ -28,85 +31,77 @@ pub(crate) struct Sizes {
 /// What the first line says.
 #[derive(Clone, Copy, Debug, PartialEq, Eq)]
 pub(crate) struct Heading {
+    /// The version.
+    pub(crate) version: u32,
     /// What the automata were asked.
     pub(crate) mode: Mode,
     /// Which answer the certificate is for.
     pub(crate) answer: Answer,
 }
 
-/// Whether the line is the first line of a certificate with these words.
-fn has_heading(mode: Keyword, answer: Keyword, line: &[u8]) -> bool
-    ensures { result ≡ has_heading mode answer (tokens_of line.now) }
+/// Whether the line is the first line of a certificate with this heading.
+fn is_heading(heading: Heading, line: &[u8]) -> bool
+    ensures { result ≡ is_heading heading (tokens_of line.now) }
 {
     let places = [
         Place::Word(Keyword::RabitCert),
-        Place::Word(Keyword::One),
-        Place::Word(mode),
-        Place::Word(answer),
+        Place::Word(version_word(heading.version)),
+        Place::Word(mode_word(heading.mode)),
+        Place::Word(answer_word(heading.answer)),
     ];
-    match line_fault(&places, Tail::Nothing, line) {
-        Some(_) => false,
-        None => true,
-    }
+    line_fault(&places, Tail::Nothing, line).is_none()
 }
 
-/// Whether the line is the first line of a certificate of this mode and answer.
-fn is_heading(mode: Mode, answer: Answer, line: &[u8]) -> bool
-    ensures { result ≡ is_heading mode answer (tokens_of line.now) }
+/// The heading of these parts, if the line is the first line with it.
+fn if_heading(version: u32, mode: Mode, answer: Answer, line: &[u8]) -> Option<Heading>
+    ensures { result ≡ if_heading (heading version mode answer) (tokens_of line.now) }
 {
-    has_heading(mode_word(mode), answer_word(answer), line)
+    let heading = Heading {
+        version,
+        mode,
+        answer,
+    };
+    if is_heading(heading, line) {
+        Some(heading)
+    } else {
+        None
+    }
 }
 
-/// The first line of a finite certificate is one of three.
-fn finite_heading_in(line: &[u8]) -> Result<Heading, LineFault>
-    ensures { Agrees (finite_heading_in (tokens_of line.now)) result }
+/// One of the three headings of this version and mode.
+fn mode_heading_in(version: u32, mode: Mode, line: &[u8]) -> Option<Heading>
+    ensures { result ≡ mode_heading_in version mode (tokens_of line.now) }
 {
-    let mode = Mode::Finite;
-    if is_heading(mode, Answer::Yes, line) {
-        return Ok(Heading {
-            mode,
-            answer: Answer::Yes,
-        });
+    if let Some(heading) = if_heading(version, mode, Answer::Yes, line) {
+        return Some(heading);
     }
-    if is_heading(mode, Answer::No, line) {
-        return Ok(Heading {
-            mode,
-            answer: Answer::No,
-        });
+    if let Some(heading) = if_heading(version, mode, Answer::No, line) {
+        return Some(heading);
     }
-    if is_heading(mode, Answer::List, line) {
-        return Ok(Heading {
-            mode,
-            answer: Answer::List,
-        });
-    }
-    Err(LineFault::Text(TextKind::Header))
+    if_heading(version, mode, Answer::List, line)
 }
 
-/// What the first line says: it is one of six.
+/// One of the six headings of this version.
+fn version_heading_in(version: u32, line: &[u8]) -> Option<Heading>
+    ensures { result ≡ version_heading_in version (tokens_of line.now) }
+{
+    if let Some(heading) = mode_heading_in(version, Mode::Buchi, line) {
+        return Some(heading);
+    }
+    mode_heading_in(version, Mode::Finite, line)
+}
+
+/// What the first line says: it has one of twelve headings.
 pub(crate) fn heading_in(line: &[u8]) -> Result<Heading, LineFault>
     ensures { Agrees (heading_in (tokens_of line.now)) result }
 {
-    let mode = Mode::Buchi;
-    if is_heading(mode, Answer::Yes, line) {
-        return Ok(Heading {
-            mode,
-            answer: Answer::Yes,
-        });
+    if let Some(heading) = version_heading_in(1, line) {
+        return Ok(heading);
     }
-    if is_heading(mode, Answer::No, line) {
-        return Ok(Heading {
-            mode,
-            answer: Answer::No,
-        });
+    match version_heading_in(2, line) {
+        Some(heading) => Ok(heading),
+        None => Err(LineFault::Text(TextKind::Header)),
     }
-    if is_heading(mode, Answer::List, line) {
-        return Ok(Heading {
-            mode,
-            answer: Answer::List,
-        });
-    }
-    finite_heading_in(line)
 }
 
 /// A line of one word.
@@ -183,86 +178,197 @@ pub(crate) fn sizes_in(line: &[u8]) -> Result<Sizes, LineFault>
     }
 }
 
-/// A row of a relation, its left number not below the bound.
-pub(crate) fn row_in(alloc: Global, bound: u64, line: &[u8]) -> Result<Row, LineFault>
-    ensures { Agrees (row_in bound (tokens_of line.now)) result }
-{
-    if let Some(fault) = line_fault(
-        &[Place::Word(Keyword::Row), Place::Number],
-        Tail::SomeNumbers,
-        line,
-    ) {
-        return Err(LineFault::Text(fault));
-    }
-    let left = value_at(line, 1);
-    let rights = values_from(alloc, line, 2)?;
-    if !ascend(rights.as_slice()) || bound > left as u64 {
-        return Err(LineFault::Text(TextKind::Order));
-    }
-    Ok(Row { left, rights })
+/// What two numbers of a line stand for.
+trait Pair: Drop {
+    ghost of: { ℕ → ℕ → Self };
+
+    /// What these two stand for.
+    fn of(first: u32, second: u32) -> Self
+        ensures { result ≡ of first second };
 }
 
-/// The numbers as right numbers with their codes.
-fn ranked_of(alloc: Global, numbers: &[u32]) -> Result<List<Ranked>, Memory>
-    ensures { IfOk result (λ pairs. pairs ≡ ranked_of numbers.now) }
+impl Pair for Run {
+    ghost use Rattle.cert_text.specs.Lines.{run};
+
+    ghost of = { run };
+
+    fn of(first: u32, second: u32) -> Run {
+        Run {
+            first,
+            last: second,
+        }
+    }
+}
+
+impl Pair for Ranked {
+    ghost use Rattle.cert_text.specs.Lines.{ranked};
+
+    ghost of = { ranked };
+
+    fn of(first: u32, second: u32) -> Ranked {
+        Ranked {
+            right: first,
+            code: second,
+        }
+    }
+}
+
+impl Pair for GoneBy {
+    ghost use Rattle.cert_text.specs.Lines.{gone_by};
+
+    ghost of = { gone_by };
+
+    fn of(first: u32, second: u32) -> GoneBy {
+        GoneBy {
+            trans: first,
+            by: second,
+        }
+    }
+}
+
+/// What the numbers stand for, taken two by two.
+fn by_two<T: Pair>(alloc: Global, numbers: &[u32]) -> Result<List<T>, Memory>
+    ensures { IfOk result (λ pairs. pairs ≡ by_two T.of numbers.now) }
 {
     let mut pairs = List::new(alloc);
     let mut at = 0;
     while numbers.len() - at >= 2 {
-        pairs.push(Ranked {
-            right: numbers[at],
-            code: numbers[at + 1],
-        })?;
+        pairs.push(T::of(numbers[at], numbers[at + 1]))?;
         at += 2;
     }
     Ok(pairs)
 }
 
-/// A row of a relation with ranks, its left number not below the bound.
-pub(crate) fn rank_row_in(alloc: Global, bound: u64, line: &[u8]) -> Result<RankRow, LineFault>
-    ensures { Agrees (rank_row_in bound (tokens_of line.now)) result }
+/// The index of the last of the numbers that follow one another from this index on.
+fn run_end(numbers: &[u32], from: usize) -> usize
+    requires { from < length numbers.now }
+    ensures bounds { (from ≤ result) × (result < length numbers.now) }
+    ensures joined { joined_runs (drop from numbers.now)
+        ≡ record { first = slice_index numbers.now from; last = slice_index numbers.now result }
+        ∷ joined_runs (drop (result + 1) numbers.now) }
 {
-    if let Some(fault) = line_fault(
-        &[Place::Word(Keyword::Row), Place::Number],
-        Tail::SomePairs,
-        line,
-    ) {
+    let mut end = from;
+    while end + 1 < numbers.len() {
+        if numbers[end + 1] as u64 != numbers[end] as u64 + 1 {
+            return end;
+        }
+        end += 1;
+    }
+    end
+}
+
+/// The numbers as runs, those that follow one another joined.
+pub fn joined_runs(alloc: Global, numbers: &[u32]) -> Result<List<Run>, Memory>
+    ensures { IfOk result (λ runs. runs ≡ joined_runs numbers.now) }
+{
+    let mut runs = List::new(alloc);
+    let mut at = 0;
+    while at < numbers.len() {
+        let end = run_end(numbers, at);
+        runs.push(Run {
+            first: numbers[at],
+            last: numbers[end],
+        })?;
+        at = end + 1;
+    }
+    Ok(runs)
+}
+
+/// The runs of a row, from its numbers as the version has them.
+fn runs_of(alloc: Global, version: u32, numbers: &[u32]) -> Result<List<Run>, Memory>
+    ensures { IfOk result (λ runs. runs ≡ runs_of version numbers.now) }
+{
+    if version == 2 {
+        by_two::<Run>(alloc, numbers)
+    } else {
+        joined_runs(alloc, numbers)
+    }
+}
+
+/// What may follow the left number of a row.
+fn row_tail(version: u32) -> Tail
+    ensures { result ≡ row_tail version }
+{
+    if version == 2 {
+        Tail::Pairs(0)
+    } else {
+        Tail::SomeNumbers
+    }
+}
+
+/// Whether the numbers of a row, which are these runs, are in order.
+fn row_ascends(version: u32, numbers: &[u32], runs: &[Run]) -> bool
+    ensures { runs.now ≡ runs_of version numbers.now → result ≡ row_ascends version numbers.now }
+{
+    if version == 2 {
+        runs_ascend(runs)
+    } else {
+        ascend(numbers)
+    }
+}
+
+/// A row of a relation, its left number not below the bound.
+pub(crate) fn row_in(alloc: Global, version: u32, bound: u64, line: &[u8]) -> Result<Row, LineFault>
+    ensures { Agrees (row_in version bound (tokens_of line.now)) result }
+{
+    let places = [Place::Word(Keyword::Row), Place::Number];
+    if let Some(fault) = line_fault(&places, row_tail(version), line) {
         return Err(LineFault::Text(fault));
     }
     let left = value_at(line, 1);
     let numbers = values_from(alloc, line, 2)?;
-    let rights = ranked_of(alloc, numbers.as_slice())?;
-    if !rights_ascend(rights.as_slice()) || bound > left as u64 {
+    let runs = runs_of(alloc, version, numbers.as_slice())?;
+    if !row_ascends(version, numbers.as_slice(), runs.as_slice()) || bound > left as u64 {
         return Err(LineFault::Text(TextKind::Order));
     }
-    Ok(RankRow { left, rights })
+    Ok(Row { left, runs })
 }
 
-/// The numbers as what goes and by what.
-fn gone_by_of(alloc: Global, numbers: &[u32]) -> Result<List<GoneBy>, Memory>
-    ensures { IfOk result (λ pairs. pairs ≡ gone_by_of numbers.now) }
+/// A row of a relation with ranks after so many labels.
+fn rank_row_of(alloc: Global, labels: usize, line: &[u8]) -> Result<RankRow, Memory>
+    requires { labels + 2 < 2 ^ 64 }
+    ensures { IfOk result (λ row. row ≡ rank_row_of labels (tokens_of line.now)) }
 {
-    let mut pairs = List::new(alloc);
-    let mut at = 0;
-    while numbers.len() - at >= 2 {
-        pairs.push(GoneBy {
-            trans: numbers[at],
-            by: numbers[at + 1],
-        })?;
-        at += 2;
+    let ahead = values_in(alloc, line, 2, labels)?;
+    let numbers = values_from(alloc, line, labels + 2)?;
+    let rights = by_two::<Ranked>(alloc, numbers.as_slice())?;
+    Ok(RankRow {
+        left: value_at(line, 1),
+        ahead,
+        rights,
+    })
+}
+
+/// A row of a relation with ranks for so many announced letters, after the row before it, if there is one.
+pub(crate) fn rank_row_in(
+    alloc: Global,
+    letters: u32,
+    before: Option<&RankRow>,
+    line: &[u8],
+) -> Result<RankRow, LineFault>
+    ensures { Agrees (rank_row_in letters (key_before (option_copied before.entry)) (tokens_of line.now)) result }
+{
+    let labels = letters.saturating_sub(1) as usize;
+    let places = [Place::Word(Keyword::Row), Place::Number];
+    if let Some(fault) = line_fault(&places, Tail::Pairs(labels), line) {
+        return Err(LineFault::Text(fault));
     }
-    Ok(pairs)
+    let row = rank_row_of(alloc, labels, line)?;
+    if !rights_ascend(row.rights.as_slice()) || !exceeds_last(before, &row) {
+        return Err(LineFault::Text(TextKind::Order));
+    }
+    Ok(row)
 }
 
 /// What goes and by what.
 pub(crate) fn gone_by_in(alloc: Global, line: &[u8]) -> Result<List<GoneBy>, LineFault>
     ensures { Agrees (gone_by_in (tokens_of line.now)) result }
 {
-    if let Some(fault) = line_fault(&[Place::Word(Keyword::Gone)], Tail::SomePairs, line) {
+    if let Some(fault) = line_fault(&[Place::Word(Keyword::Gone)], Tail::Pairs(0), line) {
         return Err(LineFault::Text(fault));
     }
     let numbers = values_from(alloc, line, 1)?;
-    let gone = gone_by_of(alloc, numbers.as_slice())?;
+    let gone = by_two::<GoneBy>(alloc, numbers.as_slice())?;
     if !gone_ascend(gone.as_slice()) {
         return Err(LineFault::Text(TextKind::Order));
     }

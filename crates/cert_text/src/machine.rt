@@ -19,6 +19,8 @@ use std::alloc::Global;
 /// What the first two lines say.
 #[derive(Clone, Copy, Debug, PartialEq, Eq)]
 pub(crate) struct Opening {
+    /// The version.
+    pub(crate) version: u32,
     /// What the automata were asked.
     pub(crate) mode: Mode,
     /// Which answer the certificate is for.
@@ -56,6 +58,7 @@ fn whole(opening: Opening, body: Body) -> State
     ensures { result ≡ whole opening body }
 {
     State::End(Cert {
+        version: opening.version,
         mode: opening.mode,
         first_states: opening.sizes.first_states,
         second_states: opening.sizes.second_states,
@@ -70,6 +73,7 @@ fn begun(heading: Heading, sizes: Sizes) -> State
     ensures { result ≡ begun heading sizes }
 {
     let opening = Opening {
+        version: heading.version,
         mode: heading.mode,
         answer: heading.answer,
         sizes,
@@ -104,9 +108,9 @@ fn next_first(
     at: FirstLog,
     line: &[u8],
 ) -> Result<State, LineFault>
-    ensures { Agrees (map_said (with_first_log opening) (step_first_log at (tokens_of line.now))) result }
+    ensures { Agrees (map_said (with_first_log opening) (step_first_log opening.version at (tokens_of line.now))) result }
 {
-    match step_first_log(alloc, at, line) {
+    match step_first_log(alloc, opening.version, at, line) {
         Ok(Step::More(at)) => Ok(State::First(opening, at)),
         Ok(Step::Whole(first)) => Ok(State::Second(opening, first, SecondLog::Count)),
         Err(fault) => Err(fault),
@@ -138,9 +142,9 @@ fn next_second(
     at: SecondLog,
     line: &[u8],
 ) -> Result<State, LineFault>
-    ensures { Agrees (map_said (with_second_log opening first) (step_second_log opening.mode at (tokens_of line.now))) result }
+    ensures { Agrees (map_said (with_second_log opening first) (step_second_log opening.version opening.mode at (tokens_of line.now))) result }
 {
-    match step_second_log(alloc, opening.mode, at, line) {
+    match step_second_log(alloc, opening.version, opening.mode, at, line) {
         Ok(Step::More(at)) => Ok(State::Second(opening, first, at)),
         Ok(Step::Whole(second)) => Ok(evidence_due(opening, first, second)),
         Err(fault) => Err(fault),
@@ -157,9 +161,9 @@ fn next_yes(
     at: YesState,
     line: &[u8],
 ) -> Result<State, LineFault>
-    ensures { Agrees (map_said (with_yes opening first second) (step_yes opening.mode at (tokens_of line.now))) result }
+    ensures { Agrees (map_said (with_yes opening first second) (step_yes opening.version opening.mode at (tokens_of line.now))) result }
 {
-    match step_yes(alloc, opening.mode, at, line) {
+    match step_yes(alloc, opening.version, opening.mode, at, line) {
         Ok(Step::More(at)) => Ok(State::Yes(opening, first, second, at)),
         Ok(Step::Whole(closed)) => Ok(whole(
             opening,

@@ -42,6 +42,8 @@ pub(crate) enum SecondState {
     },
     /// The delayed relation of a merge.
     Delayed {
+        /// How many letters are announced.
+        letters: u32,
         /// The classes.
         classes: List<u32>,
         /// What is due in the relation.
@@ -83,7 +85,8 @@ fn rel_due(by: Way, classes: List<u32>) -> SecondState
             classes,
             at: BlockState::Count,
         },
-        Way::Delayed => SecondState::Delayed {
+        Way::Delayed(letters) => SecondState::Delayed {
+            letters,
             classes,
             at: RankState::Count,
         },
@@ -106,14 +109,15 @@ fn second_started(head: SecondHead) -> Step<SecondState, SecondStep>
 #[tactic(auto, unfolding(crate::specs::Machine::with_forward))]
 fn next_in_forward(
     alloc: Global,
+    version: u32,
     look: u32,
     classes: List<u32>,
     at: BlockState,
     line: &[u8],
 ) -> Result<Step<SecondState, SecondStep>, LineFault>
-    ensures { Agrees (map_said (with_forward look classes) (step_block at (tokens_of line.now))) result }
+    ensures { Agrees (map_said (with_forward look classes) (step_block version at (tokens_of line.now))) result }
 {
-    match step_block(alloc, at, line) {
+    match step_block(alloc, version, at, line) {
         Ok(Step::More(at)) => Ok(Step::More(SecondState::Forward { look, classes, at })),
         Ok(Step::Whole(rel)) => Ok(Step::Whole(SecondStep::Merge {
             by: Grounds::Forward { look, rel },
@@ -127,14 +131,15 @@ fn next_in_forward(
 #[tactic(auto, unfolding(crate::specs::Machine::with_backward))]
 fn next_in_backward(
     alloc: Global,
+    version: u32,
     look: u32,
     classes: List<u32>,
     at: BlockState,
     line: &[u8],
 ) -> Result<Step<SecondState, SecondStep>, LineFault>
-    ensures { Agrees (map_said (with_backward look classes) (step_block at (tokens_of line.now))) result }
+    ensures { Agrees (map_said (with_backward look classes) (step_block version at (tokens_of line.now))) result }
 {
-    match step_block(alloc, at, line) {
+    match step_block(alloc, version, at, line) {
         Ok(Step::More(at)) => Ok(Step::More(SecondState::Backward { look, classes, at })),
         Ok(Step::Whole(rel)) => Ok(Step::Whole(SecondStep::Merge {
             by: Grounds::Backward { look, rel },
@@ -148,16 +153,21 @@ fn next_in_backward(
 #[tactic(auto, unfolding(crate::specs::Machine::with_delayed))]
 fn next_in_delayed(
     alloc: Global,
+    letters: u32,
     classes: List<u32>,
     at: RankState,
     line: &[u8],
 ) -> Result<Step<SecondState, SecondStep>, LineFault>
-    ensures { Agrees (map_said (with_delayed classes) (step_ranks at (tokens_of line.now))) result }
+    ensures { Agrees (map_said (with_delayed letters classes) (step_ranks letters at (tokens_of line.now))) result }
 {
-    match step_ranks(alloc, at, line) {
-        Ok(Step::More(at)) => Ok(Step::More(SecondState::Delayed { classes, at })),
+    match step_ranks(alloc, letters, at, line) {
+        Ok(Step::More(at)) => Ok(Step::More(SecondState::Delayed {
+            letters,
+            classes,
+            at,
+        })),
         Ok(Step::Whole(ranks)) => Ok(Step::Whole(SecondStep::Merge {
-            by: Grounds::Delayed { ranks },
+            by: Grounds::Delayed { letters, ranks },
             classes,
         })),
         Err(fault) => Err(fault),
@@ -168,14 +178,15 @@ fn next_in_delayed(
 #[tactic(auto, unfolding(crate::specs::Machine::step_second))]
 fn step_second(
     alloc: Global,
+    version: u32,
     mode: Mode,
     state: SecondState,
     line: &[u8],
 ) -> Result<Step<SecondState, SecondStep>, LineFault>
-    ensures { Agrees (step_second mode state (tokens_of line.now)) result }
+    ensures { Agrees (step_second version mode state (tokens_of line.now)) result }
 {
     match state {
-        SecondState::Head => match second_head_in(alloc, mode, line) {
+        SecondState::Head => match second_head_in(alloc, version, mode, line) {
             Ok(head) => Ok(second_started(head)),
             Err(fault) => Err(fault),
         },
@@ -189,12 +200,16 @@ fn step_second(
             Err(fault) => Err(fault),
         },
         SecondState::Forward { look, classes, at } => next_in_forward(
-            alloc, look, classes, at, line,
+            alloc, version, look, classes, at, line,
         ),
         SecondState::Backward { look, classes, at } => next_in_backward(
-            alloc, look, classes, at, line,
+            alloc, version, look, classes, at, line,
         ),
-        SecondState::Delayed { classes, at } => next_in_delayed(alloc, classes, at, line),
+        SecondState::Delayed {
+            letters,
+            classes,
+            at,
+        } => next_in_delayed(alloc, letters, classes, at, line),
         SecondState::Gone => match ascending_in(alloc, Keyword::Gone, Tail::SomeNumbers, line) {
             Ok(gone) => Ok(Step::Whole(SecondStep::Cut { gone })),
             Err(fault) => Err(fault),
@@ -222,15 +237,16 @@ fn second_left(steps: List<SecondStep>, left: u32) -> Step<SecondLog, List<Secon
 #[tactic(auto, unfolding(crate::specs::Machine::with_second))]
 fn next_in_second(
     alloc: Global,
+    version: u32,
     mode: Mode,
     steps: List<SecondStep>,
     later: u32,
     at: SecondState,
     line: &[u8],
 ) -> Result<Step<SecondLog, List<SecondStep>>, LineFault>
-    ensures { Agrees (map_said (with_second steps later) (step_second mode at (tokens_of line.now))) result }
+    ensures { Agrees (map_said (with_second steps later) (step_second version mode at (tokens_of line.now))) result }
 {
-    match step_second(alloc, mode, at, line) {
+    match step_second(alloc, version, mode, at, line) {
         Ok(Step::More(at)) => Ok(Step::More(SecondLog::Steps { steps, later, at })),
         Ok(Step::Whole(step)) => match pushed(steps, step) {
             Ok(steps) => Ok(second_left(steps, later)),
@@ -244,11 +260,12 @@ fn next_in_second(
 #[tactic(auto, unfolding(crate::specs::Machine::step_second_log))]
 pub(crate) fn step_second_log(
     alloc: Global,
+    version: u32,
     mode: Mode,
     state: SecondLog,
     line: &[u8],
 ) -> Result<Step<SecondLog, List<SecondStep>>, LineFault>
-    ensures { Agrees (step_second_log mode state (tokens_of line.now)) result }
+    ensures { Agrees (step_second_log version mode state (tokens_of line.now)) result }
 {
     match state {
         SecondLog::Count => match number_in(Keyword::Log2, line) {
@@ -256,7 +273,7 @@ pub(crate) fn step_second_log(
             Err(fault) => Err(fault),
         },
         SecondLog::Steps { steps, later, at } => next_in_second(
-            alloc, mode, steps, later, at, line,
+            alloc, version, mode, steps, later, at, line,
         ),
     }
 }

@@ -2,7 +2,8 @@
 
 ghost use Rattle.std.specs.Prelude.{◌≡◌, ◌++◌, ◌∷◌, [], OnOk, IfOk, codes, decimal};
 ghost use Rattle.cert_value.specs.declared.keywords.Keyword.TheVariants as keyword;
-ghost use Rattle.cert_value.specs.Text.{spelled, text_of, line_text, text, first_lines, second_lines, yes_lines, list_lines, body_lines, first_line, closed_lines, limit_lines, answer_of, mode_word, answer_word};
+ghost use Rattle.cert_value.specs.WellFormed.{upgraded};
+ghost use Rattle.cert_value.specs.Text.{spelled, text_of, line_text, text, first_lines, second_lines, yes_lines, list_lines, body_lines, first_line, closed_lines, limit_lines, answer_of, version_word, mode_word, answer_word};
 
 use auto_core::{List, Memory, Mode, Origin};
 use cert_value::{
@@ -12,20 +13,20 @@ use cert_value::{
 use std::alloc::Global;
 
 /// Writes the first log.
-fn print_first_log(out: &mut List<u8>, steps: &[FirstStep]) -> Result<(), Memory>
-    ensures { OnOk result (out.new ≡ out.old ++ text_of (first_lines steps.now)) }
+fn print_first_log(out: &mut List<u8>, steps: &[FirstStep], version: u32) -> Result<(), Memory>
+    ensures { OnOk result (out.new ≡ out.old ++ text_of (first_lines version steps.now)) }
 {
     print_count(out, Keyword::Log1, steps.len())?;
-    print_all(out, steps)?;
+    print_all(out, steps, version)?;
     Ok(())
 }
 
 /// Writes the second log.
-fn print_second_log(out: &mut List<u8>, steps: &[SecondStep]) -> Result<(), Memory>
-    ensures { OnOk result (out.new ≡ out.old ++ text_of (second_lines steps.now)) }
+fn print_second_log(out: &mut List<u8>, steps: &[SecondStep], version: u32) -> Result<(), Memory>
+    ensures { OnOk result (out.new ≡ out.old ++ text_of (second_lines version steps.now)) }
 {
     print_count(out, Keyword::Log2, steps.len())?;
-    print_all(out, steps)?;
+    print_all(out, steps, version)?;
     Ok(())
 }
 
@@ -35,66 +36,84 @@ fn print_elements(
     elements: &[Element],
     cover: &[u32],
     steps: &[StepLine],
+    version: u32,
 ) -> Result<(), Memory>
     ensures { OnOk result (out.new ≡ out.old ++ text_of (closed_lines elements.now cover.now steps.now)) }
 {
     print_count(out, Keyword::Elements, elements.len())?;
-    print_all(out, elements)?;
+    print_all(out, elements, version)?;
     print_line(out, Keyword::Cover, &[], cover)?;
-    print_all(out, steps)?;
+    print_all(out, steps, version)?;
     Ok(())
 }
 
 /// Writes the evidence of inclusion.
-fn print_yes(out: &mut List<u8>, yes: &YesBody) -> Result<(), Memory>
-    ensures { OnOk result (out.new ≡ out.old ++ text_of (yes_lines yes.now)) }
+fn print_yes(out: &mut List<u8>, yes: &YesBody, version: u32) -> Result<(), Memory>
+    ensures { OnOk result (out.new ≡ out.old ++ text_of (yes_lines version yes.now)) }
 {
-    print_first_log(out, yes.first.as_slice())?;
-    print_second_log(out, yes.second.as_slice())?;
-    yes.order.print(out)?;
+    print_first_log(out, yes.first.as_slice(), version)?;
+    print_second_log(out, yes.second.as_slice(), version)?;
+    yes.order.print(out, version)?;
     print_elements(
         out,
         yes.elements.as_slice(),
         yes.cover.as_slice(),
         yes.steps.as_slice(),
+        version,
     )?;
     Ok(())
 }
 
 /// Writes the elements of a list, with its limit.
-fn print_origins(out: &mut List<u8>, limit: u32, elements: &[Origin]) -> Result<(), Memory>
+fn print_origins(
+    out: &mut List<u8>,
+    limit: u32,
+    elements: &[Origin],
+    version: u32,
+) -> Result<(), Memory>
     ensures { OnOk result (out.new ≡ out.old ++ text_of (limit_lines limit elements.now)) }
 {
     print_line(out, Keyword::Limit, &[limit], &[])?;
     print_count(out, Keyword::Elements, elements.len())?;
-    print_all(out, elements)?;
+    print_all(out, elements, version)?;
     Ok(())
 }
 
 /// Writes the evidence that a limit was met.
-fn print_listing(out: &mut List<u8>, list: &ListBody) -> Result<(), Memory>
-    ensures { OnOk result (out.new ≡ out.old ++ text_of (list_lines list.now)) }
+fn print_listing(out: &mut List<u8>, list: &ListBody, version: u32) -> Result<(), Memory>
+    ensures { OnOk result (out.new ≡ out.old ++ text_of (list_lines version list.now)) }
 {
-    print_first_log(out, list.first.as_slice())?;
-    print_second_log(out, list.second.as_slice())?;
-    print_origins(out, list.limit, list.elements.as_slice())?;
+    print_first_log(out, list.first.as_slice(), version)?;
+    print_second_log(out, list.second.as_slice(), version)?;
+    print_origins(out, list.limit, list.elements.as_slice(), version)?;
     Ok(())
 }
 
 /// Writes what stands between the line of sizes and the last line.
-fn print_body(out: &mut List<u8>, body: &Body) -> Result<(), Memory>
-    ensures { OnOk result (out.new ≡ out.old ++ text_of (body_lines body.now)) }
+fn print_body(out: &mut List<u8>, body: &Body, version: u32) -> Result<(), Memory>
+    ensures { OnOk result (out.new ≡ out.old ++ text_of (body_lines version body.now)) }
 {
     match body {
-        Body::Yes(yes) => print_yes(out, yes)?,
+        Body::Yes(yes) => print_yes(out, yes, version)?,
         Body::NoLasso(lasso) => {
             print_line(out, Keyword::Prefix, &[], lasso.prefix.as_slice())?;
             print_line(out, Keyword::Loop, &[], lasso.turn.as_slice())?;
         }
         Body::NoWord(word) => print_line(out, Keyword::Word, &[], word.as_slice())?,
-        Body::Listing(list) => print_listing(out, list)?,
+        Body::Listing(list) => print_listing(out, list, version)?,
     }
     Ok(())
+}
+
+/// The version's word in the first line.
+pub(crate) fn version_word(version: u32) -> Keyword
+    ensures { result ≡ version_word version }
+{
+    if version == 2 {
+        Keyword::Two
+    } else {
+        Keyword::One
+    }
 }
 
 /// The mode's word in the first line.
@@ -119,22 +138,27 @@ pub(crate) fn answer_word(answer: Answer) -> Keyword
 }
 
 /// Writes the words before the mode in the first line.
-fn print_format(out: &mut List<u8>) -> Result<(), Memory>
+fn print_format(out: &mut List<u8>, version: u32) -> Result<(), Memory>
     ensures { OnOk result
-        (out.new ≡ out.old ++ (spelled keyword.RabitCert ++ 32 ∷ (spelled keyword.One ++ 32 ∷ []))) }
+        (out.new ≡ out.old ++ (spelled keyword.RabitCert ++ 32 ∷ (spelled (version_word version) ++ 32 ∷ []))) }
 {
     print_keyword(out, Keyword::RabitCert)?;
     out.push(b' ')?;
-    print_keyword(out, Keyword::One)?;
+    print_keyword(out, version_word(version))?;
     out.push(b' ')?;
     Ok(())
 }
 
 /// Writes the first line.
-fn print_first_line(out: &mut List<u8>, mode: Mode, answer: Answer) -> Result<(), Memory>
-    ensures { OnOk result (out.new ≡ out.old ++ line_text (first_line mode answer)) }
+fn print_first_line(
+    out: &mut List<u8>,
+    version: u32,
+    mode: Mode,
+    answer: Answer,
+) -> Result<(), Memory>
+    ensures { OnOk result (out.new ≡ out.old ++ line_text (first_line version mode answer)) }
 {
-    print_format(out)?;
+    print_format(out, version)?;
     print_keyword(out, mode_word(mode))?;
     out.push(b' ')?;
     print_line(out, answer_word(answer), &[], &[])?;
@@ -152,18 +176,18 @@ fn answer_of(body: &Body) -> Answer
     }
 }
 
-/// Writes the certificate.
-fn print_cert(out: &mut List<u8>, cert: &Cert) -> Result<(), Memory>
-    ensures { OnOk result (out.new ≡ out.old ++ text cert.now) }
+/// Writes the certificate in this version.
+fn print_cert(out: &mut List<u8>, cert: &Cert, version: u32) -> Result<(), Memory>
+    ensures { OnOk result (out.new ≡ out.old ++ text (record cert.now { version = version })) }
 {
-    print_first_line(out, cert.mode, answer_of(&cert.body))?;
+    print_first_line(out, version, cert.mode, answer_of(&cert.body))?;
     print_line(
         out,
         Keyword::Sizes,
         &[cert.first_states, cert.second_states, cert.labels],
         &[],
     )?;
-    print_body(out, &cert.body)?;
+    print_body(out, &cert.body, version)?;
     print_line(out, Keyword::End, &[], &[])?;
     Ok(())
 }
@@ -173,6 +197,15 @@ pub fn write_cert(alloc: Global, cert: &Cert) -> Result<List<u8>, Memory>
     ensures text { IfOk result (λ bytes. bytes ≡ text cert.now) }
 {
     let mut out = List::new(alloc);
-    print_cert(&mut out, cert)?;
+    print_cert(&mut out, cert, cert.version)?;
+    Ok(out)
+}
+
+/// The text of the certificate in version 2, without a copy of it.
+pub fn write_upgraded(alloc: Global, cert: &Cert) -> Result<List<u8>, Memory>
+    ensures text { IfOk result (λ bytes. bytes ≡ text (upgraded cert.now)) }
+{
+    let mut out = List::new(alloc);
+    print_cert(&mut out, cert, 2)?;
     Ok(out)
 }

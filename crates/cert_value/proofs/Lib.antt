@@ -1,3 +1,4 @@
 pub mod TextLemmas
 pub mod CheckLemmas
 pub mod SplitLemmas
+pub mod UpgradeLemmas

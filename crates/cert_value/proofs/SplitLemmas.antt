@@ -1,5 +1,5 @@
-use Rattle.std.proofs.Common.{◌≡◌, ℕ, zero, suc, ◌<◌, ◌≤◌, ◌+◌, ◌-◌, ◌==◌, List, [], ◌∷◌, ◌++◌, length, take, drop, Bool, true, false, cond, not, Option, Some, None, position, get_or, arith, ap, sym, refl, ◌∙◌, take_all, nat_lt, ⊎_elim, lt-ltb, le-ltb, length-drop}
-use Rattle.std.specs.List.{slice_split, position_or_len, onto_first, before_first, after_first}
+use Rattle.std.proofs.Common.{◌≡◌, ℕ, zero, suc, ◌≤◌, ◌+◌, ◌-◌, List, [], ◌∷◌, length, take, drop, Bool, Some, None, position, arith, ap, refl, ◌∙◌, take_all, ⊎_elim, lt-ltb, le-ltb, length-drop}
+use Rattle.std.specs.List.{slice_split, position_or_len, onto_first}
 use Rattle.std.proofs.lemmas.List.Splits.{slice_split_first, slice_split-cons_no}
 use Rattle.std.proofs.lemmas.Bool.{cases_Bool, cases_lt}
 

@@ -1,10 +1,10 @@
 -- The text of a certificate, as a function of its value.
-use Rattle.std.specs.Prelude.{ℕ, List, [], ◌∷◌, ◌++◌, length, map, codes, decimal}
+use Rattle.std.specs.Prelude.{ℕ, ◌+◌, ◌-◌, ◌==◌, List, [], ◌∷◌, ◌++◌, length, map, codes, decimal, if◌then◌else◌}
+use Rattle.std.specs.List.{range_with_len}
 use Rattle.auto_core.specs.declared.parts.Mode.{Mode}
 use Rattle.auto_core.specs.declared.parts.Mode.TheVariants as mode
 use Rattle.auto_core.specs.declared.parts.Origin.{Origin}
 use Rattle.auto_core.specs.declared.parts.Origin.TheVariants as origin
-use Rattle.auto_core.specs.declared.parts.Lasso.{Lasso}
 use Rattle.cert_value.specs.declared.keywords.Keyword.{Keyword}
 use Rattle.cert_value.specs.declared.keywords.Keyword.TheVariants as keyword
 use Rattle.cert_value.specs.declared.types.Answer.{Answer}
@@ -23,6 +23,7 @@ use Rattle.cert_value.specs.declared.types.Grounds.TheVariants as grounds
 use Rattle.cert_value.specs.declared.types.GoneBy.{GoneBy}
 use Rattle.cert_value.specs.declared.types.RelBlock.{RelBlock}
 use Rattle.cert_value.specs.declared.types.Row.{Row}
+use Rattle.cert_value.specs.declared.types.Run.{Run}
 use Rattle.cert_value.specs.declared.types.RankBlock.{RankBlock}
 use Rattle.cert_value.specs.declared.types.RankRow.{RankRow}
 use Rattle.cert_value.specs.declared.types.Ranked.{Ranked}
@@ -64,6 +65,7 @@ spelled keyword.List = codes "list"
 spelled keyword.No = codes "no"
 spelled keyword.One = codes "1"
 spelled keyword.RabitCert = codes "rabit-cert"
+spelled keyword.Two = codes "2"
 spelled keyword.Yes = codes "yes"
 spelled keyword.Word = codes "word"
 
@@ -95,22 +97,44 @@ each lines_of (item ∷ items) = lines_of item ++ each lines_of items
 abbrev pub numbers : List ℕ → Line
 numbers ns = map decimal ns
 
+-- The numbers that a run stands for.
+abbrev pub run_numbers : Run → List ℕ
+run_numbers run = range_with_len run.first (run.last + 1 - run.first)
+
+-- The numbers that runs stand for.
+abbrev pub numbers_of : List Run → List ℕ
+numbers_of [] = []
+numbers_of (run ∷ runs) = run_numbers run ++ numbers_of runs
+
+-- Both numbers of each item, one after another.
+abbrev pub in_pairs : {A : Type 0} → (A → ℕ) → (A → ℕ) → List A → List ℕ
+in_pairs first second [] = []
+in_pairs first second (item ∷ items) = first item ∷ second item ∷ in_pairs first second items
+
+-- The first and the last number of each run.
+abbrev pub ends_of : List Run → List ℕ
+ends_of runs = in_pairs (λ run. run.first) (λ run. run.last) runs
+
+-- How runs are written: in version 1 by all their numbers, in version 2 by their ends.
+abbrev pub row_numbers : ℕ → List Run → List ℕ
+row_numbers v runs = if v == 2 then ends_of runs else numbers_of runs
+
 -- A row of a relation.
-abbrev pub row_lines : Row → List Line
-row_lines row = (spelled keyword.Row ∷ decimal row.left ∷ numbers row.rights) ∷ []
+abbrev pub row_lines : ℕ → Row → List Line
+row_lines v row = (spelled keyword.Row ∷ decimal row.left ∷ numbers (row_numbers v row.runs)) ∷ []
 
 -- A relation.
-abbrev pub block_lines : RelBlock → List Line
-block_lines block = (spelled keyword.Rel ∷ decimal (length block.rows) ∷ []) ∷ each row_lines block.rows
+abbrev pub block_lines : ℕ → RelBlock → List Line
+block_lines v block = (spelled keyword.Rel ∷ decimal (length block.rows) ∷ []) ∷ each (row_lines v) block.rows
 
 -- The right numbers with their codes.
 abbrev pub ranked_numbers : List Ranked → List ℕ
-ranked_numbers [] = []
-ranked_numbers (pair ∷ pairs) = pair.right ∷ pair.code ∷ ranked_numbers pairs
+ranked_numbers pairs = in_pairs (λ pair. pair.right) (λ pair. pair.code) pairs
 
--- A row of a relation with ranks.
+-- A row of a relation with ranks: its left number, the announced labels, and the right numbers with their codes.
 abbrev pub rank_row_lines : RankRow → List Line
-rank_row_lines row = (spelled keyword.Row ∷ decimal row.left ∷ numbers (ranked_numbers row.rights)) ∷ []
+rank_row_lines row =
+    (spelled keyword.Row ∷ decimal row.left ∷ numbers (row.ahead ++ ranked_numbers row.rights)) ∷ []
 
 -- A relation with ranks.
 abbrev pub rank_block_lines : RankBlock → List Line
@@ -118,36 +142,41 @@ rank_block_lines block = (spelled keyword.Rel ∷ decimal (length block.rows) �
 
 -- What goes, each with the better one.
 abbrev pub gone_numbers : List GoneBy → List ℕ
-gone_numbers [] = []
-gone_numbers (pair ∷ pairs) = pair.trans ∷ pair.by ∷ gone_numbers pairs
+gone_numbers pairs = in_pairs (λ pair. pair.trans) (λ pair. pair.by) pairs
 
 -- The class of each state.
 abbrev pub classes_line : List ℕ → Line
 classes_line classes = spelled keyword.Classes ∷ numbers classes
 
 -- A step of the first log.
-abbrev pub first_step_lines : FirstStep → List Line
-first_step_lines (first.Trim kept) = (spelled keyword.Trim ∷ numbers kept) ∷ []
-first_step_lines (first.Merge classes) = (spelled keyword.Merge ∷ []) ∷ classes_line classes ∷ []
-first_step_lines (first.Cut pair look gone blocks) =
+abbrev pub first_step_lines : ℕ → FirstStep → List Line
+first_step_lines v (first.Trim kept) = (spelled keyword.Trim ∷ numbers kept) ∷ []
+first_step_lines v (first.Merge classes) = (spelled keyword.Merge ∷ []) ∷ classes_line classes ∷ []
+first_step_lines v (first.Cut pair look gone blocks) =
     (spelled keyword.Cut ∷ decimal pair ∷ decimal look ∷ [])
     ∷ (spelled keyword.Gone ∷ numbers (gone_numbers gone))
-    ∷ each block_lines blocks
+    ∷ each (block_lines v) blocks
+
+-- How many letters are announced, as it stands in version 2 alone.
+abbrev pub letters_tokens : ℕ → ℕ → Line
+letters_tokens v letters = if v == 2 then decimal letters ∷ [] else []
 
 -- A merge of the second log.
-abbrev pub merge_lines : Grounds → List ℕ → List Line
-merge_lines (grounds.Forward look rel) classes =
-    (spelled keyword.Merge ∷ spelled keyword.Forward ∷ decimal look ∷ []) ∷ classes_line classes ∷ block_lines rel
-merge_lines (grounds.Backward look rel) classes =
-    (spelled keyword.Merge ∷ spelled keyword.Backward ∷ decimal look ∷ []) ∷ classes_line classes ∷ block_lines rel
-merge_lines (grounds.Delayed ranks) classes =
-    (spelled keyword.Merge ∷ spelled keyword.Delayed ∷ []) ∷ classes_line classes ∷ rank_block_lines ranks
+abbrev pub merge_lines : ℕ → Grounds → List ℕ → List Line
+merge_lines v (grounds.Forward look rel) classes =
+    (spelled keyword.Merge ∷ spelled keyword.Forward ∷ decimal look ∷ []) ∷ classes_line classes ∷ block_lines v rel
+merge_lines v (grounds.Backward look rel) classes =
+    (spelled keyword.Merge ∷ spelled keyword.Backward ∷ decimal look ∷ []) ∷ classes_line classes ∷ block_lines v rel
+merge_lines v (grounds.Delayed letters ranks) classes =
+    (spelled keyword.Merge ∷ spelled keyword.Delayed ∷ letters_tokens v letters)
+    ∷ classes_line classes
+    ∷ rank_block_lines ranks
 
 -- A step of the second log.
-abbrev pub second_step_lines : SecondStep → List Line
-second_step_lines (second.Trim kept) = (spelled keyword.Trim ∷ numbers kept) ∷ []
-second_step_lines (second.Merge by classes) = merge_lines by classes
-second_step_lines (second.Cut gone) = (spelled keyword.Cut ∷ []) ∷ (spelled keyword.Gone ∷ numbers gone) ∷ []
+abbrev pub second_step_lines : ℕ → SecondStep → List Line
+second_step_lines v (second.Trim kept) = (spelled keyword.Trim ∷ numbers kept) ∷ []
+second_step_lines v (second.Merge by classes) = merge_lines v by classes
+second_step_lines v (second.Cut gone) = (spelled keyword.Cut ∷ []) ∷ (spelled keyword.Gone ∷ numbers gone) ∷ []
 
 -- Where an element comes from.
 abbrev pub origin_line : Origin → Line
@@ -173,12 +202,12 @@ abbrev pub step_lines : StepLine → List Line
 step_lines step = (spelled keyword.Step ∷ decimal step.element ∷ numbers step.by) ∷ []
 
 -- The first log.
-abbrev pub first_lines : List FirstStep → List Line
-first_lines steps = (spelled keyword.Log1 ∷ decimal (length steps) ∷ []) ∷ each first_step_lines steps
+abbrev pub first_lines : ℕ → List FirstStep → List Line
+first_lines v steps = (spelled keyword.Log1 ∷ decimal (length steps) ∷ []) ∷ each (first_step_lines v) steps
 
 -- The second log.
-abbrev pub second_lines : List SecondStep → List Line
-second_lines steps = (spelled keyword.Log2 ∷ decimal (length steps) ∷ []) ∷ each second_step_lines steps
+abbrev pub second_lines : ℕ → List SecondStep → List Line
+second_lines v steps = (spelled keyword.Log2 ∷ decimal (length steps) ∷ []) ∷ each (second_step_lines v) steps
 
 -- How many elements there are.
 abbrev pub elements_line : ℕ → Line
@@ -191,9 +220,10 @@ closed_lines elements cover steps =
     ∷ (each element_lines elements ++ ((spelled keyword.Cover ∷ numbers cover) ∷ each step_lines steps))
 
 -- The evidence of inclusion.
-abbrev pub yes_lines : YesBody → List Line
-yes_lines y =
-    first_lines y.first ++ (second_lines y.second ++ (block_lines y.order ++ closed_lines y.elements y.cover y.steps))
+abbrev pub yes_lines : ℕ → YesBody → List Line
+yes_lines v y =
+    first_lines v y.first
+    ++ (second_lines v y.second ++ (block_lines v y.order ++ closed_lines y.elements y.cover y.steps))
 
 -- The limit, and the elements of a list.
 abbrev pub limit_lines : ℕ → List Origin → List Line
@@ -201,16 +231,16 @@ limit_lines limit elements =
     (spelled keyword.Limit ∷ decimal limit ∷ []) ∷ elements_line (length elements) ∷ each origin_lines elements
 
 -- The evidence that a limit was met.
-abbrev pub list_lines : ListBody → List Line
-list_lines list = first_lines list.first ++ (second_lines list.second ++ limit_lines list.limit list.elements)
+abbrev pub list_lines : ℕ → ListBody → List Line
+list_lines v list = first_lines v list.first ++ (second_lines v list.second ++ limit_lines list.limit list.elements)
 
 -- What stands between the line of sizes and the last line.
-abbrev pub body_lines : Body → List Line
-body_lines (body.Yes y) = yes_lines y
-body_lines (body.NoLasso lasso) =
+abbrev pub body_lines : ℕ → Body → List Line
+body_lines v (body.Yes y) = yes_lines v y
+body_lines v (body.NoLasso lasso) =
     (spelled keyword.Prefix ∷ numbers lasso.prefix) ∷ (spelled keyword.Loop ∷ numbers lasso.turn) ∷ []
-body_lines (body.NoWord word) = (spelled keyword.Word ∷ numbers word) ∷ []
-body_lines (body.Listing list) = list_lines list
+body_lines v (body.NoWord word) = (spelled keyword.Word ∷ numbers word) ∷ []
+body_lines v (body.Listing list) = list_lines v list
 
 -- The mode's word in the first line.
 abbrev pub mode_word : Mode → Keyword
@@ -230,10 +260,14 @@ answer_of (body.NoLasso lasso) = answer.No
 answer_of (body.NoWord word) = answer.No
 answer_of (body.Listing list) = answer.List
 
+-- The version's word in the first line.
+abbrev pub version_word : ℕ → Keyword
+version_word v = if v == 2 then keyword.Two else keyword.One
+
 -- The first line.
-abbrev pub first_line : Mode → Answer → Line
-first_line m a =
-    spelled keyword.RabitCert ∷ spelled keyword.One ∷ spelled (mode_word m) ∷ spelled (answer_word a) ∷ []
+abbrev pub first_line : ℕ → Mode → Answer → Line
+first_line v m a =
+    spelled keyword.RabitCert ∷ spelled (version_word v) ∷ spelled (mode_word m) ∷ spelled (answer_word a) ∷ []
 
 -- The line of sizes: the states of the read first automaton, of the read second one, and the joined labels.
 abbrev pub sizes_line : ℕ → ℕ → ℕ → Line
@@ -247,9 +281,9 @@ end_line = spelled keyword.End ∷ []
 -- All lines of a certificate.
 abbrev pub cert_lines : Cert → List Line
 cert_lines c =
-    first_line c.mode (answer_of c.body)
+    first_line c.version c.mode (answer_of c.body)
     ∷ sizes_line c.first_states c.second_states c.labels
-    ∷ (body_lines c.body ++ end_line ∷ [])
+    ∷ (body_lines c.version c.body ++ end_line ∷ [])
 
 -- The text of a certificate.
 abbrev pub text : Cert → List ℕ

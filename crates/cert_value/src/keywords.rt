@@ -37,6 +37,7 @@ pub enum Keyword {
     No,
     One,
     RabitCert,
+    Two,
     Yes,
     Word,
 }
@@ -79,6 +80,7 @@ impl Keyword {
             Keyword::No => b"no",
             Keyword::One => b"1",
             Keyword::RabitCert => b"rabit-cert",
+            Keyword::Two => b"2",
             Keyword::Yes => b"yes",
             Keyword::Word => b"word",
         }

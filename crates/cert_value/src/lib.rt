@@ -1,4 +1,4 @@
-//! Certificates, version 1: the value, which values have a text, and how the lines of a text are spelled and written.
+//! Certificates: the value, which values have a text, and how the lines of a text are spelled and written, in both versions.
 #![tactic(auto)]
 
 mod checks;
@@ -7,12 +7,17 @@ mod printed_parts;
 mod printing;
 mod tokens;
 mod types;
+mod versions;
 
-pub use checks::{ascend, blocks_due, gone_ascend, is_live, rights_ascend, well_formed};
+pub use checks::{
+    are_letters, ascend, blocks_due, exceeds_last, gone_ascend, is_live, rights_ascend,
+    runs_ascend, well_formed,
+};
 pub use keywords::Keyword;
 pub use printing::{Print, print_all, print_count, print_keyword, print_line};
 pub use tokens::Tokens;
 pub use types::{
     Answer, Body, Cert, Element, FirstStep, GoneBy, Grounds, ListBody, Mark, RankBlock, RankRow,
-    Ranked, RelBlock, Row, SecondStep, StepLine, YesBody,
+    Ranked, RelBlock, Row, Run, SecondStep, StepLine, YesBody,
 };
+pub use versions::upgrade;

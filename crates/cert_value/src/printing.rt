@@ -2,26 +2,26 @@
 
 ghost use Rattle.std.specs.Prelude.{◌≡◌, ◌^◌, ◌<◌, ◌++◌, ◌∷◌, [], List as Items, OnOk, decimal, ℕ};
 ghost use Rattle.cert_value.specs.Text.{spelled, line_text, numbers};
-ghost use Rattle.cert_value.specs.Printed.{joined};
+ghost use Rattle.cert_value.specs.Printed.{joined, number_text};
 
 use crate::keywords::Keyword;
 use auto_core::{List, Memory};
 
-/// What can be written onto the end of a text.
+/// A part of a certificate, which can be written onto the end of a text.
 pub trait Print: Drop {
-    ghost printed: { Self → Items ℕ };
+    ghost printed: { ℕ → Self → Items ℕ };
 
-    /// Writes it onto the end.
-    fn print(&self, out: &mut List<u8>) -> Result<(), Memory>
-        ensures { OnOk result (out.new ≡ out.old ++ printed self.now) };
+    /// Writes it onto the end, as this version has it.
+    fn print(&self, out: &mut List<u8>, version: u32) -> Result<(), Memory>
+        ensures { OnOk result (out.new ≡ out.old ++ printed version self.now) };
 }
 
 /// Writes all of them, in order.
-pub fn print_all<T: Print>(out: &mut List<u8>, items: &[T]) -> Result<(), Memory>
-    ensures { OnOk result (out.new ≡ out.old ++ joined T.printed items.now) }
+pub fn print_all<T: Print>(out: &mut List<u8>, items: &[T], version: u32) -> Result<(), Memory>
+    ensures { OnOk result (out.new ≡ out.old ++ joined (T.printed version) items.now) }
 {
     for item in items {
-        item.print(out)?;
+        item.print(out, version)?;
     }
     Ok(())
 }
@@ -47,16 +47,23 @@ pub(crate) fn print_decimal(out: &mut List<u8>, number: usize) -> Result<(), Mem
     Ok(())
 }
 
-impl Print for u32 {
-    ghost use Rattle.std.specs.Prelude.{◌∷◌, decimal};
+/// Writes the number, with a space before it.
+pub(crate) fn print_number(out: &mut List<u8>, number: usize) -> Result<(), Memory>
+    ensures { OnOk result (out.new ≡ out.old ++ number_text number) }
+{
+    out.push(b' ')?;
+    print_decimal(out, number)?;
+    Ok(())
+}
 
-    ghost printed = { λ n. 32 ∷ decimal n };
-
-    fn print(&self, out: &mut List<u8>) -> Result<(), Memory> {
-        out.push(b' ')?;
-        print_decimal(out, *self as usize)?;
-        Ok(())
+/// Writes the numbers, each with a space before it.
+pub(crate) fn print_numbers(out: &mut List<u8>, numbers: &[u32]) -> Result<(), Memory>
+    ensures { OnOk result (out.new ≡ out.old ++ joined number_text numbers.now) }
+{
+    for number in numbers {
+        print_number(out, *number as usize)?;
     }
+    Ok(())
 }
 
 /// Writes the word.
@@ -77,8 +84,8 @@ pub fn print_line(
     ensures { OnOk result (out.new ≡ out.old ++ line_text (spelled keyword ∷ numbers (heads.now ++ tail.now))) }
 {
     print_keyword(out, keyword)?;
-    print_all(out, heads)?;
-    print_all(out, tail)?;
+    print_numbers(out, heads)?;
+    print_numbers(out, tail)?;
     out.push(b'\n')?;
     Ok(())
 }

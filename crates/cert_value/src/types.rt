@@ -5,6 +5,8 @@ use auto_core::{Lasso, List, Mode, Origin, Word};
 /// A certificate.
 #[derive(Debug, Drop)]
 pub struct Cert {
+    /// The version of its text, 1 or 2.
+    pub version: u32,
     /// What the two automata were asked.
     pub mode: Mode,
     /// How many states the read first automaton has.
@@ -138,6 +140,8 @@ pub enum Grounds {
     },
     /// A delayed relation.
     Delayed {
+        /// How many letters are announced, from 1 to 4, and 1 in version 1.
+        letters: u32,
         /// The relation with its ranks.
         ranks: RankBlock,
     },
@@ -164,22 +168,33 @@ pub struct RelBlock {
 pub struct Row {
     /// The left number.
     pub left: u32,
-    /// The right numbers, ascending.
-    pub rights: List<u32>,
+    /// The right numbers as runs, ascending; no run begins right after the one before.
+    pub runs: List<Run>,
+}
+
+/// Numbers that follow one another.
+#[derive(Clone, Copy, Debug, PartialEq, Eq)]
+pub struct Run {
+    /// The first of them.
+    pub first: u32,
+    /// The last of them.
+    pub last: u32,
 }
 
 /// A relation with ranks: exactly the pairs that it lists.
 #[derive(Debug, Drop)]
 pub struct RankBlock {
-    /// A row for each left number that has a right one, ascending.
+    /// A row for each left number and announced word that have a right number, ascending.
     pub rows: List<RankRow>,
 }
 
-/// The pairs of one left number, with their ranks.
+/// The pairs of one left number and one announced word, with their ranks.
 #[derive(Debug, Drop)]
 pub struct RankRow {
     /// The left number.
     pub left: u32,
+    /// The announced labels, one fewer than the letters.
+    pub ahead: List<u32>,
     /// The right numbers, ascending, each with its code.
     pub rights: List<Ranked>,
 }

@@ -1,18 +1,16 @@
 -- Where the first fault stands.
-use Rattle.std.proofs.Common.{◌≡◌, ℕ, ◌+◌, ◌-◌, Bool, true, false, if◌then◌else◌, List, [], length, Ok, Err, refl, sym, ap, ◌∙◌, append-nil, subst, arith}
+use Rattle.std.proofs.Common.{◌≡◌, ℕ, ◌+◌, ◌-◌, List, [], length, Ok, Err, refl, sym, ap, ◌∙◌, append-nil, arith}
 use Rattle.auto_core.specs.declared.parts.Mode.{Mode}
 use Rattle.auto_core.specs.declared.parts.Mode.TheVariants as mode
 use Rattle.cert_value.specs.declared.types.Cert.{Cert}
-use Rattle.cert_value.specs.declared.types.Body.{Body}
-use Rattle.cert_value.specs.declared.types.Body.TheVariants as body
-use Rattle.cert_text.specs.declared.faults.TextKind.{TextKind}
-use Rattle.cert_text.specs.declared.faults.TextKind.TheVariants.{Header}
+use Rattle.cert_value.specs.declared.types.Answer.{Answer}
+use Rattle.cert_value.specs.declared.types.Answer.TheVariants as answer
 use Rattle.cert_text.specs.declared.faults.TextFault.{TextFault}
-use Rattle.cert_value.specs.Text.{Line, text, answer_of}
+use Rattle.cert_value.specs.Text.{Line, text}
 use Rattle.cert_value.specs.WellFormed.{WellFormed}
 use Rattle.cert_text.specs.Law.{FirstFault}
-use Rattle.cert_text.specs.Lines.{Said, heading_in, heading_or, is_heading, finite_heading_in, sizes_in}
-use Rattle.cert_text.specs.Grammar.{ReadOutcome, Read, Stopped, Then, lines_of, read_lines, read_sizes, read_rest, told_at, first_left}
+use Rattle.cert_text.specs.Lines.{heading, heading_in, sizes_in}
+use Rattle.cert_text.specs.Grammar.{ReadOutcome, Read, Stopped, lines_of, read_lines, read_sizes, read_rest, told_at, first_left}
 use Rattle.cert_text.specs.Machine.{step, done_cert, begun}
 use Rattle.cert_text.proofs.ResumeState.{resume, state_law, state_last}
 use Rattle.cert_text.proofs.Theorem.{text_then}
@@ -27,50 +25,15 @@ rest_reader h same =
     (λ line sizes told. same_reader (read_rest h sizes) (resume (begun h sizes)) (same sizes)
     (machine_reader resume step done_cert state_law state_last (begun h sizes)))
 
-of_test : {A : Type 0} (next : Then A) (b : Bool) (x : A) (other : Said A) (a : A)
-    → (if b then Ok x else other) ≡ Ok a → IsReader (next x) → (other ≡ Ok a → IsReader (next a)) → IsReader (next a)
-of_test next true x other a e here there = let same : x ≡ a = cc in subst (λ y. IsReader (next y)) same here
-of_test next false x other a e here there = there e
-
-not_both : {A : Type 0} (said : Said A) (kind : TextKind) (a : A) → said ≡ Err kind → said ≡ Ok a → ⊥
-not_both (Ok x) kind a e f = absurd (cc)
-not_both (Err k) kind a e f = absurd (cc)
-
-of_heading : (m : Mode) (b : Body) (other : _) (line : Line) (h : _)
-    → heading_or m (answer_of b) other line ≡ Ok h
-    → IsReader (read_sizes (record { mode = m; answer = answer_of b }))
-    → (other line ≡ Ok h → IsReader (read_sizes h))
-    → IsReader (read_sizes h)
-of_heading m b other line h e here there =
-    of_test read_sizes (is_heading m (answer_of b) line) (record { mode = m; answer = answer_of b }) (other line) h e here there
-
--- a body of each of the answers
-abbrev yes_body : Body
-yes_body = body.Yes (record { first = []; second = []; order = record { rows = [] }; elements = []; cover = []; steps = [] })
-
-abbrev no_body : Body
-no_body = body.NoWord []
-
-abbrev list_body : Body
-list_body = body.Listing (record { first = []; second = []; limit = 0; elements = [] })
-
--- a first line is one of six
-head_reader : (line : Line) (h : _) → heading_in line ≡ Ok h → IsReader (read_sizes h)
+head_reads : (v : ℕ) (m : Mode) (a : Answer) → IsReader (read_sizes (heading v m a))
 unfolding begun
-head_reader line h e =
-    of_heading mode.Buchi yes_body (heading_or mode.Buchi (answer_of no_body) (heading_or mode.Buchi (answer_of list_body) finite_heading_in)) line h e
-    (rest_reader (record { mode = mode.Buchi; answer = answer_of yes_body }) (λ sizes ls. refl)) (λ e.
-    of_heading mode.Buchi no_body (heading_or mode.Buchi (answer_of list_body) finite_heading_in) line h e
-    (rest_reader (record { mode = mode.Buchi; answer = answer_of no_body }) (λ sizes ls. refl)) (λ e.
-    of_heading mode.Buchi list_body finite_heading_in line h e
-    (rest_reader (record { mode = mode.Buchi; answer = answer_of list_body }) (λ sizes ls. refl)) (λ e.
-    of_heading mode.Finite yes_body (heading_or mode.Finite (answer_of no_body) (heading_or mode.Finite (answer_of list_body) (λ tokens. Err Header))) line h e
-    (rest_reader (record { mode = mode.Finite; answer = answer_of yes_body }) (λ sizes ls. refl)) (λ e.
-    of_heading mode.Finite no_body (heading_or mode.Finite (answer_of list_body) (λ tokens. Err Header)) line h e
-    (rest_reader (record { mode = mode.Finite; answer = answer_of no_body }) (λ sizes ls. refl)) (λ e.
-    of_heading mode.Finite list_body (λ tokens. Err Header) line h e
-    (rest_reader (record { mode = mode.Finite; answer = answer_of list_body }) (λ sizes ls. refl)) (λ e.
-    absurd (not_both (Err Header) Header h refl e)))))))
+head_reads v m (answer.Yes) = rest_reader (heading v m answer.Yes) (λ sizes ls. refl)
+head_reads v (mode.Buchi) (answer.No) = rest_reader (heading v mode.Buchi answer.No) (λ sizes ls. refl)
+head_reads v (mode.Finite) (answer.No) = rest_reader (heading v mode.Finite answer.No) (λ sizes ls. refl)
+head_reads v m (answer.List) = rest_reader (heading v m answer.List) (λ sizes ls. refl)
+
+head_reader : (line : Line) (h : _) → heading_in line ≡ Ok h → IsReader (read_sizes h)
+head_reader line h e = head_reads h.version h.mode h.answer
 
 pub reader : IsReader read_lines
 reader = line_reader heading_in read_sizes head_reader

@@ -1,16 +1,20 @@
 -- A wrong heading is a first line that is no certificate's.
-use Rattle.std.proofs.Common.{◌≡◌, ℕ, ◌≤◌, List, [], ◌∷◌, ◌++◌, length, map, take, Bool, true, false, Ok, Err, if◌then◌else◌, refl, sym, ap, ◌∙◌, subst, append-nil, arith}
+use Rattle.std.proofs.Common.{◌≡◌, ℕ, ◌≤◌, List, [], ◌∷◌, ◌++◌, length, map, take, true, Option, Some, None, Ok, Err, refl, sym, ap, ◌∙◌, append-nil, arith}
 use Rattle.std.specs.List.{join_with_byte}
 use Rattle.auto_core.specs.declared.parts.Mode.{Mode}
 use Rattle.auto_core.specs.declared.parts.Mode.TheVariants as mode
 use Rattle.cert_value.specs.declared.types.Cert.{Cert}
 use Rattle.cert_value.specs.declared.types.Body.{Body}
+use Rattle.cert_value.specs.declared.types.Body.TheVariants as body
+use Rattle.cert_value.specs.declared.types.Answer.{Answer}
+use Rattle.cert_value.specs.declared.types.Answer.TheVariants as answer
 use Rattle.cert_text.specs.declared.faults.TextKind.{TextKind}
 use Rattle.cert_text.specs.declared.faults.TextKind.TheVariants.{Header}
 use Rattle.cert_value.specs.Text.{Line, text, answer_of, first_line, cert_lines}
-use Rattle.cert_value.specs.WellFormed.{WellFormed}
+use Rattle.cert_value.specs.WellFormed.{WellFormed, is_version, is_body}
 use Rattle.cert_text.specs.Law.{FirstFault}
-use Rattle.cert_text.specs.Lines.{Said, is_heading, heading_or, finite_heading_in, heading_in}
+use Rattle.cert_text.specs.Lines.{Said, or_else, heading_said, version_heading_in, heading_in}
+use Rattle.std.proofs.lemmas.Bool.{and_from}
 use Rattle.cert_text.specs.Grammar.{Stopped, after, lines_of, read_lines, read_sizes}
 use Rattle.cert_text.proofs.BytesLines.{lines_text, pieces_back}
 use Rattle.cert_text.proofs.PlainCert.{plain_cert}
@@ -20,59 +24,47 @@ use Rattle.fault_laws.specs.FirstFaults.{whole_lines, BeginCert}
 use Rattle.fault_laws.specs.Admitted.{HeaderJustWhere}
 use Rattle.fault_laws.proofs.LineLemmas.{lines_count, first_lines}
 use Rattle.fault_laws.proofs.FaultLemmas.{lines_begin_none}
-use Rattle.fault_laws.proofs.GrammarLemmas.{yes_body, lasso_body, word_body, list_body}
 
 -- The line is a certificate's first.
 IsHead : Line → Type 0
-IsHead line = (c : Cert) × WellFormed c × (line ≡ first_line c.mode (answer_of c.body))
+IsHead line = (c : Cert) × WellFormed c × (line ≡ first_line c.version c.mode (answer_of c.body))
 
-abbrev small : Mode → Body → Cert
-small m b = record { mode = m; first_states = 0; second_states = 0; labels = 0; body = b }
+-- A body of each answer, and a certificate with it.
+abbrev body_for : Mode → Answer → Body
+body_for m (answer.Yes) =
+    body.Yes (record { first = []; second = []; order = record { rows = [] }; elements = []; cover = []; steps = [] })
+body_for (mode.Buchi) (answer.No) = body.NoLasso (record { prefix = []; turn = 0 ∷ [] })
+body_for (mode.Finite) (answer.No) = body.NoWord []
+body_for m (answer.List) = body.Listing (record { first = []; second = []; limit = 0; elements = [] })
 
-if_of : {A : Type 0} (a : A) (b : Bool) (x : A) (y : Said A) → (if b then Ok x else y) ≡ Ok a → (P : A → Type 0) → P x → (y ≡ Ok a → P a) → P a
-if_of a true x y e P p q = let same : x ≡ a = cc in subst P same p
-if_of a false x y e P p q = q e
+abbrev small : ℕ → Mode → Answer → Cert
+small v m a = record { version = v; mode = m; first_states = 0; second_states = 0; labels = 0; body = body_for m a }
 
-head_or : (m : Mode) (b : Body) (other : Line → Said _) (line : Line) (h : _)
-    → heading_or m (answer_of b) other line ≡ Ok h
-    → WellFormed (small m b)
-    → (other line ≡ Ok h → line ≡ first_line h.mode h.answer → IsHead line)
-    → line ≡ first_line h.mode h.answer
-    → IsHead line
+body_is : (v : ℕ) (m : Mode) (a : Answer) → (is_body v m (body_for m a) ≡ true) × (answer_of (body_for m a) ≡ a)
+body_is v m (answer.Yes) = (refl, refl)
+body_is v (mode.Buchi) (answer.No) = (refl, refl)
+body_is v (mode.Finite) (answer.No) = (refl, refl)
+body_is v m (answer.List) = (refl, refl)
+
+heads_of : (line : Line) (v : ℕ) (m : Mode) (a : Answer) → is_version v ≡ true → line ≡ first_line v m a → IsHead line
 unfolding IsHead
-head_or m b other line h e w again =
-    if_of h (is_heading m (answer_of b) line) (record { mode = m; answer = answer_of b }) (other line) e
-    (λ k. line ≡ first_line k.mode k.answer → IsHead line)
-    (λ same. (small m b, w, same)) again
+heads_of line v m a e same =
+    let b = body_is v m a in
+    let formed : WellFormed (small v m a) = and_from (is_version v) (is_body v m (body_for m a)) e b.0 in
+    (small v m a, formed, same ∙ ap (λ x. first_line v m x) (sym b.1))
 
-heads : (line : Line) (h : _) → heading_in line ≡ Ok h → line ≡ first_line h.mode h.answer → IsHead line
+heads : (line : Line) (h : _) → heading_in line ≡ Ok h → IsHead line
 heads line h e =
-    head_or mode.Buchi yes_body (heading_or mode.Buchi (answer_of lasso_body) (heading_or mode.Buchi (answer_of list_body) finite_heading_in)) line h e refl (λ e.
-    head_or mode.Buchi lasso_body (heading_or mode.Buchi (answer_of list_body) finite_heading_in) line h e refl (λ e.
-    head_or mode.Buchi list_body finite_heading_in line h e refl (λ e.
-    head_or mode.Finite yes_body (heading_or mode.Finite (answer_of word_body) (heading_or mode.Finite (answer_of list_body) (λ line. Err Header))) line h e refl (λ e.
-    head_or mode.Finite word_body (heading_or mode.Finite (answer_of list_body) (λ line. Err Header)) line h e refl (λ e.
-    head_or mode.Finite list_body (λ line. Err Header) line h e refl (λ e same. absurd (cc)))))))
+    let p = heading_bw line h e in
+    heads_of line h.version h.mode h.answer p.0 p.1
 
--- A line that is none of the six is refused as a heading.
-abbrev RefusesAsHeader : {A : Type 0} → (Line → Said A) → Type 0
-RefusesAsHeader said = (line : Line) (kind : TextKind) → said line ≡ Err kind → kind ≡ Header
+-- A line that is none of the twelve is refused as a heading.
+said_refuses : (o : Option _) (kind : TextKind) → heading_said o ≡ Err kind → kind ≡ Header
+said_refuses (Some h) kind e = absurd (cc)
+said_refuses None kind e = cc
 
-if_refuses : {A : Type 0} (b : Bool) (x : A) (y : Said A) (kind : TextKind) → (if b then Ok x else y) ≡ Err kind → (y ≡ Err kind → kind ≡ Header) → kind ≡ Header
-if_refuses true x y kind e q = absurd (cc)
-if_refuses false x y kind e q = q e
-
-or_refuses : (m : Mode) (a : _) (other : Line → Said _) → RefusesAsHeader other → RefusesAsHeader (heading_or m a other)
-or_refuses m a other own line kind e = if_refuses (is_heading m a line) (record { mode = m; answer = a }) (other line) kind e (own line kind)
-
-none_refuses : {A : Type 0} → RefusesAsHeader {A = A} (λ line. Err Header)
-none_refuses line kind e = cc
-
-finite_refuses : RefusesAsHeader finite_heading_in
-finite_refuses = search (or_refuses, none_refuses)
-
-heading_refuses : RefusesAsHeader heading_in
-heading_refuses = search (or_refuses, finite_refuses)
+heading_refuses : (line : Line) (kind : TextKind) → heading_in line ≡ Err kind → kind ≡ Header
+heading_refuses line kind e = said_refuses (or_else (version_heading_in 1 line) (version_heading_in 2 line)) kind e
 
 -- The same first lines, cut at spaces, are the same.
 whole_alike : (n : ℕ) (bytes others : List ℕ) → n ≤ length (whole_lines bytes) → n ≤ length (whole_lines others)
@@ -106,7 +98,7 @@ header_of : (bytes : List ℕ) (line other : Line) (more : List Line) (said : Sa
     → heading_in line ≡ said → lines_of bytes ≡ line ∷ other ∷ more → 1 ≤ length (whole_lines bytes) → (BeginCert 1 bytes → ⊥)
     → FirstFault bytes (record { line = 1; kind = Header })
 header_of bytes line other more (Ok h) told is some none =
-    absurd (none (head_begins bytes line (other ∷ more) is some (heads line h told (heading_bw line h told))))
+    absurd (none (head_begins bytes line (other ∷ more) is some (heads line h told)))
 header_of bytes line other more (Err kind) told is some none =
     let of = heading_refuses line kind told in
     let here : List Line = line ∷ other ∷ more in

@@ -1,12 +1,12 @@
 -- What a line is refused for: never because the bytes end or go on, and for a heading only in the first line.
-use Rattle.std.proofs.Common.{◌≡◌, ℕ, List, Bool, true, false, not, Option, Some, None, Ok, Err, if◌then◌else◌, refl, subst}
+use Rattle.std.proofs.Common.{◌≡◌, ℕ, List, ◌==◌, Bool, true, false, not, Option, Some, None, Ok, Err, if◌then◌else◌, refl, subst}
 use Rattle.auto_core.specs.declared.parts.Mode.{Mode}
 use Rattle.auto_core.specs.declared.parts.Mode.TheVariants as mode
 use Rattle.cert_text.specs.declared.faults.TextKind.{TextKind}
 use Rattle.cert_text.specs.declared.faults.TextKind.TheVariants as kind
 use Rattle.cert_value.specs.Text.{Line}
 use Rattle.cert_text.specs.Forms.{fits, has_empty, has_numbers, has_count, line_fault}
-use Rattle.cert_text.specs.Lines.{Said, unless, as_form, in_order, either, word_in, number_in, numbers_in, ascending_in, sizes_in, row_in, rank_row_in, gone_by_in, trim_in, first_head_in, delayed_or_cut_in, second_head_in, origin_in, element_in, step_in, is_heading, heading_or, finite_heading_in, heading_in}
+use Rattle.cert_text.specs.Lines.{Said, unless, as_form, in_order, either, word_in, number_in, numbers_in, ascending_in, sizes_in, row_in, rank_row_in, gone_by_in, trim_in, first_head_in, plain_delayed_in, announced_delayed_in, delayed_in, delayed_or_cut_in, second_head_in, origin_in, element_in, step_in, heading_in, heading_said, or_else, version_heading_in}
 use Rattle.fault_laws.proofs.ReaderLemmas.{SaysOwn, TellsOwn}
 
 pub ok_own : {A : Type 0} (head : Bool) (a : A) → SaysOwn head (Ok a)
@@ -86,11 +86,11 @@ ascending_own w tail = search sorted_own
 pub sizes_own : TellsOwn false sizes_in
 sizes_own = search plain_own
 
-pub row_own : (bound : ℕ) → TellsOwn false (row_in bound)
-row_own bound = search sorted_own
+pub row_own : (v bound : ℕ) → TellsOwn false (row_in v bound)
+row_own v bound = search sorted_own
 
-pub rank_row_own : (bound : ℕ) → TellsOwn false (rank_row_in bound)
-rank_row_own bound = search sorted_own
+pub rank_row_own : (letters : ℕ) (key : List ℕ) → TellsOwn false (rank_row_in letters key)
+rank_row_own letters key = search sorted_own
 
 pub gone_by_own : TellsOwn false gone_by_in
 gone_by_own = search sorted_own
@@ -108,12 +108,22 @@ tested_own head places tail right value =
 pub first_head_own : TellsOwn false first_head_in
 first_head_own = search (either_own, plain_own, sorted_own, tested_own)
 
-delayed_or_cut_own : (m : Mode) → TellsOwn false (delayed_or_cut_in m)
-delayed_or_cut_own (mode.Buchi) = search (either_own, plain_own)
-delayed_or_cut_own (mode.Finite) = search plain_own
+announced_delayed_own : TellsOwn false announced_delayed_in
+announced_delayed_own = search tested_own
 
-pub second_head_own : (m : Mode) → TellsOwn false (second_head_in m)
-second_head_own m = search (either_own, plain_own, sorted_own, delayed_or_cut_own)
+plain_delayed_own : TellsOwn false plain_delayed_in
+plain_delayed_own = search plain_own
+
+delayed_own : (v : ℕ) → TellsOwn false (delayed_in v)
+delayed_own v line =
+    if_own false (v == 2) (announced_delayed_in line) (plain_delayed_in line) (announced_delayed_own line) (plain_delayed_own line)
+
+delayed_or_cut_own : (v : ℕ) (m : Mode) → TellsOwn false (delayed_or_cut_in v m)
+delayed_or_cut_own v (mode.Buchi) = search (either_own, plain_own, delayed_own)
+delayed_or_cut_own v (mode.Finite) = search plain_own
+
+pub second_head_own : (v : ℕ) (m : Mode) → TellsOwn false (second_head_in v m)
+second_head_own v m = search (either_own, plain_own, sorted_own, delayed_or_cut_own)
 
 pub origin_own : (m : Mode) → TellsOwn false (origin_in m)
 origin_own (mode.Buchi) = search (either_own, plain_own)
@@ -135,17 +145,12 @@ header_own (kind.Order) e = tt
 header_own (kind.Truncated) e = absurd (cc)
 header_own (kind.Trailing) e = absurd (cc)
 
-heading_or_own : (m : Mode) (a : _) (other : Line → Said _) → TellsOwn true other → TellsOwn true (heading_or m a other)
-heading_or_own m a other own line = if_own true (is_heading m a line) (Ok (record { mode = m; answer = a })) (other line) (ok_own true _) (own line)
-
-none_own : {A : Type 0} → TellsOwn {A = A} true (λ line. Err kind.Header)
-none_own line = header_own
-
-finite_heading_own : TellsOwn true finite_heading_in
-finite_heading_own = search (heading_or_own, none_own)
+said_own : (o : Option _) → SaysOwn true (heading_said o)
+said_own (Some h) = ok_own true h
+said_own None = header_own
 
 pub heading_own : TellsOwn true heading_in
-heading_own = search (heading_or_own, finite_heading_own)
+heading_own line = said_own (or_else (version_heading_in 1 line) (version_heading_in 2 line))
 
 -- What holds of whatever a line says.
 pub record Tells {A : Type 0} (P : A → Type 0) (said : Line → Said A) : Type 0 where
@@ -185,6 +190,3 @@ tested_tells P places tail right value fault p =
 pub either_tells : {A : Type 0} (P : A → Type 0) (places : _) (told other : Line → Said A) → Tells P told → Tells P other → Tells P (either places told other)
 either_tells P places told other p q =
     record { each = λ line a e. of_if P (fits places line) (told line) (other line) a e (p.each line a) (q.each line a) }
-
-pub refused_tells : {A : Type 0} (P : A → Type 0) (fault : TextKind) → Tells P (λ line. Err fault)
-refused_tells P fault = record { each = λ line a e. of_err P fault a e }

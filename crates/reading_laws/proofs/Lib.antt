@@ -1,3 +1,4 @@
 pub mod OrderLemmas
 pub mod ReadLemmas
 pub mod BackLemmas
+pub mod TurnedLemmas

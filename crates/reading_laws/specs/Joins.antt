@@ -1,7 +1,7 @@
 -- Joins of automata that were read, and what a written automaton reads as.
 use Rattle.std.specs.Prelude.{◌≡◌, ℕ, ◌+◌, ◌^◌, ◌<◌, ◌≤◌, List, length}
 use Rattle.auto_core.specs.Automaton.{Automaton}
-use Rattle.auto_core.specs.Accept.{Same}
+use Rattle.auto_core.specs.Accept.{Includes, Same}
 use Rattle.auto_core.specs.declared.parts.Mode.{Mode}
 use Rattle.ba_format.specs.declared.parts.Limits.{Limits}
 use Rattle.ba_format.specs.declared.parts.Named.{Named}
@@ -39,6 +39,17 @@ JoinIsOverLabels =
     → Reads other bounds two
     → IsJoined one two joined
     → AreOverLabels joined.labels joined.first joined.second
+
+-- Which of two read automata is joined as the first does not matter: where the one includes the other, so it does over the labels of the other order.
+abbrev pub JoinOrderDoesNotMatter : Type 0
+JoinOrderDoesNotMatter =
+    (text other : List ℕ) (limits bounds : Limits) (one two : Named) (joined converse : Joined) (mode : Mode)
+    → Reads text limits one
+    → Reads other bounds two
+    → IsJoined one two joined
+    → IsJoined two one converse
+    → Includes joined.first joined.second mode
+    → Includes converse.second converse.first mode
 
 -- A written automaton has a join with what its text reads as, over its own labels, if a u32 counts them.
 abbrev pub WrittenJoins : Type 0

@@ -1,6 +1,6 @@
 //! That there are joins.
 
-ghost use Rattle.reading_laws.specs.Joins.{JoinIsOverLabels, JoinedLabelsAreFew, ReadAutomataJoin, WrittenIsThere, WrittenJoins};
+ghost use Rattle.reading_laws.specs.Joins.{JoinIsOverLabels, JoinOrderDoesNotMatter, JoinedLabelsAreFew, ReadAutomataJoin, WrittenIsThere, WrittenJoins};
 
 /// Two automata that were read have a join, if a u32 counts the joined labels.
 pub fn two_read_automata_have_a_join()
@@ -15,6 +15,11 @@ pub fn joined_labels_are_few()
 /// A join is a pair of valid automata over the joined labels, and both can be written with them.
 pub fn a_join_is_over_the_joined_labels()
     ensures { JoinIsOverLabels }
+{}
+
+/// Which of two read automata is joined as the first does not matter to inclusion.
+pub fn the_order_of_a_join_does_not_matter()
+    ensures { JoinOrderDoesNotMatter }
 {}
 
 /// A written automaton has a join with what its text reads as, over its own labels.

@@ -157,5 +157,5 @@ trims Buchi = (0, omega arith, refl)
 trims Finite = (0, omega arith, refl)
 
 pub settled_text_tells : SettledTextTells
-settled_text_tells A B labels others mode other k l w v settled also e =
+settled_text_tells A B labels others mode other sight farther w v settled also e =
     trimmed_text_tells A B labels others mode other w v (settled Trim (trims mode)) (also Trim (trims other)) e

@@ -7,6 +7,7 @@ use Rattle.auto_core.specs.Useful.{IsTrimmed}
 use Rattle.ba_format.specs.Joining.{relabelled}
 use Rattle.ba_format.specs.Laws.{IsWritable}
 use Rattle.ba_format.specs.Writing.{written}
+use Rattle.reduce_loop.specs.declared.steps.Foresight.{Foresight}
 use Rattle.reduce_loop.specs.Settled.{IsSettled}
 
 -- The transition with the text of its label in place of the label's number.
@@ -25,11 +26,11 @@ pub record AreSameByTexts (A : Automaton) (labels : List (List ℕ)) (B : Automa
 -- labels that no transition has.
 abbrev pub SettledTextTells : Type 0
 SettledTextTells =
-    (A B : Automaton) (labels others : List (List ℕ)) (mode other : Mode) (k l : ℕ)
+    (A B : Automaton) (labels others : List (List ℕ)) (mode other : Mode) (sight farther : Foresight)
     → IsWritable A labels
     → IsWritable B others
-    → IsSettled A mode k
-    → IsSettled B other l
+    → IsSettled A mode sight
+    → IsSettled B other farther
     → written A labels ≡ written B others
     → AreSameByTexts A labels B others
 

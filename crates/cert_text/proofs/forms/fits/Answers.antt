@@ -1,4 +1,4 @@
-use Rattle.std.proofs.Common.{◌≡◌, drop, sym, ap, ◌∙◌}
+use Rattle.std.proofs.Common.{drop, sym, ap, ◌∙◌}
 use Rattle.cert_text.specs.Forms.{fits}
 use Rattle.cert_text.proofs.FormLemmas.{fits_none}
 use Rattle.cert_text.proofs.forms.fits.Goals as goal

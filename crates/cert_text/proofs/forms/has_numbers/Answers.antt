@@ -1,4 +1,4 @@
-use Rattle.std.proofs.Common.{◌≡◌, drop, sym, ap, ◌∙◌}
+use Rattle.std.proofs.Common.{drop, sym, ap, ◌∙◌}
 use Rattle.cert_text.specs.Forms.{has_numbers}
 use Rattle.cert_text.proofs.FormLemmas.{has_numbers_none}
 use Rattle.cert_text.proofs.forms.has_numbers.Goals as goal

@@ -1,4 +1,4 @@
-use Rattle.std.proofs.Common.{◌≡◌, [], ap, sym, ◌∙◌}
+use Rattle.std.proofs.Common.{[], ap, sym, ◌∙◌}
 use Rattle.cert_value.specs.Tokens.{tokens_of}
 use Rattle.cert_text.specs.Forms.{value}
 use Rattle.cert_text.proofs.FormLemmas.{front_is}

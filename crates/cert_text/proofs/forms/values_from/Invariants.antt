@@ -1,7 +1,6 @@
-use Rattle.std.proofs.Common.{◌≡◌, ◌++◌, map, drop, length, nat_le, ◌-◌}
-use Rattle.std.specs.List.{list_all}
+use Rattle.std.proofs.Common.{◌≡◌, ◌++◌, map, length}
 use Rattle.cert_value.specs.Tokens.{tokens_of}
-use Rattle.cert_text.specs.Forms.{has_empty, fits, has_numbers, pair_up, values_from, is_number, value}
+use Rattle.cert_text.specs.Forms.{values_from, value}
 use Rattle.cert_text.proofs.forms.values_from.Given as goal
 
 abbrev pub invariant-loop-token : goal.invariant-loop-token

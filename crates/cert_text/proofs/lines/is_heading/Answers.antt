@@ -1,12 +1,29 @@
-use Rattle.std.proofs.Common.{ap, ◌∙◌}
-use Rattle.cert_value.specs.Text.{mode_word}
+use Rattle.std.proofs.Common.{◌≡◌, Bool, true, false, not, Option, Some, None, is_none, [], ◌∷◌, refl, ap, ◌∙◌}
+use Rattle.std.specs.Option.{is_some}
+use Rattle.cert_value.specs.declared.keywords.Keyword.{Keyword}
+use Rattle.cert_value.specs.declared.keywords.Keyword.TheVariants as keyword
+use Rattle.cert_value.specs.Text.{version_word, mode_word}
 use Rattle.cert_value.specs.Tokens.{tokens_of}
-use Rattle.cert_text.specs.Lines.{has_heading}
+use Rattle.cert_text.specs.declared.faults.TextKind.{TextKind}
+use Rattle.cert_text.specs.declared.forms.Place.TheVariants.{Word}
+use Rattle.cert_text.specs.declared.forms.Tail.TheVariants as tail
+use Rattle.cert_text.specs.Forms.{line_fault}
 use Rattle.cert_text.proofs.lines.is_heading.Goals as goal
+
+none_told : (o : Option TextKind) (r : Bool) → is_some o ≡ not r → r ≡ is_none o
+none_told None true e = refl
+none_told None false e = absurd (cc)
+none_told (Some k) true e = absurd (cc)
+none_told (Some k) false e = refl
 
 pub returns : goal.returns
 returns c =
-    let ts = tokens_of c.args.line.now in
-    c.has_heading.ensures
-    ∙ ap (λ x. has_heading x c.answer_word.result ts) c.mode_word.ensures
-    ∙ ap (λ y. has_heading (mode_word c.args.mode) y ts) c.answer_word.ensures
+    let h = c.args.heading in
+    let at : Keyword → Keyword → Keyword → Option TextKind =
+    λ v m a. line_fault (Word keyword.RabitCert ∷ Word v ∷ Word m ∷ Word a ∷ []) tail.Nothing (tokens_of c.args.line.now) in
+    none_told c.line_fault.result c.is_none.result c.is_none.ensures
+    ∙ ap is_none
+    (c.line_fault.ensures
+    ∙ ap (λ v. at v c.mode_word.result c.answer_word.result) c.version_word.ensures
+    ∙ ap (λ m. at (version_word h.version) m c.answer_word.result) c.mode_word.ensures
+    ∙ ap (λ a. at (version_word h.version) (mode_word h.mode) a) c.answer_word.ensures)

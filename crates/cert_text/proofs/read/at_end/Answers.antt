@@ -1,4 +1,4 @@
-use Rattle.std.proofs.Common.{◌≡◌, ◌==◌, false, ◌∷◌, [], length, cond, Option, Some, Result, Ok, Err, sym, ap, ◌∙◌, arith, Bool}
+use Rattle.std.proofs.Common.{◌≡◌, ◌==◌, false, ◌∷◌, [], length, cond, Option, Result, sym, ap, ◌∙◌, Bool}
 use Rattle.cert_value.specs.Tokens.{tokens_of}
 use Rattle.cert_text.specs.Machine.{ended}
 use Rattle.cert_text.specs.Grammar.{told_at, Read, Stopped}

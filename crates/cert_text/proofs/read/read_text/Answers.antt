@@ -1,10 +1,10 @@
-use Rattle.std.proofs.Common.{◌≡◌, suc, ◌+◌, ◌∷◌, length, Err, Result, sym, ap, ◌∙◌, subst, arith, add-one}
+use Rattle.std.proofs.Common.{◌≡◌, suc, ◌+◌, ◌∷◌, length, Err, Result, sym, ap, ◌∙◌, subst, arith}
 use Rattle.cert_text.specs.declared.faults.CertReadFault.{CertReadFault}
 use Rattle.cert_text.specs.declared.faults.TextFault.{TextFault}
 use Rattle.cert_value.specs.declared.types.Cert.{Cert}
 use Rattle.cert_value.specs.Tokens.{tokens_of}
 use Rattle.cert_text.specs.Grammar.{lines_of, read_lines, reading}
-use Rattle.cert_text.specs.Told.{Told, located}
+use Rattle.cert_text.specs.Told.{Told}
 use Rattle.cert_text.proofs.ResumeState.{resume}
 use Rattle.cert_text.proofs.ReadLemmas.{stops, goes_on, is_over}
 use Rattle.cert_text.proofs.read.read_text.Goals as goal

@@ -5,11 +5,11 @@ use Rattle.cert_text.proofs.write.print_cert.Goals as goal
 
 pub returns : goal.returns
 returns c =
-    let k = c.args.cert.now in
+    let k = record c.args.cert.now { version = c.args.version } in
     four_writes c.args.out.now
-    (line_text (first_line k.mode (answer_of k.body)))
+    (line_text (first_line k.version k.mode (answer_of k.body)))
     (line_text (sizes_line k.first_states k.second_states k.labels))
-    (text_of (body_lines k.body))
+    (text_of (body_lines k.version k.body))
     (line_text end_line)
     (rw c.answer_of.ensures at c.in_ok-print_first_line.ensures)
     c.in_ok-print_line.ensures

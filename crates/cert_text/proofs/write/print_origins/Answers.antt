@@ -1,4 +1,4 @@
-use Rattle.std.proofs.Common.{◌∷◌, [], ◌++◌, decimal, length, ap, sym, ◌∙◌, append-nil}
+use Rattle.std.proofs.Common.{◌∷◌, [], decimal, length}
 use Rattle.cert_value.specs.Text.{spelled, line_text, text_of, origin_lines, elements_line}
 use Rattle.cert_value.specs.declared.keywords.Keyword.TheVariants as keyword
 use Rattle.cert_value.specs.Printed.{joined}

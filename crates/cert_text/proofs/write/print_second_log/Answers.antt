@@ -1,4 +1,4 @@
-use Rattle.std.proofs.Common.{◌∷◌, [], ◌++◌, decimal, length, ap, sym, ◌∙◌, append-nil}
+use Rattle.std.proofs.Common.{◌∷◌, [], decimal, length}
 use Rattle.cert_value.specs.Text.{spelled, line_text, text_of, second_step_lines}
 use Rattle.cert_value.specs.declared.keywords.Keyword.TheVariants as keyword
 use Rattle.cert_value.specs.Printed.{joined}
@@ -8,6 +8,7 @@ use Rattle.cert_text.proofs.write.print_second_log.Goals as goal
 pub returns : goal.returns
 returns c =
     let steps = c.args.steps.now in
-    rw (text_each second_step_lines steps)
-    (two_writes c.args.out.now (line_text (spelled keyword.Log2 ∷ decimal (length steps) ∷ [])) (joined (λ s. text_of (second_step_lines s)) steps)
+    let v = c.args.version in
+    rw (text_each (second_step_lines v) steps)
+    (two_writes c.args.out.now (line_text (spelled keyword.Log2 ∷ decimal (length steps) ∷ [])) (joined (λ s. text_of (second_step_lines v s)) steps)
     c.in_ok-print_count.ensures c.in_ok-print_all.ensures)

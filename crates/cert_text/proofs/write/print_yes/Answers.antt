@@ -1,16 +1,15 @@
-use Rattle.std.proofs.Common.{◌∷◌, [], ◌++◌, decimal, length, ap, sym, ◌∙◌, append-nil}
+use Rattle.std.proofs.Common.{◌++◌, ap, sym, ◌∙◌}
 use Rattle.cert_value.specs.Text.{text_of, first_lines, second_lines, block_lines, closed_lines}
-use Rattle.cert_value.specs.declared.keywords.Keyword.TheVariants as keyword
-use Rattle.cert_value.specs.Printed.{joined}
 use Rattle.cert_value.proofs.TextLemmas.{four_writes, text_four}
 use Rattle.cert_text.proofs.write.print_yes.Goals as goal
 
 pub returns : goal.returns
 returns c =
     let y = c.args.yes.now in
-    let A = first_lines y.first in
-    let B = second_lines y.second in
-    let C = block_lines y.order in
+    let v = c.args.version in
+    let A = first_lines v y.first in
+    let B = second_lines v y.second in
+    let C = block_lines v y.order in
     let D = closed_lines y.elements y.cover y.steps in
     four_writes c.args.out.now (text_of A) (text_of B) (text_of C) (text_of D)
     (rw c.as_slice.ensures at c.in_ok-print_first_log.ensures)

@@ -1,4 +1,4 @@
-use Rattle.std.proofs.Common.{◌≡◌, ◌≤◌, drop, length}
+use Rattle.std.proofs.Common.{◌≡◌, drop}
 use Rattle.cert_value.specs.WellFormed.{are_rows}
 use Rattle.cert_value.proofs.checks.are_rows.Given as goal
 

@@ -1,4 +1,4 @@
-use Rattle.std.proofs.Common.{◌≡◌, [], drop, length, nat_eq, arith, sym, ◌∙◌}
+use Rattle.std.proofs.Common.{drop, arith, sym, ◌∙◌}
 use Rattle.std.proofs.lemmas.List.{at_drop_all}
 use Rattle.cert_value.specs.WellFormed.{are_steps}
 use Rattle.cert_value.proofs.CheckLemmas.{steps_end}

@@ -1,4 +1,4 @@
-use Rattle.std.proofs.Common.{◌≡◌, ◌≤◌, drop, length}
+use Rattle.std.proofs.Common.{◌≡◌, drop}
 use Rattle.cert_value.specs.WellFormed.{ascend, ascend_from, gone_of}
 use Rattle.cert_value.proofs.checks.gone_ascend.Given as goal
 

@@ -1,4 +1,4 @@
-use Rattle.std.proofs.Common.{◌≡◌, ◌≤◌, drop, length}
+use Rattle.std.proofs.Common.{◌≡◌, drop}
 use Rattle.cert_value.specs.WellFormed.{ascend, ascend_from, rights_of}
 use Rattle.cert_value.proofs.checks.rights_ascend.Given as goal
 

@@ -1,4 +1,4 @@
-use Rattle.std.proofs.Common.{◌≡◌, ◌+◌, ◌-◌, ◌==◌, ◌∷◌, [], List, ℕ, length, take, drop, ap, sym, ◌∙◌, Some, None, Option, option_map, Bor}
+use Rattle.std.proofs.Common.{◌≡◌, ◌+◌, ◌-◌, ◌==◌, ◌∷◌, [], List, ℕ, length, take, drop, ap, sym, ◌∙◌, Some, Option, option_map, Bor}
 use Rattle.cert_value.specs.Tokens.{tokens_of, tokens_left}
 use Rattle.cert_value.proofs.SplitLemmas.{split_none, split_some, rest_all}
 use Rattle.cert_value.proofs.tokens.Tokens.next.Goals as goal

@@ -1,4 +1,4 @@
-use Rattle.std.proofs.Common.{◌≡◌, ◌+◌, suc, drop, ap, sym, ◌∙◌, add-one}
+use Rattle.std.proofs.Common.{drop, ap, sym, ◌∙◌, add-one}
 use Rattle.cert_value.specs.Tokens.{tokens_of}
 use Rattle.cert_value.proofs.SplitLemmas.{drop_one}
 use Rattle.cert_value.proofs.tokens.Tokens.past.Goals as goal

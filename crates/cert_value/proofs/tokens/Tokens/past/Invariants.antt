@@ -1,5 +1,4 @@
-use Rattle.std.proofs.Common.{◌≡◌, ◌++◌, map, drop, length, nat_le, ◌-◌}
-use Rattle.std.specs.List.{list_all}
+use Rattle.std.proofs.Common.{◌≡◌, drop}
 use Rattle.cert_value.specs.Tokens.{tokens_of}
 use Rattle.cert_value.proofs.tokens.Tokens.past.Given as goal
 
