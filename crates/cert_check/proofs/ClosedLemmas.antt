@@ -19,7 +19,7 @@ use Rattle.search_laws.proofs.PairEntryLemmas.{placed_pairs_are_reached}
 use Rattle.cert_value.specs.declared.types.YesBody.{YesBody}
 use Rattle.cert_value.specs.declared.types.Element.{Element}
 use Rattle.cert_value.specs.declared.types.StepLine.{StepLine}
-use Rattle.cert_value.specs.WellFormed.{WellFormed, is_short, are_short, is_body, is_yes, is_listing, is_block, are_logs, is_live, is_origin, is_element, are_steps, is_step_of, is_first_step, is_second_step}
+use Rattle.cert_value.specs.WellFormed.{WellFormed, is_version, is_short, are_short, is_body, is_yes, is_listing, is_block, are_logs, is_live, is_origin, is_element, are_steps, is_step_of, is_first_step, is_second_step}
 use Rattle.ba_format.specs.declared.parts.Joined.{Joined}
 use Rattle.cert_value.specs.declared.types.Cert.{Cert}
 use Rattle.cert_value.specs.declared.types.Body.TheVariants.{Yes, Listing}
@@ -210,62 +210,62 @@ included Finite n A B evidence valid fits lined hold =
     closed_pairs_include A B (pairs_of evidence.order) (element_arcs A evidence.elements) (live_in evidence) (closed_pairs n A B evidence fits lined hold)
 
 -- The steps of the logs.
-pub record LogParts (m : Mode) (firsts : List FirstStep) (seconds : List SecondStep) : Type 0 where
+pub record LogParts (v : ℕ) (m : Mode) (firsts : List FirstStep) (seconds : List SecondStep) : Type 0 where
   pub few_first : length firsts < 10 ^ 9
   pub first_steps : list_all is_first_step firsts ≡ true
   pub few_second : length seconds < 10 ^ 9
-  pub second_steps : list_all (is_second_step m) seconds ≡ true
+  pub second_steps : list_all (is_second_step v m) seconds ≡ true
 
-pub log_parts : (m : Mode) (firsts : List FirstStep) (seconds : List SecondStep) → are_logs m firsts seconds ≡ true → LogParts m firsts seconds
-log_parts m firsts seconds h =
-    let a = and_parts (is_short (length firsts)) (list_all is_first_step firsts && (is_short (length seconds) && list_all (is_second_step m) seconds)) h in
-    let b = and_parts (list_all is_first_step firsts) (is_short (length seconds) && list_all (is_second_step m) seconds) a.1 in
-    let c = and_parts (is_short (length seconds)) (list_all (is_second_step m) seconds) b.1 in
+pub log_parts : (v : ℕ) (m : Mode) (firsts : List FirstStep) (seconds : List SecondStep) → are_logs v m firsts seconds ≡ true → LogParts v m firsts seconds
+log_parts v m firsts seconds h =
+    let a = and_parts (is_short (length firsts)) (list_all is_first_step firsts && (is_short (length seconds) && list_all (is_second_step v m) seconds)) h in
+    let b = and_parts (list_all is_first_step firsts) (is_short (length seconds) && list_all (is_second_step v m) seconds) a.1 in
+    let c = and_parts (is_short (length seconds)) (list_all (is_second_step v m) seconds) b.1 in
     record { few_first = grind (arith, a.0); first_steps = b.0; few_second = grind (arith, c.0); second_steps = c.1 }
 
 -- The body of a well-formed certificate.
-body_formed : (cert : Cert) → WellFormed cert → is_body cert.mode cert.body ≡ true
+body_formed : (cert : Cert) → WellFormed cert → is_body cert.version cert.mode cert.body ≡ true
 body_formed cert formed =
-    let short : (is_short cert.second_states && (is_short cert.labels && is_body cert.mode cert.body)) ≡ true =
-    (and_parts (is_short cert.first_states) (is_short cert.second_states && (is_short cert.labels && is_body cert.mode cert.body)) formed).1 in
-    let labels : (is_short cert.labels && is_body cert.mode cert.body) ≡ true = (and_parts (is_short cert.second_states) (is_short cert.labels && is_body cert.mode cert.body) short).1 in
-    (and_parts (is_short cert.labels) (is_body cert.mode cert.body) labels).1
+    let a = and_parts (is_version cert.version) (is_short cert.first_states && (is_short cert.second_states && (is_short cert.labels && is_body cert.version cert.mode cert.body))) formed in
+    let b = and_parts (is_short cert.first_states) (is_short cert.second_states && (is_short cert.labels && is_body cert.version cert.mode cert.body)) a.1 in
+    let c = and_parts (is_short cert.second_states) (is_short cert.labels && is_body cert.version cert.mode cert.body) b.1 in
+    (and_parts (is_short cert.labels) (is_body cert.version cert.mode cert.body) c.1).1
 
-yes_formed : (cert : Cert) (evidence : YesBody) → cert.body ≡ Yes evidence → WellFormed cert → is_yes cert.mode evidence ≡ true
-yes_formed cert evidence is formed = subst (λ b. is_body cert.mode b ≡ true) is (body_formed cert formed)
+pub yes_formed : (cert : Cert) (evidence : YesBody) → cert.body ≡ Yes evidence → WellFormed cert → is_yes cert.version cert.mode evidence ≡ true
+yes_formed cert evidence is formed = subst (λ b. is_body cert.version cert.mode b ≡ true) is (body_formed cert formed)
 
-pub list_formed : (cert : Cert) (list : ListBody) → cert.body ≡ Listing list → WellFormed cert → is_listing cert.mode list ≡ true
-list_formed cert list is formed = subst (λ b. is_body cert.mode b ≡ true) is (body_formed cert formed)
+pub list_formed : (cert : Cert) (list : ListBody) → cert.body ≡ Listing list → WellFormed cert → is_listing cert.version cert.mode list ≡ true
+list_formed cert list is formed = subst (λ b. is_body cert.version cert.mode b ≡ true) is (body_formed cert formed)
 
 -- The parts of a well-formed certificate of inclusion.
-pub record YesParts (m : Mode) (evidence : YesBody) : Type 0 where
-  pub logs : are_logs m evidence.first evidence.second ≡ true
+pub record YesParts (v : ℕ) (m : Mode) (evidence : YesBody) : Type 0 where
+  pub logs : are_logs v m evidence.first evidence.second ≡ true
   pub few : length evidence.elements < 10 ^ 9
   pub elements : list_all (is_element m) evidence.elements ≡ true
   pub lined : are_steps 0 evidence.elements evidence.steps ≡ true
 
-pub yes_parts : (m : Mode) (evidence : YesBody) → is_yes m evidence ≡ true → YesParts m evidence
-yes_parts m evidence h =
-    let a = (and_parts (are_logs m evidence.first evidence.second) (is_block evidence.order && (is_short (length evidence.elements) && (list_all (is_element m) evidence.elements && (are_short evidence.cover && are_steps 0 evidence.elements evidence.steps)))) h).1 in
+pub yes_parts : (v : ℕ) (m : Mode) (evidence : YesBody) → is_yes v m evidence ≡ true → YesParts v m evidence
+yes_parts v m evidence h =
+    let a = (and_parts (are_logs v m evidence.first evidence.second) (is_block evidence.order && (is_short (length evidence.elements) && (list_all (is_element m) evidence.elements && (are_short evidence.cover && are_steps 0 evidence.elements evidence.steps)))) h).1 in
     let b = (and_parts (is_block evidence.order) (is_short (length evidence.elements) && (list_all (is_element m) evidence.elements && (are_short evidence.cover && are_steps 0 evidence.elements evidence.steps))) a).1 in
     let c = and_parts (is_short (length evidence.elements)) (list_all (is_element m) evidence.elements && (are_short evidence.cover && are_steps 0 evidence.elements evidence.steps)) b in
     let d = and_parts (list_all (is_element m) evidence.elements) (are_short evidence.cover && are_steps 0 evidence.elements evidence.steps) c.1 in
     record {
-      logs = (and_parts (are_logs m evidence.first evidence.second) (is_block evidence.order && (is_short (length evidence.elements) && (list_all (is_element m) evidence.elements && (are_short evidence.cover && are_steps 0 evidence.elements evidence.steps)))) h).0;
+      logs = (and_parts (are_logs v m evidence.first evidence.second) (is_block evidence.order && (is_short (length evidence.elements) && (list_all (is_element m) evidence.elements && (are_short evidence.cover && are_steps 0 evidence.elements evidence.steps)))) h).0;
       few = grind (arith, c.0);
       elements = d.0;
       lined = (and_parts (are_short evidence.cover) (are_steps 0 evidence.elements evidence.steps) d.1).1;
     }
 
 -- The parts of a well-formed list.
-pub record ListParts (m : Mode) (list : ListBody) : Type 0 where
-  pub logs : are_logs m list.first list.second ≡ true
+pub record ListParts (v : ℕ) (m : Mode) (list : ListBody) : Type 0 where
+  pub logs : are_logs v m list.first list.second ≡ true
   pub few : length list.elements < 10 ^ 9
   pub origins : list_all (is_origin m) list.elements ≡ true
 
-pub list_parts : (m : Mode) (list : ListBody) → is_listing m list ≡ true → ListParts m list
-list_parts m list h =
-    let a = and_parts (are_logs m list.first list.second) (is_short list.limit && (is_short (length list.elements) && list_all (is_origin m) list.elements)) h in
+pub list_parts : (v : ℕ) (m : Mode) (list : ListBody) → is_listing v m list ≡ true → ListParts v m list
+list_parts v m list h =
+    let a = and_parts (are_logs v m list.first list.second) (is_short list.limit && (is_short (length list.elements) && list_all (is_origin m) list.elements)) h in
     let b = and_parts (is_short list.limit) (is_short (length list.elements) && list_all (is_origin m) list.elements) a.1 in
     let c = and_parts (is_short (length list.elements)) (list_all (is_origin m) list.elements) b.1 in
     record { logs = a.0; few = grind (arith, c.0); origins = c.1 }
@@ -288,13 +288,13 @@ through Buchi A B C D first second third = λ u v accepted. third u v (second u 
 through Finite A B C D first second third = λ w accepted. third w (second w (first w accepted))
 
 -- What the evidence shows of the automata that the logs lead to, it shows of those that they begin with.
-pub through_logs : (m : Mode) (pair : Joined) (evidence : YesBody) → IsAutomaton pair.first → IsAutomaton pair.second → is_yes m evidence ≡ true → YesHolds m pair evidence →
+pub through_logs : (v : ℕ) (m : Mode) (pair : Joined) (evidence : YesBody) → IsAutomaton pair.first → IsAutomaton pair.second → is_yes v m evidence ≡ true → YesHolds m pair evidence →
     Includes pair.first pair.second m
-through_logs m pair evidence valid valid' formed h =
-    let p = yes_parts m evidence formed in
-    let logs = log_parts m evidence.first evidence.second p.logs in
+through_logs v m pair evidence valid valid' formed h =
+    let p = yes_parts v m evidence formed in
+    let logs = log_parts v m evidence.first evidence.second p.logs in
     let grows = first_log_grows m pair.first h.ends.first 1 evidence.first valid logs.first_steps h.logs.first in
-    let shrinks = second_log_shrinks m pair.second h.ends.second (1 + length evidence.first) evidence.second valid' logs.second_steps h.logs.second in
+    let shrinks = second_log_shrinks v m pair.second h.ends.second (1 + length evidence.first) evidence.second valid' logs.second_steps h.logs.second in
     let middle = included m (item_after evidence.first evidence.second) h.ends.first h.ends.second evidence shrinks.1.valid p.elements p.lined h.hold in
     through m pair.first h.ends.first h.ends.second pair.second grows.0 middle shrinks.0
 
@@ -302,7 +302,7 @@ through_logs m pair evidence valid valid' formed h =
 pub valid_yes_includes : (pair : Joined) (cert : Cert) (evidence : YesBody) → cert.body ≡ Yes evidence → WellFormed cert → IsAutomaton pair.first → IsAutomaton pair.second →
     KeepsRules pair cert → Includes pair.first pair.second cert.mode
 valid_yes_includes pair cert evidence is formed valid valid' hold =
-    through_logs cert.mode pair evidence valid valid' (yes_formed cert evidence is formed) (subst (λ b. BodyHolds cert.mode pair b) is hold.1)
+    through_logs cert.version cert.mode pair evidence valid valid' (yes_formed cert evidence is formed) (subst (λ b. BodyHolds cert.mode pair b) is hold.1)
 
 pub valid_yes : ValidYesIncludes
 valid_yes pair cert evidence valid valid' is v = valid_yes_includes pair cert evidence is v.formed valid valid' v.keeps

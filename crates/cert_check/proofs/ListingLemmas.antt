@@ -122,15 +122,15 @@ listed Finite n A B list fits hold =
     (record { size = size Finite n A B list fits hold; placed = placed Finite n A B list fits hold; differ = differ Finite n A B list fits hold })
 
 -- What a list shows that keeps its rules.
-pub list_shows : (m : Mode) (pair : Joined) (list : ListBody) → is_listing m list ≡ true → ListHolds m pair list → ListsRuns m pair (list.limit + 1) list
-list_shows m pair list formed h = record {
+pub list_shows : (v : ℕ) (m : Mode) (pair : Joined) (list : ListBody) → is_listing v m list ≡ true → ListHolds m pair list → ListsRuns m pair (list.limit + 1) list
+list_shows v m pair list formed h = record {
   ends = h.ends;
   logs = h.logs;
-  listed = listed m (item_after list.first list.second) h.ends.first h.ends.second list (list_parts m list formed).origins h.hold;
+  listed = listed m (item_after list.first list.second) h.ends.first h.ends.second list (list_parts v m list formed).origins h.hold;
 }
 
 pub kept_list_shows : (pair : Joined) (cert : Cert) (list : ListBody) → cert.body ≡ Listing list → WellFormed cert → KeepsRules pair cert → ListsRuns cert.mode pair (list.limit + 1) list
-kept_list_shows pair cert list is formed hold = list_shows cert.mode pair list (list_formed cert list is formed) (subst (λ b. BodyHolds cert.mode pair b) is hold.1)
+kept_list_shows pair cert list is formed hold = list_shows cert.version cert.mode pair list (list_formed cert list is formed) (subst (λ b. BodyHolds cert.mode pair b) is hold.1)
 
 pub valid_list : ValidListShows
 valid_list pair cert list is v = kept_list_shows pair cert list is v.formed v.keeps

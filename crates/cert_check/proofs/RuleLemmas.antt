@@ -1,12 +1,14 @@
--- A certificate breaks one rule first, and none where it keeps them all.
-use Rattle.std.proofs.Common.{◌≡◌, ℕ, inl, inr, List, [], ◌∷◌, subst}
+-- A certificate breaks one rule first, and none where it keeps them all. No rule asks for the version.
+use Rattle.std.proofs.Common.{◌≡◌, ◌↔◌, ℕ, inl, inr, List, [], ◌∷◌, subst}
 use Rattle.auto_core.specs.Automaton.{Automaton}
 use Rattle.auto_core.specs.declared.parts.Mode.{Mode}
 use Rattle.ba_format.specs.declared.parts.Joined.{Joined}
+use Rattle.cert_value.specs.declared.types.Cert.{Cert}
 use Rattle.cert_value.specs.declared.types.Body.{Body}
 use Rattle.cert_value.specs.declared.types.Body.TheVariants.{Yes, NoLasso, NoWord, Listing}
 use Rattle.cert_value.specs.declared.types.FirstStep.{FirstStep}
 use Rattle.cert_value.specs.declared.types.SecondStep.{SecondStep}
+use Rattle.cert_value.specs.WellFormed.{upgraded}
 use Rattle.log_check.specs.declared.ends.Ends.{Ends}
 use Rattle.log_check.specs.declared.faults.Refusal.{Refusal}
 use Rattle.log_check.specs.Checks.{RuleCheck, FirstBroken, rule_at}
@@ -14,8 +16,10 @@ use Rattle.log_check.specs.Ends.{item_after}
 use Rattle.log_check.proofs.LawOneLemmas.{broken_one, broken_or_all, ends_one, break_one, none_breaks}
 use Rattle.cert_check.specs.Inclusion.{inclusion_checks}
 use Rattle.cert_check.specs.Listing.{listing_checks}
-use Rattle.cert_check.specs.Rules.{HasSizes, lasso_checks, word_checks, HoldsAfterLogs, BreaksAfterLogs, BodyHolds, BodyBreaks}
-use Rattle.cert_check.specs.Laws.{OneRuleBreaks, NoneBreaksWhereKept}
+use Rattle.cert_check.specs.Rules.{HasSizes, lasso_checks, word_checks, HoldsAfterLogs, BreaksAfterLogs, BodyHolds, BodyBreaks, SaysTruly}
+use Rattle.cert_check.specs.declared.faults.Verdict.{Verdict}
+use Rattle.cert_check.specs.declared.faults.Verdict.TheVariants.{Included, Apart, ApartWord, Listed}
+use Rattle.cert_check.specs.Laws.{OneRuleBreaks, NoneBreaksWhereKept, UpgradeIsCheckedAlike}
 
 module _ (mode : Mode) (pair : Joined) (firsts : List FirstStep) (seconds : List SecondStep) (checks : ℕ → Automaton → Automaton → List RuleCheck) where
   abbrev n : ℕ
@@ -56,3 +60,18 @@ none_of_body mode pair (Listing list) refusal h holds = none_after_logs mode pai
 pub none_kept : NoneBreaksWhereKept
 none_kept pair cert refusal (inl h) keeps = broken_or_all (rule_at 1 0 (HasSizes pair cert) ∷ []) refusal h (keeps.0, tt)
 none_kept pair cert refusal (inr h) keeps = none_of_body cert.mode pair cert.body refusal h.1 keeps.1
+
+-- No rule and no verdict looks at the version.
+truth_alike : (pair : Joined) (cert : Cert) (verdict : Verdict) → SaysTruly pair cert verdict ↔ SaysTruly pair (upgraded cert) verdict
+truth_alike pair cert Included = (λ h. h, λ h. h)
+truth_alike pair cert (Apart lasso) = (λ h. h, λ h. h)
+truth_alike pair cert (ApartWord word) = (λ h. h, λ h. h)
+truth_alike pair cert (Listed limit) = (λ h. h, λ h. h)
+
+pub upgrade_alike : UpgradeIsCheckedAlike
+upgrade_alike pair cert = record {
+  kept = (λ h. h, λ h. h);
+  broken = λ refusal. (λ h. h, λ h. h);
+  verdict = λ verdict. (λ h. h, λ h. h);
+  truth = truth_alike pair cert;
+}

@@ -1,5 +1,5 @@
 -- What valid certificates show.
-use Rattle.std.specs.Prelude.{◌≡◌, ℕ, ◌+◌, List}
+use Rattle.std.specs.Prelude.{◌≡◌, ◌↔◌, ℕ, ◌+◌, List}
 use Rattle.auto_core.specs.Automaton.{IsAutomaton}
 use Rattle.auto_core.specs.Accept.{Includes, SeparatesLasso, SeparatesWord}
 use Rattle.auto_core.specs.declared.parts.Lasso.{Lasso}
@@ -8,9 +8,10 @@ use Rattle.cert_value.specs.declared.types.Cert.{Cert}
 use Rattle.cert_value.specs.declared.types.YesBody.{YesBody}
 use Rattle.cert_value.specs.declared.types.ListBody.{ListBody}
 use Rattle.cert_value.specs.declared.types.Body.TheVariants.{Yes, NoLasso, NoWord, Listing}
-use Rattle.cert_value.specs.WellFormed.{WellFormed}
+use Rattle.cert_value.specs.WellFormed.{WellFormed, upgraded}
 use Rattle.log_check.specs.declared.faults.Refusal.{Refusal}
-use Rattle.cert_check.specs.Rules.{KeepsRules, BreaksRule, ListsRuns}
+use Rattle.cert_check.specs.declared.faults.Verdict.{Verdict}
+use Rattle.cert_check.specs.Rules.{KeepsRules, BreaksRule, IsVerdictOf, SaysTruly, ListsRuns}
 
 -- The certificate is valid for the two automata: it is well-formed and keeps all rules.
 pub record IsValid (pair : Joined) (cert : Cert) : Type 0 where
@@ -41,3 +42,15 @@ OneRuleBreaks = (pair : Joined) (cert : Cert) (refusal other : Refusal) → Brea
 -- A certificate that keeps its rules breaks none.
 abbrev pub NoneBreaksWhereKept : Type 0
 NoneBreaksWhereKept = (pair : Joined) (cert : Cert) (refusal : Refusal) → BreaksRule pair cert refusal → KeepsRules pair cert → ⊥
+
+-- The check of both certificates for these automata says the same: both keep all rules or neither does, what one breaks first the other
+-- breaks first, and both give the same verdict, which says the same.
+pub record AreCheckedAlike (pair : Joined) (cert other : Cert) : Type 0 where
+  pub kept : KeepsRules pair cert ↔ KeepsRules pair other
+  pub broken : (refusal : Refusal) → BreaksRule pair cert refusal ↔ BreaksRule pair other refusal
+  pub verdict : (verdict : Verdict) → IsVerdictOf cert.body verdict ↔ IsVerdictOf other.body verdict
+  pub truth : (verdict : Verdict) → SaysTruly pair cert verdict ↔ SaysTruly pair other verdict
+
+-- So it is for a certificate and the same one in version 2, whatever the automata.
+abbrev pub UpgradeIsCheckedAlike : Type 0
+UpgradeIsCheckedAlike = (pair : Joined) (cert : Cert) → AreCheckedAlike pair cert (upgraded cert)

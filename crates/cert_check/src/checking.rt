@@ -1,6 +1,6 @@
 //! The check of a certificate.
 
-ghost use Rattle.std.specs.Prelude.{◌≡◌, ◌↔◌, IfOk, IsTrue, length, true, Err};
+ghost use Rattle.std.specs.Prelude.{◌≡◌, ◌↔◌, ℕ, IfOk, IsTrue, length, true, Err};
 ghost use Rattle.auto_core.specs.Automaton.{IsAutomaton};
 ghost use Rattle.cert_check.specs.Inclusion.{inclusion_checks};
 ghost use Rattle.cert_check.specs.Listing.{listing_checks};
@@ -33,7 +33,7 @@ fn ends_of(
     firsts: &List<FirstStep>,
     seconds: &List<SecondStep>,
 ) -> Result<Ends, CheckFault>
-    requires formed { are_logs mode firsts.now seconds.now ≡ true }
+    requires formed { (version : ℕ) × (are_logs version mode firsts.now seconds.now ≡ true) }
     ensures { TellsBothLogs mode pair.now.first pair.now.second firsts.now seconds.now result }
 {
     let first_steps = firsts.as_slice();
@@ -50,7 +50,7 @@ fn ends_of(
 
 /// The number of the item after the steps of both logs.
 fn next_item(mode: Mode, firsts: &List<FirstStep>, seconds: &List<SecondStep>) -> u32
-    requires formed { are_logs mode firsts.now seconds.now ≡ true }
+    requires formed { (version : ℕ) × (are_logs version mode firsts.now seconds.now ≡ true) }
     ensures { result ≡ item_after firsts.now seconds.now }
 {
     1 + firsts.as_slice().len() as u32 + seconds.as_slice().len() as u32
@@ -58,7 +58,7 @@ fn next_item(mode: Mode, firsts: &List<FirstStep>, seconds: &List<SecondStep>) -
 
 /// Tests a yes: its logs, and then its evidence on the automata that they lead to, whose items come after those of the logs' steps.
 fn check_yes(alloc: Global, pair: &Joined, mode: Mode, evidence: &YesBody) -> Result<(), CheckFault>
-    requires formed { is_yes mode evidence.now ≡ true }
+    requires formed { (version : ℕ) × (is_yes version mode evidence.now ≡ true) }
     ensures { TellsAfterLogs mode pair.now evidence.now.first evidence.now.second (inclusion_checks mode evidence.now) result }
 {
     let ends = ends_of(alloc, pair, mode, &evidence.first, &evidence.second)?;
@@ -69,7 +69,7 @@ fn check_yes(alloc: Global, pair: &Joined, mode: Mode, evidence: &YesBody) -> Re
 /// Tests a list: its logs, and then its elements on the automata that they lead to. The item of its limit comes after those of the logs'
 /// steps.
 fn check_list(alloc: Global, pair: &Joined, mode: Mode, list: &ListBody) -> Result<(), CheckFault>
-    requires formed { is_listing mode list.now ≡ true }
+    requires formed { (version : ℕ) × (is_listing version mode list.now ≡ true) }
     ensures { TellsAfterLogs mode pair.now list.now.first list.now.second (listing_checks mode list.now) result }
 {
     let ends = ends_of(alloc, pair, mode, &list.first, &list.second)?;

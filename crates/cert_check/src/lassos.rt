@@ -5,10 +5,10 @@ ghost use Rattle.log_check.specs.Checks.{AllHold, FirstBroken};
 ghost use Rattle.cert_check.specs.Rules.{AreLabels, lasso_checks};
 
 use crate::faults::Verdict;
-use auto_core::{Lasso, List, Memory, Word};
+use auto_core::Lasso;
 use ba_format::Joined;
 use lasso_accept::accepts_lasso;
-use log_check::{CheckFault, Refusal};
+use log_check::{CheckFault, Refusal, copied_numbers};
 use std::alloc::Global;
 
 /// Tells whether each letter of the word is a label.
@@ -16,17 +16,6 @@ pub fn are_labels(word: &[u32], labels: u32) -> bool
     ensures { IsTrue result ↔ AreLabels labels word.now }
 {
     word.iter().all(|letter| *letter < labels)
-}
-
-/// The same word once more.
-pub fn copy_word(alloc: Global, word: &Word) -> Result<Word, Memory>
-    ensures { IfOk result (λ copy. copy ≡ word.now) }
-{
-    let mut copy = List::new(alloc);
-    for letter in word.as_slice() {
-        copy.push(*letter)?;
-    }
-    Ok(copy)
 }
 
 /// The lasso, if it separates the two automata; otherwise the first broken rule.
@@ -47,7 +36,7 @@ pub fn check_lasso(alloc: Global, pair: &Joined, lasso: &Lasso) -> Result<Verdic
     if accepts_lasso(alloc, &pair.second, lasso)? {
         return Err(CheckFault::Refused(Refusal { rule: 17, item: 2 }));
     }
-    let prefix = copy_word(alloc, &lasso.prefix)?;
-    let turn = copy_word(alloc, &lasso.turn)?;
+    let prefix = copied_numbers(alloc, lasso.prefix.as_slice())?;
+    let turn = copied_numbers(alloc, lasso.turn.as_slice())?;
     Ok(Verdict::Apart(Lasso { prefix, turn }))
 }

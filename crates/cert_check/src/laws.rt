@@ -1,6 +1,6 @@
 //! What valid certificates show, and which rule others break first: each law is the contract of a function that does nothing.
 
-ghost use Rattle.cert_check.specs.Laws.{ValidYesIncludes, ValidNoSeparates, ValidNoSeparatesByWord, ValidListShows, OneRuleBreaks, NoneBreaksWhereKept};
+ghost use Rattle.cert_check.specs.Laws.{ValidYesIncludes, ValidNoSeparates, ValidNoSeparatesByWord, ValidListShows, OneRuleBreaks, NoneBreaksWhereKept, UpgradeIsCheckedAlike};
 
 /// A valid certificate that says yes shows an inclusion.
 pub fn valid_yes_includes()
@@ -30,4 +30,9 @@ pub fn one_rule_breaks()
 /// A certificate that keeps its rules breaks none.
 pub fn none_breaks_where_kept()
     ensures { NoneBreaksWhereKept }
+{}
+
+/// A certificate and the same one in version 2 keep and break the same rules, and say the same.
+pub fn upgrade_is_checked_alike()
+    ensures { UpgradeIsCheckedAlike }
 {}

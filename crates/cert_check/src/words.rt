@@ -5,11 +5,11 @@ ghost use Rattle.log_check.specs.Checks.{AllHold, FirstBroken};
 ghost use Rattle.cert_check.specs.Rules.{word_checks};
 
 use crate::faults::Verdict;
-use crate::lassos::{are_labels, copy_word};
+use crate::lassos::are_labels;
 use auto_core::Word;
 use ba_format::Joined;
 use lasso_accept::accepts_word;
-use log_check::{CheckFault, Refusal};
+use log_check::{CheckFault, Refusal, copied_numbers};
 use std::alloc::Global;
 
 /// The word, if it separates the two automata; otherwise the first broken rule.
@@ -26,5 +26,6 @@ pub fn check_word(alloc: Global, pair: &Joined, word: &Word) -> Result<Verdict, 
     if accepts_word(alloc, &pair.second, word)? {
         return Err(CheckFault::Refused(Refusal { rule: 17, item: 1 }));
     }
-    Ok(Verdict::ApartWord(copy_word(alloc, word)?))
+    let word = copied_numbers(alloc, word.as_slice())?;
+    Ok(Verdict::ApartWord(word))
 }

@@ -29,16 +29,14 @@ use Rattle.cert_value.specs.declared.types.YesBody.{YesBody}
 use Rattle.cert_value.specs.declared.types.ListBody.{ListBody}
 use Rattle.cert_value.specs.declared.types.FirstStep.{FirstStep}
 use Rattle.cert_value.specs.declared.types.SecondStep.{SecondStep}
-use Rattle.cert_value.specs.WellFormed.{WellFormed, is_short, are_short, is_body, is_block, are_logs, are_steps, is_element, is_origin, has_some}
-use Rattle.cert_check.specs.Inclusion.{origins_of, live_in}
-use Rattle.evidence.specs.Evidence.{LiveStandApart}
+use Rattle.cert_value.specs.WellFormed.{WellFormed, is_version, is_short, are_short, is_body, is_block, are_logs, are_steps, is_element, is_origin, has_some}
 use Rattle.log_check.specs.Ends.{item_after}
 use Rattle.cert_check.specs.Rules.{AreLabels, BodyHolds}
 use Rattle.cert_check.specs.Laws.{IsValid}
 use Rattle.cert_check.specs.Listing.{AreListedRuns}
 use Rattle.cert_check.proofs.ListingLemmas.{listed_in}
 use Rattle.decide.specs.declared.terms.Terms.{Terms}
-use Rattle.decide.specs.Terms.{AreBounded}
+use Rattle.decide.specs.Terms.{AreBounded, IsVersioned}
 use Rattle.bound_laws.proofs.BoundLemmas.{listed_supergraphs_are_few, listed_pairs_are_few}
 use Rattle.decide.specs.Searches.{rules_in, bound_in, NoneSubsumedBeforeIn}
 use Rattle.decide.specs.Answer.{IsOrder, Reductions, IsYesOf, IsListOf, IsLassoOf, IsWordOf, IsBodyOf, IsAnswer, IsAnswerBy}
@@ -141,13 +139,13 @@ good_word Finite A B C D S limit x z word valid first second ends is =
       apart = word_separates A B C D first second word (subst (SeparatesWord C D) (sym is) (apart_separates_word C D S limit x z ends).1);
     }
 
-lasso_formed : (m : Mode) (x z : Entry) (lasso : Lasso) → IsLassoOf m x z lasso → are_short lasso.prefix ≡ true → are_short lasso.turn ≡ true → has_some lasso.turn ≡ true → is_body m (NoLasso lasso) ≡ true
-lasso_formed Buchi x z lasso is a b c = and_from (are_short lasso.prefix) (are_short lasso.turn && has_some lasso.turn) a (and_from (are_short lasso.turn) (has_some lasso.turn) b c)
-lasso_formed Finite x z lasso is a b c = absurd is
+lasso_formed : (v : ℕ) (m : Mode) (x z : Entry) (lasso : Lasso) → IsLassoOf m x z lasso → are_short lasso.prefix ≡ true → are_short lasso.turn ≡ true → has_some lasso.turn ≡ true → is_body v m (NoLasso lasso) ≡ true
+lasso_formed v Buchi x z lasso is a b c = and_from (are_short lasso.prefix) (are_short lasso.turn && has_some lasso.turn) a (and_from (are_short lasso.turn) (has_some lasso.turn) b c)
+lasso_formed v Finite x z lasso is a b c = absurd is
 
-word_formed : (m : Mode) (x : Entry) (word : List ℕ) → IsWordOf m x word → are_short word ≡ true → is_body m (NoWord word) ≡ true
-word_formed Buchi x word is a = absurd is
-word_formed Finite x word is a = a
+word_formed : (v : ℕ) (m : Mode) (x : Entry) (word : List ℕ) → IsWordOf m x word → are_short word ≡ true → is_body v m (NoWord word) ≡ true
+word_formed v Buchi x word is a = absurd is
+word_formed v Finite x word is a = a
 
 -- Logs that are those of the log ends.
 logs_are : (P : List FirstStep → List SecondStep → Type 0) (at : Reductions) (firsts : List FirstStep) (seconds : List SecondStep) → firsts ≡ at.first_log → seconds ≡ at.second_log → P at.first_log at.second_log → P firsts seconds
@@ -171,12 +169,12 @@ module _ (pair : Joined) (terms : Terms) (can : CanDecide pair) (few : terms.lim
 
   -- What is shown of a body: it has a text, it keeps the rules, and it says what is so.
   record Shown (body : Body) : Type 0 where
-    formed : is_body m body ≡ true
+    formed : is_body terms.version m body ≡ true
     checked : BodyHolds m pair body
     truth : SaysTruth pair terms body
 
-  logs_formed : (firsts : List FirstStep) (seconds : List SecondStep) → firsts ≡ at.first_log → seconds ≡ at.second_log → are_logs m firsts seconds ≡ true
-  logs_formed firsts seconds a b = logs_are (λ l k. are_logs m l k ≡ true) at firsts seconds a b good.formed
+  logs_formed : (firsts : List FirstStep) (seconds : List SecondStep) → firsts ≡ at.first_log → seconds ≡ at.second_log → are_logs terms.version m firsts seconds ≡ true
+  logs_formed firsts seconds a b = logs_are (λ l k. are_logs terms.version m l k ≡ true) at firsts seconds a b good.formed
 
   logs_settled : (firsts : List FirstStep) (seconds : List SecondStep) → firsts ≡ at.first_log → seconds ≡ at.second_log → AreSettledEnds pair terms firsts seconds (ends_in at)
   logs_settled firsts seconds a b = logs_are (λ l m. AreSettledEnds pair terms l m (ends_in at)) at firsts seconds a b good.settled
@@ -184,7 +182,7 @@ module _ (pair : Joined) (terms : Terms) (can : CanDecide pair) (few : terms.lim
   shown_yes : (es : List Entry) → IsOrder B S → ComesOut (rules_in m A B S) limit (Closed es) → (y : YesBody) → IsYesOf at terms S es y → Shown (Yes y)
   shown_yes es order ends y is = record {
     formed =
-        and_from (are_logs m y.first y.second) (is_block y.order && (is_short (length y.elements) && (list_all (is_element m) y.elements && (are_short y.cover && are_steps 0 y.elements y.steps))))
+        and_from (are_logs terms.version m y.first y.second) (is_block y.order && (is_short (length y.elements) && (list_all (is_element m) y.elements && (are_short y.cover && are_steps 0 y.elements y.steps))))
         (logs_formed y.first y.second is.first_log is.second_log)
         (and_from (is_block y.order) (is_short (length y.elements) && (list_all (is_element m) y.elements && (are_short y.cover && are_steps 0 y.elements y.steps))) is.order.formed
         (and_from (is_short (length y.elements)) (list_all (is_element m) y.elements && (are_short y.cover && are_steps 0 y.elements y.steps))
@@ -216,7 +214,7 @@ module _ (pair : Joined) (terms : Terms) (can : CanDecide pair) (few : terms.lim
   shown_no x z ends lasso is =
       let lasso_is = good_lasso m pair.first pair.second A B S limit x z lasso good.first good.first_same good.second_same ends is in
       record {
-        formed = lasso_formed m x z lasso is (short_word A.labels lasso.prefix few_labels lasso_is.prefix) (short_word A.labels lasso.turn few_labels lasso_is.turn)
+        formed = lasso_formed terms.version m x z lasso is (short_word A.labels lasso.prefix few_labels lasso_is.prefix) (short_word A.labels lasso.turn few_labels lasso_is.turn)
             (lt-ltb 0 (length lasso.turn) (let n = lasso_is.some in omega arith));
         checked = (
           subst (λ n. AreLabels n lasso.prefix) good.first_labels (labels_of A.labels lasso.prefix lasso_is.prefix),
@@ -229,7 +227,7 @@ module _ (pair : Joined) (terms : Terms) (can : CanDecide pair) (few : terms.lim
   shown_word x z ends word is =
       let word_is = good_word m pair.first pair.second A B S limit x z word good.first good.first_same good.second_same ends is in
       record {
-        formed = word_formed m x word is (short_word A.labels word few_labels word_is.letters);
+        formed = word_formed terms.version m x word is (short_word A.labels word few_labels word_is.letters);
         checked = (subst (λ n. AreLabels n word) good.first_labels (labels_of A.labels word word_is.letters), (word_is.apart.0, (word_is.apart.1, tt)));
         truth = word_is.apart;
       }
@@ -241,7 +239,7 @@ module _ (pair : Joined) (terms : Terms) (can : CanDecide pair) (few : terms.lim
       let limit_is = is.limit_is in
       record {
         formed =
-            and_from (are_logs m l.first l.second) (is_short l.limit && (is_short (length l.elements) && list_all (is_origin m) l.elements)) (logs_formed l.first l.second is.first_log is.second_log)
+            and_from (are_logs terms.version m l.first l.second) (is_short l.limit && (is_short (length l.elements) && list_all (is_origin m) l.elements)) (logs_formed l.first l.second is.first_log is.second_log)
             (and_from (is_short l.limit) (is_short (length l.elements) && list_all (is_origin m) l.elements) (lt-ltb l.limit 1000000000 (omega arith))
             (and_from (is_short (length l.elements)) (list_all (is_origin m) l.elements) (lt-ltb (length l.elements) 1000000000 (omega arith))
             (pass_from_places (is_origin m) l.elements (λ e o o_is.
@@ -278,9 +276,13 @@ module _ (pair : Joined) (terms : Terms) (can : CanDecide pair) (few : terms.lim
   shown (Limit es) order ends (NoWord w) is = absurd is
   shown (Limit es) order ends (Listing l) is = shown_list es order ends l is
 
-module _ (pair : Joined) (terms : Terms) (cert : Cert) (can : CanDecide pair) (few : terms.limit ≤ 100000) (at : Reductions) (good : AreGoodEnds pair terms at) (answer : IsAnswerBy at pair terms cert) where
-  body_shown : Shown pair terms can few at good answer.pairs cert.body
-  body_shown = shown pair terms can few at good answer.pairs answer.outcome answer.decides.order answer.decides.ends cert.body answer.body
+version_formed : (terms : Terms) → IsVersioned terms → is_version terms.version ≡ true
+version_formed terms (inl (first, one)) = subst (λ v. is_version v ≡ true) (sym first) refl
+version_formed terms (inr second) = subst (λ v. is_version v ≡ true) (sym second) refl
+
+module _ (pair : Joined) (terms : Terms) (cert : Cert) (can : CanDecide pair) (bounds : AreBounded terms) (at : Reductions) (good : AreGoodEnds pair terms at) (answer : IsAnswerBy at pair terms cert) where
+  body_shown : Shown pair terms can bounds.few at good answer.pairs cert.body
+  body_shown = shown pair terms can bounds.few at good answer.pairs answer.outcome answer.decides.order answer.decides.ends cert.body answer.body
 
   is_formed : WellFormed cert
   is_formed =
@@ -291,10 +293,12 @@ module _ (pair : Joined) (terms : Terms) (cert : Cert) (can : CanDecide pair) (f
       let first_few = can.first_parts.states in
       let second_few = can.second_parts.states in
       let few_labels = can.few_labels in
-      and_from (is_short cert.first_states) (is_short cert.second_states && (is_short cert.labels && is_body cert.mode cert.body)) (lt-ltb cert.first_states 1000000000 (omega arith))
-      (and_from (is_short cert.second_states) (is_short cert.labels && is_body cert.mode cert.body) (lt-ltb cert.second_states 1000000000 (omega arith))
-      (and_from (is_short cert.labels) (is_body cert.mode cert.body) (lt-ltb cert.labels 1000000000 (omega arith))
-      (subst (λ m. is_body m cert.body ≡ true) (sym answer.mode) body_shown.formed)))
+      and_from (is_version cert.version) (is_short cert.first_states && (is_short cert.second_states && (is_short cert.labels && is_body cert.version cert.mode cert.body)))
+      (subst (λ v. is_version v ≡ true) (sym answer.version) (version_formed terms bounds.versioned))
+      (and_from (is_short cert.first_states) (is_short cert.second_states && (is_short cert.labels && is_body cert.version cert.mode cert.body)) (lt-ltb cert.first_states 1000000000 (omega arith))
+      (and_from (is_short cert.second_states) (is_short cert.labels && is_body cert.version cert.mode cert.body) (lt-ltb cert.second_states 1000000000 (omega arith))
+      (and_from (is_short cert.labels) (is_body cert.version cert.mode cert.body) (lt-ltb cert.labels 1000000000 (omega arith))
+      (subst (λ v. is_body v cert.mode cert.body ≡ true) (sym answer.version) (subst (λ m. is_body terms.version m cert.body ≡ true) (sym answer.mode) body_shown.formed)))))
 
   is_valid : IsValid pair cert
   is_valid = record {
@@ -306,13 +310,13 @@ module _ (pair : Joined) (terms : Terms) (cert : Cert) (can : CanDecide pair) (f
   is_true = body_shown.truth
 
 pub answers_are_formed : AnswersAreFormed
-answers_are_formed pair terms cert can bounds (at, ends, answer) = is_formed pair terms cert can bounds.few at (good_ends pair terms at can bounds.look_from bounds.look_upto ends) answer
+answers_are_formed pair terms cert can bounds (at, ends, answer) = is_formed pair terms cert can bounds at (good_ends pair terms at can bounds ends) answer
 
 pub answers_are_valid : AnswersAreValid
-answers_are_valid pair terms cert can bounds (at, ends, answer) = is_valid pair terms cert can bounds.few at (good_ends pair terms at can bounds.look_from bounds.look_upto ends) answer
+answers_are_valid pair terms cert can bounds (at, ends, answer) = is_valid pair terms cert can bounds at (good_ends pair terms at can bounds ends) answer
 
 pub answers_are_true : AnswersAreTrue
-answers_are_true pair terms cert can bounds (at, ends, answer) = is_true pair terms cert can bounds.few at (good_ends pair terms at can bounds.look_from bounds.look_upto ends) answer
+answers_are_true pair terms cert can bounds (at, ends, answer) = is_true pair terms cert can bounds at (good_ends pair terms at can bounds ends) answer
 
 -- The same, body by body.
 module _ (pair : Joined) (terms : Terms) (cert : Cert) (can : CanDecide pair) (bounds : AreBounded terms) (answer : IsAnswer pair terms cert) where

@@ -1,5 +1,5 @@
 -- There is one pair of reduced automata, each with its log.
-use Rattle.std.proofs.Common.{◌≡◌, ℕ, ◌≤◌, List, [], ◌∷◌, map, refl, sym, ap, ◌∙◌, subst}
+use Rattle.std.proofs.Common.{◌≡◌, ◌≤◌, List, [], ◌∷◌, map, refl, sym, ap, ◌∙◌, subst}
 use Rattle.auto_core.specs.Automaton.{Automaton, IsAutomaton}
 use Rattle.auto_core.specs.declared.parts.Mode.{Mode}
 use Rattle.bit_rel.specs.Relation.{Relation}
@@ -10,6 +10,7 @@ use Rattle.cert_value.specs.declared.types.SecondStep.TheVariants as second
 use Rattle.cert_value.specs.declared.types.Grounds.{Grounds}
 use Rattle.cert_value.specs.declared.types.Grounds.TheVariants as grounds
 use Rattle.cert_value.specs.declared.types.RelBlock.{RelBlock}
+use Rattle.reduce_loop.specs.declared.steps.Foresight.{Foresight}
 use Rattle.reduce_loop.specs.declared.steps.Step.{Step}
 use Rattle.reduce_loop.specs.declared.steps.Step.TheVariants as step
 use Rattle.reduce_loop.specs.declared.steps.MergeBy.{MergeBy}
@@ -17,6 +18,7 @@ use Rattle.reduce_loop.specs.declared.steps.MergeBy.TheVariants as by
 use Rattle.reduce_loop.specs.Logs.{IsLog}
 use Rattle.reduce_loop.proofs.LogLemmas.{log_one}
 use Rattle.reduce_loop.proofs.PassLemmas.{reduced_one, log_of_reduced}
+use Rattle.decide.specs.Terms.{sight_of}
 use Rattle.decide.specs.Laws.{ReductionsAreOne}
 use Rattle.decide.specs.Written.{IsBlockOf, AreWritten, AreBlocksOf, AreGroundsOf, IsFirstWritten, IsSecondWritten, AreFirstWritten, AreSecondWritten, given, gone_by}
 use Rattle.decide.proofs.BlockUniqueLemmas.{one_block, one_rank_block}
@@ -45,7 +47,7 @@ one_first_step (step.Cut pair look gone back ahead) a b (blocks, are, p) (others
 one_grounds : (m : MergeBy) (a b : Grounds) → AreGroundsOf m a → AreGroundsOf m b → a ≡ b
 one_grounds (by.Forward look rel) a b (block, is, p) (other, also, q) = p ∙ ap (grounds.Forward look) (one_block rel.pairs block other is also) ∙ sym q
 one_grounds (by.Backward look rel) a b (block, is, p) (other, also, q) = p ∙ ap (grounds.Backward look) (one_block rel.pairs block other is also) ∙ sym q
-one_grounds (by.Delayed ranks) a b (block, is, p) (other, also, q) = p ∙ ap grounds.Delayed (one_rank_block ranks.pairs block other is also) ∙ sym q
+one_grounds (by.Delayed ranks) a b (block, is, p) (other, also, q) = p ∙ ap (grounds.Delayed ranks.letters) (one_rank_block ranks.letters ranks.triples block other is also) ∙ sym q
 
 one_second_step : (s : Step) (a b : SecondStep) → IsSecondWritten s a → IsSecondWritten s b → a ≡ b
 one_second_step (step.Trim kept) a b p q = p ∙ sym q
@@ -53,12 +55,12 @@ one_second_step (step.Merge by classes) a b (these, are, p) (those, too, q) = p 
 one_second_step (step.Cut pair look gone back ahead) a b p q = p ∙ sym q
 
 -- There is one end of a reduction, and one log.
-module _ (A B C : Automaton) (m : Mode) (k : ℕ) (log other : List Step) (valid : IsAutomaton A) (some : 1 ≤ k) (is : IsLog A m k B log) (also : IsLog A m k C other) where
+module _ (A B C : Automaton) (m : Mode) (sight : Foresight) (log other : List Step) (valid : IsAutomaton A) (some : 1 ≤ sight.look) (is : IsLog A m sight B log) (also : IsLog A m sight C other) where
   same_log : log ≡ other
-  same_log = log_one A B C m k log other valid some is also
+  same_log = log_one A B C m sight log other valid some is also
 
   same_end : B ≡ C
-  same_end = reduced_one A B C m k valid some (log_of_reduced A B m k log is) (log_of_reduced A C m k other also)
+  same_end = reduced_one A B C m sight valid some (log_of_reduced A B m sight log is) (log_of_reduced A C m sight other also)
 
   same_first : (firsts others : List FirstStep) → AreFirstWritten log firsts → AreFirstWritten other others → firsts ≡ others
   same_first firsts others a b = one_written Step FirstStep IsFirstWritten one_first_step log firsts others a (subst (λ l. AreFirstWritten l others) (sym same_log) b)
@@ -68,8 +70,8 @@ module _ (A B C : Automaton) (m : Mode) (k : ℕ) (log other : List Step) (valid
 
 pub reductions_are_one : ReductionsAreOne
 reductions_are_one pair terms at other one two some p q =
-    let first = same_end pair.first at.first other.first terms.mode terms.look p.first_steps q.first_steps one some p.first_reduced q.first_reduced in
-    let second = same_end pair.second at.second other.second terms.mode terms.look p.second_steps q.second_steps two some p.second_reduced q.second_reduced in
-    let firsts = same_first pair.first at.first other.first terms.mode terms.look p.first_steps q.first_steps one some p.first_reduced q.first_reduced at.first_log other.first_log p.first_written q.first_written in
-    let seconds = same_second pair.second at.second other.second terms.mode terms.look p.second_steps q.second_steps two some p.second_reduced q.second_reduced at.second_log other.second_log p.second_written q.second_written in
+    let first = same_end pair.first at.first other.first terms.mode (sight_of terms) p.first_steps q.first_steps one some p.first_reduced q.first_reduced in
+    let second = same_end pair.second at.second other.second terms.mode (sight_of terms) p.second_steps q.second_steps two some p.second_reduced q.second_reduced in
+    let firsts = same_first pair.first at.first other.first terms.mode (sight_of terms) p.first_steps q.first_steps one some p.first_reduced q.first_reduced at.first_log other.first_log p.first_written q.first_written in
+    let seconds = same_second pair.second at.second other.second terms.mode (sight_of terms) p.second_steps q.second_steps two some p.second_reduced q.second_reduced at.second_log other.second_log p.second_written q.second_written in
     λ i. record { first = first i; second = second i; first_log = firsts i; second_log = seconds i }

@@ -4,6 +4,7 @@ use Rattle.std.specs.List.{list_all}
 use Rattle.std.proofs.lemmas.Bool.{and_from}
 use Rattle.std.proofs.lemmas.List.Elements.{All-nil, All-cons, All-map, All-weaker}
 use Rattle.auto_core.specs.Automaton.{Automaton, IsAutomaton, trans_at}
+use Rattle.auto_core.specs.Delayed.{letters_for}
 use Rattle.auto_core.specs.Game.{Close, Holds, ArePairsBelow, IsGreatestForward, IsGreatestBackward, StableForward, StableBackward}
 use Rattle.auto_core.specs.Pruning.{AtSource, AtTarget, IsCut, look_back, look_ahead}
 use Rattle.auto_core.specs.Quotient.{IsQuotient}
@@ -11,6 +12,7 @@ use Rattle.auto_core.specs.declared.parts.Mode.{Mode}
 use Rattle.bit_rel.specs.Relation.{Relation}
 use Rattle.prune_pairs.specs.Least.{IsLeastBetter, numbers_of}
 use Rattle.prune_pairs.specs.declared.removing.Gone.{Gone}
+use Rattle.reduce_loop.specs.declared.steps.Foresight.{Foresight}
 use Rattle.reduce_loop.specs.declared.steps.Kind.{Kind}
 use Rattle.reduce_loop.specs.declared.steps.Kind.TheVariants.{Trim, Forward, Backward, Delayed, Prune}
 use Rattle.reduce_loop.specs.declared.steps.Step.{Step}
@@ -215,46 +217,46 @@ module _ (mode : Mode) (A B : Automaton) (item : ℕ) where
       }
 
 first_keeps :
-    (mode : Mode) (k : ℕ)
-    → IsLook k
+    (mode : Mode) (sight : Foresight)
+    → IsLook sight.look
     → (A B : Automaton) (item : ℕ) (kind : Kind) (entry : Step) (t : FirstStep)
     → IsAutomaton A
     → Contains (kinds_of mode) kind
-    → After A mode k kind B
-    → IsStepEntry A mode k kind entry
+    → After A mode sight kind B
+    → IsStepEntry A mode sight kind entry
     → IsFirstWritten entry t
     → StepFollows FirstStep (first_rules mode) A item t B
-first_keeps mode k look A B item Trim entry t valid listed after (kept, e, list) written =
+first_keeps mode sight look A B item Trim entry t valid listed after (kept, e, list) written =
     let is : t ≡ first.Trim kept = subst (λ s. IsFirstWritten s t) e written in
     subst (KeepsAs mode A B item) (sym is) (record {
       holds = (all_of_members (λ q. q < A.states) kept (useful_below A mode kept valid list.useful), ((λ q h. (list.useful q).1 h), tt));
       leads = trim_leads A B mode kept after list;
     })
-first_keeps mode k look A B item Forward entry t valid listed after (rel, classes, e, merge) written =
+first_keeps mode sight look A B item Forward entry t valid listed after (rel, classes, e, merge) written =
     let is : t ≡ first.Merge classes = subst (λ s. IsFirstWritten s t) e written in
     subst (KeepsAs mode A B item) (sym is) (merge_keeps mode A B item classes (merge.joined.len, merge.joined.valid)
-    (merge_leads A B (IsGreatestForward A k) rel classes (greatest_same _ _ k A.states) after merge))
-first_keeps mode k look A B item Backward entry t valid listed after (rel, classes, e, merge) written =
+    (merge_leads A B (IsGreatestForward A sight.look) rel classes (greatest_same _ _ sight.look A.states) after merge))
+first_keeps mode sight look A B item Backward entry t valid listed after (rel, classes, e, merge) written =
     let is : t ≡ first.Merge classes = subst (λ s. IsFirstWritten s t) e written in
     subst (KeepsAs mode A B item) (sym is) (merge_keeps mode A B item classes (merge.joined.len, merge.joined.valid)
-    (merge_leads A B (IsGreatestBackward A k) rel classes (greatest_same _ _ k A.states) after merge))
-first_keeps mode k look A B item Delayed entry t valid listed after (ranks, classes, e, merge) written =
+    (merge_leads A B (IsGreatestBackward A sight.look) rel classes (greatest_same _ _ sight.look A.states) after merge))
+first_keeps mode sight look A B item Delayed entry t valid listed after (ranks, classes, e, merge) written =
     let is : t ≡ first.Merge classes = subst (λ s. IsFirstWritten s t) e written in
     subst (KeepsAs mode A B item) (sym is) (merge_keeps mode A B item classes (merge.joined.len, merge.joined.valid)
-    (delayed_leads A B ranks classes after merge))
-first_keeps mode k look A B item (Prune n) entry t valid listed after (gone, back, ahead, e, cut) written =
+    (delayed_leads A B (letters_for A sight.letters) ranks classes after merge))
+first_keeps mode sight look A B item (Prune n) entry t valid listed after (gone, back, ahead, e, cut) written =
     let (blocks, are, is) = subst (λ s. IsFirstWritten s t) e written in
-    subst (KeepsAs mode A B item) (sym is) (cut_keeps mode A B item n k gone back ahead blocks (pair_listed mode n listed) look cut are
-    (cut_leads A B n k gone back ahead after cut))
+    subst (KeepsAs mode A B item) (sym is) (cut_keeps mode A B item n sight.look gone back ahead blocks (pair_listed mode n listed) look cut are
+    (cut_leads A B n sight.look gone back ahead after cut))
 
 -- Where a log leads from A to B, its steps as the first log of a certificate keep their rules, and lead there.
 pub log_follows_first :
-    (A B : Automaton) (mode : Mode) (k : ℕ) (log : List Step) (steps : List FirstStep) (item : ℕ)
+    (A B : Automaton) (mode : Mode) (sight : Foresight) (log : List Step) (steps : List FirstStep) (item : ℕ)
     → IsAutomaton A
-    → 1 ≤ k
-    → k ≤ 6
-    → IsLog A mode k B log
+    → 1 ≤ sight.look
+    → sight.look ≤ 6
+    → IsLog A mode sight B log
     → AreFirstWritten log steps
     → FirstLogFollows mode A item steps B
-log_follows_first A B mode k log steps item valid some few is written =
-    log_follows FirstStep (first_rules mode) IsFirstWritten mode k (first_keeps mode k (some, few)) A B log steps item valid is written
+log_follows_first A B mode sight log steps item valid some few is written =
+    log_follows FirstStep (first_rules mode) IsFirstWritten mode sight (first_keeps mode sight (some, few)) A B log steps item valid is written

@@ -1,12 +1,13 @@
 -- A reduction's log as it stands in a certificate: its steps one by one, what its blocks name, and where its steps lead.
-use Rattle.std.proofs.Common.{◌≡◌, ◌↔◌, ◌⊎◌, ℕ, zero, suc, ◌+◌, ◌<◌, inl, inr, Option, None, Some, true, ◌&&◌, ◌++◌, List, [], ◌∷◌, length, All, Contains, refl, sym, ap, ◌∙◌, subst, arith}
+use Rattle.std.proofs.Common.{◌≡◌, ◌↔◌, ◌⊎◌, ℕ, zero, suc, ◌+◌, ◌-◌, ◌<◌, ◌≤◌, inl, inr, Option, None, Some, true, ◌&&◌, ◌++◌, List, [], ◌∷◌, length, All, Contains, refl, sym, ap, ◌∙◌, subst, arith}
 use Rattle.std.specs.Prelude.{nat_le}
-use Rattle.std.specs.List.{flat_map, list_all}
-use Rattle.std.proofs.lemmas.Bool.{and_parts, false≢true}
+use Rattle.std.specs.List.{flat_map, range_with_len}
+use Rattle.std.proofs.lemmas.Bool.{and_parts, leb-true}
 use Rattle.std.proofs.lemmas.List.{append-nil}
+use Rattle.std.proofs.lemmas.List.FromFn.{get_or-range_with_len, length-range_with_len}
 use Rattle.std.proofs.lemmas.List.Elements.{All-nil, All-cons, All-contains, All-from_recursion, Contains-get_or, Contains-append_left, Contains-append_right}
 use Rattle.auto_core.specs.Automaton.{Automaton, IsAutomaton, trans_at}
-use Rattle.auto_core.specs.Delayed.{HoldsPair, AreRankedBelow}
+use Rattle.auto_core.specs.Delayed.{RankedTriples, HoldsTriple, AreAnnounced, AreTriplesOf, AreRelatedAhead}
 use Rattle.auto_core.specs.Game.{Close, Holds, ArePairsBelow, IsGreatest, IsGreatestForward, IsGreatestBackward}
 use Rattle.auto_core.specs.Pruning.{AtSource, AtTarget, HasBetter, IsCut, IsPruned, look_back, look_ahead}
 use Rattle.auto_core.specs.Quotient.{IsQuotient}
@@ -19,25 +20,29 @@ use Rattle.bit_rel.specs.Relation.{Relation}
 use Rattle.delayed_sim.specs.Rankings.{Ranking}
 use Rattle.prune_pairs.specs.Least.{IsLeastBetter, AreLeastBetter, numbers_of}
 use Rattle.prune_pairs.specs.declared.removing.Gone.{Gone}
+use Rattle.reduce_loop.specs.declared.steps.Foresight.{Foresight}
 use Rattle.reduce_loop.specs.declared.steps.Kind.{Kind}
 use Rattle.reduce_loop.specs.declared.steps.Kind.TheVariants.{Trim, Forward, Backward, Delayed, Prune}
 use Rattle.reduce_loop.specs.declared.steps.Step.{Step}
 use Rattle.reduce_loop.specs.Kinds.{kinds_of, AreDelayedPairs, IsMerged, After}
 use Rattle.reduce_loop.specs.Logs.{IsUsefulList, IsMergeOf, IsDelayedMergeOf, IsBackOf, IsAheadOf, IsCutOf, IsStepEntry, LogThrough, LogPasses, pairs_given as relation_pairs}
-use Rattle.reduce_loop.proofs.DelayedLemmas.{same_pairs}
+use Rattle.reduce_loop.proofs.DelayedLemmas.{same_related}
 use Rattle.reduce_loop.proofs.MergeLemmas.{same_classes, same_closure}
 use Rattle.reduce_loop.proofs.StepLemmas.{after_valid}
 use Rattle.useful_states.proofs.KeepLaws.{kept_by_members}
 use Rattle.cert_value.specs.declared.types.RelBlock.{RelBlock}
 use Rattle.cert_value.specs.declared.types.Row.{Row}
+use Rattle.cert_value.specs.declared.types.Run.{Run}
 use Rattle.cert_value.specs.declared.types.RankBlock.{RankBlock}
 use Rattle.cert_value.specs.declared.types.RankRow.{RankRow}
 use Rattle.cert_value.specs.declared.types.Ranked.{Ranked}
-use Rattle.cert_value.specs.WellFormed.{is_short, has_some, ascend, rights_of, is_ranked, is_row, are_rows, is_rank_row, are_rank_rows}
-use Rattle.log_check.specs.Blocks.{pairs_of_row, IsRowBelow, IsBlockBelow, rank_of, ranked_of_row, IsRankRowBelow, IsRankBlockBelow}
+use Rattle.cert_value.specs.Text.{run_numbers, numbers_of as all_numbers}
+use Rattle.cert_value.specs.WellFormed.{is_short, runs_ascend_from, is_row, are_rows, rank_key, is_rank_row, are_rank_rows}
+use Rattle.log_check.specs.Blocks.{pairs_of_row, IsRowBelow, IsBlockBelow, rank_of, triples_of_row, IsRankRowBelow, IsRankBlockBelow}
 use Rattle.log_check.specs.Follows.{LogRules, StepFollows, Follows}
 use Rattle.decide.specs.Written.{IsBlockOf, IsRankBlockOf, AreWritten}
 use Rattle.decide.proofs.RowLemmas.{row_parts, of_row}
+use Rattle.decide.proofs.RankRowLemmas.{in_triple, some_ranked}
 
 -- ---- lists that are written
 
@@ -61,15 +66,15 @@ module _ (S T : Type 0) (W : S → T → Type 0) where
 -- ---- the steps of a log, one by one
 
 module _
-    (T : Type 0) (rules : LogRules T) (W : Step → T → Type 0) (mode : Mode) (k : ℕ)
-    (keeps : (A B : Automaton) (item : ℕ) (kind : Kind) (entry : Step) (t : T) → IsAutomaton A → Contains (kinds_of mode) kind → After A mode k kind B → IsStepEntry A mode k kind entry → W entry t → StepFollows T rules A item t B)
+    (T : Type 0) (rules : LogRules T) (W : Step → T → Type 0) (mode : Mode) (sight : Foresight)
+    (keeps : (A B : Automaton) (item : ℕ) (kind : Kind) (entry : Step) (t : T) → IsAutomaton A → Contains (kinds_of mode) kind → After A mode sight kind B → IsStepEntry A mode sight kind entry → W entry t → StepFollows T rules A item t B)
   where
     -- What is logged of some kinds of steps leads on, if what is logged after them does.
     follows_through :
         (kinds : List Kind) (A C D : Automaton) (now more : List Step) (ts : List T) (item : ℕ)
         → IsAutomaton A
         → ((kind : Kind) → Contains kinds kind → Contains (kinds_of mode) kind)
-        → LogThrough A mode k kinds C now
+        → LogThrough A mode sight kinds C now
         → AreWritten Step T W (now ++ more) ts
         → ((n : ℕ) (us : List T) → IsAutomaton C → AreWritten Step T W more us → Follows T rules C n us D)
         → Follows T rules A item ts D
@@ -77,7 +82,7 @@ module _
         subst (λ X. Follows T rules X item ts D) same
         (onward item ts (subst IsAutomaton (sym same) valid) (subst (λ l. AreWritten Step T W (l ++ more) ts) none written))
     follows_through (kind ∷ kinds) A C D now more ts item valid listed (B, first, later, step, logged, rest, is) written onward =
-        let valid_on : IsAutomaton B = after_valid A B mode k kind step in
+        let valid_on : IsAutomaton B = after_valid A B mode sight kind step in
         let listed_on : (x : Kind) → Contains kinds x → Contains (kinds_of mode) x = λ x h. listed x (Contains-later kind x kinds h) in
         elim logged [
           | inl still ↦
@@ -99,7 +104,7 @@ module _
     follows_none A item [] h = refl
     follows_none A item (t ∷ ts) h = absurd h
 
-    follows_passes : (n : ℕ) (A C : Automaton) (log : List Step) (ts : List T) (item : ℕ) → IsAutomaton A → LogPasses A mode k n C log → AreWritten Step T W log ts → Follows T rules A item ts C
+    follows_passes : (n : ℕ) (A C : Automaton) (log : List Step) (ts : List T) (item : ℕ) → IsAutomaton A → LogPasses A mode sight n C log → AreWritten Step T W log ts → Follows T rules A item ts C
     follows_passes zero A C log ts item valid (same, last) written =
         subst (λ X. Follows T rules A item ts X) (sym same)
         (follows_through (kinds_of mode) A A A log [] ts item valid (λ kind h. h) last
@@ -111,51 +116,73 @@ module _
         (λ m us ok behind. follows_passes n B C later us m ok rest behind)
 
     -- A log leads where the reduction led, if each of its entries keeps its rules and leads where the step led.
-    pub log_follows : (A C : Automaton) (log : List Step) (ts : List T) (item : ℕ) → IsAutomaton A → ((n : ℕ) × LogPasses A mode k n C log) → AreWritten Step T W log ts → Follows T rules A item ts C
+    pub log_follows : (A C : Automaton) (log : List Step) (ts : List T) (item : ℕ) → IsAutomaton A → ((n : ℕ) × LogPasses A mode sight n C log) → AreWritten Step T W log ts → Follows T rules A item ts C
     log_follows A C log ts item valid (n, passes) written = follows_passes n A C log ts item valid passes written
 
 -- ---- blocks whose pairs are below a number
+
+-- Where the numbers of runs are below a number, the last one of each run is.
+lasts_below : (n bound : ℕ) (runs : List Run) → runs_ascend_from bound runs ≡ true → ((q : ℕ) → Contains (all_numbers runs) q → q < n) → All (λ (run : Run). run.last < n) runs
+lasts_below n bound [] apart below = All-nil (λ (run : Run). run.last < n)
+lasts_below n bound (run ∷ runs) apart below =
+    let a = and_parts (nat_le bound run.first) (nat_le run.first run.last && runs_ascend_from (run.last + 2) runs) apart in
+    let b = and_parts (nat_le run.first run.last) (runs_ascend_from (run.last + 2) runs) a.1 in
+    let le = leb-true run.first run.last b.0 in
+    let here : Contains (run_numbers run) run.last = range_has_last run.first run.last le in
+    All-cons (λ (run : Run). run.last < n) run runs (below run.last (Contains-append_left (run_numbers run) (all_numbers runs) run.last here))
+    (lasts_below n (run.last + 2) runs b.1 (λ q has. below q (Contains-append_right (run_numbers run) (all_numbers runs) q has)))
+  where
+    range_has_last : (n m : ℕ) → n ≤ m → Contains (range_with_len n (m + 1 - n)) m
+    range_has_last n m le =
+        let at = get_or-range_with_len n (m + 1 - n) (m - n) m (omega arith) in
+        let len = length-range_with_len n (m + 1 - n) in
+        let last : n + (m - n) ≡ m = omega arith in
+        (m - n, omega arith, at ∙ last)
 
 rows_below : (n bound : ℕ) (rows : List Row) → are_rows bound rows ≡ true → ((p q : ℕ) → Holds (flat_map pairs_of_row rows) p q → (p < n) × (q < n)) → All (IsRowBelow n) rows
 rows_below n bound [] formed below = All-nil (IsRowBelow n)
 rows_below n bound (row ∷ rows) formed below =
     let parts = and_parts (is_row bound row) (are_rows (row.left + 1) rows) formed in
     let r = row_parts bound row parts.0 in
-    let here : (q : ℕ) → Contains row.rights q → (row.left < n) × (q < n) = λ q has.
+    let here : (q : ℕ) → Contains (all_numbers row.runs) q → (row.left < n) × (q < n) = λ q has.
     below row.left q (Contains-append_left (pairs_of_row row) (flat_map pairs_of_row rows) (row.left, q) (of_row row row.left q refl has)) in
     All-cons (IsRowBelow n) row rows
-    ((here r.a_right r.has_right).0, all_of_members (λ q. q < n) row.rights (λ q has. (here q has).1))
+    ((here r.a_right r.has_right).0, lasts_below n 0 row.runs r.apart (λ q has. (here q has).1))
     (rows_below n (row.left + 1) rows parts.1 (λ p q h. below p q (Contains-append_right (pairs_of_row row) (flat_map pairs_of_row rows) (p, q) h)))
 
 pub block_below : (n : ℕ) (S : List (ℕ × ℕ)) (block : RelBlock) → IsBlockOf S block → ArePairsBelow n n S → IsBlockBelow n block
 block_below n S block is range =
     rows_below n 0 block.rows (and_parts (is_short (length block.rows)) (are_rows 0 block.rows) is.formed).1 (λ p q h. range p q (subst (λ l. Holds l p q) is.pairs h))
 
-rank_rows_below : (n bound : ℕ) (rows : List RankRow) → are_rank_rows bound rows ≡ true → AreRankedBelow n (flat_map ranked_of_row rows) → All (IsRankRowBelow n) rows
-rank_rows_below n bound [] formed below = All-nil (IsRankRowBelow n)
-rank_rows_below n bound (row ∷ rows) formed below =
-    let parts = and_parts (is_rank_row bound row) (are_rank_rows (row.left + 1) rows) formed in
-    let a = and_parts (is_short row.left) (list_all is_ranked row.rights && (has_some row.rights && (ascend (rights_of row.rights) && nat_le bound row.left))) parts.0 in
-    let b = and_parts (list_all is_ranked row.rights) (has_some row.rights && (ascend (rights_of row.rights) && nat_le bound row.left)) a.1 in
-    let some = (and_parts (has_some row.rights) (ascend (rights_of row.rights) && nat_le bound row.left) b.1).0 in
-    let here : (r : Ranked) → Contains row.rights r → (row.left < n) × (r.right < n) = λ r has.
-    below row.left r.right (
-      rank_of r.code,
-      Contains-append_left (ranked_of_row row) (flat_map ranked_of_row rows) (row.left, r.right, rank_of r.code)
-          (map_has (λ (r : Ranked). (row.left, r.right, rank_of r.code)) row.rights r has),
-    ) in
-    All-cons (IsRankRowBelow n) row rows
-    (left_below row.rights row.left some here, all_of_members (λ (r : Ranked). r.right < n) row.rights (λ r has. (here r has).1))
-    (rank_rows_below n (row.left + 1) rows parts.1 (λ p q h. below p q (h.0, Contains-append_right (ranked_of_row row) (flat_map ranked_of_row rows) (p, q, h.0) h.1)))
-  where
-    left_below : (rights : List Ranked) (left : ℕ) → has_some rights ≡ true → ((r : Ranked) → Contains rights r → (left < n) × (r.right < n)) → left < n
-    left_below [] left some each = absurd (false≢true some)
-    left_below (r ∷ rights) left some each = (each r (Contains-here r r rights refl)).0
+row_below :
+    (n labels letters : ℕ) (row : RankRow) (rights : List Ranked)
+    → row.rights ≡ rights
+    → 0 < length rights
+    → ((r : Ranked) → Contains rights r → AreAnnounced labels letters row.ahead × (row.left < n) × (r.right < n))
+    → IsRankRowBelow n labels row
+row_below n labels letters row [] same some each = absurd (omega arith)
+row_below n labels letters row (r ∷ rights) same some each =
+    let here = each r (Contains-here r r rights refl) in
+    let all : All (λ (r : Ranked). r.right < n) (r ∷ rights) = all_of_members (λ (r : Ranked). r.right < n) (r ∷ rights) (λ s has. (each s has).2) in
+    record { left = here.1; ahead = here.0.1; rights = subst (All (λ (r : Ranked). r.right < n)) (sym same) all }
 
-pub rank_block_below : (n : ℕ) (X : List (ℕ × ℕ × Option ℕ)) (block : RankBlock) → IsRankBlockOf X block → AreRankedBelow n X → IsRankBlockBelow n block
-rank_block_below n X block is range =
-    rank_rows_below n 0 block.rows (and_parts (is_short (length block.rows)) (are_rank_rows 0 block.rows) is.formed).1
-    (λ p q h. range p q (subst (λ l. HoldsPair l p q) is.pairs h))
+rank_rows_below : (n labels letters : ℕ) (key : List ℕ) (rows : List RankRow) → are_rank_rows letters key rows ≡ true → AreTriplesOf n labels letters (flat_map triples_of_row rows) → All (IsRankRowBelow n labels) rows
+rank_rows_below n labels letters key [] formed below = All-nil (IsRankRowBelow n labels)
+rank_rows_below n labels letters key (row ∷ rows) formed below =
+    let parts = and_parts (is_rank_row letters key row) (are_rank_rows letters (rank_key row) rows) formed in
+    let some = (some_ranked letters key row parts.0).0 in
+    All-cons (IsRankRowBelow n labels) row rows
+    (row_below n labels letters row row.rights refl some (λ r has.
+    below row.ahead row.left r.right (
+      rank_of r.code,
+      Contains-append_left (triples_of_row row) (flat_map triples_of_row rows) (row.left, row.ahead, r.right, rank_of r.code) (map_has (in_triple row.left row.ahead) row.rights r has),
+    )))
+    (rank_rows_below n labels letters (rank_key row) rows parts.1 (λ b p q h. below b p q (h.0, Contains-append_right (triples_of_row row) (flat_map triples_of_row rows) (p, b, q, h.0) h.1)))
+
+pub rank_block_below : (n labels letters : ℕ) (X : RankedTriples) (block : RankBlock) → IsRankBlockOf letters X block → AreTriplesOf n labels letters X → IsRankBlockBelow n labels block
+rank_block_below n labels letters X block is range =
+    rank_rows_below n labels letters [] block.rows (and_parts (is_short (length block.rows)) (are_rank_rows letters [] block.rows) is.formed).1
+    (λ b p q h. range b p q (subst (λ l. HoldsTriple l b p q) is.triples h))
 
 -- ---- where a trim and a merge lead
 
@@ -179,14 +206,14 @@ merge_leads A B Greatest rel classes one m is =
     (same_closure (Holds m.pairs) (Holds rel.pairs) (one m.pairs rel.pairs m.greatest is.relation.greatest)))
     m.quotient
 
-pub delayed_leads : (A B : Automaton) (ranks : Ranking) (classes : List ℕ) → IsMerged A (AreDelayedPairs A) B → IsDelayedMergeOf A ranks classes → IsQuotient A classes B
-delayed_leads A B ranks classes m is =
+pub delayed_leads : (A B : Automaton) (n : ℕ) (ranks : Ranking) (classes : List ℕ) → IsMerged A (AreDelayedPairs A n) B → IsDelayedMergeOf A n ranks classes → IsQuotient A classes B
+delayed_leads A B n ranks classes m is =
     let (X, x, held) = m.greatest in
-    let to = same_pairs A X ranks.pairs x is.greatest in
-    let same : (p q : ℕ) → Holds m.pairs p q ↔ HoldsPair ranks.pairs p q = λ p q. (λ h. (to p q).0 ((held p q).0 h), λ h. (held p q).1 ((to p q).1 h)) in
+    let to = same_related A n X ranks.triples x is.greatest in
+    let related : ℕ → ℕ → Type 0 = AreRelatedAhead A.labels n ranks.triples in
+    let same : (p q : ℕ) → Holds m.pairs p q ↔ related p q = λ p q. (λ h. (to p q).0 ((held p q).0 h), λ h. (held p q).1 ((to p q).1 h)) in
     subst (λ c. IsQuotient A c B)
-    (same_classes A.states (Close (Holds m.pairs)) (Close (HoldsPair ranks.pairs)) m.classes classes m.joined is.joined
-    (same_closure (Holds m.pairs) (HoldsPair ranks.pairs) same))
+    (same_classes A.states (Close (Holds m.pairs)) (Close related) m.classes classes m.joined is.joined (same_closure (Holds m.pairs) related same))
     m.quotient
 
 -- ---- where a cut leads

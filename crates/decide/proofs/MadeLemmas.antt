@@ -17,6 +17,7 @@ use Rattle.reduce_loop.specs.declared.steps.Reduced.{Reduced}
 use Rattle.reduce_loop.specs.Logs.{IsLog}
 use Rattle.decide.specs.declared.logs.Logs.{Logs}
 use Rattle.decide.specs.declared.terms.Terms.{Terms}
+use Rattle.decide.specs.Terms.{sight_of}
 use Rattle.decide.specs.Searches.{rules_in}
 use Rattle.decide.specs.Answer.{IsOrder, IsLassoOf, IsWordOf, IsAnswer}
 use Rattle.decide.specs.Bodies.{IsYesWith, IsListWith, IsFoundBody, ends_with}
@@ -47,15 +48,16 @@ of_each_body P Q (Ok body) all is = all body is
 of_each_body P Q (Err e) all is = tt
 
 module _ (pair : Joined) (terms : Terms) (first second : Reduced) (logs : Logs) (S : List (ℕ × ℕ)) where
-  pub answer_made : IsLog pair.first terms.mode terms.look first.auto first.log → IsLog pair.second terms.mode terms.look second.auto second.log → AreLogsOf first.log second.log logs → IsOrder second.auto S →
-      (cert : Cert) → cert.mode ≡ terms.mode → HasSizes pair cert → IsFoundBody first.auto second.auto logs terms S cert.body → IsAnswer pair terms cert
-  answer_made first_is second_is written order cert mode sizes found = (
+  pub answer_made : IsLog pair.first terms.mode (sight_of terms) first.auto first.log → IsLog pair.second terms.mode (sight_of terms) second.auto second.log → AreLogsOf first.log second.log logs → IsOrder second.auto S →
+      (cert : Cert) → cert.version ≡ terms.version → cert.mode ≡ terms.mode → HasSizes pair cert → IsFoundBody first.auto second.auto logs terms S cert.body → IsAnswer pair terms cert
+  answer_made first_is second_is written order cert version mode sizes found = (
     ends_with first.auto second.auto logs,
     record { first_steps = first.log; second_steps = second.log; first_reduced = first_is; second_reduced = second_is; first_written = written.first; second_written = written.second },
     record {
       pairs = S;
       outcome = found.outcome;
       decides = record { order = order; ends = found.ends };
+      version = version;
       mode = mode;
       sizes = sizes;
       body = found.is;

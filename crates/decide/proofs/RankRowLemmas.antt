@@ -1,276 +1,287 @@
 -- The rows of a relation with ranks as they are made, and what they list.
-use Rattle.std.proofs.Common.{◌≡◌, ℕ, ◌+◌, ◌<◌, ◌≤◌, ◌&&◌, ◌==◌, true, false, Option, None, Some, List, [], ◌∷◌, ◌++◌, ◌⊎◌, Bool, length, map, Contains, refl, sym, ap, ◌∙◌, subst, inl, inr, arith, length-append}
-use Rattle.std.specs.Prelude.{nat_le, IfSome, IfNone}
+use Rattle.std.proofs.Common.{◌≡◌, ℕ, zero, suc, ◌+◌, ◌-◌, ◌<◌, ◌≤◌, ◌&&◌, ◌==◌, true, cond, inl, inr, Option, None, Some, List, [], ◌∷◌, ◌++◌, length, map, take, drop, get_or, All, Contains, refl, sym, ap, ◌∙◌, subst, arith, length-append}
+use Rattle.std.specs.Prelude.{IfSome, nat_le}
 use Rattle.std.specs.List.{list_all, flat_map}
-use Rattle.std.proofs.lemmas.Bool.{false≢true, cases_eq, and_parts, and_from, leb-true, le-leb, lt-ltb}
-use Rattle.std.proofs.lemmas.List.{append-nil}
+use Rattle.std.specs.Ordering.{MatchOrdering, is_lt, nat_cmp, ordering_then}
+use Rattle.std.specs.declared.cmp.Ordering.TheVariants.{Less, Equal}
+use Rattle.std.specs.Cmp.{ranks}
+use Rattle.std.specs.Cmp.Lexicographic.{slice_cmp}
+use Rattle.std.proofs.Math.Dec.{eqb-suc-zero}
+use Rattle.std.proofs.Math.Seq.{take-add}
+use Rattle.std.proofs.lemmas.Bool.{false≢true, and_from, and_parts, eq-eqb, le-leb, lt-ltb, ltb-true}
+use Rattle.std.proofs.lemmas.Cmp.{nat_list_cmp_total, tied_itself}
+use Rattle.std.proofs.lemmas.List.{append-nil, take_all, take_more, get_or-take, get_or-drop, get_or_default, length-drop, length-map, length-take-le}
 use Rattle.std.proofs.lemmas.List.Concat.{flat_map-append}
-use Rattle.std.proofs.lemmas.List.Elements.{Contains-append_cases, Contains-append_left, Contains-append_right}
-use Rattle.auto_core.specs.Delayed.{RankedPairs, HoldsPair, HasRank, HasPairsOnce}
+use Rattle.std.proofs.lemmas.List.Elements.{All-contains, Contains-get_or}
+use Rattle.auto_core.specs.Delayed.{AreAnnounced}
 use Rattle.auto_core.proofs.PathLemmas.{Contains-cons_cases, Contains-here, Contains-later, none_in_nil}
-use Rattle.search_laws.proofs.ListLemmas.{in_map, map_has}
-use Rattle.bit_rel.specs.Relation.{IsPairBefore}
+use Rattle.auto_core.proofs.MemberLemmas.{Rises, rises_from_pairs}
 use Rattle.cert_value.specs.declared.types.RankRow.{RankRow}
 use Rattle.cert_value.specs.declared.types.Ranked.{Ranked}
-use Rattle.cert_value.specs.WellFormed.{is_short, is_ranked, rights_of, has_some, ascend, ascend_from, is_rank_row, are_rank_rows}
-use Rattle.delayed_sim.specs.Rankings.{Ranking, IsRanking, AreRankedInOrder}
-use Rattle.auto_core.proofs.MemberLemmas.{Rises, same_members}
-use Rattle.log_check.specs.Blocks.{rank_of, ranked_of_row}
+use Rattle.cert_value.specs.WellFormed.{is_short, are_short, is_ranked, rights_of, has_some, ascend, ascend_from, rank_key, is_less, is_rank_row, are_rank_rows}
+use Rattle.delayed_sim.specs.Rankings.{Triple, Ranking, IsRanking, IsTripleBefore, row_key, triple_at}
+use Rattle.log_check.specs.Blocks.{rank_of, triples_of_row}
 use Rattle.decide.specs.Written.{IsRankBlockOf}
-use Rattle.decide.specs.Rows.{HasFewRanks, AreRankedRights, AreRankRows}
-use Rattle.decide.proofs.RowLemmas.{ascend_behind, ascend_above}
+use Rattle.decide.specs.Rows.{HasFewTriples, IsRankRowOf, AreRankRows, ranked_of, code_for, last_key}
+use Rattle.decide.proofs.RowLemmas.{all_short}
 
--- The rank that was asked for is that of the pair.
-pub rank_is : (X : RankedPairs) (p q : ℕ) (rank : Option ℕ) → HoldsPair X p q → IfSome rank (HasRank X p q) → IfNone rank ((r : ℕ) → HasRank X p q r → ⊥) → Contains X (p, q, rank)
-rank_is X p q (Some r) held some none = some
-rank_is X p q None (None, has) some none = has
-rank_is X p q None (Some r, has) some none = absurd (none r has)
+-- ---- lists
 
-pub rank_few : (R : Ranking) (p q : ℕ) (rank : Option ℕ) → HasFewRanks R → IfSome rank (HasRank R.pairs p q) → IfSome rank (λ r. r + 1 < 1000000000)
-rank_few R p q (Some r) few some = few.below p q r some
-rank_few R p q None few some = _
+pub first_one : {X : Type 0} (x y : X) (xs ys : List X) → x ∷ xs ≡ y ∷ ys → x ≡ y
+first_one x y xs ys e = cc
 
--- The states of one row, as they are found.
-pub ranked_none : (X : RankedPairs) (left : ℕ) → AreRankedRights X left 0 []
-ranked_none X left = record {
-  ascending = refl;
-  short = refl;
-  within = λ r h. absurd (none_in_nil r h);
-  has = λ q rank lt h. absurd (omega arith);
-}
-
--- All of a list and one more.
-all_behind : {X : Type 0} (p : X → Bool) (xs : List X) (x : X) → list_all p xs ≡ true → p x ≡ true → list_all p (xs ++ x ∷ []) ≡ true
-all_behind p [] x all here = and_from (p x) true here refl
-all_behind p (y ∷ xs) x all here =
-    let parts = and_parts (p y) (list_all p xs) all in
-    and_from (p y) (list_all p (xs ++ x ∷ [])) parts.0 (all_behind p xs x parts.1 here)
+pub rest_one : {X : Type 0} (x y : X) (xs ys : List X) → x ∷ xs ≡ y ∷ ys → xs ≡ ys
+rest_one x y xs ys e = cc
 
 map_behind : {X Y : Type 0} (f : X → Y) (xs : List X) (x : X) → map f (xs ++ x ∷ []) ≡ map f xs ++ f x ∷ []
 map_behind f [] x = refl
 map_behind f (y ∷ xs) x = ap (λ l. f y ∷ l) (map_behind f xs x)
 
-pub ranked_more : (X : RankedPairs) (left i : ℕ) (rights : List Ranked) (new : Ranked) → i < 1000000000 → new.right ≡ i → new.code < 1000000000 → AreRankedRights X left i rights → Contains X (left, i, rank_of new.code) →
-    AreRankedRights X left (i + 1) (rights ++ new ∷ [])
-ranked_more X left i rights new small right code are holds = record {
-  ascending = subst (λ l. ascend l ≡ true) (sym (map_behind (λ (r : Ranked). r.right) rights new))
-      (ascend_behind 0 (rights_of rights) new.right are.ascending (omega arith) (λ m h.
-      let (r, r_in, e) = map_has (λ (r : Ranked). r.right) rights m h in
-      let lt = (are.within r r_in).0 in
-      omega arith));
-  short = all_behind is_ranked rights new are.short (and_from (is_short new.right) (is_short new.code) (lt-ltb new.right 1000000000 (omega arith)) (lt-ltb new.code 1000000000 code));
-  within = λ r h. elim (Contains-append_cases rights (new ∷ []) r h) [
-    | inl before ↦ let old = are.within r before in let lt = old.0 in (omega arith, old.1)
-    | inr last ↦ elim (Contains-cons_cases new r [] last) [
-      | inl e ↦
-          let same : i ≡ r.right = sym right ∙ ap (λ (r : Ranked). r.right) e in
-          (omega arith, subst (λ (z : Ranked). Contains X (left, r.right, rank_of z.code)) e (subst (λ m. Contains X (left, m, rank_of new.code)) same holds))
-      | inr none ↦ absurd (none_in_nil r none)
-    ]
-  ];
-  has = λ q rank lt h. elim (cases_eq q i) [
-    | inl e ↦ (new, Contains-append_right rights (new ∷ []) new (Contains-here new new [] refl), right ∙ sym e)
-    | inr other ↦ let (r, r_in, is) = are.has q rank (omega arith) h in (r, Contains-append_left rights (new ∷ []) r r_in, is)
-  ];
-}
+-- ---- orders
 
-pub ranked_same : (X : RankedPairs) (left i : ℕ) (rights : List Ranked) → AreRankedRights X left i rights → (HoldsPair X left i → ⊥) → AreRankedRights X left (i + 1) rights
-ranked_same X left i rights are lacks = record {
-  ascending = are.ascending;
-  short = are.short;
-  within = λ r h. let old = are.within r h in let lt = old.0 in (omega arith, old.1);
-  has = λ q rank lt h. elim (cases_eq q i) [
-    | inl e ↦ absurd (lacks (rank, subst (λ m. Contains X (left, m, rank)) e h))
-    | inr other ↦ are.has q rank (omega arith) h
-  ];
-}
+-- Nothing is less than itself.
+own_order : (ns : List ℕ) → slice_cmp nat_cmp ns ns ≡ Equal
+own_order ns = tied_itself nat_list_cmp_total ns
 
--- What a row of a certificate has.
-pub record RankRowParts (bound : ℕ) (row : RankRow) : Type 0 where
-  pub short : list_all is_ranked row.rights ≡ true
-  pub some : has_some row.rights ≡ true
-  pub ascending : ascend (rights_of row.rights) ≡ true
-  pub low : bound ≤ row.left
+pub not_less_itself : (ns : List ℕ) → is_less ns ns ≡ true → ⊥
+not_less_itself ns h = false≢true (sym (ap is_lt (own_order ns)) ∙ h)
 
-pub rank_row_parts : (bound : ℕ) (row : RankRow) → is_rank_row bound row ≡ true → RankRowParts bound row
-rank_row_parts bound row is =
-    let a = and_parts (is_short row.left) (list_all is_ranked row.rights && (has_some row.rights && (ascend (rights_of row.rights) && nat_le bound row.left))) is in
-    let b = and_parts (list_all is_ranked row.rights) (has_some row.rights && (ascend (rights_of row.rights) && nat_le bound row.left)) a.1 in
-    let c = and_parts (has_some row.rights) (ascend (rights_of row.rights) && nat_le bound row.left) b.1 in
-    let d = and_parts (ascend (rights_of row.rights)) (nat_le bound row.left) c.1 in
-    record { short = b.0; some = c.0; ascending = d.0; low = leb-true bound row.left d.1 }
+-- Of two triples with the same left state and letters the earlier one has the lesser right state.
+before_right : (x y : Triple) → row_key x ≡ row_key y → IsTripleBefore x y → x.2 < y.2
+before_right x y same h =
+    let own : ordering_then (slice_cmp nat_cmp (row_key x) (row_key x)) (nat_cmp x.2 y.2) ≡ Less = subst (λ k. ordering_then (slice_cmp nat_cmp (row_key x) k) (nat_cmp x.2 y.2) ≡ Less) (sym same) h in
+    let rights : nat_cmp x.2 y.2 ≡ Less = subst (λ o. ordering_then o (nat_cmp x.2 y.2) ≡ Less) (own_order (row_key x)) own in
+    subst (λ o. MatchOrdering o (x.2 < y.2) (x.2 ≡ y.2) (y.2 < x.2)) rights (ranks x.2 y.2)
 
-raised : (bound : ℕ) (row : RankRow) → is_rank_row 0 row ≡ true → bound ≤ row.left → is_rank_row bound row ≡ true
-raised bound row is low =
-    let a = and_parts (is_short row.left) (list_all is_ranked row.rights && (has_some row.rights && (ascend (rights_of row.rights) && nat_le 0 row.left))) is in
-    let p = rank_row_parts 0 row is in
-    and_from (is_short row.left) (list_all is_ranked row.rights && (has_some row.rights && (ascend (rights_of row.rights) && nat_le bound row.left))) a.0
-    (and_from (list_all is_ranked row.rights) (has_some row.rights && (ascend (rights_of row.rights) && nat_le bound row.left)) p.short
-    (and_from (has_some row.rights) (ascend (rights_of row.rights) && nat_le bound row.left) p.some
-    (and_from (ascend (rights_of row.rights)) (nat_le bound row.left) p.ascending (le-leb bound row.left low))))
+rises_dropped : (n : ℕ) (xs : List Triple) → Rises IsTripleBefore xs → Rises IsTripleBefore (drop n xs)
+rises_dropped zero xs h = h
+rises_dropped (suc n) [] h = h
+rises_dropped (suc n) (x ∷ xs) h = rises_dropped n xs h.1
 
--- Rows one after another.
-row_behind : (bound : ℕ) (rows : List RankRow) (row : RankRow) → are_rank_rows bound rows ≡ true → bound ≤ row.left → ((other : RankRow) → Contains rows other → other.left < row.left) → is_rank_row 0 row ≡ true →
-    are_rank_rows bound (rows ++ row ∷ []) ≡ true
-row_behind bound [] row h low below is = and_from (is_rank_row bound row) true (raised bound row is low) refl
-row_behind bound (first ∷ rows) row h low below is =
-    let parts = and_parts (is_rank_row bound first) (are_rank_rows (first.left + 1) rows) h in
-    let less = below first (Contains-here first first rows refl) in
-    and_from (is_rank_row bound first) (are_rank_rows (first.left + 1) (rows ++ row ∷ [])) parts.0
-    (row_behind (first.left + 1) rows row parts.1 (omega arith) (λ other has. below other (Contains-later first other rows has)) is)
+in_taken : (n : ℕ) (xs : List Triple) (z : Triple) → Contains (take n xs) z → Contains xs z
+in_taken zero xs z h = absurd (none_in_nil z h)
+in_taken (suc n) [] z h = h
+in_taken (suc n) (x ∷ xs) z h = elim (Contains-cons_cases x z (take n xs) h) [
+  | inl e ↦ Contains-here x z xs e
+  | inr later ↦ Contains-later x z xs (in_taken n xs z later)
+]
 
--- The pairs of a row.
-abbrev in_pair : ℕ → Ranked → ℕ × ℕ × Option ℕ
-in_pair left r = (left, r.right, rank_of r.code)
+rises_taken : (n : ℕ) (xs : List Triple) → Rises IsTripleBefore xs → Rises IsTripleBefore (take n xs)
+rises_taken zero xs h = tt
+rises_taken (suc n) [] h = h
+rises_taken (suc n) (x ∷ xs) h = (λ y there. h.0 y (in_taken n xs y there), rises_taken n xs h.1)
 
-pub in_rank_row : (row : RankRow) (z : ℕ × ℕ × Option ℕ) → Contains (ranked_of_row row) z → (r : Ranked) × Contains row.rights r × (in_pair row.left r ≡ z)
-in_rank_row row z has = map_has (in_pair row.left) row.rights z has
+-- ---- ranks and their codes
 
-pub rank_rows_none : (X : RankedPairs) → AreRankRows X 0 []
-rank_rows_none X = record {
-  formed = refl;
-  within = λ p q rank h. absurd (none_in_nil (p, q, rank) h);
-  has = λ p q rank lt h. absurd (omega arith);
-  below = λ row h. absurd (none_in_nil row h);
-  few = omega arith;
-}
+pub later_code : (n : ℕ) → rank_of (suc n) ≡ Some (suc n - 1)
+later_code n = ap (λ t. cond t None (Some (suc n - 1))) (eqb-suc-zero n)
 
-module _ (X : RankedPairs) (n i : ℕ) (rows : List RankRow) where
-  pub rank_rows_more : (row : RankRow) → n ≤ 512 → i < n → ((p q : ℕ) → HoldsPair X p q → (p < n) × (q < n)) → HasPairsOnce X → AreRankRows X i rows → row.left ≡ i → AreRankedRights X i n row.rights → 0 < length row.rights →
-      AreRankRows X (i + 1) (rows ++ row ∷ [])
-  rank_rows_more row small lt range once are left rights some = record {
-    formed = row_behind 0 rows row are.formed (omega arith) (λ other has. let lt = are.below other has in omega arith) is;
-    within = λ p q rank h. to p q rank (Contains-append_cases (flat_map ranked_of_row rows) (ranked_of_row row) (p, q, rank) (subst (λ l. Contains l (p, q, rank)) joined h));
-    has = λ p q rank lt h. subst (λ l. Contains l (p, q, rank)) (sym joined) (from p q rank lt h);
-    below = λ other has. elim (Contains-append_cases rows (row ∷ []) other has) [
-      | inl before ↦ let lt = are.below other before in omega arith
-      | inr new ↦ elim (Contains-cons_cases row other [] new) [
-        | inl e ↦ let l : row.left ≡ other.left = ap (λ (r : RankRow). r.left) e in omega arith
-        | inr none ↦ absurd (none_in_nil other none)
-      ]
-    ];
-    few = let size = length-append rows (row ∷ []) in let few = are.few in omega arith;
-  }
-    where
-      is : is_rank_row 0 row ≡ true
-      is =
-          and_from (is_short row.left) (list_all is_ranked row.rights && (has_some row.rights && (ascend (rights_of row.rights) && nat_le 0 row.left))) (lt-ltb row.left 1000000000 (omega arith))
-          (and_from (list_all is_ranked row.rights) (has_some row.rights && (ascend (rights_of row.rights) && nat_le 0 row.left)) rights.short
-          (and_from (has_some row.rights) (ascend (rights_of row.rights) && nat_le 0 row.left) (lt-ltb 0 (length row.rights) some)
-          (and_from (ascend (rights_of row.rights)) (nat_le 0 row.left) rights.ascending (le-leb 0 row.left (omega arith)))))
+code_back : (o : Option ℕ) → rank_of (code_for o) ≡ o
+code_back None = refl
+code_back (Some r) =
+    let more : r + 1 ≡ suc r = omega arith in
+    let less : suc r - 1 ≡ r = omega arith in
+    ap rank_of more ∙ later_code r ∙ ap Some less
 
-      joined : flat_map ranked_of_row (rows ++ row ∷ []) ≡ flat_map ranked_of_row rows ++ ranked_of_row row
-      joined = flat_map-append ranked_of_row rows (row ∷ []) ∙ ap (λ l. flat_map ranked_of_row rows ++ l) (append-nil (ranked_of_row row))
+-- Where the triple stands in the list, its rank has few digits, and so has its code.
+pub rank_few : (R : Ranking) (at : ℕ) (rank : Option ℕ) → HasFewTriples R → at < length R.triples → rank ≡ (triple_at R.triples at).3 → IfSome rank (λ r. r + 1 < 1000000000)
+rank_few R at None few lt is = _
+rank_few R at (Some r) few lt is =
+    let x : Triple = triple_at R.triples at in
+    few.below x.1 x.0 x.2 r (subst (λ o. Contains R.triples (x.0, x.1, x.2, o)) (sym is) (Contains-get_or R.triples at (0, [], 0, None) lt))
 
-      to : (p q : ℕ) (rank : Option ℕ) → Contains (flat_map ranked_of_row rows) (p, q, rank) ⊎ Contains (ranked_of_row row) (p, q, rank) → (p < i + 1) × Contains X (p, q, rank)
-      to p q rank (inl before) = let old = are.within p q rank before in let lt = old.0 in (omega arith, old.1)
-      to p q rank (inr new) =
-          let (r, r_in, e) = in_rank_row row (p, q, rank) new in
-          let same : row.left ≡ p = ap (λ (z : ℕ × ℕ × Option ℕ). z.0) e in
-          let here : Contains X (in_pair row.left r) = subst (λ m. Contains X (in_pair m r)) (sym left) (rights.within r r_in).1 in
-          (omega arith, subst (Contains X) e here)
+code_short : (R : Ranking) → HasFewTriples R → (p : ℕ) (b : List ℕ) (q : ℕ) (o : Option ℕ) → Contains R.triples (p, b, q, o) → is_short (code_for o) ≡ true
+code_short R few p b q None h = lt-ltb 0 1000000000 (omega arith)
+code_short R few p b q (Some r) h = lt-ltb (r + 1) 1000000000 (few.below b p q r h)
 
-      of_right : (q : ℕ) (rank : Option ℕ) → Contains X (i, q, rank) → (r : Ranked) → Contains row.rights r → r.right ≡ q → Contains (ranked_of_row row) (i, q, rank)
-      of_right q rank h r r_in e =
-          let mine : Contains X (i, q, rank_of r.code) = subst (λ m. Contains X (i, m, rank_of r.code)) e (rights.within r r_in).1 in
-          let ranks : rank_of r.code ≡ rank = once i q (rank_of r.code) rank mine h in
-          subst (λ o. Contains (ranked_of_row row) (i, q, o)) ranks
-          (subst (λ m. Contains (ranked_of_row row) (i, m, rank_of r.code)) e
-          (subst (λ m. Contains (ranked_of_row row) (in_pair m r)) left (in_map (in_pair row.left) row.rights r r_in)))
+-- ---- the triples of a row
 
-      from : (p q : ℕ) (rank : Option ℕ) → p < i + 1 → Contains X (p, q, rank) → Contains (flat_map ranked_of_row rows ++ ranked_of_row row) (p, q, rank)
-      from p q rank lt h = elim (cases_eq p i) [
-        | inl e ↦
-            let here : Contains X (i, q, rank) = subst (λ m. Contains X (m, q, rank)) e h in
-            let (r, r_in, is) = rights.has q rank (range i q (rank, here)).1 here in
-            Contains-append_right (flat_map ranked_of_row rows) (ranked_of_row row) (p, q, rank)
-            (subst (λ m. Contains (ranked_of_row row) (m, q, rank)) (sym e) (of_right q rank here r r_in is))
-        | inr other ↦ Contains-append_left (flat_map ranked_of_row rows) (ranked_of_row row) (p, q, rank) (are.has p q rank (omega arith) h)
-      ]
+-- The triple of a left state and letters with a right state and the code of its rank.
+abbrev pub in_triple : ℕ → List ℕ → Ranked → Triple
+in_triple left ahead r = (left, ahead, r.right, rank_of r.code)
 
-  pub rank_rows_same : (rights : List Ranked) → ((p q : ℕ) → HoldsPair X p q → (p < n) × (q < n)) → AreRankRows X i rows → AreRankedRights X i n rights → length rights ≡ 0 → AreRankRows X (i + 1) rows
-  rank_rows_same rights range are found none = record {
-    formed = are.formed;
-    within = λ p q rank h. let old = are.within p q rank h in let lt = old.0 in (omega arith, old.1);
-    has = λ p q rank lt h. elim (cases_eq p i) [
-      | inl e ↦ absurd (lacks q rank (subst (λ m. Contains X (m, q, rank)) e h))
-      | inr other ↦ are.has p q rank (omega arith) h
-    ];
-    below = λ row has. let lt = are.below row has in omega arith;
-    few = let few = are.few in omega arith;
-  }
-    where
-      lacks : (q : ℕ) (rank : Option ℕ) → Contains X (i, q, rank) → ⊥
-      lacks q rank h = let (r, (k, k_in, e), is) = found.has q rank (range i q (rank, h)).1 h in omega arith
+triples_back : (left : ℕ) (ahead : List ℕ) (zs : List Triple) → ((z : Triple) → Contains zs z → row_key z ≡ left ∷ ahead) → map (in_triple left ahead) (map ranked_of zs) ≡ zs
+triples_back left ahead [] keys = refl
+triples_back left ahead (z ∷ zs) keys =
+    let key = keys z (Contains-here z z zs refl) in
+    let p = first_one z.0 left z.1 ahead key in
+    let b = rest_one z.0 left z.1 ahead key in
+    let rank = code_back z.3 in
+    let rest = triples_back left ahead zs (λ y there. keys y (Contains-later z y zs there)) in
+    λ i. (sym p i, sym b i, z.2, rank i) ∷ rest i
 
--- Pairs in order, and then such behind them.
-order_join : (xs ys : RankedPairs) → AreRankedInOrder xs → AreRankedInOrder ys → ((x y : ℕ × ℕ × Option ℕ) → Contains xs x → Contains ys y → IsPairBefore (x.0, x.1) (y.0, y.1)) → AreRankedInOrder (xs ++ ys)
-order_join [] ys a b between = b
-order_join (x ∷ xs) ys (first, rest) b between = (
-  λ y h. elim (Contains-append_cases xs ys y h) [
-    | inl near ↦ first y near
-    | inr far ↦ between x y (Contains-here x x xs refl) far
-  ],
-  order_join xs ys rest b (λ u v in_xs in_ys. between u v (Contains-later x u xs in_xs) in_ys),
-)
-
--- The pairs of rows are in order.
-rank_row_ascends : (left bound : ℕ) (rights : List Ranked) → ascend_from bound (rights_of rights) ≡ true → AreRankedInOrder (map (in_pair left) rights)
-rank_row_ascends left bound [] h = tt
-rank_row_ascends left bound (r ∷ rights) h =
-    let parts = and_parts (nat_le bound r.right) (ascend_from (r.right + 1) (rights_of rights)) h in (
-      λ y has.
-          let (s, s_in, e) = map_has (in_pair left) rights y has in
-          let above = ascend_above (r.right + 1) (rights_of rights) parts.1 s.right (in_map (λ (t : Ranked). t.right) rights s s_in) in
-          let first : left ≡ y.0 = ap (λ (z : ℕ × ℕ × Option ℕ). z.0) e in
-          let second : s.right ≡ y.1 = ap (λ (z : ℕ × ℕ × Option ℕ). z.1) e in
-          inr (first, omega arith),
-      rank_row_ascends left (r.right + 1) rights parts.1,
+-- Where a triple among those from `at` on stands.
+taken_at : (X : List Triple) (at n : ℕ) → at + n ≤ length X → (z : Triple) → Contains (take n (drop at X)) z → (i : ℕ) × (at ≤ i) × (i < at + n) × (triple_at X i ≡ z)
+taken_at X at n within z (k, lt, e) =
+    let left = length-drop at X in
+    let len = length-take-le n (drop at X) (omega arith) in
+    let k_in : k < n = omega arith in (
+      at + k,
+      omega arith,
+      omega arith,
+      get_or_default X (at + k) (0, [], 0, None) z (omega arith) ∙ sym (get_or-drop at X k z) ∙ sym (get_or-take n (drop at X) k z k_in) ∙ e,
     )
 
-left_of : (row : RankRow) (z : ℕ × ℕ × Option ℕ) → Contains (ranked_of_row row) z → z.0 ≡ row.left
-left_of row z has = let (r, r_in, e) = in_rank_row row z has in sym (ap (λ (z : ℕ × ℕ × Option ℕ). z.0) e)
+all_ranked : (R : Ranking) → IsRanking R → HasFewTriples R → (zs : List Triple) → ((z : Triple) → Contains zs z → Contains R.triples z) → list_all is_ranked (map ranked_of zs) ≡ true
+all_ranked R valid few [] each = refl
+all_ranked R valid few (z ∷ zs) each =
+    let here = each z (Contains-here z z zs refl) in
+    let range = valid.in_range z.1 z.0 z.2 (z.3, here) in
+    let right = range.2 in
+    let states = few.states in
+    and_from (is_ranked (ranked_of z)) (list_all is_ranked (map ranked_of zs))
+    (and_from (is_short z.2) (is_short (code_for z.3)) (lt-ltb z.2 1000000000 (omega arith)) (code_short R few z.0 z.1 z.2 z.3 here))
+    (all_ranked R valid few zs (λ y there. each y (Contains-later z y zs there)))
 
-rank_rows_above : (bound : ℕ) (rows : List RankRow) → are_rank_rows bound rows ≡ true → (x : ℕ × ℕ × Option ℕ) → Contains (flat_map ranked_of_row rows) x → bound ≤ x.0
-rank_rows_above bound [] h x has = absurd (none_in_nil x has)
-rank_rows_above bound (row ∷ rows) h x has =
-    let parts = and_parts (is_rank_row bound row) (are_rank_rows (row.left + 1) rows) h in
-    let low = (rank_row_parts bound row parts.0).low in
-    elim (Contains-append_cases (ranked_of_row row) (flat_map ranked_of_row rows) x has) [
-      | inl here ↦ let e = left_of row x here in omega arith
-      | inr later ↦ let more = rank_rows_above (row.left + 1) rows parts.1 x later in omega arith
-    ]
+rights_ascend : (bound : ℕ) (key : List ℕ) (zs : List Triple) → Rises IsTripleBefore zs → ((z : Triple) → Contains zs z → (row_key z ≡ key) × (bound ≤ z.2)) → ascend_from bound (rights_of (map ranked_of zs)) ≡ true
+rights_ascend bound key [] order each = refl
+rights_ascend bound key (z ∷ zs) order each =
+    let here = each z (Contains-here z z zs refl) in
+    and_from (nat_le bound z.2) (ascend_from (z.2 + 1) (rights_of (map ranked_of zs))) (le-leb bound z.2 here.1)
+    (rights_ascend (z.2 + 1) key zs order.1 (λ y there.
+    let later = each y (Contains-later z y zs there) in
+    let lt = before_right z y (here.0 ∙ sym later.0) (order.0 y there) in
+    (later.0, omega arith)))
 
-rank_rows_ascend : (bound : ℕ) (rows : List RankRow) → are_rank_rows bound rows ≡ true → AreRankedInOrder (flat_map ranked_of_row rows)
-rank_rows_ascend bound [] h = tt
-rank_rows_ascend bound (row ∷ rows) h =
-    let parts = and_parts (is_rank_row bound row) (are_rank_rows (row.left + 1) rows) h in
-    order_join (ranked_of_row row) (flat_map ranked_of_row rows) (rank_row_ascends row.left 0 row.rights (rank_row_parts bound row parts.0).ascending) (rank_rows_ascend (row.left + 1) rows parts.1)
-    (λ x y x_in y_in.
-    let e = left_of row x x_in in
-    let more = rank_rows_above (row.left + 1) rows parts.1 y y_in in
-    inl (omega arith))
+-- ---- one row
 
--- Two lists in order with the same members are one.
-abbrev Before : ℕ × ℕ × Option ℕ → ℕ × ℕ × Option ℕ → Type 0
-Before x y = IsPairBefore (x.0, x.1) (y.0, y.1)
+module _ (R : Ranking) (valid : IsRanking R) (few : HasFewTriples R) (at end : ℕ) (some : at < end) (within : end ≤ length R.triples) where
+  abbrev X : List Triple
+  X = R.triples
 
-rises : (xs : RankedPairs) → AreRankedInOrder xs → Rises Before xs
-rises [] h = tt
-rises (x ∷ xs) h = (h.0, rises xs h.1)
+  abbrev taken : List Triple
+  taken = take (end - at) (drop at X)
 
-not_both : (x y : ℕ × ℕ × Option ℕ) → Before x y → Before y x → ⊥
-not_both x y h g = omega arith
+  all_taken : (z : Triple) → Contains taken z → (i : ℕ) × (at ≤ i) × (i < end) × (triple_at X i ≡ z)
+  all_taken z there =
+      let (i, from, to, is) = taken_at X at (end - at) (omega arith) z there in
+      (i, from, omega arith, is)
+
+  held : (z : Triple) → Contains taken z → Contains X z
+  held z there =
+      let (i, from, to, is) = all_taken z there in
+      subst (Contains X) is (Contains-get_or X i (0, [], 0, None) (omega arith))
+
+  pub row_made :
+      ((i : ℕ) → at ≤ i → i < end → row_key (triple_at X i) ≡ row_key (triple_at X at))
+      → (left : ℕ) (ahead : List ℕ) (rights : List Ranked)
+      → left ≡ (triple_at X at).0
+      → ahead ≡ (triple_at X at).1
+      → rights ≡ map ranked_of taken
+      → IsRankRowOf R at end (record { left = left; ahead = ahead; rights = rights })
+  row_made same left ahead rights left_is ahead_is rights_are = record {
+    triples = ap (map (in_triple left ahead)) rights_are ∙ triples_back left ahead taken keys;
+    key = own;
+    formed = λ key less.
+        and_from (is_short left) ((are_short ahead && (length ahead == R.letters - 1)) && (list_all is_ranked rights && (has_some rights && (ascend (rights_of rights) && is_less key (left ∷ ahead)))))
+        (lt-ltb left 1000000000 left_low)
+        (and_from (are_short ahead && (length ahead == R.letters - 1)) (list_all is_ranked rights && (has_some rights && (ascend (rights_of rights) && is_less key (left ∷ ahead))))
+        (and_from (are_short ahead) (length ahead == R.letters - 1) letters_short (eq-eqb (length ahead) (R.letters - 1) ahead_len))
+        (and_from (list_all is_ranked rights) (has_some rights && (ascend (rights_of rights) && is_less key (left ∷ ahead)))
+        (ap (list_all is_ranked) rights_are ∙ all_ranked R valid few taken held)
+        (and_from (has_some rights) (ascend (rights_of rights) && is_less key (left ∷ ahead)) (lt-ltb 0 (length rights) (omega (arith, rights_len, some)))
+        (and_from (ascend (rights_of rights)) (is_less key (left ∷ ahead))
+        (ap (λ l. ascend (rights_of l)) rights_are ∙ rights_ascend 0 (left ∷ ahead) taken order (λ z there. (keys z there, omega arith))) less))));
+  }
+    where
+      own : left ∷ ahead ≡ row_key (triple_at X at)
+      own = λ i. left_is i ∷ ahead_is i
+
+      keys : (z : Triple) → Contains taken z → row_key z ≡ left ∷ ahead
+      keys z there = let (i, from, to, is) = all_taken z there in ap row_key (sym is) ∙ same i from to ∙ sym own
+
+      order : Rises IsTripleBefore taken
+      order = rises_taken (end - at) (drop at X) (rises_dropped at X (rises_from_pairs IsTripleBefore X valid.in_order))
+
+      here : Contains X (triple_at X at)
+      here = Contains-get_or X at (0, [], 0, None) (omega arith)
+
+      range : AreAnnounced R.labels R.letters (triple_at X at).1 × ((triple_at X at).0 < R.size) × ((triple_at X at).2 < R.size)
+      range = valid.in_range (triple_at X at).1 (triple_at X at).0 (triple_at X at).2 ((triple_at X at).3, here)
+
+      left_low : left < 1000000000
+      left_low = let lt = range.1 in let states = few.states in omega (arith, left_is)
+
+      ahead_len : length ahead ≡ R.letters - 1
+      ahead_len = let len : suc (length (triple_at X at).1) ≡ R.letters = range.0.0 in let same = ap length ahead_is in omega arith
+
+      letters_short : are_short ahead ≡ true
+      letters_short = all_short ahead (λ a a_in.
+          let lt : a < R.labels = All-contains (λ a. a < R.labels) (triple_at X at).1 a range.0.1 (subst (λ l. Contains l a) ahead_is a_in) in
+          let labels = few.labels in
+          omega arith)
+
+      rights_len : length rights ≡ end - at
+      rights_len =
+          let left = length-drop at X in
+          ap length rights_are ∙ length-map taken ranked_of ∙ length-take-le (end - at) (drop at X) (omega arith)
+
+-- One more of the right states of a row.
+pub rights_on :
+    (X : List Triple) (at i : ℕ) (rights : List Ranked) (right code : ℕ)
+    → at + i < length X
+    → right ≡ (triple_at X (at + i)).2
+    → code ≡ code_for (triple_at X (at + i)).3
+    → rights ≡ map ranked_of (take i (drop at X))
+    → rights ++ record { right = right; code = code } ∷ [] ≡ map ranked_of (take (i + 1) (drop at X))
+rights_on X at i rights right code lt right_is code_is are =
+    let left = length-drop at X in
+    let next : take (i + 1) (drop at X) ≡ take i (drop at X) ++ triple_at X (at + i) ∷ [] =
+    take_more (drop at X) i (0, [], 0, None) (omega arith) ∙ ap (λ x. take i (drop at X) ++ x ∷ []) (get_or-drop at X i (0, [], 0, None)) in
+    let new : ◌≡◌ {A = Ranked} (record { right = right; code = code }) (ranked_of (triple_at X (at + i))) = λ k. record { right = right_is k; code = code_is k } in
+    (λ k. are k ++ new k ∷ []) ∙ sym (map_behind ranked_of (take i (drop at X)) (triple_at X (at + i))) ∙ ap (map ranked_of) (sym next)
+
+-- What a row has: some right states, and a left state and letters past the key.
+pub some_ranked : (letters : ℕ) (key : List ℕ) (row : RankRow) → is_rank_row letters key row ≡ true → (0 < length row.rights) × (is_less key (rank_key row) ≡ true)
+some_ranked letters key row is =
+    let a = and_parts (is_short row.left) ((are_short row.ahead && (length row.ahead == letters - 1)) && (list_all is_ranked row.rights && (has_some row.rights && (ascend (rights_of row.rights) && is_less key (rank_key row))))) is in
+    let b = and_parts (are_short row.ahead && (length row.ahead == letters - 1)) (list_all is_ranked row.rights && (has_some row.rights && (ascend (rights_of row.rights) && is_less key (rank_key row)))) a.1 in
+    let c = and_parts (list_all is_ranked row.rights) (has_some row.rights && (ascend (rights_of row.rights) && is_less key (rank_key row))) b.1 in
+    let d = and_parts (has_some row.rights) (ascend (rights_of row.rights) && is_less key (rank_key row)) c.1 in
+    (ltb-true 0 (length row.rights) d.0, (and_parts (ascend (rights_of row.rights)) (is_less key (rank_key row)) d.1).1)
+
+-- ---- rows one after another
+
+behind : (letters : ℕ) (key : List ℕ) (rows : List RankRow) (row : RankRow) → are_rank_rows letters key rows ≡ true → is_rank_row letters (last_key key rows) row ≡ true → are_rank_rows letters key (rows ++ row ∷ []) ≡ true
+behind letters key [] row h is = and_from (is_rank_row letters key row) true is refl
+behind letters key (first ∷ rows) row h is =
+    let parts = and_parts (is_rank_row letters key first) (are_rank_rows letters (rank_key first) rows) h in
+    and_from (is_rank_row letters key first) (are_rank_rows letters (rank_key first) (rows ++ row ∷ [])) parts.0 (behind letters (rank_key first) rows row parts.1 is)
+
+last_behind : (key : List ℕ) (rows : List RankRow) (row : RankRow) → last_key key (rows ++ row ∷ []) ≡ rank_key row
+last_behind key [] row = refl
+last_behind key (first ∷ rows) row = last_behind (rank_key first) rows row
+
+pub rank_rows_none : (R : Ranking) → AreRankRows R 0 []
+rank_rows_none R = record { within = omega arith; formed = refl; triples = refl; few = omega arith; next = λ lt. refl }
+
+pub rank_rows_more :
+    (R : Ranking) (at end : ℕ) (rows : List RankRow) (row : RankRow)
+    → AreRankRows R at rows
+    → at < end
+    → end ≤ length R.triples
+    → IsRankRowOf R at end row
+    → (end < length R.triples → slice_cmp nat_cmp (row_key (triple_at R.triples at)) (row_key (triple_at R.triples end)) ≡ Less)
+    → AreRankRows R end (rows ++ row ∷ [])
+rank_rows_more R at end rows row are some within is onward = record {
+  within = within;
+  formed = behind R.letters [] rows row are.formed (is.formed (last_key [] rows) (subst (λ k. is_less (last_key [] rows) k ≡ true) (sym is.key) (are.next (omega arith))));
+  triples =
+      flat_map-append triples_of_row rows (row ∷ [])
+      ∙ (λ i. are.triples i ++ append-nil (triples_of_row row) i)
+      ∙ ap (λ l. take at R.triples ++ l) is.triples
+      ∙ sym (take-add at (end - at) R.triples)
+      ∙ ap (λ n. take n R.triples) all;
+  few = let size = length-append rows (row ∷ []) in let few = are.few in omega arith;
+  next = λ lt. ap (λ k. is_less k (row_key (triple_at R.triples end))) (last_behind [] rows row ∙ is.key) ∙ ap is_lt (onward lt);
+}
+  where
+    all : at + (end - at) ≡ end
+    all = omega arith
 
 -- All rows are the block of the relation.
-pub rank_rows_are_block : (R : Ranking) (rows : List RankRow) → R.size ≤ 512 → IsRanking R → AreRankRows R.pairs R.size rows → IsRankBlockOf R.pairs (record { rows = rows })
-rank_rows_are_block R rows small valid are = record {
-  formed = and_from (is_short (length rows)) (are_rank_rows 0 rows) (lt-ltb (length rows) 1000000000 (let few = are.few in omega arith)) are.formed;
-  pairs = same_members Before not_both (flat_map ranked_of_row rows) R.pairs (rises (flat_map ranked_of_row rows) (rank_rows_ascend 0 rows are.formed)) (rises R.pairs valid.in_order)
-      (λ z has. (are.within z.0 z.1 z.2 has).1)
-      (λ z has. are.has z.0 z.1 z.2 (valid.in_range z.0 z.1 (z.2, has)).0 has);
+pub rank_rows_are_block : (R : Ranking) (at : ℕ) (rows : List RankRow) → HasFewTriples R → AreRankRows R at rows → length R.triples ≤ at → IsRankBlockOf R.letters R.triples (record { rows = rows })
+rank_rows_are_block R at rows few are past = record {
+  formed = and_from (is_short (length rows)) (are_rank_rows R.letters [] rows) (lt-ltb (length rows) 1000000000 (let size = are.few in let within = are.within in let count = few.count in omega arith)) are.formed;
+  triples = are.triples ∙ take_all at R.triples past;
 }
-
-pub some_ranked_from_test : (rights : List Ranked) → (length rights == 0) ≡ false → 0 < length rights
-some_ranked_from_test [] e = absurd (false≢true (sym e))
-some_ranked_from_test (r ∷ rights) e = omega arith

@@ -1,7 +1,7 @@
 -- The rows of a relation as they are made, and what they list.
-use Rattle.std.proofs.Common.{◌≡◌, ℕ, ◌+◌, ◌<◌, ◌≤◌, ◌&&◌, ◌==◌, true, false, List, [], ◌∷◌, ◌++◌, length, map, Contains, refl, sym, ap, ◌∙◌, subst, inl, inr, arith, length-append}
+use Rattle.std.proofs.Common.{◌≡◌, ℕ, suc, ◌+◌, ◌-◌, ◌<◌, ◌≤◌, ◌&&◌, ◌==◌, true, false, List, [], ◌∷◌, ◌++◌, length, map, Contains, refl, sym, ap, ◌∙◌, subst, inl, inr, arith, length-append}
 use Rattle.std.specs.Prelude.{nat_le, nat_lt}
-use Rattle.std.specs.List.{list_all, flat_map}
+use Rattle.std.specs.List.{list_all, flat_map, range_with_len}
 use Rattle.std.proofs.lemmas.Bool.{false≢true, cases_eq, and_parts, and_from, leb-true, le-leb, lt-ltb}
 use Rattle.std.proofs.lemmas.List.{append-nil}
 use Rattle.std.proofs.lemmas.List.Concat.{flat_map-append}
@@ -12,7 +12,11 @@ use Rattle.search_laws.proofs.ListLemmas.{in_map, map_has}
 use Rattle.bit_rel.specs.Relation.{IsPairBefore, ArePairsAscending}
 use Rattle.bit_rel.proofs.PairLemmas.{same_pairs}
 use Rattle.cert_value.specs.declared.types.Row.{Row}
-use Rattle.cert_value.specs.WellFormed.{is_short, are_short, has_some, ascend, ascend_from, is_row, are_rows}
+use Rattle.cert_value.specs.declared.types.Run.{Run}
+use Rattle.cert_value.specs.Text.{run_numbers, numbers_of}
+use Rattle.cert_value.specs.WellFormed.{is_short, has_some, ascend, ascend_from, is_run, runs_ascend, runs_ascend_from, is_row, are_rows}
+use Rattle.cert_text.specs.Lines.{run, joined_runs}
+use Rattle.cert_text.proofs.RunFacts.{joined_there, joined_back, joined_ascend, joined_short, onto_some}
 use Rattle.log_check.specs.Blocks.{pairs_of_row}
 use Rattle.decide.specs.Written.{IsBlockOf}
 use Rattle.decide.specs.Rows.{AreRights, AreRows}
@@ -80,27 +84,40 @@ rights_same S left i rights are lacks = record {
       | inr other ↦ omega arith
     ]
 
--- What a row of a certificate has.
+-- Runs that ascend stand for numbers that do.
+runs_ascending : (runs : List Run) → runs_ascend runs ≡ true → ascend (numbers_of runs) ≡ true
+runs_ascending runs h = joined_ascend 0 (numbers_of runs) ∙ ap runs_ascend (joined_back 0 runs h) ∙ h
+
+-- The runs of a row that has some, and what a row of a certificate has.
+some_number : (runs : List Run) → has_some runs ≡ true → runs_ascend runs ≡ true → (q : ℕ) × Contains (numbers_of runs) q
+some_number [] some h = absurd (false≢true some)
+some_number (run ∷ runs) some h =
+    let a = and_parts (nat_le 0 run.first) (nat_le run.first run.last && runs_ascend_from (run.last + 2) runs) h in
+    let b = and_parts (nat_le run.first run.last) (runs_ascend_from (run.last + 2) runs) a.1 in
+    let le = leb-true run.first run.last b.0 in
+    let more : run.last + 1 - run.first ≡ suc (run.last - run.first) = omega arith in (
+      run.first,
+      Contains-append_left (run_numbers run) (numbers_of runs) run.first
+          (subst (λ n. Contains (range_with_len run.first n) run.first) (sym more) (Contains-here run.first run.first (range_with_len (run.first + 1) (run.last - run.first)) refl)),
+    )
+
 pub record RowParts (bound : ℕ) (row : Row) : Type 0 where
-  pub short : are_short row.rights ≡ true
-  pub some : has_some row.rights ≡ true
-  pub ascending : ascend row.rights ≡ true
+  pub short : list_all is_run row.runs ≡ true
+  pub some : has_some row.runs ≡ true
+  pub apart : runs_ascend row.runs ≡ true
+  pub ascending : ascend (numbers_of row.runs) ≡ true
   pub low : bound ≤ row.left
   pub a_right : ℕ
-  pub has_right : Contains row.rights a_right
+  pub has_right : Contains (numbers_of row.runs) a_right
 
 pub row_parts : (bound : ℕ) (row : Row) → is_row bound row ≡ true → RowParts bound row
 row_parts bound row is =
-    let a = and_parts (is_short row.left) (are_short row.rights && (has_some row.rights && (ascend row.rights && nat_le bound row.left))) is in
-    let b = and_parts (are_short row.rights) (has_some row.rights && (ascend row.rights && nat_le bound row.left)) a.1 in
-    let c = and_parts (has_some row.rights) (ascend row.rights && nat_le bound row.left) b.1 in
-    let d = and_parts (ascend row.rights) (nat_le bound row.left) c.1 in
-    let (q, has) = first row.rights c.0 in
-    record { short = b.0; some = c.0; ascending = d.0; low = leb-true bound row.left d.1; a_right = q; has_right = has }
-  where
-    first : (ns : List ℕ) → has_some ns ≡ true → (q : ℕ) × Contains ns q
-    first [] h = absurd (false≢true h)
-    first (q ∷ qs) h = (q, Contains-here q q qs refl)
+    let a = and_parts (is_short row.left) (list_all is_run row.runs && (has_some row.runs && (runs_ascend row.runs && nat_le bound row.left))) is in
+    let b = and_parts (list_all is_run row.runs) (has_some row.runs && (runs_ascend row.runs && nat_le bound row.left)) a.1 in
+    let c = and_parts (has_some row.runs) (runs_ascend row.runs && nat_le bound row.left) b.1 in
+    let d = and_parts (runs_ascend row.runs) (nat_le bound row.left) c.1 in
+    let (q, has) = some_number row.runs c.0 d.0 in
+    record { short = b.0; some = c.0; apart = d.0; ascending = runs_ascending row.runs d.0; low = leb-true bound row.left d.1; a_right = q; has_right = has }
 
 -- Rows one after another.
 row_behind : (bound : ℕ) (rows : List Row) (row : Row) → are_rows bound rows ≡ true → bound ≤ row.left → ((other : Row) → Contains rows other → other.left < row.left) → is_row 0 row ≡ true →
@@ -109,12 +126,12 @@ row_behind bound [] row h low below is = and_from (is_row bound row) true (raise
   where
     raised : (row : Row) → is_row 0 row ≡ true → bound ≤ row.left → is_row bound row ≡ true
     raised row is low =
-        let a = and_parts (is_short row.left) (are_short row.rights && (has_some row.rights && (ascend row.rights && nat_le 0 row.left))) is in
+        let a = and_parts (is_short row.left) (list_all is_run row.runs && (has_some row.runs && (runs_ascend row.runs && nat_le 0 row.left))) is in
         let p = row_parts 0 row is in
-        and_from (is_short row.left) (are_short row.rights && (has_some row.rights && (ascend row.rights && nat_le bound row.left))) a.0
-        (and_from (are_short row.rights) (has_some row.rights && (ascend row.rights && nat_le bound row.left)) p.short
-        (and_from (has_some row.rights) (ascend row.rights && nat_le bound row.left) p.some
-        (and_from (ascend row.rights) (nat_le bound row.left) p.ascending (le-leb bound row.left low))))
+        and_from (is_short row.left) (list_all is_run row.runs && (has_some row.runs && (runs_ascend row.runs && nat_le bound row.left))) a.0
+        (and_from (list_all is_run row.runs) (has_some row.runs && (runs_ascend row.runs && nat_le bound row.left)) p.short
+        (and_from (has_some row.runs) (runs_ascend row.runs && nat_le bound row.left) p.some
+        (and_from (runs_ascend row.runs) (nat_le bound row.left) p.apart (le-leb bound row.left low))))
 row_behind bound (first ∷ rows) row h low below is =
     let parts = and_parts (is_row bound first) (are_rows (first.left + 1) rows) h in
     let less = below first (Contains-here first first rows refl) in
@@ -122,15 +139,15 @@ row_behind bound (first ∷ rows) row h low below is =
     (row_behind (first.left + 1) rows row parts.1 (omega arith) (λ other has. below other (Contains-later first other rows has)) is)
 
 -- The pairs of a row.
-pub in_row : (row : Row) (p q : ℕ) → Contains (pairs_of_row row) (p, q) → (p ≡ row.left) × Contains row.rights q
+pub in_row : (row : Row) (p q : ℕ) → Contains (pairs_of_row row) (p, q) → (p ≡ row.left) × Contains (numbers_of row.runs) q
 in_row row p q has =
-    let (r, r_in, e) = map_has (λ r. (row.left, r)) row.rights (p, q) has in
+    let (r, r_in, e) = map_has (λ r. (row.left, r)) (numbers_of row.runs) (p, q) has in
     let left : row.left ≡ p = ap (λ (z : ℕ × ℕ). z.0) e in
     let right : r ≡ q = ap (λ (z : ℕ × ℕ). z.1) e in
-    (sym left, subst (Contains row.rights) right r_in)
+    (sym left, subst (Contains (numbers_of row.runs)) right r_in)
 
-pub of_row : (row : Row) (p q : ℕ) → p ≡ row.left → Contains row.rights q → Contains (pairs_of_row row) (p, q)
-of_row row p q e has = subst (λ m. Contains (pairs_of_row row) (m, q)) (sym e) (in_map (λ r. (row.left, r)) row.rights q has)
+pub of_row : (row : Row) (p q : ℕ) → p ≡ row.left → Contains (numbers_of row.runs) q → Contains (pairs_of_row row) (p, q)
+of_row row p q e has = subst (λ m. Contains (pairs_of_row row) (m, q)) (sym e) (in_map (λ r. (row.left, r)) (numbers_of row.runs) q has)
 
 pub rows_none : (S : List (ℕ × ℕ)) → AreRows S 0 []
 rows_none S = record {
@@ -140,9 +157,18 @@ rows_none S = record {
   few = omega arith;
 }
 
-pub rows_more : (S : List (ℕ × ℕ)) (n i : ℕ) (rows : List Row) (row : Row) → n ≤ 512 → i < n → ArePairsBelow n n S → AreRows S i rows → row.left ≡ i → AreRights S i n row.rights → 0 < length row.rights →
-    AreRows S (i + 1) (rows ++ row ∷ [])
-rows_more S n i rows row small within range are left rights some = record {
+pub rows_more :
+    (S : List (ℕ × ℕ)) (n i : ℕ) (rows : List Row) (row : Row) (found : List ℕ)
+    → n ≤ 2048
+    → i < n
+    → ArePairsBelow n n S
+    → AreRows S i rows
+    → row.left ≡ i
+    → row.runs ≡ joined_runs found
+    → AreRights S i n found
+    → 0 < length found
+    → AreRows S (i + 1) (rows ++ row ∷ [])
+rows_more S n i rows row found small within range are left runs rights some = record {
   formed = row_behind 0 rows row are.formed (omega arith) (λ other has. let lt = are.below other has in omega arith) is;
   has = λ p q. (to p q, λ h. from p q h.0 h.1);
   below = λ other has. elim (Contains-append_cases rows (row ∷ []) other has) [
@@ -155,13 +181,31 @@ rows_more S n i rows row small within range are left rights some = record {
   few = let size = length-append rows (row ∷ []) in let few = are.few in omega arith;
 }
   where
+    numbers : numbers_of row.runs ≡ found
+    numbers = ap numbers_of runs ∙ joined_there found
+
+    short : list_all is_run row.runs ≡ true
+    short = ap (list_all is_run) runs ∙ joined_short found (all_short found (λ q has. let lt = (range i q ((rights.has q).0 has).1).1 in omega arith))
+
+    some_run : (found : List ℕ) → 0 < length found → has_some (joined_runs found) ≡ true
+    some_run [] lt = absurd (omega arith)
+    some_run (q ∷ found) lt = onto_some (run q q) (joined_runs found)
+
+    apart : runs_ascend row.runs ≡ true
+    apart = ap runs_ascend runs ∙ sym (joined_ascend 0 found) ∙ rights.ascending
+
     is : is_row 0 row ≡ true
     is =
-        and_from (is_short row.left) (are_short row.rights && (has_some row.rights && (ascend row.rights && nat_le 0 row.left))) (lt-ltb row.left 1000000000 (omega arith))
-        (and_from (are_short row.rights) (has_some row.rights && (ascend row.rights && nat_le 0 row.left))
-        (all_short row.rights (λ q has. let lt = (range i q ((rights.has q).0 has).1).1 in omega arith))
-        (and_from (has_some row.rights) (ascend row.rights && nat_le 0 row.left) (lt-ltb 0 (length row.rights) some)
-        (and_from (ascend row.rights) (nat_le 0 row.left) rights.ascending (le-leb 0 row.left (omega arith)))))
+        and_from (is_short row.left) (list_all is_run row.runs && (has_some row.runs && (runs_ascend row.runs && nat_le 0 row.left))) (lt-ltb row.left 1000000000 (omega arith))
+        (and_from (list_all is_run row.runs) (has_some row.runs && (runs_ascend row.runs && nat_le 0 row.left)) short
+        (and_from (has_some row.runs) (runs_ascend row.runs && nat_le 0 row.left) (ap has_some runs ∙ some_run found some)
+        (and_from (runs_ascend row.runs) (nat_le 0 row.left) apart (le-leb 0 row.left (omega arith)))))
+
+    in_found : (q : ℕ) → Contains (numbers_of row.runs) q → Contains found q
+    in_found q h = subst (λ l. Contains l q) numbers h
+
+    of_found : (q : ℕ) → Contains found q → Contains (numbers_of row.runs) q
+    of_found q h = subst (λ l. Contains l q) (sym numbers) h
 
     joined : flat_map pairs_of_row (rows ++ row ∷ []) ≡ flat_map pairs_of_row rows ++ pairs_of_row row
     joined = flat_map-append pairs_of_row rows (row ∷ []) ∙ ap (λ l. flat_map pairs_of_row rows ++ l) (append-nil (pairs_of_row row))
@@ -172,14 +216,14 @@ rows_more S n i rows row small within range are left rights some = record {
       | inr new ↦
           let at = in_row row p q new in
           let e : p ≡ i = at.0 ∙ left in
-          (omega arith, subst (λ m. Holds S m q) (sym e) ((rights.has q).0 at.1).1)
+          (omega arith, subst (λ m. Holds S m q) (sym e) ((rights.has q).0 (in_found q at.1)).1)
     ]
 
     from : (p q : ℕ) → p < i + 1 → Holds S p q → Holds (flat_map pairs_of_row (rows ++ row ∷ [])) p q
     from p q lt related = subst (λ l. Contains l (p, q)) (sym joined) (elim (cases_eq p i) [
       | inl e ↦
           let here : Holds S i q = subst (λ m. Holds S m q) e related in
-          Contains-append_right (flat_map pairs_of_row rows) (pairs_of_row row) (p, q) (of_row row p q (e ∙ sym left) ((rights.has q).1 ((range i q here).1, here)))
+          Contains-append_right (flat_map pairs_of_row rows) (pairs_of_row row) (p, q) (of_row row p q (e ∙ sym left) (of_found q ((rights.has q).1 ((range i q here).1, here))))
       | inr other ↦ Contains-append_left (flat_map pairs_of_row rows) (pairs_of_row row) (p, q) ((are.has p q).1 (omega arith, related))
     ])
 
@@ -239,14 +283,14 @@ rows_ascend : (bound : ℕ) (rows : List Row) → are_rows bound rows ≡ true �
 rows_ascend bound [] h = tt
 rows_ascend bound (row ∷ rows) h =
     let parts = and_parts (is_row bound row) (are_rows (row.left + 1) rows) h in
-    ascending_join (pairs_of_row row) (flat_map pairs_of_row rows) (row_ascends row.left 0 row.rights (row_parts bound row parts.0).ascending) (rows_ascend (row.left + 1) rows parts.1)
+    ascending_join (pairs_of_row row) (flat_map pairs_of_row rows) (row_ascends row.left 0 (numbers_of row.runs) (row_parts bound row parts.0).ascending) (rows_ascend (row.left + 1) rows parts.1)
     (λ x y x_in y_in.
     let e = (in_row row x.0 x.1 x_in).0 in
     let more = rows_above (row.left + 1) rows parts.1 y y_in in
     inl (omega arith))
 
 -- All rows are the block of the relation.
-pub rows_are_block : (S : List (ℕ × ℕ)) (n : ℕ) (rows : List Row) → n ≤ 512 → ArePairsBelow n n S → ArePairsAscending S → AreRows S n rows → IsBlockOf S (record { rows = rows })
+pub rows_are_block : (S : List (ℕ × ℕ)) (n : ℕ) (rows : List Row) → n ≤ 2048 → ArePairsBelow n n S → ArePairsAscending S → AreRows S n rows → IsBlockOf S (record { rows = rows })
 rows_are_block S n rows small range ascending are = record {
   formed = and_from (is_short (length rows)) (are_rows 0 rows) (lt-ltb (length rows) 1000000000 (let few = are.few in omega arith)) are.formed;
   pairs = same_pairs (flat_map pairs_of_row rows) S (rows_ascend 0 rows are.formed) ascending

@@ -1,5 +1,5 @@
 -- A reduction's log is short, and what is written of it has few digits and stands in order.
-use Rattle.std.proofs.Common.{◌≡◌, ◌==◌, ℕ, zero, suc, ◌+◌, ◌<◌, ◌≤◌, ◌&&◌, inl, inr, Bool, true, Option, List, [], ◌∷◌, length, map, All, Contains, refl, sym, ap, ◌∙◌, subst, arith, length-append}
+use Rattle.std.proofs.Common.{◌≡◌, ◌==◌, ℕ, zero, suc, ◌+◌, ◌<◌, ◌≤◌, ◌&&◌, ◌⊎◌, inl, inr, Bool, true, Option, List, [], ◌∷◌, length, map, All, Contains, refl, sym, ap, ◌∙◌, subst, arith, length-append}
 use Rattle.std.specs.Prelude.{nat_le, nat_lt}
 use Rattle.std.specs.List.{list_all}
 use Rattle.std.specs.List.Sorted.{IsStrictlyIncreasing}
@@ -8,6 +8,7 @@ use Rattle.std.proofs.lemmas.List.{length-map}
 use Rattle.std.proofs.lemmas.List.Elements.{All-contains, All-from_get_or, Contains-append_cases}
 use Rattle.std.proofs.lemmas.List.Kept.{AllPairs-from_increasing}
 use Rattle.auto_core.specs.Automaton.{Automaton, IsAutomaton}
+use Rattle.auto_core.specs.Delayed.{letters_for}
 use Rattle.auto_core.specs.Game.{Close, Holds}
 use Rattle.auto_core.specs.Pruning.{IsCut}
 use Rattle.auto_core.specs.Quotient.{class_of, AreClasses}
@@ -19,13 +20,14 @@ use Rattle.bit_rel.specs.Relation.{Relation}
 use Rattle.prune_pairs.specs.Least.{IsLeastBetter, numbers_of}
 use Rattle.prune_pairs.specs.declared.removing.Gone.{Gone}
 use Rattle.prune_pairs.proofs.OneLaws.{cut_nothing}
+use Rattle.reduce_loop.specs.declared.steps.Foresight.{Foresight}
 use Rattle.reduce_loop.specs.declared.steps.Kind.{Kind}
 use Rattle.reduce_loop.specs.declared.steps.Kind.TheVariants.{Trim, Forward, Backward, Delayed, Prune}
 use Rattle.reduce_loop.specs.declared.steps.Step.{Step}
 use Rattle.reduce_loop.specs.Kinds.{kinds_of, After}
 use Rattle.reduce_loop.specs.Logs.{IsUsefulList, IsCutOf, IsStepEntry, IsLogged, LogThrough, LogPasses, IsLog, pairs_given as relation_pairs}
 use Rattle.reduce_loop.specs.Size.{size_of, IsNoLarger}
-use Rattle.reduce_loop.proofs.DelayedLemmas.{none_in_finite}
+use Rattle.reduce_loop.proofs.DelayedLemmas.{letters_some, letters_within, none_in_finite}
 use Rattle.reduce_loop.proofs.MakingLemmas.{useful_below}
 use Rattle.reduce_loop.proofs.PassLemmas.{log_through, through_valid, through_smaller}
 use Rattle.reduce_loop.proofs.StepLemmas.{after_valid, after_smaller}
@@ -38,7 +40,7 @@ use Rattle.cert_value.specs.declared.types.Grounds.TheVariants as grounds
 use Rattle.cert_value.specs.declared.types.GoneBy.{GoneBy}
 use Rattle.cert_value.specs.declared.types.RelBlock.{RelBlock}
 use Rattle.cert_value.specs.declared.types.RankBlock.{RankBlock}
-use Rattle.cert_value.specs.WellFormed.{is_short, are_short, has_some, ascend, ascend_from, is_block, is_rank_block, gone_of, is_gone, are_gone, are_kept, are_classes, blocks_due, is_first_step, are_grounds, is_second_step}
+use Rattle.cert_value.specs.WellFormed.{is_short, are_short, has_some, ascend, ascend_from, is_block, is_rank_block, gone_of, is_gone, are_gone, are_kept, are_classes, blocks_due, is_first_step, are_letters, are_grounds, is_second_step}
 use Rattle.decide.specs.Written.{given, AreWritten, AreBlocksOf, gone_by, IsFirstWritten, IsSecondWritten, AreFirstWritten, AreSecondWritten}
 use Rattle.decide.proofs.RowLemmas.{all_short}
 use Rattle.decide.proofs.FollowLemmas.{IsPair, pair_listed, listed_better, cut_leads}
@@ -46,15 +48,15 @@ use Rattle.decide.proofs.FollowFirstLemmas.{cut_blocks, gone_numbers}
 
 -- ---- the length of a log
 
-module _ (mode : Mode) (k : ℕ) where
-  through_short : (kinds : List Kind) (A C : Automaton) (log : List Step) → IsAutomaton A → LogThrough A mode k kinds C log → length log + size_of C ≤ size_of A
+module _ (mode : Mode) (sight : Foresight) where
+  through_short : (kinds : List Kind) (A C : Automaton) (log : List Step) → IsAutomaton A → LogThrough A mode sight kinds C log → length log + size_of C ≤ size_of A
   through_short [] A C log valid (same, none) =
       let size = ap size_of same in
       let len = ap length none in
       omega arith
   through_short (kind ∷ kinds) A C log valid (B, now, later, step, logged, rest, is) =
       let whole : length log ≡ length now + length later = ap length is ∙ length-append now later in
-      let more = through_short kinds B C later (after_valid A B mode k kind step) rest in
+      let more = through_short kinds B C later (after_valid A B mode sight kind step) rest in
       elim logged [
         | inl still ↦
             let size = ap size_of still.0 in
@@ -63,11 +65,11 @@ module _ (mode : Mode) (k : ℕ) where
         | inr changed ↦
             let (entry, is_entry, one) = changed.1 in
             let len : length now ≡ 1 = ap length one in
-            let less : size_of B < size_of A = elim (after_smaller A B mode k kind valid step).same_or_less [ inl e ↦ absurd (changed.0 e) | inr lt ↦ lt ] in
+            let less : size_of B < size_of A = elim (after_smaller A B mode sight kind valid step).same_or_less [ inl e ↦ absurd (changed.0 e) | inr lt ↦ lt ] in
             omega arith
       ]
 
-  passes_short : (n : ℕ) (A C : Automaton) (log : List Step) → IsAutomaton A → LogPasses A mode k n C log → length log + size_of C ≤ size_of A
+  passes_short : (n : ℕ) (A C : Automaton) (log : List Step) → IsAutomaton A → LogPasses A mode sight n C log → length log + size_of C ≤ size_of A
   passes_short zero A C log valid (same, last) =
       let size = ap size_of same in
       let more = through_short (kinds_of mode) A A log valid last in
@@ -75,12 +77,12 @@ module _ (mode : Mode) (k : ℕ) where
   passes_short (suc n) A C log valid (B, now, later, through, changed, rest, is) =
       let whole : length log ≡ length now + length later = ap length is ∙ length-append now later in
       let here = through_short (kinds_of mode) A B now valid through in
-      let more = passes_short n B C later (through_valid mode k (kinds_of mode) A B valid (log_through mode k (kinds_of mode) A B now through)) rest in
+      let more = passes_short n B C later (through_valid mode sight (kinds_of mode) A B valid (log_through mode sight (kinds_of mode) A B now through)) rest in
       omega arith
 
 -- Each step of a log makes the automaton smaller, so the log has at most as many as the automaton has parts.
-pub log_is_short : (A B : Automaton) (mode : Mode) (k : ℕ) (log : List Step) → IsAutomaton A → IsLog A mode k B log → length log ≤ size_of A
-log_is_short A B mode k log valid (n, passes) = let all = passes_short mode k n A B log valid passes in omega arith
+pub log_is_short : (A B : Automaton) (mode : Mode) (sight : Foresight) (log : List Step) → IsAutomaton A → IsLog A mode sight B log → length log ≤ size_of A
+log_is_short A B mode sight log valid (n, passes) = let all = passes_short mode sight n A B log valid passes in omega arith
 
 -- What is written has as many steps.
 pub written_length : (S T : Type 0) (W : S → T → Type 0) (ss : List S) (ts : List T) → AreWritten S T W ss ts → length ts ≡ length ss
@@ -109,32 +111,32 @@ few_accepting A valid =
 
 -- So many steps have a count of at most nine digits.
 pub log_length_is_short :
-    (T : Type 0) (W : Step → T → Type 0) (A B : Automaton) (mode : Mode) (k : ℕ) (log : List Step) (steps : List T)
+    (T : Type 0) (W : Step → T → Type 0) (A B : Automaton) (mode : Mode) (sight : Foresight) (log : List Step) (steps : List T)
     → IsAutomaton A
-    → A.states ≤ 512
+    → A.states ≤ 2048
     → length A.transitions ≤ 65536
-    → IsLog A mode k B log
+    → IsLog A mode sight B log
     → AreWritten Step T W log steps
     → is_short (length steps) ≡ true
-log_length_is_short T W A B mode k log steps valid states transitions is written =
+log_length_is_short T W A B mode sight log steps valid states transitions is written =
     let len = written_length Step T W log steps written in
-    let short = log_is_short A B mode k log valid is in
+    let short = log_is_short A B mode sight log valid is in
     let accepting = few_accepting A valid in
     lt-ltb (length steps) 1000000000 (omega arith)
 
 -- ---- where the entries of a log come from
 
 -- The entry tells of a step that changed an automaton, one that came of A by the steps before.
-pub record IsEntryOf (A : Automaton) (mode : Mode) (k : ℕ) (entry : Step) : Type 0 where
+pub record IsEntryOf (A : Automaton) (mode : Mode) (sight : Foresight) (entry : Step) : Type 0 where
   pub at : Automaton
   pub next : Automaton
   pub kind : Kind
   pub valid : IsAutomaton at
   pub no_larger : IsNoLarger A at
   pub listed : Contains (kinds_of mode) kind
-  pub after : After at mode k kind next
+  pub after : After at mode sight kind next
   pub changed : next ≡ at → ⊥
-  pub is : IsStepEntry at mode k kind entry
+  pub is : IsStepEntry at mode sight kind entry
 
 no_larger_itself : (A : Automaton) → IsNoLarger A A
 no_larger_itself A = record { labels = refl; states = omega arith; transitions = omega arith }
@@ -147,8 +149,8 @@ no_larger_on A B C h k =
     let more_transitions = k.transitions in
     record { labels = k.labels ∙ h.labels; states = omega arith; transitions = omega arith }
 
-module _ (mode : Mode) (k : ℕ) (entry : Step) where
-  entry_of_larger : (A B : Automaton) → IsNoLarger A B → IsEntryOf B mode k entry → IsEntryOf A mode k entry
+module _ (mode : Mode) (sight : Foresight) (entry : Step) where
+  entry_of_larger : (A B : Automaton) → IsNoLarger A B → IsEntryOf B mode sight entry → IsEntryOf A mode sight entry
   entry_of_larger A B less e = record {
     at = e.at;
     next = e.next;
@@ -161,7 +163,7 @@ module _ (mode : Mode) (k : ℕ) (entry : Step) where
     is = e.is;
   }
 
-  entry_logged : (A B : Automaton) (kind : Kind) (log : List Step) → IsAutomaton A → Contains (kinds_of mode) kind → After A mode k kind B → IsLogged A mode k kind B log → Contains log entry → IsEntryOf A mode k entry
+  entry_logged : (A B : Automaton) (kind : Kind) (log : List Step) → IsAutomaton A → Contains (kinds_of mode) kind → After A mode sight kind B → IsLogged A mode sight kind B log → Contains log entry → IsEntryOf A mode sight entry
   entry_logged A B kind log valid listed after (inl still) h = absurd (none_in_nil entry (subst (λ l. Contains l entry) still.1 h))
   entry_logged A B kind log valid listed after (inr (changed, (other, is, one))) h = elim (Contains-cons_cases other entry [] (subst (λ l. Contains l entry) one h)) [
     | inl e ↦ record {
@@ -173,33 +175,33 @@ module _ (mode : Mode) (k : ℕ) (entry : Step) where
       listed = listed;
       after = after;
       changed = changed;
-      is = subst (IsStepEntry A mode k kind) e is;
+      is = subst (IsStepEntry A mode sight kind) e is;
     }
     | inr none ↦ absurd (none_in_nil entry none)
   ]
 
-  entry_through : (kinds : List Kind) (A C : Automaton) (log : List Step) → IsAutomaton A → ((kind : Kind) → Contains kinds kind → Contains (kinds_of mode) kind) → LogThrough A mode k kinds C log → Contains log entry → IsEntryOf A mode k entry
+  entry_through : (kinds : List Kind) (A C : Automaton) (log : List Step) → IsAutomaton A → ((kind : Kind) → Contains kinds kind → Contains (kinds_of mode) kind) → LogThrough A mode sight kinds C log → Contains log entry → IsEntryOf A mode sight entry
   entry_through [] A C log valid listed (same, none) h = absurd (none_in_nil entry (subst (λ l. Contains l entry) none h))
   entry_through (kind ∷ kinds) A C log valid listed (B, now, later, step, logged, rest, is) h = elim (Contains-append_cases now later entry (subst (λ l. Contains l entry) is h)) [
     | inl here ↦ entry_logged A B kind now valid (listed kind (Contains-here kind kind kinds refl)) step logged here
     | inr behind ↦
-        entry_of_larger A B (after_smaller A B mode k kind valid step).no_larger
-        (entry_through kinds B C later (after_valid A B mode k kind step) (λ x in_kinds. listed x (Contains-later kind x kinds in_kinds)) rest behind)
+        entry_of_larger A B (after_smaller A B mode sight kind valid step).no_larger
+        (entry_through kinds B C later (after_valid A B mode sight kind step) (λ x in_kinds. listed x (Contains-later kind x kinds in_kinds)) rest behind)
   ]
 
-  entry_passes : (n : ℕ) (A C : Automaton) (log : List Step) → IsAutomaton A → LogPasses A mode k n C log → Contains log entry → IsEntryOf A mode k entry
+  entry_passes : (n : ℕ) (A C : Automaton) (log : List Step) → IsAutomaton A → LogPasses A mode sight n C log → Contains log entry → IsEntryOf A mode sight entry
   entry_passes zero A C log valid (same, last) h = entry_through (kinds_of mode) A A log valid (λ kind h. h) last h
   entry_passes (suc n) A C log valid (B, now, later, through, changed, rest, is) h =
-      let path = log_through mode k (kinds_of mode) A B now through in
+      let path = log_through mode sight (kinds_of mode) A B now through in
       elim (Contains-append_cases now later entry (subst (λ l. Contains l entry) is h)) [
         | inl here ↦ entry_through (kinds_of mode) A B now valid (λ kind h. h) through here
         | inr behind ↦
-            entry_of_larger A B (through_smaller mode k (kinds_of mode) A B valid path).no_larger
-            (entry_passes n B C later (through_valid mode k (kinds_of mode) A B valid path) rest behind)
+            entry_of_larger A B (through_smaller mode sight (kinds_of mode) A B valid path).no_larger
+            (entry_passes n B C later (through_valid mode sight (kinds_of mode) A B valid path) rest behind)
       ]
 
-pub entry_of_log : (A B : Automaton) (mode : Mode) (k : ℕ) (log : List Step) → IsAutomaton A → IsLog A mode k B log → (entry : Step) → Contains log entry → IsEntryOf A mode k entry
-entry_of_log A B mode k log valid (n, passes) entry h = entry_passes mode k entry n A B log valid passes h
+pub entry_of_log : (A B : Automaton) (mode : Mode) (sight : Foresight) (log : List Step) → IsAutomaton A → IsLog A mode sight B log → (entry : Step) → Contains log entry → IsEntryOf A mode sight entry
+entry_of_log A B mode sight log valid (n, passes) entry h = entry_passes mode sight entry n A B log valid passes h
 
 -- Each of the things that are written stands for one of the first list.
 written_for : (S T : Type 0) (W : S → T → Type 0) (ss : List S) (ts : List T) → AreWritten S T W ss ts → (t : T) → Contains ts t → (s : S) × Contains ss s × W s t
@@ -226,7 +228,7 @@ ascend_of_rises bound (n ∷ ns) up low =
 pub ascend_of_increasing : (ns : List ℕ) → IsStrictlyIncreasing ns → ascend ns ≡ true
 ascend_of_increasing ns up = ascend_of_rises 0 ns (rises_from_pairs (λ x y. x < y) ns (AllPairs-from_increasing ns up)) (λ n h. omega arith)
 
-kept_formed : (A : Automaton) (mode : Mode) (kept : List ℕ) → IsAutomaton A → A.states ≤ 512 → IsUsefulList A mode kept → are_kept kept ≡ true
+kept_formed : (A : Automaton) (mode : Mode) (kept : List ℕ) → IsAutomaton A → A.states ≤ 2048 → IsUsefulList A mode kept → are_kept kept ≡ true
 kept_formed A mode kept valid states is =
     and_from (are_short kept) (ascend kept) (all_short kept (λ q h. let lt = useful_below A mode kept valid is.useful q h in omega arith)) (ascend_of_increasing kept is.ascending)
 
@@ -241,7 +243,7 @@ class_low classes are (suc n) q lt q_in = elim (cases_lt q (class_of classes q))
   | inr le ↦ le
 ]
 
-classes_formed : (classes : List ℕ) → AreClasses classes → length classes ≤ 512 → are_classes classes ≡ true
+classes_formed : (classes : List ℕ) → AreClasses classes → length classes ≤ 2048 → are_classes classes ≡ true
 classes_formed classes are few =
     let below : All (λ c. c < 1000000000) classes = All-from_get_or (λ c. c < 1000000000) classes 0 (λ q q_in. let low : class_of classes q ≤ q = class_low classes are (suc q) q (omega arith) q_in in omega arith) in
     and_from (are_short classes) (has_some classes) (all_short classes (λ c h. All-contains (λ c. c < 1000000000) classes c below h)) (lt-ltb 0 (length classes) are.some)
@@ -305,102 +307,118 @@ cut_formed A n k gone back ahead blocks few low pair is some written =
 
 -- So many parts has an automaton that is small enough.
 abbrev IsSmall : Automaton → Type 0
-IsSmall A = (A.states ≤ 512) × (length A.transitions ≤ 65536)
+IsSmall A = (A.states ≤ 2048) × (length A.transitions ≤ 65536)
 
 first_step_formed :
-    (A B : Automaton) (mode : Mode) (k : ℕ) (kind : Kind) (entry : Step) (t : FirstStep)
+    (A B : Automaton) (mode : Mode) (sight : Foresight) (kind : Kind) (entry : Step) (t : FirstStep)
     → IsAutomaton A
     → IsSmall A
-    → k ≤ 6
+    → sight.look ≤ 6
     → Contains (kinds_of mode) kind
-    → After A mode k kind B
+    → After A mode sight kind B
     → (B ≡ A → ⊥)
-    → IsStepEntry A mode k kind entry
+    → IsStepEntry A mode sight kind entry
     → IsFirstWritten entry t
     → is_first_step t ≡ true
-first_step_formed A B mode k Trim entry t valid small low listed after changed (kept, e, list) written =
+first_step_formed A B mode sight Trim entry t valid small low listed after changed (kept, e, list) written =
     let is : t ≡ first.Trim kept = subst (λ s. IsFirstWritten s t) e written in
     subst (λ x. is_first_step x ≡ true) (sym is) (kept_formed A mode kept valid small.0 list)
-first_step_formed A B mode k Forward entry t valid small low listed after changed (rel, classes, e, merge) written =
+first_step_formed A B mode sight Forward entry t valid small low listed after changed (rel, classes, e, merge) written =
     let is : t ≡ first.Merge classes = subst (λ s. IsFirstWritten s t) e written in
     let len = merge.joined.len in
     let few = small.0 in
     subst (λ x. is_first_step x ≡ true) (sym is) (classes_formed classes merge.joined.valid (omega arith))
-first_step_formed A B mode k Backward entry t valid small low listed after changed (rel, classes, e, merge) written =
+first_step_formed A B mode sight Backward entry t valid small low listed after changed (rel, classes, e, merge) written =
     let is : t ≡ first.Merge classes = subst (λ s. IsFirstWritten s t) e written in
     let len = merge.joined.len in
     let few = small.0 in
     subst (λ x. is_first_step x ≡ true) (sym is) (classes_formed classes merge.joined.valid (omega arith))
-first_step_formed A B mode k Delayed entry t valid small low listed after changed (ranks, classes, e, merge) written =
+first_step_formed A B mode sight Delayed entry t valid small low listed after changed (ranks, classes, e, merge) written =
     let is : t ≡ first.Merge classes = subst (λ s. IsFirstWritten s t) e written in
     let len = merge.joined.len in
     let few = small.0 in
     subst (λ x. is_first_step x ≡ true) (sym is) (classes_formed classes merge.joined.valid (omega arith))
-first_step_formed A B mode k (Prune n) entry t valid small low listed after changed (gone, back, ahead, e, cut) written =
+first_step_formed A B mode sight (Prune n) entry t valid small low listed after changed (gone, back, ahead, e, cut) written =
     let (blocks, are, is) = subst (λ s. IsFirstWritten s t) e written in
-    let some = some_goes A B gone valid (cut_leads A B n k gone back ahead after cut) changed in
-    subst (λ x. is_first_step x ≡ true) (sym is) (cut_formed A n k gone back ahead blocks small.1 low (pair_listed mode n listed) cut some are)
+    let some = some_goes A B gone valid (cut_leads A B n sight.look gone back ahead after cut) changed in
+    subst (λ x. is_first_step x ≡ true) (sym is) (cut_formed A n sight.look gone back ahead blocks small.1 low (pair_listed mode n listed) cut some are)
 
 -- A merge with its grounds.
-merge_formed : (mode : Mode) (reason : Grounds) (classes : List ℕ) → AreClasses classes → length classes ≤ 512 → are_grounds mode reason ≡ true → is_second_step mode (second.Merge reason classes) ≡ true
-merge_formed mode reason classes are few formed = and_from (are_classes classes) (are_grounds mode reason) (classes_formed classes are few) formed
+merge_formed : (v : ℕ) (mode : Mode) (reason : Grounds) (classes : List ℕ) → AreClasses classes → length classes ≤ 2048 → are_grounds v mode reason ≡ true → is_second_step v mode (second.Merge reason classes) ≡ true
+merge_formed v mode reason classes are few formed = and_from (are_classes classes) (are_grounds v mode reason) (classes_formed classes are few) formed
 
-forward_formed : (mode : Mode) (k : ℕ) (block : RelBlock) → k ≤ 6 → is_block block ≡ true → are_grounds mode (grounds.Forward k block) ≡ true
-forward_formed Buchi k block low formed = and_from (is_short k) (is_block block) (look_formed k low) formed
-forward_formed Finite k block low formed = and_from (is_short k) (is_block block) (look_formed k low) formed
+forward_formed : (v : ℕ) (mode : Mode) (k : ℕ) (block : RelBlock) → k ≤ 6 → is_block block ≡ true → are_grounds v mode (grounds.Forward k block) ≡ true
+forward_formed v Buchi k block low formed = and_from (is_short k) (is_block block) (look_formed k low) formed
+forward_formed v Finite k block low formed = and_from (is_short k) (is_block block) (look_formed k low) formed
 
-backward_formed : (mode : Mode) (k : ℕ) (block : RelBlock) → k ≤ 6 → is_block block ≡ true → are_grounds mode (grounds.Backward k block) ≡ true
-backward_formed Buchi k block low formed = and_from (is_short k) (is_block block) (look_formed k low) formed
-backward_formed Finite k block low formed = and_from (is_short k) (is_block block) (look_formed k low) formed
+backward_formed : (v : ℕ) (mode : Mode) (k : ℕ) (block : RelBlock) → k ≤ 6 → is_block block ≡ true → are_grounds v mode (grounds.Backward k block) ≡ true
+backward_formed v Buchi k block low formed = and_from (is_short k) (is_block block) (look_formed k low) formed
+backward_formed v Finite k block low formed = and_from (is_short k) (is_block block) (look_formed k low) formed
 
-delayed_formed : (mode : Mode) (block : RankBlock) → Contains (kinds_of mode) Delayed → is_rank_block block ≡ true → are_grounds mode (grounds.Delayed block) ≡ true
-delayed_formed Buchi block listed formed = formed
-delayed_formed Finite block listed formed = absurd (none_in_finite listed)
+-- The letters that are asked for are 1 to 4, in version 1 one.
+abbrev pub AreLettersFor : ℕ → ℕ → Type 0
+AreLettersFor v letters = (1 ≤ letters) × (letters ≤ 4) × (((v ≡ 1) × (letters ≡ 1)) ⊎ (v ≡ 2))
+
+letters_formed : (v : ℕ) (A : Automaton) (letters : ℕ) → AreLettersFor v letters → are_letters v (letters_for A letters) ≡ true
+letters_formed v A letters (some, upto, inl (first, one)) =
+    let least = letters_some A letters in
+    let most = letters_within A letters some in
+    subst (λ x. are_letters x (letters_for A letters) ≡ true) (sym first) (eq-eqb (letters_for A letters) 1 (omega arith))
+letters_formed v A letters (some, upto, inr second) =
+    let least = letters_some A letters in
+    let most = letters_within A letters some in
+    subst (λ x. are_letters x (letters_for A letters) ≡ true) (sym second)
+    (and_from (nat_le 1 (letters_for A letters)) (nat_le (letters_for A letters) 4) (le-leb 1 (letters_for A letters) least) (le-leb (letters_for A letters) 4 (omega arith)))
+
+delayed_formed : (v : ℕ) (mode : Mode) (letters : ℕ) (block : RankBlock) → Contains (kinds_of mode) Delayed → are_letters v letters ≡ true → is_rank_block letters block ≡ true → are_grounds v mode (grounds.Delayed letters block) ≡ true
+delayed_formed v Buchi letters block listed fit formed = and_from (are_letters v letters) (is_rank_block letters block) fit formed
+delayed_formed v Finite letters block listed fit formed = absurd (none_in_finite listed)
 
 second_step_formed :
-    (A B : Automaton) (mode : Mode) (k : ℕ) (kind : Kind) (entry : Step) (t : SecondStep)
+    (v : ℕ) (A B : Automaton) (mode : Mode) (sight : Foresight) (kind : Kind) (entry : Step) (t : SecondStep)
     → IsAutomaton A
     → IsSmall A
-    → k ≤ 6
+    → sight.look ≤ 6
+    → AreLettersFor v sight.letters
     → Contains (kinds_of mode) kind
-    → After A mode k kind B
+    → After A mode sight kind B
     → (B ≡ A → ⊥)
-    → IsStepEntry A mode k kind entry
+    → IsStepEntry A mode sight kind entry
     → IsSecondWritten entry t
-    → is_second_step mode t ≡ true
-second_step_formed A B mode k Trim entry t valid small low listed after changed (kept, e, list) written =
+    → is_second_step v mode t ≡ true
+second_step_formed v A B mode sight Trim entry t valid small low fit listed after changed (kept, e, list) written =
     let is : t ≡ second.Trim kept = subst (λ s. IsSecondWritten s t) e written in
-    subst (λ x. is_second_step mode x ≡ true) (sym is) (kept_formed A mode kept valid small.0 list)
-second_step_formed A B mode k Forward entry t valid small low listed after changed (rel, classes, e, merge) written =
+    subst (λ x. is_second_step v mode x ≡ true) (sym is) (kept_formed A mode kept valid small.0 list)
+second_step_formed v A B mode sight Forward entry t valid small low fit listed after changed (rel, classes, e, merge) written =
     let (reason, (block, is_of, same), is) = subst (λ s. IsSecondWritten s t) e written in
     let len = merge.joined.len in
     let few = small.0 in
-    subst (λ x. is_second_step mode x ≡ true) (sym is) (merge_formed mode reason classes merge.joined.valid (omega arith)
-    (subst (λ g. are_grounds mode g ≡ true) (sym same) (forward_formed mode k block low is_of.formed)))
-second_step_formed A B mode k Backward entry t valid small low listed after changed (rel, classes, e, merge) written =
+    subst (λ x. is_second_step v mode x ≡ true) (sym is) (merge_formed v mode reason classes merge.joined.valid (omega arith)
+    (subst (λ g. are_grounds v mode g ≡ true) (sym same) (forward_formed v mode sight.look block low is_of.formed)))
+second_step_formed v A B mode sight Backward entry t valid small low fit listed after changed (rel, classes, e, merge) written =
     let (reason, (block, is_of, same), is) = subst (λ s. IsSecondWritten s t) e written in
     let len = merge.joined.len in
     let few = small.0 in
-    subst (λ x. is_second_step mode x ≡ true) (sym is) (merge_formed mode reason classes merge.joined.valid (omega arith)
-    (subst (λ g. are_grounds mode g ≡ true) (sym same) (backward_formed mode k block low is_of.formed)))
-second_step_formed A B mode k Delayed entry t valid small low listed after changed (ranks, classes, e, merge) written =
+    subst (λ x. is_second_step v mode x ≡ true) (sym is) (merge_formed v mode reason classes merge.joined.valid (omega arith)
+    (subst (λ g. are_grounds v mode g ≡ true) (sym same) (backward_formed v mode sight.look block low is_of.formed)))
+second_step_formed v A B mode sight Delayed entry t valid small low fit listed after changed (ranks, classes, e, merge) written =
     let (reason, (block, is_of, same), is) = subst (λ s. IsSecondWritten s t) e written in
     let len = merge.joined.len in
     let few = small.0 in
-    subst (λ x. is_second_step mode x ≡ true) (sym is) (merge_formed mode reason classes merge.joined.valid (omega arith)
-    (subst (λ g. are_grounds mode g ≡ true) (sym same) (delayed_formed mode block listed is_of.formed)))
-second_step_formed A B mode k (Prune n) entry t valid small low listed after changed (gone, back, ahead, e, cut) written =
+    subst (λ x. is_second_step v mode x ≡ true) (sym is) (merge_formed v mode reason classes merge.joined.valid (omega arith)
+    (subst (λ g. are_grounds v mode g ≡ true) (sym same) (delayed_formed v mode ranks.letters block listed (subst (λ m. are_letters v m ≡ true) (sym merge.announced) (letters_formed v A sight.letters fit)) is_of.formed)))
+second_step_formed v A B mode sight (Prune n) entry t valid small low fit listed after changed (gone, back, ahead, e, cut) written =
     let is : t ≡ second.Cut (numbers_of gone) = subst (λ s. IsSecondWritten s t) e written in
-    let some = some_goes A B gone valid (cut_leads A B n k gone back ahead after cut) changed in
+    let some = some_goes A B gone valid (cut_leads A B n sight.look gone back ahead after cut) changed in
     let len = length-map gone (λ (g : Gone). g.trans) in
     let few = small.1 in
     let short : are_short (numbers_of gone) ≡ true = all_short (numbers_of gone)
     (λ x h. let lt = (listed_better A n (Close (Holds (relation_pairs back))) (Close (Holds (relation_pairs ahead))) gone cut.least x h).1.is in omega arith) in
-    subst (λ x. is_second_step mode x ≡ true) (sym is)
+    subst (λ x. is_second_step v mode x ≡ true) (sym is)
     (and_from (are_short (numbers_of gone)) (has_some (numbers_of gone) && ascend (numbers_of gone)) short
     (and_from (has_some (numbers_of gone)) (ascend (numbers_of gone)) (lt-ltb 0 (length (numbers_of gone)) (omega arith)) (ascend_of_increasing (numbers_of gone) cut.least.ascending)))
 
-small_on : (A B : Automaton) → IsNoLarger A B → A.states ≤ 512 → length A.transitions ≤ 65536 → IsSmall B
+small_on : (A B : Automaton) → IsNoLarger A B → A.states ≤ 2048 → length A.transitions ≤ 65536 → IsSmall B
 small_on A B less states transitions =
     let fewer = less.states in
     let others = less.transitions in
@@ -408,36 +426,37 @@ small_on A B less states transitions =
 
 -- The steps of a small automaton's log are well-formed as those of a first log.
 pub log_is_formed_first :
-    (A B : Automaton) (mode : Mode) (k : ℕ) (log : List Step) (steps : List FirstStep)
+    (A B : Automaton) (mode : Mode) (sight : Foresight) (log : List Step) (steps : List FirstStep)
     → IsAutomaton A
-    → A.states ≤ 512
+    → A.states ≤ 2048
     → length A.transitions ≤ 65536
-    → k ≤ 6
-    → IsLog A mode k B log
+    → sight.look ≤ 6
+    → IsLog A mode sight B log
     → AreFirstWritten log steps
     → list_all is_first_step steps ≡ true
-log_is_formed_first A B mode k log steps valid states transitions low is written = all_pass is_first_step steps each
+log_is_formed_first A B mode sight log steps valid states transitions low is written = all_pass is_first_step steps each
   where
     each : (t : FirstStep) → Contains steps t → is_first_step t ≡ true
     each t h =
         let (entry, there, stands) = written_for Step FirstStep IsFirstWritten log steps written t h in
-        let e = entry_of_log A B mode k log valid is entry there in
-        first_step_formed e.at e.next mode k e.kind entry t e.valid (small_on A e.at e.no_larger states transitions) low e.listed e.after e.changed e.is stands
+        let e = entry_of_log A B mode sight log valid is entry there in
+        first_step_formed e.at e.next mode sight e.kind entry t e.valid (small_on A e.at e.no_larger states transitions) low e.listed e.after e.changed e.is stands
 
--- They are well-formed as those of a second log, in the mode of the reduction.
+-- They are well-formed as those of a second log, in the mode of the reduction and a version that has the announced letters.
 pub log_is_formed_second :
-    (A B : Automaton) (mode : Mode) (k : ℕ) (log : List Step) (steps : List SecondStep)
+    (v : ℕ) (A B : Automaton) (mode : Mode) (sight : Foresight) (log : List Step) (steps : List SecondStep)
     → IsAutomaton A
-    → A.states ≤ 512
+    → A.states ≤ 2048
     → length A.transitions ≤ 65536
-    → k ≤ 6
-    → IsLog A mode k B log
+    → sight.look ≤ 6
+    → AreLettersFor v sight.letters
+    → IsLog A mode sight B log
     → AreSecondWritten log steps
-    → list_all (is_second_step mode) steps ≡ true
-log_is_formed_second A B mode k log steps valid states transitions low is written = all_pass (is_second_step mode) steps each
+    → list_all (is_second_step v mode) steps ≡ true
+log_is_formed_second v A B mode sight log steps valid states transitions low fit is written = all_pass (is_second_step v mode) steps each
   where
-    each : (t : SecondStep) → Contains steps t → is_second_step mode t ≡ true
+    each : (t : SecondStep) → Contains steps t → is_second_step v mode t ≡ true
     each t h =
         let (entry, there, stands) = written_for Step SecondStep IsSecondWritten log steps written t h in
-        let e = entry_of_log A B mode k log valid is entry there in
-        second_step_formed e.at e.next mode k e.kind entry t e.valid (small_on A e.at e.no_larger states transitions) low e.listed e.after e.changed e.is stands
+        let e = entry_of_log A B mode sight log valid is entry there in
+        second_step_formed v e.at e.next mode sight e.kind entry t e.valid (small_on A e.at e.no_larger states transitions) low fit e.listed e.after e.changed e.is stands

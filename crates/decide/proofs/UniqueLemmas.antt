@@ -104,13 +104,8 @@ one_body at terms S (Limit es) (Listing k) (Yes y) p q = absurd q
 one_body at terms S (Limit es) (Listing k) (NoLasso l) p q = absurd q
 one_body at terms S (Limit es) (Listing k) (NoWord w) p q = absurd q
 
-cert_is : (c d : Cert) → c.mode ≡ d.mode → c.first_states ≡ d.first_states → c.second_states ≡ d.second_states → c.labels ≡ d.labels → c.body ≡ d.body → c ≡ d
-cert_is c d p q r s t =
-    ap (λ x. record { mode = x; first_states = c.first_states; second_states = c.second_states; labels = c.labels; body = c.body }) p
-    ∙ ap (λ x. record { mode = d.mode; first_states = x; second_states = c.second_states; labels = c.labels; body = c.body }) q
-    ∙ ap (λ x. record { mode = d.mode; first_states = d.first_states; second_states = x; labels = c.labels; body = c.body }) r
-    ∙ ap (λ x. record { mode = d.mode; first_states = d.first_states; second_states = d.second_states; labels = x; body = c.body }) s
-    ∙ ap (λ x. record { mode = d.mode; first_states = d.first_states; second_states = d.second_states; labels = d.labels; body = x }) t
+cert_is : (c d : Cert) → c.version ≡ d.version → c.mode ≡ d.mode → c.first_states ≡ d.first_states → c.second_states ≡ d.second_states → c.labels ≡ d.labels → c.body ≡ d.body → c ≡ d
+cert_is c d v p q r s t = λ i. record { version = v i; mode = p i; first_states = q i; second_states = r i; labels = s i; body = t i }
 
 -- By one pair of log ends there is one answer.
 one_answer_by : (at : Reductions) (pair : Joined) (terms : Terms) (c d : Cert) → IsAnswerBy at pair terms c → IsAnswerBy at pair terms d → c ≡ d
@@ -118,7 +113,7 @@ one_answer_by at pair terms c d p q =
     let same = one_outcome_decides at terms p.pairs q.pairs p.outcome q.outcome p.decides q.decides in
     let body : IsBodyOf at terms q.pairs q.outcome c.body =
     subst (λ S. IsBodyOf at terms S q.outcome c.body) same.0 (subst (λ o. IsBodyOf at terms p.pairs o c.body) same.1 p.body) in
-    cert_is c d (p.mode ∙ sym q.mode) (p.sizes.0 ∙ sym q.sizes.0) (p.sizes.1 ∙ sym q.sizes.1) (p.sizes.2 ∙ sym q.sizes.2) (one_body at terms q.pairs q.outcome c.body d.body body q.body)
+    cert_is c d (p.version ∙ sym q.version) (p.mode ∙ sym q.mode) (p.sizes.0 ∙ sym q.sizes.0) (p.sizes.1 ∙ sym q.sizes.1) (p.sizes.2 ∙ sym q.sizes.2) (one_body at terms q.pairs q.outcome c.body d.body body q.body)
 
 pub one_answer : OneAnswer
 one_answer pair terms c d one two some (at, ends, p) (other, others, q) =

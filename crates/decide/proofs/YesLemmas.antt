@@ -1,10 +1,10 @@
 -- The evidence that a closed search gives: it keeps all rules of the check, it has a text, and what it says is so.
-use Rattle.std.proofs.Common.{◌≡◌, ℕ, zero, suc, ◌+◌, ◌<◌, ◌≤◌, ◌==◌, ◌&&◌, Bool, true, false, cond, List, [], ◌∷◌, ◌++◌, length, map, All, Contains, slice_index_or, refl, sym, ap, ◌∙◌, subst, arith}
+use Rattle.std.proofs.Common.{◌≡◌, ℕ, suc, ◌+◌, ◌<◌, ◌≤◌, ◌==◌, ◌&&◌, Bool, true, false, cond, List, [], ◌∷◌, ◌++◌, length, map, slice_index_or, refl, sym, ap, ◌∙◌, subst, arith}
 use Rattle.std.specs.Prelude.{filter}
 use Rattle.std.specs.List.{list_all, range_with_len}
-use Rattle.std.proofs.lemmas.Bool.{and_from, and_parts, lt-ltb, eq-eqb}
+use Rattle.std.proofs.lemmas.Bool.{and_from, lt-ltb, eq-eqb}
 use Rattle.std.proofs.lemmas.List.{length-map}
-use Rattle.std.proofs.lemmas.Option.{same_Some, none-some, get_or_from_slice_get}
+use Rattle.std.proofs.lemmas.Option.{get_or_from_slice_get}
 use Rattle.auto_core.specs.Automaton.{Automaton, IsAutomaton, trans, trans_at}
 use Rattle.auto_core.specs.Accept.{Includes}
 use Rattle.auto_core.specs.Game.{IsGreatestForward, StableForward}
@@ -21,20 +21,18 @@ use Rattle.auto_core.specs.declared.parts.Trans.{Trans}
 use Rattle.search_laws.specs.Outcomes.{HaveOrigins}
 use Rattle.search_laws.specs.PairOutcomes.{HavePairOrigins}
 use Rattle.search_laws.proofs.PlaceLemmas.{at_within, at_some}
-use Rattle.search_laws.proofs.ListLemmas.{read_map, in_map}
+use Rattle.search_laws.proofs.ListLemmas.{read_map}
 use Rattle.search_laws.proofs.EntryLemmas.{arcs_size, arc_here}
 use Rattle.search_laws.proofs.OutcomeLemmas.{origins_fit, closed_end, closed_list_is_closed_set, closed_list_includes, live_ones_stand_apart}
 use Rattle.search_laws.proofs.PairOutcomeLemmas.{pair_origins_fit, closed_end as closed_pairs_end, closed_list_is_closed_pairs, closed_list_includes_words, live_pairs_stand_apart}
-use Rattle.std.proofs.lemmas.List.Elements.{Contains-append_left, Contains-append_right}
 use Rattle.cert_value.specs.declared.types.YesBody.{YesBody}
 use Rattle.cert_value.specs.declared.types.Element.{Element}
 use Rattle.cert_value.specs.declared.types.Mark.{Mark}
 use Rattle.cert_value.specs.declared.types.Mark.TheVariants.{Live, Under}
-use Rattle.cert_value.specs.declared.types.Row.{Row}
 use Rattle.cert_value.specs.declared.types.StepLine.{StepLine}
-use Rattle.cert_value.specs.WellFormed.{is_live, is_short, are_short, is_element, is_mark, is_origin, is_step_of, are_steps, is_row, are_rows, is_block}
+use Rattle.cert_value.specs.WellFormed.{is_live, is_short, are_short, is_element, is_mark, is_origin, is_step_of, are_steps, is_block}
 use Rattle.log_check.specs.Checks.{AllHold}
-use Rattle.log_check.specs.Blocks.{pairs_of, pairs_of_row, IsRowBelow}
+use Rattle.log_check.specs.Blocks.{pairs_of}
 use Rattle.cert_check.specs.Inclusion.{origins_of, element_arcs, no_element, live_in, NamesOrigin, NamesElement, HasEarlierParent, GoesOn, SubsumesIn, IsOver, IsUnder, AreOver, PassesBy, covered_in, extensions_of, order_checks, element_checks, under_checks, step_checks, pair_checks, inclusion_checks}
 use Rattle.log_check.proofs.CheckLemmas.{all_join}
 use Rattle.cert_check.proofs.ClosedLemmas.{elements_part, under_part, cover_part, steps_part, pairs_part}
@@ -42,7 +40,7 @@ use Rattle.evidence.specs.Evidence.{marked_live, IsMarked, AreLeastSubsumers, Is
 use Rattle.evidence.proofs.MarkLemmas.{elements_size, marks_tell}
 use Rattle.decide.specs.Searches.{rules_in}
 use Rattle.decide.specs.Answer.{closure_in}
-use Rattle.decide.proofs.RowLemmas.{row_parts}
+use Rattle.decide.proofs.FollowLemmas.{block_below}
 use Rattle.decide.proofs.PlaceLemmas.{all_from_places, pass_from_places, checks_from_places, filter_of_map, list_by_numbers}
 
 same_head : {X : Type 0} (x y : X) (xs ys : List X) → x ∷ xs ≡ y ∷ ys → x ≡ y
@@ -93,22 +91,6 @@ extensions_are A x =
     ap (λ l. map (extended_arc A x) (filter (λ (t : Trans). t.source == x.to) l)) (sym (list_by_numbers A.transitions (trans 0 0 0)))
     ∙ ap (map (extended_arc A x)) (filter_of_map (λ (t : Trans). t.source == x.to) (trans_at A) (range_with_len 0 (length A.transitions)))
     ∙ map_twice (trans_at A) (extended_arc A x) (steps_out A x.to)
-
--- The rows of a block name states, where its pairs do.
-rows_below : (n bound : ℕ) (rows : List Row) → are_rows bound rows ≡ true → ((p q : ℕ) → Contains (pairs_of (record { rows = rows })) (p, q) → (p < n) × (q < n)) → All (IsRowBelow n) rows
-rows_below n bound rows formed range = all_from_places (IsRowBelow n) rows (each bound rows formed range)
-  where
-    each : (bound : ℕ) (rows : List Row) → are_rows bound rows ≡ true → ((p q : ℕ) → Contains (pairs_of (record { rows = rows })) (p, q) → (p < n) × (q < n)) → (k : ℕ) (row : Row) → At rows k row → IsRowBelow n row
-    each bound [] h range k row is = absurd (none-some row is)
-    each bound (first ∷ rows) h range zero row is =
-        let a = and_parts (is_row bound first) (are_rows (first.left + 1) rows) h in
-        let p = row_parts bound first a.0 in
-        let in_all = λ (r : ℕ) (r_in : Contains first.rights r). Contains-append_left (pairs_of_row first) (pairs_of (record { rows = rows })) (first.left, r) (in_map (λ r. (first.left, r)) first.rights r r_in) in
-        subst (IsRowBelow n) (same_Some first row is)
-        ((range first.left p.a_right (in_all p.a_right p.has_right)).0, all_from_places (λ r. r < n) first.rights (λ k r r_is. (range first.left r (in_all r (k, at_within first.rights k r r_is, get_or_from_slice_get first.rights k r r r_is))).1))
-    each bound (first ∷ rows) h range (suc k) row is =
-        let a = and_parts (is_row bound first) (are_rows (first.left + 1) rows) h in
-        each (first.left + 1) rows a.1 (λ p q has. range p q (Contains-append_right (pairs_of_row first) (pairs_of (record { rows = rows })) (p, q) has)) k row is
 
 -- The step lines of the live elements, in order: the line of the first element, where the others have theirs.
 abbrev AreShort : List StepLine → Type 0
@@ -309,8 +291,7 @@ module _ (m : Mode) (A B : Automaton) (S : List (ℕ × ℕ)) (limit : ℕ) (es 
     -- The order, the elements, and those under others.
     order_holds : (n : ℕ) → AllHold (order_checks B y n)
     order_holds n = (
-      rows_below B.states 0 y.order.rows (and_parts (is_short (length y.order.rows)) (are_rows 0 y.order.rows) formed).1
-          (λ p q has. greatest.in_range p q (subst (λ l. Contains l (p, q)) pairs has)),
+      block_below B.states S y.order (record { formed = formed; pairs = pairs }) greatest.in_range,
       (subst (StableForward B 1) (sym pairs) greatest.stable, tt),
     )
 

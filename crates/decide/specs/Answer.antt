@@ -21,12 +21,13 @@ use Rattle.evidence.specs.Evidence.{IsEvidenceOf}
 use Rattle.reduce_loop.specs.declared.steps.Step.{Step}
 use Rattle.reduce_loop.specs.Logs.{IsLog}
 use Rattle.decide.specs.declared.terms.Terms.{Terms}
+use Rattle.decide.specs.Terms.{sight_of}
 use Rattle.decide.specs.Searches.{rules_in}
 use Rattle.decide.specs.Written.{IsBlockOf, AreFirstWritten, AreSecondWritten}
 
--- So many states and transitions may an automaton have whose inclusion is decided.
-pub record HasFewParts (A : Automaton) : Type 0 where
-  pub states : A.states ≤ 512
+-- An automaton with at most so many states, and few transitions.
+pub record HasFewParts (most : ℕ) (A : Automaton) : Type 0 where
+  pub states : A.states ≤ most
   pub transitions : length A.transitions ≤ 65536
 
 -- The two automata that are searched, and the logs of the steps by which they came from the read ones.
@@ -40,8 +41,8 @@ pub record Reductions : Type 0 where
 pub record AreReductions (pair : Joined) (terms : Terms) (at : Reductions) : Type 0 where
   pub first_steps : List Step
   pub second_steps : List Step
-  pub first_reduced : IsLog pair.first terms.mode terms.look at.first first_steps
-  pub second_reduced : IsLog pair.second terms.mode terms.look at.second second_steps
+  pub first_reduced : IsLog pair.first terms.mode (sight_of terms) at.first first_steps
+  pub second_reduced : IsLog pair.second terms.mode (sight_of terms) at.second second_steps
   pub first_written : AreFirstWritten first_steps at.first_log
   pub second_written : AreSecondWritten second_steps at.second_log
 
@@ -99,12 +100,13 @@ IsBodyOf at terms S (Limit es) (NoLasso lasso) = ⊥
 IsBodyOf at terms S (Limit es) (NoWord word) = ⊥
 IsBodyOf at terms S (Limit es) (Listing list) = IsListOf at terms es list
 
--- The certificate is the answer by these log ends: it has the mode of the terms, the sizes of the read automata, and the body of the
--- outcome.
+-- The certificate is the answer by these log ends: it has the version and the mode of the terms, the sizes of the read automata, and the
+-- body of the outcome.
 pub record IsAnswerBy (at : Reductions) (pair : Joined) (terms : Terms) (cert : Cert) : Type 0 where
   pub pairs : List (ℕ × ℕ)
   pub outcome : Outcome Entry
   pub decides : Decides at terms pairs outcome
+  pub version : cert.version ≡ terms.version
   pub mode : cert.mode ≡ terms.mode
   pub sizes : HasSizes pair cert
   pub body : IsBodyOf at terms pairs outcome cert.body

@@ -19,7 +19,7 @@ use Rattle.cert_check.specs.Inclusion.{origins_of, live_in}
 use Rattle.cert_check.specs.Laws.{IsValid}
 use Rattle.evidence.specs.Evidence.{LiveStandApart}
 use Rattle.decide.specs.declared.terms.Terms.{Terms}
-use Rattle.decide.specs.Terms.{AreBounded}
+use Rattle.decide.specs.Terms.{AreBounded, sight_of}
 use Rattle.cert_check.specs.Listing.{AreListedRuns}
 use Rattle.decide.specs.Searches.{rules_in, bound_in, NoneSubsumedBeforeIn}
 use Rattle.decide.specs.Answer.{HasFewParts, IsOrder, Decides, IsAnswer, Reductions, AreReductions}
@@ -31,14 +31,14 @@ pub record CanDecide (pair : Joined) : Type 0 where
   pub first_labels : pair.first.labels ≡ length pair.labels
   pub second_labels : pair.second.labels ≡ length pair.labels
   pub few_labels : length pair.labels ≤ 512
-  pub first_parts : HasFewParts pair.first
-  pub second_parts : HasFewParts pair.second
+  pub first_parts : HasFewParts 2048 pair.first
+  pub second_parts : HasFewParts 512 pair.second
 
 -- The logs lead from the read automata to these two, in which no step of the reduction has anything left to do.
 pub record AreSettledEnds (pair : Joined) (terms : Terms) (firsts : List FirstStep) (seconds : List SecondStep) (ends : Ends) : Type 0 where
   pub lead : AreEnds terms.mode pair.first pair.second firsts seconds ends
-  pub first_settled : IsSettled ends.first terms.mode terms.look
-  pub second_settled : IsSettled ends.second terms.mode terms.look
+  pub first_settled : IsSettled ends.first terms.mode (sight_of terms)
+  pub second_settled : IsSettled ends.second terms.mode (sight_of terms)
 
 -- The logs of the evidence lead to settled automata, and no live element subsumes another, by the order that the search of these goes by.
 pub record StandApart (pair : Joined) (terms : Terms) (evidence : YesBody) : Type 0 where
@@ -78,7 +78,7 @@ OneAnswer =
     → IsAnswer pair terms d
     → c ≡ d
 
--- An answer has a text, at each lookahead from 1 to 6 and each limit up to 100,000.
+-- An answer has a text, at each lookahead from 1 to 6, up to 4 announced letters and each limit up to 100,000.
 abbrev pub AnswersAreFormed : Type 0
 AnswersAreFormed =
     (pair : Joined) (terms : Terms) (cert : Cert)

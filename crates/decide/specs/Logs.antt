@@ -6,18 +6,18 @@ use Rattle.reduce_loop.specs.declared.steps.Step.TheVariants as step
 use Rattle.reduce_loop.specs.declared.steps.MergeBy.{MergeBy}
 use Rattle.reduce_loop.specs.declared.steps.MergeBy.TheVariants as by
 use Rattle.decide.specs.declared.logs.Logs.{Logs}
-use Rattle.decide.specs.Rows.{HasFewRanks}
+use Rattle.decide.specs.Rows.{HasFewTriples}
 use Rattle.decide.specs.Written.{AreFirstWritten, AreSecondWritten}
 
--- The relation is on at most 512 states.
+-- The relation is on at most 2,048 states.
 abbrev pub IsOnFew : Relation → Type 0
-IsOnFew rel = rel.size ≤ 512
+IsOnFew rel = rel.size ≤ 2048
 
--- So is the one that a merge goes by.
+-- So is the one that a merge goes by; one with ranks has few triples.
 abbrev pub IsMergeOnFew : MergeBy → Type 0
 IsMergeOnFew (by.Forward look rel) = IsOnFew rel
 IsMergeOnFew (by.Backward look rel) = IsOnFew rel
-IsMergeOnFew (by.Delayed ranks) = HasFewRanks ranks
+IsMergeOnFew (by.Delayed ranks) = HasFewTriples ranks
 
 -- So are those that a step goes by.
 abbrev pub IsStepOnFew : Step → Type 0

@@ -1,14 +1,14 @@
 -- The rows of a relation while they are made.
-use Rattle.std.specs.Prelude.{◌≡◌, ℕ, ◌+◌, ◌<◌, ◌≤◌, ◌↔◌, Option, true, List, length, Contains}
-use Rattle.std.specs.List.{flat_map, list_all}
-use Rattle.auto_core.specs.Delayed.{RankedPairs, HasRank}
+use Rattle.std.specs.Prelude.{◌≡◌, ℕ, ◌+◌, ◌-◌, ◌<◌, ◌≤◌, ◌↔◌, Option, None, Some, true, List, [], ◌∷◌, length, take, drop, Contains}
+use Rattle.std.specs.List.{flat_map}
+use Rattle.auto_core.specs.Delayed.{HasRank}
 use Rattle.auto_core.specs.Game.{Holds}
 use Rattle.cert_value.specs.declared.types.RankRow.{RankRow}
 use Rattle.cert_value.specs.declared.types.Ranked.{Ranked}
 use Rattle.cert_value.specs.declared.types.Row.{Row}
-use Rattle.cert_value.specs.WellFormed.{ascend, are_rows, rights_of, is_ranked, are_rank_rows}
-use Rattle.delayed_sim.specs.Rankings.{Ranking}
-use Rattle.log_check.specs.Blocks.{pairs_of_row, rank_of, ranked_of_row}
+use Rattle.cert_value.specs.WellFormed.{ascend, are_rows, rank_key, is_less, is_rank_row, are_rank_rows}
+use Rattle.delayed_sim.specs.Rankings.{Triple, Ranking, row_key, triple_at}
+use Rattle.log_check.specs.Blocks.{pairs_of_row, triples_of_row}
 
 -- Just the states below `upto` that the relation holds the left one with, ascending.
 pub record AreRights (S : List (ℕ × ℕ)) (left upto : ℕ) (rights : List ℕ) : Type 0 where
@@ -22,22 +22,37 @@ pub record AreRows (S : List (ℕ × ℕ)) (upto : ℕ) (rows : List Row) : Type
   pub below : (row : Row) → Contains rows row → row.left < upto
   pub few : length rows ≤ upto
 
--- The relation with ranks is on at most 512 states, and the codes of its ranks have at most nine digits.
-pub record HasFewRanks (ranks : Ranking) : Type 0 where
-  pub size : ranks.size ≤ 512
-  pub below : (p q r : ℕ) → HasRank ranks.pairs p q r → r + 1 < 1000000000
+-- The code of a rank: 0 where there is none, and otherwise one more than the rank.
+abbrev pub code_for : Option ℕ → ℕ
+code_for None = 0
+code_for (Some r) = r + 1
 
--- Just the states below `upto` that the relation holds the left one with, ascending, each with the code of its rank.
-pub record AreRankedRights (X : RankedPairs) (left upto : ℕ) (rights : List Ranked) : Type 0 where
-  pub ascending : ascend (rights_of rights) ≡ true
-  pub short : list_all is_ranked rights ≡ true
-  pub within : (r : Ranked) → Contains rights r → (r.right < upto) × Contains X (left, r.right, rank_of r.code)
-  pub has : (q : ℕ) (rank : Option ℕ) → q < upto → Contains X (left, q, rank) → (r : Ranked) × Contains rights r × (r.right ≡ q)
+-- The right state of the triple, with the code of its rank.
+abbrev pub ranked_of : Triple → Ranked
+ranked_of x = record { right = x.2; code = code_for x.3 }
 
--- Just the pairs with a left state below `upto`, in rows as a certificate has them.
-pub record AreRankRows (X : RankedPairs) (upto : ℕ) (rows : List RankRow) : Type 0 where
-  pub formed : are_rank_rows 0 rows ≡ true
-  pub within : (p q : ℕ) (rank : Option ℕ) → Contains (flat_map ranked_of_row rows) (p, q, rank) → (p < upto) × Contains X (p, q, rank)
-  pub has : (p q : ℕ) (rank : Option ℕ) → p < upto → Contains X (p, q, rank) → Contains (flat_map ranked_of_row rows) (p, q, rank)
-  pub below : (row : RankRow) → Contains rows row → row.left < upto
-  pub few : length rows ≤ upto
+-- The number of the triples, their states and letters and the codes of their ranks have at most nine digits.
+pub record HasFewTriples (ranks : Ranking) : Type 0 where
+  pub count : length ranks.triples < 1000000000
+  pub states : ranks.size ≤ 1000000000
+  pub labels : ranks.labels ≤ 1000000000
+  pub below : (b : List ℕ) (p q r : ℕ) → HasRank ranks.triples b p q r → r + 1 < 1000000000
+
+-- The row has the triples from `at` up to `end`, and stands behind each row with a lesser left state and letters.
+pub record IsRankRowOf (ranks : Ranking) (at end : ℕ) (row : RankRow) : Type 0 where
+  pub triples : triples_of_row row ≡ take (end - at) (drop at ranks.triples)
+  pub key : rank_key row ≡ row_key (triple_at ranks.triples at)
+  pub formed : (key : List ℕ) → is_less key (rank_key row) ≡ true → is_rank_row ranks.letters key row ≡ true
+
+-- The left state and the letters of the last row; of none this key.
+abbrev pub last_key : List ℕ → List RankRow → List ℕ
+last_key key [] = key
+last_key key (row ∷ rows) = last_key (rank_key row) rows
+
+-- The rows have the triples before `at`, and the next triple belongs behind them.
+pub record AreRankRows (ranks : Ranking) (at : ℕ) (rows : List RankRow) : Type 0 where
+  pub within : at ≤ length ranks.triples
+  pub formed : are_rank_rows ranks.letters [] rows ≡ true
+  pub triples : flat_map triples_of_row rows ≡ take at ranks.triples
+  pub few : length rows ≤ at
+  pub next : at < length ranks.triples → is_less (last_key [] rows) (row_key (triple_at ranks.triples at)) ≡ true

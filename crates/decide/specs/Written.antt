@@ -1,6 +1,6 @@
 -- How the log of a reduction stands in a certificate.
 use Rattle.std.specs.Prelude.{◌≡◌, ℕ, Option, None, Some, true, List, [], ◌∷◌, map}
-use Rattle.auto_core.specs.Delayed.{RankedPairs}
+use Rattle.auto_core.specs.Delayed.{RankedTriples}
 use Rattle.bit_rel.specs.Relation.{Relation}
 use Rattle.prune_pairs.specs.declared.removing.Gone.{Gone}
 use Rattle.prune_pairs.specs.Least.{numbers_of}
@@ -18,17 +18,18 @@ use Rattle.cert_value.specs.declared.types.GoneBy.{GoneBy}
 use Rattle.cert_value.specs.declared.types.RelBlock.{RelBlock}
 use Rattle.cert_value.specs.declared.types.RankBlock.{RankBlock}
 use Rattle.cert_value.specs.WellFormed.{is_block, is_rank_block}
-use Rattle.log_check.specs.Blocks.{pairs_of, ranked_pairs_of}
+use Rattle.log_check.specs.Blocks.{pairs_of, triples_of}
 
--- The block lists just these pairs: its rows are not empty, and left and right numbers ascend.
+-- The block lists just these pairs: its rows are not empty, left and right numbers ascend, and right numbers that follow one another
+-- make one run.
 pub record IsBlockOf (S : List (ℕ × ℕ)) (block : RelBlock) : Type 0 where
   pub formed : is_block block ≡ true
   pub pairs : pairs_of block ≡ S
 
--- The same of pairs that have a rank or none.
-pub record IsRankBlockOf (X : RankedPairs) (block : RankBlock) : Type 0 where
-  pub formed : is_rank_block block ≡ true
-  pub pairs : ranked_pairs_of block ≡ X
+-- The same of triples with so many announced letters, each with a rank or without one.
+pub record IsRankBlockOf (letters : ℕ) (X : RankedTriples) (block : RankBlock) : Type 0 where
+  pub formed : is_rank_block letters block ≡ true
+  pub triples : triples_of block ≡ X
 
 -- The things of the first list stand, one by one and in their order, for those of the second.
 abbrev pub AreWritten : (S T : Type 0) → (S → T → Type 0) → List S → List T → Type 0
@@ -63,7 +64,8 @@ IsFirstWritten (step.Cut pair look gone back ahead) written =
 abbrev pub AreGroundsOf : MergeBy → Grounds → Type 0
 AreGroundsOf (by.Forward look rel) written = (block : RelBlock) × IsBlockOf rel.pairs block × (written ≡ grounds.Forward look block)
 AreGroundsOf (by.Backward look rel) written = (block : RelBlock) × IsBlockOf rel.pairs block × (written ≡ grounds.Backward look block)
-AreGroundsOf (by.Delayed ranks) written = (block : RankBlock) × IsRankBlockOf ranks.pairs block × (written ≡ grounds.Delayed block)
+AreGroundsOf (by.Delayed ranks) written =
+    (block : RankBlock) × IsRankBlockOf ranks.letters ranks.triples block × (written ≡ grounds.Delayed ranks.letters block)
 
 -- How a step stands in the second log: a merge with its grounds, and a cut with the transitions that go alone.
 abbrev pub IsSecondWritten : Step → SecondStep → Type 0

@@ -8,7 +8,7 @@ ghost use Rattle.cert_value.specs.declared.types.YesBody.{YesBody};
 ghost use Rattle.cert_value.specs.declared.types.ListBody.{ListBody};
 ghost use Rattle.cert_value.specs.declared.types.Body.TheVariants as body;
 ghost use Rattle.decide.specs.Answer.{IsAnswer, HasFewParts};
-ghost use Rattle.decide.specs.Terms.{terms_of};
+ghost use Rattle.decide.specs.Terms.{AreBounded, terms_of, terms_ahead};
 ghost use Rattle.cert_check.specs.Laws.{IsValid};
 ghost use Rattle.decide.specs.Laws.{StandApart, ListsNew};
 ghost use Rattle.decide.specs.Searches.{bound_in};
@@ -19,13 +19,61 @@ use crate::terms::Terms;
 use auto_core::{Memory, Mode};
 use ba_format::Joined;
 use cert_value::Cert;
-use reduce_loop::reduce;
+use reduce_loop::reduce_ahead;
 use std::alloc::Global;
 
+/// The answer by the terms.
+fn answer(alloc: Global, pair: &Joined, terms: Terms) -> Result<Cert, Memory>
+    requires first_labels { pair.now.first.labels ≡ length pair.now.labels }
+    requires second_labels { pair.now.second.labels ≡ length pair.now.labels }
+    requires few_labels { length pair.now.labels ≤ 512 }
+    requires first_parts { HasFewParts 2048 pair.now.first }
+    requires second_parts { HasFewParts 512 pair.now.second }
+    requires bounded { AreBounded terms }
+    requires some { 1 ≤ terms.limit }
+
+    // The certificate is the answer: what it has to hold for the outcome of the search on the reduced automata.
+    ensures answer { IfOk result (IsAnswer pair.now terms) }
+
+    // It has a text, and it is valid for the two automata: it keeps all rules of the check.
+    ensures formed { IfOk result WellFormed }
+    ensures valid { IfOk result (IsValid pair.now) }
+
+    // A yes says an inclusion. Its logs lead to settled automata, and no live element of it subsumes another there.
+    ensures included { IfOk result (λ cert. (evidence : YesBody) → cert.body ≡ body.Yes evidence → Includes pair.now.first pair.now.second terms.mode) }
+    ensures apart_live { IfOk result (λ cert. (evidence : YesBody) → cert.body ≡ body.Yes evidence → StandApart pair.now terms evidence) }
+
+    // A no has a lasso that separates the two automata, in finite mode a word.
+    ensures apart { IfOk result (λ cert. (lasso : Lasso) → cert.body ≡ body.NoLasso lasso → SeparatesLasso pair.now.first pair.now.second lasso.prefix lasso.turn) }
+    ensures apart_word { IfOk result (λ cert. (word : List ℕ) → cert.body ≡ body.NoWord word → SeparatesWord pair.now.first pair.now.second word) }
+
+    // The logs of a list lead to settled automata. It has limit + 1 different supergraphs of these, in finite mode pairs of a state and a
+    // set, none subsumed by an earlier one.
+    ensures listed { IfOk result (λ cert. (list : ListBody) → cert.body ≡ body.Listing list → ListsNew pair.now terms list) }
+
+    // At a limit of at least the bound on different ones of the two automata no list comes.
+    ensures no_list { bound_in terms.mode pair.now.first.states pair.now.second.states ≤ terms.limit → IfOk result (λ cert. (list : ListBody) → cert.body ≡ body.Listing list → ⊥) }
+{
+    let first_states = pair.first.states();
+    let second_states = pair.second.states();
+    let first = reduce_ahead(alloc, &pair.first, terms.mode, terms.look, terms.letters)?;
+    let second = reduce_ahead(alloc, &pair.second, terms.mode, terms.look, terms.letters)?;
+    let order = direct_sim::relation(alloc, &second.auto, 1)?;
+    let logs = logs_of(alloc, first.log.as_slice(), second.log.as_slice())?;
+    Ok(Cert {
+        version: terms.version,
+        mode: terms.mode,
+        first_states,
+        second_states,
+        labels: pair.labels.count(),
+        body: body_of(alloc, &first.auto, &second.auto, &order, terms, logs)?,
+    })
+}
+
 /// Decides whether the second automaton accepts each lasso, in finite mode each word, that the first accepts. Both are reduced at the
-/// lookahead, and the reduced ones are searched. The certificate is the answer: a yes with the evidence of a closed set, a no with a lasso
-/// or word that separates the two, or the list of limit + 1 supergraphs, in finite mode pairs of a state and a set, where the limit was
-/// met. A yes and a list have the logs of both reductions.
+/// lookahead, and the reduced ones are searched. The certificate is the answer, in version 1: a yes with the evidence of a closed set, a
+/// no with a lasso or word that separates the two, or the list of limit + 1 supergraphs, in finite mode pairs of a state and a set, where
+/// the limit was met. A yes and a list have the logs of both reductions.
 pub fn include(
     alloc: Global,
     pair: &Joined,
@@ -36,8 +84,8 @@ pub fn include(
     requires first_labels { pair.now.first.labels ≡ length pair.now.labels }
     requires second_labels { pair.now.second.labels ≡ length pair.now.labels }
     requires few_labels { length pair.now.labels ≤ 512 }
-    requires first_parts { HasFewParts pair.now.first }
-    requires second_parts { HasFewParts pair.now.second }
+    requires first_parts { HasFewParts 2048 pair.now.first }
+    requires second_parts { HasFewParts 512 pair.now.second }
     requires look_from { 1 ≤ look }
     requires look_upto { look ≤ 6 }
     requires some { 1 ≤ limit }
@@ -65,18 +113,71 @@ pub fn include(
     // At a limit of at least the bound on different ones of the two automata no list comes.
     ensures no_list { bound_in mode pair.now.first.states pair.now.second.states ≤ limit → IfOk result (λ cert. (list : ListBody) → cert.body ≡ body.Listing list → ⊥) }
 {
-    let first_states = pair.first.states();
-    let second_states = pair.second.states();
-    let first = reduce(alloc, &pair.first, mode, look)?;
-    let second = reduce(alloc, &pair.second, mode, look)?;
-    let order = direct_sim::relation(alloc, &second.auto, 1)?;
-    let logs = logs_of(alloc, first.log.as_slice(), second.log.as_slice())?;
-    let terms = Terms { mode, look, limit };
-    Ok(Cert {
-        mode,
-        first_states,
-        second_states,
-        labels: pair.labels.count(),
-        body: body_of(alloc, &first.auto, &second.auto, &order, terms, logs)?,
-    })
+    answer(
+        alloc,
+        pair,
+        Terms {
+            mode,
+            look,
+            letters: 1,
+            version: 1,
+            limit,
+        },
+    )
+}
+
+/// The same with up to `letters` announced letters in the delayed games of the reductions, and the answer in version 2.
+pub fn include_ahead(
+    alloc: Global,
+    pair: &Joined,
+    mode: Mode,
+    look: u32,
+    letters: u32,
+    limit: u32,
+) -> Result<Cert, Memory>
+    requires first_labels { pair.now.first.labels ≡ length pair.now.labels }
+    requires second_labels { pair.now.second.labels ≡ length pair.now.labels }
+    requires few_labels { length pair.now.labels ≤ 512 }
+    requires first_parts { HasFewParts 2048 pair.now.first }
+    requires second_parts { HasFewParts 512 pair.now.second }
+    requires look_from { 1 ≤ look }
+    requires look_upto { look ≤ 6 }
+    requires letters_from { 1 ≤ letters }
+    requires letters_upto { letters ≤ 4 }
+    requires some { 1 ≤ limit }
+    requires few { limit ≤ 100000 }
+
+    // The certificate is the answer: what it has to hold for the outcome of the search on the reduced automata.
+    ensures answer { IfOk result (IsAnswer pair.now (terms_ahead mode look letters limit)) }
+
+    // It has a text, and it is valid for the two automata: it keeps all rules of the check.
+    ensures formed { IfOk result WellFormed }
+    ensures valid { IfOk result (IsValid pair.now) }
+
+    // A yes says an inclusion. Its logs lead to settled automata, and no live element of it subsumes another there.
+    ensures included { IfOk result (λ cert. (evidence : YesBody) → cert.body ≡ body.Yes evidence → Includes pair.now.first pair.now.second mode) }
+    ensures apart_live { IfOk result (λ cert. (evidence : YesBody) → cert.body ≡ body.Yes evidence → StandApart pair.now (terms_ahead mode look letters limit) evidence) }
+
+    // A no has a lasso that separates the two automata, in finite mode a word.
+    ensures apart { IfOk result (λ cert. (lasso : Lasso) → cert.body ≡ body.NoLasso lasso → SeparatesLasso pair.now.first pair.now.second lasso.prefix lasso.turn) }
+    ensures apart_word { IfOk result (λ cert. (word : List ℕ) → cert.body ≡ body.NoWord word → SeparatesWord pair.now.first pair.now.second word) }
+
+    // The logs of a list lead to settled automata. It has limit + 1 different supergraphs of these, in finite mode pairs of a state and a
+    // set, none subsumed by an earlier one.
+    ensures listed { IfOk result (λ cert. (list : ListBody) → cert.body ≡ body.Listing list → ListsNew pair.now (terms_ahead mode look letters limit) list) }
+
+    // At a limit of at least the bound on different ones of the two automata no list comes.
+    ensures no_list { bound_in mode pair.now.first.states pair.now.second.states ≤ limit → IfOk result (λ cert. (list : ListBody) → cert.body ≡ body.Listing list → ⊥) }
+{
+    answer(
+        alloc,
+        pair,
+        Terms {
+            mode,
+            look,
+            letters,
+            version: 2,
+            limit,
+        },
+    )
 }

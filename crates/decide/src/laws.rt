@@ -2,12 +2,12 @@
 
 ghost use Rattle.decide.specs.Laws.{OneAnswer, AnswersAreFormed, AnswersAreValid, AnswersAreTrue, ReductionsAreOne, WrittenLogsLead, OneOutcomeDecides};
 
-/// Two automata have one answer at a mode, a lookahead and a limit.
+/// Two automata have one answer by the same terms.
 pub fn one_answer()
     ensures { OneAnswer }
 {}
 
-/// An answer for automata that are small enough, at a lookahead and a limit within their bounds, has a text.
+/// An answer for automata that are small enough, by terms within their bounds, has a text.
 pub fn answers_are_formed()
     ensures { AnswersAreFormed }
 {}
@@ -22,7 +22,7 @@ pub fn answers_are_true()
     ensures { AnswersAreTrue }
 {}
 
-/// Two automata have one pair of reduced ones with their logs, at a mode and a lookahead.
+/// Two automata have one pair of reduced ones with their logs, by the same terms.
 pub fn reductions_are_one()
     ensures { ReductionsAreOne }
 {}

@@ -7,7 +7,7 @@ ghost use Rattle.reduce_loop.specs.declared.steps.Step.TheVariants as step;
 ghost use Rattle.decide.specs.Written.{gone_by, given, AreBlocksOf, AreGroundsOf, IsFirstWritten, IsSecondWritten, AreFirstWritten, AreSecondWritten};
 ghost use Rattle.decide.specs.Logs.{IsOnFew, IsMergeOnFew, IsStepOnFew, AreStepsOnFew, one_given, AreLogsOf};
 
-use crate::rows::{block_of, rank_block_of};
+use crate::rows::{block_of, copied, rank_block_of};
 use auto_core::{List, Memory};
 use bit_rel::Rel;
 use cert_value::{FirstStep, GoneBy, Grounds, RelBlock, SecondStep};
@@ -22,17 +22,6 @@ pub(crate) struct Logs {
     pub(crate) first: List<FirstStep>,
     /// The log of the second automaton's steps.
     pub(crate) second: List<SecondStep>,
-}
-
-/// The same numbers once more.
-fn copied(alloc: Global, numbers: &List<u32>) -> Result<List<u32>, Memory>
-    ensures { IfOk result (λ made. made ≡ numbers.now) }
-{
-    let mut made = List::new(alloc);
-    for number in numbers.as_slice() {
-        made.push(*number)?;
-    }
-    Ok(made)
 }
 
 /// The transitions that go, each with the better one.
@@ -97,10 +86,10 @@ fn first_step(alloc: Global, step: &Step) -> Result<FirstStep, Memory>
 {
     match step {
         Step::Trim { kept } => Ok(FirstStep::Trim {
-            kept: copied(alloc, kept)?,
+            kept: copied(alloc, kept.as_slice())?,
         }),
         Step::Merge { by: _, classes } => Ok(FirstStep::Merge {
-            classes: copied(alloc, classes)?,
+            classes: copied(alloc, classes.as_slice())?,
         }),
         Step::Cut {
             pair,
@@ -144,6 +133,7 @@ fn grounds_of(alloc: Global, by: &MergeBy) -> Result<Grounds, Memory>
             rel: block_of(alloc, rel)?,
         }),
         MergeBy::Delayed { ranks } => Ok(Grounds::Delayed {
+            letters: ranks.letters(),
             ranks: rank_block_of(alloc, ranks)?,
         }),
     }
@@ -156,11 +146,11 @@ fn second_step(alloc: Global, step: &Step) -> Result<SecondStep, Memory>
 {
     match step {
         Step::Trim { kept } => Ok(SecondStep::Trim {
-            kept: copied(alloc, kept)?,
+            kept: copied(alloc, kept.as_slice())?,
         }),
         Step::Merge { by, classes } => Ok(SecondStep::Merge {
             by: grounds_of(alloc, by)?,
-            classes: copied(alloc, classes)?,
+            classes: copied(alloc, classes.as_slice())?,
         }),
         Step::Cut {
             pair: _,

@@ -1,12 +1,13 @@
 //! The rows of a relation, as a certificate lists them.
 
-ghost use Rattle.std.specs.Prelude.{◌≡◌, ◌+◌, ◌≤◌, ◌<◌, ℕ, IfOk, IfSome};
+ghost use Rattle.std.specs.Prelude.{◌≡◌, ◌+◌, ◌-◌, ◌≤◌, ◌<◌, ℕ, IfOk, IfSome, drop, length, map, take};
+ghost use Rattle.delayed_sim.specs.Rankings.{row_key, triple_at};
 ghost use Rattle.decide.specs.Written.{IsBlockOf, IsRankBlockOf};
-ghost use Rattle.decide.specs.Rows.{AreRights, AreRankedRights, HasFewRanks};
-ghost use Rattle.log_check.specs.Blocks.{rank_of};
+ghost use Rattle.decide.specs.Rows.{AreRights, HasFewTriples, IsRankRowOf, ranked_of, code_for};
 
 use auto_core::{List, Memory};
 use bit_rel::Rel;
+use cert_text::joined_runs;
 use cert_value::{RankBlock, RankRow, Ranked, RelBlock, Row};
 use delayed_sim::Delayed;
 use std::alloc::Global;
@@ -27,14 +28,15 @@ fn rights_of(alloc: Global, rel: &Rel, left: u32) -> Result<List<u32>, Memory>
 
 /// A row for each state that the relation holds with some state.
 pub(crate) fn block_of(alloc: Global, rel: &Rel) -> Result<RelBlock, Memory>
-    requires { rel.now.size ≤ 512 }
+    requires { rel.now.size ≤ 2048 }
     ensures { IfOk result (IsBlockOf rel.now.pairs) }
 {
     let mut rows = List::new(alloc);
     for left in 0..rel.size() {
         let rights = rights_of(alloc, rel, left)?;
         if !rights.as_slice().is_empty() {
-            rows.push(Row { left, rights })?;
+            let runs = joined_runs(alloc, rights.as_slice())?;
+            rows.push(Row { left, runs })?;
         }
     }
     Ok(RelBlock { rows })
@@ -43,8 +45,7 @@ pub(crate) fn block_of(alloc: Global, rel: &Rel) -> Result<RelBlock, Memory>
 /// The code of a rank: 0 where there is none, and otherwise one more than the rank.
 fn code_of(rank: Option<u32>) -> u32
     requires { IfSome rank (λ r. r + 1 < 1000000000) }
-    ensures rank { rank_of result ≡ rank }
-    ensures short { result < 1000000000 }
+    ensures { result ≡ code_for rank }
 {
     match rank {
         None => 0,
@@ -52,33 +53,64 @@ fn code_of(rank: Option<u32>) -> u32
     }
 }
 
-/// The states that the relation holds `left` with, ascending, each with the code of its rank.
-fn ranked_rights(alloc: Global, ranks: &Delayed, left: u32) -> Result<List<Ranked>, Memory>
-    requires left { left < ranks.now.size }
-    requires few { HasFewRanks ranks.now }
-    ensures { IfOk result (AreRankedRights ranks.now.pairs left ranks.now.size) }
+/// The same numbers once more.
+pub(crate) fn copied(alloc: Global, numbers: &[u32]) -> Result<List<u32>, Memory>
+    ensures { IfOk result (λ made. made ≡ numbers.now) }
+{
+    let mut made = List::new(alloc);
+    for number in numbers {
+        made.push(*number)?;
+    }
+    Ok(made)
+}
+
+/// The right states of so many triples from `at` on, each with the code of its rank.
+fn ranked_rights(
+    alloc: Global,
+    ranks: &Delayed,
+    at: usize,
+    count: usize,
+) -> Result<List<Ranked>, Memory>
+    requires within { at + count ≤ length ranks.now.triples }
+    requires few { HasFewTriples ranks.now }
+    ensures { IfOk result (λ rights. rights ≡ map ranked_of (take count (drop at ranks.now.triples))) }
 {
     let mut rights = List::new(alloc);
-    for right in 0..ranks.states() {
-        if ranks.relates(left, right) {
-            let code = code_of(ranks.rank(left, right));
-            rights.push(Ranked { right, code })?;
-        }
+    for i in 0..count {
+        rights.push(Ranked {
+            right: ranks.right(at + i),
+            code: code_of(ranks.rank_of(at + i)),
+        })?;
     }
     Ok(rights)
 }
 
-/// A row for each state that the relation holds with some state, with the ranks.
+/// The row of the triples from `at` up to `end`, which is not among them.
+fn rank_row(alloc: Global, ranks: &Delayed, at: usize, end: usize) -> Result<RankRow, Memory>
+    requires some { at < end }
+    requires within { end ≤ length ranks.now.triples }
+    requires few { HasFewTriples ranks.now }
+    requires same { (i : ℕ) → at ≤ i → i < end → row_key (triple_at ranks.now.triples i) ≡ row_key (triple_at ranks.now.triples at) }
+    ensures { IfOk result (IsRankRowOf ranks.now at end) }
+{
+    Ok(RankRow {
+        left: ranks.left(at),
+        ahead: copied(alloc, ranks.ahead(at))?,
+        rights: ranked_rights(alloc, ranks, at, end - at)?,
+    })
+}
+
+/// A row for each left state and announced letters that the relation holds with some state, with the ranks.
 pub(crate) fn rank_block_of(alloc: Global, ranks: &Delayed) -> Result<RankBlock, Memory>
-    requires { HasFewRanks ranks.now }
-    ensures { IfOk result (IsRankBlockOf ranks.now.pairs) }
+    requires { HasFewTriples ranks.now }
+    ensures { IfOk result (IsRankBlockOf ranks.now.letters ranks.now.triples) }
 {
     let mut rows = List::new(alloc);
-    for left in 0..ranks.states() {
-        let rights = ranked_rights(alloc, ranks, left)?;
-        if !rights.as_slice().is_empty() {
-            rows.push(RankRow { left, rights })?;
-        }
+    let mut at = 0;
+    while at < ranks.count() {
+        let end = ranks.row_end(at);
+        rows.push(rank_row(alloc, ranks, at, end)?)?;
+        at = end;
     }
     Ok(RankBlock { rows })
 }

@@ -1,89 +1,90 @@
--- The pairs of a block, row by row.
-use Rattle.std.proofs.Common.{◌≡◌, ◌↔◌, ◌⊎◌, ℕ, ◌+◌, ◌<◌, inl, inr, List, [], ◌∷◌, ◌++◌, length, map, take, slice_index_or, sym, ap, ◌∙◌, subst, arith, append-nil, All, ◌≤◌, take_all, IsTrue, true, refl}
+-- The pairs of a block, row by row and run by run.
+use Rattle.std.proofs.Common.{◌≡◌, ◌↔◌, ◌⊎◌, ℕ, ◌+◌, ◌-◌, ◌<◌, inl, inr, List, [], ◌∷◌, ◌++◌, length, take, drop, slice_index_or, sym, ap, ◌∙◌, subst, arith, All, ◌≤◌, take_all, IsTrue, true, refl}
 use Rattle.std.proofs.lemmas.Bool.{cases_lt}
-use Rattle.std.specs.List.{flat_map}
-use Rattle.std.proofs.lemmas.List.{map_more, take_more}
-use Rattle.std.proofs.lemmas.List.Elements.{Contains-append_cases, Contains-append_left, Contains-append_right, Contains-push_cases, Contains-push, All-push}
-use Rattle.std.proofs.lemmas.List.Concat.{flat_map-append}
+use Rattle.std.specs.List.{flat_map, range_with_len}
+use Rattle.std.proofs.lemmas.List.{map-append, take_more, drop_more}
+use Rattle.std.proofs.lemmas.List.Elements.{Contains-append_cases, Contains-append_left, Contains-append_right, All-push}
 use Rattle.auto_core.specs.Game.{Holds, Answers, Stable, ArePairsBelow}
+use Rattle.auto_core.proofs.PathLemmas.{Contains-here, Contains-cons_cases, none_in_nil}
 use Rattle.cert_value.specs.declared.types.Row.{Row}
-use Rattle.log_check.specs.Blocks.{pairs_of_row}
+use Rattle.cert_value.specs.declared.types.Run.{Run}
+use Rattle.cert_value.specs.Text.{run_numbers, numbers_of}
+use Rattle.cert_value.proofs.TextLemmas.{span_more}
+use Rattle.log_check.specs.Blocks.{pairs_with, pairs_of_row}
 use Rattle.log_check.specs.Stability.{IsRowStable}
 
 -- The relation holds what it held and these pairs.
 pub record HasMore (old now pairs : List (ℕ × ℕ)) : Type 0 where
   pub each : (p q : ℕ) → Holds now p q ↔ (Holds old p q ⊎ Holds pairs p q)
 
-nothing_held : (p q : ℕ) → Holds [] p q → ⊥
-nothing_held p q (k, k_in, is) = omega arith
-
 pub no_more : (old : List (ℕ × ℕ)) → HasMore old old []
-no_more old = record { each = λ p q. (λ h. inl h, λ h. elim h [ inl x ↦ x | inr x ↦ absurd (nothing_held p q x) ]) }
+no_more old = record { each = λ p q. (λ h. inl h, λ h. elim h [ inl x ↦ x | inr x ↦ absurd (none_in_nil (p, q) x) ]) }
 
--- The rights of a row so far.
-abbrev pub first_pairs : Row → ℕ → List (ℕ × ℕ)
-first_pairs row k = map (λ q. (row.left, q)) (take k row.rights)
-
-pub one_more : (old now new : List (ℕ × ℕ)) (row : Row) (k right d : ℕ) → k < length row.rights → right ≡ slice_index_or row.rights k d →
-    ((r s : ℕ) → Holds new r s ↔ (Holds now r s ⊎ ((r ≡ row.left) × (s ≡ right)))) → HasMore old now (first_pairs row k) → HasMore old new (first_pairs row (k + 1))
-one_more old now new row k right d lt is adds has = record {
+-- More, and then more again.
+pub more_join : (old now new xs ys : List (ℕ × ℕ)) → HasMore old now xs → HasMore now new ys → HasMore old new (xs ++ ys)
+more_join old now new xs ys first then = record {
   each = λ p q. (
-    λ h. elim ((adds p q).0 h) [
-      | inl before ↦ elim ((has.each p q).0 before) [ inl x ↦ inl x | inr x ↦ inr (there p q x) ]
-      | inr same ↦ inr (here p q same.0 same.1)
+    λ h. elim ((then.each p q).0 h) [
+      | inl before ↦ elim ((first.each p q).0 before) [ inl x ↦ inl x | inr x ↦ inr (Contains-append_left xs ys (p, q) x) ]
+      | inr here ↦ inr (Contains-append_right xs ys (p, q) here)
     ],
     λ h. elim h [
-      | inl x ↦ (adds p q).1 (inl ((has.each p q).1 (inl x)))
-      | inr x ↦ elim (cases p q x) [ inl before ↦ (adds p q).1 (inl ((has.each p q).1 (inr before))) | inr same ↦ (adds p q).1 (inr same) ]
+      | inl x ↦ (then.each p q).1 (inl ((first.each p q).1 (inl x)))
+      | inr x ↦ elim (Contains-append_cases xs ys (p, q) x) [
+        | inl before ↦ (then.each p q).1 (inl ((first.each p q).1 (inr before)))
+        | inr here ↦ (then.each p q).1 (inr here)
+      ]
     ],
   );
 }
-  where
-    more : first_pairs row (k + 1) ≡ first_pairs row k ++ (row.left, slice_index_or row.rights k d) ∷ []
-    more = map_more (λ q. (row.left, q)) row.rights k d lt
 
-    there : (p q : ℕ) → Holds (first_pairs row k) p q → Holds (first_pairs row (k + 1)) p q
-    there p q x = subst (λ l. Holds l p q) (sym more) (Contains-append_left (first_pairs row k) ((row.left, slice_index_or row.rights k d) ∷ []) (p, q) x)
+pair_is : (p q r s : ℕ) → p ≡ r → q ≡ s → ◌≡◌ {A = ℕ × ℕ} (r, s) (p, q)
+pair_is p q r s e f = subst (λ a. ◌≡◌ {A = ℕ × ℕ} (r, s) (a, q)) (sym e) (ap (λ b. (r, b)) (sym f))
 
-    here : (p q : ℕ) → p ≡ row.left → q ≡ right → Holds (first_pairs row (k + 1)) p q
-    here p q e f =
-        let same : ◌≡◌ {A = ℕ × ℕ} (row.left, slice_index_or row.rights k d) (p, q) = subst (λ a. ◌≡◌ {A = ℕ × ℕ} (row.left, slice_index_or row.rights k d) (a, q)) (sym e) (ap (λ b. (row.left, b)) (sym is ∙ sym f)) in
-        subst (λ l. Holds l p q) (sym more) (subst (λ y. Holds (first_pairs row k ++ y ∷ []) p q) (sym same) (Contains-push (first_pairs row k) (p, q)))
-
-    cases : (p q : ℕ) → Holds (first_pairs row (k + 1)) p q → Holds (first_pairs row k) p q ⊎ ((p ≡ row.left) × (q ≡ right))
-    cases p q x = elim (Contains-push_cases (first_pairs row k) (row.left, slice_index_or row.rights k d) (p, q) (subst (λ l. Holds l p q) more x)) [
+pub one_more : (now new : List (ℕ × ℕ)) (left right : ℕ) → ((r s : ℕ) → Holds new r s ↔ (Holds now r s ⊎ ((r ≡ left) × (s ≡ right)))) → HasMore now new ((left, right) ∷ [])
+one_more now new left right adds = record {
+  each = λ p q. (
+    λ h. elim ((adds p q).0 h) [ inl before ↦ inl before | inr same ↦ inr (Contains-here (left, right) (p, q) [] (pair_is p q left right same.0 same.1)) ],
+    λ h. (adds p q).1 (elim h [
       | inl before ↦ inl before
-      | inr e ↦ inr (sym (ap (λ (z : ℕ × ℕ). z.0) e), sym (ap (λ (z : ℕ × ℕ). z.1) e) ∙ sym is)
-    ]
+      | inr x ↦ elim (Contains-cons_cases (left, right) (p, q) [] x) [
+        | inl e ↦ inr (sym (ap (λ (z : ℕ × ℕ). z.0) e), sym (ap (λ (z : ℕ × ℕ). z.1) e))
+        | inr none ↦ absurd (none_in_nil (p, q) none)
+      ]
+    ]),
+  );
+}
 
--- The rows of a block so far.
-abbrev pub first_rows : List Row → ℕ → List (ℕ × ℕ)
-first_rows rows k = flat_map pairs_of_row (take k rows)
+-- Whatever has the rest besides what is held now has all besides what was held.
+abbrev pub Completes : List (ℕ × ℕ) → List (ℕ × ℕ) → List (ℕ × ℕ) → List (ℕ × ℕ) → Type 0
+Completes old now rest all = (new : List (ℕ × ℕ)) → HasMore now new rest → HasMore old new all
 
-pub rows_more : (now new : List (ℕ × ℕ)) (rows : List Row) (k : ℕ) (row d : Row) → k < length rows → row ≡ slice_index_or rows k d →
-    ((p q : ℕ) → Holds new p q ↔ (Holds now p q ⊎ Holds (pairs_of_row row) p q)) → ((p q : ℕ) → Holds now p q ↔ Holds (first_rows rows k) p q) →
-    (p q : ℕ) → Holds new p q ↔ Holds (first_rows rows (k + 1)) p q
-rows_more now new rows k row d lt is adds has p q = (
-  λ h. elim ((adds p q).0 h) [
-    | inl before ↦ subst (λ l. Holds l p q) (sym more) (Contains-append_left (first_rows rows k) (pairs_of_row row) (p, q) ((has p q).0 before))
-    | inr here ↦ subst (λ l. Holds l p q) (sym more) (Contains-append_right (first_rows rows k) (pairs_of_row row) (p, q) here)
-  ],
-  λ h. elim (Contains-append_cases (first_rows rows k) (pairs_of_row row) (p, q) (subst (λ l. Holds l p q) more h)) [
-    | inl before ↦ (adds p q).1 (inl ((has p q).1 before))
-    | inr here ↦ (adds p q).1 (inr here)
-  ],
+pub completes_more :
+    (old now next here rest left all : List (ℕ × ℕ)) → left ≡ here ++ rest → HasMore now next here → Completes old now left all → Completes old next rest all
+completes_more old now next here rest left all is more before new then =
+    before new (subst (HasMore now new) (sym is) (more_join now next new here rest more then))
+
+pub completes_all : (old now left all : List (ℕ × ℕ)) → left ≡ [] → Completes old now left all → HasMore old now all
+completes_all old now left all is before = before now (subst (HasMore now now) (sym is) (no_more now))
+
+pub held_from_none : (now pairs : List (ℕ × ℕ)) → HasMore [] now pairs → (p q : ℕ) → Holds now p q ↔ Holds pairs p q
+held_from_none now pairs has p q = (
+  λ h. elim ((has.each p q).0 h) [ inl none ↦ absurd (none_in_nil (p, q) none) | inr x ↦ x ],
+  λ h. (has.each p q).1 (inr h),
 )
-  where
-    more : first_rows rows (k + 1) ≡ first_rows rows k ++ pairs_of_row row
-    more = ap (flat_map pairs_of_row) (take_more rows k d lt) ∙ flat_map-append pairs_of_row (take k rows) (slice_index_or rows k d ∷ [])
-        ∙ ap (λ l. first_rows rows k ++ l) (append-nil (pairs_of_row (slice_index_or rows k d))) ∙ ap (λ r. first_rows rows k ++ pairs_of_row r) (sym is)
 
--- All the rights of a row, and all rows.
-pub whole_row : (row : Row) (k : ℕ) → length row.rights ≤ k → first_pairs row k ≡ pairs_of_row row
-whole_row row k le = ap (map (λ q. (row.left, q))) (take_all k row.rights le)
+-- What is left of a run, of the runs of a row and of the rows of a block, and the first of it.
+pub run_left : (left n last : ℕ) → n < last + 1 → pairs_with left (range_with_len n (last + 1 - n)) ≡ (left, n) ∷ pairs_with left (range_with_len (n + 1) (last + 1 - (n + 1)))
+run_left left n last lt = ap (pairs_with left) (span_more n last lt)
 
-pub whole_rows : (rows : List Row) (k : ℕ) → length rows ≤ k → first_rows rows k ≡ flat_map pairs_of_row rows
-whole_rows rows k le = ap (flat_map pairs_of_row) (take_all k rows le)
+pub runs_left : (left : ℕ) (runs : List Run) (k : ℕ) (d : Run) → k < length runs
+    → pairs_with left (numbers_of (drop k runs)) ≡ pairs_with left (run_numbers (slice_index_or runs k d)) ++ pairs_with left (numbers_of (drop (k + 1) runs))
+runs_left left runs k d lt =
+    ap (λ l. pairs_with left (numbers_of l)) (drop_more runs k d lt)
+    ∙ map-append (λ q. (left, q)) (run_numbers (slice_index_or runs k d)) (numbers_of (drop (k + 1) runs))
+
+pub rows_left : (rows : List Row) (k : ℕ) (d : Row) → k < length rows → flat_map pairs_of_row (drop k rows) ≡ pairs_of_row (slice_index_or rows k d) ++ flat_map pairs_of_row (drop (k + 1) rows)
+rows_left rows k d lt = ap (flat_map pairs_of_row) (drop_more rows k d lt)
 
 -- One more of a list, and one more number.
 pub all_more : {X : Type 0} (P : X → Type 0) (xs : List X) (k : ℕ) (x d : X) → k < length xs → x ≡ slice_index_or xs k d → All P (take k xs) → P x → All P (take (k + 1) xs)

@@ -5,12 +5,12 @@ use Rattle.std.proofs.lemmas.List.{get_or_default}
 use Rattle.std.proofs.lemmas.Result.{IfOk-weaker}
 use Rattle.auto_core.specs.Automaton.{Automaton, IsAutomaton, trans_at}
 use Rattle.auto_core.specs.Game.{Close, Holds, StableForward, StableBackward}
+use Rattle.auto_core.specs.Quotient.{RelatesMembersBy}
 use Rattle.auto_core.specs.Pruning.{look_back, look_ahead, IsStableBack, IsStableAhead}
 use Rattle.auto_core.specs.declared.parts.Memory.{Memory}
 use Rattle.auto_core.proofs.PathLemmas.{none_in_nil}
 use Rattle.bit_rel.specs.Relation.{Relation, IsClosed}
 use Rattle.bit_rel.proofs.ClosingLemmas.{close_same}
-use Rattle.quotient.specs.Announced.{RelatesMembersBy}
 use Rattle.cert_value.specs.declared.types.GoneBy.{GoneBy}
 use Rattle.cert_value.specs.declared.types.RelBlock.{RelBlock}
 use Rattle.cert_value.specs.WellFormed.{blocks_due}

@@ -24,10 +24,11 @@ use Rattle.cert_value.specs.declared.types.SecondStep.TheVariants as second
 use Rattle.cert_value.specs.declared.types.Grounds.TheVariants.{Forward, Backward, Delayed}
 use Rattle.cert_value.specs.declared.types.GoneBy.{GoneBy}
 use Rattle.cert_value.specs.declared.types.RelBlock.{RelBlock}
-use Rattle.cert_value.specs.WellFormed.{gone_of, blocks_due, are_classes, is_first_step, is_second_step}
+use Rattle.cert_value.specs.WellFormed.{gone_of, blocks_due, are_classes, is_first_step, are_grounds, is_second_step}
 use Rattle.log_check.specs.Follows.{StepFollows}
 use Rattle.log_check.specs.FirstLog.{back_of, ahead_of, IsAtMost, IsAsGood, IsNotBack, IsNotRelatedBack, IsGoneIn, first_rules}
 use Rattle.log_check.specs.SecondLog.{second_rules}
+use Rattle.log_check.proofs.ShapeLemmas.{delayed_grounds}
 use Rattle.log_check.specs.Laws.{IsEndOf, FirstLogGrows, SecondLogShrinks}
 
 -- ---- inclusion and ends, step after step
@@ -180,29 +181,30 @@ first_log_grows mode A B item (step ∷ steps) valid formed (C, keeps, rest) =
 -- ---- the second log
 
 second_step_shrinks :
-    (mode : Mode) (A B : Automaton) (item : ℕ) (step : SecondStep)
+    (version : ℕ) (mode : Mode) (A B : Automaton) (item : ℕ) (step : SecondStep)
     → IsAutomaton A
-    → is_second_step mode step ≡ true
+    → is_second_step version mode step ≡ true
     → StepFollows SecondStep second_rules A item step B
     → Includes B A mode × IsEndOf A B
-second_step_shrinks mode A B item (second.Trim kept) valid formed k =
+second_step_shrinks version mode A B item (second.Trim kept) valid formed k =
     (accepts_no_more A B kept mode k.leads, record { valid = k.leads.valid; labels = k.leads.labels })
-second_step_shrinks mode A B item (second.Cut gone) valid formed k =
+second_step_shrinks version mode A B item (second.Cut gone) valid formed k =
     (cut_accepts_no_more A B gone mode k.leads, record { valid = k.leads.valid; labels = k.leads.labels })
-second_step_shrinks mode A B item (second.Merge (Forward look block) classes) valid formed k =
+second_step_shrinks version mode A B item (second.Merge (Forward look block) classes) valid formed k =
     ((forward_same A B classes look _ mode valid k.holds.0.0.0 k.holds.1.1.0 k.holds.1.1.1.0 k.leads).1, record { valid = k.leads.valid; labels = k.leads.labels })
-second_step_shrinks mode A B item (second.Merge (Backward look block) classes) valid formed k =
+second_step_shrinks version mode A B item (second.Merge (Backward look block) classes) valid formed k =
     ((backward_same A B classes look _ mode valid k.holds.0.0.0 k.holds.1.1.0 k.holds.1.1.1.0 k.leads).1, record { valid = k.leads.valid; labels = k.leads.labels })
-second_step_shrinks Buchi A B item (second.Merge (Delayed ranks) classes) valid formed k =
-    ((delayed_quotient_is_same A B classes _ valid k.holds.1.1.0 k.holds.1.1.1.0 k.leads).1, record { valid = k.leads.valid; labels = k.leads.labels })
-second_step_shrinks Finite A B item (second.Merge (Delayed ranks) classes) valid formed k =
+second_step_shrinks version Buchi A B item (second.Merge (Delayed letters ranks) classes) valid formed k =
+    let grounds = delayed_grounds version Buchi letters ranks (and_parts (are_classes classes) (are_grounds version Buchi (Delayed letters ranks)) formed).1 in
+    ((delayed_quotient_is_same A B classes letters _ valid grounds.from_one k.holds.1.1.0 k.holds.1.1.1.0 k.leads).1, record { valid = k.leads.valid; labels = k.leads.labels })
+second_step_shrinks version Finite A B item (second.Merge (Delayed letters ranks) classes) valid formed k =
     absurd (false≢true (and_parts (are_classes classes) false formed).1)
 
 pub second_log_shrinks : SecondLogShrinks
-second_log_shrinks mode A B item [] valid formed is =
+second_log_shrinks version mode A B item [] valid formed is =
     (subst (λ x. Includes x A mode) (sym is) (includes_itself A mode), subst (IsEndOf A) (sym is) (record { valid = valid; labels = refl }))
-second_log_shrinks mode A B item (step ∷ steps) valid formed (C, keeps, rest) =
-    let parts = and_parts (is_second_step mode step) (list_all (is_second_step mode) steps) formed in
-    let here = second_step_shrinks mode A C item step valid parts.0 keeps in
-    let later = second_log_shrinks mode C B (suc item) steps here.1.valid parts.1 rest in
+second_log_shrinks version mode A B item (step ∷ steps) valid formed (C, keeps, rest) =
+    let parts = and_parts (is_second_step version mode step) (list_all (is_second_step version mode) steps) formed in
+    let here = second_step_shrinks version mode A C item step valid parts.0 keeps in
+    let later = second_log_shrinks version mode C B (suc item) steps here.1.valid parts.1 rest in
     (includes_on B C A mode later.0 here.0, end_on A C B here.1 later.1)

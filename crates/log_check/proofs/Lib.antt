@@ -4,5 +4,6 @@ pub mod FollowLemmas
 pub mod ShapeLemmas
 pub mod ClosureLemmas
 pub mod RankLemmas
+pub mod AheadLemmas
 pub mod LawLemmas
 pub mod LawOneLemmas

@@ -1,7 +1,7 @@
 -- Shapes of classes, ascending numbers, and lists as sets.
-use Rattle.std.proofs.Common.{◌≡◌, ℕ, zero, suc, ◌+◌, ◌<◌, ◌≤◌, ◌⊎◌, ◌↔◌, inl, inr, Bool, true, List, [], ◌∷◌, ◌++◌, length, take, slice_index, slice_index_or, nat_le, Contains, sym, subst, arith, take_all}
+use Rattle.std.proofs.Common.{◌≡◌, ℕ, zero, suc, ◌+◌, ◌<◌, ◌≤◌, ◌⊎◌, ◌↔◌, ◌&&◌, ◌==◌, inl, inr, Bool, true, false, cond, List, [], ◌∷◌, ◌++◌, length, take, slice_index, slice_index_or, nat_le, Contains, sym, subst, arith, take_all}
 use Rattle.std.specs.List.Sorted.{IsStrictlyIncreasing}
-use Rattle.std.proofs.lemmas.Bool.{and_parts, leb-true}
+use Rattle.std.proofs.lemmas.Bool.{and_parts, leb-true, eqb-true, false≢true}
 use Rattle.std.proofs.lemmas.List.{take_more}
 use Rattle.std.proofs.lemmas.List.Elements.{Contains-append_left, Contains-push_cases, Contains-push}
 use Rattle.auto_core.specs.Automaton.{Automaton, IsAutomaton, trans, trans_at}
@@ -9,10 +9,13 @@ use Rattle.auto_core.specs.Quotient.{AreClasses}
 use Rattle.auto_core.specs.Run.{Run}
 use Rattle.auto_core.specs.Useful.{IsUseful}
 use Rattle.auto_core.specs.declared.parts.Mode.{Mode}
+use Rattle.auto_core.specs.declared.parts.Mode.TheVariants.{Buchi, Finite}
 use Rattle.auto_core.proofs.MoveLemmas.{move_in_range}
 use Rattle.auto_core.proofs.PathLemmas.{none_in_nil}
 use Rattle.quotient.specs.Counting.{HasShapeFault}
-use Rattle.cert_value.specs.WellFormed.{ascend_from, ascend}
+use Rattle.cert_value.specs.declared.types.RankBlock.{RankBlock}
+use Rattle.cert_value.specs.declared.types.Grounds.TheVariants.{Delayed}
+use Rattle.cert_value.specs.WellFormed.{ascend_from, ascend, is_rank_block, are_letters, are_grounds}
 
 -- Numbers that have a shape fault are no classes.
 pub no_classes : (classes : List ℕ) → HasShapeFault classes → AreClasses classes → ⊥
@@ -35,6 +38,23 @@ rises_from bound (n ∷ m ∷ ns) up (suc k) lt =
 
 pub rises : (ns : List ℕ) → ascend ns ≡ true → IsStrictlyIncreasing ns
 rises ns up = rises_from 0 ns up
+
+-- How many letters a delayed merge may announce, and its block.
+letters_by : (b : Bool) (n : ℕ) → cond b (nat_le 1 n && nat_le n 4) (n == 1) ≡ true → (1 ≤ n) × (n ≤ 4)
+letters_by true n e = let a = and_parts (nat_le 1 n) (nat_le n 4) e in (leb-true 1 n a.0, leb-true n 4 a.1)
+letters_by false n e = let one : n ≡ 1 = eqb-true n 1 e in (omega arith, omega arith)
+
+pub record AreDelayedGrounds (letters : ℕ) (ranks : RankBlock) : Type 0 where
+  pub from_one : 1 ≤ letters
+  pub upto_four : letters ≤ 4
+  pub formed : is_rank_block letters ranks ≡ true
+
+pub delayed_grounds : (version : ℕ) (mode : Mode) (letters : ℕ) (ranks : RankBlock) → are_grounds version mode (Delayed letters ranks) ≡ true → AreDelayedGrounds letters ranks
+delayed_grounds version Buchi letters ranks e =
+    let parts = and_parts (are_letters version letters) (is_rank_block letters ranks) e in
+    let few = letters_by (version == 2) letters parts.0 in
+    record { from_one = few.0; upto_four = few.1; formed = parts.1 }
+delayed_grounds version Finite letters ranks e = absurd (false≢true e)
 
 -- The set has the first k listed numbers, and one more.
 pub listed_more :

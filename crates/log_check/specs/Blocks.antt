@@ -1,27 +1,34 @@
--- The pairs that the blocks of a certificate list, with ranks or without, and whether they name states.
+-- What the blocks of a certificate list, pairs or triples with ranks, and whether they name states and labels.
 use Rattle.std.specs.Prelude.{◌≡◌, ℕ, ◌-◌, ◌<◌, ◌==◌, ◌↔◌, Option, None, Some, List, map, All, Contains, if◌then◌else◌}
 use Rattle.std.specs.List.{flat_map}
+use Rattle.auto_core.specs.Automaton.{Automaton}
 use Rattle.auto_core.specs.Game.{Holds}
-use Rattle.auto_core.specs.Delayed.{RankedPairs}
+use Rattle.auto_core.specs.Delayed.{RankedTriples}
 use Rattle.bit_rel.specs.Relation.{Relation}
 use Rattle.delayed_sim.specs.Rankings.{Ranking}
 use Rattle.cert_value.specs.declared.types.RelBlock.{RelBlock}
 use Rattle.cert_value.specs.declared.types.Row.{Row}
+use Rattle.cert_value.specs.declared.types.Run.{Run}
 use Rattle.cert_value.specs.declared.types.RankBlock.{RankBlock}
 use Rattle.cert_value.specs.declared.types.RankRow.{RankRow}
 use Rattle.cert_value.specs.declared.types.Ranked.{Ranked}
+use Rattle.cert_value.specs.Text.{numbers_of}
 
--- The pairs of a row.
+-- The pairs of p with these numbers.
+abbrev pub pairs_with : ℕ → List ℕ → List (ℕ × ℕ)
+pairs_with p numbers = map (λ q. (p, q)) numbers
+
+-- The pairs of a row: those of its left number with the numbers that its runs stand for.
 abbrev pub pairs_of_row : Row → List (ℕ × ℕ)
-pairs_of_row row = map (λ q. (row.left, q)) row.rights
+pairs_of_row row = pairs_with row.left (numbers_of row.runs)
 
 -- The pairs that the block lists.
 abbrev pub pairs_of : RelBlock → List (ℕ × ℕ)
 pairs_of block = flat_map pairs_of_row block.rows
 
--- The numbers of the row are below n.
+-- The numbers of the row are below n: of a run the last one tells.
 abbrev pub IsRowBelow : ℕ → Row → Type 0
-IsRowBelow n row = (row.left < n) × All (λ q. q < n) row.rights
+IsRowBelow n row = (row.left < n) × All (λ (run : Run). run.last < n) row.runs
 
 -- The numbers of the block are below n.
 abbrev pub IsBlockBelow : ℕ → RelBlock → Type 0
@@ -36,23 +43,30 @@ pub record IsBlockRelation (n : ℕ) (block : RelBlock) (rel : Relation) : Type 
 abbrev pub rank_of : ℕ → Option ℕ
 rank_of code = if code == 0 then None else Some (code - 1)
 
--- The pairs of a row with ranks.
-abbrev pub ranked_of_row : RankRow → RankedPairs
-ranked_of_row row = map (λ (r : Ranked). (row.left, r.right, rank_of r.code)) row.rights
+-- The triples of a row with ranks.
+abbrev pub triples_of_row : RankRow → RankedTriples
+triples_of_row row = map (λ (r : Ranked). (row.left, row.ahead, r.right, rank_of r.code)) row.rights
 
--- The pairs that the block lists, with their ranks.
-abbrev pub ranked_pairs_of : RankBlock → RankedPairs
-ranked_pairs_of block = flat_map ranked_of_row block.rows
+-- The triples that the block lists, with their ranks.
+abbrev pub triples_of : RankBlock → RankedTriples
+triples_of block = flat_map triples_of_row block.rows
 
--- The states of the row are below n.
-abbrev pub IsRankRowBelow : ℕ → RankRow → Type 0
-IsRankRowBelow n row = (row.left < n) × All (λ (r : Ranked). r.right < n) row.rights
+-- The states of the row are below n, and its announced letters are labels.
+pub record IsRankRowBelow (n labels : ℕ) (row : RankRow) : Type 0 where
+  pub left : row.left < n
+  pub ahead : All (λ a. a < labels) row.ahead
+  pub rights : All (λ (r : Ranked). r.right < n) row.rights
 
--- The states of the block are below n.
-abbrev pub IsRankBlockBelow : ℕ → RankBlock → Type 0
-IsRankBlockBelow n block = All (IsRankRowBelow n) block.rows
+-- So are those of the block.
+abbrev pub IsRankBlockBelow : ℕ → ℕ → RankBlock → Type 0
+IsRankBlockBelow n labels block = All (IsRankRowBelow n labels) block.rows
 
--- The relation with ranks, on n states, holds just the pairs that the block lists, with their ranks.
-pub record IsRankingOf (n : ℕ) (block : RankBlock) (ranks : Ranking) : Type 0 where
-  pub size : ranks.size ≡ n
-  pub pairs : (p q : ℕ) (rank : Option ℕ) → Contains ranks.pairs (p, q, rank) ↔ Contains (ranked_pairs_of block) (p, q, rank)
+-- The relation with ranks, on the states and labels of A and with n announced letters, holds just the triples that the block lists, with
+-- their ranks.
+pub record IsRankingOf (A : Automaton) (n : ℕ) (block : RankBlock) (ranks : Ranking) : Type 0 where
+  pub size : ranks.size ≡ A.states
+  pub labels : ranks.labels ≡ A.labels
+  pub letters : ranks.letters ≡ n
+  pub triples :
+      (b : List ℕ) (p q : ℕ) (rank : Option ℕ)
+      → Contains ranks.triples (p, b, q, rank) ↔ Contains (triples_of block) (p, b, q, rank)

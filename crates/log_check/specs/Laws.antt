@@ -30,9 +30,9 @@ FirstLogGrows =
 -- What a second log leads to accepts no more than the automaton before it.
 abbrev pub SecondLogShrinks : Type 0
 SecondLogShrinks =
-    (mode : Mode) (A B : Automaton) (item : ℕ) (steps : List SecondStep)
+    (version : ℕ) (mode : Mode) (A B : Automaton) (item : ℕ) (steps : List SecondStep)
     → IsAutomaton A
-    → list_all (is_second_step mode) steps ≡ true
+    → list_all (is_second_step version mode) steps ≡ true
     → SecondLogFollows A item steps B
     → Includes B A mode × IsEndOf A B
 

@@ -2,11 +2,10 @@
 use Rattle.std.specs.Prelude.{ℕ, List, [], ◌∷◌}
 use Rattle.auto_core.specs.Automaton.{Automaton}
 use Rattle.auto_core.specs.Game.{StableForward, StableBackward}
-use Rattle.auto_core.specs.Delayed.{HoldsPair, IsRight}
+use Rattle.auto_core.specs.Delayed.{IsRight, AreRelatedAhead}
 use Rattle.auto_core.specs.Useful.{IsKeptPart}
-use Rattle.auto_core.specs.Quotient.{IsQuotient, RelatesMembers}
+use Rattle.auto_core.specs.Quotient.{IsQuotient, RelatesMembersBy, RelatesMembers}
 use Rattle.auto_core.specs.Pruning.{IsCut}
-use Rattle.quotient.specs.Announced.{RelatesMembersBy}
 use Rattle.cert_value.specs.declared.types.SecondStep.{SecondStep}
 use Rattle.cert_value.specs.declared.types.SecondStep.TheVariants.{Trim, Merge, Cut}
 use Rattle.cert_value.specs.declared.types.Grounds.{Grounds}
@@ -14,7 +13,7 @@ use Rattle.cert_value.specs.declared.types.Grounds.TheVariants.{Forward, Backwar
 use Rattle.cert_value.specs.declared.types.RelBlock.{RelBlock}
 use Rattle.log_check.specs.declared.faults.Refusal.{Refusal}
 use Rattle.log_check.specs.Checks.{RuleCheck, rule_at}
-use Rattle.log_check.specs.Blocks.{pairs_of, IsBlockBelow, ranked_pairs_of, IsRankBlockBelow}
+use Rattle.log_check.specs.Blocks.{pairs_of, IsBlockBelow, triples_of, IsRankBlockBelow}
 use Rattle.log_check.specs.Parts.{AreStates, AreTransitions, IsLook, AreClassesFor}
 use Rattle.log_check.specs.Follows.{LogRules, Follows, Breaks}
 
@@ -23,7 +22,7 @@ abbrev pub IsBlockIn : Automaton → ℕ → RelBlock → Type 0
 IsBlockIn A look block = IsLook look × IsBlockBelow A.states block
 
 -- What is asked of a merge: what its grounds name is there, its classes are in shape, its relation is stable, or right with its ranks, and
--- its closure relates any two members of a class.
+-- the closure of it, or of its state relation, relates any two members of a class.
 abbrev pub merge_checks : Automaton → ℕ → Grounds → List ℕ → List RuleCheck
 merge_checks A item (Forward look block) classes =
     rule_at 1 item (IsBlockIn A look block)
@@ -37,11 +36,11 @@ merge_checks A item (Backward look block) classes =
     ∷ rule_at 4 item (StableBackward A look (pairs_of block))
     ∷ rule_at 6 item (RelatesMembers A classes (pairs_of block))
     ∷ []
-merge_checks A item (Delayed ranks) classes =
-    rule_at 1 item (IsRankBlockBelow A.states ranks)
+merge_checks A item (Delayed letters ranks) classes =
+    rule_at 1 item (IsRankBlockBelow A.states A.labels ranks)
     ∷ rule_at 3 item (AreClassesFor A classes)
-    ∷ rule_at 5 item (IsRight A (ranked_pairs_of ranks))
-    ∷ rule_at 6 item (RelatesMembersBy A classes (HoldsPair (ranked_pairs_of ranks)))
+    ∷ rule_at 5 item (IsRight A (triples_of ranks))
+    ∷ rule_at 6 item (RelatesMembersBy A classes (AreRelatedAhead A.labels letters (triples_of ranks)))
     ∷ []
 
 -- What is asked of a step: a trim and a cut name what is there, and need nothing more.

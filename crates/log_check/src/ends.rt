@@ -1,6 +1,6 @@
 //! The automata that the logs of a certificate lead to.
 
-ghost use Rattle.std.specs.Prelude.{◌≡◌, ◌^◌, ◌<◌, ◌≤◌, length, true, IfOk};
+ghost use Rattle.std.specs.Prelude.{◌≡◌, ◌^◌, ◌<◌, ◌≤◌, ℕ, length, true, IfOk};
 ghost use Rattle.std.specs.List.{list_all};
 ghost use Rattle.auto_core.specs.declared.parts.Mode.{Mode};
 ghost use Rattle.cert_value.specs.declared.types.FirstStep.{FirstStep};
@@ -62,7 +62,7 @@ fn second_end(
     item: u32,
     steps: &[SecondStep],
 ) -> Result<Auto, CheckFault>
-    requires formed { (mode : Mode) × (list_all (is_second_step mode) steps.now ≡ true) }
+    requires formed { (version : ℕ) × (mode : Mode) × (list_all (is_second_step version mode) steps.now ≡ true) }
     requires few { length steps.now < 10 ^ 9 }
     requires low { item ≤ 10 ^ 9 }
     ensures { TellsLog SecondStep second_rules automaton.now item steps.now result }
@@ -75,7 +75,7 @@ fn second_end(
 }
 
 /// The automata that both logs lead to, each step tested by its rules on the automaton that the steps before it lead to; otherwise the
-/// first rule that is broken, or want of memory. The steps are well-formed.
+/// first rule that is broken, or want of memory. The steps are well-formed in one version.
 pub fn log_ends(
     alloc: Global,
     mode: Mode,
@@ -85,7 +85,7 @@ pub fn log_ends(
     seconds: &[SecondStep],
 ) -> Result<Ends, CheckFault>
     requires first_formed { list_all is_first_step firsts.now ≡ true }
-    requires second_formed { list_all (is_second_step mode) seconds.now ≡ true }
+    requires second_formed { (version : ℕ) × (list_all (is_second_step version mode) seconds.now ≡ true) }
     requires few_first { length firsts.now < 10 ^ 9 }
     requires few_second { length seconds.now < 10 ^ 9 }
     ensures tells { TellsBothLogs mode first.now second.now firsts.now seconds.now result }

@@ -3,6 +3,7 @@
 
 mod blocks;
 mod closures;
+mod copying;
 mod cuts;
 mod ends;
 mod faults;
@@ -15,6 +16,7 @@ mod shapes;
 mod stability;
 
 pub use blocks::{is_block_below, relation_of};
+pub use copying::copied_numbers;
 pub use ends::{Ends, log_ends};
 pub use faults::{CheckFault, Refusal};
 pub use stability::is_stable;

@@ -1,19 +1,21 @@
 //! The relations with ranks that certificates list.
 
-ghost use Rattle.std.specs.Prelude.{◌≡◌, ◌<◌, ◌↔◌, ◌++◌, true, IfOk, IsTrue};
+ghost use Rattle.std.specs.Prelude.{◌≡◌, ◌≤◌, ◌↔◌, ◌++◌, true, IfOk, IsTrue};
 ghost use Rattle.cert_value.specs.WellFormed.{is_rank_block};
 ghost use Rattle.log_check.specs.Blocks.{rank_of, IsRankRowBelow, IsRankBlockBelow, IsRankingOf};
 ghost use Rattle.log_check.specs.RankedLists.{row_list, block_list};
 
-use auto_core::Memory;
+use crate::copying::copied_numbers;
+use auto_core::{Auto, Memory};
 use cert_value::{RankBlock, RankRow};
-use delayed_sim::{Delayed, RankedPair};
+use delayed_sim::{Delayed, RankedTriple};
 use std::alloc::Global;
 
-fn is_rank_row_below(states: u32, row: &RankRow) -> bool
-    ensures { IsTrue result ↔ IsRankRowBelow states row.now }
+fn is_rank_row_below(states: u32, labels: u32, row: &RankRow) -> bool
+    ensures { IsTrue result ↔ IsRankRowBelow states labels row.now }
 {
     row.left < states
+        && row.ahead.as_slice().iter().all(|letter| *letter < labels)
         && row
             .rights
             .as_slice()
@@ -21,12 +23,14 @@ fn is_rank_row_below(states: u32, row: &RankRow) -> bool
             .all(|ranked| ranked.right < states)
 }
 
-/// Tells whether the states of the block are those of which there are so many.
-pub(crate) fn is_rank_block_below(states: u32, block: &RankBlock) -> bool
-    ensures { IsTrue result ↔ IsRankBlockBelow states block.now }
+/// Tells whether the states of the block are those of the automaton, and its announced letters labels.
+pub(crate) fn is_rank_block_below(automaton: &Auto, block: &RankBlock) -> bool
+    ensures { IsTrue result ↔ IsRankBlockBelow automaton.now.states automaton.now.labels block.now }
 {
+    let states = automaton.states();
+    let labels = automaton.labels();
     for row in block.rows.as_slice() {
-        if !is_rank_row_below(states, row) {
+        if !is_rank_row_below(states, labels, row) {
             return false;
         }
     }
@@ -40,12 +44,14 @@ fn rank(code: u32) -> Option<u32>
     if code == 0 { None } else { Some(code - 1) }
 }
 
-fn add_row(pairs: &mut Vec<RankedPair>, row: &RankRow) -> Result<(), Memory>
-    ensures { IfOk result (λ _. pairs.new.items ≡ pairs.old.items ++ row_list row.now) }
+fn add_row(alloc: Global, triples: &mut Vec<RankedTriple>, row: &RankRow) -> Result<(), Memory>
+    ensures { IfOk result (λ _. triples.new.items ≡ triples.old.items ++ row_list row.now) }
 {
     for ranked in row.rights.as_slice() {
-        pairs.push(RankedPair {
+        let ahead = copied_numbers(alloc, row.ahead.as_slice())?;
+        triples.push(RankedTriple {
             left: row.left,
+            ahead,
             right: ranked.right,
             rank: rank(ranked.code),
         })?;
@@ -53,22 +59,35 @@ fn add_row(pairs: &mut Vec<RankedPair>, row: &RankRow) -> Result<(), Memory>
     Ok(())
 }
 
-fn pairs_of(alloc: Global, block: &RankBlock) -> Result<Vec<RankedPair>, Memory>
-    ensures { IfOk result (λ pairs. pairs.items ≡ block_list block.now) }
+fn listed_triples(alloc: Global, block: &RankBlock) -> Result<Vec<RankedTriple>, Memory>
+    ensures { IfOk result (λ triples. triples.items ≡ block_list block.now) }
 {
-    let mut pairs = Vec::new(alloc);
+    let mut triples = Vec::new(alloc);
     for row in block.rows.as_slice() {
-        add_row(&mut pairs, row)?;
+        add_row(alloc, &mut triples, row)?;
     }
-    Ok(pairs)
+    Ok(triples)
 }
 
-/// The relation with ranks, on so many states, that the block lists.
-pub(crate) fn ranking_of(alloc: Global, states: u32, block: &RankBlock) -> Result<Delayed, Memory>
-    requires formed { is_rank_block block.now ≡ true }
-    requires below { IsRankBlockBelow states block.now }
-    ensures { IfOk result (IsRankingOf states block.now) }
+/// The relation with ranks that the block lists, on the states of the automaton and with so many announced letters.
+pub(crate) fn ranking_of(
+    alloc: Global,
+    automaton: &Auto,
+    letters: u32,
+    block: &RankBlock,
+) -> Result<Delayed, Memory>
+    requires letters_from { 1 ≤ letters }
+    requires letters_upto { letters ≤ 4 }
+    requires formed { is_rank_block letters block.now ≡ true }
+    requires below { IsRankBlockBelow automaton.now.states automaton.now.labels block.now }
+    ensures { IfOk result (IsRankingOf automaton.now letters block.now) }
 {
-    let pairs = pairs_of(alloc, block)?;
-    Delayed::build(alloc, states, &pairs)
+    let triples = listed_triples(alloc, block)?;
+    Delayed::build(
+        alloc,
+        automaton.states(),
+        automaton.labels(),
+        letters,
+        &triples,
+    )
 }

@@ -1,6 +1,6 @@
 //! The steps of the second log: each is tested by its rules, and carried out.
 
-ghost use Rattle.std.specs.Prelude.{◌≡◌, ◌↔◌, [], ◌∷◌, true, IfOk, IsTrue};
+ghost use Rattle.std.specs.Prelude.{◌≡◌, ◌≤◌, ◌↔◌, [], ◌∷◌, ℕ, true, IfOk, IsTrue};
 ghost use Rattle.auto_core.specs.Game.{Holds, Stable};
 ghost use Rattle.auto_core.specs.Quotient.{IsQuotient, RelatesMembers};
 ghost use Rattle.auto_core.specs.declared.parts.Mode.{Mode};
@@ -76,24 +76,27 @@ fn merge_by_side<S: Side>(
     Ok(merge(alloc, automaton, &classes)?)
 }
 
-/// Makes the states of each class one, which a delayed relation relates.
+/// Makes the states of each class one, which a delayed relation relates whatever letters are announced.
 fn merge_delayed(
     alloc: Global,
     automaton: &Auto,
     item: u32,
+    letters: u32,
     ranks: &RankBlock,
     numbers: &[u32],
 ) -> Result<Auto, CheckFault>
-    requires { is_rank_block ranks.now ≡ true }
-    ensures { TellsStep SecondStep second_rules automaton.now item (SecondStep.Merge (Grounds.Delayed ranks.now) numbers.now) result }
+    requires letters_from { 1 ≤ letters }
+    requires letters_upto { letters ≤ 4 }
+    requires formed { is_rank_block letters ranks.now ≡ true }
+    ensures { TellsStep SecondStep second_rules automaton.now item (SecondStep.Merge (Grounds.Delayed letters ranks.now) numbers.now) result }
 {
-    if !is_rank_block_below(automaton.states(), ranks) {
+    if !is_rank_block_below(automaton, ranks) {
         return Err(CheckFault::Refused(Refusal { rule: 1, item }));
     }
     let Some(classes) = classes_for(alloc, automaton, numbers)? else {
         return Err(CheckFault::Refused(Refusal { rule: 3, item }));
     };
-    let ranking = ranking_of(alloc, automaton.states(), ranks)?;
+    let ranking = ranking_of(alloc, automaton, letters, ranks)?;
     if !delayed_sim::holds(automaton, &ranking) {
         return Err(CheckFault::Refused(Refusal { rule: 5, item }));
     }
@@ -113,7 +116,7 @@ fn merge_by(
     by: &Grounds,
     numbers: &[u32],
 ) -> Result<Auto, CheckFault>
-    requires { (mode : Mode) × (are_grounds mode by.now ≡ true) }
+    requires { (version : ℕ) × (mode : Mode) × (are_grounds version mode by.now ≡ true) }
     ensures { TellsStep SecondStep second_rules automaton.now item (SecondStep.Merge by.now numbers.now) result }
 {
     match by {
@@ -123,7 +126,9 @@ fn merge_by(
         Grounds::Backward { look, rel } => {
             merge_by_side(alloc, &Backward, automaton, item, *look, rel, numbers)
         }
-        Grounds::Delayed { ranks } => merge_delayed(alloc, automaton, item, ranks, numbers),
+        Grounds::Delayed { letters, ranks } => {
+            merge_delayed(alloc, automaton, item, *letters, ranks, numbers)
+        }
     }
 }
 
@@ -146,7 +151,7 @@ pub(crate) fn second_step(
     item: u32,
     step: &SecondStep,
 ) -> Result<Auto, CheckFault>
-    requires { (mode : Mode) × (is_second_step mode step.now ≡ true) }
+    requires { (version : ℕ) × (mode : Mode) × (is_second_step version mode step.now ≡ true) }
     ensures { TellsStep SecondStep second_rules automaton.now item step.now result }
 {
     match step {

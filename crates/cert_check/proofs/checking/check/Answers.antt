@@ -1,9 +1,19 @@
 use Rattle.std.proofs.Common.{sym, subst, rules}
 use Rattle.cert_value.specs.declared.types.Body.{Body}
 use Rattle.cert_check.specs.Rules.{HasSizes, BodyHolds}
-use Rattle.cert_check.proofs.ClosedLemmas.{valid_yes_includes}
+use Rattle.cert_check.proofs.ClosedLemmas.{yes_formed, list_formed, valid_yes_includes}
 use Rattle.cert_check.proofs.ListingLemmas.{kept_list_shows}
 use Rattle.cert_check.proofs.checking.check.Goals as goal
+
+pub check_yes-requires : goal.check_yes-requires
+check_yes-requires c =
+    let cert = c.args.cert.now in
+    record { formed = (cert.version, yes_formed cert c.in-Yes.evidence c.in-Yes.is c.requires.well_formed) }
+
+pub check_list-requires : goal.check_list-requires
+check_list-requires c =
+    let cert = c.args.cert.now in
+    record { formed = (cert.version, list_formed cert c.in-Listing.list c.in-Listing.is c.requires.well_formed) }
 
 pub returns-in_ok-check_yes-in-Yes-clause-truth : goal.returns-in_ok-check_yes-in-Yes-clause-truth
 returns-in_ok-check_yes-in-Yes-clause-truth c =

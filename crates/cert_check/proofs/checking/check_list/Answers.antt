@@ -6,23 +6,23 @@ use Rattle.cert_check.proofs.InclusionLemmas.{after_logs}
 use Rattle.cert_check.proofs.checking.check_list.Goals as goal
 
 pub ends_of-requires : goal.ends_of-requires
-ends_of-requires c = record { formed = (list_parts c.args.mode c.args.list.now c.requires.formed).logs }
+ends_of-requires c = record { formed = (c.requires.formed.0, (list_parts c.requires.formed.0 c.args.mode c.args.list.now c.requires.formed.1).logs) }
 
 pub next_item-item-requires : goal.next_item-item-requires
-next_item-item-requires c = record { formed = (list_parts c.args.mode c.args.list.now c.requires.formed).logs }
+next_item-item-requires c = record { formed = (c.requires.formed.0, (list_parts c.requires.formed.0 c.args.mode c.args.list.now c.requires.formed.1).logs) }
 
 pub check_listing-requires-clause-few : goal.check_listing-requires-clause-few
-check_listing-requires-clause-few c = (list_parts c.args.mode c.args.list.now c.requires.formed).few
+check_listing-requires-clause-few c = (list_parts c.requires.formed.0 c.args.mode c.args.list.now c.requires.formed.1).few
 
 pub check_listing-requires-clause-few_items : goal.check_listing-requires-clause-few_items
 check_listing-requires-clause-few_items c =
     let L = c.args.list.now in
-    let p = list_parts c.args.mode L c.requires.formed in
-    let logs = log_parts c.args.mode L.first L.second p.logs in
+    let p = list_parts c.requires.formed.0 c.args.mode L c.requires.formed.1 in
+    let logs = log_parts c.requires.formed.0 c.args.mode L.first L.second p.logs in
     omega (arith, p.few, logs.few_first, logs.few_second, c.next_item-item.ensures)
 
 pub check_listing-requires-clause-begun : goal.check_listing-requires-clause-begun
-check_listing-requires-clause-begun c = (list_parts c.args.mode c.args.list.now c.requires.formed).origins
+check_listing-requires-clause-begun c = (list_parts c.requires.formed.0 c.args.mode c.args.list.now c.requires.formed.1).origins
 
 pub returns : goal.returns
 returns c =

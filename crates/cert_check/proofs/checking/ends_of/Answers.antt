@@ -9,10 +9,10 @@ use Rattle.cert_check.proofs.checking.ends_of.Goals as goal
 
 pub log_ends-requires : goal.log_ends-requires
 log_ends-requires c =
-    let p = log_parts c.args.mode c.args.firsts.now c.args.seconds.now c.requires.formed in
+    let p = log_parts c.requires.formed.0 c.args.mode c.args.firsts.now c.args.seconds.now c.requires.formed.1 in
     record {
       first_formed = subst (λ (l : List FirstStep). list_all is_first_step l ≡ true) (sym c.as_slice-first_steps.ensures) p.first_steps;
-      second_formed = subst (λ (l : List SecondStep). list_all (is_second_step c.args.mode) l ≡ true) (sym c.as_slice-second_steps.ensures) p.second_steps;
+      second_formed = (c.requires.formed.0, subst (λ (l : List SecondStep). list_all (is_second_step c.requires.formed.0 c.args.mode) l ≡ true) (sym c.as_slice-second_steps.ensures) p.second_steps);
       few_first = subst (λ (l : List FirstStep). length l < 10 ^ 9) (sym c.as_slice-first_steps.ensures) p.few_first;
       few_second = subst (λ (l : List SecondStep). length l < 10 ^ 9) (sym c.as_slice-second_steps.ensures) p.few_second;
     }

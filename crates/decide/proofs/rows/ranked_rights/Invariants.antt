@@ -1,5 +1,6 @@
-use Rattle.decide.specs.Rows.{AreRankedRights}
+use Rattle.std.proofs.Common.{◌≡◌, map, take, drop}
+use Rattle.decide.specs.Rows.{ranked_of}
 use Rattle.decide.proofs.rows.ranked_rights.Given as goal
 
-abbrev pub invariant-loop-right : goal.invariant-loop-right
-invariant-loop-right l = AreRankedRights l.ranks.pairs l.left l.right l.rights
+abbrev pub invariant-loop-i : goal.invariant-loop-i
+invariant-loop-i l = l.rights ≡ map ranked_of (take l.i (drop l.at l.ranks.triples))

@@ -1,31 +1,30 @@
-use Rattle.std.proofs.Common.{◌≡◌, true, false, ℕ, ◌↔◌, inl, inr, List, refl, sym, ◌∙◌, subst, rules}
+use Rattle.std.proofs.Common.{◌≡◌, true, false, ℕ, inl, inr, List, refl, sym, ◌∙◌, subst, rules}
 use Rattle.std.proofs.lemmas.Bool.{false≢true}
-use Rattle.auto_core.specs.Delayed.{HoldsPair, IsRight}
-use Rattle.auto_core.specs.Game.{Holds}
-use Rattle.auto_core.specs.Quotient.{IsQuotient}
-use Rattle.quotient.specs.Announced.{RelatesMembersBy}
-use Rattle.log_check.specs.Blocks.{ranked_pairs_of, IsRankBlockBelow, IsRankingOf}
+use Rattle.auto_core.specs.Delayed.{IsRight, AreRelatedAhead}
+use Rattle.auto_core.specs.Quotient.{IsQuotient, RelatesMembersBy}
+use Rattle.log_check.specs.Blocks.{triples_of, IsRankBlockBelow, IsRankingOf}
 use Rattle.log_check.specs.Closures.{IsClosureOf, JoinsMembers}
 use Rattle.log_check.specs.Parts.{AreClassesFor}
-use Rattle.log_check.proofs.ClosureLemmas.{closure_of, joins_from, joins_to}
-use Rattle.log_check.proofs.RankLemmas.{turned, pair_alike, right_alike}
+use Rattle.log_check.proofs.AheadLemmas.{closure_made}
+use Rattle.log_check.proofs.ClosureLemmas.{joins_from, joins_to}
+use Rattle.log_check.proofs.RankLemmas.{triples_in, turned, right_alike}
 use Rattle.log_check.proofs.second.merge_delayed.Goals as goal
 
 pub returns-then-not-holds : goal.returns-then-not-holds
 returns-then-not-holds c =
     let A = c.args.automaton.now in
-    let X = ranked_pairs_of c.args.ranks.now in
-    let Y = c.in_ok-ranking.ranking.pairs in
-    let named : IsRankBlockBelow A.states c.args.ranks.now = search rules in
+    let X = triples_of c.args.ranks.now in
+    let Y = c.in_ok-ranking.ranking.triples in
+    let named : IsRankBlockBelow A.states A.labels c.args.ranks.now = search rules in
     let classed : (c.in-Some.classes ≡ c.args.numbers.now) × AreClassesFor A c.args.numbers.now = search rules in
-    let made : IsRankingOf A.states c.args.ranks.now c.in_ok-ranking.ranking = search rules in
+    let made : IsRankingOf A c.args.letters c.args.ranks.now c.in_ok-ranking.ranking = search rules in
     let is : c.holds.result ≡ false = search rules in
     inr (
       named,
       inr (
         classed.1,
         inl (
-          λ right. false≢true (sym is ∙ c.holds.ensures.1 (right_alike A X Y (turned Y X made.pairs) right)),
+          λ right. false≢true (sym is ∙ c.holds.ensures.1 (right_alike A X Y (turned Y X made.triples) right)),
           refl,
         ),
       ),
@@ -34,19 +33,18 @@ returns-then-not-holds c =
 pub returns-then-not-joins_members : goal.returns-then-not-joins_members
 returns-then-not-joins_members c =
     let A = c.args.automaton.now in
-    let X = ranked_pairs_of c.args.ranks.now in
-    let Y = c.in_ok-ranking.ranking.pairs in
+    let X = triples_of c.args.ranks.now in
+    let Y = c.in_ok-ranking.ranking.triples in
+    let R = AreRelatedAhead A.labels c.args.letters X in
     let rel = c.close.new.self in
-    let named : IsRankBlockBelow A.states c.args.ranks.now = search rules in
+    let named : IsRankBlockBelow A.states A.labels c.args.ranks.now = search rules in
     let classed : (c.in-Some.classes ≡ c.args.numbers.now) × AreClassesFor A c.args.numbers.now = search rules in
-    let made : IsRankingOf A.states c.args.ranks.now c.in_ok-ranking.ranking = search rules in
+    let made : IsRankingOf A c.args.letters c.args.ranks.now c.in_ok-ranking.ranking = search rules in
     let right_is : c.holds.result ≡ true = search rules in
-    let right : IsRight A X = right_alike A Y X made.pairs (c.holds.ensures.0 right_is) in
-    let same : (p q : ℕ) → Holds c.in_ok-rel.rel.pairs p q ↔ HoldsPair X p q = λ p q. (
-      λ h. (pair_alike Y X made.pairs p q).0 ((c.in_ok-rel.ensures.pairs p q).0 h),
-      λ h. (c.in_ok-rel.ensures.pairs p q).1 ((pair_alike Y X made.pairs p q).1 h),
-    ) in
-    let closed : IsClosureOf A.states (HoldsPair X) rel = closure_of A.states (HoldsPair X) c.in_ok-rel.rel rel (c.in_ok-rel.ensures.size ∙ made.size) same c.close.ensures.closed in
+    let right : IsRight A X = right_alike A Y X made.triples (c.holds.ensures.0 right_is) in
+    let below = triples_in A.states A.labels c.args.letters c.args.ranks.now c.requires.letters_from c.requires.formed named in
+    let closed : IsClosureOf A.states R rel =
+    closure_made A c.args.letters c.args.ranks.now c.in_ok-ranking.ranking c.in_ok-rel.rel rel below made c.in_ok-rel.ensures.size c.in_ok-rel.ensures.pairs c.close.ensures.closed in
     let is : c.joins_members.result ≡ false = search rules in
     inr (
       named,
@@ -55,7 +53,7 @@ returns-then-not-joins_members c =
         inr (
           right,
           inl (
-            λ relates. false≢true (sym is ∙ c.joins_members.ensures.1 (subst (λ (l : List ℕ). JoinsMembers l rel rel.size) (sym classed.0) (joins_to A c.args.numbers.now (HoldsPair X) rel closed relates))),
+            λ relates. false≢true (sym is ∙ c.joins_members.ensures.1 (subst (λ (l : List ℕ). JoinsMembers l rel rel.size) (sym classed.0) (joins_to A c.args.numbers.now R rel closed relates))),
             refl,
           ),
         ),
@@ -65,21 +63,20 @@ returns-then-not-joins_members c =
 pub returns : goal.returns
 returns c =
     let A = c.args.automaton.now in
-    let X = ranked_pairs_of c.args.ranks.now in
-    let Y = c.in_ok-ranking.ranking.pairs in
+    let X = triples_of c.args.ranks.now in
+    let Y = c.in_ok-ranking.ranking.triples in
+    let R = AreRelatedAhead A.labels c.args.letters X in
     let rel = c.close.new.self in
-    let named : IsRankBlockBelow A.states c.args.ranks.now = search rules in
+    let named : IsRankBlockBelow A.states A.labels c.args.ranks.now = search rules in
     let classed : (c.in-Some.classes ≡ c.args.numbers.now) × AreClassesFor A c.args.numbers.now = search rules in
-    let made : IsRankingOf A.states c.args.ranks.now c.in_ok-ranking.ranking = search rules in
+    let made : IsRankingOf A c.args.letters c.args.ranks.now c.in_ok-ranking.ranking = search rules in
     let right_is : c.holds.result ≡ true = search rules in
-    let right : IsRight A X = right_alike A Y X made.pairs (c.holds.ensures.0 right_is) in
-    let same : (p q : ℕ) → Holds c.in_ok-rel.rel.pairs p q ↔ HoldsPair X p q = λ p q. (
-      λ h. (pair_alike Y X made.pairs p q).0 ((c.in_ok-rel.ensures.pairs p q).0 h),
-      λ h. (c.in_ok-rel.ensures.pairs p q).1 ((pair_alike Y X made.pairs p q).1 h),
-    ) in
-    let closed : IsClosureOf A.states (HoldsPair X) rel = closure_of A.states (HoldsPair X) c.in_ok-rel.rel rel (c.in_ok-rel.ensures.size ∙ made.size) same c.close.ensures.closed in
+    let right : IsRight A X = right_alike A Y X made.triples (c.holds.ensures.0 right_is) in
+    let below = triples_in A.states A.labels c.args.letters c.args.ranks.now c.requires.letters_from c.requires.formed named in
+    let closed : IsClosureOf A.states R rel =
+    closure_made A c.args.letters c.args.ranks.now c.in_ok-ranking.ranking c.in_ok-rel.rel rel below made c.in_ok-rel.ensures.size c.in_ok-rel.ensures.pairs c.close.ensures.closed in
     let is : c.joins_members.result ≡ true = search rules in
     let joined : JoinsMembers c.args.numbers.now rel rel.size = subst (λ (l : List ℕ). JoinsMembers l rel rel.size) classed.0 (c.joins_members.ensures.0 is) in
-    let relates : RelatesMembersBy A c.args.numbers.now (HoldsPair X) = joins_from A c.args.numbers.now (HoldsPair X) rel closed joined in
+    let relates : RelatesMembersBy A c.args.numbers.now R = joins_from A c.args.numbers.now R rel closed joined in
     let quotient : IsQuotient A c.args.numbers.now c.in_ok-merge.field-0 = subst (λ (l : List ℕ). IsQuotient A l c.in_ok-merge.field-0) classed.0 c.in_ok-merge.ensures in
     record { holds = (named, (classed.1, (right, (relates, tt)))); leads = quotient }

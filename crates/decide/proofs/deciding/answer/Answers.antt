@@ -4,35 +4,35 @@ use Rattle.bit_rel.proofs.TableLemmas.{valid_table}
 use Rattle.reduce_loop.specs.declared.steps.Step.{Step}
 use Rattle.reduce_loop.proofs.PassLemmas.{reduced_no_larger}
 use Rattle.decide.specs.Answer.{IsOrder}
-use Rattle.decide.specs.Terms.{AreBounded, terms_of}
+use Rattle.decide.specs.Terms.{sight_of}
 use Rattle.decide.specs.Laws.{CanDecide}
 use Rattle.decide.specs.Logs.{AreStepsOnFew, AreLogsOf}
 use Rattle.decide.proofs.EndLemmas.{log_few}
 use Rattle.decide.proofs.MadeLemmas.{answer_made}
 use Rattle.decide.proofs.AnswerLemmas.{answers_are_formed, answers_are_valid, yes_includes, yes_stands_apart, no_separates, word_tells_apart, list_is_new, no_list_at_bound}
-use Rattle.decide.proofs.deciding.include.Goals as goal
+use Rattle.decide.proofs.deciding.answer.Goals as goal
 
 pub body_of-requires-clause-labels : goal.body_of-requires-clause-labels
 body_of-requires-clause-labels c =
-    let first = reduced_no_larger c.args.pair.now.first c.in_ok-first.first.auto c.args.mode c.args.look c.states-first_states.ensures.valid c.requires.look_from c.in_ok-first.ensures.reduced in
-    let second = reduced_no_larger c.args.pair.now.second c.in_ok-second.second.auto c.args.mode c.args.look c.states-second_states.ensures.valid c.requires.look_from c.in_ok-second.ensures.reduced in
+    let first = reduced_no_larger c.args.pair.now.first c.in_ok-first.first.auto c.args.terms.mode (sight_of c.args.terms) c.states-first_states.ensures.valid c.requires.bounded.look_from c.in_ok-first.ensures.reduced in
+    let second = reduced_no_larger c.args.pair.now.second c.in_ok-second.second.auto c.args.terms.mode (sight_of c.args.terms) c.states-second_states.ensures.valid c.requires.bounded.look_from c.in_ok-second.ensures.reduced in
     first.labels ∙ c.requires.first_labels ∙ sym c.requires.second_labels ∙ sym second.labels
 
 pub logs_of-requires-clause-first : goal.logs_of-requires-clause-first
 logs_of-requires-clause-first c =
     let reduced = c.in_ok-first.first in
     subst (λ (l : List Step). AreStepsOnFew l) (sym c.as_slice.ensures)
-    (log_few c.args.pair.now.first reduced.auto c.args.mode c.args.look reduced.log c.states-first_states.ensures.valid c.requires.first_parts.states c.in_ok-first.ensures.log)
+    (log_few c.args.pair.now.first reduced.auto c.args.terms.mode (sight_of c.args.terms) reduced.log c.states-first_states.ensures.valid c.requires.first_parts.states (omega (arith, c.requires.few_labels, c.requires.first_labels)) c.in_ok-first.ensures.log)
 
 pub logs_of-requires-clause-second : goal.logs_of-requires-clause-second
 logs_of-requires-clause-second c =
     let reduced = c.in_ok-second.second in
     subst (λ (l : List Step). AreStepsOnFew l) (sym c.as_slice-2.ensures)
-    (log_few c.args.pair.now.second reduced.auto c.args.mode c.args.look reduced.log c.states-second_states.ensures.valid c.requires.second_parts.states c.in_ok-second.ensures.log)
+    (log_few c.args.pair.now.second reduced.auto c.args.terms.mode (sight_of c.args.terms) reduced.log c.states-second_states.ensures.valid (omega (arith, c.requires.second_parts.states)) (omega (arith, c.requires.few_labels, c.requires.second_labels)) c.in_ok-second.ensures.log)
 
 pub body_of-requires-clause-few : goal.body_of-requires-clause-few
 body_of-requires-clause-few c =
-    let less = reduced_no_larger c.args.pair.now.second c.in_ok-second.second.auto c.args.mode c.args.look c.states-second_states.ensures.valid c.requires.look_from c.in_ok-second.ensures.reduced in
+    let less = reduced_no_larger c.args.pair.now.second c.in_ok-second.second.auto c.args.terms.mode (sight_of c.args.terms) c.states-second_states.ensures.valid c.requires.bounded.look_from c.in_ok-second.ensures.reduced in
     let fewer = less.states in
     omega (arith, c.in_ok-order.ensures.size, c.requires.second_parts.states)
 
@@ -47,8 +47,9 @@ returns-clause-answer c =
     let order : IsOrder second.auto R.pairs = record { greatest = c.in_ok-order.ensures.greatest; ascending = valid.in_order } in
     let written : AreLogsOf first.log second.log logs =
     subst (λ (l : List Step). AreLogsOf l second.log logs) c.as_slice.ensures (subst (λ (l : List Step). AreLogsOf c.as_slice.result.now l logs) c.as_slice-2.ensures c.in_ok-logs.ensures) in
-    answer_made pair (terms_of c.args.mode c.args.look c.args.limit) first second logs R.pairs c.in_ok-first.ensures.log c.in_ok-second.ensures.log written order
-    (record { mode = c.args.mode; first_states = c.states-first_states.result; second_states = c.states-second_states.result; labels = c.count.result; body = c.in_ok-body_of.field-0 })
+    answer_made pair c.args.terms first second logs R.pairs c.in_ok-first.ensures.log c.in_ok-second.ensures.log written order
+    (record { version = c.args.terms.version; mode = c.args.terms.mode; first_states = c.states-first_states.result; second_states = c.states-second_states.result; labels = c.count.result; body = c.in_ok-body_of.field-0 })
+    refl
     refl
     (c.states-first_states.ensures.count, c.states-second_states.ensures.count, c.count.ensures.count)
     c.in_ok-body_of.ensures
@@ -64,8 +65,7 @@ returns-clause-formed c =
       first_parts = c.requires.first_parts;
       second_parts = c.requires.second_parts;
     } in
-    let bounds : AreBounded (terms_of c.args.mode c.args.look c.args.limit) = record { look_from = c.requires.look_from; look_upto = c.requires.look_upto; few = c.requires.few } in
-    answers_are_formed c.args.pair.now (terms_of c.args.mode c.args.look c.args.limit) _ can bounds (returns-clause-answer c)
+    answers_are_formed c.args.pair.now c.args.terms _ can c.requires.bounded (returns-clause-answer c)
 
 pub returns-clause-valid : goal.returns-clause-valid
 returns-clause-valid c =
@@ -78,8 +78,7 @@ returns-clause-valid c =
       first_parts = c.requires.first_parts;
       second_parts = c.requires.second_parts;
     } in
-    let bounds : AreBounded (terms_of c.args.mode c.args.look c.args.limit) = record { look_from = c.requires.look_from; look_upto = c.requires.look_upto; few = c.requires.few } in
-    answers_are_valid c.args.pair.now (terms_of c.args.mode c.args.look c.args.limit) _ can bounds (returns-clause-answer c)
+    answers_are_valid c.args.pair.now c.args.terms _ can c.requires.bounded (returns-clause-answer c)
 
 pub returns-clause-included : goal.returns-clause-included
 returns-clause-included c =
@@ -92,8 +91,7 @@ returns-clause-included c =
       first_parts = c.requires.first_parts;
       second_parts = c.requires.second_parts;
     } in
-    let bounds : AreBounded (terms_of c.args.mode c.args.look c.args.limit) = record { look_from = c.requires.look_from; look_upto = c.requires.look_upto; few = c.requires.few } in
-    yes_includes c.args.pair.now (terms_of c.args.mode c.args.look c.args.limit) _ can bounds (returns-clause-answer c)
+    yes_includes c.args.pair.now c.args.terms _ can c.requires.bounded (returns-clause-answer c)
 
 pub returns-clause-apart_live : goal.returns-clause-apart_live
 returns-clause-apart_live c =
@@ -106,8 +104,7 @@ returns-clause-apart_live c =
       first_parts = c.requires.first_parts;
       second_parts = c.requires.second_parts;
     } in
-    let bounds : AreBounded (terms_of c.args.mode c.args.look c.args.limit) = record { look_from = c.requires.look_from; look_upto = c.requires.look_upto; few = c.requires.few } in
-    yes_stands_apart c.args.pair.now (terms_of c.args.mode c.args.look c.args.limit) _ can bounds (returns-clause-answer c)
+    yes_stands_apart c.args.pair.now c.args.terms _ can c.requires.bounded (returns-clause-answer c)
 
 pub returns-clause-apart : goal.returns-clause-apart
 returns-clause-apart c =
@@ -120,8 +117,7 @@ returns-clause-apart c =
       first_parts = c.requires.first_parts;
       second_parts = c.requires.second_parts;
     } in
-    let bounds : AreBounded (terms_of c.args.mode c.args.look c.args.limit) = record { look_from = c.requires.look_from; look_upto = c.requires.look_upto; few = c.requires.few } in
-    no_separates c.args.pair.now (terms_of c.args.mode c.args.look c.args.limit) _ can bounds (returns-clause-answer c)
+    no_separates c.args.pair.now c.args.terms _ can c.requires.bounded (returns-clause-answer c)
 
 pub returns-clause-apart_word : goal.returns-clause-apart_word
 returns-clause-apart_word c =
@@ -134,8 +130,7 @@ returns-clause-apart_word c =
       first_parts = c.requires.first_parts;
       second_parts = c.requires.second_parts;
     } in
-    let bounds : AreBounded (terms_of c.args.mode c.args.look c.args.limit) = record { look_from = c.requires.look_from; look_upto = c.requires.look_upto; few = c.requires.few } in
-    word_tells_apart c.args.pair.now (terms_of c.args.mode c.args.look c.args.limit) _ can bounds (returns-clause-answer c)
+    word_tells_apart c.args.pair.now c.args.terms _ can c.requires.bounded (returns-clause-answer c)
 
 pub returns-clause-listed : goal.returns-clause-listed
 returns-clause-listed c =
@@ -148,8 +143,7 @@ returns-clause-listed c =
       first_parts = c.requires.first_parts;
       second_parts = c.requires.second_parts;
     } in
-    let bounds : AreBounded (terms_of c.args.mode c.args.look c.args.limit) = record { look_from = c.requires.look_from; look_upto = c.requires.look_upto; few = c.requires.few } in
-    list_is_new c.args.pair.now (terms_of c.args.mode c.args.look c.args.limit) _ can bounds (returns-clause-answer c)
+    list_is_new c.args.pair.now c.args.terms _ can c.requires.bounded (returns-clause-answer c)
 
 pub returns-clause-no_list : goal.returns-clause-no_list
 returns-clause-no_list c high =
@@ -162,5 +156,4 @@ returns-clause-no_list c high =
       first_parts = c.requires.first_parts;
       second_parts = c.requires.second_parts;
     } in
-    let bounds : AreBounded (terms_of c.args.mode c.args.look c.args.limit) = record { look_from = c.requires.look_from; look_upto = c.requires.look_upto; few = c.requires.few } in
-    no_list_at_bound c.args.pair.now (terms_of c.args.mode c.args.look c.args.limit) _ can bounds (returns-clause-answer c) high
+    no_list_at_bound c.args.pair.now c.args.terms _ can c.requires.bounded (returns-clause-answer c) high

@@ -1,7 +1,7 @@
 use Rattle.std.proofs.Common.{◌≡◌, take}
 use Rattle.std.specs.List.{flat_map}
 use Rattle.log_check.specs.RankedLists.{row_list}
-use Rattle.log_check.proofs.rankings.pairs_of.Given as goal
+use Rattle.log_check.proofs.rankings.listed_triples.Given as goal
 
 abbrev pub invariant-loop-row : goal.invariant-loop-row
-invariant-loop-row l = l.pairs.items ≡ flat_map row_list (take l.row-index l.block.rows)
+invariant-loop-row l = l.triples.items ≡ flat_map row_list (take l.row-index l.block.rows)
