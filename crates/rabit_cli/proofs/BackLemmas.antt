@@ -27,10 +27,11 @@ use Rattle.ba_format.proofs.RenameLemmas.{IsRenaming, renamed_same}
 use Rattle.ba_format.proofs.SightLemmas.{same_text-refl, same_text-equal}
 use Rattle.reduce_loop.specs.declared.steps.Kind.TheVariants.{Trim, Forward, Backward, Delayed}
 use Rattle.reduce_loop.specs.Kinds.{kinds_of, prunings}
+use Rattle.reduce_loop.specs.declared.steps.Foresight.{Foresight}
 use Rattle.reduce_loop.specs.Passes.{IsReduced}
 use Rattle.reduce_loop.specs.Settled.{IsSettled}
 use Rattle.reduce_loop.proofs.PassLemmas.{reduced_no_larger}
-use Rattle.rabit_cli.specs.Files.{large_limits}
+use Rattle.rabit_cli.specs.Files.{first_limits}
 use Rattle.rabit_cli.specs.Reduce.{printed_limits, ReadsBackSame}
 use Rattle.rabit_cli.proofs.LabelLemmas.{reduced_labels}
 
@@ -159,14 +160,14 @@ trim_comes : (m : Mode) → Contains (kinds_of m) Trim
 trim_comes Buchi = contains_first Trim (Forward ∷ Backward ∷ Delayed ∷ prunings)
 trim_comes Finite = contains_first Trim (Forward ∷ Backward ∷ prunings)
 
-module _ (file_limits : Limits) (bytes : List ℕ) (named : Named) (B : Automaton) (m : Mode) (look : ℕ) (reads : Reads bytes file_limits named) (reduced : IsReduced named.auto m look B)
-    (same : Same named.auto B m) (settled : IsSettled B m look)
+module _ (file_limits : Limits) (bytes : List ℕ) (named : Named) (B : Automaton) (m : Mode) (sight : Foresight) (reads : Reads bytes file_limits named) (reduced : IsReduced named.auto m sight B)
+    (same : Same named.auto B m) (settled : IsSettled B m sight)
   where
     named_count : named.auto.labels ≡ length named.labels
     named_count = reads.reading.auto.labels_given ∙ ap length (sym reads.reading.labels)
 
     labels_stay : B.labels ≡ named.auto.labels
-    labels_stay = reduced_labels m look named.auto B reduced
+    labels_stay = reduced_labels m sight named.auto B reduced
 
     fit : IsWritable B named.labels
     fit =
@@ -206,18 +207,18 @@ module _ (file_limits : Limits) (bytes : List ℕ) (named : Named) (B : Automato
           )
 
 -- the text reads within limits of one state more than those of the file
-module _ (bytes : List ℕ) (named : Named) (B : Automaton) (m : Mode) (look : ℕ) (from : 1 ≤ look) (reads : Reads bytes large_limits named) (reduced : IsReduced named.auto m look B)
-    (same : Same named.auto B m) (settled : IsSettled B m look)
+module _ (bytes : List ℕ) (named : Named) (B : Automaton) (m : Mode) (sight : Foresight) (from : 1 ≤ sight.look) (reads : Reads bytes first_limits named) (reduced : IsReduced named.auto m sight B)
+    (same : Same named.auto B m) (settled : IsSettled B m sight)
   where
     reads_again : (again : Named) × Reads (written B named.labels) printed_limits again
     reads_again =
-        let within = read_is_within bytes large_limits named reads in
-        let small = reduced_no_larger named.auto B m look reads.reading.auto.valid from reduced in
-        reads_with_room B named.labels (fit large_limits bytes named B m look reads reduced same settled)
+        let within = read_is_within bytes first_limits named reads in
+        let small = reduced_no_larger named.auto B m sight reads.reading.auto.valid from reduced in
+        reads_with_room B named.labels (fit first_limits bytes named B m sight reads reduced same settled)
         (omega (arith, within.states, small.states)) (omega (arith, within.labels, small.labels)) (omega (arith, within.transitions, small.transitions))
 
     pub reads_back_same : ReadsBackSame named m (written B named.labels)
     reads_back_same = record {
       reads = reads_again;
-      same = joined_same large_limits bytes named B m look reads reduced same settled;
+      same = joined_same first_limits bytes named B m sight reads reduced same settled;
     }

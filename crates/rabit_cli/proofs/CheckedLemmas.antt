@@ -3,6 +3,7 @@ use Rattle.std.proofs.Common.{◌≡◌, ℕ, ◌^◌, ◌≤◌, List, [], ◌�
 use Rattle.std.specs.FinMap as map
 use Rattle.shelf_io.specs.Shelf.{FileMap}
 use Rattle.auto_core.specs.declared.parts.Mode.{Mode}
+use Rattle.ba_format.specs.declared.parts.Limits.{Limits}
 use Rattle.ba_format.specs.declared.parts.Named.{Named}
 use Rattle.ba_format.specs.declared.parts.Joined.{Joined}
 use Rattle.ba_format.specs.Reading.{Reads}
@@ -21,14 +22,14 @@ use Rattle.rabit_frame.specs.Files.{Output}
 use Rattle.rabit_frame.specs.Reading.{FileReads, only_said}
 use Rattle.rabit_words.specs.Question.{NamesDiffer}
 use Rattle.rabit_cli.specs.Printed.{included_text, not_included_text, word_not_included_text, limit_text}
-use Rattle.rabit_cli.specs.Files.{check_limits, automaton_file, ReadsCertificate}
+use Rattle.rabit_cli.specs.Files.{first_limits, second_limits, automaton_file, ReadsCertificate}
 use Rattle.rabit_cli.specs.Replies.{IsVerdictReply}
 use Rattle.rabit_cli.specs.Property.{IsPropertyReply, property_puts}
 use Rattle.rabit_cli.specs.Empty.{empty_text, emptiness}
 use Rattle.rabit_cli.specs.Universal.{all_loops, universality}
 use Rattle.rabit_cli.specs.Laws.{EmptyIsChecked, UniversalIsChecked}
 use Rattle.rabit_cli.proofs.EmptyLemmas.{empty_is_short}
-use Rattle.rabit_cli.proofs.UniversalLemmas.{universal_is_short}
+use Rattle.rabit_cli.proofs.UniversalLemmas.{universal_is_short, universal_has_no_fault}
 use Rattle.rabit_cli.proofs.LawLemmas.{written as put_there, other as put_elsewhere, reads_still}
 
 -- ---- the verdict of a check, beside what was found
@@ -50,15 +51,15 @@ module _ (files : FileMap) (a m c made : List ℕ) (cert : Cert) (apart : NamesD
   abbrev left : FileMap
   left = map.insert (map.insert files m made) c (text cert)
 
-  read_one : (one : Named) (number : ℕ) → FileReads files (automaton_file 1 check_limits a) (value.Automaton one) → FileReads left (automaton_file number check_limits a) (value.Automaton one)
-  read_one one number read =
+  read_one : (limits : Limits) (one : Named) (number : ℕ) → FileReads files (automaton_file 1 limits a) (value.Automaton one) → FileReads left (automaton_file number limits a) (value.Automaton one)
+  read_one limits one number read =
       let (bytes, has, few, reads) =
-      reads_still (map.insert files m made) c (text cert) (automaton_file 1 check_limits a) (value.Automaton one) (λ e. apart.1 (sym e))
-      (reads_still files m made (automaton_file 1 check_limits a) (value.Automaton one) (λ e. apart.0 (sym e)) read) in
+      reads_still (map.insert files m made) c (text cert) (automaton_file 1 limits a) (value.Automaton one) (λ e. apart.1 (sym e))
+      (reads_still files m made (automaton_file 1 limits a) (value.Automaton one) (λ e. apart.0 (sym e)) read) in
       (bytes, has, few, reads)
 
-  read_made : (other : Named) (number : ℕ) → length made ≤ 2 ^ 24 → Reads made check_limits other → FileReads left (automaton_file number check_limits m) (value.Automaton other)
-  read_made other number short reads = (made, put_elsewhere (map.insert files m made) c (text cert) m (λ e. apart.2 (sym e)) ∙ put_there files m made, short, reads)
+  read_made : (limits : Limits) (other : Named) (number : ℕ) → length made ≤ 2 ^ 24 → Reads made limits other → FileReads left (automaton_file number limits m) (value.Automaton other)
+  read_made limits other number short reads = (made, put_elsewhere (map.insert files m made) c (text cert) m (λ e. apart.2 (sym e)) ∙ put_there files m made, short, reads)
 
   read_cert : (pair : Joined) → IsValid pair cert → length (text cert) ≤ 2 ^ 30 → ReadsCertificate left c cert
   read_cert pair valid short = (text cert, put_there (map.insert files m made) c (text cert), short, (valid.formed, refl))
@@ -69,7 +70,7 @@ empty_checked files a e c mode one other pair cert r apart is short says =
       answer.checked,
       inr (
         value.Automaton one ∷ value.Automaton other ∷ value.Certificate cert ∷ [],
-        (read_one files a e c empty_text cert apart one 1 is.read, (read_made files a e c empty_text cert apart other 2 empty_is_short is.made, (read_cert files a e c empty_text cert apart pair is.valid short, tt))),
+        (read_one files a e c empty_text cert apart first_limits one 1 is.read, (read_made files a e c empty_text cert apart second_limits other 2 empty_is_short is.made, (read_cert files a e c empty_text cert apart pair is.valid short, tt))),
         (one, other, cert, refl, (pair, is.joined, inr (is.valid.keeps, answer.says))),
       ),
       answer.same,
@@ -79,13 +80,16 @@ pub universal_checked : UniversalIsChecked
 universal_checked files a u c mode one other pair cert r apart is short says =
     let made = written (all_loops (length one.labels)) one.labels in
     let (bytes, has, few, read) = is.read in
-    let within = read_is_within bytes check_limits one read in
-    let made_short = universal_is_short one.labels (omega (arith, within.labels, within.labels_named)) (labels_fit bytes check_limits one read).0 in
+    let within = read_is_within bytes second_limits one read in
+    let fit = labels_fit bytes second_limits one read in
+    let few_labels : length one.labels ≤ 256 = omega (arith, within.labels, within.labels_named) in
+    let made_short = universal_is_short one.labels few_labels fit.0 in
+    let made_reads : Reads made first_limits other = record { no_fault = universal_has_no_fault one.labels few_labels fit first_limits (omega arith) (omega arith) (omega arith); reading = is.made.reading } in
     let answer = agrees cert.mode universality.name pair cert.body (property_puts u made c cert) r says in (
       answer.checked,
       inr (
         value.Automaton other ∷ value.Automaton one ∷ value.Certificate cert ∷ [],
-        (read_made files a u c made cert apart other 1 made_short is.made, (read_one files a u c made cert apart one 2 is.read, (read_cert files a u c made cert apart pair is.valid short, tt))),
+        (read_made files a u c made cert apart first_limits other 1 made_short made_reads, (read_one files a u c made cert apart second_limits one 2 is.read, (read_cert files a u c made cert apart pair is.valid short, tt))),
         (other, one, cert, refl, (pair, is.joined, inr (is.valid.keeps, answer.says))),
       ),
       answer.same,

@@ -31,8 +31,9 @@ use Rattle.rabit_frame.specs.declared.parts.Status.TheVariants as status
 use Rattle.rabit_frame.specs.declared.parts.Reply.{Reply}
 use Rattle.rabit_frame.specs.Statuses.{status_number}
 use Rattle.rabit_frame.specs.Reading.{only_said, ReadInTurn}
-use Rattle.rabit_cli.specs.Files.{check_limits, large_limits}
-use Rattle.rabit_cli.specs.Combine.{combined_inputs, MeansCombined, IsCombinedReply, ShowsCombined}
+use Rattle.rabit_cli.specs.Files.{second_limits, first_limits}
+use Rattle.rabit_cli.specs.Include.{pair_inputs}
+use Rattle.rabit_cli.specs.Combine.{MeansCombined, IsCombinedReply, ShowsCombined}
 use Rattle.rabit_cli.specs.Union.{IsUnionOf, IsUnionReply, IsUnionStatus, MeansUnion, AcceptsWhatOneDoes, ShowsUnion}
 use Rattle.rabit_cli.specs.Intersect.{IsIntersectionOf, IsIntersectionReply, IsIntersectionStatus, MeansIntersect, AcceptsWhatBothDo, ShowsIntersect}
 use Rattle.rabit_cli.proofs.BackLemmas.{written_same, reads_with_room}
@@ -97,9 +98,9 @@ union_puts m values r (one, two, is, (pair, joined, here)) = reply_puts (IsUnion
 pub union_number : (m : Mode) (values : List Value) (r : Reply) → MeansUnion m values r → (status_number r.status ≡ 0) ⊎ (status_number r.status ≡ 12)
 union_number m values r (one, two, is, (pair, joined, here)) = reply_number (IsUnionOf m pair) (IsUnionTooLarge pair.first pair.second) pair.labels r here
 
-pub union_status : (m : Mode) (files : FileMap) (a b : List ℕ) (values : List Value) (r : Reply) → ReadInTurn files (combined_inputs a b) values → MeansUnion m values r → (n : ℕ) → n ≡ status_number r.status → IsUnionStatus files a b n
+pub union_status : (m : Mode) (files : FileMap) (a b : List ℕ) (values : List Value) (r : Reply) → ReadInTurn files (pair_inputs a b) values → MeansUnion m values r → (n : ℕ) → n ≡ status_number r.status → IsUnionStatus files a b n
 union_status m files a b values r reads (one, two, is, (pair, joined, here)) n same =
-    let (first, (second, end)) = subst (ReadInTurn files (combined_inputs a b)) is reads in
+    let (first, (second, end)) = subst (ReadInTurn files (pair_inputs a b)) is reads in
     (pair, (one, two, first, second, joined), reply_status (IsUnionOf m pair) (IsUnionTooLarge pair.first pair.second) pair.labels (union_limits m pair.first pair.second) r here n same)
 
 pub one_intersection : (m : Mode) (values : List Value) (r s : Reply) → MeansIntersect m values r → MeansIntersect m values s → r ≡ s
@@ -112,9 +113,9 @@ intersection_puts m values r (one, two, is, (pair, joined, here)) = reply_puts (
 pub intersection_number : (m : Mode) (values : List Value) (r : Reply) → MeansIntersect m values r → (status_number r.status ≡ 0) ⊎ (status_number r.status ≡ 12)
 intersection_number m values r (one, two, is, (pair, joined, here)) = reply_number (IsIntersectionOf m pair) (IsIntersectionTooLarge m pair.first pair.second) pair.labels r here
 
-pub intersection_status : (m : Mode) (files : FileMap) (a b : List ℕ) (values : List Value) (r : Reply) → ReadInTurn files (combined_inputs a b) values → MeansIntersect m values r → (n : ℕ) → n ≡ status_number r.status → IsIntersectionStatus m files a b n
+pub intersection_status : (m : Mode) (files : FileMap) (a b : List ℕ) (values : List Value) (r : Reply) → ReadInTurn files (pair_inputs a b) values → MeansIntersect m values r → (n : ℕ) → n ≡ status_number r.status → IsIntersectionStatus m files a b n
 intersection_status m files a b values r reads (one, two, is, (pair, joined, here)) n same =
-    let (first, (second, end)) = subst (ReadInTurn files (combined_inputs a b)) is reads in
+    let (first, (second, end)) = subst (ReadInTurn files (pair_inputs a b)) is reads in
     (pair, (one, two, first, second, joined), reply_status (IsIntersectionOf m pair) (IsIntersectionTooLarge m pair.first pair.second) pair.labels (intersection_limits m pair.first pair.second) r here n same)
 
 -- ---- what it shows
@@ -126,15 +127,15 @@ module _ (mode : Mode) (is_result accepts : Joined → Automaton → Type 0) (is
     (same : (pair : Joined) (C D : Automaton) → Same C D mode → accepts pair C → accepts pair D)
     (files : FileMap) (a b : List ℕ) (status : ℕ) (sent sent' : Option (List ℕ)) (r : Reply) (number : status_number r.status ≡ status) (sends : sent' ≡ append_known sent r.text)
   where
-    shows_combined : (values : List Value) → ReadInTurn files (combined_inputs a b) values → MeansCombined (λ pair. IsCombinedReply (is_result pair) (is_too_large pair) pair.labels) values r →
+    shows_combined : (values : List Value) → ReadInTurn files (pair_inputs a b) values → MeansCombined (λ pair. IsCombinedReply (is_result pair) (is_too_large pair) pair.labels) values r →
         ShowsCombined files a b is_result accepts status sent sent'
     shows_combined values reads (one, two, is, (pair, joined, inl (large, e))) =
         let twelve : status ≡ 12 = sym number ∙ ap (λ z. status_number z.status) e in
         record { shown = λ f. absurd (omega arith); no_other = (λ f. omega arith, λ f. omega arith) }
     shows_combined values reads (one, two, is, (pair, joined, inr (C, made, within, e))) =
-        let ((bytes, has, few, first), ((bytes', has', few', second), end)) = subst (ReadInTurn files (combined_inputs a b)) is reads in
+        let ((bytes, has, few, first), ((bytes', has', few', second), end)) = subst (ReadInTurn files (pair_inputs a b)) is reads in
         let zero : status ≡ 0 = sym number ∙ ap (λ z. status_number z.status) e in
-        let labels = joined_fit one two pair joined (labels_fit bytes large_limits one first) (labels_fit bytes' check_limits two second) in
+        let labels = joined_fit one two pair joined (labels_fit bytes first_limits one first) (labels_fit bytes' second_limits two second) in
         let writable : IsWritable C pair.labels = record { valid = valid pair C made; all_named = omega (arith, over pair C made, joined.first.labels_given); different = labels.1; fit = labels.0 } in
         let so = right pair C joined.first.valid joined.second.valid made in
         record {
@@ -174,12 +175,12 @@ intersection_right Buchi pair C first second is = intersection_lassos pair.first
 intersection_right Finite pair C first second is = intersection_words pair.first pair.second C is
 
 module _ (files : FileMap) (a b : List ℕ) (m : Mode) (status : ℕ) (sent sent' : Option (List ℕ)) (r : Reply) (number : status_number r.status ≡ status) (sends : sent' ≡ append_known sent r.text) where
-  pub shows_union : (values : List Value) → ReadInTurn files (combined_inputs a b) values → MeansUnion m values r → ShowsUnion files a b m status sent sent'
+  pub shows_union : (values : List Value) → ReadInTurn files (pair_inputs a b) values → MeansUnion m values r → ShowsUnion files a b m status sent sent'
   shows_union =
       shows_combined m (IsUnionOf m) (λ pair. AcceptsWhatOneDoes m pair.first pair.second) (λ pair. IsUnionTooLarge pair.first pair.second)
       (λ pair C is. is.valid) (λ pair C is. is.labels) (union_right m) (λ pair. one_does m pair.first pair.second) files a b status sent sent' r number sends
 
-  pub shows_intersection : (values : List Value) → ReadInTurn files (combined_inputs a b) values → MeansIntersect m values r → ShowsIntersect files a b m status sent sent'
+  pub shows_intersection : (values : List Value) → ReadInTurn files (pair_inputs a b) values → MeansIntersect m values r → ShowsIntersect files a b m status sent sent'
   shows_intersection =
       shows_combined m (IsIntersectionOf m) (λ pair. AcceptsWhatBothDo m pair.first pair.second) (λ pair. IsIntersectionTooLarge m pair.first pair.second)
       (λ pair C is. is.valid) (λ pair C is. is.labels) (intersection_right m) (λ pair. both_do m pair.first pair.second) files a b status sent sent' r number sends

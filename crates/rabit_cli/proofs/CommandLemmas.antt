@@ -1,20 +1,26 @@
 -- The questions: one reply to each, what it shows and what it leaves.
-use Rattle.std.proofs.Common.{◌≡◌, ℕ, ◌≤◌, List, [], length, Option, Some, None, IfSome, inl, inr, refl, sym, ◌∙◌, ap, subst, arith}
+use Rattle.std.proofs.Common.{◌≡◌, ℕ, ◌≤◌, List, [], length, Option, Some, None, IfSome, inl, inr, refl, sym, ◌∙◌, ap, subst, arith, Result, Ok, Err, IfOk}
 use Rattle.shelf_io.specs.Shelf.{FileMap}
-use Rattle.decide.specs.Terms.{terms_of}
 use Rattle.rabit_frame.specs.declared.parts.Value.{Value}
 use Rattle.rabit_frame.specs.declared.parts.Reply.{Reply}
 use Rattle.rabit_frame.specs.declared.parts.Ending.{Ending}
 use Rattle.rabit_frame.specs.declared.parts.Ending.TheVariants as ending
 use Rattle.rabit_frame.specs.Statuses.{status_number}
-use Rattle.rabit_frame.specs.Reading.{AreOfKinds}
+use Rattle.rabit_frame.specs.Reading.{AreOfKinds, CountsInTurn}
 use Rattle.rabit_frame.specs.Ending.{OfBoth, WasSaid}
 use Rattle.rabit_frame.specs.Carrying.{EndsSo, IsCarriedOut, ShowsResult}
 use Rattle.rabit_frame.proofs.EndLemmas.{may_plain, same_status, own_status, both_same, no_inputs, no_puts, no_puts_stay}
-use Rattle.rabit_words.specs.Question.{Question, Include, Check, Reduce, Drill, Union, Intersect, Shrink, Empty, Universal, IsProper}
+use Rattle.std.specs.Prelude.{option_map}
+use Rattle.rabit_words.specs.declared.parts.Question.{Question as Held}
+use Rattle.rabit_words.specs.Question.{Question, Include, Check, Reduce, Drill, Upgrade, Equal, Batch, Union, Intersect, Shrink, Empty, Universal, IsProper, told, question_of}
 use Rattle.drawing.specs.declared.parts.Drill.{Drill as Drawing}
 use Rattle.drawing.specs.Drawn.{IsInBounds}
-use Rattle.rabit_cli.specs.Commands.{inputs_of, outputs_of, Means, Shows, Drills, LeavesFiles, SaysUsage}
+use Rattle.rabit_cli.specs.Commands.{Batches, inputs_of, outputs_of, Means, Shows, Drills, LeavesFiles, SaysUsage}
+use Rattle.auto_core.specs.declared.parts.Mode.{Mode}
+use Rattle.decide.specs.Terms.{AreBounded}
+use Rattle.rabit_cli.specs.Include.{asked_terms}
+use Rattle.rabit_cli.specs.Reduce.{asked_sight}
+use Rattle.rabit_cli.proofs.BatchLemmas.{unread_status}
 use Rattle.rabit_cli.proofs.CheckLemmas.{one_check, check_puts, check_asked, shows_check}
 use Rattle.rabit_cli.proofs.IncludeLemmas.{one_include, include_asked, shows_include, leaves_include}
 use Rattle.rabit_cli.proofs.ReduceLemmas.{one_reduce, reduce_puts, reduce_asked, shows_reduce}
@@ -23,6 +29,8 @@ use Rattle.rabit_cli.proofs.CombineLemmas.{one_union, union_puts, union_number, 
 use Rattle.rabit_cli.specs.Empty.{emptiness}
 use Rattle.rabit_cli.specs.Universal.{universality}
 use Rattle.rabit_cli.proofs.ShrinkLemmas.{one_shrink, shrink_asked, shows_shrink, leaves_shrink}
+use Rattle.rabit_cli.proofs.UpgradeLemmas.{one_upgrade, upgrade_number, shows_upgrade, leaves_upgrade}
+use Rattle.rabit_cli.proofs.EqualLemmas.{one_equal, equal_asked, shows_equal, leaves_equal}
 use Rattle.rabit_cli.proofs.PropertyLemmas.{one_decided, decided_asked, shows_property, leaves_property}
 use Rattle.rabit_cli.proofs.EmptyLemmas.{emptiness_decidable}
 use Rattle.rabit_cli.proofs.UniversalLemmas.{universality_decidable}
@@ -34,13 +42,29 @@ drawing seed states labels = record { seed = seed; states = states; labels = lab
 in_bounds : (seed states labels : ℕ) → IsProper (Drill seed states labels) → IsInBounds (drawing seed states labels)
 in_bounds seed states labels (few, from, upto, some, most) = record { states_from = from; states_upto = upto; labels_from = some; labels_upto = most }
 
+-- what is asked of a decision is bounded
+asked_bounded : (m : Mode) (look limit : ℕ) (letters : Option ℕ) → (1 ≤ look) × (look ≤ 6) × (1 ≤ limit) × (limit ≤ 100000) × IfSome letters (λ n. (1 ≤ n) × (n ≤ 4)) → AreBounded (asked_terms m look limit letters)
+asked_bounded m look limit None (from, upto, some, few, named) = record { look_from = from; look_upto = upto; letters_from = omega arith; letters_upto = omega arith; versioned = inl (refl, refl); few = few }
+asked_bounded m look limit (Some n) (from, upto, some, few, named) = record { look_from = from; look_upto = upto; letters_from = named.0; letters_upto = named.1; versioned = inr refl; few = few }
+
+-- a batch was found in the words
+pub batch_found : {E : Type 0} (r : Result (Option Held) E) (question : Held) (list : List ℕ) (words : List (List ℕ)) → r ≡ Ok (Some question) → told question ≡ Batch list → IfOk r (λ asked. option_map told asked ≡ question_of words)
+    → question_of words ≡ Some (Batch list)
+batch_found (Ok asked) question list words is batch found =
+    let same : asked ≡ Some question = cc in
+    sym found ∙ ap (option_map told) same ∙ ap Some batch
+batch_found (Err e) question list words is batch found = absurd (let f = is in cc)
+
 -- one row a question
 pub one_meaning : (q : Option Question) → IfSome q IsProper → (values : List Value) (r s : Reply) → AreOfKinds (inputs_of q) values → Means q values r → Means q values s → r ≡ s
 one_meaning None range values r s kinds p q = p ∙ sym q
 one_meaning (Some (Check a b c)) range values r s kinds p q = one_check values r s p q
-one_meaning (Some (Include a b c m look limit)) range values r s kinds p q = one_include c (terms_of m look limit) range.0 values r s p q
-one_meaning (Some (Reduce a m look)) range values r s kinds p q = one_reduce a m look range.0 values r s kinds p q
+one_meaning (Some (Include a b c m look limit letters)) range values r s kinds p q = one_include c (asked_terms m look limit letters) (asked_bounded m look limit letters range).look_from values r s p q
+one_meaning (Some (Reduce a m look letters)) range values r s kinds p q = one_reduce a m (asked_sight look letters) range.0 values r s kinds p q
 one_meaning (Some (Drill seed states labels)) range values r s kinds p q = one_drill (drawing seed states labels) values r s p q
+one_meaning (Some (Upgrade c out)) range values r s kinds p q = one_upgrade out values r s p q
+one_meaning (Some (Equal a b c d)) range values r s kinds p q = one_equal c d values r s p q
+one_meaning (Some (Batch l)) range values r s kinds p q = absurd p
 one_meaning (Some (Union a b m)) range values r s kinds p q = one_union m values r s p q
 one_meaning (Some (Intersect a b m)) range values r s kinds p q = one_intersection m values r s p q
 one_meaning (Some (Shrink a b c out)) range values r s kinds p q = one_shrink out values r s p q
@@ -50,9 +74,12 @@ one_meaning (Some (Universal a u c m)) range values r s kinds p q = one_decided 
 pub no_outputs : (q : Option Question) → outputs_of q ≡ [] → (values : List Value) (r : Reply) → Means q values r → r.puts ≡ []
 no_outputs None none values r p = ap (λ z. z.puts) p
 no_outputs (Some (Check a b c)) none values r p = check_puts values r p
-no_outputs (Some (Include a b c m look limit)) none values r p = absurd (let f = none in cc)
-no_outputs (Some (Reduce a m look)) none values r p = reduce_puts m look values r p
+no_outputs (Some (Include a b c m look limit letters)) none values r p = absurd (let f = none in cc)
+no_outputs (Some (Reduce a m look letters)) none values r p = reduce_puts m (asked_sight look letters) values r p
 no_outputs (Some (Drill seed states labels)) none values r p = drill_puts (drawing seed states labels) values r p
+no_outputs (Some (Upgrade c out)) none values r p = absurd (let f = none in cc)
+no_outputs (Some (Equal a b c d)) none values r p = absurd (let f = none in cc)
+no_outputs (Some (Batch l)) none values r p = absurd p
 no_outputs (Some (Union a b m)) none values r p = union_puts m values r p
 no_outputs (Some (Intersect a b m)) none values r p = intersection_puts m values r p
 no_outputs (Some (Shrink a b c out)) none values r p = absurd (let f = none in cc)
@@ -62,9 +89,12 @@ no_outputs (Some (Universal a u c m)) none values r p = absurd (let f = none in 
 usage_alone : (q : Option Question) (values : List Value) (r : Reply) → Means q values r → status_number r.status ≡ 3 → q ≡ None
 usage_alone None values r p three = refl
 usage_alone (Some (Check a b c)) values r p three = absurd (check_asked values r p three)
-usage_alone (Some (Include a b c m look limit)) values r p three = absurd (include_asked c (terms_of m look limit) values r p three)
-usage_alone (Some (Reduce a m look)) values r p three = absurd (reduce_asked m look values r p three)
+usage_alone (Some (Include a b c m look limit letters)) values r p three = absurd (include_asked c (asked_terms m look limit letters) values r p three)
+usage_alone (Some (Reduce a m look letters)) values r p three = absurd (reduce_asked m (asked_sight look letters) values r p three)
 usage_alone (Some (Drill seed states labels)) values r p three = absurd (drill_asked (drawing seed states labels) values r p three)
+usage_alone (Some (Upgrade c out)) values r p three = absurd (let zero = upgrade_number out values r p in omega arith)
+usage_alone (Some (Equal a b c d)) values r p three = absurd (equal_asked c d values r p three)
+usage_alone (Some (Batch l)) values r p three = absurd p
 usage_alone (Some (Union a b m)) values r p three = absurd (elim (union_number m values r p) [ inl zero ↦ omega arith | inr twelve ↦ omega arith ])
 usage_alone (Some (Intersect a b m)) values r p three = absurd (elim (intersection_number m values r p) [ inl zero ↦ omega arith | inr twelve ↦ omega arith ])
 usage_alone (Some (Shrink a b c out)) values r p three = absurd (shrink_asked out values r p three)
@@ -75,11 +105,14 @@ module _ (status : ℕ) (sent sent' : Option (List ℕ)) where
   pub shows : (q : Option Question) → IfSome q IsProper → status ≤ 2 → (files files' : FileMap) → ShowsResult (Means q) (inputs_of q) status sent sent' files files' → Shows q status files files' sent sent'
   shows None range low files files' (r, values, reads, p, number, left, sends) = (let e = ap (λ z. status_number z.status) p in absurd (omega arith))
   shows (Some (Check a b c)) range low files files' (r, values, reads, p, number, left, sends) = shows_check files a b c status sent sent' r number sends values reads p
-  shows (Some (Include a b c m look limit)) range low files files' (r, values, reads, p, number, left, sends) =
-      shows_include files a b c (terms_of m look limit) (record { look_from = range.0; look_upto = range.1; few = range.3 }) status files' sent sent' r number left sends values reads p
-  shows (Some (Reduce a m look)) range low files files' (r, values, reads, p, number, left, sends) = shows_reduce files a m look status sent sent' r range.0 number sends values reads p
+  shows (Some (Include a b c m look limit letters)) range low files files' (r, values, reads, p, number, left, sends) =
+      shows_include files a b c (asked_terms m look limit letters) (asked_bounded m look limit letters range) status files' sent sent' r number left sends values reads p
+  shows (Some (Reduce a m look letters)) range low files files' (r, values, reads, p, number, left, sends) = shows_reduce files a m (asked_sight look letters) status sent sent' r range.0 number sends values reads p
   shows (Some (Drill seed states labels)) range low files files' (r, values, reads, p, number, left, sends) =
       shows_drill (drawing seed states labels) status sent sent' r (in_bounds seed states labels range) number sends values p
+  shows (Some (Upgrade c out)) range low files files' (r, values, reads, p, number, left, sends) = shows_upgrade files c out status files' sent sent' r number left sends values reads p
+  shows (Some (Equal a b c d)) range low files files' (r, values, reads, p, number, left, sends) = shows_equal files a b c d status files' sent sent' r number left sends values reads p
+  shows (Some (Batch l)) range low files files' (r, values, reads, p, number, left, sends) = absurd p
   shows (Some (Union a b m)) range low files files' (r, values, reads, p, number, left, sends) = shows_union files a b m status sent sent' r number sends values reads p
   shows (Some (Intersect a b m)) range low files files' (r, values, reads, p, number, left, sends) = shows_intersection files a b m status sent sent' r number sends values reads p
   shows (Some (Shrink a b c out)) range low files files' (r, values, reads, p, number, left, sends) = shows_shrink files a b c out status files' sent sent' r number low left sends values reads p
@@ -128,8 +161,11 @@ module _ (held held' : Option FileMap) (status : ℕ) (sent sent' : Option (List
   pub drills : (q : Option Question) → IfSome q IsProper → Carried q → IfSome q (λ asked. Drills asked status sent sent' sink sink')
   drills None range c = tt
   drills (Some (Check a b d)) range c = tt
-  drills (Some (Include a b d m look limit)) range c = tt
-  drills (Some (Reduce a m look)) range c = tt
+  drills (Some (Include a b d m look limit letters)) range c = tt
+  drills (Some (Reduce a m look letters)) range c = tt
+  drills (Some (Upgrade d out)) range c = tt
+  drills (Some (Equal a b d out)) range c = tt
+  drills (Some (Batch l)) range c = tt
   drills (Some (Union a b m)) range c = tt
   drills (Some (Intersect a b m)) range c = tt
   drills (Some (Shrink a b d out)) range c = tt
@@ -152,12 +188,33 @@ module _ (held held' : Option FileMap) (status : ℕ) (sent sent' : Option (List
   pub leaves : (q : Option Question) → IfSome q IsProper → Carried q → OfBoth held held' (λ files files'. LeavesFiles q status puts puts' files files')
   leaves None range c = stays_with None c refl
   leaves (Some (Check a b d)) range c = stays_with (Some (Check a b d)) c refl
-  leaves (Some (Include a b d m look limit)) range c =
-      leaves_include held held' status sent sent' sink sink' faults faults' puts puts' a b d (terms_of m look limit) (record { look_from = range.0; look_upto = range.1; few = range.3 }) c.end c.ends c.said
-  leaves (Some (Reduce a m look)) range c = stays_with (Some (Reduce a m look)) c refl
+  leaves (Some (Include a b d m look limit letters)) range c =
+      leaves_include held held' status sent sent' sink sink' faults faults' puts puts' a b d (asked_terms m look limit letters) (asked_bounded m look limit letters range) c.end c.ends c.said
+  leaves (Some (Reduce a m look letters)) range c = stays_with (Some (Reduce a m look letters)) c refl
   leaves (Some (Drill seed states labels)) range c = stays_with (Some (Drill seed states labels)) c refl
+  leaves (Some (Upgrade d out)) range c = leaves_upgrade held held' status sent sent' sink sink' faults faults' puts puts' d out c.end c.ends c.said
+  leaves (Some (Equal a b d out)) range c = leaves_equal held held' status sent sent' sink sink' faults faults' puts puts' a b d out c.end c.ends c.said
+  leaves (Some (Batch l)) range c = stays_with (Some (Batch l)) c refl
   leaves (Some (Union a b m)) range c = stays_with (Some (Union a b m)) c refl
   leaves (Some (Intersect a b m)) range c = stays_with (Some (Intersect a b m)) c refl
   leaves (Some (Shrink a b d out)) range c = leaves_shrink held held' status sent sent' sink sink' faults faults' puts puts' a b d out c.end c.ends c.said
   leaves (Some (Empty a e d m)) range c = leaves_property emptiness emptiness_decidable e d m held held' status sent sent' sink sink' faults faults' puts puts' a c.end c.ends c.said
   leaves (Some (Universal a u d m)) range c = leaves_property universality universality_decidable u d m held held' status sent sent' sink sink' faults faults' puts puts' a c.end c.ends c.said
+
+  -- a batch that was carried out as if it had a reply of its own has no question asked
+  pub batches : (q : Option Question) → Carried q → (missed missed' : ℕ) → IfSome held (λ files. CountsInTurn files (inputs_of q) missed missed')
+      → IfSome q (λ asked. Batches asked held held' status sent sent' sink sink' faults faults' puts puts' missed missed')
+  batches (Some (Batch l)) c missed missed' missing =
+      inl (record { carried = c; known = unread_status l held held' status sent sent' sink sink' faults faults' puts puts' c; missing = missing })
+  batches None c missed missed' missing = tt
+  batches (Some (Check a b d)) c missed missed' missing = tt
+  batches (Some (Include a b d m look limit letters)) c missed missed' missing = tt
+  batches (Some (Reduce a m look letters)) c missed missed' missing = tt
+  batches (Some (Drill seed states labels)) c missed missed' missing = tt
+  batches (Some (Upgrade d out)) c missed missed' missing = tt
+  batches (Some (Equal a b d out)) c missed missed' missing = tt
+  batches (Some (Union a b m)) c missed missed' missing = tt
+  batches (Some (Intersect a b m)) c missed missed' missing = tt
+  batches (Some (Shrink a b d out)) c missed missed' missing = tt
+  batches (Some (Empty a e d m)) c missed missed' missing = tt
+  batches (Some (Universal a u d m)) c missed missed' missing = tt

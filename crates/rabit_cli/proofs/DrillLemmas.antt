@@ -4,11 +4,11 @@ use Rattle.std.proofs.lemmas.List.{append_assoc}
 use Rattle.std.specs.Io.KnownBytes.{append_known}
 use Rattle.auto_core.specs.Outcome.{Entry, Outcome}
 use Rattle.auto_core.specs.Outcome as end
+use Rattle.auto_core.specs.declared.parts.Mode.TheVariants.{Buchi}
 use Rattle.ba_format.specs.declared.parts.Joined.{Joined}
 use Rattle.cert_value.specs.declared.types.Cert.{Cert}
 use Rattle.cert_value.specs.declared.types.Body.TheVariants.{NoWord}
 use Rattle.decide.specs.Answer.{Reductions, IsAnswer, IsBodyOf}
-use Rattle.decide.specs.Terms.{AreBounded}
 use Rattle.decide.specs.Laws.{CanDecide}
 use Rattle.decide.proofs.AnswerLemmas.{answers_are_true}
 use Rattle.decide.proofs.UniqueLemmas.{one_answer}
@@ -25,6 +25,7 @@ use Rattle.rabit_frame.specs.declared.parts.Ending.TheVariants as ending
 use Rattle.rabit_frame.specs.Ending.{WasSaid}
 use Rattle.rabit_frame.specs.Carrying.{EndsSo}
 use Rattle.shelf_io.specs.Shelf.{FileMap}
+use Rattle.rabit_cli.proofs.IncludeLemmas.{usual_bounded}
 use Rattle.rabit_cli.specs.Drill.{drill_terms, exchanged, drill_text, AreDecided, MeansDrill, IsDrillText, ShowsDrill, SaysDrill}
 
 -- the drawn automata can be decided, in both orders
@@ -37,23 +38,22 @@ can_draw d pair bounds a =
       first_labels = one.over;
       second_labels = two.over;
       few_labels = omega (arith, few);
-      first_parts = record { states = one.states; transitions = omega (arith, one.transitions) };
+      first_parts = record { states = omega (arith, one.states); transitions = omega (arith, one.transitions) };
       second_parts = record { states = two.states; transitions = omega (arith, two.transitions) };
     }
 
-pub can_exchange : (pair : Joined) → CanDecide pair → CanDecide (exchanged pair)
-can_exchange pair can = record {
-  first = can.second;
-  second = can.first;
-  first_labels = can.second_labels;
-  second_labels = can.first_labels;
-  few_labels = can.few_labels;
-  first_parts = can.second_parts;
-  second_parts = can.first_parts;
-}
-
-bounded : AreBounded drill_terms
-bounded = record { look_from = omega arith; look_upto = omega arith; few = omega arith }
+pub can_exchange : (d : Drill) (pair : Joined) → IsInBounds d → AreDrawn d pair → CanDecide (exchanged pair)
+can_exchange d pair bounds a =
+    let (one, two, few) = drawn_small d pair bounds a in
+    record {
+      first = two.valid;
+      second = one.valid;
+      first_labels = two.over;
+      second_labels = one.over;
+      few_labels = omega (arith, few);
+      first_parts = record { states = omega (arith, two.states); transitions = omega (arith, two.transitions) };
+      second_parts = record { states = one.states; transitions = omega (arith, one.transitions) };
+    }
 
 -- an answer over lassos has no word
 word_of_outcome : (at : Reductions) (S : List (ℕ × ℕ)) (o : Outcome Entry) (w : List ℕ) → IsBodyOf at drill_terms S o (NoWord w) → ⊥
@@ -95,8 +95,8 @@ text_of d pair forth back bounds a =
       forth = forth;
       back = back;
       decided = a;
-      first_in_second = answers_are_true pair drill_terms forth can bounded a.first_in_second;
-      second_in_first = answers_are_true (exchanged pair) drill_terms back (can_exchange pair can) bounded a.second_in_first;
+      first_in_second = answers_are_true pair drill_terms forth can (usual_bounded Buchi) a.first_in_second;
+      second_in_first = answers_are_true (exchanged pair) drill_terms back (can_exchange d pair bounds a.drawn) (usual_bounded Buchi) a.second_in_first;
       is = refl;
     }
 

@@ -1,12 +1,15 @@
 -- `include`: one reply, what it shows, and what it leaves.
-use Rattle.std.proofs.Common.{◌≡◌, ℕ, ◌≤◌, List, [], ◌∷◌, Option, refl, sym, ◌∙◌, ap, subst, arith}
+use Rattle.std.proofs.Common.{◌≡◌, ℕ, ◌≤◌, List, [], ◌∷◌, Option, inl, refl, sym, ◌∙◌, ap, subst, arith}
 use Rattle.std.specs.FinMap as map
 use Rattle.std.specs.Io.KnownBytes.{append_known}
 use Rattle.shelf_io.specs.Shelf.{FileMap}
+use Rattle.auto_core.specs.declared.parts.Mode.{Mode}
 use Rattle.auto_core.specs.Outcome.{Entry, Outcome}
 use Rattle.auto_core.specs.Outcome as end
+use Rattle.ba_format.specs.declared.parts.Limits.{Limits}
 use Rattle.ba_format.specs.declared.parts.Named.{Named}
 use Rattle.ba_format.specs.declared.parts.Joined.{Joined}
+use Rattle.ba_format.specs.Reading.{IsWithinLimits}
 use Rattle.ba_format.specs.Joining.{IsJoined}
 use Rattle.ba_format.proofs.LawLemmas.{joins_as_one}
 use Rattle.ba_format.proofs.FaultlessLemmas.{read_is_within}
@@ -31,11 +34,15 @@ use Rattle.rabit_frame.specs.Ending.{OfBoth, IsCutShort, WasSaid, filed}
 use Rattle.rabit_frame.specs.Carrying.{EndsSo}
 use Rattle.rabit_frame.proofs.EndLemmas.{leaves_by_status}
 use Rattle.rabit_cli.specs.Printed.{limit_text}
-use Rattle.rabit_cli.specs.Files.{check_limits, ReadsPair}
+use Rattle.rabit_cli.specs.Files.{first_limits, second_limits, ReadsPairWithin, ReadsPair}
 use Rattle.rabit_cli.specs.Replies.{IsVerdictReply, SaysApart}
-use Rattle.rabit_cli.specs.Include.{pair_inputs, certificate_put, MeansInclude, IsCertFor, HoldsAnswer, HoldsFront, LeavesDecided, ShowsInclude}
+use Rattle.rabit_cli.specs.Include.{usual_terms, pair_inputs, certificate_put, MeansInclude, IsCertForWithin, IsCertFor, HoldsAnswer, HoldsFront, LeavesDecided, ShowsInclude}
 use Rattle.rabit_cli.proofs.PairLemmas.{can_decide}
 use Rattle.rabit_cli.proofs.VerdictLemmas.{one_verdict, puts_of_verdict, low_verdict}
+
+-- the usual terms are bounded
+pub usual_bounded : (m : Mode) → AreBounded (usual_terms m)
+usual_bounded m = record { look_from = omega arith; look_upto = omega arith; letters_from = omega arith; letters_upto = omega arith; versioned = inl (refl, refl); few = omega arith }
 
 pub one_include : (name : List ℕ) (terms : Terms) → 1 ≤ terms.look → (values : List Value) (r s : Reply) → MeansInclude name terms values r → MeansInclude name terms values s → r ≡ s
 one_include name terms from values r s (one, two, is, (pair, joined, (cert, answer, says))) (one', two', is', (pair', joined', (cert', answer', says'))) =
@@ -70,19 +77,23 @@ limit_of at terms S (end.Limit es) l is = is.limit_is
 pub limit_in : (pair : Joined) (terms : Terms) (cert : Cert) → IsAnswer pair terms cert → (l : ListBody) → cert.body ≡ Listing l → l.limit ≡ terms.limit
 limit_in pair terms cert (at, ends, answer) l body = limit_of at terms answer.pairs answer.outcome l (subst (IsBodyOf at terms answer.pairs answer.outcome) body answer.body)
 
+-- what is written is right for two files, whatever the limits of the first
+pub cert_for_within : (limits : Limits) → ((named : Named) → IsWithinLimits limits named → IsWithinLimits first_limits named) → (files : FileMap) (a b : List ℕ) (terms : Terms) → AreBounded terms →
+    (pair : Joined) (cert : Cert) → ReadsPairWithin limits files a b pair → IsAnswer pair terms cert → IsCertForWithin limits files a b terms pair cert
+cert_for_within limits inside files a b terms bounds pair cert read answer =
+    let (first, second, (bytes, has, few, reads), (bytes', has', few', reads'), joined) = read in
+    let can = can_decide first second pair (inside first (read_is_within bytes limits first reads)) (read_is_within bytes' second_limits second reads') joined in
+    record {
+      read = read;
+      answer = answer;
+      formed = answers_are_formed pair terms cert can bounds answer;
+      valid = answers_are_valid pair terms cert can bounds answer;
+      truth = answers_are_true pair terms cert can bounds answer;
+    }
+
 module _ (files : FileMap) (a b c : List ℕ) (terms : Terms) (bounds : AreBounded terms) where
-  -- what is written is right for the two files
   pub cert_for : (pair : Joined) (cert : Cert) → ReadsPair files a b pair → IsAnswer pair terms cert → IsCertFor files a b terms pair cert
-  cert_for pair cert read answer =
-      let (first, second, (bytes, has, few, reads), (bytes', has', few', reads'), joined) = read in
-      let can = can_decide first second pair (read_is_within bytes check_limits first reads) (read_is_within bytes' check_limits second reads') joined in
-      record {
-        read = read;
-        answer = answer;
-        formed = answers_are_formed pair terms cert can bounds answer;
-        valid = answers_are_valid pair terms cert can bounds answer;
-        truth = answers_are_true pair terms cert can bounds answer;
-      }
+  cert_for pair cert read answer = cert_for_within first_limits (λ named within. within) files a b terms bounds pair cert read answer
 
   pub reads_cert : (values : List Value) (r : Reply) → ReadInTurn files (pair_inputs a b) values → MeansInclude c terms values r →
       (pair : Joined) × (cert : Cert) × IsCertFor files a b terms pair cert × IsVerdictReply terms.mode pair cert.body (certificate_put c cert ∷ []) r

@@ -26,7 +26,7 @@ use Rattle.rabit_frame.specs.declared.parts.Value.TheVariants as value
 use Rattle.rabit_frame.specs.declared.parts.Reply.{Reply}
 use Rattle.rabit_frame.specs.Files.{Input, Output}
 use Rattle.rabit_frame.specs.Reading.{only_said, FileReads}
-use Rattle.rabit_cli.specs.Files.{check_limits, automaton_file}
+use Rattle.rabit_cli.specs.Files.{first_limits, second_limits, automaton_file}
 use Rattle.rabit_frame.proofs.OneLemmas.{one_read_in_turn, stop_or_read_in_turn}
 use Rattle.rabit_cli.specs.Replies.{IsVerdictReply}
 use Rattle.rabit_cli.specs.Include.{pair_inputs, certificate_put}
@@ -86,7 +86,7 @@ check_agrees files a b c terms pair cert r not_a not_b bounds read answer few ri
     ] in
     inr (
       value.Automaton one ∷ value.Automaton two ∷ value.Certificate cert ∷ [],
-      (reads_still files c (text cert) (automaton_file 1 check_limits a) (value.Automaton one) not_a first, (reads_still files c (text cert) (automaton_file 2 check_limits b) (value.Automaton two) not_b second, ((text cert, written files c (text cert), few, (is.formed, refl)), tt))),
+      (reads_still files c (text cert) (automaton_file 1 first_limits a) (value.Automaton one) not_a first, (reads_still files c (text cert) (automaton_file 2 second_limits b) (value.Automaton two) not_b second, ((text cert, written files c (text cert), few, (is.formed, refl)), tt))),
       (one, two, cert, refl, (pair, joined, inr (is.valid.keeps, said_alone cert.mode pair cert.body (certificate_put c cert ∷ []) r (subst (λ m. IsVerdictReply m pair cert.body (certificate_put c cert ∷ []) r) (sym (mode_of is.answer)) says)))),
     )
 

@@ -8,10 +8,13 @@ pub mod ReduceLemmas
 pub mod DrillLemmas
 pub mod CombineLemmas
 pub mod ShrinkLemmas
+pub mod UpgradeLemmas
+pub mod EqualLemmas
 pub mod OwnLemmas
 pub mod PropertyLemmas
 pub mod EmptyLemmas
 pub mod UniversalLemmas
+pub mod BatchLemmas
 pub mod CommandLemmas
 pub mod CompleteLemmas
 pub mod LawLemmas

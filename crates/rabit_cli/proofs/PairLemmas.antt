@@ -5,6 +5,7 @@ use Rattle.std.proofs.lemmas.List.Sorted.{length_permutation}
 use Rattle.std.specs.Prelude.{not, Result, Ok, Err, IfOk}
 use Rattle.std.specs.List.{list_any}
 use Rattle.auto_core.specs.Automaton.{Automaton}
+use Rattle.ba_format.specs.declared.parts.Limits.{Limits}
 use Rattle.ba_format.specs.declared.parts.Named.{Named}
 use Rattle.ba_format.specs.declared.parts.Joined.{Joined}
 use Rattle.ba_format.specs.Reading.{IsWithinLimits}
@@ -14,7 +15,7 @@ use Rattle.decide.specs.Answer.{HasFewParts}
 use Rattle.decide.specs.Laws.{CanDecide}
 use Rattle.ba_format.proofs.FaultlessLemmas.{read_is_within}
 use Rattle.shelf_io.specs.Shelf.{FileMap}
-use Rattle.rabit_cli.specs.Files.{check_limits, ReadsPair}
+use Rattle.rabit_cli.specs.Files.{first_limits, second_limits, ReadsPair}
 
 filter_shorter : {X : Type 0} (p : X → Bool) (xs : List X) → length (filter p xs) ≤ length xs
 filter_shorter p [] = omega arith
@@ -24,8 +25,8 @@ filter_shorter p (x ∷ xs) = let rest = filter_shorter p xs in go (p x) rest
     go true le = omega arith
     go false le = omega arith
 
-few_parts : (named : Named) (joined : List (List ℕ)) (A : Automaton) → IsWithinLimits check_limits named → IsRelabelled named.auto named.labels joined A → HasFewParts A
-few_parts named joined A within is =
+few_parts : (limits : Limits) → limits.transitions ≤ 65536 → (named : Named) (joined : List (List ℕ)) (A : Automaton) → IsWithinLimits limits named → IsRelabelled named.auto named.labels joined A → HasFewParts limits.states A
+few_parts limits most named joined A within is =
     let states = within.states in
     let given = is.states_given in
     let transitions = within.transitions in
@@ -33,7 +34,17 @@ few_parts named joined A within is =
     let mapped = length-map named.auto.transitions (relabelled named.labels joined) in
     record { states = omega arith; transitions = omega arith }
 
-pub can_decide : (one two : Named) (pair : Joined) → IsWithinLimits check_limits one → IsWithinLimits check_limits two → IsJoined one two pair → CanDecide pair
+-- what is small enough for a second file is so for a first one
+pub within_first : (named : Named) → IsWithinLimits second_limits named → IsWithinLimits first_limits named
+within_first named within = record {
+  states_named = within.states_named;
+  labels_named = within.labels_named;
+  states = let few = within.states in omega arith;
+  labels = within.labels;
+  transitions = within.transitions;
+}
+
+pub can_decide : (one two : Named) (pair : Joined) → IsWithinLimits first_limits one → IsWithinLimits second_limits two → IsJoined one two pair → CanDecide pair
 can_decide one two pair first second joined = record {
   first = joined.first.valid;
   second = joined.second.valid;
@@ -48,14 +59,14 @@ can_decide one two pair first second joined = record {
       let c = first.labels_named in
       let d = second.labels_named in
       omega arith;
-  first_parts = few_parts one pair.labels pair.first first joined.first;
-  second_parts = few_parts two pair.labels pair.second second joined.second;
+  first_parts = few_parts first_limits (omega arith) one pair.labels pair.first first joined.first;
+  second_parts = few_parts second_limits (omega arith) two pair.labels pair.second second joined.second;
 }
 
 -- so are those that two files read as
 pub pair_can_decide : (files : FileMap) (a b : List ℕ) (pair : Joined) → ReadsPair files a b pair → CanDecide pair
 pair_can_decide files a b pair (one, two, (bytes, held, few, first), (bytes', held', few', second), joined) =
-    can_decide one two pair (read_is_within bytes check_limits one first) (read_is_within bytes' check_limits two second) joined
+    can_decide one two pair (read_is_within bytes first_limits one first) (read_is_within bytes' second_limits two second) joined
 
 pub ok_gives : {T E : Type 0} (P Q : T → Type 0) (r : Result T E) → ((x : T) → P x → Q x) → IfOk r P → IfOk r Q
 ok_gives P Q (Ok x) f h = f x h

@@ -16,7 +16,6 @@ use Rattle.cert_value.specs.declared.types.Body.{Body}
 use Rattle.cert_value.specs.declared.types.Body.TheVariants.{Yes, NoLasso, NoWord, Listing}
 use Rattle.decide.specs.Answer.{IsAnswer}
 use Rattle.decide.specs.Laws.{CanDecide, SaysTruth}
-use Rattle.decide.specs.Terms.{AreBounded}
 use Rattle.decide.proofs.AnswerLemmas.{answers_are_true, answers_are_valid}
 use Rattle.decide.proofs.UniqueLemmas.{one_answer}
 use Rattle.rabit_frame.specs.declared.parts.Value.{Value}
@@ -29,10 +28,10 @@ use Rattle.rabit_frame.specs.Ending.{OfBoth, IsCutShort, WasSaid, filed}
 use Rattle.rabit_frame.specs.Carrying.{EndsSo}
 use Rattle.rabit_frame.proofs.EndLemmas.{leaves_by_status}
 use Rattle.rabit_cli.specs.Printed.{lasso_against_text, word_against_text, limit_text}
-use Rattle.rabit_cli.specs.Files.{check_limits}
+use Rattle.rabit_cli.specs.Files.{second_limits}
 use Rattle.rabit_cli.specs.Include.{usual_terms}
 use Rattle.rabit_cli.specs.Property.{property_inputs, Property, property_puts, IsPropertyReply, MeansProperty, IsPropertyCertFor, HoldsBoth, HoldsPart, LeavesBoth, IsRefuted, ShowsProperty}
-use Rattle.rabit_cli.proofs.IncludeLemmas.{limit_in}
+use Rattle.rabit_cli.proofs.IncludeLemmas.{usual_bounded, limit_in}
 
 -- ---- the reply by the answer's body
 
@@ -54,9 +53,6 @@ low_reply name pair (NoLasso l) puts r p = subst (λ z. status_number z.status �
 low_reply name pair (NoWord w) puts r p = subst (λ z. status_number z.status ≤ 2) (sym p) (omega arith)
 low_reply name pair (Listing l) puts r p = subst (λ z. status_number z.status ≤ 2) (sym p) (omega arith)
 
-bounded : (m : Mode) → AreBounded (usual_terms m)
-bounded m = record { look_from = omega arith; look_upto = omega arith; few = omega arith }
-
 -- ---- what is to be known of a property
 
 -- What is to be known of it: the pair is one and can be decided; it has the read automaton's labels, and its inclusion and what separates it say the
@@ -64,27 +60,27 @@ bounded m = record { look_from = omega arith; look_upto = omega arith; few = ome
 pub record IsDecidable (p : Property) : Type 0 where
   pub one_pair : (one other : Named) (x y : Joined) → p.joins one other x → p.joins one other y → x ≡ y
   pub valid : (one other : Named) (pair : Joined) → p.joins one other pair → IsAutomaton pair.first × IsAutomaton pair.second
-  pub can : (one other : Named) (pair : Joined) → IsWithinLimits check_limits one → IsWithinLimits check_limits other → p.joins one other pair → CanDecide pair
-  pub labels : (bytes : List ℕ) (one other : Named) (pair : Joined) → Reads bytes check_limits one → Reads (p.made one) check_limits other → p.joins one other pair → pair.labels ≡ one.labels
-  pub holds : (bytes : List ℕ) (one other : Named) (pair : Joined) → Reads bytes check_limits one → Reads (p.made one) check_limits other → p.joins one other pair → (m : Mode) → Includes pair.first pair.second m → p.holds m one.auto
+  pub can : (one other : Named) (pair : Joined) → IsWithinLimits p.limits one → IsWithinLimits second_limits other → p.joins one other pair → CanDecide pair
+  pub labels : (bytes : List ℕ) (one other : Named) (pair : Joined) → Reads bytes p.limits one → Reads (p.made one) second_limits other → p.joins one other pair → pair.labels ≡ one.labels
+  pub holds : (bytes : List ℕ) (one other : Named) (pair : Joined) → Reads bytes p.limits one → Reads (p.made one) second_limits other → p.joins one other pair → (m : Mode) → Includes pair.first pair.second m → p.holds m one.auto
   pub lasso :
-      (bytes : List ℕ) (one other : Named) (pair : Joined) → Reads bytes check_limits one → Reads (p.made one) check_limits other → p.joins one other pair → (l : Lasso) → SeparatesLasso pair.first pair.second l.prefix l.turn → p.lasso_against one.auto l
+      (bytes : List ℕ) (one other : Named) (pair : Joined) → Reads bytes p.limits one → Reads (p.made one) second_limits other → p.joins one other pair → (l : Lasso) → SeparatesLasso pair.first pair.second l.prefix l.turn → p.lasso_against one.auto l
   pub word :
-      (bytes : List ℕ) (one other : Named) (pair : Joined) → Reads bytes check_limits one → Reads (p.made one) check_limits other → p.joins one other pair → (w : List ℕ) → SeparatesWord pair.first pair.second w → p.word_against one.auto w
+      (bytes : List ℕ) (one other : Named) (pair : Joined) → Reads bytes p.limits one → Reads (p.made one) second_limits other → p.joins one other pair → (w : List ℕ) → SeparatesWord pair.first pair.second w → p.word_against one.auto w
 
 module _ (p : Property) (known : IsDecidable p) (m c : List ℕ) (mode : Mode) where
   pub one_decided : (values : List Value) (r s : Reply) → MeansProperty p m c mode values r → MeansProperty p m c mode values s → r ≡ s
   one_decided values r s (one, is, (other, made, (pair, joined, (cert, answer, says)))) (one', is', (other', made', (pair', joined', (cert', answer', says')))) =
       let all = sym is ∙ is' in
       let first : one ≡ one' = cc in
-      let M : Named → Type 0 = λ z. Reads (p.made z) check_limits other in
-      let second : other ≡ other' = reads_as_one (p.made one') check_limits other other' (subst M first made) made' in
+      let M : Named → Type 0 = λ z. Reads (p.made z) second_limits other in
+      let second : other ≡ other' = reads_as_one (p.made one') second_limits other other' (subst M first made) made' in
       let P : Named → Type 0 = λ z. p.joins z other pair in
       let Q : Named → Type 0 = λ z. p.joins one' z pair in
       let same : pair ≡ pair' = known.one_pair one' other' pair pair' (subst Q second (subst P first joined)) joined' in
       let valid = known.valid one' other' pair' joined' in
       let A : Joined → Type 0 = λ z. IsAnswer z (usual_terms mode) cert in
-      let same_cert : cert ≡ cert' = one_answer pair' (usual_terms mode) cert cert' valid.0 valid.1 (bounded mode).look_from (subst A same answer) answer' in
+      let same_cert : cert ≡ cert' = one_answer pair' (usual_terms mode) cert cert' valid.0 valid.1 (usual_bounded mode).look_from (subst A same answer) answer' in
       let C : Joined → Type 0 = λ z. IsPropertyReply p.name z cert.body (property_puts m (p.made one) c cert) r in
       let D : Cert → Type 0 = λ z. IsPropertyReply p.name pair' z.body (property_puts m (p.made one) c z) r in
       let E : Named → Type 0 = λ z. IsPropertyReply p.name pair' cert'.body (property_puts m (p.made z) c cert') r in
@@ -112,11 +108,11 @@ module _ (p : Property) (known : IsDecidable p) (m c : List ℕ) (mode : Mode) w
       is_for : IsPropertyCertFor p mode files a one other pair cert
       says : IsPropertyReply p.name pair cert.body (property_puts m (p.made one) c cert) r
 
-    decided_reads : (values : List Value) (r : Reply) → ReadInTurn files (property_inputs a) values → MeansProperty p m c mode values r → Decided r
+    decided_reads : (values : List Value) (r : Reply) → ReadInTurn files (property_inputs p a) values → MeansProperty p m c mode values r → Decided r
     decided_reads values r reads (one, is, (other, made, (pair, joined, (cert, answer, says)))) =
-        let (first, end) = subst (ReadInTurn files (property_inputs a)) is reads in
+        let (first, end) = subst (ReadInTurn files (property_inputs p a)) is reads in
         let (bytes, has, few, read) = first in
-        let can = known.can one other pair (read_is_within bytes check_limits one read) (read_is_within (p.made one) check_limits other made) joined in
+        let can = known.can one other pair (read_is_within bytes p.limits one read) (read_is_within (p.made one) second_limits other made) joined in
         record {
           one = one;
           other = other;
@@ -127,8 +123,8 @@ module _ (p : Property) (known : IsDecidable p) (m c : List ℕ) (mode : Mode) w
             made = made;
             joined = joined;
             answer = answer;
-            valid = answers_are_valid pair (usual_terms mode) cert can (bounded mode) answer;
-            truth = answers_are_true pair (usual_terms mode) cert can (bounded mode) answer;
+            valid = answers_are_valid pair (usual_terms mode) cert can (usual_bounded mode) answer;
+            truth = answers_are_true pair (usual_terms mode) cert can (usual_bounded mode) answer;
           };
           says = says;
         }
@@ -196,7 +192,7 @@ module _ (p : Property) (known : IsDecidable p) (m c : List ℕ) (mode : Mode) w
             };
           }
 
-      pub shows_property : (values : List Value) → ReadInTurn files (property_inputs a) values → MeansProperty p m c mode values r → ShowsProperty p files a m c mode status files' sent sent'
+      pub shows_property : (values : List Value) → ReadInTurn files (property_inputs p a) values → MeansProperty p m c mode values r → ShowsProperty p files a m c mode status files' sent sent'
       shows_property values reads means =
           let f = decided_reads values r reads means in
           let puts = puts_of_reply p.name f.pair f.cert.body (property_puts m (p.made f.one) c f.cert) r f.says in
@@ -204,7 +200,7 @@ module _ (p : Property) (known : IsDecidable p) (m c : List ℕ) (mode : Mode) w
 
     -- ---- what it leaves
 
-    holds_both : (files' : FileMap) (values : List Value) (r : Reply) → ReadInTurn files (property_inputs a) values → MeansProperty p m c mode values r → files' ≡ filed files r.puts → HoldsBoth p files a m c mode files'
+    holds_both : (files' : FileMap) (values : List Value) (r : Reply) → ReadInTurn files (property_inputs p a) values → MeansProperty p m c mode values r → files' ≡ filed files r.puts → HoldsBoth p files a m c mode files'
     holds_both files' values r reads means left =
         let f = decided_reads values r reads means in
         record {
@@ -216,15 +212,15 @@ module _ (p : Property) (known : IsDecidable p) (m c : List ℕ) (mode : Mode) w
           held = left ∙ ap (filed files) (puts_of_reply p.name f.pair f.cert.body (property_puts m (p.made f.one) c f.cert) r f.says);
         }
 
-    holds_part : (files' : FileMap) (values : List Value) (r : Reply) → ReadInTurn files (property_inputs a) values → MeansProperty p m c mode values r → IsCutShort files r.puts files' → HoldsPart p files a m c mode files'
+    holds_part : (files' : FileMap) (values : List Value) (r : Reply) → ReadInTurn files (property_inputs p a) values → MeansProperty p m c mode values r → IsCutShort files r.puts files' → HoldsPart p files a m c mode files'
     holds_part files' values r reads means cut =
         let f = decided_reads values r reads means in
         let cut' = subst (λ ps. IsCutShort files ps files') (puts_of_reply p.name f.pair f.cert.body (property_puts m (p.made f.one) c f.cert) r f.says) cut in
         (f.one, f.other, f.pair, f.cert, f.is_for, cut')
 
   module _ (held held' : Option FileMap) (status : ℕ) (sent sent' : Option (List ℕ)) (sink sink' faults faults' puts puts' : ℕ) (a : List ℕ) where
-    pub leaves_property : (e : Ending) → EndsSo (MeansProperty p m c mode) (property_inputs a) e held held' faults faults' puts puts' → WasSaid e status sent sent' sink sink' → OfBoth held held' (λ files files'. LeavesBoth p files a m c mode status puts puts' files')
+    pub leaves_property : (e : Ending) → EndsSo (MeansProperty p m c mode) (property_inputs p a) e held held' faults faults' puts puts' → WasSaid e status sent sent' sink sink' → OfBoth held held' (λ files files'. LeavesBoth p files a m c mode status puts puts' files')
     leaves_property e ends said =
-        leaves_by_status (MeansProperty p m c mode) (property_inputs a) held held' status sent sent' sink sink' faults faults' puts puts' _ _ decided_writes
+        leaves_by_status (MeansProperty p m c mode) (property_inputs p a) held held' status sent sent' sink sink' faults faults' puts puts' _ _ decided_writes
         (λ files files' values r reads means low left. holds_both files a files' values r reads means left)
         (λ files files' values r reads means cut. holds_part files a files' values r reads means cut) e ends said

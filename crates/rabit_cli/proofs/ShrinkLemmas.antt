@@ -17,7 +17,7 @@ use Rattle.ba_format.proofs.LawLemmas.{joins_as_one}
 use Rattle.cert_value.specs.declared.types.Cert.{Cert}
 use Rattle.cert_value.specs.declared.types.Body.{Body}
 use Rattle.cert_value.specs.declared.types.Body.TheVariants.{Yes, NoLasso, NoWord, Listing}
-use Rattle.cert_value.specs.WellFormed.{WellFormed, is_short, are_short, has_some, is_body}
+use Rattle.cert_value.specs.WellFormed.{WellFormed, is_version, is_short, are_short, has_some, is_body}
 use Rattle.cert_check.specs.Rules.{KeepsRules, BodyHolds}
 use Rattle.cert_check.specs.Laws.{IsValid}
 use Rattle.cert_check.proofs.RuleLemmas.{one_rule, none_kept}
@@ -41,7 +41,8 @@ use Rattle.rabit_frame.proofs.OneLemmas.{one_read_in_turn, stop_or_read_in_turn}
 use Rattle.rabit_cli.specs.Printed.{refused_text}
 use Rattle.rabit_cli.specs.Replies.{IsVerdictReply, SaysApart}
 use Rattle.rabit_cli.specs.Include.{certificate_put}
-use Rattle.rabit_cli.specs.Shrink.{shrink_inputs, IsNo, IsShrunkBody, with_body, IsShrinkReply, MeansShrink, IsShrunkFor, HoldsShrunk, HoldsShrunkFront, LeavesShrunk, ShowsShrink, IsShrinkStatus}
+use Rattle.rabit_cli.specs.Check.{check_inputs}
+use Rattle.rabit_cli.specs.Shrink.{IsNo, IsShrunkBody, with_body, IsShrinkReply, MeansShrink, IsShrunkFor, HoldsShrunk, HoldsShrunkFront, LeavesShrunk, ShowsShrink, IsShrinkStatus}
 use Rattle.rabit_cli.proofs.VerdictLemmas.{HaveTexts, one_verdict, puts_of_verdict}
 
 -- ---- what is left
@@ -75,18 +76,19 @@ module _ (pair : Joined) where
   word_apart word left is apart =
       shrunk_keeps (SeparatesWord pair.first pair.second) length word_without (SeparatesWord pair.first pair.second) (λ x y one p. one.keeps) word left is apart
 
-  abbrev made : Mode → ℕ → ℕ → ℕ → Body → Cert
-  made m first second labels body = record { mode = m; first_states = first; second_states = second; labels = labels; body = body }
+  abbrev made : ℕ → Mode → ℕ → ℕ → ℕ → Body → Cert
+  made v m first second labels body = record { version = v; mode = m; first_states = first; second_states = second; labels = labels; body = body }
 
   -- with what is left the certificate is valid
-  valid_by : (m : Mode) (first second labels : ℕ) (body left : Body) → WellFormed (made m first second labels body) → KeepsRules pair (made m first second labels body) → IsShrunkBody pair body left → IsValid pair (made m first second labels left)
-  valid_by m first second labels (Yes evidence) left formed keeps shrunk = absurd shrunk
-  valid_by m first second labels (Listing list) left formed keeps shrunk = absurd shrunk
-  valid_by m first second labels (NoLasso lasso) left formed keeps (l, is, e) =
+  valid_by : (v : ℕ) (m : Mode) (first second labels : ℕ) (body left : Body) → WellFormed (made v m first second labels body) → KeepsRules pair (made v m first second labels body) → IsShrunkBody pair body left → IsValid pair (made v m first second labels left)
+  valid_by v m first second labels (Yes evidence) left formed keeps shrunk = absurd shrunk
+  valid_by v m first second labels (Listing list) left formed keeps shrunk = absurd shrunk
+  valid_by v m first second labels (NoLasso lasso) left formed keeps (l, is, e) =
       let (prefix, (turn, (accepts, (rejects, none)))) = keeps.1 in
-      let one = and_parts (is_short first) (is_short second && (is_short labels && is_body m (NoLasso lasso))) formed in
-      let two = and_parts (is_short second) (is_short labels && is_body m (NoLasso lasso)) one.1 in
-      let three = and_parts (is_short labels) (is_body m (NoLasso lasso)) two.1 in
+      let zero = and_parts (is_version v) (is_short first && (is_short second && (is_short labels && is_body v m (NoLasso lasso)))) formed in
+      let one = and_parts (is_short first) (is_short second && (is_short labels && is_body v m (NoLasso lasso))) zero.1 in
+      let two = and_parts (is_short second) (is_short labels && is_body v m (NoLasso lasso)) one.1 in
+      let three = and_parts (is_short labels) (is_body v m (NoLasso lasso)) two.1 in
       let labels_are = keeps.0.2 in
       let few = ltb-true labels 1000000000 three.0 in
       let apart = lasso_apart lasso l is (accepts, rejects) in
@@ -96,39 +98,42 @@ module _ (pair : Joined) where
       let some = loop_has_letters pair.first l.prefix l.turn apart.0 in
       let good = and_from (are_short l.prefix) (are_short l.turn && has_some l.turn) (short_letters (length pair.labels) l.prefix (omega arith) prefix_left)
       (and_from (are_short l.turn) (has_some l.turn) (short_letters (length pair.labels) l.turn (omega arith) turn_left) some) in
-      subst (λ b. IsValid pair (made m first second labels b)) (sym e) (record {
+      subst (λ b. IsValid pair (made v m first second labels b)) (sym e) (record {
         formed =
-            and_from (is_short first) (is_short second && (is_short labels && is_body m (NoLasso l))) one.0
-            (and_from (is_short second) (is_short labels && is_body m (NoLasso l)) two.0 (and_from (is_short labels) (is_body m (NoLasso l)) three.0 (of_mode l m three.1 good)));
+            and_from (is_version v) (is_short first && (is_short second && (is_short labels && is_body v m (NoLasso l)))) zero.0
+            (and_from (is_short first) (is_short second && (is_short labels && is_body v m (NoLasso l))) one.0
+            (and_from (is_short second) (is_short labels && is_body v m (NoLasso l)) two.0 (and_from (is_short labels) (is_body v m (NoLasso l)) three.0 (of_mode l m three.1 good))));
         keeps = (keeps.0, (prefix_left, (turn_left, (apart.0, (apart.1, tt)))));
       })
     where
-      of_mode : (l : Lasso) (m : Mode) → is_body m (NoLasso lasso) ≡ true → are_short l.prefix && (are_short l.turn && has_some l.turn) ≡ true → is_body m (NoLasso l) ≡ true
+      of_mode : (l : Lasso) (m : Mode) → is_body v m (NoLasso lasso) ≡ true → are_short l.prefix && (are_short l.turn && has_some l.turn) ≡ true → is_body v m (NoLasso l) ≡ true
       of_mode l Buchi is good = good
       of_mode l Finite is good = absurd (false≢true is)
-  valid_by m first second labels (NoWord word) left formed keeps (w, is, e) =
+  valid_by v m first second labels (NoWord word) left formed keeps (w, is, e) =
       let (letters, (accepts, (rejects, none))) = keeps.1 in
-      let one = and_parts (is_short first) (is_short second && (is_short labels && is_body m (NoWord word))) formed in
-      let two = and_parts (is_short second) (is_short labels && is_body m (NoWord word)) one.1 in
-      let three = and_parts (is_short labels) (is_body m (NoWord word)) two.1 in
+      let zero = and_parts (is_version v) (is_short first && (is_short second && (is_short labels && is_body v m (NoWord word)))) formed in
+      let one = and_parts (is_short first) (is_short second && (is_short labels && is_body v m (NoWord word))) zero.1 in
+      let two = and_parts (is_short second) (is_short labels && is_body v m (NoWord word)) one.1 in
+      let three = and_parts (is_short labels) (is_body v m (NoWord word)) two.1 in
       let labels_are = keeps.0.2 in
       let few = ltb-true labels 1000000000 three.0 in
       let apart = word_apart word w is (accepts, rejects) in
       let letters_left = all_left (length pair.labels) word w (λ a. shrunk_word_has_its_letters pair.first pair.second word w a is) letters in
-      subst (λ b. IsValid pair (made m first second labels b)) (sym e) (record {
+      subst (λ b. IsValid pair (made v m first second labels b)) (sym e) (record {
         formed =
-            and_from (is_short first) (is_short second && (is_short labels && is_body m (NoWord w))) one.0
-            (and_from (is_short second) (is_short labels && is_body m (NoWord w)) two.0
-            (and_from (is_short labels) (is_body m (NoWord w)) three.0 (of_mode w m three.1 (short_letters (length pair.labels) w (omega arith) letters_left))));
+            and_from (is_version v) (is_short first && (is_short second && (is_short labels && is_body v m (NoWord w)))) zero.0
+            (and_from (is_short first) (is_short second && (is_short labels && is_body v m (NoWord w))) one.0
+            (and_from (is_short second) (is_short labels && is_body v m (NoWord w)) two.0
+            (and_from (is_short labels) (is_body v m (NoWord w)) three.0 (of_mode w m three.1 (short_letters (length pair.labels) w (omega arith) letters_left)))));
         keeps = (keeps.0, (letters_left, (apart.0, (apart.1, tt))));
       })
     where
-      of_mode : (w : List ℕ) (m : Mode) → is_body m (NoWord word) ≡ true → are_short w ≡ true → is_body m (NoWord w) ≡ true
+      of_mode : (w : List ℕ) (m : Mode) → is_body v m (NoWord word) ≡ true → are_short w ≡ true → is_body v m (NoWord w) ≡ true
       of_mode w Buchi is good = absurd (false≢true is)
       of_mode w Finite is good = good
 
   pub left_is_valid : (cert : Cert) (left : Body) → WellFormed cert → KeepsRules pair cert → IsShrunkBody pair cert.body left → IsValid pair (with_body cert left)
-  left_is_valid cert left formed keeps shrunk = valid_by cert.mode cert.first_states cert.second_states cert.labels cert.body left formed keeps shrunk
+  left_is_valid cert left formed keeps shrunk = valid_by cert.version cert.mode cert.first_states cert.second_states cert.labels cert.body left formed keeps shrunk
 
   -- its letters are labels of the pair
   letters_in : (m : Mode) (body left : Body) → BodyHolds m pair body → IsShrunkBody pair body left → (lasso : Lasso) → left ≡ NoLasso lasso → HaveTexts pair lasso
@@ -249,7 +254,7 @@ module _ (files : FileMap) (a b c out : List ℕ) where
   abbrev IsOfLeft : Reply → Type 0
   IsOfLeft r = (pair : Joined) × (cert : Cert) × (left : Body) × IsShrunkFor files a b c pair cert left × IsVerdictReply cert.mode pair left (certificate_put out (with_body cert left) ∷ []) r
 
-  shrink_cases : (values : List Value) (r : Reply) → ReadInTurn files (shrink_inputs a b c) values → MeansShrink out values r → IsOfLeft r ⊎ ((3 ≤ status_number r.status) × (r.puts ≡ []))
+  shrink_cases : (values : List Value) (r : Reply) → ReadInTurn files (check_inputs a b c) values → MeansShrink out values r → IsOfLeft r ⊎ ((3 ≤ status_number r.status) × (r.puts ≡ []))
   shrink_cases values r reads (one, two, cert, is, (pair, joined, inl (refusal, breaks, e))) =
       let five = ap (λ z. status_number z.status) e in
       inr (omega arith, ap (λ z. z.puts) e)
@@ -257,7 +262,7 @@ module _ (files : FileMap) (a b c out : List ℕ) where
       let thirteen = ap (λ z. status_number z.status) e in
       inr (omega arith, ap (λ z. z.puts) e)
   shrink_cases values r reads (one, two, cert, is, (pair, joined, inr (inr (keeps, (left, shrunk, says))))) =
-      let (first, (second, (third, end))) = subst (ReadInTurn files (shrink_inputs a b c)) is reads in
+      let (first, (second, (third, end))) = subst (ReadInTurn files (check_inputs a b c)) is reads in
       let formed = third.3.0 in
       inl (
         pair,
@@ -274,7 +279,7 @@ module _ (files : FileMap) (a b c out : List ℕ) where
       )
 
   module _ (status : ℕ) (files' : FileMap) (sent sent' : Option (List ℕ)) (r : Reply) (number : status_number r.status ≡ status) (low : status ≤ 2) (left : files' ≡ filed files r.puts) (sends : sent' ≡ append_known sent r.text) where
-    pub shows_shrink : (values : List Value) → ReadInTurn files (shrink_inputs a b c) values → MeansShrink out values r → ShowsShrink files a b c out status files' sent sent'
+    pub shows_shrink : (values : List Value) → ReadInTurn files (check_inputs a b c) values → MeansShrink out values r → ShowsShrink files a b c out status files' sent sent'
     shows_shrink values reads means = elim (shrink_cases values r reads means) [
       | inl of ↦
           let (pair, cert, body, is, says) = of in
@@ -294,7 +299,7 @@ module _ (files : FileMap) (a b c out : List ℕ) where
       | inr other ↦ (let high = other.0 in absurd (omega arith))
     ]
 
-  pub holds_shrunk : (files' : FileMap) (values : List Value) (r : Reply) → ReadInTurn files (shrink_inputs a b c) values → MeansShrink out values r → status_number r.status ≤ 2 → files' ≡ filed files r.puts → HoldsShrunk files a b c out files'
+  pub holds_shrunk : (files' : FileMap) (values : List Value) (r : Reply) → ReadInTurn files (check_inputs a b c) values → MeansShrink out values r → status_number r.status ≤ 2 → files' ≡ filed files r.puts → HoldsShrunk files a b c out files'
   holds_shrunk files' values r reads means low left = elim (shrink_cases values r reads means) [
     | inl of ↦
         let (pair, cert, body, is, says) = of in
@@ -302,7 +307,7 @@ module _ (files : FileMap) (a b c out : List ℕ) where
     | inr other ↦ (let high = other.0 in absurd (omega arith))
   ]
 
-  pub holds_shrunk_front : (files' : FileMap) (values : List Value) (r : Reply) → ReadInTurn files (shrink_inputs a b c) values → MeansShrink out values r → IsCutShort files r.puts files' → HoldsShrunkFront files a b c out files'
+  pub holds_shrunk_front : (files' : FileMap) (values : List Value) (r : Reply) → ReadInTurn files (check_inputs a b c) values → MeansShrink out values r → IsCutShort files r.puts files' → HoldsShrunkFront files a b c out files'
   holds_shrunk_front files' values r reads means cut = elim (shrink_cases values r reads means) [
     | inl of ↦
         let (pair, cert, body, is, says) = of in
@@ -312,12 +317,12 @@ module _ (files : FileMap) (a b c out : List ℕ) where
   ]
 
   -- its status, for what the files hold
-  status_reads : (values : List Value) (r : Reply) → ReadInTurn files (shrink_inputs a b c) values → MeansShrink out values r → (n : ℕ) → n ≡ status_number r.status → IsShrinkStatus files a b c n
+  status_reads : (values : List Value) (r : Reply) → ReadInTurn files (check_inputs a b c) values → MeansShrink out values r → (n : ℕ) → n ≡ status_number r.status → IsShrinkStatus files a b c n
   status_reads values r reads (one, two, cert, is, (pair, joined, inl (refusal, breaks, e))) n same =
-      let reads' = subst (ReadInTurn files (shrink_inputs a b c)) is reads in
+      let reads' = subst (ReadInTurn files (check_inputs a b c)) is reads in
       inr (inr (
         λ (pair', cert', (one', two', first', second', joined'), certificate', valid', any).
-            (let all = one_read_in_turn files (shrink_inputs a b c) (value.Automaton one ∷ value.Automaton two ∷ value.Certificate cert ∷ []) (value.Automaton one' ∷ value.Automaton two' ∷ value.Certificate cert' ∷ []) reads' (first', (second', (certificate', tt))) in
+            (let all = one_read_in_turn files (check_inputs a b c) (value.Automaton one ∷ value.Automaton two ∷ value.Certificate cert ∷ []) (value.Automaton one' ∷ value.Automaton two' ∷ value.Certificate cert' ∷ []) reads' (first', (second', (certificate', tt))) in
             let first : one' ≡ one = cc in
             let second : two' ≡ two = cc in
             let third : cert' ≡ cert = cc in
@@ -329,29 +334,29 @@ module _ (files : FileMap) (a b c out : List ℕ) where
         same ∙ ap (λ z. status_number z.status) e,
       ))
   status_reads values r reads (one, two, cert, is, (pair, joined, inr (inl (keeps, not, e)))) n same =
-      let (first, (second, (third, end))) = subst (ReadInTurn files (shrink_inputs a b c)) is reads in
+      let (first, (second, (third, end))) = subst (ReadInTurn files (check_inputs a b c)) is reads in
       inr (inl ((pair, cert, (one, two, first, second, joined), third, record { formed = third.3.0; keeps = keeps }, not), same ∙ ap (λ z. status_number z.status) e))
   status_reads values r reads (one, two, cert, is, (pair, joined, inr (inr (keeps, (left, shrunk, says))))) n same =
-      let (first, (second, (third, end))) = subst (ReadInTurn files (shrink_inputs a b c)) is reads in
+      let (first, (second, (third, end))) = subst (ReadInTurn files (check_inputs a b c)) is reads in
       inl (
         (pair, cert, (one, two, first, second, joined), third, record { formed = third.3.0; keeps = keeps }, left_of_no pair cert.body left shrunk),
         same ∙ left_number pair cert.mode cert.body left (certificate_put out (with_body cert left) ∷ []) r shrunk says,
       )
 
-  pub shrink_status : (r : Reply) → (StopInTurn files (shrink_inputs a b c) r → status_number r.status ≡ 5) → IsReplyFor (MeansShrink out) (shrink_inputs a b c) files r → (n : ℕ) → n ≡ status_number r.status → IsShrinkStatus files a b c n
+  pub shrink_status : (r : Reply) → (StopInTurn files (check_inputs a b c) r → status_number r.status ≡ 5) → IsReplyFor (MeansShrink out) (check_inputs a b c) files r → (n : ℕ) → n ≡ status_number r.status → IsShrinkStatus files a b c n
   shrink_status r five right n same = elim right [
     | inl stop ↦
         inr (inr (
           λ (pair, cert, (one, two, first, second, joined), certificate, valid, any).
-              stop_or_read_in_turn files (shrink_inputs a b c) r (value.Automaton one ∷ value.Automaton two ∷ value.Certificate cert ∷ []) stop (first, (second, (certificate, tt))),
+              stop_or_read_in_turn files (check_inputs a b c) r (value.Automaton one ∷ value.Automaton two ∷ value.Certificate cert ∷ []) stop (first, (second, (certificate, tt))),
           same ∙ five stop,
         ))
     | inr read ↦ (let (values, reads, means) = read in status_reads values r reads means n same)
   ]
 
 module _ (held held' : Option FileMap) (status : ℕ) (sent sent' : Option (List ℕ)) (sink sink' faults faults' puts puts' : ℕ) (a b c out : List ℕ) where
-  pub leaves_shrink : (e : Ending) → EndsSo (MeansShrink out) (shrink_inputs a b c) e held held' faults faults' puts puts' → WasSaid e status sent sent' sink sink' → OfBoth held held' (λ files files'. LeavesShrunk files a b c out status puts puts' files')
+  pub leaves_shrink : (e : Ending) → EndsSo (MeansShrink out) (check_inputs a b c) e held held' faults faults' puts puts' → WasSaid e status sent sent' sink sink' → OfBoth held held' (λ files files'. LeavesShrunk files a b c out status puts puts' files')
   leaves_shrink e ends said =
-      leaves_by_status (MeansShrink out) (shrink_inputs a b c) held held' status sent sent' sink sink' faults faults' puts puts' _ _ (shrink_writes out)
+      leaves_by_status (MeansShrink out) (check_inputs a b c) held held' status sent sent' sink sink' faults faults' puts puts' _ _ (shrink_writes out)
       (λ files files' values r reads means low left. holds_shrunk files a b c out files' values r reads means low left)
       (λ files files' values r reads means cut. holds_shrunk_front files a b c out files' values r reads means cut) e ends said

@@ -17,6 +17,7 @@ use Rattle.auto_core.specs.Run.{Run, repeated}
 use Rattle.auto_core.specs.declared.parts.Trans.{Trans}
 use Rattle.auto_core.specs.declared.parts.Mode.{Mode}
 use Rattle.auto_core.specs.declared.parts.Mode.TheVariants.{Buchi, Finite}
+use Rattle.ba_format.specs.declared.parts.Limits.{Limits}
 use Rattle.ba_format.specs.declared.parts.Named.{Named}
 use Rattle.ba_format.specs.declared.parts.Joined.{Joined}
 use Rattle.ba_format.specs.Faults.{fault_of, labels_of, labels_in, contents_of}
@@ -33,12 +34,12 @@ use Rattle.ba_format.proofs.LawLemmas.{contains_cases, contains_first, contains_
 use Rattle.ba_format.proofs.SightLemmas.{same_text-refl, noted-new, not_found}
 use Rattle.ba_format.proofs.WrittenLemmas.{transition_entry_of, contents_of-written}
 use Rattle.cert_check.specs.Rules.{AreLabels}
-use Rattle.rabit_cli.specs.Files.{check_limits}
+use Rattle.rabit_cli.specs.Files.{second_limits}
 use Rattle.rabit_cli.specs.Universal.{loops, all_loops, IsLassoOver, AcceptsAll, universality}
 use Rattle.rabit_cli.specs.Laws.{UniversalTextAcceptsAll}
 use Rattle.rabit_cli.proofs.BackLemmas.{written_same, with_labels, includes_then}
 use Rattle.rabit_cli.proofs.OwnLemmas.{labels_count, built_itself, stays_itself}
-use Rattle.rabit_cli.proofs.PairLemmas.{can_decide}
+use Rattle.rabit_cli.proofs.PairLemmas.{can_decide, within_first}
 use Rattle.rabit_cli.proofs.ShrinkLemmas.{loop_has_letters}
 use Rattle.rabit_cli.proofs.PropertyLemmas.{IsDecidable}
 
@@ -177,9 +178,10 @@ module _ (labels : List (List ℕ)) (few : length labels ≤ 256) (fit : All IsL
   pub loops_writable : IsWritable (all_loops (length labels)) labels
   loops_writable = record { valid = loops_valid (length labels) (omega arith); all_named = omega arith; different = fit.1; fit = fit.0 }
 
-  -- it has no fault
-  pub universal_has_no_fault : fault_of (written (all_loops (length labels)) labels) check_limits ≡ None
-  universal_has_no_fault = written_is_read (all_loops (length labels)) labels check_limits loops_writable (omega arith) few (omega (arith, loops_count (length labels)))
+  -- it has no fault, where the limits leave room for it
+  pub universal_has_no_fault : (limits : Limits) → 2 ≤ limits.states → 256 ≤ limits.labels → 256 ≤ limits.transitions → fault_of (written (all_loops (length labels)) labels) limits ≡ None
+  universal_has_no_fault limits states names transitions =
+      written_is_read (all_loops (length labels)) labels limits loops_writable (omega arith) (omega arith) (omega (arith, loops_count (length labels)))
 
   labels_written : labels_of (contents_of (written (all_loops (length labels)) labels)) ≡ labels
   labels_written =
@@ -260,9 +262,9 @@ text_accepts_all labels limits named m few texts different made =
 
 -- ---- the joined automata
 
-module _ (bytes : List ℕ) (one other : Named) (pair : Joined) (read : Reads bytes check_limits one) (made : Reads (written (all_loops (length one.labels)) one.labels) check_limits other) (joined : IsJoined other one pair) (few : length one.labels ≤ 256) where
+module _ (bytes : List ℕ) (one other : Named) (pair : Joined) (read : Reads bytes second_limits one) (made : Reads (written (all_loops (length one.labels)) one.labels) second_limits other) (joined : IsJoined other one pair) (few : length one.labels ≤ 256) where
   fit : All IsLabelText one.labels × AreDifferent one.labels
-  fit = labels_fit bytes check_limits one read
+  fit = labels_fit bytes second_limits one read
 
   other_labels : other.labels ≡ one.labels
   other_labels = made.reading.labels ∙ labels_written one.labels few fit
@@ -271,7 +273,7 @@ module _ (bytes : List ℕ) (one other : Named) (pair : Joined) (read : Reads by
   universal_labels = joined.labels ∙ ap (λ ls. joined_labels ls one.labels) other_labels ∙ joined_itself one.labels
 
   second_stays : pair.second ≡ one.auto
-  second_stays = stays_itself bytes check_limits one read pair.labels pair.second universal_labels joined.second
+  second_stays = stays_itself bytes second_limits one read pair.labels pair.second universal_labels joined.second
 
   first_accepts : (m : Mode) → Includes (all_loops (length one.labels)) pair.first m
   first_accepts m =
@@ -279,13 +281,13 @@ module _ (bytes : List ℕ) (one other : Named) (pair : Joined) (read : Reads by
       let turned : Joined = record { first = with_labels (all_loops n) (length pair.labels); second = pair.first; labels = pair.labels } in
       let all : pair.labels ≡ joined_labels one.labels other.labels = universal_labels ∙ sym (ap (joined_labels one.labels) other_labels ∙ joined_itself one.labels) in
       let short : length pair.labels < 2 ^ 32 = omega (arith, ap length universal_labels) in
-      (written_same one.labels (all_loops n) m (loops_writable one.labels few fit) check_limits other turned made all short joined.first).0
+      (written_same one.labels (all_loops n) m (loops_writable one.labels few fit) second_limits other turned made all short joined.first).0
 
   abbrev n : ℕ
   n = length one.labels
 
   count : one.auto.labels ≡ n
-  count = labels_count bytes check_limits one read
+  count = labels_count bytes second_limits one read
 
   universal_holds : (m : Mode) → Includes pair.first pair.second m → AcceptsAll m one.auto
   universal_holds m includes = includes_all one.auto n count m (subst (λ A. Includes (all_loops n) A m) second_stays (includes_then m (all_loops n) pair.first pair.second (first_accepts m) includes))
@@ -313,7 +315,7 @@ pub universality_decidable : IsDecidable universality
 universality_decidable = record {
   one_pair = λ one other x y p q. joins_as_one other one x y p q;
   valid = λ one other pair joined. (joined.first.valid, joined.second.valid);
-  can = λ one other pair first second joined. can_decide other one pair second first joined;
+  can = λ one other pair first second joined. can_decide other one pair (within_first other second) first joined;
   labels = λ bytes one other pair read made joined. universal_labels bytes one other pair read made joined (few_labels bytes one read);
   holds = λ bytes one other pair read made joined. universal_holds bytes one other pair read made joined (few_labels bytes one read);
   lasso = λ bytes one other pair read made joined l apart. (
@@ -326,5 +328,5 @@ universality_decidable = record {
   );
 }
   where
-    few_labels : (bytes : List ℕ) (one : Named) → Reads bytes check_limits one → length one.labels ≤ 256
-    few_labels bytes one read = (let within = read_is_within bytes check_limits one read in omega (arith, within.labels, within.labels_named))
+    few_labels : (bytes : List ℕ) (one : Named) → Reads bytes second_limits one → length one.labels ≤ 256
+    few_labels bytes one read = (let within = read_is_within bytes second_limits one read in omega (arith, within.labels, within.labels_named))

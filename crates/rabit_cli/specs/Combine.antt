@@ -14,15 +14,10 @@ use Rattle.rabit_frame.specs.declared.parts.Value.{Value}
 use Rattle.rabit_frame.specs.declared.parts.Value.TheVariants as value
 use Rattle.rabit_frame.specs.declared.parts.Status.TheVariants as status
 use Rattle.rabit_frame.specs.declared.parts.Reply.{Reply}
-use Rattle.rabit_frame.specs.Files.{Input}
 use Rattle.rabit_frame.specs.Reading.{only_said}
-use Rattle.rabit_cli.specs.Files.{check_limits, large_limits, automaton_file, ReadsLargePair}
+use Rattle.rabit_cli.specs.Files.{ReadsPair}
 use Rattle.rabit_cli.specs.Replies.{too_large_reply}
 use Rattle.rabit_cli.specs.Reduce.{printed_limits}
-
--- The files that they read: the two automata, the first of which may be as large as that of a reduction.
-abbrev pub combined_inputs : List ℕ → List ℕ → List Input
-combined_inputs a b = automaton_file 1 large_limits a ∷ automaton_file 2 check_limits b ∷ []
 
 -- The reply to what was read, if this is the one to the two joined automata.
 abbrev pub MeansCombined : (Joined → Reply → Type 0) → List Value → Reply → Type 0
@@ -40,7 +35,7 @@ IsCombinedReply is_result is_too_large labels r =
 -- The status of a result for these files: 12 if that of the two automata would be too large, and otherwise 0.
 abbrev pub IsCombinedStatus : (Joined → Type 0) → FileMap → List ℕ → List ℕ → ℕ → Type 0
 IsCombinedStatus is_too_large files a b status =
-    (pair : Joined) × ReadsLargePair files a b pair × ((is_too_large pair × (status ≡ 12)) ⊎ (¬ is_too_large pair × (status ≡ 0)))
+    (pair : Joined) × ReadsPair files a b pair × ((is_too_large pair × (status ≡ 12)) ⊎ (¬ is_too_large pair × (status ≡ 0)))
 
 -- The automaton with the texts of its labels.
 abbrev pub with_texts : Automaton → List (List ℕ) → Named
@@ -57,7 +52,7 @@ pub record ReadsBackFor (pair : Joined) (accepts : Automaton → Type 0) (text :
 pub record IsCombinedShown (files : FileMap) (a b : List ℕ) (is_result accepts : Joined → Automaton → Type 0) (sent sent' : Option (List ℕ)) : Type 0 where
   pub pair : Joined
   pub made : Automaton
-  pub read : ReadsLargePair files a b pair
+  pub read : ReadsPair files a b pair
   pub is_made : is_result pair made
   pub within : IsSmallResult made
   pub accepts_so : accepts pair made

@@ -1,43 +1,55 @@
 -- Each question's files, what its reply means, and what its results show: one row a command.
 use Rattle.std.specs.Prelude.{◌≡◌, ℕ, ◌⊎◌, List, [], ◌∷◌, Option, Some, None}
 use Rattle.shelf_io.specs.Shelf.{FileMap}
-use Rattle.decide.specs.Terms.{terms_of}
 use Rattle.rabit_frame.specs.declared.parts.Value.{Value}
 use Rattle.rabit_frame.specs.declared.parts.Reply.{Reply}
 use Rattle.rabit_frame.specs.Files.{Input}
 use Rattle.rabit_frame.specs.Lines.{memory_line}
 use Rattle.rabit_frame.specs.Ending.{SaysOnly}
-use Rattle.rabit_words.specs.Question.{Question, Include, Check, Reduce, Drill, Union, Intersect, Shrink, Empty, Universal}
+use Rattle.rabit_frame.specs.Carrying.{NoReply}
+use Rattle.rabit_words.specs.Question.{Question, Include, Check, Reduce, Drill, Upgrade, Equal, Batch, Union, Intersect, Shrink, Empty, Universal}
 use Rattle.rabit_cli.specs.Printed.{usage_text}
 use Rattle.rabit_cli.specs.Replies.{usage_reply}
 use Rattle.rabit_cli.specs.Check.{check_inputs, MeansCheck, ShowsCheck}
-use Rattle.rabit_cli.specs.Include.{pair_inputs, MeansInclude, ShowsInclude, LeavesDecided}
-use Rattle.rabit_cli.specs.Reduce.{reduce_inputs, MeansReduce, ShowsReduce}
+use Rattle.rabit_cli.specs.Include.{pair_inputs, asked_terms, MeansInclude, ShowsInclude, LeavesDecided}
+use Rattle.rabit_cli.specs.Reduce.{reduce_inputs, asked_sight, MeansReduce, ShowsReduce}
 use Rattle.rabit_cli.specs.Drill.{MeansDrill, ShowsDrill, SaysDrill}
-use Rattle.rabit_cli.specs.Combine.{combined_inputs}
+use Rattle.rabit_cli.specs.Upgrade.{upgrade_inputs, MeansUpgrade, ShowsUpgrade, LeavesUpgraded}
+use Rattle.rabit_cli.specs.Equal.{equal_inputs, MeansEqual, ShowsEqual, LeavesEqual}
+use Rattle.rabit_cli.specs.Batch.{batch_inputs, IsBatch}
 use Rattle.rabit_cli.specs.Union.{MeansUnion, ShowsUnion}
 use Rattle.rabit_cli.specs.Intersect.{MeansIntersect, ShowsIntersect}
-use Rattle.rabit_cli.specs.Shrink.{shrink_inputs, MeansShrink, ShowsShrink, LeavesShrunk}
+use Rattle.rabit_cli.specs.Shrink.{MeansShrink, ShowsShrink, LeavesShrunk}
 use Rattle.rabit_cli.specs.Property.{property_inputs, MeansProperty, ShowsProperty, LeavesBoth}
 use Rattle.rabit_cli.specs.Empty.{emptiness}
 use Rattle.rabit_cli.specs.Universal.{universality}
 
--- The files that are read, in order.
+-- Every question is answered by a reply of its own but a batch, which asks further ones.
+abbrev pub IsSingle : Option Question → Type 0
+IsSingle (Some (Batch list)) = ⊥
+IsSingle question = Unit {0}
+
+-- The files that are read, in order; those of a batch's questions are read with these.
 abbrev pub inputs_of : Option Question → List Input
 inputs_of None = []
 inputs_of (Some (Check a b c)) = check_inputs a b c
-inputs_of (Some (Include a b c mode look limit)) = pair_inputs a b
-inputs_of (Some (Reduce a mode look)) = reduce_inputs a
+inputs_of (Some (Include a b c mode look limit letters)) = pair_inputs a b
+inputs_of (Some (Reduce a mode look letters)) = reduce_inputs a
 inputs_of (Some (Drill seed states labels)) = []
-inputs_of (Some (Union a b mode)) = combined_inputs a b
-inputs_of (Some (Intersect a b mode)) = combined_inputs a b
-inputs_of (Some (Shrink a b c out)) = shrink_inputs a b c
-inputs_of (Some (Empty a e c mode)) = property_inputs a
-inputs_of (Some (Universal a u c mode)) = property_inputs a
+inputs_of (Some (Upgrade c out)) = upgrade_inputs c
+inputs_of (Some (Equal a b c d)) = equal_inputs a b
+inputs_of (Some (Batch list)) = batch_inputs list
+inputs_of (Some (Union a b mode)) = pair_inputs a b
+inputs_of (Some (Intersect a b mode)) = pair_inputs a b
+inputs_of (Some (Shrink a b c out)) = check_inputs a b c
+inputs_of (Some (Empty a e c mode)) = property_inputs emptiness a
+inputs_of (Some (Universal a u c mode)) = property_inputs universality a
 
 -- The names of the files that may be written.
 abbrev pub outputs_of : Option Question → List (List ℕ)
-outputs_of (Some (Include a b c mode look limit)) = c ∷ []
+outputs_of (Some (Include a b c mode look limit letters)) = c ∷ []
+outputs_of (Some (Upgrade c out)) = out ∷ []
+outputs_of (Some (Equal a b c d)) = c ∷ d ∷ []
 outputs_of (Some (Shrink a b c out)) = out ∷ []
 outputs_of (Some (Empty a e c mode)) = e ∷ c ∷ []
 outputs_of (Some (Universal a u c mode)) = u ∷ c ∷ []
@@ -47,9 +59,12 @@ outputs_of question = []
 abbrev pub Means : Option Question → List Value → Reply → Type 0
 Means None values r = r ≡ usage_reply
 Means (Some (Check a b c)) values r = MeansCheck values r
-Means (Some (Include a b c mode look limit)) values r = MeansInclude c (terms_of mode look limit) values r
-Means (Some (Reduce a mode look)) values r = MeansReduce mode look values r
+Means (Some (Include a b c mode look limit letters)) values r = MeansInclude c (asked_terms mode look limit letters) values r
+Means (Some (Reduce a mode look letters)) values r = MeansReduce mode (asked_sight look letters) values r
 Means (Some (Drill seed states labels)) values r = MeansDrill (record { seed = seed; states = states; labels = labels }) values r
+Means (Some (Upgrade c out)) values r = MeansUpgrade out values r
+Means (Some (Equal a b c d)) values r = MeansEqual c d values r
+Means (Some (Batch list)) values r = NoReply values r
 Means (Some (Union a b mode)) values r = MeansUnion mode values r
 Means (Some (Intersect a b mode)) values r = MeansIntersect mode values r
 Means (Some (Shrink a b c out)) values r = MeansShrink out values r
@@ -59,9 +74,12 @@ Means (Some (Universal a u c mode)) values r = MeansProperty universality u c mo
 -- What a status up to 2 shows of the files before and after, and of what was sent. Words that are no question have no status up to 2.
 abbrev pub Shows : Option Question → ℕ → FileMap → FileMap → Option (List ℕ) → Option (List ℕ) → Type 0
 Shows (Some (Check a b c)) status files files' sent sent' = ShowsCheck files a b c status sent sent'
-Shows (Some (Include a b c mode look limit)) status files files' sent sent' = ShowsInclude files a b c (terms_of mode look limit) status files' sent sent'
-Shows (Some (Reduce a mode look)) status files files' sent sent' = ShowsReduce files a mode look status sent sent'
+Shows (Some (Include a b c mode look limit letters)) status files files' sent sent' = ShowsInclude files a b c (asked_terms mode look limit letters) status files' sent sent'
+Shows (Some (Reduce a mode look letters)) status files files' sent sent' = ShowsReduce files a mode (asked_sight look letters) status sent sent'
 Shows (Some (Drill seed states labels)) status files files' sent sent' = ShowsDrill (record { seed = seed; states = states; labels = labels }) status sent sent'
+Shows (Some (Upgrade c out)) status files files' sent sent' = ShowsUpgrade files c out status files' sent sent'
+Shows (Some (Equal a b c d)) status files files' sent sent' = ShowsEqual files a b c d status files' sent sent'
+Shows (Some (Batch list)) status files files' sent sent' = ⊥
 Shows (Some (Union a b mode)) status files files' sent sent' = ShowsUnion files a b mode status sent sent'
 Shows (Some (Intersect a b mode)) status files files' sent sent' = ShowsIntersect files a b mode status sent sent'
 Shows (Some (Shrink a b c out)) status files files' sent sent' = ShowsShrink files a b c out status files' sent sent'
@@ -69,15 +87,23 @@ Shows (Some (Empty a e c mode)) status files files' sent sent' = ShowsProperty e
 Shows (Some (Universal a u c mode)) status files files' sent sent' = ShowsProperty universality files a u c mode status files' sent sent'
 Shows None status files files' sent sent' = ⊥
 
+-- How a batch goes.
+abbrev pub Batches : Question → Option FileMap → Option FileMap → ℕ → Option (List ℕ) → Option (List ℕ) → ℕ → ℕ → ℕ → ℕ → ℕ → ℕ → ℕ → ℕ → Type 0
+Batches (Batch list) held held' status sent sent' give_faults give_faults' read_faults read_faults' put_faults put_faults' missed missed' =
+    IsBatch list held held' status sent sent' give_faults give_faults' read_faults read_faults' put_faults put_faults' missed missed'
+Batches question held held' status sent sent' give_faults give_faults' read_faults read_faults' put_faults put_faults' missed missed' = Unit {0}
+
 -- What a drill says, whatever the shelf tells.
 abbrev pub Drills : Question → ℕ → Option (List ℕ) → Option (List ℕ) → ℕ → ℕ → Type 0
 Drills (Drill seed states labels) status sent sent' sink sink' = SaysDrill (record { seed = seed; states = states; labels = labels }) status sent sent' sink sink'
 Drills question status sent sent' sink sink' = Unit {0}
 
--- What the files are afterwards: only a decision and a shrinking write, and only the file of a certificate, and `empty` and `universal` the made
--- automaton's too.
+-- What the files are afterwards: only a decision, an upgrade, a comparison and a shrinking write, and only the files of certificates, and `empty` and `universal` the
+-- made automaton's too.
 abbrev pub LeavesFiles : Option Question → ℕ → ℕ → ℕ → FileMap → FileMap → Type 0
-LeavesFiles (Some (Include a b c mode look limit)) status puts puts' files files' = LeavesDecided files a b c (terms_of mode look limit) status puts puts' files'
+LeavesFiles (Some (Include a b c mode look limit letters)) status puts puts' files files' = LeavesDecided files a b c (asked_terms mode look limit letters) status puts puts' files'
+LeavesFiles (Some (Upgrade c out)) status puts puts' files files' = LeavesUpgraded files c out status puts puts' files'
+LeavesFiles (Some (Equal a b c d)) status puts puts' files files' = LeavesEqual files a b c d status puts puts' files'
 LeavesFiles (Some (Shrink a b c out)) status puts puts' files files' = LeavesShrunk files a b c out status puts puts' files'
 LeavesFiles (Some (Empty a e c mode)) status puts puts' files files' = LeavesBoth emptiness files a e c mode status puts puts' files'
 LeavesFiles (Some (Universal a u c mode)) status puts puts' files files' = LeavesBoth universality files a u c mode status puts puts' files'

@@ -5,34 +5,43 @@ use Rattle.shelf_io.specs.Shelf.{FileMap}
 use Rattle.rabit_frame.specs.declared.parts.Value.{Value}
 use Rattle.rabit_frame.specs.Files.{Input}
 use Rattle.rabit_frame.specs.Reading.{ReadInTurn}
-use Rattle.rabit_words.specs.Question.{Question, Include, Check, Reduce, Drill, Union, Intersect, Shrink, Empty, Universal}
+use Rattle.rabit_words.specs.Question.{Question, Include, Check, Reduce, Drill, Upgrade, Equal, Batch, Union, Intersect, Shrink, Empty, Universal}
 use Rattle.rabit_cli.specs.Include.{pair_inputs}
 use Rattle.rabit_cli.specs.Reduce.{reduce_inputs}
-use Rattle.rabit_cli.specs.Combine.{combined_inputs}
+use Rattle.rabit_cli.specs.Upgrade.{IsUpgradeStatus}
+use Rattle.rabit_cli.specs.Equal.{equal_inputs}
 use Rattle.rabit_cli.specs.Union.{IsUnionStatus}
 use Rattle.rabit_cli.specs.Intersect.{IsIntersectionStatus}
 use Rattle.rabit_cli.specs.Shrink.{IsShrinkStatus}
 use Rattle.rabit_cli.specs.Property.{property_inputs}
+use Rattle.rabit_cli.specs.Empty.{emptiness}
+use Rattle.rabit_cli.specs.Universal.{universality}
 
 -- The files of automata that the question reads.
 abbrev pub automata_of : Question → List Input
 automata_of (Check a b c) = pair_inputs a b
-automata_of (Include a b c mode look limit) = pair_inputs a b
-automata_of (Reduce a mode look) = reduce_inputs a
+automata_of (Include a b c mode look limit letters) = pair_inputs a b
+automata_of (Reduce a mode look letters) = reduce_inputs a
 automata_of (Drill seed states labels) = []
-automata_of (Union a b mode) = combined_inputs a b
-automata_of (Intersect a b mode) = combined_inputs a b
-automata_of (Shrink a b c out) = combined_inputs a b
-automata_of (Empty a e c mode) = property_inputs a
-automata_of (Universal a u c mode) = property_inputs a
+automata_of (Upgrade c out) = []
+automata_of (Equal a b c d) = equal_inputs a b
+automata_of (Batch list) = []
+automata_of (Union a b mode) = pair_inputs a b
+automata_of (Intersect a b mode) = pair_inputs a b
+automata_of (Shrink a b c out) = pair_inputs a b
+automata_of (Empty a e c mode) = property_inputs emptiness a
+automata_of (Universal a u c mode) = property_inputs universality a
 
--- The statuses of the command's results for these files, and that of want of memory. A check may also refuse the certificate; of a union, an
--- intersection and a shrinking the files tell which status it is.
+-- The statuses of the command's results for these files, and that of want of memory. A check may also refuse the certificate; of an upgrade, a
+-- union, an intersection and a shrinking the files tell which status it is. That of a batch is of a list with a fault, before its questions.
 abbrev pub MayAnswer : Question → FileMap → ℕ → Type 0
 MayAnswer (Check a b c) files status = (status ≤ 2) ⊎ (status ≡ 5) ⊎ (status ≡ 8)
-MayAnswer (Include a b c mode look limit) files status = (status ≤ 2) ⊎ (status ≡ 8)
-MayAnswer (Reduce a mode look) files status = (status ≡ 0) ⊎ (status ≡ 8)
+MayAnswer (Include a b c mode look limit letters) files status = (status ≤ 2) ⊎ (status ≡ 8)
+MayAnswer (Reduce a mode look letters) files status = (status ≡ 0) ⊎ (status ≡ 8)
 MayAnswer (Drill seed states labels) files status = (status ≡ 0) ⊎ (status ≡ 8)
+MayAnswer (Upgrade c out) files status = IsUpgradeStatus files c status ⊎ (status ≡ 8)
+MayAnswer (Equal a b c d) files status = (status ≤ 2) ⊎ (status ≡ 8)
+MayAnswer (Batch list) files status = (status ≡ 11) ⊎ (status ≡ 8)
 MayAnswer (Union a b mode) files status = IsUnionStatus files a b status ⊎ (status ≡ 8)
 MayAnswer (Intersect a b mode) files status = IsIntersectionStatus mode files a b status ⊎ (status ≡ 8)
 MayAnswer (Shrink a b c out) files status = IsShrinkStatus files a b c status ⊎ (status ≡ 8)

@@ -11,13 +11,13 @@ use Rattle.rabit_frame.specs.Reading.{FileReads}
 use Rattle.rabit_frame.specs.declared.parts.FileKind.TheVariants as kind
 use Rattle.rabit_frame.specs.declared.parts.Value.TheVariants as value
 
--- The most states, labels and transitions of each file of a check or a decision.
-abbrev pub check_limits : Limits
-check_limits = record { states = 512; labels = 256; transitions = 65536 }
+-- The most states, labels and transitions of a second file.
+abbrev pub second_limits : Limits
+second_limits = record { states = 512; labels = 256; transitions = 65536 }
 
--- The most states, labels and transitions of the file of a reduction, and of the first file of a union, an intersection or a shrinking.
-abbrev pub large_limits : Limits
-large_limits = record { states = 2048; labels = 256; transitions = 65536 }
+-- The most states, labels and transitions of a first file.
+abbrev pub first_limits : Limits
+first_limits = record { states = 2048; labels = 256; transitions = 65536 }
 
 -- A file that is read as an automaton, with the number that its faults are told with.
 abbrev pub automaton_file : ℕ → Limits → List ℕ → Input
@@ -36,16 +36,12 @@ abbrev pub ReadsPairWithin : Limits → FileMap → List ℕ → List ℕ → Jo
 ReadsPairWithin limits files a b pair =
     (one two : Named)
     × FileReads files (automaton_file 1 limits a) (value.Automaton one)
-    × FileReads files (automaton_file 2 check_limits b) (value.Automaton two)
+    × FileReads files (automaton_file 2 second_limits b) (value.Automaton two)
     × IsJoined one two pair
 
--- Both files read as such a pair.
+-- Both files read as such a pair, the first within the limits of a first file.
 abbrev pub ReadsPair : FileMap → List ℕ → List ℕ → Joined → Type 0
-ReadsPair = ReadsPairWithin check_limits
-
--- The same where the first file may be as large as that of a reduction.
-abbrev pub ReadsLargePair : FileMap → List ℕ → List ℕ → Joined → Type 0
-ReadsLargePair = ReadsPairWithin large_limits
+ReadsPair = ReadsPairWithin first_limits
 
 -- Both automata have as many labels as there are texts of labels.
 pub record HasLabelTexts (pair : Joined) : Type 0 where

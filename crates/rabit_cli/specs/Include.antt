@@ -1,10 +1,11 @@
--- `include A B CERT`, with `--finite`, `--look K` and `--limit N`
-use Rattle.std.specs.Prelude.{◌≡◌, ℕ, List, [], ◌∷◌, Option}
+-- `include A B CERT`, with `--finite`, `--look K`, `--limit N` and `--letters M`
+use Rattle.std.specs.Prelude.{◌≡◌, ℕ, List, [], ◌∷◌, Option, None, Some}
 use Rattle.std.specs.FinMap as map
 use Rattle.std.specs.Io.KnownBytes.{append_known}
 use Rattle.shelf_io.specs.Shelf.{FileMap}
 use Rattle.auto_core.specs.Accept.{Includes}
 use Rattle.auto_core.specs.declared.parts.Mode.{Mode}
+use Rattle.ba_format.specs.declared.parts.Limits.{Limits}
 use Rattle.ba_format.specs.declared.parts.Named.{Named}
 use Rattle.ba_format.specs.declared.parts.Joined.{Joined}
 use Rattle.ba_format.specs.Joining.{IsJoined}
@@ -27,16 +28,30 @@ use Rattle.rabit_frame.specs.Ending.{IsCutShort}
 use Rattle.rabit_frame.specs.Carrying.{LeavesByStatus}
 use Rattle.rabit_words.specs.Question.{usual_look, usual_limit}
 use Rattle.rabit_cli.specs.Printed.{included_text, limit_text}
-use Rattle.rabit_cli.specs.Files.{check_limits, automaton_file, ReadsPair}
+use Rattle.rabit_cli.specs.Files.{first_limits, second_limits, automaton_file, ReadsPairWithin, ReadsPair}
 use Rattle.rabit_cli.specs.Replies.{IsVerdictReply, SaysApart}
 
 -- The terms of a decision that names neither a lookahead nor a limit.
 abbrev pub usual_terms : Mode → Terms
 usual_terms mode = terms_of mode usual_look usual_limit
 
+-- The announced letters of a decision: one where none are named.
+abbrev pub letters_by : Option ℕ → ℕ
+letters_by None = 1
+letters_by (Some letters) = letters
+
+-- The version of its certificate: 2 where announced letters are named, and otherwise 1.
+abbrev pub version_by : Option ℕ → ℕ
+version_by None = 1
+version_by (Some letters) = 2
+
+-- The terms of a decision with this mode, lookahead and limit, where these announced letters are named.
+abbrev pub asked_terms : Mode → ℕ → ℕ → Option ℕ → Terms
+asked_terms mode look limit letters = record { mode = mode; look = look; letters = letters_by letters; version = version_by letters; limit = limit }
+
 -- The files that it reads: the two automata.
 abbrev pub pair_inputs : List ℕ → List ℕ → List Input
-pair_inputs a b = automaton_file 1 check_limits a ∷ automaton_file 2 check_limits b ∷ []
+pair_inputs a b = automaton_file 1 first_limits a ∷ automaton_file 2 second_limits b ∷ []
 
 -- The file that it writes: the certificate's text, under its name.
 abbrev pub certificate_put : List ℕ → Cert → Output
@@ -53,14 +68,18 @@ MeansInclude name terms values r =
     × (values ≡ value.Automaton one ∷ value.Automaton two ∷ [])
     × ((pair : Joined) × IsJoined one two pair × IsDecided name terms pair r)
 
--- The two files read as this pair of automata, and the certificate is the answer for them: it has a text, keeps all rules of the
--- check, and what it says is so.
-pub record IsCertFor (files : FileMap) (a b : List ℕ) (terms : Terms) (pair : Joined) (cert : Cert) : Type 0 where
-  pub read : ReadsPair files a b pair
+-- The two files read as this pair of automata, the first within these limits, and the certificate is the answer for them: it has a text, keeps all
+-- rules of the check, and what it says is so.
+pub record IsCertForWithin (limits : Limits) (files : FileMap) (a b : List ℕ) (terms : Terms) (pair : Joined) (cert : Cert) : Type 0 where
+  pub read : ReadsPairWithin limits files a b pair
   pub answer : IsAnswer pair terms cert
   pub formed : WellFormed cert
   pub valid : IsValid pair cert
   pub truth : SaysTruth pair terms cert.body
+
+-- The same within the limits of a first file.
+abbrev pub IsCertFor : FileMap → List ℕ → List ℕ → Terms → Joined → Cert → Type 0
+IsCertFor = IsCertForWithin first_limits
 
 -- The name holds the whole text of the answer for the two files, and all other files are as before.
 abbrev pub HoldsAnswer : FileMap → List ℕ → List ℕ → List ℕ → Terms → FileMap → Type 0

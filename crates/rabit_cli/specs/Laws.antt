@@ -1,10 +1,11 @@
 -- What a check says of what a decision wrote.
-use Rattle.std.specs.Prelude.{◌≡◌, ◌≢◌, ◌≤◌, ◌^◌, ℕ, List, [], length, All}
+use Rattle.std.specs.Prelude.{◌≡◌, ◌≢◌, ◌≤◌, ◌^◌, ◌↔◌, ℕ, List, [], ◌∷◌, length, All}
 use Rattle.std.specs.FinMap as map
 use Rattle.shelf_io.specs.Shelf.{FileMap}
 use Rattle.ba_format.specs.declared.parts.Joined.{Joined}
 use Rattle.cert_value.specs.declared.types.Cert.{Cert}
 use Rattle.cert_value.specs.Text.{text}
+use Rattle.cert_value.specs.WellFormed.{upgraded}
 use Rattle.decide.specs.Answer.{IsAnswer}
 use Rattle.decide.specs.Terms.{AreBounded}
 use Rattle.decide.specs.declared.terms.Terms.{Terms}
@@ -16,6 +17,7 @@ use Rattle.ba_format.specs.Reading.{Reads}
 use Rattle.ba_format.specs.Sight.{AreDifferent}
 use Rattle.ba_format.specs.Writing.{written}
 use Rattle.rabit_words.specs.Question.{NamesDiffer}
+use Rattle.rabit_frame.specs.declared.parts.Value.TheVariants as value
 use Rattle.rabit_frame.specs.declared.parts.Reply.{Reply}
 use Rattle.rabit_frame.specs.Files.{Output}
 use Rattle.rabit_frame.specs.Statuses.{status_number}
@@ -67,6 +69,13 @@ AnswersAreAccepted =
     → ReadsCertificate files c cert
     → IsVerdictReply cert.mode pair cert.body [] r
     → IsCheckReply files a b c r
+
+-- A check says the same of a certificate and of its upgrade, for all automata.
+abbrev pub UpgradeIsChecked : Type 0
+UpgradeIsChecked =
+    (one two : Named) (cert : Cert) (r : Reply)
+    → MeansCheck (value.Automaton one ∷ value.Automaton two ∷ value.Certificate cert ∷ []) r
+    ↔ MeansCheck (value.Automaton one ∷ value.Automaton two ∷ value.Certificate (upgraded cert) ∷ []) r
 
 -- Whatever the text that `empty` makes reads as accepts nothing.
 abbrev pub EmptyTextAcceptsNothing : Type 0

@@ -4,6 +4,8 @@ use Rattle.std.specs.List.{flat_map}
 use Rattle.auto_core.specs.declared.parts.Mode.{Mode}
 use Rattle.auto_core.specs.declared.parts.Mode.TheVariants.{Buchi, Finite}
 use Rattle.auto_core.specs.declared.parts.Lasso.{Lasso}
+use Rattle.cert_value.specs.declared.types.Body.{Body}
+use Rattle.cert_value.specs.declared.types.Body.TheVariants.{Yes, NoLasso, NoWord, Listing}
 use Rattle.log_check.specs.declared.faults.Refusal.{Refusal}
 use Rattle.rabit_frame.specs.Lines.{line_end}
 
@@ -23,11 +25,15 @@ word_text labels (a ∷ word) = 32 ∷ (label_text labels a ++ further_letters l
 -- How the program is used.
 abbrev pub usage_text : List ℕ
 usage_text =
-    codes "usage: rabit include A B CERT [--finite] [--look K] [--limit N] | check A B CERT | reduce A [--finite] [--look K] | drill SEED STATES LABELS | union A B [--finite] | intersect A B [--finite] | shrink A B CERT OUT | empty A E CERT [--finite] | universal A U CERT [--finite]" ++ line_end
+    codes "usage: rabit include A B CERT [--finite] [--look K] [--limit N] [--letters M] | check A B CERT | reduce A [--finite] [--look K] [--letters M] | drill SEED STATES LABELS | upgrade CERT OUT | equal A B C1 C2 | batch LIST | union A B [--finite] | intersect A B [--finite] | shrink A B CERT OUT | empty A E CERT [--finite] | universal A U CERT [--finite]" ++ line_end
 
 -- The automaton that was asked for is too large.
 abbrev pub too_large_text : List ℕ
 too_large_text = codes "too large" ++ line_end
+
+-- The certificate is written in version 2.
+abbrev pub upgraded_text : List ℕ
+upgraded_text = codes "upgraded" ++ line_end
 
 -- A valid certificate has neither a lasso nor a word.
 abbrev pub nothing_to_shrink_text : List ℕ
@@ -58,6 +64,25 @@ not_included_text labels lasso = codes "not included" ++ (line_end ++ lasso_line
 -- The first automaton accepts the word, and the second does not.
 abbrev pub word_not_included_text : List (List ℕ) → List ℕ → List ℕ
 word_not_included_text labels word = codes "not included, finite" ++ (line_end ++ word_line labels word)
+
+-- What a no has, as its lines.
+abbrev pub witness_lines : List (List ℕ) → Body → List ℕ
+witness_lines labels (Yes evidence) = []
+witness_lines labels (NoLasso lasso) = lasso_lines labels lasso
+witness_lines labels (NoWord word) = word_line labels word
+witness_lines labels (Listing list) = []
+
+-- Both automata accept the same.
+abbrev pub equal_text : List ℕ
+equal_text = codes "equal" ++ line_end
+
+-- The first accepts what the second does not.
+abbrev pub first_apart_text : List (List ℕ) → Body → List ℕ
+first_apart_text labels body = codes "first not in second" ++ (line_end ++ witness_lines labels body)
+
+-- The second accepts what the first does not.
+abbrev pub second_apart_text : List (List ℕ) → Body → List ℕ
+second_apart_text labels body = codes "second not in first" ++ (line_end ++ witness_lines labels body)
 
 -- An automaton has the property of this name.
 abbrev pub holds_text : List ℕ → List ℕ

@@ -6,6 +6,7 @@ use Rattle.shelf_io.specs.Shelf.{FileMap}
 use Rattle.auto_core.specs.Automaton.{Automaton}
 use Rattle.auto_core.specs.declared.parts.Mode.{Mode}
 use Rattle.auto_core.specs.declared.parts.Lasso.{Lasso}
+use Rattle.ba_format.specs.declared.parts.Limits.{Limits}
 use Rattle.ba_format.specs.declared.parts.Named.{Named}
 use Rattle.ba_format.specs.declared.parts.Joined.{Joined}
 use Rattle.ba_format.specs.Reading.{Reads}
@@ -26,23 +27,24 @@ use Rattle.rabit_frame.specs.Reading.{reply_with, FileReads}
 use Rattle.rabit_frame.specs.Ending.{filed, IsCutShort}
 use Rattle.rabit_frame.specs.Carrying.{LeavesByStatus}
 use Rattle.rabit_cli.specs.Printed.{holds_text, lasso_against_text, word_against_text, limit_text}
-use Rattle.rabit_cli.specs.Files.{check_limits, automaton_file}
+use Rattle.rabit_cli.specs.Files.{second_limits, automaton_file}
 use Rattle.rabit_words.specs.Question.{usual_limit}
 use Rattle.rabit_cli.specs.Include.{certificate_put, usual_terms}
 
--- The file that they read: the automaton.
-abbrev pub property_inputs : List ℕ → List Input
-property_inputs a = automaton_file 1 check_limits a ∷ []
-
--- A property of automata, as it is decided: its name; the text of the automaton that is made for a read one, and how the two are joined to the
+-- A property of automata, as it is decided: its name; the limits of the automaton that is read; the text of the automaton that is made for a read one, and how the two are joined to the
 -- pair that is decided; what it says; and which lasso, in finite mode which word, shows that an automaton has it not.
 pub record Property : Type 1 where
   pub name : List ℕ
+  pub limits : Limits
   pub made : Named → List ℕ
   pub joins : Named → Named → Joined → Type 0
   pub holds : Mode → Automaton → Type 0
   pub lasso_against : Automaton → Lasso → Type 0
   pub word_against : Automaton → List ℕ → Type 0
+
+-- The file that they read: the automaton.
+abbrev pub property_inputs : Property → List ℕ → List Input
+property_inputs p a = automaton_file 1 p.limits a ∷ []
 
 -- The files that they write, in order: the made text, and then the certificate's.
 abbrev pub property_puts : List ℕ → List ℕ → List ℕ → Cert → List Output
@@ -63,7 +65,7 @@ IsPropertyDecided property made m c mode pair r =
 -- The reply to the read automaton and what the made text reads as.
 abbrev pub IsPropertyDecidedFor : Property → List ℕ → List ℕ → Mode → Named → Reply → Type 0
 IsPropertyDecidedFor p m c mode one r =
-    (other : Named) × Reads (p.made one) check_limits other × ((pair : Joined) × p.joins one other pair × IsPropertyDecided p.name (p.made one) m c mode pair r)
+    (other : Named) × Reads (p.made one) second_limits other × ((pair : Joined) × p.joins one other pair × IsPropertyDecided p.name (p.made one) m c mode pair r)
 
 -- The reply to what was read.
 abbrev pub MeansProperty : Property → List ℕ → List ℕ → Mode → List Value → Reply → Type 0
@@ -72,8 +74,8 @@ MeansProperty p m c mode values r = (one : Named) × (values ≡ value.Automaton
 -- The file reads as the first automaton and the made text as the other, and the certificate is the answer for the pair: it is valid, and what it says
 -- is so.
 pub record IsPropertyCertFor (p : Property) (mode : Mode) (files : FileMap) (a : List ℕ) (one other : Named) (pair : Joined) (cert : Cert) : Type 0 where
-  pub read : FileReads files (automaton_file 1 check_limits a) (value.Automaton one)
-  pub made : Reads (p.made one) check_limits other
+  pub read : FileReads files (automaton_file 1 p.limits a) (value.Automaton one)
+  pub made : Reads (p.made one) second_limits other
   pub joined : p.joins one other pair
   pub answer : IsAnswer pair (usual_terms mode) cert
   pub valid : IsValid pair cert

@@ -1,4 +1,4 @@
--- `reduce A`, with `--finite` and `--look K`
+-- `reduce A`, with `--finite`, `--look K` and `--letters M`
 use Rattle.std.specs.Prelude.{◌≡◌, ℕ, List, [], ◌∷◌, Option}
 use Rattle.std.specs.Io.KnownBytes.{append_known}
 use Rattle.shelf_io.specs.Shelf.{FileMap}
@@ -11,6 +11,7 @@ use Rattle.ba_format.specs.declared.parts.Joined.{Joined}
 use Rattle.ba_format.specs.Joining.{IsJoined}
 use Rattle.ba_format.specs.Reading.{Reads}
 use Rattle.ba_format.specs.Writing.{written}
+use Rattle.reduce_loop.specs.declared.steps.Foresight.{Foresight}
 use Rattle.reduce_loop.specs.Passes.{IsReduced}
 use Rattle.reduce_loop.specs.Settled.{IsSettled}
 use Rattle.rabit_frame.specs.declared.parts.Value.{Value}
@@ -19,20 +20,24 @@ use Rattle.rabit_frame.specs.declared.parts.Status.TheVariants as status
 use Rattle.rabit_frame.specs.declared.parts.Reply.{Reply}
 use Rattle.rabit_frame.specs.Files.{Input}
 use Rattle.rabit_frame.specs.Reading.{only_said, FileReads}
-use Rattle.rabit_cli.specs.Files.{large_limits, automaton_file}
+use Rattle.rabit_cli.specs.Files.{first_limits, automaton_file}
 
 -- The file that it reads: the automaton.
 abbrev pub reduce_inputs : List ℕ → List Input
-reduce_inputs name = automaton_file 1 large_limits name ∷ []
+reduce_inputs name = automaton_file 1 first_limits name ∷ []
+
+-- How far the games of the reduction look.
+abbrev pub asked_sight : ℕ → ℕ → Foresight
+asked_sight look letters = record { look = look; letters = letters }
 
 -- The text is that of the reduced automaton of the read one, with its labels.
-abbrev pub IsReducedText : Named → Mode → ℕ → List ℕ → Type 0
-IsReducedText named mode look text = (B : Automaton) × IsReduced named.auto mode look B × (text ≡ written B named.labels)
+abbrev pub IsReducedText : Named → Mode → Foresight → List ℕ → Type 0
+IsReducedText named mode sight text = (B : Automaton) × IsReduced named.auto mode sight B × (text ≡ written B named.labels)
 
 -- The reply to what was read.
-abbrev pub MeansReduce : Mode → ℕ → List Value → Reply → Type 0
-MeansReduce mode look values r =
-    (named : Named) × (values ≡ value.Automaton named ∷ []) × ((text : List ℕ) × IsReducedText named mode look text × (r ≡ only_said status.Done text))
+abbrev pub MeansReduce : Mode → Foresight → List Value → Reply → Type 0
+MeansReduce mode sight values r =
+    (named : Named) × (values ≡ value.Automaton named ∷ []) × ((text : List ℕ) × IsReducedText named mode sight text × (r ≡ only_said status.Done text))
 
 -- The most states, labels and transitions of a printed automaton: one state more than the file may have, for the line that keeps an
 -- automaton without accepting states from reading as one whose states all are.
@@ -48,17 +53,17 @@ pub record ReadsBackSame (named : Named) (mode : Mode) (text : List ℕ) : Type 
 -- The named file reads as an automaton, and what was sent is the text of its reduced automaton, in which no
 -- step of the reduction has anything left to do. The reduced automaton accepts the same lassos, in finite mode the same words,
 -- and so does what its text reads as.
-pub record IsReducedShown (files : FileMap) (name : List ℕ) (mode : Mode) (look : ℕ) (sent sent' : Option (List ℕ)) : Type 0 where
+pub record IsReducedShown (files : FileMap) (name : List ℕ) (mode : Mode) (sight : Foresight) (sent sent' : Option (List ℕ)) : Type 0 where
   pub named : Named
   pub reduced : Automaton
-  pub read : FileReads files (automaton_file 1 large_limits name) (value.Automaton named)
-  pub is_reduced : IsReduced named.auto mode look reduced
+  pub read : FileReads files (automaton_file 1 first_limits name) (value.Automaton named)
+  pub is_reduced : IsReduced named.auto mode sight reduced
   pub same : Same named.auto reduced mode
   pub reads_back : ReadsBackSame named mode (written reduced named.labels)
-  pub settled : IsSettled reduced mode look
+  pub settled : IsSettled reduced mode sight
   pub printed : sent' ≡ append_known sent (written reduced named.labels)
 
 -- What a status up to 2 shows: 0 a reduced automaton, and 1 and 2 do not come.
-pub record ShowsReduce (files : FileMap) (name : List ℕ) (mode : Mode) (look status : ℕ) (sent sent' : Option (List ℕ)) : Type 0 where
-  pub reduced : status ≡ 0 → IsReducedShown files name mode look sent sent'
+pub record ShowsReduce (files : FileMap) (name : List ℕ) (mode : Mode) (sight : Foresight) (status : ℕ) (sent sent' : Option (List ℕ)) : Type 0 where
+  pub reduced : status ≡ 0 → IsReducedShown files name mode sight sent sent'
   pub no_other : ¬ (status ≡ 1) × ¬ (status ≡ 2)

@@ -16,16 +16,11 @@ use Rattle.lasso_shrink.specs.Shrinking.{IsShrunkLasso, IsShrunkWord}
 use Rattle.rabit_frame.specs.declared.parts.Value.{Value}
 use Rattle.rabit_frame.specs.declared.parts.Value.TheVariants as value
 use Rattle.rabit_frame.specs.declared.parts.Reply.{Reply}
-use Rattle.rabit_frame.specs.Files.{Input}
 use Rattle.rabit_frame.specs.Ending.{IsCutShort}
 use Rattle.rabit_frame.specs.Carrying.{LeavesByStatus}
-use Rattle.rabit_cli.specs.Files.{check_limits, large_limits, automaton_file, certificate_file, ReadsLargePair, ReadsCertificate}
+use Rattle.rabit_cli.specs.Files.{ReadsPair, ReadsCertificate}
 use Rattle.rabit_cli.specs.Replies.{nothing_to_shrink_reply, IsRefusedReply, IsVerdictReply, SaysApart}
 use Rattle.rabit_cli.specs.Include.{certificate_put}
-
--- The files that it reads: the two automata, the first of which may be large, and then the certificate.
-abbrev pub shrink_inputs : List ℕ → List ℕ → List ℕ → List Input
-shrink_inputs a b c = automaton_file 1 large_limits a ∷ automaton_file 2 check_limits b ∷ certificate_file c ∷ []
 
 -- The body is a no: it has a lasso, or a word.
 abbrev pub IsNo : Body → Type 0
@@ -64,7 +59,7 @@ MeansShrink name values r =
 
 -- The files read as two automata and a valid certificate, of whose lasso or word this is left; with it the certificate is valid too.
 pub record IsShrunkFor (files : FileMap) (a b c : List ℕ) (pair : Joined) (cert : Cert) (left : Body) : Type 0 where
-  pub read : ReadsLargePair files a b pair
+  pub read : ReadsPair files a b pair
   pub certificate : ReadsCertificate files c cert
   pub valid : IsValid pair cert
   pub shrunk : IsShrunkBody pair cert.body left
@@ -110,7 +105,7 @@ pub record ShowsShrink (files : FileMap) (a b c out : List ℕ) (status : ℕ) (
 -- The files read as two automata and as a certificate that is valid for them, with such a body.
 abbrev pub ReadsValidCertificate : FileMap → List ℕ → List ℕ → List ℕ → (Body → Type 0) → Type 0
 ReadsValidCertificate files a b c with_such =
-    (pair : Joined) × (cert : Cert) × ReadsLargePair files a b pair × ReadsCertificate files c cert × IsValid pair cert × with_such cert.body
+    (pair : Joined) × (cert : Cert) × ReadsPair files a b pair × ReadsCertificate files c cert × IsValid pair cert × with_such cert.body
 
 -- The status of a result for these files: 1 if the certificate is a valid no, 13 if it is valid and says
 -- something else, 5 if it is not valid.

@@ -59,6 +59,7 @@ fn reads_whole_files(rt: HostRuntime) {
 fn reads_other_forms(rt: HostRuntime) {
     for text in [
         "rabit-cert 1 finite yes\nsizes 2 1 1\nlog1 0\nlog2 0\nrel 1\nrow 0 0\nelements 2\nlive start\nlive next 0 0\ncover 0\nstep 0 1\nstep 1 0\nend\n",
+        "rabit-cert 2 buchi yes\nsizes 1 2 1\nlog1 0\nlog2 1\nmerge delayed 2\nclasses 0 0\nrel 2\nrow 0 0 0 1 1 2\nrow 1 0 0 1 1 2\nrel 1\nrow 0 0 0\nelements 1\nlive base 0\ncover 0\nstep 0 0\nend\n",
         "rabit-cert 1 finite no\nsizes 1 2 0\nword\nend\n",
         "rabit-cert 1 buchi no\nsizes 3 1 2\nprefix\nloop 0\nend\n",
         "rabit-cert 1 buchi list\nsizes 2 2 2\nlog1 0\nlog2 0\nlimit 1\nelements 2\nbase 0\nbase 1\nend\n",

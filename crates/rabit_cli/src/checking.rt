@@ -6,10 +6,13 @@ ghost use Rattle.ba_format.specs.Reading.{IsWithinLimits};
 ghost use Rattle.ba_format.specs.Joining.{IsJoined};
 ghost use Rattle.cert_value.specs.WellFormed.{WellFormed};
 ghost use Rattle.rabit_frame.specs.Reading.{AreOfKinds};
-ghost use Rattle.rabit_cli.specs.Files.{check_limits, HasLabelTexts};
+ghost use Rattle.rabit_cli.specs.Files.{first_limits, second_limits, HasLabelTexts};
 ghost use Rattle.rabit_cli.specs.Check.{check_inputs, Concludes, MeansCheck};
 
-use crate::files::{automaton, certificate, certificate_slot, checked_automaton, joined};
+use crate::files::{
+    certificate, certificate_slot, first_automaton, first_slot, joined, second_automaton,
+    second_slot,
+};
 use crate::replies;
 use auto_core::{List, Memory};
 use ba_format::{Joined, Named};
@@ -28,8 +31,8 @@ pub fn slots<'a>(
     ensures { IfOk result (λ slots. slots ≡ check_inputs first.entry.now second.entry.now cert.entry.now) }
 {
     let mut slots = List::new(alloc);
-    slots.push(checked_automaton(1, first))?;
-    slots.push(checked_automaton(2, second))?;
+    slots.push(first_slot(first))?;
+    slots.push(second_slot(second))?;
     slots.push(certificate_slot(cert))?;
     Ok(slots)
 }
@@ -49,8 +52,8 @@ fn concluded<'a>(alloc: Global, pair: &Joined, cert: &Cert) -> Result<Reply<'a>,
 
 /// The reply to the automata and the certificate.
 fn checked<'a>(alloc: Global, one: &Named, two: &Named, cert: &Cert) -> Result<Reply<'a>, Memory>
-    requires one { IsWithinLimits check_limits one.now }
-    requires two { IsWithinLimits check_limits two.now }
+    requires one { IsWithinLimits first_limits one.now }
+    requires two { IsWithinLimits second_limits two.now }
     requires well_formed { WellFormed cert.now }
     ensures { IfOk result (λ reply. (pair : AJoined) × IsJoined one.now two.now pair × Concludes pair cert.now reply) }
 {
@@ -66,8 +69,8 @@ pub fn reply<'a>(alloc: Global, values: &[Value]) -> Result<Reply<'a>, Memory>
     match values {
         [first, second, third] => checked(
             alloc,
-            automaton(first),
-            automaton(second),
+            first_automaton(first),
+            second_automaton(second),
             certificate(third),
         ),
         _ => unreachable!(),

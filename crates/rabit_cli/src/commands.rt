@@ -1,24 +1,28 @@
 //! From the question to its files and its reply: one arm a command.
 
-ghost use Rattle.std.specs.Prelude.{◌≡◌, Some, map, option_map, IfOk, IfSome};
+ghost use Rattle.std.specs.Prelude.{◌≡◌, Ok, Some, map, option_map, IfOk, IfSome, MatchOption};
 ghost use Rattle.std.specs.String.{string_bytes};
 ghost use Rattle.rabit_frame.specs.Reading.{AreOfKinds};
-ghost use Rattle.rabit_words.specs.Question.{told, question_of, IsProper};
-ghost use Rattle.rabit_cli.specs.Commands.{inputs_of, Means};
+ghost use Rattle.rabit_words.specs.declared.parts.Question.{Question as AQuestion};
+ghost use Rattle.rabit_words.specs.Question.{Batch, told, question_of, IsProper};
+ghost use Rattle.rabit_cli.specs.Commands.{IsSingle, inputs_of, Means};
 
+use crate::files::{FIRST_LIMITS, SECOND_LIMITS};
+use crate::including::Asked;
 use crate::{
-    checking, combining, drilling, emptiness, including, intersecting, properties, reducing,
-    replies, shrinking, uniting, universality,
+    checking, drilling, emptiness, equality, including, intersecting, properties, reducing,
+    replies, shrinking, uniting, universality, upgrading,
 };
 use auto_core::{List, Memory};
-use decide::Terms;
 use drawing::Drill;
 use rabit_frame::{Reply, Slot, Value, Work};
 use rabit_words::Question;
+use reduce_loop::Foresight;
 use std::alloc::Global;
 
 /// The files that the question reads, in order.
 fn slots_of<'a>(alloc: Global, question: &'a Question) -> Result<List<Slot<'a>>, Memory>
+    requires single { IsSingle (Some (told question.now)) }
     ensures { IfOk result (λ slots. slots ≡ inputs_of (Some (told question.entry.now))) }
 {
     match question {
@@ -36,11 +40,18 @@ fn slots_of<'a>(alloc: Global, question: &'a Question) -> Result<List<Slot<'a>>,
             return reducing::slots(alloc, name.as_str());
         },
         Question::Drill { .. } => Ok(List::new(alloc)),
+        Question::Upgrade { certificate, .. } => {
+            return upgrading::slots(alloc, certificate.as_str());
+        },
+        Question::Equal { first, second, .. } => {
+            return equality::slots(alloc, first.as_str(), second.as_str());
+        },
+        Question::Batch { .. } => unreachable!(),
         Question::Union { first, second, .. } => {
-            return combining::slots(alloc, first.as_str(), second.as_str());
+            return including::slots(alloc, first.as_str(), second.as_str());
         },
         Question::Intersect { first, second, .. } => {
-            return combining::slots(alloc, first.as_str(), second.as_str());
+            return including::slots(alloc, first.as_str(), second.as_str());
         },
         Question::Shrink {
             first,
@@ -48,13 +59,13 @@ fn slots_of<'a>(alloc: Global, question: &'a Question) -> Result<List<Slot<'a>>,
             certificate,
             ..
         } => {
-            return shrinking::slots(alloc, first.as_str(), second.as_str(), certificate.as_str());
+            return checking::slots(alloc, first.as_str(), second.as_str(), certificate.as_str());
         },
         Question::Empty { automaton, .. } => {
-            return properties::slots(alloc, automaton.as_str());
+            return properties::slots(alloc, FIRST_LIMITS, automaton.as_str());
         },
         Question::Universal { automaton, .. } => {
-            return properties::slots(alloc, automaton.as_str());
+            return properties::slots(alloc, SECOND_LIMITS, automaton.as_str());
         },
     }
 }
@@ -66,6 +77,7 @@ fn reply_to<'a>(
     values: &[Value],
 ) -> Result<Reply<'a>, Memory>
     requires proper { IsProper (told question.now) }
+    requires single { IsSingle (Some (told question.now)) }
     requires kinds { AreOfKinds (inputs_of (Some (told question.now))) values.now }
     ensures { IfOk result (Means (Some (told question.entry.now)) values.now) }
 {
@@ -78,17 +90,28 @@ fn reply_to<'a>(
             mode,
             look,
             limit,
+            letters,
             ..
         } => {
-            let terms = Terms {
+            let asked = Asked {
                 mode: *mode,
                 look: *look,
                 limit: *limit,
+                letters: *letters,
             };
-            return including::reply(alloc, certificate.as_str(), terms, values);
+            return including::reply(alloc, certificate.as_str(), asked, values);
         },
-        Question::Reduce { mode, look, .. } => {
-            return reducing::reply(alloc, *mode, *look, values);
+        Question::Reduce {
+            mode,
+            look,
+            letters,
+            ..
+        } => {
+            let sight = Foresight {
+                look: *look,
+                letters: *letters,
+            };
+            return reducing::reply(alloc, *mode, sight, values);
         },
         Question::Drill {
             seed,
@@ -102,6 +125,17 @@ fn reply_to<'a>(
             };
             return drilling::reply(alloc, drill);
         },
+        Question::Upgrade { upgraded, .. } => {
+            return upgrading::reply(alloc, upgraded.as_str(), values);
+        },
+        Question::Equal {
+            certificate,
+            converse,
+            ..
+        } => {
+            return equality::reply(alloc, certificate.as_str(), converse.as_str(), values);
+        },
+        Question::Batch { .. } => unreachable!(),
         Question::Union { mode, .. } => {
             return uniting::reply(alloc, *mode, values);
         },
@@ -139,12 +173,26 @@ pub struct Command<'a> {
     pub asked: Result<Option<Question>, Memory>,
 }
 
+impl<'a> Command<'a> {
+    /// The list that is asked about, if a batch is asked.
+    pub fn list(&self) -> Option<&str>
+        ensures { MatchOption result
+            (IfOk self.now.asked (λ asked. IfSome asked (λ q. IsSingle (Some (told q)))))
+            (λ list. (question : AQuestion) × (self.now.asked ≡ Ok (Some question)) × (told question ≡ Batch list.now)) }
+    {
+        match &self.asked {
+            Ok(Some(Question::Batch { list })) => Some(list.as_str()),
+            _ => None,
+        }
+    }
+}
+
 impl<'a> Work for Command<'a> {
     ghost inputs = { λ c. inputs_of (question_of (map string_bytes c.words.now)) };
 
     ghost means = { λ c. Means (question_of (map string_bytes c.words.now)) };
 
-    ghost is_fit = { λ c. IfOk c.asked (λ asked. (option_map told asked ≡ question_of (map string_bytes c.words.now)) × IfSome asked (λ q. IsProper (told q))) };
+    ghost is_fit = { λ c. IfOk c.asked (λ asked. (option_map told asked ≡ question_of (map string_bytes c.words.now)) × IfSome asked (λ q. IsProper (told q) × IsSingle (Some (told q)))) };
 
     fn slots(&self, alloc: Global) -> Result<List<Slot<'_>>, Memory> {
         match &self.asked {

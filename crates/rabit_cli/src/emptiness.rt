@@ -3,7 +3,7 @@
 ghost use Rattle.std.specs.Prelude.{◌≡◌, ℕ, List as Items, IfOk};
 ghost use Rattle.ba_format.specs.Reading.{IsWithinLimits};
 ghost use Rattle.rabit_frame.specs.Reading.{AreOfKinds};
-ghost use Rattle.rabit_cli.specs.Files.{check_limits};
+ghost use Rattle.rabit_cli.specs.Files.{first_limits, second_limits};
 ghost use Rattle.rabit_cli.specs.Property.{property_inputs, IsPropertyDecidedFor, MeansProperty};
 ghost use Rattle.rabit_cli.specs.Empty.{empty_text, emptiness};
 
@@ -29,7 +29,7 @@ fn of_one<'a>(
     mode: Mode,
     one: &Named,
 ) -> Result<Reply<'a>, Memory>
-    requires { IsWithinLimits check_limits one.now }
+    requires { IsWithinLimits first_limits one.now }
     ensures { IfOk result (IsPropertyDecidedFor emptiness made.entry.now certificate.entry.now mode one.now) }
 {
     let bytes = empty_text(alloc)?;
@@ -47,7 +47,7 @@ pub fn reply<'a>(
     mode: Mode,
     values: &[Value],
 ) -> Result<Reply<'a>, Memory>
-    requires { (a : Items ℕ) × AreOfKinds (property_inputs a) values.now }
+    requires { (a : Items ℕ) × AreOfKinds (property_inputs emptiness a) values.now }
     ensures { IfOk result (MeansProperty emptiness made.entry.now certificate.entry.now mode values.now) }
 {
     match values {

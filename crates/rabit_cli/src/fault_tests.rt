@@ -93,8 +93,8 @@ fn the_limits_of_an_automaton_are_told(rt: HostRuntime) -> Result<(), Fail> {
     let alloc = rt.alloc();
     let refused = "certificate item 0: rule 1\n";
     for (states, letters, said, status) in [
-        (512, 0, refused, 5),
-        (513, 0, "file 1 line 513: TooManyStates\n", 4),
+        (2048, 0, refused, 5),
+        (2049, 0, "file 1 line 2049: TooManyStates\n", 4),
         (1, 256, refused, 5),
         (1, 257, "file 1 line 258: TooManyLabels\n", 4),
     ] {

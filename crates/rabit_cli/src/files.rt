@@ -6,7 +6,7 @@ ghost use Rattle.ba_format.specs.Joining.{IsJoined};
 ghost use Rattle.decide.specs.Laws.{CanDecide};
 ghost use Rattle.rabit_frame.specs.declared.parts.FileKind.TheVariants as kind;
 ghost use Rattle.rabit_frame.specs.Reading.{IsOfKind};
-ghost use Rattle.rabit_cli.specs.Files.{check_limits, large_limits, automaton_file, certificate_file, HasLabelTexts};
+ghost use Rattle.rabit_cli.specs.Files.{second_limits, first_limits, automaton_file, certificate_file, HasLabelTexts};
 
 use auto_core::Memory;
 use ba_format::{Joined, Limits, Named};
@@ -14,44 +14,42 @@ use cert_text::Cert;
 use rabit_frame::{FileKind, Slot, Value};
 use std::alloc::Global;
 
-/// The most states, labels and transitions of each file of a check or a decision.
-pub(crate) const CHECK_LIMITS: Limits = Limits {
+/// The most states, labels and transitions of a second file.
+pub(crate) const SECOND_LIMITS: Limits = Limits {
     states: 512,
     labels: 256,
     transitions: 65_536,
 };
 
-/// The most states, labels and transitions of the file of a reduction, and of the first of a union, an intersection or a shrinking.
-const LARGE_LIMITS: Limits = Limits {
+/// The most states, labels and transitions of a first file.
+pub(crate) const FIRST_LIMITS: Limits = Limits {
     states: 2048,
     labels: 256,
     transitions: 65_536,
 };
 
-/// An automaton's file of a check or a decision, with its number.
-pub fn checked_automaton<'a>(number: u32, name: &'a str) -> Slot<'a>
-    ensures { result ≡ automaton_file number check_limits name.entry.now }
+/// The file of an automaton with this number and these limits.
+pub fn automaton_slot<'a>(number: u32, limits: Limits, name: &'a str) -> Slot<'a>
+    ensures { result ≡ automaton_file number limits name.entry.now }
 {
     Slot {
         name,
-        kind: FileKind::Automaton {
-            number,
-            limits: CHECK_LIMITS,
-        },
+        kind: FileKind::Automaton { number, limits },
     }
 }
 
-/// A first automaton's file that may be large.
-pub fn large_automaton<'a>(name: &'a str) -> Slot<'a>
-    ensures { result ≡ automaton_file 1 large_limits name.entry.now }
+/// A first automaton's file.
+pub fn first_slot<'a>(name: &'a str) -> Slot<'a>
+    ensures { result ≡ automaton_file 1 first_limits name.entry.now }
 {
-    Slot {
-        name,
-        kind: FileKind::Automaton {
-            number: 1,
-            limits: LARGE_LIMITS,
-        },
-    }
+    automaton_slot(1, FIRST_LIMITS, name)
+}
+
+/// A second automaton's file.
+pub fn second_slot<'a>(name: &'a str) -> Slot<'a>
+    ensures { result ≡ automaton_file 2 second_limits name.entry.now }
+{
+    automaton_slot(2, SECOND_LIMITS, name)
 }
 
 /// A certificate's file.
@@ -64,9 +62,9 @@ pub fn certificate_slot<'a>(name: &'a str) -> Slot<'a>
     }
 }
 
-/// The automaton of a check that was read, whatever its file's number.
-pub fn automaton(value: &Value) -> &Named
-    requires { IsOfKind (kind.Automaton 1 check_limits) value.now }
+/// The second automaton that was read.
+pub fn second_automaton(value: &Value) -> &Named
+    requires { IsOfKind (kind.Automaton 2 second_limits) value.now }
     ensures { value.now ≡ Value.Automaton result.now }
 {
     match value {
@@ -75,9 +73,9 @@ pub fn automaton(value: &Value) -> &Named
     }
 }
 
-/// The first automaton that was read, which may be large.
+/// The first automaton that was read.
 pub fn first_automaton(value: &Value) -> &Named
-    requires { IsOfKind (kind.Automaton 1 large_limits) value.now }
+    requires { IsOfKind (kind.Automaton 1 first_limits) value.now }
     ensures { value.now ≡ Value.Automaton result.now }
 {
     match value {
@@ -99,8 +97,8 @@ pub fn certificate(value: &Value) -> &Cert
 
 /// Joins the labels of the two automata.
 pub fn joined(alloc: Global, one: &Named, two: &Named) -> Result<Joined, Memory>
-    requires one { IsWithinLimits check_limits one.now }
-    requires two { IsWithinLimits check_limits two.now }
+    requires one { IsWithinLimits first_limits one.now }
+    requires two { IsWithinLimits second_limits two.now }
     ensures joined { IfOk result (IsJoined one.now two.now) }
     ensures labels { IfOk result HasLabelTexts }
     ensures small { IfOk result CanDecide }

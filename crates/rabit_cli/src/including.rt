@@ -1,20 +1,24 @@
-//! `include A B CERT`, with `--finite`, `--look K` and `--limit N`
+//! `include A B CERT`, with `--finite`, `--look K`, `--limit N` and `--letters M`
 
-ghost use Rattle.std.specs.Prelude.{◌≡◌, ◌≤◌, ℕ, List as Items, IfOk};
+ghost use Rattle.std.specs.Prelude.{◌≡◌, ◌≤◌, ◌<◌, ℕ, List as Items, length, All, IfOk};
+ghost use Rattle.auto_core.specs.declared.parts.Lasso.{Lasso as ALasso};
 ghost use Rattle.ba_format.specs.declared.parts.Joined.{Joined as AJoined};
 ghost use Rattle.ba_format.specs.Reading.{IsWithinLimits};
 ghost use Rattle.ba_format.specs.Joining.{IsJoined};
+ghost use Rattle.cert_value.specs.declared.types.Body.TheVariants as form;
+ghost use Rattle.decide.specs.Answer.{IsAnswer};
 ghost use Rattle.decide.specs.Laws.{CanDecide};
+ghost use Rattle.decide.specs.Terms.{AreBounded};
 ghost use Rattle.rabit_frame.specs.Reading.{AreOfKinds};
-ghost use Rattle.rabit_cli.specs.Files.{check_limits};
+ghost use Rattle.rabit_cli.specs.Files.{first_limits, second_limits};
 ghost use Rattle.rabit_cli.specs.Include.{pair_inputs, IsDecided, MeansInclude};
+ghost use Rattle.rabit_cli.specs.Asked.{terms_asked};
 
-use crate::files::{checked_automaton, joined};
+use crate::files::{first_slot, joined, second_slot};
 use crate::replies;
-use auto_core::{List, Memory};
+use auto_core::{List, Memory, Mode};
 use ba_format::{Joined, Named};
-use cert_text::write_cert;
-use decide::Terms;
+use cert_text::{Cert, write_cert};
 use rabit_frame::{Put, Reply, Slot, Value};
 use std::alloc::Global;
 
@@ -23,68 +27,92 @@ pub fn slots<'a>(alloc: Global, first: &'a str, second: &'a str) -> Result<List<
     ensures { IfOk result (λ slots. slots ≡ pair_inputs first.entry.now second.entry.now) }
 {
     let mut slots = List::new(alloc);
-    slots.push(checked_automaton(1, first))?;
-    slots.push(checked_automaton(2, second))?;
+    slots.push(first_slot(first))?;
+    slots.push(second_slot(second))?;
     Ok(slots)
+}
+
+/// What a decision is asked for beside its files.
+#[derive(Clone, Copy, Debug)]
+pub struct Asked {
+    /// Lassos or finite words.
+    pub mode: Mode,
+    /// The lookahead of the reductions, from 1 to 6.
+    pub look: u32,
+    /// The most elements of the search, from 1 to 100,000.
+    pub limit: u32,
+    /// The announced letters, from 1 to 4, of a certificate of version 2; None asks for one of version 1.
+    pub letters: Option<u32>,
+}
+
+/// The answer for the joined automata, in the version that is asked for.
+fn answered(alloc: Global, asked: Asked, pair: &Joined) -> Result<Cert, Memory>
+    requires can { CanDecide pair.now }
+    requires bounded { AreBounded (terms_asked asked) }
+    requires limit_from { 1 ≤ asked.limit }
+    ensures answer { IfOk result (IsAnswer pair.now (terms_asked asked)) }
+    ensures letters { IfOk result (λ cert. (lasso : ALasso) → cert.body ≡ form.NoLasso lasso → All (λ a. a < length pair.now.labels) lasso.prefix × All (λ a. a < length pair.now.labels) lasso.turn) }
+    ensures word { IfOk result (λ cert. (word : Items ℕ) → cert.body ≡ form.NoWord word → All (λ a. a < length pair.now.labels) word) }
+{
+    match asked.letters {
+        None => decide::include(alloc, pair, asked.mode, asked.look, asked.limit),
+        Some(letters) => {
+            decide::include_ahead(alloc, pair, asked.mode, asked.look, letters, asked.limit)
+        },
+    }
 }
 
 /// The reply to the joined automata: the answer's text is to be written under the name.
 fn decided<'a>(
     alloc: Global,
     name: &'a str,
-    terms: Terms,
+    asked: Asked,
     pair: &Joined,
 ) -> Result<Reply<'a>, Memory>
     requires can { CanDecide pair.now }
-    requires look_from { 1 ≤ terms.look }
-    requires look_upto { terms.look ≤ 6 }
-    requires limit_from { 1 ≤ terms.limit }
-    requires limit_upto { terms.limit ≤ 100000 }
-    ensures { IfOk result (IsDecided name.entry.now terms pair.now) }
+    requires bounded { AreBounded (terms_asked asked) }
+    requires limit_from { 1 ≤ asked.limit }
+    ensures { IfOk result (IsDecided name.entry.now (terms_asked asked) pair.now) }
 {
-    let cert = decide::include(alloc, pair, terms.mode, terms.look, terms.limit)?;
+    let cert = answered(alloc, asked, pair)?;
     let bytes = write_cert(alloc, &cert)?;
     let mut puts = List::new(alloc);
     puts.push(Put { name, bytes })?;
-    replies::verdict(alloc, terms.mode, pair, &cert.body, puts)
+    replies::verdict(alloc, asked.mode, pair, &cert.body, puts)
 }
 
 /// The reply to the automata.
 fn included<'a>(
     alloc: Global,
     name: &'a str,
-    terms: Terms,
+    asked: Asked,
     one: &Named,
     two: &Named,
 ) -> Result<Reply<'a>, Memory>
-    requires one { IsWithinLimits check_limits one.now }
-    requires two { IsWithinLimits check_limits two.now }
-    requires look_from { 1 ≤ terms.look }
-    requires look_upto { terms.look ≤ 6 }
-    requires limit_from { 1 ≤ terms.limit }
-    requires limit_upto { terms.limit ≤ 100000 }
-    ensures { IfOk result (λ reply. (pair : AJoined) × IsJoined one.now two.now pair × IsDecided name.entry.now terms pair reply) }
+    requires one { IsWithinLimits first_limits one.now }
+    requires two { IsWithinLimits second_limits two.now }
+    requires bounded { AreBounded (terms_asked asked) }
+    requires limit_from { 1 ≤ asked.limit }
+    ensures { IfOk result (λ reply. (pair : AJoined) × IsJoined one.now two.now pair × IsDecided name.entry.now (terms_asked asked) pair reply) }
 {
     let pair = joined(alloc, one, two)?;
-    decided(alloc, name, terms, &pair)
+    decided(alloc, name, asked, &pair)
 }
 
 /// The reply to what was read.
 pub fn reply<'a>(
     alloc: Global,
     name: &'a str,
-    terms: Terms,
+    asked: Asked,
     values: &[Value],
 ) -> Result<Reply<'a>, Memory>
     requires kinds { (a b : Items ℕ) × AreOfKinds (pair_inputs a b) values.now }
-    requires look_from { 1 ≤ terms.look }
-    requires look_upto { terms.look ≤ 6 }
-    requires limit_from { 1 ≤ terms.limit }
-    requires limit_upto { terms.limit ≤ 100000 }
-    ensures { IfOk result (MeansInclude name.entry.now terms values.now) }
+    requires bounded { AreBounded (terms_asked asked) }
+    requires limit_from { 1 ≤ asked.limit }
+    ensures { IfOk result (MeansInclude name.entry.now (terms_asked asked) values.now) }
 {
     match values {
-        [Value::Automaton(one), Value::Automaton(two)] => included(alloc, name, terms, one, two),
+        [Value::Automaton(one), Value::Automaton(two)] => included(alloc, name, asked, one, two),
         _ => unreachable!(),
     }
 }

@@ -5,11 +5,12 @@ ghost use Rattle.ba_format.specs.declared.parts.Joined.{Joined as AJoined};
 ghost use Rattle.ba_format.specs.Reading.{IsWithinLimits};
 ghost use Rattle.ba_format.specs.Joining.{IsJoined};
 ghost use Rattle.rabit_frame.specs.Reading.{AreOfKinds};
-ghost use Rattle.rabit_cli.specs.Files.{check_limits, large_limits, HasLabelTexts};
-ghost use Rattle.rabit_cli.specs.Combine.{combined_inputs};
+ghost use Rattle.rabit_cli.specs.Files.{second_limits, first_limits, HasLabelTexts};
+ghost use Rattle.rabit_cli.specs.Include.{pair_inputs};
 ghost use Rattle.rabit_cli.specs.Intersect.{IsIntersectionReply, MeansIntersect};
 
-use crate::combining::{joined, printed, too_large};
+use crate::combining::{printed, too_large};
+use crate::files::joined;
 use auto_core::{Memory, Mode};
 use auto_ops::OpFault;
 use ba_format::{Joined, Named};
@@ -30,8 +31,8 @@ fn intersected<'a>(alloc: Global, mode: Mode, pair: &Joined) -> Result<Reply<'a>
 
 /// The reply to the automata.
 fn of_two<'a>(alloc: Global, mode: Mode, one: &Named, two: &Named) -> Result<Reply<'a>, Memory>
-    requires one { IsWithinLimits large_limits one.now }
-    requires two { IsWithinLimits check_limits two.now }
+    requires one { IsWithinLimits first_limits one.now }
+    requires two { IsWithinLimits second_limits two.now }
     ensures { IfOk result (λ reply. (pair : AJoined) × IsJoined one.now two.now pair × IsIntersectionReply mode pair reply) }
 {
     let pair = joined(alloc, one, two)?;
@@ -40,7 +41,7 @@ fn of_two<'a>(alloc: Global, mode: Mode, one: &Named, two: &Named) -> Result<Rep
 
 /// The reply to what was read.
 pub fn reply<'a>(alloc: Global, mode: Mode, values: &[Value]) -> Result<Reply<'a>, Memory>
-    requires { (a b : Items ℕ) × AreOfKinds (combined_inputs a b) values.now }
+    requires { (a b : Items ℕ) × AreOfKinds (pair_inputs a b) values.now }
     ensures { IfOk result (MeansIntersect mode values.now) }
 {
     match values {

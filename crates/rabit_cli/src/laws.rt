@@ -1,6 +1,6 @@
 //! What the commands have to do with one another: each law is the contract of a function that does nothing.
 
-ghost use Rattle.rabit_cli.specs.Laws.{CheckAgrees, IncludeIsChecked, AnswersAreAccepted, EmptyTextAcceptsNothing, UniversalTextAcceptsAll, EmptyIsChecked, UniversalIsChecked};
+ghost use Rattle.rabit_cli.specs.Laws.{CheckAgrees, IncludeIsChecked, AnswersAreAccepted, UpgradeIsChecked, EmptyTextAcceptsNothing, UniversalTextAcceptsAll, EmptyIsChecked, UniversalIsChecked};
 
 /// A check of the answer that a decision wrote under a name of its own says what the decision said, where the file has at most 1 GiB.
 pub fn check_agrees()
@@ -15,6 +15,11 @@ pub fn include_is_checked()
 /// A check accepts each answer for its two automata, wherever a file of at most 1 GiB holds its text.
 pub fn answers_are_accepted()
     ensures { AnswersAreAccepted }
+{}
+
+/// A check says the same of a certificate and of its upgrade.
+pub fn upgrade_is_checked()
+    ensures { UpgradeIsChecked }
 {}
 
 /// Whatever the text that `empty` makes reads as accepts nothing.

@@ -2,11 +2,13 @@
 //! automata, over files.
 #![tactic(auto)]
 
+mod batching;
 mod checking;
 mod combining;
 mod commands;
 mod drilling;
 mod emptiness;
+mod equality;
 mod files;
 mod including;
 mod intersecting;
@@ -19,6 +21,7 @@ mod shrinking;
 mod top;
 mod uniting;
 mod universality;
+mod upgrading;
 
 use shelf_io::{DiskShelf, OutSink};
 use std::env;
@@ -39,15 +42,21 @@ fn main(rt: HostRuntime) -> ExitCode {
 }
 
 #[cfg(test)]
+mod announced_tests;
+#[cfg(test)]
 mod automaton_tests;
 #[cfg(test)]
 mod automaton_text_tests;
+#[cfg(test)]
+mod batch_tests;
 #[cfg(test)]
 mod certificate_tests;
 #[cfg(test)]
 mod certificate_text_tests;
 #[cfg(test)]
 mod combine_tests;
+#[cfg(test)]
+mod equality_tests;
 #[cfg(test)]
 mod fault_tests;
 #[cfg(test)]
@@ -72,6 +81,8 @@ mod shelf_tests;
 mod shrink_tests;
 #[cfg(test)]
 mod tests;
+#[cfg(test)]
+mod upgrade_tests;
 #[cfg(test)]
 mod words_tests;
 #[cfg(test)]

@@ -1,6 +1,6 @@
 //! What `empty` and `universal` have in common: an automaton is read and another is made, and the one's inclusion in the other is decided.
 
-ghost use Rattle.std.specs.Prelude.{◌≡◌, ◌≤◌, ◌<◌, ◌^◌, ◌++◌, ℕ, List as Items, length, All, None, IfOk, OnOk, codes};
+ghost use Rattle.std.specs.Prelude.{◌≡◌, ◌≤◌, ◌<◌, ◌^◌, ◌++◌, ◌∷◌, [], ℕ, List as Items, length, All, None, IfOk, OnOk, codes};
 ghost use Rattle.auto_core.specs.declared.parts.Lasso.{Lasso as ALasso};
 ghost use Rattle.ba_format.specs.Faults.{fault_of};
 ghost use Rattle.ba_format.specs.Reading.{Reads, IsWithinLimits};
@@ -8,36 +8,36 @@ ghost use Rattle.cert_value.specs.declared.types.Body.TheVariants as form;
 ghost use Rattle.decide.specs.Laws.{CanDecide};
 ghost use Rattle.rabit_frame.specs.Lines.{line_end};
 ghost use Rattle.rabit_cli.specs.Printed.{lasso_lines, word_line, holds_text, lasso_against_text, word_against_text};
-ghost use Rattle.rabit_cli.specs.Files.{check_limits};
-ghost use Rattle.rabit_cli.specs.Property.{property_inputs, IsPropertyReply, IsPropertyDecided};
+ghost use Rattle.rabit_cli.specs.Files.{second_limits, automaton_file};
+ghost use Rattle.rabit_cli.specs.Property.{IsPropertyReply, IsPropertyDecided};
 
-use crate::files::{CHECK_LIMITS, checked_automaton};
+use crate::files::{SECOND_LIMITS, automaton_slot};
 use crate::letters::push_word;
 use crate::replies::limit_met;
 use auto_core::{Lasso, List, Memory, Mode, Word};
-use ba_format::{Joined, Named, ReadFault, Texts};
+use ba_format::{Joined, Limits, Named, ReadFault, Texts};
 use cert_text::{Body, write_cert};
 use rabit_frame::{Put, Reply, Slot, Status, append};
 use rabit_words::{USUAL_LIMIT, USUAL_LOOK};
 use std::alloc::Global;
 
-/// The file that they read.
-pub fn slots<'a>(alloc: Global, name: &'a str) -> Result<List<Slot<'a>>, Memory>
-    ensures { IfOk result (λ slots. slots ≡ property_inputs name.entry.now) }
+/// The file that they read, with these limits.
+pub fn slots<'a>(alloc: Global, limits: Limits, name: &'a str) -> Result<List<Slot<'a>>, Memory>
+    ensures { IfOk result (λ slots. slots ≡ automaton_file 1 limits name.entry.now ∷ []) }
 {
     let mut slots = List::new(alloc);
-    slots.push(checked_automaton(1, name))?;
+    slots.push(automaton_slot(1, limits, name))?;
     Ok(slots)
 }
 
 /// The automaton that the made text reads as.
 pub fn read_back(alloc: Global, text: &[u8]) -> Result<Named, Memory>
     requires short { length text.now ≤ 2 ^ 24 }
-    requires faultless { fault_of text.now check_limits ≡ None }
-    ensures reads { IfOk result (Reads text.now check_limits) }
-    ensures within { IfOk result (IsWithinLimits check_limits) }
+    requires faultless { fault_of text.now second_limits ≡ None }
+    ensures reads { IfOk result (Reads text.now second_limits) }
+    ensures within { IfOk result (IsWithinLimits second_limits) }
 {
-    match ba_format::read(alloc, text, &CHECK_LIMITS) {
+    match ba_format::read(alloc, text, &SECOND_LIMITS) {
         Ok(named) => Ok(named),
         Err(ReadFault::Ba(_fault)) => unreachable!(),
         Err(ReadFault::Memory) => Err(Memory),
@@ -66,7 +66,7 @@ fn fails(alloc: Global, property: &str) -> Result<List<u8>, Memory>
 }
 
 /// Appends the lines of the lasso.
-fn push_lasso(out: &mut List<u8>, labels: &Texts, lasso: &Lasso) -> Result<(), Memory>
+pub(crate) fn push_lasso(out: &mut List<u8>, labels: &Texts, lasso: &Lasso) -> Result<(), Memory>
     requires prefix { All (λ a. a < length labels.now) lasso.now.prefix }
     requires turn { All (λ a. a < length labels.now) lasso.now.turn }
     ensures { OnOk result (out.new ≡ out.old ++ lasso_lines labels.now lasso.now) }
@@ -79,7 +79,7 @@ fn push_lasso(out: &mut List<u8>, labels: &Texts, lasso: &Lasso) -> Result<(), M
 }
 
 /// Appends the line of the word.
-fn push_word_line(out: &mut List<u8>, labels: &Texts, word: &Word) -> Result<(), Memory>
+pub(crate) fn push_word_line(out: &mut List<u8>, labels: &Texts, word: &Word) -> Result<(), Memory>
     requires { All (λ a. a < length labels.now) word.now }
     ensures { OnOk result (out.new ≡ out.old ++ word_line labels.now word.now) }
 {

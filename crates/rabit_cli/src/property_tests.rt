@@ -204,19 +204,26 @@ fn the_certificate_is_put_after_the_text(rt: HostRuntime) -> Result<(), Fail> {
 #[test]
 fn faults_and_limits_of_the_file_are_told(rt: HostRuntime) -> Result<(), Fail> {
     let alloc = rt.alloc();
+    // what `empty` reads is a first file, and what `universal` reads a second one
+    let more = many_lines(alloc, 2049, 0)?;
     let long = many_lines(alloc, 513, 0)?;
     let rows = [
-        (long.as_str(), "file 1 line 513: TooManyStates\n"),
-        ("a,[0]-[1]\n", "file 1 line 1: Shape\n"),
-        ("", "file 1 line 0: Empty\n"),
+        ("empty", more.as_str(), "file 1 line 2049: TooManyStates\n"),
+        (
+            "universal",
+            long.as_str(),
+            "file 1 line 513: TooManyStates\n",
+        ),
+        ("empty", "a,[0]-[1]\n", "file 1 line 1: Shape\n"),
+        ("universal", "a,[0]-[1]\n", "file 1 line 1: Shape\n"),
+        ("empty", "", "file 1 line 0: Empty\n"),
+        ("universal", "", "file 1 line 0: Empty\n"),
     ];
-    for command in ["empty", "universal"] {
-        for (text, printed) in rows {
-            let mut shelf = shelf_of(alloc, &[("A", text)], &[])?;
-            let words = [command, "A", "M", "C"];
-            assert_eq!(rt; says(alloc, &words, &mut shelf, &[], printed)?, (4, true));
-            assert!(rt; !holds(alloc, &mut shelf, "M", ""));
-        }
+    for (command, text, printed) in rows {
+        let mut shelf = shelf_of(alloc, &[("A", text)], &[])?;
+        let words = [command, "A", "M", "C"];
+        assert_eq!(rt; says(alloc, &words, &mut shelf, &[], printed)?, (4, true));
+        assert!(rt; !holds(alloc, &mut shelf, "M", ""));
     }
     Ok(())
 }

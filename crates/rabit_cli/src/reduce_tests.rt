@@ -75,6 +75,20 @@ fn the_reduced_automaton_is_printed(rt: HostRuntime) -> Result<(), Fail> {
     Ok(())
 }
 
+#[test]
+fn a_second_announced_letter_joins_what_one_does_not(rt: HostRuntime) -> Result<(), Fail> {
+    let alloc = rt.alloc();
+    let files = [("A", FAR_ALIKE)];
+    for (letters, printed) in [("1", FAR_ALIKE), ("2", FAR_ALIKE_PRUNED)] {
+        let words = ["reduce", "A", "--look", "1", "--letters", letters];
+        assert_eq!(rt;
+            answers(alloc, &words, &files, &[], &[], printed)?,
+            (0, true)
+        );
+    }
+    Ok(())
+}
+
 /// The lines of so many states.
 fn states(alloc: Global, count: u32) -> Result<String, Memory> {
     let mut text = String::new(alloc);

@@ -2,11 +2,11 @@
 
 ghost use Rattle.std.specs.Prelude.{◌≡◌, ◌≤◌, ◌<◌, length, IfOk};
 ghost use Rattle.ba_format.specs.Reading.{IsWithinLimits};
-ghost use Rattle.rabit_cli.specs.Files.{check_limits, HasLabelTexts};
+ghost use Rattle.rabit_cli.specs.Files.{HasLabelTexts};
 
-use crate::files::{CHECK_LIMITS, joined};
+use crate::files::{FIRST_LIMITS, SECOND_LIMITS, joined};
 use auto_core::{Memory, Origin};
-use ba_format::{Joined, read};
+use ba_format::{Joined, Limits, Named, read};
 use cert_text::{Element, Mark, StepLine};
 use ramsey_search::{Outcome, search};
 use std::alloc::Global;
@@ -37,13 +37,13 @@ const NOTHING: &str = "[0]\n[1]\n";
 const PAIR: &str = "a,[5]->[7]\nb,[7]->[5]\n";
 
 /// The automaton that the text reads as.
-fn read_text(alloc: Global, text: &str) -> Result<ba_format::Named, Memory>
-    ensures { IfOk result (IsWithinLimits check_limits) }
+fn read_text(alloc: Global, text: &str, limits: &Limits) -> Result<Named, Memory>
+    ensures { IfOk result (IsWithinLimits limits.now) }
 {
     if text.len() > 1_000_000 {
         return Err(Memory);
     }
-    match read(alloc, text.as_bytes(), &CHECK_LIMITS) {
+    match read(alloc, text.as_bytes(), limits) {
         Ok(named) => Ok(named),
         Err(_) => Err(Memory),
     }
@@ -53,8 +53,8 @@ fn read_text(alloc: Global, text: &str) -> Result<ba_format::Named, Memory>
 fn pair_of(alloc: Global, first: &str, second: &str) -> Result<Joined, Memory>
     ensures { IfOk result HasLabelTexts }
 {
-    let one = read_text(alloc, first)?;
-    let two = read_text(alloc, second)?;
+    let one = read_text(alloc, first, &FIRST_LIMITS)?;
+    let two = read_text(alloc, second, &SECOND_LIMITS)?;
     joined(alloc, &one, &two)
 }
 

@@ -7,38 +7,20 @@ ghost use Rattle.ba_format.specs.Joining.{IsJoined};
 ghost use Rattle.cert_value.specs.WellFormed.{WellFormed};
 ghost use Rattle.cert_check.specs.Rules.{KeepsRules};
 ghost use Rattle.rabit_frame.specs.Reading.{AreOfKinds};
-ghost use Rattle.rabit_cli.specs.Files.{check_limits, large_limits, HasLabelTexts};
+ghost use Rattle.rabit_cli.specs.Files.{second_limits, first_limits, HasLabelTexts};
 ghost use Rattle.rabit_cli.specs.Replies.{nothing_to_shrink_reply};
-ghost use Rattle.rabit_cli.specs.Shrink.{shrink_inputs, IsNo, IsShrunkBody, IsShrinkReply, MeansShrink};
+ghost use Rattle.rabit_cli.specs.Check.{check_inputs};
+ghost use Rattle.rabit_cli.specs.Shrink.{IsNo, IsShrunkBody, IsShrinkReply, MeansShrink};
 
-use crate::combining::joined;
-use crate::files::{
-    automaton, certificate, certificate_slot, checked_automaton, first_automaton, large_automaton,
-};
+use crate::files::{certificate, first_automaton, joined, second_automaton};
 use crate::replies;
 use auto_core::{List, Memory};
 use ba_format::{Joined, Named};
 use cert_check::CheckFault;
 use cert_text::{Body, Cert, write_cert};
 use lasso_shrink::{shrink, shrink_word};
-use rabit_frame::{Put, Reply, Slot, Status, Value, line};
+use rabit_frame::{Put, Reply, Status, Value, line};
 use std::alloc::Global;
-
-/// The files that it reads.
-pub fn slots<'a>(
-    alloc: Global,
-    first: &'a str,
-    second: &'a str,
-    cert: &'a str,
-) -> Result<List<Slot<'a>>, Memory>
-    ensures { IfOk result (λ slots. slots ≡ shrink_inputs first.entry.now second.entry.now cert.entry.now) }
-{
-    let mut slots = List::new(alloc);
-    slots.push(large_automaton(first))?;
-    slots.push(checked_automaton(2, second))?;
-    slots.push(certificate_slot(cert))?;
-    Ok(slots)
-}
 
 /// The certificate is valid, and has neither a lasso nor a word.
 fn nothing_to_shrink<'a>(alloc: Global) -> Result<Reply<'a>, Memory>
@@ -76,6 +58,7 @@ fn shrunk<'a>(alloc: Global, name: &'a str, pair: &Joined, cert: &Cert) -> Resul
         return nothing_to_shrink(alloc);
     };
     let left = Cert {
+        version: cert.version,
         mode: cert.mode,
         first_states: cert.first_states,
         second_states: cert.second_states,
@@ -114,8 +97,8 @@ fn of_three<'a>(
     two: &Named,
     cert: &Cert,
 ) -> Result<Reply<'a>, Memory>
-    requires one { IsWithinLimits large_limits one.now }
-    requires two { IsWithinLimits check_limits two.now }
+    requires one { IsWithinLimits first_limits one.now }
+    requires two { IsWithinLimits second_limits two.now }
     requires well_formed { WellFormed cert.now }
     ensures { IfOk result (λ reply. (pair : AJoined) × IsJoined one.now two.now pair × IsShrinkReply name.entry.now pair cert.now reply) }
 {
@@ -125,7 +108,7 @@ fn of_three<'a>(
 
 /// The reply to what was read.
 pub fn reply<'a>(alloc: Global, name: &'a str, values: &[Value]) -> Result<Reply<'a>, Memory>
-    requires { (a b c : Items ℕ) × AreOfKinds (shrink_inputs a b c) values.now }
+    requires { (a b c : Items ℕ) × AreOfKinds (check_inputs a b c) values.now }
     ensures { IfOk result (MeansShrink name.entry.now values.now) }
 {
     match values {
@@ -133,7 +116,7 @@ pub fn reply<'a>(alloc: Global, name: &'a str, values: &[Value]) -> Result<Reply
             alloc,
             name,
             first_automaton(first),
-            automaton(second),
+            second_automaton(second),
             certificate(third),
         ),
         _ => unreachable!(),

@@ -1,17 +1,14 @@
 //! The top call on files in memory: statuses, printed texts, and calls of the outside that fail.
 
-use crate::commands::Command;
 use crate::top::run;
 use auto_core::{List, Memory};
-use rabit_frame::answer_one;
-use rabit_words::question;
 use shelf_io::{File, MemShelf, MemSink};
 use std::alloc::Global;
 use std::test::Fail;
 
 /// How the program is used.
 pub const USAGE: &str =
-    "usage: rabit include A B CERT [--finite] [--look K] [--limit N] | check A B CERT | reduce A [--finite] [--look K] | drill SEED STATES LABELS | union A B [--finite] | intersect A B [--finite] | shrink A B CERT OUT | empty A E CERT [--finite] | universal A U CERT [--finite]\n";
+    "usage: rabit include A B CERT [--finite] [--look K] [--limit N] [--letters M] | check A B CERT | reduce A [--finite] [--look K] [--letters M] | drill SEED STATES LABELS | upgrade CERT OUT | equal A B C1 C2 | batch LIST | union A B [--finite] | intersect A B [--finite] | shrink A B CERT OUT | empty A E CERT [--finite] | universal A U CERT [--finite]\n";
 
 pub const RING: &str = "[0]\na,[0]->[1]\na,[1]->[2]\na,[2]->[0]\n[0]\n";
 
@@ -271,28 +268,5 @@ fn the_ring_may_be_written_in_many_ways(rt: HostRuntime) -> Result<(), Fail> {
             (1, true)
         );
     }
-    Ok(())
-}
-
-/// The status that the words end with, where nothing is said.
-fn ends(alloc: Global, words: &[&str], shelf: &mut MemShelf) -> Result<u8, Memory> {
-    let words = words_of(alloc, words)?;
-    let command = Command {
-        words: &words,
-        asked: question(alloc, &words),
-    };
-    Ok(answer_one(alloc, &command, shelf))
-}
-
-#[test]
-fn one_question_after_the_other_has_its_status(rt: HostRuntime) -> Result<(), Fail> {
-    let alloc = rt.alloc();
-    let files = [("A", RING), ("B", ONLY_B), ("C", RING_NO)];
-    let mut shelf = shelf_of(alloc, &files, &[])?;
-    assert_eq!(rt; ends(alloc, &["check", "A", "B", "C"], &mut shelf)?, 1);
-    assert_eq!(rt; ends(alloc, &["check", "A", "A", "C"], &mut shelf)?, 5);
-    assert_eq!(rt; ends(alloc, &["reduce", "A"], &mut shelf)?, 0);
-    assert_eq!(rt; ends(alloc, &["reduce", "X"], &mut shelf)?, 6);
-    assert_eq!(rt; ends(alloc, &[], &mut shelf)?, 3);
     Ok(())
 }

@@ -10,8 +10,9 @@ ghost use Rattle.rabit_frame.specs.Ending.{OfBoth, SaysOnly};
 ghost use Rattle.rabit_frame.specs.Carrying.{IsCarriedOut, SaysEach, ShowsReply, LeavesUnwritten};
 ghost use Rattle.rabit_words.specs.Question.{question_of};
 ghost use Rattle.rabit_cli.specs.Complete.{AnswersWhatReads};
-ghost use Rattle.rabit_cli.specs.Commands.{inputs_of, outputs_of, Means, Shows, Drills, LeavesFiles, SaysUsage};
+ghost use Rattle.rabit_cli.specs.Commands.{IsSingle, inputs_of, outputs_of, Means, Shows, Batches, Drills, LeavesFiles, SaysUsage};
 
+use crate::batching::batch;
 use crate::commands::Command;
 use rabit_frame::carry_out;
 use rabit_words::question;
@@ -21,13 +22,13 @@ use std::alloc::Global;
 /// Does what the words after the program's name ask, and answers the program's status.
 pub fn run<H: Shelf, K: Sink>(alloc: Global, words: &[String], shelf: &mut H, out: &mut K) -> u8
     // One ending was said. Where the shelf tells its files it is the right reply, or a fault of the outside or want of memory.
-    ensures carried { IsCarriedOut (Means (question_of (map string_bytes words.now))) (inputs_of (question_of (map string_bytes words.now)))
+    ensures carried { IsSingle (question_of (map string_bytes words.now)) → IsCarriedOut (Means (question_of (map string_bytes words.now))) (inputs_of (question_of (map string_bytes words.now)))
         (H.held shelf.old) (H.held shelf.new) result (K.sent out.old) (K.sent out.new) (K.faults out.old) (K.faults out.new)
         (H.faults shelf.old) (H.faults shelf.new) (H.put_faults shelf.old) (H.put_faults shelf.new) }
 
     // The right reply, whatever it is, has its files written and its text given, unless a call of the shelf failed or memory was
     // refused.
-    ensures exact { IfSome (H.held shelf.old) (λ files.
+    ensures exact { IsSingle (question_of (map string_bytes words.now)) → IfSome (H.held shelf.old) (λ files.
         SaysEach (Means (question_of (map string_bytes words.now))) (inputs_of (question_of (map string_bytes words.now))) files
         (H.held shelf.new) result (K.sent out.old) (K.sent out.new) (K.faults out.old) (K.faults out.new)
         (H.faults shelf.old) (H.faults shelf.new) (H.put_faults shelf.old) (H.put_faults shelf.new)) }
@@ -42,51 +43,60 @@ pub fn run<H: Shelf, K: Sink>(alloc: Global, words: &[String], shelf: &mut H, ou
     ensures drills { IfSome (question_of (map string_bytes words.now)) (λ asked.
         Drills asked result (K.sent out.old) (K.sent out.new) (K.faults out.old) (K.faults out.new)) }
 
+    // A batch: its list is not read, and that was said; or its questions were carried out one after the other, each on the files that the one
+    // before it left, and a line with its number and its status was given before the next began.
+    ensures batch { IfSome (question_of (map string_bytes words.now)) (λ asked.
+        Batches asked (H.held shelf.old) (H.held shelf.new) result (K.sent out.old) (K.sent out.new) (K.faults out.old) (K.faults out.new)
+        (H.faults shelf.old) (H.faults shelf.new) (H.put_faults shelf.old) (H.put_faults shelf.new) (H.missed shelf.old) (H.missed shelf.new)) }
+
     // What a status up to 2 shows, command by command: an inclusion, a lasso that separates, a list past the limit, a reduced automaton, what a drill found,
     // a union, an intersection, what is left of a no, an automaton that accepts nothing or everything, or what shows that it does not.
-    ensures shows { result ≤ 2 → OfBoth (H.held shelf.old) (H.held shelf.new) (λ files files'.
+    ensures shows { IsSingle (question_of (map string_bytes words.now)) → result ≤ 2 → OfBoth (H.held shelf.old) (H.held shelf.new) (λ files files'.
         Shows (question_of (map string_bytes words.now)) result files files' (K.sent out.old) (K.sent out.new)) }
 
     // A status of a command's own is that of the right reply, whose files are written and whose text was given.
-    ensures shown { IsOwn result → OfBoth (H.held shelf.old) (H.held shelf.new) (λ files files'.
+    ensures shown { IsSingle (question_of (map string_bytes words.now)) → IsOwn result → OfBoth (H.held shelf.old) (H.held shelf.new) (λ files files'.
         ShowsReply (Means (question_of (map string_bytes words.now))) (inputs_of (question_of (map string_bytes words.now)))
         result (K.sent out.old) (K.sent out.new) (K.faults out.old) (K.faults out.new) files files') }
 
     // A question whose automata all read is answered: by a result of its command, unless a count of the outside rose or memory was refused.
     // With `exact` and the law `answers_are_accepted` a check of an answer's file has the verdict of the answer.
-    ensures complete { IfSome (question_of (map string_bytes words.now)) (λ asked. IfSome (H.held shelf.old) (λ files.
+    ensures complete { IsSingle (question_of (map string_bytes words.now)) → IfSome (question_of (map string_bytes words.now)) (λ asked. IfSome (H.held shelf.old) (λ files.
         AnswersWhatReads asked files result (K.faults out.old) (K.faults out.new) (H.faults shelf.old) (H.faults shelf.new)
         (H.put_faults shelf.old) (H.put_faults shelf.new))) }
 
     // What the shelf holds afterwards: only a decision and a shrinking write, and only the file of a certificate, and `empty` and `universal`
     // that of the automaton that they make too.
-    ensures files { OfBoth (H.held shelf.old) (H.held shelf.new) (λ files files'.
+    ensures files { IsSingle (question_of (map string_bytes words.now)) → OfBoth (H.held shelf.old) (H.held shelf.new) (λ files files'.
         LeavesFiles (question_of (map string_bytes words.now)) result (H.put_faults shelf.old) (H.put_faults shelf.new) files files') }
 
     // Faults of the outside, each with its count, and what stays.
     ensures read_fault { result ≡ 6 → Rose (H.faults shelf.old) (H.faults shelf.new) }
-    ensures no_read_fault { result ≢ 6 → H.faults shelf.new ≡ H.faults shelf.old }
+    ensures no_read_fault { IsSingle (question_of (map string_bytes words.now)) → result ≢ 6 → H.faults shelf.new ≡ H.faults shelf.old }
     ensures write_fault { result ≡ 7 → Rose (K.faults out.old) (K.faults out.new) ⊎ Rose (H.put_faults shelf.old) (H.put_faults shelf.new) }
-    ensures no_write_fault { result ≢ 7 → H.put_faults shelf.new ≡ H.put_faults shelf.old }
+    ensures no_write_fault { IsSingle (question_of (map string_bytes words.now)) → result ≢ 7 → H.put_faults shelf.new ≡ H.put_faults shelf.old }
 
     // At 6 and 8 no file changed, and that was said; at 7 the counts tell which call was refused, and so what is left.
     ensures read_line { result ≡ 6 → (H.held shelf.new ≡ H.held shelf.old) × SaysOnly read_line result (K.sent out.old) (K.sent out.new) (K.faults out.old) (K.faults out.new) }
     ensures memory { result ≡ 8 → (H.held shelf.new ≡ H.held shelf.old) × SaysOnly memory_line result (K.sent out.old) (K.sent out.new) (K.faults out.old) (K.faults out.new) }
-    ensures unwritten { result ≡ 7 → OfBoth (H.held shelf.old) (H.held shelf.new) (λ files files'.
+    ensures unwritten { IsSingle (question_of (map string_bytes words.now)) → result ≡ 7 → OfBoth (H.held shelf.old) (H.held shelf.new) (λ files files'.
         LeavesUnwritten (Means (question_of (map string_bytes words.now))) (inputs_of (question_of (map string_bytes words.now)))
         (K.sent out.old) (K.sent out.new) (K.faults out.old) (K.faults out.new) (H.put_faults shelf.old) (H.put_faults shelf.new) files files') }
 
     // A question without files to read has no failing read, and one without files to write has no failing put.
     ensures reads_none { inputs_of (question_of (map string_bytes words.now)) ≡ [] → H.faults shelf.new ≡ H.faults shelf.old }
-    ensures writes_none { outputs_of (question_of (map string_bytes words.now)) ≡ [] → H.put_faults shelf.new ≡ H.put_faults shelf.old }
+    ensures writes_none { IsSingle (question_of (map string_bytes words.now)) → outputs_of (question_of (map string_bytes words.now)) ≡ [] → H.put_faults shelf.new ≡ H.put_faults shelf.old }
 
     // Where the shelf tells its files, a missing one is counted only where the command reads it, after those before it.
-    ensures missing { IfSome (H.held shelf.old) (λ files.
+    ensures missing { IsSingle (question_of (map string_bytes words.now)) → IfSome (H.held shelf.old) (λ files.
         CountsInTurn files (inputs_of (question_of (map string_bytes words.now))) (H.missed shelf.old) (H.missed shelf.new)) }
 {
     let command = Command {
         words,
         asked: question(alloc, words),
     };
-    carry_out(alloc, &command, shelf, out)
+    match command.list() {
+        Some(list) => batch(alloc, list, shelf, out),
+        None => carry_out(alloc, &command, shelf, out),
+    }
 }

@@ -4,7 +4,7 @@ ghost use Rattle.std.specs.Prelude.{◌≡◌, ◌≤◌, ℕ, List as Items, le
 ghost use Rattle.ba_format.specs.Reading.{IsWithinLimits};
 ghost use Rattle.ba_format.specs.Writing.{written};
 ghost use Rattle.rabit_frame.specs.Reading.{AreOfKinds, HasWritableLabels};
-ghost use Rattle.rabit_cli.specs.Files.{check_limits};
+ghost use Rattle.rabit_cli.specs.Files.{second_limits};
 ghost use Rattle.rabit_cli.specs.Property.{property_inputs, IsPropertyDecidedFor, MeansProperty};
 ghost use Rattle.rabit_cli.specs.Universal.{loops, all_loops, universality};
 
@@ -56,7 +56,7 @@ fn of_one<'a>(
     mode: Mode,
     one: &Named,
 ) -> Result<Reply<'a>, Memory>
-    requires within { IsWithinLimits check_limits one.now }
+    requires within { IsWithinLimits second_limits one.now }
     requires writable { HasWritableLabels one.now }
     ensures { IfOk result (IsPropertyDecidedFor universality made.entry.now certificate.entry.now mode one.now) }
 {
@@ -75,7 +75,7 @@ pub fn reply<'a>(
     mode: Mode,
     values: &[Value],
 ) -> Result<Reply<'a>, Memory>
-    requires { (a : Items ℕ) × AreOfKinds (property_inputs a) values.now }
+    requires { (a : Items ℕ) × AreOfKinds (property_inputs universality a) values.now }
     ensures { IfOk result (MeansProperty universality made.entry.now certificate.entry.now mode values.now) }
 {
     match values {

@@ -9,7 +9,7 @@ const ONE_A: &str = "[0]\na,[0]->[0]\n[0]\n";
 fn words_that_ask_nothing_get_the_usage(rt: HostRuntime) -> Result<(), Fail> {
     let alloc = rt.alloc();
     let files = [("A", ONE_A)];
-    let rows: [&[&str]; 12] = [
+    let rows: [&[&str]; 20] = [
         &["help"],
         &["help", "reduce"],
         &["reduce", "A", "-h"],
@@ -20,6 +20,14 @@ fn words_that_ask_nothing_get_the_usage(rt: HostRuntime) -> Result<(), Fail> {
         &["reduce", "A", "--look", "2", "--look", "2"],
         &["reduce", "A", "--look", "02"],
         &["reduce", "A", "--look=+2"],
+        &["reduce", "A", "--letters", "0"],
+        &["reduce", "A", "--letters", "5"],
+        &["include", "A", "A", "C", "--letters", "two"],
+        &["include", "A", "A", "C", "--letters=1", "--letters=1"],
+        &["check", "A", "A", "C", "--letters", "2"],
+        &["upgrade", "A"],
+        &["equal", "A", "A", "C"],
+        &["equal", "A", "A", "C", "C"],
         &["drill", "4294967296", "2", "1"],
         &["Reduce", "A"],
     ];
@@ -33,11 +41,13 @@ fn words_that_ask_nothing_get_the_usage(rt: HostRuntime) -> Result<(), Fail> {
 fn options_stand_anywhere_after_the_command(rt: HostRuntime) -> Result<(), Fail> {
     let alloc = rt.alloc();
     let files = [("A", ONE_A)];
-    let rows: [&[&str]; 4] = [
+    let rows: [&[&str]; 6] = [
         &["reduce", "A", "--look", "1"],
         &["reduce", "--look=6", "A"],
         &["reduce", "--look", "3", "A"],
         &["reduce", "--", "A"],
+        &["reduce", "A", "--letters", "4"],
+        &["reduce", "--letters=1", "--look", "2", "A"],
     ];
     for words in rows {
         assert_eq!(rt; answers(alloc, words, &files, &[], &[], ONE_A)?, (0, true));

@@ -1,6 +1,5 @@
 -- From the end that was said to its status, its files and what it shows.
 use Rattle.std.proofs.Common.{◌≡◌, ◌⊎◌, ℕ, ◌≤◌, List, [], ◌∷◌, length, Option, Some, None, IfSome, Result, Ok, Err, OnErr, inl, inr, refl, sym, ◌∙◌, ap, subst, arith}
-use Rattle.std.specs.Io.KnownBytes.{append_known}
 use Rattle.shelf_io.specs.Counts.{Rose}
 use Rattle.shelf_io.specs.Shelf.{FileMap}
 use Rattle.rabit_frame.specs.declared.parts.FileKind.{FileKind}
@@ -14,9 +13,9 @@ use Rattle.rabit_frame.specs.declared.parts.Ending.TheVariants as ending
 use Rattle.rabit_frame.specs.Files.{Input}
 use Rattle.rabit_frame.specs.Lines.{read_line, write_line, memory_line}
 use Rattle.rabit_frame.specs.Statuses.{status_number, number_unsent, IsOwn}
-use Rattle.rabit_frame.specs.Reading.{AreOfKinds, ReadInTurn, StopInTurn, HasFault, MayStop, long_reply}
+use Rattle.rabit_frame.specs.Reading.{AreOfKinds, ReadInTurn, FileStops, StopInTurn, HasFault, MayStopAt, MayStop, long_reply}
 use Rattle.rabit_frame.specs.Ending.{IsReplyFor, MayReply, MayEnd, Leaves, OfBoth, filed, IsCutShort, status_of, status_unsent, WasGiven, WasSaid, SaysOnly}
-use Rattle.rabit_frame.specs.Carrying.{EndsSo, SaysEach, ShowsReply, ShowsResult, LeavesUnwritten, LeavesByStatus}
+use Rattle.rabit_frame.specs.Carrying.{EndsSo, NoReply, SaysEach, ShowsReply, ShowsResult, LeavesUnwritten, LeavesByStatus}
 use Rattle.rabit_frame.proofs.OneLemmas.{one_reply}
 
 -- the numbers of a command's own statuses
@@ -27,6 +26,7 @@ own_number (status.Limit) = (λ e. omega arith, λ e. omega arith, λ e. omega a
 own_number (status.Usage) = (λ e. omega arith, λ e. omega arith, λ e. omega arith)
 own_number (status.BadFile) = (λ e. omega arith, λ e. omega arith, λ e. omega arith)
 own_number (status.BadCertificate) = (λ e. omega arith, λ e. omega arith, λ e. omega arith)
+own_number (status.BadList) = (λ e. omega arith, λ e. omega arith, λ e. omega arith)
 own_number (status.TooLarge) = (λ e. omega arith, λ e. omega arith, λ e. omega arith)
 own_number (status.NothingToShrink) = (λ e. omega arith, λ e. omega arith, λ e. omega arith)
 
@@ -38,6 +38,7 @@ unsent_number (status.Limit) = inl refl
 unsent_number (status.Usage) = inr (refl, omega arith)
 unsent_number (status.BadFile) = inr (refl, omega arith)
 unsent_number (status.BadCertificate) = inr (refl, omega arith)
+unsent_number (status.BadList) = inr (refl, omega arith)
 unsent_number (status.TooLarge) = inr (refl, omega arith)
 unsent_number (status.NothingToShrink) = inr (refl, omega arith)
 
@@ -49,6 +50,7 @@ unsent_low (status.Limit) e = omega arith
 unsent_low (status.Usage) e = absurd (omega arith)
 unsent_low (status.BadFile) e = absurd (omega arith)
 unsent_low (status.BadCertificate) e = absurd (omega arith)
+unsent_low (status.BadList) e = absurd (omega arith)
 unsent_low (status.TooLarge) e = absurd (omega arith)
 unsent_low (status.NothingToShrink) e = absurd (omega arith)
 
@@ -59,10 +61,12 @@ IsPlainStop r = (4 ≤ status_number r.status) × (r.puts ≡ [])
 fault_plain : (k : FileKind) (bytes : List ℕ) (r : Reply) → HasFault k bytes r → IsPlainStop r
 fault_plain (kind.Automaton n l) bytes r (f, is, e) = subst IsPlainStop (sym e) (omega arith, refl)
 fault_plain (kind.Certificate) bytes r (f, is, e) = subst IsPlainStop (sym e) (omega arith, refl)
+fault_plain (kind.Questions) bytes r (l, is, e) = subst IsPlainStop (sym e) (omega arith, refl)
 
 long_plain : (k : FileKind) (r : Reply) → r ≡ long_reply k → IsPlainStop r
 long_plain (kind.Automaton n l) r e = subst IsPlainStop (sym e) (omega arith, refl)
 long_plain (kind.Certificate) r e = subst IsPlainStop (sym e) (omega arith, refl)
+long_plain (kind.Questions) r e = subst IsPlainStop (sym e) (omega arith, refl)
 
 pub stop_plain : (files : FileMap) (is : List Input) (r : Reply) → StopInTurn files is r → IsPlainStop r
 stop_plain files [] r p = absurd p
@@ -375,3 +379,15 @@ module _ (means : List Value → Reply → Type 0) (inputs : List Input) (held b
       go : (h : Option FileMap) → IfSome h (λ files. IsReplyFor means inputs files r) → OfBoth h held' (λ files files'. IsCutShort files r.puts files') → OfBoth h held' (λ files files'. Leaves means inputs ending.WriteFault files files')
       go None right p = p
       go (Some files) right (files', is, p) = (files', is, (r, right, p))
+
+-- a file that is too long or has a fault ends a command that would go on by itself
+pub ends_stopped : (i : Input) (held held' : Option FileMap) (faults faults' puts puts' : ℕ) (r : Reply) → IfSome held (λ files. FileStops files i r) → MayStopAt i.kind r → faults' ≡ faults → held' ≡ held → puts' ≡ puts →
+    EndsSo NoReply (i ∷ []) (ending.Reached r) held held' faults faults' puts puts'
+ends_stopped i held held' faults faults' puts puts' r stops may none stays same =
+    let plain = may_plain (i ∷ []) r (inl may) in
+    ends_reached NoReply (i ∷ []) held held' held' faults faults' puts puts' r (right held stops) (inl (inl may)) stays
+    (both_same held' held' (λ files files'. files' ≡ filed files r.puts) (λ files. sym (ap (filed files) plain.1)) refl) none same
+  where
+    right : (h : Option FileMap) → IfSome h (λ files. FileStops files i r) → IfSome h (λ files. IsReplyFor NoReply (i ∷ []) files r)
+    right None p = tt
+    right (Some files) p = inl (inl p)

@@ -6,6 +6,7 @@ use Rattle.ba_format.proofs.FaultlessLemmas.{read_is_within}
 use Rattle.ba_format.proofs.LabelLemmas.{labels_fit}
 use Rattle.cert_text.specs.Grammar.{reading}
 use Rattle.cert_text.proofs.Theorem.{reading_text}
+use Rattle.equal_batch.proofs.ListLemmas.{list_is_one, list_has_no_bad_line}
 use Rattle.rabit_frame.specs.declared.parts.FileKind.{FileKind}
 use Rattle.rabit_frame.specs.declared.parts.FileKind.TheVariants as kind
 use Rattle.rabit_frame.specs.declared.parts.Value.{Value}
@@ -13,7 +14,7 @@ use Rattle.rabit_frame.specs.declared.parts.Value.TheVariants as value
 use Rattle.rabit_frame.specs.declared.parts.Status.TheVariants as status
 use Rattle.rabit_frame.specs.declared.parts.Reply.{Reply}
 use Rattle.rabit_frame.specs.Files.{Input}
-use Rattle.rabit_frame.specs.Lines.{kind_name, text_kind_name, file_line, certificate_line}
+use Rattle.rabit_frame.specs.Lines.{kind_name, text_kind_name, file_line, certificate_line, list_line}
 use Rattle.rabit_frame.specs.Reading.{only_said, FileReads, FileStops, ReadsAs, HasFault, IsOfKind, ReadInTurn, AreOfKinds, StopInTurn}
 
 same_some : {X : Type 0} (a b : X) (o : Option X) → o ≡ Some a → o ≡ Some b → a ≡ b
@@ -35,29 +36,49 @@ ok_error a b r p q = cc
 one_value : (k : FileKind) (bytes : List ℕ) (v w : Value) → ReadsAs k bytes v → ReadsAs k bytes w → v ≡ w
 one_value (kind.Automaton n l) bytes (value.Automaton x) (value.Automaton y) p q = ap (λ z. value.Automaton z) (reads_as_one bytes l x y p q)
 one_value (kind.Automaton n l) bytes (value.Automaton x) (value.Certificate d) p q = absurd q
+one_value (kind.Automaton n l) bytes (value.Automaton x) (value.Questions e) p q = absurd q
 one_value (kind.Automaton n l) bytes (value.Certificate c) w p q = absurd p
+one_value (kind.Automaton n l) bytes (value.Questions e) w p q = absurd p
 one_value (kind.Certificate) bytes (value.Certificate c) (value.Certificate d) p q =
     ap (λ z. value.Certificate z) (same_ok c d (reading bytes) (ap reading p.1 ∙ reading_text c p.0) (ap reading q.1 ∙ reading_text d q.0))
 one_value (kind.Certificate) bytes (value.Certificate c) (value.Automaton y) p q = absurd q
+one_value (kind.Certificate) bytes (value.Certificate c) (value.Questions e) p q = absurd q
 one_value (kind.Certificate) bytes (value.Automaton x) w p q = absurd p
+one_value (kind.Certificate) bytes (value.Questions e) w p q = absurd p
+one_value (kind.Questions) bytes (value.Questions e) (value.Questions f) p q = ap (λ z. value.Questions z) (list_is_one e f bytes p q)
+one_value (kind.Questions) bytes (value.Questions e) (value.Automaton y) p q = absurd q
+one_value (kind.Questions) bytes (value.Questions e) (value.Certificate d) p q = absurd q
+one_value (kind.Questions) bytes (value.Automaton x) w p q = absurd p
+one_value (kind.Questions) bytes (value.Certificate c) w p q = absurd p
 
 one_fault : (k : FileKind) (bytes : List ℕ) (r s : Reply) → HasFault k bytes r → HasFault k bytes s → r ≡ s
 one_fault (kind.Automaton n l) bytes r s (f, is, e) (g, is', e') =
     e ∙ ap (λ z. only_said status.BadFile (file_line n z.line (kind_name z.kind))) (same_some f g _ is is') ∙ sym e'
 one_fault (kind.Certificate) bytes r s (f, is, e) (g, is', e') =
     e ∙ ap (λ z. only_said status.BadCertificate (certificate_line z.line (text_kind_name z.kind))) (same_error f g _ is is') ∙ sym e'
+one_fault (kind.Questions) bytes r s (l, is, e) (m, is', e') = e ∙ ap (λ z. only_said status.BadList (list_line z)) (same_some l m _ is is') ∙ sym e'
 
 fault_or_value : (k : FileKind) (bytes : List ℕ) (r : Reply) (v : Value) → HasFault k bytes r → ReadsAs k bytes v → ⊥
 fault_or_value (kind.Automaton n l) bytes r (value.Automaton x) (f, is, e) q = none_some f _ q.no_fault is
 fault_or_value (kind.Automaton n l) bytes r (value.Certificate c) p q = q
+fault_or_value (kind.Automaton n l) bytes r (value.Questions e) p q = q
 fault_or_value (kind.Certificate) bytes r (value.Certificate c) (f, is, e) q = ok_error c f _ (ap reading q.1 ∙ reading_text c q.0) is
 fault_or_value (kind.Certificate) bytes r (value.Automaton x) p q = q
+fault_or_value (kind.Certificate) bytes r (value.Questions e) p q = q
+fault_or_value (kind.Questions) bytes r (value.Questions e) (l, is, said) q = none_some l _ (list_has_no_bad_line e bytes q) is
+fault_or_value (kind.Questions) bytes r (value.Automaton x) p q = q
+fault_or_value (kind.Questions) bytes r (value.Certificate c) p q = q
 
 pub kind_of_read : (k : FileKind) (bytes : List ℕ) (v : Value) → ReadsAs k bytes v → IsOfKind k v
 kind_of_read (kind.Automaton n l) bytes (value.Automaton x) p = (read_is_within bytes l x p, p.reading.auto.valid, labels_fit bytes l x p)
 kind_of_read (kind.Automaton n l) bytes (value.Certificate c) p = absurd p
+kind_of_read (kind.Automaton n l) bytes (value.Questions e) p = absurd p
 kind_of_read (kind.Certificate) bytes (value.Certificate c) p = p.0
 kind_of_read (kind.Certificate) bytes (value.Automaton x) p = absurd p
+kind_of_read (kind.Certificate) bytes (value.Questions e) p = absurd p
+kind_of_read (kind.Questions) bytes (value.Questions e) p = (bytes, p)
+kind_of_read (kind.Questions) bytes (value.Automaton x) p = absurd p
+kind_of_read (kind.Questions) bytes (value.Certificate c) p = absurd p
 
 module _ (files : FileMap) where
   one_read : (i : Input) (v w : Value) → FileReads files i v → FileReads files i w → v ≡ w

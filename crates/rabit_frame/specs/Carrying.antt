@@ -23,6 +23,10 @@ pub record EndsSo (means : List Value → Reply → Type 0) (inputs : List Input
   pub write_fault : end ≡ ending.WriteFault → Rose put_faults put_faults'
   pub no_write_fault : ¬ (end ≡ ending.WriteFault) → put_faults' ≡ put_faults
 
+-- No reply is right for what the files read as: a command that goes on by itself ends so only where one of them is not read.
+abbrev pub NoReply : List Value → Reply → Type 0
+NoReply values r = ⊥
+
 -- It came to an end, and that was said.
 pub record IsCarriedOut (means : List Value → Reply → Type 0) (inputs : List Input) (held held' : Option FileMap) (status : ℕ) (sent sent' : Option (List ℕ)) (give_faults give_faults' read_faults read_faults' put_faults put_faults' : ℕ) : Type 0 where
   pub end : Ending

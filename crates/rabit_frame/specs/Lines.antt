@@ -38,6 +38,10 @@ file_line number line name = codes "file " ++ (decimal number ++ (codes " line "
 abbrev pub certificate_line : ℕ → List ℕ → List ℕ
 certificate_line line name = codes "certificate line " ++ (decimal line ++ (codes ": " ++ (name ++ line_end)))
 
+-- The line of a bad line in a list of questions; 0 stands for a list that is too long.
+abbrev pub list_line : ℕ → List ℕ
+list_line line = codes "list line " ++ (decimal line ++ line_end)
+
 -- The line where a file cannot be read.
 abbrev pub read_line : List ℕ
 read_line = codes "read fault" ++ line_end

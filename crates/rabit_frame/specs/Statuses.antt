@@ -11,6 +11,7 @@ status_number (status.Limit) = 2
 status_number (status.Usage) = 3
 status_number (status.BadFile) = 4
 status_number (status.BadCertificate) = 5
+status_number (status.BadList) = 11
 status_number (status.TooLarge) = 12
 status_number (status.NothingToShrink) = 13
 
@@ -22,6 +23,7 @@ number_unsent (status.Limit) = 7
 number_unsent (status.Usage) = 3
 number_unsent (status.BadFile) = 4
 number_unsent (status.BadCertificate) = 5
+number_unsent (status.BadList) = 11
 number_unsent (status.TooLarge) = 12
 number_unsent (status.NothingToShrink) = 13
 

@@ -1,18 +1,19 @@
 //! A command carried out: read, answered, written and said.
 
-ghost use Rattle.std.specs.Prelude.{◌≡◌, ◌≢◌, ◌≤◌, ◌⊎◌, ℕ, List as Items, length, Err, IfOk, IfErr, IfSome};
+ghost use Rattle.std.specs.Prelude.{◌≡◌, ◌≢◌, ◌≤◌, ◌⊎◌, ◌∷◌, [], ℕ, List as Items, length, Err, IfOk, IfErr, IfSome};
 ghost use Rattle.std.specs.Io.KnownBytes.{append_known};
 ghost use Rattle.shelf_io.specs.Counts.{Rose};
+ghost use Rattle.shelf_io.specs.Shelf.{CountsMissing};
 ghost use Rattle.rabit_frame.specs.declared.parts.Value.{Value as AValue};
 ghost use Rattle.rabit_frame.specs.declared.parts.Reply.{Reply as AReply};
 ghost use Rattle.rabit_frame.specs.declared.parts.Ending.{Ending as AnEnding};
 ghost use Rattle.rabit_frame.specs.Lines.{read_line, memory_line};
 ghost use Rattle.rabit_frame.specs.Statuses.{IsOwn};
-ghost use Rattle.rabit_frame.specs.Reading.{AreOfKinds, CountsInTurn};
+ghost use Rattle.rabit_frame.specs.Reading.{AreOfKinds, IsOfKind, FileReads, CountsInTurn};
 ghost use Rattle.rabit_frame.specs.Ending.{IsReplyFor, MayReply, OfBoth, WasGiven, WasSaid, SaysOnly, status_of};
-ghost use Rattle.rabit_frame.specs.Carrying.{EndsSo, IsCarriedOut, SaysEach, ShowsReply, ShowsResult, LeavesUnwritten};
+ghost use Rattle.rabit_frame.specs.Carrying.{EndsSo, NoReply, IsCarriedOut, SaysEach, ShowsReply, ShowsResult, LeavesUnwritten};
 
-use crate::parts::{Ending, Halt, Lack, Reply, Value};
+use crate::parts::{Ending, Halt, Lack, Reply, Slot, Value};
 use crate::work::Work;
 use crate::{putting, reading};
 use auto_core::List;
@@ -77,8 +78,8 @@ fn give<K: Sink>(out: &mut K, text: &[u8], number: u8, unsent: u8) -> u8
     }
 }
 
-/// Says how the command ended.
-fn say<K: Sink>(ending: &Ending<'_>, out: &mut K) -> u8
+/// Says how the command ended, and answers its status.
+pub fn say<K: Sink>(ending: &Ending<'_>, out: &mut K) -> u8
     ensures { WasSaid ending.now result (K.sent out.old) (K.sent out.new) (K.faults out.old) (K.faults out.new) }
 {
     match ending {
@@ -90,6 +91,28 @@ fn say<K: Sink>(ending: &Ending<'_>, out: &mut K) -> u8
         Ending::ReadFault => give(out, b"read fault\n", 6, 6),
         Ending::WriteFault => give(out, b"write fault\n", 7, 7),
         Ending::OutOfMemory => give(out, b"out of memory\n", 8, 8),
+    }
+}
+
+/// Reads the file of a command that then goes on by itself, or tells how the command ends.
+pub fn read_alone<H: Shelf>(
+    alloc: Global,
+    shelf: &mut H,
+    slot: &Slot<'_>,
+) -> Result<Value, Ending<'static>>
+    ensures read { IfOk result (λ value. IfSome (H.held shelf.old) (λ files. FileReads files slot.now value)) }
+    ensures kind { IfOk result (IsOfKind slot.now.kind) }
+    ensures ends { IfErr result (λ end. EndsSo NoReply (slot.now ∷ []) end (H.held shelf.old) (H.held shelf.new) (H.faults shelf.old) (H.faults shelf.new) (H.put_faults shelf.old) (H.put_faults shelf.new)) }
+    ensures faults_stay { IfOk result (λ value. H.faults shelf.new ≡ H.faults shelf.old) }
+    ensures files_stay { H.held shelf.new ≡ H.held shelf.old }
+    ensures puts_stay { H.put_faults shelf.new ≡ H.put_faults shelf.old }
+    ensures counts_missing { CountsMissing (H.held shelf.old) slot.now.name (H.missed shelf.old) (H.missed shelf.new) }
+{
+    match reading::read_one(alloc, shelf, slot) {
+        Ok(value) => Ok(value),
+        Err(Halt::Stopped(reply)) => Err(Ending::Reached(reply)),
+        Err(Halt::ReadFault) => Err(Ending::ReadFault),
+        Err(Halt::OutOfMemory) => Err(Ending::OutOfMemory),
     }
 }
 

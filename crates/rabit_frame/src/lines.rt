@@ -1,7 +1,7 @@
 //! The lines that tell a fault.
 
 ghost use Rattle.std.specs.Prelude.{◌≡◌, ◌++◌, IfOk, OnOk};
-ghost use Rattle.rabit_frame.specs.Lines.{kind_name, text_kind_name, file_line, certificate_line};
+ghost use Rattle.rabit_frame.specs.Lines.{kind_name, text_kind_name, file_line, certificate_line, list_line};
 
 use auto_core::{List, Memory};
 use ba_format::BaKind;
@@ -71,6 +71,14 @@ pub fn certificate_text(alloc: Global, at: u32, name: &str) -> Result<List<u8>, 
     ensures { IfOk result (λ text. text ≡ certificate_line at name.now) }
 {
     let text = format!(in alloc; "certificate line {at}: {name}\n")?;
+    line(alloc, text.as_str())
+}
+
+/// The line of a bad line in a list of questions.
+pub fn list_text(alloc: Global, at: u32) -> Result<List<u8>, Memory>
+    ensures { IfOk result (λ text. text ≡ list_line at) }
+{
+    let text = format!(in alloc; "list line {at}\n")?;
     line(alloc, text.as_str())
 }
 

@@ -7,6 +7,7 @@ ghost use Rattle.rabit_frame.specs.Reading.{only_said};
 use auto_core::List;
 use ba_format::{Limits, Named};
 use cert_text::Cert;
+use equal_batch::Question;
 use std::alloc::Global;
 use std::marker::Model;
 
@@ -22,6 +23,8 @@ pub enum FileKind {
     },
     /// A certificate, from at most 1 GiB.
     Certificate,
+    /// A list of questions, from at most 64 KiB.
+    Questions,
 }
 
 /// A file that is read, seen by contracts as its name's bytes and its kind.
@@ -48,6 +51,8 @@ pub enum Value {
     Automaton(Named),
     /// A certificate.
     Certificate(Cert),
+    /// A list of questions.
+    Questions(List<Question>),
 }
 
 /// A file that is written, seen by contracts as its name's bytes and its own.
@@ -82,6 +87,8 @@ pub enum Status {
     BadFile,
     /// 5: a certificate has a fault, or breaks a rule.
     BadCertificate,
+    /// 11: a list of questions has a bad line.
+    BadList,
     /// 12: the automaton that was asked for is too large.
     TooLarge,
     /// 13: the certificate has neither a lasso nor a word.
@@ -100,6 +107,7 @@ impl Status {
             Status::Usage => 3,
             Status::BadFile => 4,
             Status::BadCertificate => 5,
+            Status::BadList => 11,
             Status::TooLarge => 12,
             Status::NothingToShrink => 13,
         }

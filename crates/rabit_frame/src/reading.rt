@@ -3,7 +3,7 @@
 ghost use Rattle.std.specs.Prelude.{◌≡◌, ◌≤◌, List as Items, length, IfOk, IfErr, IfSome, MatchResult, Err};
 ghost use Rattle.shelf_io.specs.Counts.{Rose};
 ghost use Rattle.shelf_io.specs.Shelf.{CountsMissing};
-ghost use Rattle.rabit_frame.specs.Lines.{kind_name, text_kind_name, file_line, certificate_line};
+ghost use Rattle.rabit_frame.specs.Lines.{kind_name, text_kind_name, file_line, certificate_line, list_line};
 ghost use Rattle.rabit_frame.specs.Reading.{most_bytes, long_reply, only_said, ReadsAs, HasFault, IsOfKind, FileReads, FileStops, StopInTurn, CountsInTurn, MayStopAt, MayStop, HaltsBy, AddsRead};
 
 use crate::lines;
@@ -11,6 +11,7 @@ use crate::parts::{FileKind, Halt, Reply, Slot, Status, Value};
 use auto_core::{List, Memory};
 use ba_format::{BaFault, ReadFault};
 use cert_text::{CertReadFault, TextFault};
+use equal_batch::ListFault;
 use shelf_io::{LoadFault, Shelf};
 use std::alloc::Global;
 
@@ -21,7 +22,16 @@ fn most_bytes(kind: FileKind) -> u64
     match kind {
         FileKind::Automaton { .. } => 16_777_216,
         FileKind::Certificate => 1_073_741_824,
+        FileKind::Questions => 65_536,
     }
+}
+
+/// What is said of a bad line of a list of questions.
+fn list_reply(alloc: Global, line: u32) -> Result<Reply<'static>, Memory>
+    ensures { IfOk result (λ reply. reply ≡ only_said Status.BadList (list_line line)) }
+{
+    let text = lines::list_text(alloc, line)?;
+    Ok(Reply::saying(alloc, Status::BadList, text))
 }
 
 /// What is said of a file with more bytes.
@@ -37,6 +47,7 @@ fn long_reply(alloc: Global, kind: FileKind) -> Result<Reply<'static>, Memory>
             let text = lines::certificate_text(alloc, 0, "Long")?;
             Ok(Reply::saying(alloc, Status::BadCertificate, text))
         },
+        FileKind::Questions => list_reply(alloc, 0),
     }
 }
 
@@ -87,11 +98,20 @@ fn value_of(alloc: Global, kind: FileKind, bytes: &[u8]) -> Result<Value, Halt>
             Err(CertReadFault::Text(fault)) => Err(halted(certificate_reply(alloc, fault))),
             Err(CertReadFault::Memory) => Err(Halt::OutOfMemory),
         },
+        FileKind::Questions => match equal_batch::read_list(alloc, bytes) {
+            Ok(questions) => Ok(Value::Questions(questions)),
+            Err(ListFault::Line(line)) => Err(halted(list_reply(alloc, line))),
+            Err(ListFault::Memory) => Err(Halt::OutOfMemory),
+        },
     }
 }
 
 /// Loads the file and reads it, or tells what ends the reading.
-fn read_one<H: Shelf>(alloc: Global, shelf: &mut H, slot: &Slot<'_>) -> Result<Value, Halt>
+pub(crate) fn read_one<H: Shelf>(
+    alloc: Global,
+    shelf: &mut H,
+    slot: &Slot<'_>,
+) -> Result<Value, Halt>
     ensures read { IfOk result (λ value. IfSome (H.held shelf.old) (λ files. FileReads files slot.now value)) }
     ensures kind { IfOk result (IsOfKind slot.now.kind) }
     ensures stops { IfErr result (HaltsBy (λ reply. IfSome (H.held shelf.old) (λ files. FileStops files slot.now reply))) }

@@ -24,22 +24,39 @@ two_files_app name = with_rule (with_rule (new_app name) (place (codes "A"))) (p
 abbrev pub three_files_app : List ℕ → App
 three_files_app name = with_rule (two_files_app name) (place (codes "CERT"))
 
--- `include A B CERT [--finite] [--look K] [--limit N]`
+-- `include A B CERT [--finite] [--look K] [--limit N] [--letters M]`
 abbrev pub include_app : App
 include_app =
-    with_rule (with_rule (with_rule (three_files_app (codes "include")) (option_alone (codes "finite"))) (option_with_word (codes "look"))) (option_with_word (codes "limit"))
+    with_rule
+    (with_rule (with_rule (with_rule (three_files_app (codes "include")) (option_alone (codes "finite"))) (option_with_word (codes "look"))) (option_with_word (codes "limit")))
+    (option_with_word (codes "letters"))
 
 -- `check A B CERT`
 abbrev pub check_app : App
 check_app = three_files_app (codes "check")
 
--- `reduce A [--finite] [--look K]`
+-- `reduce A [--finite] [--look K] [--letters M]`
 abbrev pub reduce_app : App
-reduce_app = with_rule (with_rule (with_rule (new_app (codes "reduce")) (place (codes "A"))) (option_alone (codes "finite"))) (option_with_word (codes "look"))
+reduce_app =
+    with_rule
+    (with_rule (with_rule (with_rule (new_app (codes "reduce")) (place (codes "A"))) (option_alone (codes "finite"))) (option_with_word (codes "look")))
+    (option_with_word (codes "letters"))
 
 -- `drill SEED STATES LABELS`
 abbrev pub drill_app : App
 drill_app = with_rule (with_rule (with_rule (new_app (codes "drill")) (place (codes "SEED"))) (place (codes "STATES"))) (place (codes "LABELS"))
+
+-- `upgrade CERT OUT`
+abbrev pub upgrade_app : App
+upgrade_app = with_rule (with_rule (new_app (codes "upgrade")) (place (codes "CERT"))) (place (codes "OUT"))
+
+-- `equal A B C1 C2`
+abbrev pub equal_app : App
+equal_app = with_rule (with_rule (two_files_app (codes "equal")) (place (codes "C1"))) (place (codes "C2"))
+
+-- `batch LIST`
+abbrev pub batch_app : App
+batch_app = with_rule (new_app (codes "batch")) (place (codes "LIST"))
 
 -- `union A B [--finite]`
 abbrev pub union_app : App
@@ -73,13 +90,4 @@ needing_subcommand s = record s { subcommand_required = true }
 -- The program's command.
 abbrev pub rabit_app : App
 rabit_app =
-    with_subcommand
-    (with_subcommand
-    (with_subcommand
-    (with_subcommand
-    (with_subcommand
-    (with_subcommand
-    (with_subcommand (with_subcommand (with_subcommand (on_top needing_subcommand (new_app (codes "rabit"))) include_app.top) check_app.top) reduce_app.top)
-    drill_app.top) union_app.top) intersect_app.top)
-    shrink_app.top)
-    empty_app.top) universal_app.top
+    with_subcommand (with_subcommand (with_subcommand (with_subcommand (with_subcommand (with_subcommand (with_subcommand (with_subcommand (with_subcommand (with_subcommand (with_subcommand (with_subcommand (on_top needing_subcommand (new_app (codes "rabit"))) include_app.top) check_app.top) reduce_app.top) drill_app.top) upgrade_app.top) equal_app.top) batch_app.top) union_app.top) intersect_app.top) shrink_app.top) empty_app.top) universal_app.top

@@ -1,5 +1,5 @@
 -- Numbers as they are spelled in words.
-use Rattle.std.specs.Prelude.{ℕ, Bool, true, false, not, ◌&&◌, ◌==◌, nat_le, List, [], ◌∷◌, Option, Some, None, if◌then◌else◌}
+use Rattle.std.specs.Prelude.{ℕ, Bool, true, false, not, ◌&&◌, ◌==◌, option_map, nat_le, List, [], ◌∷◌, Option, Some, None, if◌then◌else◌}
 use Rattle.std.specs.List.{list_all}
 use Rattle.std.specs.Str.Parse.{digits_value}
 use Rattle.auto_core.specs.Digits.{is_digit}
@@ -23,3 +23,8 @@ number_between low high text =
 abbrev pub number_or : ℕ → ℕ → ℕ → Option (List ℕ) → Option ℕ
 number_or usual low high None = Some usual
 number_or usual low high (Some text) = number_between low high text
+
+-- The same where an option's word may not stand at all.
+abbrev pub number_if_named : ℕ → ℕ → Option (List ℕ) → Option (Option ℕ)
+number_if_named low high None = Some None
+number_if_named low high (Some text) = option_map Some (number_between low high text)

@@ -1,5 +1,5 @@
 -- What the words after the program's name ask.
-use Rattle.std.specs.Prelude.{ℕ, ◌≢◌, ◌≤◌, ◌<◌, ◌^◌, ◌||◌, ◌&&◌, not, Bool, false, List, [], ◌∷◌, codes, Option, Some, None, option_map, option_and_then, if◌then◌else◌}
+use Rattle.std.specs.Prelude.{ℕ, ◌≢◌, ◌≤◌, ◌<◌, ◌^◌, ◌||◌, ◌&&◌, not, Bool, false, List, [], ◌∷◌, codes, Option, Some, None, IfSome, option_map, option_and_then, if◌then◌else◌}
 use Rattle.std.specs.List.{list_any}
 use Rattle.std.specs.Str.{bytes_eq}
 use Rattle.std.specs.String.{string_bytes}
@@ -8,15 +8,18 @@ use Rattle.auto_core.specs.declared.parts.Mode.TheVariants.{Buchi, Finite}
 use Rattle.clap.specs.Words.{Row, first_of, fault_of, subcommand_of, Kinds}
 use Rattle.rabit_words.specs.declared.parts.Question.{Question as Held}
 use Rattle.rabit_words.specs.declared.parts.Question.TheVariants as held
-use Rattle.rabit_words.specs.Number.{number_between, number_or}
+use Rattle.rabit_words.specs.Number.{number_between, number_or, number_if_named}
 use Rattle.rabit_words.specs.Command.{rabit_app}
 
 -- A command with its files' names and its numbers.
 pub data Question : Type 0 where
-  Include : (first second certificate : List ℕ) (mode : Mode) (look limit : ℕ) → Question
+  Include : (first second certificate : List ℕ) (mode : Mode) (look limit : ℕ) (letters : Option ℕ) → Question
   Check : (first second certificate : List ℕ) → Question
-  Reduce : (name : List ℕ) (mode : Mode) (look : ℕ) → Question
+  Reduce : (name : List ℕ) (mode : Mode) (look letters : ℕ) → Question
   Drill : (seed states labels : ℕ) → Question
+  Upgrade : (certificate upgraded : List ℕ) → Question
+  Equal : (first second certificate converse : List ℕ) → Question
+  Batch : (list : List ℕ) → Question
   Union : (first second : List ℕ) (mode : Mode) → Question
   Intersect : (first second : List ℕ) (mode : Mode) → Question
   Shrink : (first second certificate shorter : List ℕ) → Question
@@ -25,10 +28,13 @@ pub data Question : Type 0 where
 
 -- The question with its names as bytes.
 abbrev pub told : Held → Question
-told (held.Include a b c mode look limit) = Include (string_bytes a) (string_bytes b) (string_bytes c) mode look limit
+told (held.Include a b c mode look limit letters) = Include (string_bytes a) (string_bytes b) (string_bytes c) mode look limit letters
 told (held.Check a b c) = Check (string_bytes a) (string_bytes b) (string_bytes c)
-told (held.Reduce a mode look) = Reduce (string_bytes a) mode look
+told (held.Reduce a mode look letters) = Reduce (string_bytes a) mode look letters
 told (held.Drill seed states labels) = Drill seed states labels
+told (held.Upgrade c d) = Upgrade (string_bytes c) (string_bytes d)
+told (held.Equal a b c d) = Equal (string_bytes a) (string_bytes b) (string_bytes c) (string_bytes d)
+told (held.Batch l) = Batch (string_bytes l)
 told (held.Union a b mode) = Union (string_bytes a) (string_bytes b) mode
 told (held.Intersect a b mode) = Intersect (string_bytes a) (string_bytes b) mode
 told (held.Shrink a b c d) = Shrink (string_bytes a) (string_bytes b) (string_bytes c) (string_bytes d)
@@ -40,12 +46,15 @@ abbrev pub mode_by : Option (List ℕ) → Mode
 mode_by None = Buchi
 mode_by (Some text) = if bytes_eq text (codes "true") then Finite else Buchi
 
--- The lookahead and the limit of a decision that names none.
+-- The lookahead, the limit and the announced letters where none are named.
 abbrev pub usual_look : ℕ
 usual_look = 3
 
 abbrev pub usual_limit : ℕ
 usual_limit = 20000
+
+abbrev pub usual_letters : ℕ
+usual_letters = 1
 
 -- The lookahead, from 1 to 6, and the usual one where none is named.
 abbrev pub look_in : List Row → Option ℕ
@@ -54,6 +63,14 @@ look_in rows = number_or usual_look 1 6 (first_of (codes "look") rows)
 -- The limit of a search, from 1 to 100,000, and the usual one where none is named.
 abbrev pub limit_in : List Row → Option ℕ
 limit_in rows = number_or usual_limit 1 100000 (first_of (codes "limit") rows)
+
+-- The announced letters of a reduction, from 1 to 4, and the usual number where none is named.
+abbrev pub letters_in : List Row → Option ℕ
+letters_in rows = number_or usual_letters 1 4 (first_of (codes "letters") rows)
+
+-- The announced letters of an inclusion, from 1 to 4, if any are named.
+abbrev pub letters_named_in : List Row → Option (Option ℕ)
+letters_named_in rows = number_if_named 1 4 (first_of (codes "letters") rows)
 
 -- The number in this place, from `low` to `high`.
 abbrev pub number_at : List ℕ → ℕ → ℕ → List Row → Option ℕ
@@ -66,8 +83,9 @@ asks_include rows =
     (λ a. option_and_then
     (λ b. option_and_then
     (λ c. option_and_then
-    (λ look. option_map (λ limit. Include a b c (mode_by (first_of (codes "finite") rows)) look limit) (limit_in rows))
-    (look_in rows)) (first_of (codes "CERT") rows)) (first_of (codes "B") rows)) (first_of (codes "A") rows)
+    (λ look. option_and_then
+    (λ limit. option_map (λ letters. Include a b c (mode_by (first_of (codes "finite") rows)) look limit letters) (letters_named_in rows))
+    (limit_in rows)) (look_in rows)) (first_of (codes "CERT") rows)) (first_of (codes "B") rows)) (first_of (codes "A") rows)
 
 -- The same of `check`.
 abbrev pub asks_check : List Row → Option Question
@@ -80,7 +98,9 @@ asks_check rows =
 abbrev pub asks_reduce : List Row → Option Question
 asks_reduce rows =
     option_and_then
-    (λ a. option_map (λ look. Reduce a (mode_by (first_of (codes "finite") rows)) look) (look_in rows)) (first_of (codes "A") rows)
+    (λ a. option_and_then
+    (λ look. option_map (λ letters. Reduce a (mode_by (first_of (codes "finite") rows)) look letters) (letters_in rows))
+    (look_in rows)) (first_of (codes "A") rows)
 
 -- The same of `drill`: a seed below 2^32, 2 to 512 states, 1 to 26 labels.
 abbrev pub asks_drill : List Row → Option Question
@@ -89,6 +109,23 @@ asks_drill rows =
     (λ seed. option_and_then
     (λ states. option_map (λ labels. Drill seed states labels) (number_at (codes "LABELS") 1 26 rows))
     (number_at (codes "STATES") 2 512 rows)) (number_at (codes "SEED") 0 4294967295 rows)
+
+-- The same of `upgrade`.
+abbrev pub asks_upgrade : List Row → Option Question
+asks_upgrade rows = option_and_then (λ c. option_map (λ d. Upgrade c d) (first_of (codes "OUT") rows)) (first_of (codes "CERT") rows)
+
+-- The same of `equal`, where the names of the two certificates differ.
+abbrev pub asks_equal : List Row → Option Question
+asks_equal rows =
+    option_and_then
+    (λ a. option_and_then
+    (λ b. option_and_then
+    (λ c. option_and_then (λ d. if not (bytes_eq c d) then Some (Equal a b c d) else None) (first_of (codes "C2") rows))
+    (first_of (codes "C1") rows)) (first_of (codes "B") rows)) (first_of (codes "A") rows)
+
+-- The same of `batch`.
+abbrev pub asks_batch : List Row → Option Question
+asks_batch rows = option_map (λ l. Batch l) (first_of (codes "LIST") rows)
 
 -- The same of `union`.
 abbrev pub asks_union : List Row → Option Question
@@ -144,11 +181,14 @@ asks_by name rows =
     else (if bytes_eq name (codes "check") then asks_check rows
     else (if bytes_eq name (codes "reduce") then asks_reduce rows
     else (if bytes_eq name (codes "drill") then asks_drill rows
+    else (if bytes_eq name (codes "upgrade") then asks_upgrade rows
+    else (if bytes_eq name (codes "equal") then asks_equal rows
+    else (if bytes_eq name (codes "batch") then asks_batch rows
     else (if bytes_eq name (codes "union") then asks_union rows
     else (if bytes_eq name (codes "intersect") then asks_intersect rows
     else (if bytes_eq name (codes "shrink") then asks_shrink rows
     else (if bytes_eq name (codes "empty") then asks_empty rows
-    else (if bytes_eq name (codes "universal") then asks_universal rows else None))))))))
+    else (if bytes_eq name (codes "universal") then asks_universal rows else None)))))))))))
 
 -- The same of the subcommand that was found, if one was.
 abbrev pub asks_found : Option (List ℕ × List Row) → Option Question
@@ -188,10 +228,13 @@ NamesDiffer a b c = (a ≢ b) × (a ≢ c) × (b ≢ c)
 
 -- The numbers of the question are in their ranges, and the names of a command that writes two files differ.
 abbrev pub IsProper : Question → Type 0
-IsProper (Include a b c mode look limit) = (1 ≤ look) × (look ≤ 6) × (1 ≤ limit) × (limit ≤ 100000)
+IsProper (Include a b c mode look limit letters) = (1 ≤ look) × (look ≤ 6) × (1 ≤ limit) × (limit ≤ 100000) × IfSome letters (λ m. (1 ≤ m) × (m ≤ 4))
 IsProper (Check a b c) = Unit {0}
-IsProper (Reduce a mode look) = (1 ≤ look) × (look ≤ 6)
+IsProper (Reduce a mode look letters) = (1 ≤ look) × (look ≤ 6) × (1 ≤ letters) × (letters ≤ 4)
 IsProper (Drill seed states labels) = (seed < 2 ^ 32) × (2 ≤ states) × (states ≤ 512) × (1 ≤ labels) × (labels ≤ 26)
+IsProper (Upgrade c d) = Unit {0}
+IsProper (Equal a b c d) = c ≢ d
+IsProper (Batch l) = Unit {0}
 IsProper (Union a b mode) = Unit {0}
 IsProper (Intersect a b mode) = Unit {0}
 IsProper (Shrink a b c d) = Unit {0}

@@ -4,11 +4,11 @@ ghost use Rattle.std.specs.Prelude.{◌≡◌, ◌∷◌, IfOk, IfSome, codes, m
 ghost use Rattle.std.specs.List.{list_any};
 ghost use Rattle.std.specs.String.{string_bytes};
 ghost use Rattle.clap.specs.Words.{first_of, found_of, rows_of, subcommand_rows_of};
-ghost use Rattle.rabit_words.specs.Question.{told, mode_by, look_in, limit_in, IsProper, number_at, asks_include, asks_check, asks_reduce, asks_drill, asks_union, asks_intersect, asks_shrink, names_differ, asks_empty, asks_universal, asks_by, asks_found, asks_on_line, is_help_option, starts_with_help, has_help_word, question_of};
+ghost use Rattle.rabit_words.specs.Question.{told, mode_by, look_in, limit_in, letters_in, letters_named_in, IsProper, number_at, asks_include, asks_check, asks_reduce, asks_drill, asks_upgrade, asks_equal, asks_batch, asks_union, asks_intersect, asks_shrink, names_differ, asks_empty, asks_universal, asks_by, asks_found, asks_on_line, is_help_option, starts_with_help, has_help_word, question_of};
 
 use crate::command::rabit;
-use crate::number::{number_between, number_or};
-use crate::parts::{Question, USUAL_LIMIT, USUAL_LOOK};
+use crate::number::{number_between, number_if_named, number_or};
+use crate::parts::{Question, USUAL_LETTERS, USUAL_LIMIT, USUAL_LOOK};
 use auto_core::{Memory, Mode};
 use clap::ArgMatches;
 use clap::error::ErrorKind;
@@ -68,6 +68,20 @@ fn limit_of(found: &ArgMatches<'_>) -> Option<u32>
     number_or(word_of(found, "limit"), USUAL_LIMIT, 1, 100_000)
 }
 
+/// What stands for the announced letters of a reduction.
+fn letters_of(found: &ArgMatches<'_>) -> Option<u32>
+    ensures { result ≡ letters_in (rows_of (found_of found.now)) }
+{
+    number_or(word_of(found, "letters"), USUAL_LETTERS, 1, 4)
+}
+
+/// What stands for the announced letters of an inclusion, if anything does.
+fn letters_named_of(found: &ArgMatches<'_>) -> Option<Option<u32>>
+    ensures { result ≡ letters_named_in (rows_of (found_of found.now)) }
+{
+    number_if_named(word_of(found, "letters"), 1, 4)
+}
+
 /// What is asked where these stand in the places of `include`.
 fn include_in(alloc: Global, found: &ArgMatches<'_>) -> Result<Option<Question>, Memory>
     ensures { IfOk result (λ asked. option_map told asked ≡ asks_include (rows_of (found_of found.now))) }
@@ -87,6 +101,9 @@ fn include_in(alloc: Global, found: &ArgMatches<'_>) -> Result<Option<Question>,
     let Some(limit) = limit_of(found) else {
         return Ok(None);
     };
+    let Some(letters) = letters_named_of(found) else {
+        return Ok(None);
+    };
     let mode = mode_of(found);
     Ok(Some(Question::Include {
         first: named(alloc, first)?,
@@ -95,6 +112,7 @@ fn include_in(alloc: Global, found: &ArgMatches<'_>) -> Result<Option<Question>,
         mode,
         look,
         limit,
+        letters,
     }))
 }
 
@@ -128,11 +146,15 @@ fn reduce_in(alloc: Global, found: &ArgMatches<'_>) -> Result<Option<Question>, 
     let Some(look) = look_of(found) else {
         return Ok(None);
     };
+    let Some(letters) = letters_of(found) else {
+        return Ok(None);
+    };
     let mode = mode_of(found);
     Ok(Some(Question::Reduce {
         name: named(alloc, name)?,
         mode,
         look,
+        letters,
     }))
 }
 
@@ -154,6 +176,61 @@ fn drill_in(found: &ArgMatches<'_>) -> Option<Question>
         states,
         labels,
     })
+}
+
+/// What is asked where these stand in the places of `upgrade`.
+fn upgrade_in(alloc: Global, found: &ArgMatches<'_>) -> Result<Option<Question>, Memory>
+    ensures { IfOk result (λ asked. option_map told asked ≡ asks_upgrade (rows_of (found_of found.now))) }
+{
+    let Some(certificate) = word_of(found, "CERT") else {
+        return Ok(None);
+    };
+    let Some(upgraded) = word_of(found, "OUT") else {
+        return Ok(None);
+    };
+    Ok(Some(Question::Upgrade {
+        certificate: named(alloc, certificate)?,
+        upgraded: named(alloc, upgraded)?,
+    }))
+}
+
+/// What is asked where these stand in the places of `equal`.
+fn equal_in(alloc: Global, found: &ArgMatches<'_>) -> Result<Option<Question>, Memory>
+    ensures { IfOk result (λ asked. option_map told asked ≡ asks_equal (rows_of (found_of found.now))) }
+{
+    let Some(first) = word_of(found, "A") else {
+        return Ok(None);
+    };
+    let Some(second) = word_of(found, "B") else {
+        return Ok(None);
+    };
+    let Some(certificate) = word_of(found, "C1") else {
+        return Ok(None);
+    };
+    let Some(converse) = word_of(found, "C2") else {
+        return Ok(None);
+    };
+    if certificate == converse {
+        return Ok(None);
+    }
+    Ok(Some(Question::Equal {
+        first: named(alloc, first)?,
+        second: named(alloc, second)?,
+        certificate: named(alloc, certificate)?,
+        converse: named(alloc, converse)?,
+    }))
+}
+
+/// What is asked where this stands in the place of `batch`.
+fn batch_in(alloc: Global, found: &ArgMatches<'_>) -> Result<Option<Question>, Memory>
+    ensures { IfOk result (λ asked. option_map told asked ≡ asks_batch (rows_of (found_of found.now))) }
+{
+    let Some(list) = word_of(found, "LIST") else {
+        return Ok(None);
+    };
+    Ok(Some(Question::Batch {
+        list: named(alloc, list)?,
+    }))
 }
 
 /// What is asked where these stand in the places of `union`.
@@ -288,6 +365,15 @@ fn asked_by(alloc: Global, name: &str, found: &ArgMatches<'_>) -> Result<Option<
     }
     if name == "drill" {
         return Ok(drill_in(found));
+    }
+    if name == "upgrade" {
+        return upgrade_in(alloc, found);
+    }
+    if name == "equal" {
+        return equal_in(alloc, found);
+    }
+    if name == "batch" {
+        return batch_in(alloc, found);
     }
     if name == "union" {
         return union_in(alloc, found);

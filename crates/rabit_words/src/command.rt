@@ -3,7 +3,7 @@
 ghost use Rattle.std.specs.Prelude.{◌≡◌, false, codes, IfOk};
 ghost use Rattle.clap.specs.Words.{rule_of, app_of};
 ghost use Rattle.clap.specs.declared.builder.command.Command.TheViews.{out-Command};
-ghost use Rattle.rabit_words.specs.Command.{place, option_with_word, option_alone, two_files_app, three_files_app, include_app, check_app, reduce_app, drill_app, union_app, intersect_app, shrink_app, deciding_app, empty_app, universal_app, rabit_app};
+ghost use Rattle.rabit_words.specs.Command.{place, option_with_word, option_alone, two_files_app, three_files_app, include_app, check_app, reduce_app, drill_app, upgrade_app, equal_app, batch_app, union_app, intersect_app, shrink_app, deciding_app, empty_app, universal_app, rabit_app};
 
 use clap::{Arg, ArgAction, Command};
 use std::alloc::{AllocError, Global};
@@ -50,7 +50,7 @@ fn with_three_files<'a>(alloc: Global, name: &'a str) -> Result<Command<'a>, All
     with_two_files(alloc, name)?.arg(place(alloc, "CERT"))
 }
 
-/// `include A B CERT [--finite] [--look K] [--limit N]`
+/// `include A B CERT [--finite] [--look K] [--limit N] [--letters M]`
 fn include<'a>(alloc: Global) -> Result<Command<'a>, AllocError>
     ensures app { IfOk result (λ c. app_of c ≡ include_app) }
     ensures local { IfOk result (λ c. (out-Command c).has_globals ≡ false) }
@@ -58,7 +58,8 @@ fn include<'a>(alloc: Global) -> Result<Command<'a>, AllocError>
     with_three_files(alloc, "include")?
         .arg(option_alone(alloc, "finite"))?
         .arg(option_with_word(alloc, "look"))?
-        .arg(option_with_word(alloc, "limit"))
+        .arg(option_with_word(alloc, "limit"))?
+        .arg(option_with_word(alloc, "letters"))
 }
 
 /// `check A B CERT`
@@ -69,7 +70,7 @@ fn check<'a>(alloc: Global) -> Result<Command<'a>, AllocError>
     with_three_files(alloc, "check")
 }
 
-/// `reduce A [--finite] [--look K]`
+/// `reduce A [--finite] [--look K] [--letters M]`
 fn reduce<'a>(alloc: Global) -> Result<Command<'a>, AllocError>
     ensures app { IfOk result (λ c. app_of c ≡ reduce_app) }
     ensures local { IfOk result (λ c. (out-Command c).has_globals ≡ false) }
@@ -77,7 +78,8 @@ fn reduce<'a>(alloc: Global) -> Result<Command<'a>, AllocError>
     Command::new(alloc, "reduce")
         .arg(place(alloc, "A"))?
         .arg(option_alone(alloc, "finite"))?
-        .arg(option_with_word(alloc, "look"))
+        .arg(option_with_word(alloc, "look"))?
+        .arg(option_with_word(alloc, "letters"))
 }
 
 /// `drill SEED STATES LABELS`
@@ -89,6 +91,34 @@ fn drill<'a>(alloc: Global) -> Result<Command<'a>, AllocError>
         .arg(place(alloc, "SEED"))?
         .arg(place(alloc, "STATES"))?
         .arg(place(alloc, "LABELS"))
+}
+
+/// `upgrade CERT OUT`
+fn upgrade<'a>(alloc: Global) -> Result<Command<'a>, AllocError>
+    ensures app { IfOk result (λ c. app_of c ≡ upgrade_app) }
+    ensures local { IfOk result (λ c. (out-Command c).has_globals ≡ false) }
+{
+    Command::new(alloc, "upgrade")
+        .arg(place(alloc, "CERT"))?
+        .arg(place(alloc, "OUT"))
+}
+
+/// `equal A B C1 C2`
+fn equal<'a>(alloc: Global) -> Result<Command<'a>, AllocError>
+    ensures app { IfOk result (λ c. app_of c ≡ equal_app) }
+    ensures local { IfOk result (λ c. (out-Command c).has_globals ≡ false) }
+{
+    with_two_files(alloc, "equal")?
+        .arg(place(alloc, "C1"))?
+        .arg(place(alloc, "C2"))
+}
+
+/// `batch LIST`
+fn batch<'a>(alloc: Global) -> Result<Command<'a>, AllocError>
+    ensures app { IfOk result (λ c. app_of c ≡ batch_app) }
+    ensures local { IfOk result (λ c. (out-Command c).has_globals ≡ false) }
+{
+    Command::new(alloc, "batch").arg(place(alloc, "LIST"))
 }
 
 /// `union A B [--finite]`
@@ -153,6 +183,9 @@ pub fn rabit<'a>(alloc: Global) -> Result<Command<'a>, AllocError>
         .subcommand(check(alloc)?)?
         .subcommand(reduce(alloc)?)?
         .subcommand(drill(alloc)?)?
+        .subcommand(upgrade(alloc)?)?
+        .subcommand(equal(alloc)?)?
+        .subcommand(batch(alloc)?)?
         .subcommand(union(alloc)?)?
         .subcommand(intersect(alloc)?)?
         .subcommand(shrink(alloc)?)?

@@ -7,4 +7,4 @@ mod number;
 mod parts;
 
 pub use asking::question;
-pub use parts::{Question, USUAL_LIMIT, USUAL_LOOK};
+pub use parts::{Question, USUAL_LETTERS, USUAL_LIMIT, USUAL_LOOK};

@@ -3,7 +3,7 @@
 ghost use Rattle.std.specs.Prelude.{◌≡◌, option_map};
 ghost use Rattle.std.specs.List.{list_all};
 ghost use Rattle.auto_core.specs.Digits.{is_digit};
-ghost use Rattle.rabit_words.specs.Number.{starts_well, is_spelled, number_between, number_or};
+ghost use Rattle.rabit_words.specs.Number.{starts_well, is_spelled, number_between, number_or, number_if_named};
 
 /// Whether the byte is a decimal digit.
 fn is_digit(byte: u8) -> bool
@@ -63,5 +63,15 @@ pub fn number_or(text: Option<&str>, usual: u32, low: u32, high: u32) -> Option<
     match text {
         None => Some(usual),
         Some(text) => number_between(text, low, high),
+    }
+}
+
+/// The number of an option's word, and that there is none where the option does not stand.
+pub fn number_if_named(text: Option<&str>, low: u32, high: u32) -> Option<Option<u32>>
+    ensures { result ≡ number_if_named low high (option_map (λ t. t.now) text.entry) }
+{
+    match text {
+        None => Some(None),
+        Some(text) => number_between(text, low, high).map(Some),
     }
 }

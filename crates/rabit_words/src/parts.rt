@@ -6,6 +6,8 @@ use auto_core::Mode;
 pub const USUAL_LOOK: u32 = 3;
 /// The most elements of a search that names no limit.
 pub const USUAL_LIMIT: u32 = 20_000;
+/// The announced letters of a reduction that names none.
+pub const USUAL_LETTERS: u32 = 1;
 
 /// A question: a command with its files' names and its numbers.
 #[derive(Debug, Drop)]
@@ -24,6 +26,8 @@ pub enum Question {
         look: u32,
         /// The most elements of the search, from 1 to 100,000.
         limit: u32,
+        /// The announced letters, from 1 to 4, of a certificate of version 2; None asks for one of version 1.
+        letters: Option<u32>,
     },
     /// Checks a certificate.
     Check {
@@ -42,6 +46,8 @@ pub enum Question {
         mode: Mode,
         /// The lookahead, from 1 to 6.
         look: u32,
+        /// The announced letters, from 1 to 4.
+        letters: u32,
     },
     /// Makes two automata, decides both inclusions and checks both certificates.
     Drill {
@@ -51,6 +57,29 @@ pub enum Question {
         states: u32,
         /// The labels, from 1 to 26.
         labels: u32,
+    },
+    /// Writes a certificate in version 2.
+    Upgrade {
+        /// The certificate's file.
+        certificate: String,
+        /// The file that the certificate of version 2 is written to.
+        upgraded: String,
+    },
+    /// Decides whether two automata accept the same, and writes the certificates of both inclusions.
+    Equal {
+        /// The first automaton's file.
+        first: String,
+        /// The second automaton's file.
+        second: String,
+        /// The file that the certificate of whether the first is included in the second is written to.
+        certificate: String,
+        /// The file that the certificate of whether the second is included in the first is written to.
+        converse: String,
+    },
+    /// Decides inclusions one after the other.
+    Batch {
+        /// The file with the list of questions.
+        list: String,
     },
     /// Makes the union of two automata.
     Union {

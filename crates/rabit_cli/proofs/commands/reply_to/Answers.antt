@@ -1,5 +1,6 @@
 use Rattle.std.proofs.Common.{Some, IfOk, List, sym, subst}
 use Rattle.std.proofs.lemmas.Result.{IfOk-weaker}
+use Rattle.std.specs.String.{string_bytes}
 use Rattle.drawing.specs.declared.parts.Drill.{Drill}
 use Rattle.rabit_frame.specs.declared.parts.Value.{Value}
 use Rattle.rabit_frame.specs.declared.parts.Reply.{Reply}
@@ -9,6 +10,8 @@ use Rattle.rabit_cli.specs.Drill.{MeansDrill}
 use Rattle.rabit_cli.specs.Union.{MeansUnion}
 use Rattle.rabit_cli.specs.Intersect.{MeansIntersect}
 use Rattle.rabit_cli.specs.Shrink.{MeansShrink}
+use Rattle.rabit_cli.specs.Equal.{MeansEqual}
+use Rattle.rabit_cli.specs.Upgrade.{MeansUpgrade}
 use Rattle.rabit_cli.proofs.commands.reply_to.Goals as goal
 
 pub returns-in-Drill : goal.returns-in-Drill
@@ -37,3 +40,17 @@ returns-in-Shrink c =
     let values = c.args.values.now in
     subst (λ q. IfOk c.reply-in-Shrink.result (Means (Some (told q)) values)) (sym c.in-Shrink.is)
     (subst (λ name. IfOk c.reply-in-Shrink.result (λ (r : Reply). MeansShrink name values r)) c.as_str-in-Shrink.ensures.value c.reply-in-Shrink.ensures)
+
+pub returns-in-Equal : goal.returns-in-Equal
+returns-in-Equal c =
+    let values = c.args.values.now in
+    let first : IfOk c.reply-in-Equal.result (λ (r : Reply). MeansEqual (string_bytes c.in-Equal.certificate) c.as_str-in-Equal-2.result.now values r) =
+    subst (λ name. IfOk c.reply-in-Equal.result (λ (r : Reply). MeansEqual name c.as_str-in-Equal-2.result.now values r)) c.as_str-in-Equal.ensures.value c.reply-in-Equal.ensures in
+    subst (λ q. IfOk c.reply-in-Equal.result (Means (Some (told q)) values)) (sym c.in-Equal.is)
+    (subst (λ name. IfOk c.reply-in-Equal.result (λ (r : Reply). MeansEqual (string_bytes c.in-Equal.certificate) name values r)) c.as_str-in-Equal-2.ensures.value first)
+
+pub returns-in-Upgrade : goal.returns-in-Upgrade
+returns-in-Upgrade c =
+    let values = c.args.values.now in
+    subst (λ q. IfOk c.reply-in-Upgrade.result (Means (Some (told q)) values)) (sym c.in-Upgrade.is)
+    (subst (λ name. IfOk c.reply-in-Upgrade.result (λ (r : Reply). MeansUpgrade name values r)) c.as_str-in-Upgrade.ensures.value c.reply-in-Upgrade.ensures)

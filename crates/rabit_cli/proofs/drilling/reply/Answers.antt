@@ -14,7 +14,7 @@ add_finding-requires c = can_draw c.args.drill c.in_ok-pair.pair c.requires c.in
 pub add_finding-requires-2 : goal.add_finding-requires-2
 add_finding-requires-2 c =
     let pair = c.in_ok-pair.pair in
-    subst (λ (p : Joined). CanDecide p) (sym c.exchanged-pair.ensures) (can_exchange pair (can_draw c.args.drill pair c.requires c.in_ok-pair.ensures))
+    subst (λ (p : Joined). CanDecide p) (sym c.exchanged-pair.ensures) (can_exchange c.args.drill pair c.requires c.in_ok-pair.ensures)
 
 pub returns : goal.returns
 returns c =

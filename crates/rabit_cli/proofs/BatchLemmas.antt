@@ -1,0 +1,425 @@
+-- Questions carried out one after the other.
+use Rattle.std.proofs.Common.{◌≡◌, ◌⊎◌, ℕ, suc, ◌+◌, ◌-◌, ◌^◌, ◌≤◌, ◌<◌, ◌==◌, min, List, [], ◌∷◌, ◌++◌, length, take, All, Option, Some, None, IfSome, Bool, true, false, if◌then◌else◌, cond, inl, inr, refl, sym, ◌∙◌, ap, subst, arith, append_assoc, append-nil as append_nil}
+use Rattle.std.proofs.Math.Nat.{min-le_left, min-le_right, min-eq_left, min-eq_right}
+use Rattle.std.proofs.lemmas.Bool.{cases_lt, eqb-true, eq-eqb, ltb-true, and_parts, false≢true}
+use Rattle.std.proofs.lemmas.List.Elements.{All-nil, All-cons, All-head, All-tail}
+use Rattle.std.proofs.lemmas.Str.{IsUtf8-from_ascii}
+use Rattle.std.proofs.lemmas.Str.Ascii.{IsAscii-from_all}
+use Rattle.std.proofs.lemmas.Cmp.{nat_list_cmp_total}
+use Rattle.std.specs.FinMap as map
+use Rattle.std.specs.FinMap.{get-insert}
+use Rattle.std.specs.Prelude.{is_some, nat_lt, IsUtf8, map as map_list}
+use Rattle.std.specs.List.{list_all}
+use Rattle.std.specs.Io.KnownBytes.{append_known}
+use Rattle.shelf_io.specs.Counts.{Rose, counted}
+use Rattle.shelf_io.specs.Shelf.{FileMap, CountsMissing}
+use Rattle.auto_core.specs.declared.parts.Mode.TheVariants.{Buchi}
+use Rattle.ba_format.specs.declared.parts.Limits.{Limits}
+use Rattle.cert_value.specs.WellFormed.{has_some}
+use Rattle.equal_batch.specs.declared.questions.Question.{Question}
+use Rattle.equal_batch.specs.Questions.{is_character, is_word, is_question, line_of}
+use Rattle.rabit_frame.specs.declared.parts.FileKind.TheVariants as kind
+use Rattle.rabit_frame.specs.declared.parts.Value.{Value}
+use Rattle.rabit_frame.specs.declared.parts.Value.TheVariants as value
+use Rattle.rabit_frame.specs.declared.parts.Reply.{Reply}
+use Rattle.rabit_frame.specs.declared.parts.Ending.{Ending}
+use Rattle.rabit_frame.specs.declared.parts.Ending.TheVariants as ending
+use Rattle.rabit_frame.specs.Files.{Input, Output}
+use Rattle.rabit_frame.specs.Lines.{read_line, memory_line}
+use Rattle.rabit_frame.specs.Statuses.{status_number}
+use Rattle.rabit_frame.specs.Reading.{FileReads, IsOfKind, MayStopAt, CountsInTurn}
+use Rattle.rabit_frame.specs.Ending.{OfBoth, IsCutShort, Leaves, MayEnd, filed, status_of, status_unsent, WasSaid, SaysOnly}
+use Rattle.rabit_frame.specs.Carrying.{EndsSo, NoReply, IsCarriedOut, SaysEach}
+use Rattle.rabit_frame.proofs.EndLemmas.{own_number, may_plain, says_each, read_fault_of, read_line_of, memory_of}
+use Rattle.rabit_frame.proofs.TurnLemmas.{counts_here}
+use Rattle.rabit_cli.specs.Include.{usual_terms, LeavesDecided}
+use Rattle.rabit_cli.specs.Batch.{AreQuestions, AnswersQuestion, question_inputs, MeansQuestion, IsQuestionStatus, AreThere, LeaveInTurn, question_line, question_lines, times, RoseBy, IsCarriedEach, list_file, batch_inputs, IsUnreadStatus, IsUnread, IsBatch}
+use Rattle.rabit_cli.proofs.IncludeLemmas.{usual_bounded, one_include, include_low, leaves_include}
+
+min_cases : (a b c : ℕ) → min a b ≤ c → (a ≤ c) ⊎ (b ≤ c)
+min_cases a b c low = elim (cases_lt b a) [
+  | inl less ↦ inr (subst (λ m. m ≤ c) (min-eq_right (omega (arith, less))) low)
+  | inr upto ↦ inl (subst (λ m. m ≤ c) (min-eq_left upto) low)
+]
+
+-- ---- the end of one question
+
+-- a file that is not read has status 4
+stops_four : (n : ℕ) (limits : Limits) (r : Reply) → MayStopAt (kind.Automaton n limits) r → status_number r.status ≡ 4
+stops_four n limits r p = elim p [ inl long ↦ ap (λ z. status_number z.status) long | inr (bytes, (fault, is, e)) ↦ ap (λ z. status_number z.status) e ]
+
+pub question_status : (q : Question) (e : Ending) → MayEnd (MeansQuestion q) (question_inputs q) e → IsQuestionStatus (status_of e)
+question_status q (ending.Reached r) may = elim may [
+  | inl stop ↦ elim stop [
+    | inl first ↦ inr (inl (stops_four _ _ r first))
+    | inr later ↦ elim later [ inl second ↦ inr (inl (stops_four _ _ r second)) | inr none ↦ absurd none ]
+  ]
+  | inr (values, kinds, means) ↦ inl (include_low q.cert (usual_terms Buchi) values r means)
+]
+question_status q (ending.ReadFault) may = inr (inr (inl refl))
+question_status q (ending.WriteFault) may = inr (inr (inr (inl refl)))
+question_status q (ending.OutOfMemory) may = inr (inr (inr (inr refl)))
+
+pub ends_unread : (e : Ending) → status_of e ≡ 6 → e ≡ ending.ReadFault
+ends_unread (ending.Reached r) is = absurd ((own_number r.status).0 is)
+ends_unread (ending.ReadFault) is = refl
+ends_unread (ending.WriteFault) is = absurd (omega arith)
+ends_unread (ending.OutOfMemory) is = absurd (omega arith)
+
+pub ends_unwritten : (e : Ending) → status_of e ≡ 7 → e ≡ ending.WriteFault
+ends_unwritten (ending.Reached r) is = absurd ((own_number r.status).1 is)
+ends_unwritten (ending.ReadFault) is = absurd (omega arith)
+ends_unwritten (ending.WriteFault) is = refl
+ends_unwritten (ending.OutOfMemory) is = absurd (omega arith)
+
+pub ends_refused : (e : Ending) → status_of e ≡ 8 → e ≡ ending.OutOfMemory
+ends_refused (ending.Reached r) is = absurd ((own_number r.status).2 is)
+ends_refused (ending.ReadFault) is = absurd (omega arith)
+ends_refused (ending.WriteFault) is = absurd (omega arith)
+ends_refused (ending.OutOfMemory) is = refl
+
+-- the end as if it had been said
+pub as_said : (e : Ending) (sent : Option (List ℕ)) (faults : ℕ) → (sent' : Option (List ℕ)) × WasSaid e (status_of e) sent sent' faults faults
+as_said e sent faults = (append_known sent _, inl (refl, refl, refl))
+
+module _ (q : Question) (held held' : Option FileMap) (read read' put put' : ℕ) (e : Ending) (ends : EndsSo (MeansQuestion q) (question_inputs q) e held held' read read' put put') where
+  pub answers_question : IfSome held (λ files. AnswersQuestion q files held' (status_of e) read read' put put')
+  answers_question = go held (says_each (MeansQuestion q) (question_inputs q) held held' (status_of e) None (as_said e None 0).0 0 0 read read' put put' e ends (as_said e None 0).1
+      (λ vs r s kinds p p'. one_include q.cert (usual_terms Buchi) (usual_bounded Buchi).look_from vs r s p p'))
+    where
+      go : (h : Option FileMap) → IfSome h (λ files. SaysEach (MeansQuestion q) (question_inputs q) files held' (status_of e) None (as_said e None 0).0 0 0 read read' put put') → IfSome h (λ files. AnswersQuestion q files held' (status_of e) read read' put put')
+      go None says = tt
+      go (Some files) says = λ r right. elim (says r right) [
+        | inl (given, left) ↦ elim given [
+          | inl whole ↦ inl (whole.0, left)
+          | inr front ↦ absurd (elim (min_cases (0 + 1) (2 ^ 64 - 1) 0 front.1) [ inl one ↦ omega arith | inr most ↦ omega arith ])
+        ]
+        | inr fault ↦ inr fault
+      ]
+
+  pub leaves_question : OfBoth held held' (λ files files'. LeavesDecided files q.first q.second q.cert (usual_terms Buchi) (status_of e) put put' files')
+  leaves_question =
+      leaves_include held held' (status_of e) None (as_said e None 0).0 0 0 read read' put put' q.first q.second q.cert (usual_terms Buchi) (usual_bounded Buchi) e ends (as_said e None 0).1
+
+-- ---- what is there stays there
+
+insert_keeps : (files : FileMap) (k v n : List ℕ) → map.contains_key files n ≡ true → map.contains_key (map.insert files k v) n ≡ true
+insert_keeps files k v n there = ap is_some (get-insert nat_list_cmp_total files k v n) ∙ go _
+  where
+    go : (b : Bool) → is_some (cond b (Some v) (map.get files n)) ≡ true
+    go true = refl
+    go false = there
+
+filed_keeps : (puts : List Output) (files : FileMap) (n : List ℕ) → map.contains_key files n ≡ true → map.contains_key (filed files puts) n ≡ true
+filed_keeps [] files n there = there
+filed_keeps (p ∷ ps) files n there = filed_keeps ps (map.insert files p.name p.bytes) n (insert_keeps files p.name p.bytes n there)
+
+cut_keeps : (puts : List Output) (files files' : FileMap) (n : List ℕ) → IsCutShort files puts files' → map.contains_key files n ≡ true → map.contains_key files' n ≡ true
+cut_keeps [] files files' n cut there = absurd cut
+cut_keeps (p ∷ ps) files files' n cut there = elim cut [
+  | inl same ↦ ap (λ (m : FileMap). map.contains_key m n) same ∙ there
+  | inr rest ↦ elim rest [
+    | inl (k, front) ↦ ap (λ (m : FileMap). map.contains_key m n) front ∙ insert_keeps files p.name (take k p.bytes) n there
+    | inr later ↦ cut_keeps ps (map.insert files p.name p.bytes) files' n later (insert_keeps files p.name p.bytes n there)
+  ]
+]
+
+module _ (means : List Value → Reply → Type 0) (inputs : List Input) (files files' : FileMap) where
+  leaves_keep : (e : Ending) (n : List ℕ) → Leaves means inputs e files files' → map.contains_key files n ≡ true → map.contains_key files' n ≡ true
+  leaves_keep (ending.Reached r) n left there = ap (λ (m : FileMap). map.contains_key m n) left.1 ∙ filed_keeps r.puts files n there
+  leaves_keep (ending.WriteFault) n (r, right, cut) there = cut_keeps r.puts files files' n cut there
+  leaves_keep (ending.ReadFault) n left there = ap (λ (m : FileMap). map.contains_key m n) left ∙ there
+  leaves_keep (ending.OutOfMemory) n left there = ap (λ (m : FileMap). map.contains_key m n) left ∙ there
+
+  all_keep : (e : Ending) (questions : List Question) → Leaves means inputs e files files' → All (AreThere files) questions → All (AreThere files') questions
+  all_keep e [] left there = All-nil (AreThere files')
+  all_keep e (q ∷ qs) left there =
+      let here = All-head (AreThere files) q qs there in
+      All-cons (AreThere files') q qs (leaves_keep e q.first left here.0, leaves_keep e q.second left here.1) (all_keep e qs left (All-tail (AreThere files) q qs there))
+
+-- no name that is there is missed
+counts_none : (q : Question) (files : FileMap) (before now : ℕ) → CountsInTurn files (question_inputs q) before now → AreThere files q → now ≡ before
+counts_none q files before now counts there = elim counts [
+  | inl same ↦ same
+  | inr missing ↦ elim missing [
+    | inl first ↦ absurd (false≢true (sym first ∙ there.0))
+    | inr (v, reads, later) ↦ elim later [ inl second ↦ absurd (false≢true (sym second ∙ there.1)) | inr (w, reads', none) ↦ absurd none ]
+  ]
+]
+
+-- ---- counts
+
+rose_more : (most n a b c : ℕ) → min (a + 1) most ≤ b → min (b + n) most ≤ c → min (a + (1 + n)) most ≤ c
+rose_more most n a b c one more = elim (min_cases (b + n) most c more) [
+  | inr high ↦ (let upto = min-le_right (a + (1 + n)) most in omega arith)
+  | inl low ↦ elim (min_cases (a + 1) most b one) [
+    | inr high ↦ (let upto = min-le_right (a + (1 + n)) most in omega arith)
+    | inl rose ↦ (let upto = min-le_left (a + (1 + n)) most in omega arith)
+  ]
+]
+
+pub rose_none : (n : ℕ) → RoseBy 0 n n
+rose_none n = (let upto = min-le_left (n + 0) (2 ^ 64 - 1) in omega arith)
+
+rose_by : (status one : ℕ) (more : List ℕ) (a b c : ℕ) → (one ≡ status → Rose a b) → ((one ≡ status → ⊥) → b ≡ a) → RoseBy (times status more) b c → RoseBy (times status (one ∷ more)) a c
+rose_by status one more a b c rises stays rest = go (one == status) refl
+  where
+    go : (t : Bool) → (one == status) ≡ t → RoseBy (if t then 1 + times status more else times status more) a c
+    go true e = rose_more (2 ^ 64 - 1) (times status more) a b c (rises (eqb-true one status e)) rest
+    go false e = subst (λ z. RoseBy (times status more) z c) (stays (λ is. false≢true (sym e ∙ eq-eqb one status is))) rest
+
+-- ---- texts
+
+known_append : (sent : Option (List ℕ)) (a b : List ℕ) → append_known (append_known sent a) b ≡ append_known sent (a ++ b)
+known_append None a b = refl
+known_append (Some x) a b = ap Some (append_assoc x a b)
+
+-- ---- one question more
+
+pub each_none : (number : ℕ) (held held' : Option FileMap) (sent : Option (List ℕ)) (give read put missed : ℕ) → held' ≡ held → IsCarriedEach number [] held held' 0 sent sent give give read read put put missed missed
+each_none number held held' sent give read put missed stays = record {
+  statuses = [];
+  known = All-nil IsQuestionStatus;
+  said = inl (refl, refl, known_nil sent, refl);
+  in_turn = same held stays;
+  read_faults_rose = rose_none read;
+  put_faults_rose = rose_none put;
+  missed_stays = none held;
+}
+  where
+    known_nil : (s : Option (List ℕ)) → s ≡ append_known s []
+    known_nil None = refl
+    known_nil (Some x) = ap Some (sym (append_nil x))
+
+    same : (h : Option FileMap) → held' ≡ h → OfBoth h held' (λ files files'. LeaveInTurn [] [] files files')
+    same None e = e
+    same (Some files) e = (files, e, refl)
+
+    none : (h : Option FileMap) → IfSome h (λ files. All (AreThere files) [] → missed ≡ missed)
+    none None = tt
+    none (Some files) = λ there. refl
+
+module _ (q : Question) (number : ℕ) (held between : Option FileMap) (read read1 put put1 missed missed1 : ℕ) (e : Ending) (ends : EndsSo (MeansQuestion q) (question_inputs q) e held between read read1 put put1)
+    (counts : IfSome held (λ files. CountsInTurn files (question_inputs q) missed missed1)) where
+  read_more : (statuses : List ℕ) (read' : ℕ) → RoseBy (times 6 statuses) read1 read' → RoseBy (times 6 (status_of e ∷ statuses)) read read'
+  read_more statuses read' rest = rose_by 6 (status_of e) statuses read read1 read' (λ is. ends.read_fault (ends_unread e is)) (λ other. ends.no_read_fault (λ is. other (ap status_of is))) rest
+
+  put_more : (statuses : List ℕ) (put' : ℕ) → RoseBy (times 7 statuses) put1 put' → RoseBy (times 7 (status_of e ∷ statuses)) put put'
+  put_more statuses put' rest = rose_by 7 (status_of e) statuses put put1 put' (λ is. ends.write_fault (ends_unwritten e is)) (λ other. ends.no_write_fault (λ is. other (ap status_of is))) rest
+
+  turn_more : (questions : List Question) (statuses : List ℕ) (held' : Option FileMap) → OfBoth between held' (λ files files'. LeaveInTurn questions statuses files files') → OfBoth held held' (λ files files'. LeaveInTurn (q ∷ questions) (status_of e ∷ statuses) files files')
+  turn_more questions statuses held' rest = go held ends.leaves
+    where
+      go : (h : Option FileMap) → OfBoth h between (λ files files'. Leaves (MeansQuestion q) (question_inputs q) e files files') → OfBoth h held' (λ files files'. LeaveInTurn (q ∷ questions) (status_of e ∷ statuses) files files')
+      go None none = subst (λ (m : Option FileMap). OfBoth m held' (λ files files'. LeaveInTurn questions statuses files files')) none rest
+      go (Some files) (mid, is, left) =
+          let (files', is', later) = subst (λ (m : Option FileMap). OfBoth m held' (λ files files'. LeaveInTurn questions statuses files files')) is rest in
+          (files', is', (mid, (e, left, refl), later))
+
+  missed_more : (questions : List Question) (missed' : ℕ) → IfSome between (λ files. All (AreThere files) questions → missed' ≡ missed1) → IfSome held (λ files. All (AreThere files) (q ∷ questions) → missed' ≡ missed)
+  missed_more questions missed' rest = go held ends.leaves counts
+    where
+      go : (h : Option FileMap) → OfBoth h between (λ files files'. Leaves (MeansQuestion q) (question_inputs q) e files files') → IfSome h (λ files. CountsInTurn files (question_inputs q) missed missed1) → IfSome h (λ files. All (AreThere files) (q ∷ questions) → missed' ≡ missed)
+      go None none c = tt
+      go (Some files) (mid, is, left) c = λ there.
+          let later = subst (λ (m : Option FileMap). IfSome m (λ files. All (AreThere files) questions → missed' ≡ missed1)) is rest in
+          later (all_keep (MeansQuestion q) (question_inputs q) files mid e questions left (All-tail (AreThere files) q questions there))
+          ∙ counts_none q files missed missed1 c (All-head (AreThere files) q questions there)
+
+  pub each_more : (questions : List Question) (held' : Option FileMap) (status : ℕ) (sent sent1 sent' : Option (List ℕ)) (give give1 give' read' put' missed' : ℕ)
+      → sent1 ≡ append_known sent (question_line number (status_of e)) → give1 ≡ give
+      → IsCarriedEach (number + 1) questions between held' status sent1 sent' give1 give' read1 read' put1 put' missed1 missed'
+      → IsCarriedEach number (q ∷ questions) held held' status sent sent' give give' read read' put put' missed missed'
+  each_more questions held' status sent sent1 sent' give give1 give' read' put' missed' sends stays rest = record {
+    statuses = status_of e ∷ rest.statuses;
+    known = All-cons IsQuestionStatus (status_of e) rest.statuses (question_status q e ends.may) rest.known;
+    said = elim rest.said [
+      | inl (zero, all, sends', stays') ↦ inl (zero, ap suc all, sends' ∙ ap (λ s. append_known s (question_lines (number + 1) rest.statuses)) sends ∙ known_append sent _ _, stays' ∙ stays)
+      | inr (seven, rose, (before, last, is, (n, sends'))) ↦
+          inr (seven, subst (λ g. Rose g give') stays rose, (status_of e ∷ before, last, ap (λ ss. status_of e ∷ ss) is, (n, front before last n sends')))
+    ];
+    in_turn = turn_more questions rest.statuses held' rest.in_turn;
+    read_faults_rose = read_more rest.statuses read' rest.read_faults_rose;
+    put_faults_rose = put_more rest.statuses put' rest.put_faults_rose;
+    missed_stays = missed_more questions missed' rest.missed_stays;
+  }
+    where
+      front : (before : List ℕ) (last n : ℕ) → sent' ≡ append_known sent1 (question_lines (number + 1) before ++ take n (question_line (number + 1 + length before) last))
+          → sent' ≡ append_known sent (question_lines number (status_of e ∷ before) ++ take n (question_line (number + length (status_of e ∷ before)) last))
+      front before last n sends' =
+          let place : number + 1 + length before ≡ number + length (status_of e ∷ before) = omega arith in
+          sends' ∙ ap (λ s. append_known s (question_lines (number + 1) before ++ take n (question_line (number + 1 + length before) last))) sends
+          ∙ known_append sent (question_line number (status_of e)) (question_lines (number + 1) before ++ take n (question_line (number + 1 + length before) last))
+          ∙ ap (append_known sent) (sym (append_assoc (question_line number (status_of e)) (question_lines (number + 1) before) (take n (question_line (number + 1 + length before) last))))
+          ∙ ap (λ m. append_known sent (question_lines number (status_of e ∷ before) ++ take n (question_line m last))) place
+
+  pub each_refused : (questions : List Question) (sent sent' : Option (List ℕ)) (give give' n : ℕ) → sent' ≡ append_known sent (take n (question_line number (status_of e))) → Rose give give'
+      → IsCarriedEach number (q ∷ questions) held between 7 sent sent' give give' read read1 put put1 missed missed1
+  each_refused questions sent sent' give give' n sends rose = record {
+    statuses = status_of e ∷ [];
+    known = All-cons IsQuestionStatus (status_of e) [] (question_status q e ends.may) (All-nil IsQuestionStatus);
+    said = inr (refl, rose, ([], status_of e, refl, (n, sends ∙ ap (λ m. append_known sent (take n (question_line m (status_of e)))) place)));
+    in_turn = turn_more questions [] between (stay between);
+    read_faults_rose = read_more [] read1 (rose_none read1);
+    put_faults_rose = put_more [] put1 (rose_none put1);
+    missed_stays = missed_more questions missed1 (none between);
+  }
+    where
+      none_more : List ℕ
+      none_more = []
+
+      place : number ≡ number + length none_more
+      place = omega arith
+
+      stay : (h : Option FileMap) → OfBoth h h (λ files files'. LeaveInTurn questions [] files files')
+      stay None = refl
+      stay (Some files) = (files, refl, refl)
+
+      none : (h : Option FileMap) → IfSome h (λ files. All (AreThere files) questions → missed1 ≡ missed1)
+      none None = tt
+      none (Some files) = λ there. refl
+
+-- ---- the list
+
+pub unread_status : (list : List ℕ) (held held' : Option FileMap) (status : ℕ) (sent sent' : Option (List ℕ)) (give give' read read' put put' : ℕ)
+    → IsCarriedOut NoReply (batch_inputs list) held held' status sent sent' give give' read read' put put' → IsUnreadStatus status
+unread_status list held held' status sent sent' give give' read read' put put' c = go c.end c.ends.may c.said
+  where
+    stops : (r : Reply) → MayStopAt (kind.Questions) r → (status_number r.status ≡ 11) × (status_unsent (ending.Reached r) ≡ 11)
+    stops r p = elim p [
+      | inl long ↦ (ap (λ z. status_number z.status) long, ap (λ z. status_unsent (ending.Reached z)) long)
+      | inr (bytes, (line, is, e)) ↦ (ap (λ z. status_number z.status) e, ap (λ z. status_unsent (ending.Reached z)) e)
+    ]
+
+    reached : (r : Reply) → MayStopAt (kind.Questions) r → WasSaid (ending.Reached r) status sent sent' give give' → IsUnreadStatus status
+    reached r may said = elim said [ inl whole ↦ inr (inr (whole.0 ∙ (stops r may).0)) | inr front ↦ inr (inr (front.0 ∙ (stops r may).1)) ]
+
+    go : (e : Ending) → MayEnd NoReply (batch_inputs list) e → WasSaid e status sent sent' give give' → IsUnreadStatus status
+    go (ending.Reached r) may said = elim may [
+      | inl stop ↦ elim stop [ inl here ↦ reached r here said | inr none ↦ absurd none ]
+      | inr (values, kinds, none) ↦ absurd none
+    ]
+    go (ending.ReadFault) may said = inl (elim said [ inl whole ↦ whole.0 | inr front ↦ front.0 ])
+    go (ending.OutOfMemory) may said = inr (inl (elim said [ inl whole ↦ whole.0 | inr front ↦ front.0 ]))
+    go (ending.WriteFault) (r, may, some) said = elim may [
+      | inl stop ↦ (let none = ap length (may_plain (batch_inputs list) r stop).1 in absurd (omega arith))
+      | inr (values, kinds, none) ↦ absurd none
+    ]
+
+-- a list that was read was there
+pub read_is_there : (files : FileMap) (list : List ℕ) (v : Value) (before now : ℕ) → FileReads files (list_file list) v → CountsMissing (Some files) list before now → now ≡ before
+read_is_there files list v before now (bytes, has, few, reads) counts = counts ∙ ap (λ t. if t then before else counted before) (ap is_some has)
+
+-- ---- what the status of a batch says
+
+module _ (list : List ℕ) (held held' : Option FileMap) (status : ℕ) (sent sent' : Option (List ℕ)) (give give' read read' put put' missed missed' : ℕ)
+    (is : IsBatch list held held' status sent sent' give give' read read' put put' missed missed') where
+  -- unless no question was asked it is 0 or 7
+  others : (P : Type 0) → (IsUnread list held held' status sent sent' give give' read read' put put' missed missed' → P) → (status ≡ 0 → P) → (status ≡ 7 → Rose give give' → P) → P
+  others P unread all refused = elim is [
+    | inl u ↦ unread u
+    | inr asked ↦ elim asked.each.said [ inl said ↦ all said.0 | inr last ↦ refused last.0 last.1 ]
+  ]
+
+  pub no_usage : status ≡ 3 → ⊥
+  no_usage three =
+      others ⊥ (λ u. elim u.known [ inl six ↦ omega arith | inr more ↦ elim more [ inl eight ↦ omega arith | inr eleven ↦ omega arith ] ])
+      (λ zero. omega arith) (λ seven rose. omega arith)
+
+  pub unread_list : status ≡ 6 → Rose read read'
+  unread_list six =
+      others (Rose read read')
+      (λ u. read_fault_of NoReply (batch_inputs list) held held' status sent sent' give give' read read' put put' u.carried.end u.carried.ends u.carried.said six)
+      (λ zero. absurd (omega arith)) (λ seven rose. absurd (omega arith))
+
+  pub says_unread : status ≡ 6 → (held' ≡ held) × SaysOnly read_line status sent sent' give give'
+  says_unread six =
+      others ((held' ≡ held) × SaysOnly read_line status sent sent' give give')
+      (λ u. read_line_of NoReply (batch_inputs list) held held' status sent sent' give give' read read' put put' u.carried.end u.carried.ends u.carried.said six)
+      (λ zero. absurd (omega arith)) (λ seven rose. absurd (omega arith))
+
+  pub says_refused : status ≡ 8 → (held' ≡ held) × SaysOnly memory_line status sent sent' give give'
+  says_refused eight =
+      others ((held' ≡ held) × SaysOnly memory_line status sent sent' give give')
+      (λ u. memory_of NoReply (batch_inputs list) held held' status sent sent' give give' read read' put put' u.carried.end u.carried.ends u.carried.said eight)
+      (λ zero. absurd (omega arith)) (λ seven rose. absurd (omega arith))
+
+  pub refused_line : status ≡ 7 → Rose give give' ⊎ Rose put put'
+  refused_line seven =
+      others (Rose give give' ⊎ Rose put put') (λ u. absurd (elim u.known [ inl six ↦ omega arith | inr more ↦ elim more [ inl eight ↦ omega arith | inr eleven ↦ omega arith ] ]))
+      (λ zero. absurd (omega arith)) (λ is_seven rose. inl rose)
+
+-- ---- names
+
+small : (bytes : List ℕ) → list_all is_character bytes ≡ true → All (λ b. b < 128) bytes
+small [] is = All-nil (λ b. b < 128)
+small (b ∷ bs) is =
+    let parts = and_parts (is_character b) (list_all is_character bs) is in
+    let low = ltb-true b 127 (and_parts (nat_lt 32 b) (nat_lt b 127) parts.0).1 in
+    All-cons (λ b. b < 128) b bs (omega (arith, low)) (small bs parts.1)
+
+-- the bytes of a word are text
+pub word_is_text : (bytes : List ℕ) → is_word bytes ≡ true → IsUtf8 bytes
+word_is_text bytes is = IsUtf8-from_ascii bytes (IsAscii-from_all bytes (small bytes (and_parts (has_some bytes) (list_all is_character bytes) is).1))
+
+-- the three names of a question are words
+pub words_of : (q : Question) → is_question (line_of q) ≡ true → (is_word q.first ≡ true) × (is_word q.second ≡ true) × (is_word q.cert ≡ true)
+words_of q is =
+    let all = (and_parts (length (line_of q) == 3) (list_all is_word (line_of q)) is).1 in
+    let one = and_parts (is_word q.first) (list_all is_word (q.second ∷ q.cert ∷ [])) all in
+    let two = and_parts (is_word q.second) (list_all is_word (q.cert ∷ [])) one.1 in
+    let three = and_parts (is_word q.cert) (list_all is_word []) two.1 in
+    (one.0, two.0, three.0)
+
+-- so are those of the first, and those of the others
+pub first_is_question : (q : Question) (questions : List Question) → AreQuestions (q ∷ questions) → (is_question (line_of q) ≡ true) × AreQuestions questions
+first_is_question q questions are = and_parts (is_question (line_of q)) (list_all is_question (map_list line_of questions)) are
+
+-- a read list has questions, and at most 1,000
+pub list_is_of_questions : (questions : List Question) → IsOfKind kind.Questions (value.Questions questions) → AreQuestions questions × (length questions ≤ 1000)
+list_is_of_questions questions (bytes, is) = (is.words, is.few)
+
+-- ---- the whole batch
+
+-- the list is not read
+pub batch_unread : (list : List ℕ) (slot : Input) (held held' : Option FileMap) (status : ℕ) (sent sent' : Option (List ℕ)) (give give' read read' put put' missed missed' : ℕ) (e : Ending)
+    → slot ≡ list_file list → EndsSo NoReply (slot ∷ []) e held held' read read' put put' → WasSaid e status sent sent' give give' → CountsMissing held slot.name missed missed'
+    → IsBatch list held held' status sent sent' give give' read read' put put' missed missed'
+batch_unread list slot held held' status sent sent' give give' read read' put put' missed missed' e is ends said counts =
+    let carried : IsCarriedOut NoReply (batch_inputs list) held held' status sent sent' give give' read read' put put' =
+    record { end = e; ends = subst (λ (i : Input). EndsSo NoReply (i ∷ []) e held held' read read' put put') is ends; said = said } in
+    inl (record {
+      carried = carried;
+      known = unread_status list held held' status sent sent' give give' read read' put put' carried;
+      missing = counts_here held (list_file list) [] missed missed' (subst (λ (i : Input). CountsMissing held i.name missed missed') is counts);
+    })
+
+-- it is, and its questions are carried out
+pub batch_asked : (list : List ℕ) (slot : Input) (questions : List Question) (held between held' : Option FileMap) (status : ℕ) (sent sent' : Option (List ℕ)) (give give' read read1 read' put put1 put' missed missed1 missed' : ℕ)
+    → slot ≡ list_file list → IfSome held (λ files. FileReads files slot (value.Questions questions)) → CountsMissing held slot.name missed missed1 → between ≡ held → read1 ≡ read → put1 ≡ put
+    → IsCarriedEach 1 questions between held' status sent sent' give give' read1 read' put1 put' missed1 missed'
+    → IsBatch list held held' status sent sent' give give' read read' put put' missed missed'
+batch_asked list slot questions held between held' status sent sent' give give' read read1 read' put put1 put' missed missed1 missed' is reads counts stays same_read same_put each =
+    let there = subst (λ (i : Input). IfSome held (λ files. FileReads files i (value.Questions questions))) is reads in
+    let counts' = subst (λ (i : Input). CountsMissing held i.name missed missed1) is counts in
+    let one = subst (λ (h : Option FileMap). IsCarriedEach 1 questions h held' status sent sent' give give' read1 read' put1 put' missed1 missed') stays each in
+    let two = subst (λ r. IsCarriedEach 1 questions held held' status sent sent' give give' r read' put1 put' missed1 missed') same_read one in
+    let three = subst (λ p. IsCarriedEach 1 questions held held' status sent sent' give give' read read' p put' missed1 missed') same_put two in
+    inr (record {
+      questions = questions;
+      read = there;
+      each = record {
+        statuses = three.statuses;
+        known = three.known;
+        said = three.said;
+        in_turn = three.in_turn;
+        read_faults_rose = three.read_faults_rose;
+        put_faults_rose = three.put_faults_rose;
+        missed_stays = still held there counts' three.missed_stays;
+      };
+    })
+  where
+    still : (h : Option FileMap) → IfSome h (λ files. FileReads files (list_file list) (value.Questions questions)) → CountsMissing h list missed missed1
+        → IfSome h (λ files. All (AreThere files) questions → missed' ≡ missed1) → IfSome h (λ files. All (AreThere files) questions → missed' ≡ missed)
+    still None there c rest = tt
+    still (Some files) there c rest = λ all. rest all ∙ read_is_there files list (value.Questions questions) missed missed1 there c

@@ -1,0 +1,108 @@
+-- `upgrade`: one reply, what it shows, and what it leaves.
+use Rattle.std.proofs.Common.{◌≡◌, ◌↔◌, ℕ, ◌≤◌, List, [], ◌∷◌, Option, inl, inr, refl, sym, ◌∙◌, ap, subst, arith}
+use Rattle.std.specs.Io.KnownBytes.{append_known}
+use Rattle.shelf_io.specs.Shelf.{FileMap}
+use Rattle.ba_format.specs.declared.parts.Named.{Named}
+use Rattle.ba_format.specs.declared.parts.Joined.{Joined}
+use Rattle.ba_format.specs.Joining.{IsJoined}
+use Rattle.cert_value.specs.declared.types.Cert.{Cert}
+use Rattle.cert_value.specs.WellFormed.{upgraded}
+use Rattle.cert_check.proofs.RuleLemmas.{upgrade_alike}
+use Rattle.rabit_frame.specs.declared.parts.Value.{Value}
+use Rattle.rabit_frame.specs.declared.parts.Value.TheVariants as value
+use Rattle.rabit_frame.specs.declared.parts.Reply.{Reply}
+use Rattle.rabit_frame.specs.declared.parts.Ending.{Ending}
+use Rattle.rabit_frame.specs.Statuses.{status_number}
+use Rattle.rabit_frame.specs.Reading.{ReadInTurn, StopInTurn}
+use Rattle.rabit_frame.specs.Ending.{IsReplyFor, OfBoth, IsCutShort, WasSaid, filed}
+use Rattle.rabit_frame.specs.Carrying.{EndsSo}
+use Rattle.rabit_frame.proofs.EndLemmas.{leaves_by_status}
+use Rattle.rabit_frame.proofs.OneLemmas.{stop_or_read_in_turn}
+use Rattle.rabit_cli.specs.Files.{ReadsCertificate}
+use Rattle.rabit_cli.specs.Check.{Concludes, MeansCheck}
+use Rattle.rabit_cli.specs.Laws.{UpgradeIsChecked}
+use Rattle.rabit_cli.specs.Upgrade.{upgrade_inputs, upgrade_reply, MeansUpgrade, HoldsUpgraded, HoldsUpgradedFront, LeavesUpgraded, ShowsUpgrade, IsUpgradeStatus}
+
+pub one_upgrade : (name : List ℕ) (values : List Value) (r s : Reply) → MeansUpgrade name values r → MeansUpgrade name values s → r ≡ s
+one_upgrade name values r s (cert, is, e) (cert', is', e') =
+    let all = sym is ∙ is' in
+    let one : cert ≡ cert' = cc in
+    e ∙ ap (upgrade_reply name) one ∙ sym e'
+
+pub upgrade_number : (name : List ℕ) (values : List Value) (r : Reply) → MeansUpgrade name values r → status_number r.status ≡ 0
+upgrade_number name values r (cert, is, e) = ap (λ z. status_number z.status) e
+
+-- it has no status of a fault
+upgrade_writes : (name : List ℕ) (values : List Value) (r : Reply) → MeansUpgrade name values r → 3 ≤ status_number r.status → r.puts ≡ []
+upgrade_writes name values r means high = absurd (let zero = upgrade_number name values r means in omega arith)
+
+module _ (files : FileMap) (c out : List ℕ) where
+  read_one : (values : List Value) (cert : Cert) → ReadInTurn files (upgrade_inputs c) values → values ≡ value.Certificate cert ∷ [] → ReadsCertificate files c cert
+  read_one values cert reads is = (subst (ReadInTurn files (upgrade_inputs c)) is reads).0
+
+  pub holds_upgraded : (files' : FileMap) (values : List Value) (r : Reply) → ReadInTurn files (upgrade_inputs c) values → MeansUpgrade out values r → files' ≡ filed files r.puts → HoldsUpgraded files c out files'
+  holds_upgraded files' values r reads (cert, is, e) left = (cert, read_one values cert reads is, left ∙ ap (λ z. filed files z.puts) e)
+
+  pub holds_upgraded_front : (files' : FileMap) (values : List Value) (r : Reply) → ReadInTurn files (upgrade_inputs c) values → MeansUpgrade out values r → IsCutShort files r.puts files' → HoldsUpgradedFront files c out files'
+  holds_upgraded_front files' values r reads (cert, is, e) cut = (cert, read_one values cert reads is, subst (λ ps. IsCutShort files ps files') (ap (λ z. z.puts) e) cut)
+
+  pub shows_upgrade : (status : ℕ) (files' : FileMap) (sent sent' : Option (List ℕ)) (r : Reply) → status_number r.status ≡ status → files' ≡ filed files r.puts → sent' ≡ append_known sent r.text → (values : List Value) →
+      ReadInTurn files (upgrade_inputs c) values → MeansUpgrade out values r → ShowsUpgrade files c out status files' sent sent'
+  shows_upgrade status files' sent sent' r number left sends values reads means =
+      let zero = upgrade_number out values r means in
+      record {
+        upgraded = λ e. record {
+          held = holds_upgraded files' values r reads means left;
+          printed = sends ∙ ap (λ z. append_known sent z.text) means.2;
+        };
+        no_other = (λ e. omega arith, λ e. omega arith);
+      }
+
+  -- its status, for what the file holds
+  pub upgrade_status : (r : Reply) → (StopInTurn files (upgrade_inputs c) r → status_number r.status ≡ 5) → IsReplyFor (MeansUpgrade out) (upgrade_inputs c) files r → (n : ℕ) → n ≡ status_number r.status → IsUpgradeStatus files c n
+  upgrade_status r five right n same = elim right [
+    | inl stop ↦ inr (λ cert read. stop_or_read_in_turn files (upgrade_inputs c) r (value.Certificate cert ∷ []) stop (read, tt), same ∙ five stop)
+    | inr read ↦ (
+        let (values, reads, means) = read in
+        let (cert, is, e) = means in
+        inl ((cert, read_one values cert reads is), same ∙ upgrade_number out values r means))
+  ]
+
+module _ (held held' : Option FileMap) (status : ℕ) (sent sent' : Option (List ℕ)) (sink sink' faults faults' puts puts' : ℕ) (c out : List ℕ) where
+  pub leaves_upgrade : (e : Ending) → EndsSo (MeansUpgrade out) (upgrade_inputs c) e held held' faults faults' puts puts' → WasSaid e status sent sent' sink sink' → OfBoth held held' (λ files files'. LeavesUpgraded files c out status puts puts' files')
+  leaves_upgrade e ends said =
+      leaves_by_status (MeansUpgrade out) (upgrade_inputs c) held held' status sent sent' sink sink' faults faults' puts puts' _ _ (upgrade_writes out)
+      (λ files files' values r reads means low left. holds_upgraded files c out files' values r reads means left)
+      (λ files files' values r reads means cut. holds_upgraded_front files c out files' values r reads means cut) e ends said
+
+-- ---- a check of both
+
+concludes_alike : (pair : Joined) (cert : Cert) (r : Reply) → Concludes pair cert r ↔ Concludes pair (upgraded cert) r
+concludes_alike pair cert r =
+    let alike = upgrade_alike pair cert in (
+      λ says. elim says [
+        | inl broken ↦ (let (refusal, breaks, e) = broken in inl (refusal, (alike.broken refusal).0 breaks, e))
+        | inr valid ↦ inr (alike.kept.0 valid.0, valid.1)
+      ],
+      λ says. elim says [
+        | inl broken ↦ (let (refusal, breaks, e) = broken in inl (refusal, (alike.broken refusal).1 breaks, e))
+        | inr valid ↦ inr (alike.kept.1 valid.0, valid.1)
+      ],
+    )
+
+-- the reply to a check of three values says that they are these
+check_of : (one two : Named) (cert : Cert) (r : Reply) → MeansCheck (value.Automaton one ∷ value.Automaton two ∷ value.Certificate cert ∷ []) r → (pair : Joined) × IsJoined one two pair × Concludes pair cert r
+check_of one two cert r (x, y, c, is, (pair, joined, says)) =
+    let first : x ≡ one = let e = is in cc in
+    let second : y ≡ two = let e = is in cc in
+    let third : c ≡ cert = let e = is in cc in
+    let P : Named → Type 0 = λ z. IsJoined z y pair in
+    let Q : Named → Type 0 = λ z. IsJoined one z pair in
+    let C : Cert → Type 0 = λ z. Concludes pair z r in
+    (pair, subst Q second (subst P first joined), subst C third says)
+
+pub upgrade_checked : UpgradeIsChecked
+upgrade_checked one two cert r = (
+  λ means. let (pair, joined, says) = check_of one two cert r means in (one, two, upgraded cert, refl, (pair, joined, (concludes_alike pair cert r).0 says)),
+  λ means. let (pair, joined, says) = check_of one two (upgraded cert) r means in (one, two, cert, refl, (pair, joined, (concludes_alike pair cert r).1 says)),
+)

@@ -1,0 +1,21 @@
+use Rattle.std.proofs.Common.{◌≡◌, Option, rules}
+use Rattle.shelf_io.specs.Shelf.{FileMap}
+use Rattle.rabit_frame.specs.declared.parts.Ending.TheVariants as ending
+use Rattle.rabit_frame.specs.Carrying.{NoReply}
+use Rattle.rabit_frame.proofs.EndLemmas.{ends_refused}
+use Rattle.rabit_cli.proofs.BatchLemmas.{batch_unread}
+use Rattle.rabit_cli.proofs.batching.batch.Goals as goal
+
+pub returns-in-Ok-Questions : goal.returns-in-Ok-Questions
+returns-in-Ok-Questions g c =
+    let held : Option FileMap = g.H.Shelf.held c.args.shelf.now in
+    let held' : Option FileMap = g.H.Shelf.held c.read_alone.new.shelf in
+    let none : g.H.Shelf.faults c.read_alone.new.shelf ≡ g.H.Shelf.faults c.args.shelf.now = search rules in
+    batch_unread c.args.list.now c.list_slot.result held held' _ _ _ _ _ _ _ _ _ _ _ ending.OutOfMemory c.list_slot.ensures
+    (ends_refused NoReply _ held held' held' _ _ _ _ none c.read_alone.ensures.files_stay c.read_alone.ensures.puts_stay) c.say.ensures c.read_alone.ensures.counts_missing
+
+pub returns : goal.returns
+returns g c =
+    let held : Option FileMap = g.H.Shelf.held c.args.shelf.now in
+    let held' : Option FileMap = g.H.Shelf.held c.read_alone.new.shelf in
+    batch_unread c.args.list.now c.list_slot.result held held' _ _ _ _ _ _ _ _ _ _ _ c.in-Err.ending c.list_slot.ensures c.in-Err.ensures.ends c.say-in-Err.ensures c.read_alone.ensures.counts_missing

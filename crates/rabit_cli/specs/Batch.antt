@@ -1,0 +1,145 @@
+-- `batch LIST`: the questions of a list are carried out one after the other, and a line is said of each.
+use Rattle.std.specs.Prelude.{◌≡◌, ℕ, ◌+◌, ◌-◌, ◌^◌, ◌≤◌, ◌==◌, ◌⊎◌, min, List, [], ◌∷◌, ◌++◌, length, take, map, All, Option, Some, IfSome, true, decimal, if◌then◌else◌}
+use Rattle.std.specs.FinMap as files
+use Rattle.std.specs.List.{list_all}
+use Rattle.std.specs.Io.KnownBytes.{append_known}
+use Rattle.shelf_io.specs.Counts.{Rose}
+use Rattle.shelf_io.specs.Shelf.{FileMap}
+use Rattle.auto_core.specs.declared.parts.Mode.TheVariants.{Buchi}
+use Rattle.equal_batch.specs.declared.questions.Question.{Question}
+use Rattle.equal_batch.specs.Questions.{is_question, line_of}
+use Rattle.rabit_frame.specs.declared.parts.FileKind.TheVariants as kind
+use Rattle.rabit_frame.specs.declared.parts.Value.{Value}
+use Rattle.rabit_frame.specs.declared.parts.Value.TheVariants as value
+use Rattle.rabit_frame.specs.declared.parts.Reply.{Reply}
+use Rattle.rabit_frame.specs.declared.parts.Ending.{Ending}
+use Rattle.rabit_frame.specs.Files.{Input}
+use Rattle.rabit_frame.specs.Lines.{line_end}
+use Rattle.rabit_frame.specs.Statuses.{status_number}
+use Rattle.rabit_frame.specs.Reading.{FileReads, CountsInTurn}
+use Rattle.rabit_frame.specs.Ending.{IsReplyFor, OfBoth, Leaves, filed, status_of}
+use Rattle.rabit_frame.specs.Carrying.{NoReply, IsCarriedOut}
+use Rattle.rabit_cli.specs.Include.{usual_terms, pair_inputs, MeansInclude}
+
+-- ---- one question
+
+-- A question is carried out as `include` with its three names, over lassos, with the usual lookahead and limit.
+abbrev pub question_inputs : Question → List Input
+question_inputs q = pair_inputs q.first q.second
+
+abbrev pub MeansQuestion : Question → List Value → Reply → Type 0
+MeansQuestion q = MeansInclude q.cert (usual_terms Buchi)
+
+-- The statuses of questions: those of an inclusion's results, that of a faulty file, and those of the outside and of want of memory.
+abbrev pub IsQuestionStatus : ℕ → Type 0
+IsQuestionStatus status = (status ≤ 2) ⊎ (status ≡ 4) ⊎ (status ≡ 6) ⊎ (status ≡ 7) ⊎ (status ≡ 8)
+
+-- The question, asked of the one files, ended with this status and left the others.
+abbrev pub LeavesQuestion : Question → ℕ → FileMap → FileMap → Type 0
+LeavesQuestion q status files files' =
+    (end : Ending) × Leaves (MeansQuestion q) (question_inputs q) end files files' × (status_of end ≡ status)
+
+-- Whatever is the right reply: its status is answered and its files are written, unless a call of the shelf failed or memory was refused.
+abbrev pub AnswersQuestion : Question → FileMap → Option FileMap → ℕ → ℕ → ℕ → ℕ → ℕ → Type 0
+AnswersQuestion q files held' status read_faults read_faults' put_faults put_faults' =
+    (r : Reply)
+    → IsReplyFor (MeansQuestion q) (question_inputs q) files r
+    → ((status ≡ status_number r.status) × (held' ≡ Some (filed files r.puts)))
+    ⊎ Rose read_faults read_faults'
+    ⊎ Rose put_faults put_faults'
+    ⊎ (status ≡ 8)
+
+-- The files of its automata are there.
+abbrev pub AreThere : FileMap → Question → Type 0
+AreThere held q = (files.contains_key held q.first ≡ true) × (files.contains_key held q.second ≡ true)
+
+-- The three names of each question are words.
+abbrev pub AreQuestions : List Question → Type 0
+AreQuestions questions = list_all is_question (map line_of questions) ≡ true
+
+-- ---- one after the other
+
+-- The first questions, one for each status, ended with these, each asked of the files that the one before it left.
+abbrev pub LeaveInTurn : List Question → List ℕ → FileMap → FileMap → Type 0
+LeaveInTurn questions [] files files' = files' ≡ files
+LeaveInTurn [] (status ∷ statuses) files files' = ⊥
+LeaveInTurn (q ∷ questions) (status ∷ statuses) files files' =
+    (between : FileMap) × LeavesQuestion q status files between × LeaveInTurn questions statuses between files'
+
+-- The line of the question with this number.
+abbrev pub question_line : ℕ → ℕ → List ℕ
+question_line number status = decimal number ++ (32 ∷ (decimal status ++ line_end))
+
+-- The lines of questions with these statuses, numbered from this number on.
+abbrev pub question_lines : ℕ → List ℕ → List ℕ
+question_lines number [] = []
+question_lines number (status ∷ statuses) = question_line number status ++ question_lines (number + 1) statuses
+
+-- Every question was carried out and its line sent.
+abbrev pub AllSaid : ℕ → List Question → List ℕ → ℕ → Option (List ℕ) → Option (List ℕ) → ℕ → ℕ → Type 0
+AllSaid number questions statuses status sent sent' give_faults give_faults' =
+    (status ≡ 0)
+    × (length statuses ≡ length questions)
+    × (sent' ≡ append_known sent (question_lines number statuses))
+    × (give_faults' ≡ give_faults)
+
+-- The sink refused the line of the last question that was carried out, and took a front of it.
+abbrev pub LastRefused : ℕ → List ℕ → ℕ → Option (List ℕ) → Option (List ℕ) → ℕ → ℕ → Type 0
+LastRefused number statuses status sent sent' give_faults give_faults' =
+    (status ≡ 7)
+    × Rose give_faults give_faults'
+    × ((before : List ℕ)
+    × (last : ℕ)
+    × (statuses ≡ before ++ last ∷ [])
+    × ((n : ℕ) × (sent' ≡ append_known sent (question_lines number before ++ take n (question_line (number + length before) last)))))
+
+-- How often the status is among these.
+abbrev pub times : ℕ → List ℕ → ℕ
+times status [] = 0
+times status (one ∷ more) = if one == status then 1 + times status more else times status more
+
+-- The count rose by so many at least, or stands at 2^64 - 1.
+abbrev pub RoseBy : ℕ → ℕ → ℕ → Type 0
+RoseBy n before now = min (before + n) (2 ^ 64 - 1) ≤ now
+
+-- The questions were carried out one after the other, the first with this number, until all were or the sink refused a line.
+pub record IsCarriedEach (number : ℕ) (questions : List Question) (held held' : Option FileMap) (status : ℕ) (sent sent' : Option (List ℕ)) (give_faults give_faults' read_faults read_faults' put_faults put_faults' missed missed' : ℕ) : Type 0 where
+  pub statuses : List ℕ
+  pub known : All IsQuestionStatus statuses
+  pub said : AllSaid number questions statuses status sent sent' give_faults give_faults' ⊎ LastRefused number statuses status sent sent' give_faults give_faults'
+  pub in_turn : OfBoth held held' (λ files files'. LeaveInTurn questions statuses files files')
+  pub read_faults_rose : RoseBy (times 6 statuses) read_faults read_faults'
+  pub put_faults_rose : RoseBy (times 7 statuses) put_faults put_faults'
+  pub missed_stays : IfSome held (λ files. All (AreThere files) questions → missed' ≡ missed)
+
+-- ---- the whole batch
+
+-- The list's file.
+abbrev pub list_file : List ℕ → Input
+list_file name = record { name = name; kind = kind.Questions }
+
+-- The files that a batch reads before its questions.
+abbrev pub batch_inputs : List ℕ → List Input
+batch_inputs list = list_file list ∷ []
+
+-- A batch ends without a question: the list could not be read, has a fault, or memory was refused.
+abbrev pub IsUnreadStatus : ℕ → Type 0
+IsUnreadStatus status = (status ≡ 6) ⊎ (status ≡ 8) ⊎ (status ≡ 11)
+
+-- No question was carried out, and why was said.
+pub record IsUnread (list : List ℕ) (held held' : Option FileMap) (status : ℕ) (sent sent' : Option (List ℕ)) (give_faults give_faults' read_faults read_faults' put_faults put_faults' missed missed' : ℕ) : Type 0 where
+  pub carried : IsCarriedOut NoReply (batch_inputs list) held held' status sent sent' give_faults give_faults' read_faults read_faults' put_faults put_faults'
+  pub known : IsUnreadStatus status
+  pub missing : IfSome held (λ files. CountsInTurn files (batch_inputs list) missed missed')
+
+-- The list was read, and its questions were carried out from the first on.
+pub record AreAsked (list : List ℕ) (held held' : Option FileMap) (status : ℕ) (sent sent' : Option (List ℕ)) (give_faults give_faults' read_faults read_faults' put_faults put_faults' missed missed' : ℕ) : Type 0 where
+  pub questions : List Question
+  pub read : IfSome held (λ files. FileReads files (list_file list) (value.Questions questions))
+  pub each : IsCarriedEach 1 questions held held' status sent sent' give_faults give_faults' read_faults read_faults' put_faults put_faults' missed missed'
+
+-- How a batch goes.
+abbrev pub IsBatch : List ℕ → Option FileMap → Option FileMap → ℕ → Option (List ℕ) → Option (List ℕ) → ℕ → ℕ → ℕ → ℕ → ℕ → ℕ → ℕ → ℕ → Type 0
+IsBatch list held held' status sent sent' give_faults give_faults' read_faults read_faults' put_faults put_faults' missed missed' =
+    IsUnread list held held' status sent sent' give_faults give_faults' read_faults read_faults' put_faults put_faults' missed missed'
+    ⊎ AreAsked list held held' status sent sent' give_faults give_faults' read_faults read_faults' put_faults put_faults' missed missed'

@@ -1,0 +1,220 @@
+//! `equal A B C1 C2`
+
+ghost use Rattle.std.specs.Prelude.{◌≡◌, ◌<◌, ◌↔◌, ◌++◌, ℕ, List as Items, length, All, OnOk, IfOk, IsTrue};
+ghost use Rattle.auto_core.specs.declared.parts.Lasso.{Lasso as ALasso};
+ghost use Rattle.auto_core.specs.declared.parts.Mode.TheVariants.{Buchi};
+ghost use Rattle.ba_format.specs.declared.parts.Joined.{Joined as AJoined};
+ghost use Rattle.ba_format.specs.Reading.{IsWithinLimits};
+ghost use Rattle.ba_format.specs.Joining.{IsJoined};
+ghost use Rattle.cert_value.specs.declared.types.Body.TheVariants as form;
+ghost use Rattle.decide.specs.Laws.{CanDecide};
+ghost use Rattle.decide.specs.Answer.{IsAnswer};
+ghost use Rattle.equal_batch.specs.declared.outcome.Both.{Both as ABoth};
+ghost use Rattle.rabit_frame.specs.Reading.{AreOfKinds};
+ghost use Rattle.rabit_cli.specs.Files.{second_limits};
+ghost use Rattle.rabit_cli.specs.Printed.{witness_lines, first_apart_text, second_apart_text};
+ghost use Rattle.rabit_cli.specs.Include.{usual_terms, certificate_put};
+ghost use Rattle.rabit_cli.specs.Shrink.{IsNo};
+ghost use Rattle.rabit_cli.specs.Equal.{equal_inputs, first_apart_reply, both_reply, IsBothReply, IsEqualReply, MeansEqual};
+
+use crate::files::{SECOND_LIMITS, automaton_slot, joined};
+use crate::properties::{push_lasso, push_word_line};
+use crate::replies::limit_met;
+use auto_core::{List, Memory, Mode};
+use ba_format::{Joined, Named, Texts};
+use cert_text::{Body, Cert, write_cert};
+use equal_batch::{Both, both};
+use rabit_frame::{Put, Reply, Slot, Status, Value, append, line};
+use rabit_words::{USUAL_LIMIT, USUAL_LOOK};
+use std::alloc::Global;
+
+/// The files that it reads.
+pub fn slots<'a>(alloc: Global, first: &'a str, second: &'a str) -> Result<List<Slot<'a>>, Memory>
+    ensures { IfOk result (λ slots. slots ≡ equal_inputs first.entry.now second.entry.now) }
+{
+    let mut slots = List::new(alloc);
+    slots.push(automaton_slot(1, SECOND_LIMITS, first))?;
+    slots.push(automaton_slot(2, SECOND_LIMITS, second))?;
+    Ok(slots)
+}
+
+/// Tells whether the answer is a no.
+fn is_no(body: &Body) -> bool
+    ensures { IsTrue result ↔ IsNo body.now }
+{
+    match body {
+        Body::NoLasso(_) => true,
+        Body::NoWord(_) => true,
+        Body::Yes(_) => false,
+        Body::Listing(_) => false,
+    }
+}
+
+/// Appends what a no has.
+fn push_witness(out: &mut List<u8>, labels: &Texts, body: &Body) -> Result<(), Memory>
+    requires letters { (lasso : ALasso) → body.now ≡ form.NoLasso lasso → All (λ a. a < length labels.now) lasso.prefix × All (λ a. a < length labels.now) lasso.turn }
+    requires word { (word : Items ℕ) → body.now ≡ form.NoWord word → All (λ a. a < length labels.now) word }
+    ensures { OnOk result (out.new ≡ out.old ++ witness_lines labels.now body.now) }
+{
+    match body {
+        Body::NoLasso(lasso) => push_lasso(out, labels, lasso),
+        Body::NoWord(word) => push_word_line(out, labels, word),
+        Body::Yes(_) => Ok(()),
+        Body::Listing(_) => Ok(()),
+    }
+}
+
+/// The text of a no: what it begins with, and what the no has.
+fn apart_text(alloc: Global, said: &str, labels: &Texts, body: &Body) -> Result<List<u8>, Memory>
+    requires letters { (lasso : ALasso) → body.now ≡ form.NoLasso lasso → All (λ a. a < length labels.now) lasso.prefix × All (λ a. a < length labels.now) lasso.turn }
+    requires word { (word : Items ℕ) → body.now ≡ form.NoWord word → All (λ a. a < length labels.now) word }
+    ensures { IfOk result (λ text. text ≡ said.now ++ witness_lines labels.now body.now) }
+{
+    let mut text = List::new(alloc);
+    append(&mut text, said.as_bytes())?;
+    push_witness(&mut text, labels, body)?;
+    Ok(text)
+}
+
+/// The answer to whether the first automaton is included in the second.
+fn answered(alloc: Global, pair: &Joined) -> Result<Cert, Memory>
+    requires { CanDecide pair.now }
+    ensures answer { IfOk result (IsAnswer pair.now (usual_terms Buchi)) }
+    ensures letters { IfOk result (λ cert. (lasso : ALasso) → cert.body ≡ form.NoLasso lasso → All (λ a. a < length pair.now.labels) lasso.prefix × All (λ a. a < length pair.now.labels) lasso.turn) }
+    ensures word { IfOk result (λ cert. (word : Items ℕ) → cert.body ≡ form.NoWord word → All (λ a. a < length pair.now.labels) word) }
+{
+    decide::include(alloc, pair, Mode::Buchi, USUAL_LOOK, USUAL_LIMIT)
+}
+
+/// The certificate as it is to be written under the name.
+fn put_of<'a>(alloc: Global, name: &'a str, cert: &Cert) -> Result<Put<'a>, Memory>
+    ensures { IfOk result (λ put. put ≡ certificate_put name.entry.now cert.now) }
+{
+    let bytes = write_cert(alloc, cert)?;
+    Ok(Put { name, bytes })
+}
+
+/// The reply by what both answers say together. The labels and the body are those of the second answer.
+fn both_reply<'a>(
+    alloc: Global,
+    said: Both,
+    labels: &Texts,
+    body: &Body,
+    puts: List<Put<'a>>,
+) -> Result<Reply<'a>, Memory>
+    requires letters { (lasso : ALasso) → body.now ≡ form.NoLasso lasso → All (λ a. a < length labels.now) lasso.prefix × All (λ a. a < length labels.now) lasso.turn }
+    requires word { (word : Items ℕ) → body.now ≡ form.NoWord word → All (λ a. a < length labels.now) word }
+    ensures { IfOk result (λ reply. reply ≡ both_reply said labels.now body.now puts.entry) }
+{
+    match said {
+        Both::Equal => {
+            let text = line(alloc, "equal\n")?;
+            Ok(Reply {
+                status: Status::Done,
+                text,
+                puts,
+            })
+        },
+        Both::Limit => {
+            let text = limit_met(alloc, USUAL_LIMIT)?;
+            Ok(Reply {
+                status: Status::Limit,
+                text,
+                puts,
+            })
+        },
+        Both::FirstApart | Both::SecondApart => {
+            let text = apart_text(alloc, "second not in first\n", labels, body)?;
+            Ok(Reply {
+                status: Status::Refuted,
+                text,
+                puts,
+            })
+        },
+    }
+}
+
+/// The reply where the first inclusion is not refuted: the second is decided too.
+fn of_both<'a>(
+    alloc: Global,
+    certificate: &'a str,
+    converse: &'a str,
+    one: &Named,
+    two: &Named,
+    cert: &Cert,
+) -> Result<Reply<'a>, Memory>
+    requires one { IsWithinLimits second_limits one.now }
+    requires two { IsWithinLimits second_limits two.now }
+    ensures { IfOk result (IsBothReply certificate.entry.now converse.entry.now one.now two.now cert.now) }
+{
+    let pair = joined(alloc, two, one)?;
+    let other = answered(alloc, &pair)?;
+    let mut puts = List::new(alloc);
+    puts.push(put_of(alloc, certificate, cert)?)?;
+    puts.push(put_of(alloc, converse, &other)?)?;
+    both_reply(alloc, both(cert, &other), &pair.labels, &other.body, puts)
+}
+
+/// The reply where the first is not included in the second: the certificate of that alone is written.
+fn first_apart<'a>(
+    alloc: Global,
+    certificate: &'a str,
+    pair: &Joined,
+    cert: &Cert,
+) -> Result<Reply<'a>, Memory>
+    requires letters { (lasso : ALasso) → cert.now.body ≡ form.NoLasso lasso → All (λ a. a < length pair.now.labels) lasso.prefix × All (λ a. a < length pair.now.labels) lasso.turn }
+    requires word { (word : Items ℕ) → cert.now.body ≡ form.NoWord word → All (λ a. a < length pair.now.labels) word }
+    ensures { IfOk result (λ reply. reply ≡ first_apart_reply certificate.entry.now pair.now cert.now) }
+{
+    let text = apart_text(alloc, "first not in second\n", &pair.labels, &cert.body)?;
+    let mut puts = List::new(alloc);
+    puts.push(put_of(alloc, certificate, cert)?)?;
+    Ok(Reply {
+        status: Status::Refuted,
+        text,
+        puts,
+    })
+}
+
+/// The reply to the automata. All that is needed is decided before anything is written.
+fn compared<'a>(
+    alloc: Global,
+    certificate: &'a str,
+    converse: &'a str,
+    one: &Named,
+    two: &Named,
+) -> Result<Reply<'a>, Memory>
+    requires one { IsWithinLimits second_limits one.now }
+    requires two { IsWithinLimits second_limits two.now }
+    ensures { IfOk result (λ reply. (pair : AJoined) × IsJoined one.now two.now pair × IsEqualReply certificate.entry.now converse.entry.now one.now two.now pair reply) }
+{
+    let pair = joined(alloc, one, two)?;
+    let cert = answered(alloc, &pair)?;
+    if is_no(&cert.body) {
+        first_apart(alloc, certificate, &pair, &cert)
+    } else {
+        of_both(alloc, certificate, converse, one, two, &cert)
+    }
+}
+
+/// The reply to what was read.
+pub fn reply<'a>(
+    alloc: Global,
+    certificate: &'a str,
+    converse: &'a str,
+    values: &[Value],
+) -> Result<Reply<'a>, Memory>
+    requires { (a b : Items ℕ) × AreOfKinds (equal_inputs a b) values.now }
+    ensures { IfOk result (MeansEqual certificate.entry.now converse.entry.now values.now) }
+{
+    match values {
+        [Value::Automaton(one), Value::Automaton(two)] => compared(
+            alloc,
+            certificate,
+            converse,
+            one,
+            two,
+        ),
+        _ => unreachable!(),
+    }
+}
