@@ -1,5 +1,5 @@
 #!/usr/bin/env python3
-"""A second checker of certificates, in plain Python, written from docs/FORMATS.md alone.
+"""A second checker of certificates of both versions, in plain Python, written from docs/FORMATS.md alone.
 
     tools/check_cert.py A B CERT
 
@@ -11,9 +11,14 @@ proofs can read it in an evening.
 import sys
 from itertools import groupby
 
-STATES, LABELS, TRANSITIONS = 512, 256, 65536
+STATES, LABELS, TRANSITIONS = {1: 2048, 2: 512}, 256, 65536
 AUTOMATON_BYTES, CERTIFICATE_BYTES = 1 << 24, 1 << 30
-HEADERS = [f"rabit-cert 1 {mode} {form}".encode() for mode in ("buchi", "finite") for form in ("yes", "no", "list")]
+HEADERS = [
+    f"rabit-cert {version} {mode} {form}".encode()
+    for version in (1, 2)
+    for mode in ("buchi", "finite")
+    for form in ("yes", "no", "list")
+]
 
 
 class Refused(Exception):
@@ -102,14 +107,14 @@ def read_automaton(number, data):
                     fault(at, "TwoInitial")
                 initial = first if before == 1 else number_of(names, source)
             move = (number_of(names, source), number_of(labels, label), number_of(names, target))
-            if len(names) > STATES:
+            if len(names) > STATES[number]:
                 fault(at, "TooManyStates")
             if len(labels) > LABELS:
                 fault(at, "TooManyLabels")
             transitions[move] = True
             if len(transitions) > TRANSITIONS:
                 fault(at, "TooManyTransitions")
-        if len(names) > STATES:
+        if len(names) > STATES[number]:
             fault(at, "TooManyStates")
     if not transitions:
         initial = first
@@ -189,20 +194,37 @@ def kind(text, tail=0):
     return tuple(None if word == "#" else word.encode() for word in text.split()), tail
 
 
-def read_block(text, coded):
+def read_block(text, version):
+    """A block as its rows: the left state of each and the runs of its right states, each as its first and its last one."""
     _, (rows,) = text.take(kind("rel #"))
     block, last = {}, -1
     for _ in range(rows):
-        _, (left, *rights) = text.take(kind("row #", 3 if coded else 2))
-        text.ascend(rights[::2] if coded else rights)
-        if left <= last:
+        _, (left, *rights) = text.take(kind("row #", 3 if version == 2 else 2))
+        runs = list(zip(rights[::2], rights[1::2])) if version == 2 else [(right, right) for right in rights]
+        gap = 2 if version == 2 else 1
+        if any(f > l for f, l in runs) or any(f < l + gap for (_, l), (f, _) in zip(runs, runs[1:])) or left <= last:
             text.fault("Order")
         last = left
-        block[left] = dict(zip(rights[::2], rights[1::2])) if coded else dict.fromkeys(rights, 0)
+        block[left] = runs
     return block
 
 
-def read_first_log(text):
+def read_ranks(text, letters):
+    """The block of a delayed merge as its rows: the left state and the announced labels of each, and the code of each right state."""
+    _, (rows,) = text.take(kind("rel #"))
+    block, last = {}, ()
+    for _ in range(rows):
+        _, numbers = text.take(kind("row #" + " #" * (letters - 1), 3))
+        key, rights = tuple(numbers[:letters]), numbers[letters:]
+        text.ascend(rights[::2])
+        if key <= last:
+            text.fault("Order")
+        last = key
+        block[key] = dict(zip(rights[::2], rights[1::2]))
+    return block
+
+
+def read_first_log(text, version):
     _, (count,) = text.take(kind("log1 #"))
     for_pair = {1: ("forward",), 2: ("backward",), 3: ("backward", "forward"), 4: ("backward", "forward")}
     log = []
@@ -219,23 +241,27 @@ def read_first_log(text):
             gone = text.take(kind("gone", 3))[1]
             text.ascend(gone[::2])
             looks = {3: (look, 1), 4: (1, look)}.get(pair, (look,))
-            blocks = [(side, k, read_block(text, False)) for side, k in zip(for_pair[pair], looks)]
+            blocks = [(side, k, read_block(text, version)) for side, k in zip(for_pair[pair], looks)]
             log.append(("cut", pair, look, list(zip(gone[::2], gone[1::2])), blocks))
     return log
 
 
-def read_second_log(text, mode):
+def read_second_log(text, version, mode):
     _, (count,) = text.take(kind("log2 #"))
-    merges = [kind("merge forward #"), kind("merge backward #")] + ([kind("merge delayed")] if mode == "buchi" else [])
+    delayed = kind("merge delayed #" if version == 2 else "merge delayed")
+    merges = [kind("merge forward #"), kind("merge backward #")] + ([delayed] if mode == "buchi" else [])
     log = []
     for _ in range(count):
         (words, _), numbers = text.take(kind("trim", 1), *merges, kind("cut"))
         if words[0] == b"trim":
             log.append(("trim", text.ascend(numbers)))
         elif words[0] == b"merge":
+            by, number = words[1].decode(), numbers[0] if numbers else 1
+            if by == "delayed" and not 1 <= number <= 4:
+                text.fault("Shape")
             classes = text.take(kind("classes", 2))[1]
-            by = words[1].decode()
-            log.append(("merge", classes, by, numbers[0] if numbers else None, read_block(text, by == "delayed")))
+            block = read_ranks(text, number) if by == "delayed" else read_block(text, version)
+            log.append(("merge", classes, by, number, block))
         else:
             log.append(("cut", text.ascend(text.take(kind("gone", 2))[1])))
     return log
@@ -257,16 +283,17 @@ def read_certificate(data):
     if header not in HEADERS:
         text.fault("Header")
     mode, form = header.decode().split()[2:]
+    version = int(header.split()[1])
     cert = {"mode": mode, "form": form, "sizes": tuple(text.take(kind("sizes # # #"))[1])}
     if form == "no":
         parts = [("prefix", 1), ("loop", 2)] if mode == "buchi" else [("word", 1)]
         cert["words"] = [text.take(kind(name, tail))[1] for name, tail in parts]
     else:
-        cert["first"], cert["second"] = read_first_log(text), read_second_log(text, mode)
+        cert["first"], cert["second"] = read_first_log(text, version), read_second_log(text, version, mode)
         if form == "list":
             (cert["limit"],) = text.take(kind("limit #"))[1]
         else:
-            cert["order"] = read_block(text, False)
+            cert["order"] = read_block(text, version)
         (count,) = text.take(kind("elements #"))[1]
         cert["elements"] = [read_origin(text, mode, form == "yes") for _ in range(count)]
         if form == "yes":
@@ -333,18 +360,34 @@ def stable(automaton, side, look, block):
     )
 
 
-def delayed_right(automaton, block):
-    """Whether pairs and codes are right; a code is the rank and one, or 0."""
-    for p, rights in block.items():
+def delayed_right(automaton, labels, block):
+    """Whether triples and codes are right, whatever label is announced next; a code is the rank and one, or 0."""
+    for (p, *ahead), rights in block.items():
+        announced = [[*ahead, more] for more in range(labels)]
         for q, code in rights.items():
             if p in automaton.accepting and code == 0 or code == 1 and q not in automaton.accepting:
                 return False
-            for label, after in automaton.moves[p]:
-                codes = [block.get(after, {}).get(t) for l, t in automaton.moves[q] if l == label]
-                codes = [c for c in codes if c is not None]
-                if not codes or code > 1 and not any(0 < c < code for c in codes):
-                    return False
+            for first, *rest in announced:
+                answers = [t for l, t in automaton.moves[q] if l == first]
+                for after in [t for l, t in automaton.moves[p] if l == first]:
+                    row = block.get((after, *rest), {})
+                    codes = [row[t] for t in answers if t in row]
+                    if not codes or code > 1 and not any(0 < c < code for c in codes):
+                        return False
     return True
+
+
+def state_relation(states, labels, letters, block):
+    """The pairs of states whose triple stands in the block for each list of announced labels."""
+    words = labels ** (letters - 1)
+    if words == 0:
+        return {p: dict.fromkeys(range(states)) for p in range(states)}
+    counts = {}
+    for (p, *_), rights in block.items():
+        row = counts.setdefault(p, {})
+        for q in rights:
+            row[q] = row.get(q, 0) + 1
+    return {p: {q: 0 for q, count in row.items() if count == words} for p, row in counts.items()}
 
 
 # ---------------------------------------------------------------- steps of a log
@@ -397,7 +440,18 @@ def class_shape(automaton, classes):
 
 
 def in_block(block, states):
-    return all(p < states and all(q < states for q in rights) for p, rights in block.items())
+    return all(p < states and runs[-1][1] < states for p, runs in block.items())
+
+
+def in_ranks(block, states, labels):
+    return all(
+        p < states and all(a < labels for a in ahead) and all(q < states for q in rights) for (p, *ahead), rights in block.items()
+    )
+
+
+def taken_apart(block):
+    """The right states of each row, one by one; the last of each run has been looked at before."""
+    return {p: dict.fromkeys(q for first, last in runs for q in range(first, last + 1)) for p, runs in block.items()}
 
 
 def cut_rules(automaton, pair, gone, blocks):
@@ -430,29 +484,35 @@ def first_step(automaton, mode, step):
     count = len(automaton.transitions)
     if not 1 <= look <= 6 or any(t >= count or b >= count for t, b in gone) or not all(in_block(b, automaton.states) for _, _, b in blocks):
         return 1, None
+    blocks = [(side, k, taken_apart(block)) for side, k, block in blocks]
     if not all(stable(automaton, side, k, block) for side, k, block in blocks):
         return 4, None
     rule = cut_rules(automaton, pair, gone, blocks)
     return (rule, None) if rule else (None, cut(automaton, {t for t, _ in gone}))
 
 
-def second_step(automaton, step):
+def second_step(automaton, labels, step):
     """The rule that the step of the second log breaks, or the automaton after it."""
     if step[0] == "trim":
         return (1, None) if any(state >= automaton.states for state in step[1]) else (None, keep(automaton, step[1]))
     if step[0] == "cut":
         fine = all(t < len(automaton.transitions) for t in step[1])
         return (None, cut(automaton, set(step[1]))) if fine else (1, None)
-    _, classes, by, look, block = step
-    if look is not None and not 1 <= look <= 6 or not in_block(block, automaton.states):
+    _, classes, by, number, block = step
+    states = automaton.states
+    named = in_ranks(block, states, labels) if by == "delayed" else 1 <= number <= 6 and in_block(block, states)
+    if not named:
         return 1, None
     if not class_shape(automaton, classes):
         return 3, None
     if by == "delayed":
-        if not delayed_right(automaton, block):
+        if not delayed_right(automaton, labels, block):
             return 5, None
-    elif not stable(automaton, by, look, block):
-        return 4, None
+        block = state_relation(states, labels, number, block)
+    else:
+        block = taken_apart(block)
+        if not stable(automaton, by, number, block):
+            return 4, None
     related = closure(automaton.states, block)
     members = sorted(range(automaton.states), key=lambda state: classes[state])
     for _, group in groupby(members, key=lambda state: classes[state]):
@@ -468,8 +528,8 @@ def second_step(automaton, step):
 class Buchi:
     """Elements as an arc with a graph; a graph is a dictionary from a state to {state: value}, kept as a tuple so that it compares."""
 
-    def __init__(self, first, second, order):
-        self.first, self.second, self.order = first, second, order
+    def __init__(self, first, second):
+        self.first, self.second, self.order = first, second, {}
         self.letters, self.extended, self.covered = {}, {}, {}
 
     def letter(self, label):
@@ -552,8 +612,8 @@ class Buchi:
 class Finite:
     """Elements as a state with a set of states."""
 
-    def __init__(self, first, second, order):
-        self.first, self.second, self.order = first, second, order
+    def __init__(self, first, second):
+        self.first, self.second, self.order = first, second, {}
 
     def start(self):
         return self.first.initial, frozenset([self.second.initial])
@@ -609,7 +669,8 @@ def check_yes(search, cert, item):
     second = search.second
     if not in_block(cert["order"], second.states):
         broken(item, 1)
-    if not stable(second, "forward", 1, cert["order"]):
+    search.order = taken_apart(cert["order"])
+    if not stable(second, "forward", 1, search.order):
         broken(item, 9)
     item += 1
     marks = [under for under, _ in cert["elements"]]
@@ -709,11 +770,11 @@ def check(first, second, labels, cert):
         first = after
     for step in cert["second"]:
         item += 1
-        rule, after = second_step(second, step)
+        rule, after = second_step(second, len(labels), step)
         if rule:
             broken(item, rule)
         second = after
-    search = (Buchi if cert["mode"] == "buchi" else Finite)(first, second, cert.get("order", {}))
+    search = (Buchi if cert["mode"] == "buchi" else Finite)(first, second)
     if cert["form"] == "list":
         check_list(search, cert, item + 1)
         return [b"limit %d" % cert["limit"]], 2

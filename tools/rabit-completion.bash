@@ -3,7 +3,7 @@ _rabit() {
     local word=${COMP_WORDS[COMP_CWORD]} before=${COMP_WORDS[COMP_CWORD - 1]} options=
     COMPREPLY=()
     if [ "$COMP_CWORD" -eq 1 ]; then
-        mapfile -t COMPREPLY < <(compgen -W "include check reduce drill union intersect shrink empty universal" -- "$word")
+        mapfile -t COMPREPLY < <(compgen -W "include check reduce drill upgrade equal batch union intersect shrink empty universal" -- "$word")
         return
     fi
     case $before in
@@ -15,10 +15,14 @@ _rabit() {
         mapfile -t COMPREPLY < <(compgen -W "1000 20000 100000" -- "$word")
         return
         ;;
+    --letters)
+        mapfile -t COMPREPLY < <(compgen -W "1 2 3 4" -- "$word")
+        return
+        ;;
     esac
     case ${COMP_WORDS[1]} in
-    include) options="--finite --look --limit" ;;
-    reduce) options="--finite --look" ;;
+    include) options="--finite --look --limit --letters" ;;
+    reduce) options="--finite --look --letters" ;;
     union | intersect | empty | universal) options="--finite" ;;
     esac
     case $word in
