@@ -1,9 +1,9 @@
 -- Closing a table by way of ever more places.
-use Rattle.std.proofs.Common.{◌≡◌, ℕ, zero, suc, ◌+◌, ◌*◌, ◌/◌, ◌%◌, ◌<◌, ◌≤◌, ◌⊎◌, ◌↔◌, inl, inr, Bool, true, false, ◌||◌, ◌&&◌, ◌==◌, ltb, List, length, get_or, set, bit_or, refl, sym, ap, ◌∙◌, subst, arith, get_or-set_same}
+use Rattle.std.proofs.Common.{◌≡◌, ℕ, zero, suc, ◌+◌, ◌*◌, ◌/◌, ◌%◌, ◌^◌, ◌<◌, ◌≤◌, ◌⊎◌, ◌↔◌, inl, inr, Bool, true, false, ◌||◌, ◌&&◌, ◌==◌, ltb, List, length, get_or, set, bit_or, refl, sym, ap, ◌∙◌, subst, arith, get_or-set_same}
 use Rattle.std.proofs.lemmas.Bool.{false≢true, cases_eq, cases_lt, cases_order, or_cases, or_left, or_right, and_parts, and_from, and_right, eqb-true, eq-eqb, ne_eqb, lt-ltb, le-ltb}
 use Rattle.std.proofs.lemmas.List.{get_or-set_other}
-use Rattle.std.proofs.lemmas.Nat.{row_fits}
-use Rattle.std.proofs.lemmas.Nat.Bits.{bit_at-zero}
+use Rattle.std.proofs.lemmas.Nat.{row_fits, one_shl}
+use Rattle.std.proofs.lemmas.Nat.Bits.{bit_at-zero, bit_at-pow_other}
 use Rattle.std.specs.Int.{bit_at}
 use Rattle.auto_core.proofs.BitLemmas.{bit_or_tests}
 use Rattle.auto_core.proofs.CellLemmas.{cell_at}
@@ -12,6 +12,24 @@ use Rattle.auto_core.specs.Rows.{cell_of, HasCell}
 use Rattle.auto_core.specs.Reach.{IsTable, Arc}
 use Rattle.auto_core.specs.Game.{Chain, Close, Holds}
 use Rattle.bit_rel.specs.Relation.{Relation, IsClosed, IsPreorder}
+
+-- a word that is the row's own bit has no other
+pub own_bit_alone :
+    (table : List ℕ) (w at q : ℕ)
+    → get_or table (at * w + at / 64) 0 ≡ 1 * 2 ^ (at % 64) % 2 ^ 64
+    → q / 64 ≡ at / 64
+    → HasCell table w at q
+    → q ≡ at
+own_bit_alone table w at q is same cell =
+    let word = get_or table (at * w + at / 64) 0 in
+    let own : word ≡ 2 ^ (at % 64) = is ∙ one_shl (at % 64) 64 (omega arith) in
+    let here : (bit_at (get_or table (at * w + q / 64) 0) (q % 64) == 1) ≡ true = sym (cell_at table w at q) ∙ cell in
+    let bit : bit_at (2 ^ (at % 64)) (q % 64) ≡ 1 =
+    ap (λ x. bit_at x (q % 64)) (sym own) ∙ ap (λ k. bit_at (get_or table (at * w + k) 0) (q % 64)) (sym same) ∙ eqb-true (bit_at (get_or table (at * w + q / 64) 0) (q % 64)) 1 here in
+    elim (cases_eq (q % 64) (at % 64)) [
+      | inl e ↦ omega arith
+      | inr apart ↦ let none = bit_at-pow_other (at % 64) (q % 64) apart in absurd (omega arith)
+    ]
 
 -- The table holds the old arcs and each place with itself, only pairs of the closure, and it is closed by way of the places
 -- below `via`.

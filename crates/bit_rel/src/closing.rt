@@ -36,14 +36,7 @@ fn has_only_own(table: &[u64], width: usize, at: usize) -> bool
     requires few { at < 2 ^ 32 }
     ensures { result ≡ true → (q : ℕ) → q / 64 ≡ at / 64 → HasCell table.now width at q → q ≡ at }
 {
-    for q in at / 64 * 64..at / 64 * 64 + 64 {
-        if rows::has_cell(table, width, at, q) {
-            if q != at {
-                return false;
-            }
-        }
-    }
-    true
+    table[at * width + at / 64] == 1 << (at % 64)
 }
 
 /// Tells whether the place is related to no other.

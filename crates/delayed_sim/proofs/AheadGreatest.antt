@@ -16,7 +16,7 @@ use Rattle.delayed_sim.proofs.CanLemmas.{right_can, can_accepting, can_holds}
 use Rattle.delayed_sim.proofs.PlaceLemmas.{place_below}
 
 -- Just the triples of the relation, with the ranks of the table.
-abbrev pub AreTriplesOfPairs : Automaton → ℕ → Pairing → List (Option ℕ) → RankedTriples → Type 0
+abbrev pub AreTriplesOfPairs : Automaton → ℕ → Pairing → List ℕ → RankedTriples → Type 0
 AreTriplesOfPairs A n S ranks T =
     (p : ℕ) (b : List ℕ) (q : ℕ) (o : Option ℕ)
     → Contains T (p, b, q, o)
@@ -82,7 +82,7 @@ module _ (A : Automaton) (n : ℕ) (L : Automaton) (valid : IsAutomaton A) (plac
 
   -- ---- what is left of the game
 
-  module _ (R S : Pairing) (ranks : List (Option ℕ)) (first : HasEachRight L A (Holds R.pairs)) (r_places : R.places ≡ L.states) (r_states : R.states ≡ A.states) (played : IsPlayed L A R S ranks) (T : RankedTriples) (are : AreTriplesOfPairs A n S ranks T) where
+  module _ (R S : Pairing) (ranks : List ℕ) (first : HasEachRight L A (Holds R.pairs)) (r_places : R.places ≡ L.states) (r_states : R.states ≡ A.states) (played : IsPlayed L A R S ranks) (T : RankedTriples) (are : AreTriplesOfPairs A n S ranks T) where
     in_states : (x q : ℕ) → Holds S.pairs x q → (x < L.states) × (q < A.states)
     in_states x q held =
         let range = played.shrinks.valid.in_range x q held in

@@ -1,5 +1,5 @@
 -- Rows of states before a row, and rows of ranks.
-use Rattle.std.proofs.Common.{◌≡◌, ℕ, ◌+◌, ◌*◌, ◌<◌, ◌≤◌, ◌⊎◌, ◌↔◌, inl, inr, true, false, List, Option, None, Some, length, get_or, set, refl, sym, ap, ◌∙◌, subst, arith}
+use Rattle.std.proofs.Common.{◌≡◌, ℕ, ◌+◌, ◌*◌, ◌<◌, ◌≤◌, ◌⊎◌, ◌↔◌, inl, inr, true, List, Some, suc, length, get_or, set, refl, sym, ap, ◌∙◌, subst, arith}
 use Rattle.std.proofs.lemmas.Bool.{cases_eq, cases_lt, false≢true}
 use Rattle.std.proofs.lemmas.Nat.{same_from_place, mul-add-lt}
 use Rattle.std.proofs.Math.Nat.{mul_comm}
@@ -11,7 +11,7 @@ use Rattle.auto_core.proofs.BitLemmas.{bit_past}
 use Rattle.delayed_sim.specs.Pairings.{Pairing, IsPairing, Loses}
 use Rattle.delayed_sim.proofs.BoardLemmas.{fewer_pairs, no_more_pairs}
 use Rattle.row_steps.specs.Walks.{IsNextBit}
-use Rattle.delayed_sim.specs.Levels.{rank_at}
+use Rattle.delayed_sim.specs.Levels.{rank_of, rank_at}
 use Rattle.delayed_sim.specs.Before.{LeadsTo}
 use Rattle.delayed_sim.specs.Boards.{row_words, IsRanked, GivesRank}
 
@@ -64,57 +64,7 @@ found_more A ns i old now new w a q label source by from was here others = elim 
   )
 ]
 
--- The rows of the letters that lead to a state mark the states from which a move leads into `ends` below a place.
-abbrev pub LettersLead : Automaton → Automaton → ℕ → List ℕ → List ℕ → ℕ → ℕ → Type 0
-LettersLead L A to ends made w at =
-    (p a q : ℕ) → Moves L p a to → q < w * 64 → HasCell made w a q ↔ ((q' : ℕ) × Moves A q a q' × (q' < at) × HasBit ends q')
-
-pub letters_none :
-    (L A : Automaton) (to : ℕ) (ends made : List ℕ) (w : ℕ)
-    → ((p a q : ℕ) → Moves L p a to → q < w * 64 → cell_of made w a q ≡ false)
-    → LettersLead L A to ends made w 0
-letters_none L A to ends made w clear p a q move near = (
-  λ cell. absurd (false≢true (sym (clear p a q move near) ∙ cell)),
-  λ is. let lt = is.2 in absurd (omega arith),
-)
-
-pub letters_more :
-    (L A : Automaton) (to : ℕ) (ends old new : List ℕ) (w at right : ℕ)
-    → LettersLead L A to ends old w at
-    → IsNextBit ends at right
-    → ((a q : ℕ) → q < w * 64 → HasCell new w a q ↔ (HasCell old w a q ⊎ Moves A q a right))
-    → LettersLead L A to ends new w (right + 1)
-letters_more L A to ends old new w at right h next marks p a q move near = (
-  λ cell. elim ((marks a q near).0 cell) [
-    | inl was ↦ let is = (h p a q move near).0 was in let lt = is.2 in let le = next.behind in (is.0, is.1, omega arith, is.3)
-    | inr go ↦ (right, go, omega arith, next.here)
-  ],
-  λ is. (marks a q near).1 (elim (cases_eq is.0 right) [
-    | inl e ↦ inr (subst (λ x. Moves A q a x) e is.1)
-    | inr apart ↦ elim (cases_lt is.0 at) [
-      | inl before ↦ inl ((h p a q move near).1 (is.0, is.1, before, is.3))
-      | inr from ↦ let lt = is.2 in absurd (false≢true (sym (next.none_between is.0 from (omega arith)) ∙ is.3))
-    ]
-  ]),
-)
-
-pub letters_all :
-    (L A : Automaton) (to : ℕ) (ends made : List ℕ) (w at : ℕ)
-    → LettersLead L A to ends made w at
-    → ((i : ℕ) → at ≤ i → bit_of ends i ≡ false)
-    → (p a q : ℕ)
-    → Moves L p a to
-    → q < w * 64
-    → HasCell made w a q ↔ LeadsTo A a ends q
-letters_all L A to ends made w at h none p a q move near = (
-  λ cell. let is = (h p a q move near).0 cell in (is.0, is.1, is.3),
-  λ is. elim (cases_lt is.0 at) [
-    | inl before ↦ (h p a q move near).1 (is.0, is.1, before, is.2)
-    | inr from ↦ absurd (false≢true (sym (none is.0 from) ∙ is.2))
-  ],
-)
-
--- the row of such a letter
+-- the row of a letter by which a move leads to the state
 pub row_leads :
     (L A : Automaton) (to : ℕ) (made ends row : List ℕ) (w p a label : ℕ)
     → Moves L p a to
@@ -131,7 +81,7 @@ row_leads L A to made ends row w p a label move e len bits are room q = (
 )
 
 -- Of the left state the pairs with states of the row below a place got the rank.
-pub record HasGiven (unranked : Pairing) (ranks : List (Option ℕ)) (p : ℕ) (row : List ℕ) (rank : ℕ) (unranked' : Pairing) (ranks' : List (Option ℕ)) (at : ℕ) : Type 0 where
+pub record HasGiven (unranked : Pairing) (ranks : List ℕ) (p : ℕ) (row : List ℕ) (rank : ℕ) (unranked' : Pairing) (ranks' : List ℕ) (at : ℕ) : Type 0 where
   pub places : unranked'.places ≡ unranked.places
   pub states : unranked'.states ≡ unranked.states
   pub valid : IsPairing unranked'
@@ -143,7 +93,8 @@ pub record HasGiven (unranked : Pairing) (ranks : List (Option ℕ)) (p : ℕ) (
 
 -- The rank of one pair of the table is set.
 pub rank_set :
-    (ranks : List (Option ℕ)) (m n p q rank at : ℕ)
+    (ranks : List ℕ) (m n p q rank held at : ℕ)
+    → held ≡ suc rank
     → length ranks ≡ m * n
     → p < m
     → q < n
@@ -151,20 +102,20 @@ pub rank_set :
     → (r s : ℕ)
     → r < m
     → s < n
-    → ((r ≡ p) × (s ≡ q) × (rank_at (set ranks at (Some rank)) n r s ≡ Some rank))
-    ⊎ (((r ≡ p) × (s ≡ q) → ⊥) × (rank_at (set ranks at (Some rank)) n r s ≡ rank_at ranks n r s))
-rank_set ranks m n p q rank at len p_in q_in is r s r_in s_in = elim (cases_eq (r * n + s) at) [
+    → ((r ≡ p) × (s ≡ q) × (rank_at (set ranks at held) n r s ≡ Some rank))
+    ⊎ (((r ≡ p) × (s ≡ q) → ⊥) × (rank_at (set ranks at held) n r s ≡ rank_at ranks n r s))
+rank_set ranks m n p q rank held at next len p_in q_in is r s r_in s_in = elim (cases_eq (r * n + s) at) [
   | inl e ↦
       let same = same_from_place r s p q n s_in q_in (e ∙ is) in
       let inside : at < length ranks = omega (arith, mul-add-lt p n q m p_in q_in, mul_comm n m, len, is) in
-      inl (same.0, same.1, ap (λ i. get_or (set ranks at (Some rank)) i None) e ∙ get_or-set_same ranks at (Some rank) None inside)
+      inl (same.0, same.1, ap (λ i. rank_of (get_or (set ranks at held) i 0)) e ∙ ap (λ h. rank_of h) (get_or-set_same ranks at held 0 inside ∙ next))
   | inr far ↦ inr (
     λ these. far (ap (λ x. x * n + s) these.0 ∙ ap (λ y. p * n + y) these.1 ∙ sym is),
-    get_or-set_other ranks at (r * n + s) (Some rank) None far,
+    ap (λ h. rank_of h) (get_or-set_other ranks at (r * n + s) held 0 far),
   )
 ]
 
-pub given_none : (unranked : Pairing) (ranks : List (Option ℕ)) (p : ℕ) (row : List ℕ) (rank : ℕ) → IsPairing unranked → HasGiven unranked ranks p row rank unranked ranks 0
+pub given_none : (unranked : Pairing) (ranks : List ℕ) (p : ℕ) (row : List ℕ) (rank : ℕ) → IsPairing unranked → HasGiven unranked ranks p row rank unranked ranks 0
 given_none unranked ranks p row rank valid = record {
   places = refl;
   states = refl;
@@ -175,7 +126,7 @@ given_none unranked ranks p row rank valid = record {
 }
 
 pub given_more :
-    (unranked now new : Pairing) (ranks ranks' ranks'' : List (Option ℕ)) (p : ℕ) (row : List ℕ) (rank at q : ℕ)
+    (unranked now new : Pairing) (ranks ranks' ranks'' : List ℕ) (p : ℕ) (row : List ℕ) (rank at q : ℕ)
     → HasGiven unranked ranks p row rank now ranks' at
     → IsNextBit row at q
     → Loses now new p q
@@ -225,9 +176,9 @@ given_more unranked now new ranks ranks' ranks'' p row rank at q h next loses va
   ];
 }
 
-module _ (L A : Automaton) (S : ℕ → ℕ → Type 0) (rank : ℕ) (unranked : Pairing) (ranks : List (Option ℕ)) where
+module _ (L A : Automaton) (S : ℕ → ℕ → Type 0) (rank : ℕ) (unranked : Pairing) (ranks : List ℕ) where
   -- The rows below p are done.
-  pub record GivesUpto (unranked' : Pairing) (ranks' : List (Option ℕ)) (fresh : List ℕ) (p : ℕ) : Type 0 where
+  pub record GivesUpto (unranked' : Pairing) (ranks' : List ℕ) (fresh : List ℕ) (p : ℕ) : Type 0 where
     pub places : unranked'.places ≡ unranked.places
     pub states : unranked'.states ≡ unranked.states
     pub valid : IsPairing unranked'
@@ -251,7 +202,7 @@ module _ (L A : Automaton) (S : ℕ → ℕ → Type 0) (rank : ℕ) (unranked :
   }
 
   pub gives_row :
-      (now new : Pairing) (ranks' ranks'' : List (Option ℕ)) (fresh fresh' row : List ℕ) (p : ℕ)
+      (now new : Pairing) (ranks' ranks'' : List ℕ) (fresh fresh' row : List ℕ) (p : ℕ)
       → unranked.places ≡ L.states
       → unranked.states ≡ A.states
       → p < L.states
@@ -327,7 +278,7 @@ module _ (L A : Automaton) (S : ℕ → ℕ → Type 0) (rank : ℕ) (unranked :
           subst P n_is (gives r s (omega arith) (omega arith))
 
   pub gives_all :
-      (unranked' : Pairing) (ranks' : List (Option ℕ)) (fresh : List ℕ) (p : ℕ)
+      (unranked' : Pairing) (ranks' : List ℕ) (fresh : List ℕ) (p : ℕ)
       → L.states ≤ p
       → ((r s : ℕ) → S r s → r < L.states)
       → GivesUpto unranked' ranks' fresh p

@@ -1,13 +1,13 @@
 -- Relations from places to states that tables of bits stand for.
-use Rattle.std.proofs.Common.{◌≡◌, ℕ, zero, suc, ◌+◌, ◌*◌, ◌/◌, ◌<◌, ◌≤◌, ◌⊎◌, ◌↔◌, inl, inr, Bool, true, false, cond, List, [], ◌∷◌, length, refl, sym, ◌∙◌, subst, arith, length-append}
-use Rattle.std.proofs.lemmas.Bool.{cases_eq, cases_lt, false≢true}
+use Rattle.std.proofs.Common.{◌≡◌, ℕ, zero, suc, ◌+◌, ◌*◌, ◌/◌, ◌<◌, ◌≤◌, ◌⊎◌, ◌↔◌, inl, inr, Bool, true, false, ◌&&◌, cond, List, [], ◌∷◌, length, refl, sym, ◌∙◌, subst, arith, length-append}
+use Rattle.std.proofs.lemmas.Bool.{cases_eq, cases_lt, and_from, and_parts, false≢true}
 use Rattle.auto_core.specs.Rows.{bit_of, cell_of, HasBit, HasCell}
 use Rattle.auto_core.specs.Game.{Holds, IsWithin}
 use Rattle.bit_rel.specs.Relation.{Relation, IsRelation}
 use Rattle.bit_rel.specs.Stored.{pairs_in_row, pairs_below}
 use Rattle.bit_rel.proofs.LengthLemmas.{fewer, no_more}
 use Rattle.bit_rel.proofs.PairLemmas.{pairs_hold, pairs_have, pairs_ascend}
-use Rattle.delayed_sim.specs.Pairings.{Pairing, IsPairing, Loses, table_pairing}
+use Rattle.delayed_sim.specs.Pairings.{Pairing, IsPairing, Loses, IsNarrowed, table_pairing}
 
 -- ---- the number of pairs
 
@@ -96,6 +96,49 @@ lost old new w m n x q room others here = record { places = refl; states = refl;
     from r s (was, apart) =
         let (left, right, is) = held_cell old w m n r s was in
         cell_held new w m n r s left right (others r s (omega arith) apart ∙ is)
+
+-- one row is narrowed
+pub narrowed :
+    (old new row : List ℕ) (w m n x : ℕ)
+    → n ≤ w * 64
+    → ((q : ℕ) → q < w * 64 → cell_of new w x q ≡ (cell_of old w x q && bit_of row q))
+    → ((r q : ℕ) → q < w * 64 → ¬ (r ≡ x) → cell_of new w r q ≡ cell_of old w r q)
+    → IsNarrowed (table_pairing old w m n) (table_pairing new w m n) x row
+narrowed old new row w m n x room here others = record { places = refl; states = refl; pairs = λ r s. (to r s, from r s) }
+  where
+    to : (r s : ℕ) → Holds (table_pairing new w m n).pairs r s → Holds (table_pairing old w m n).pairs r s × (r ≡ x → HasBit row s)
+    to r s h =
+        let (left, right, is) = held_cell new w m n r s h in
+        elim (cases_eq r x) [
+          | inl e ↦
+              let both = and_parts (cell_of old w x s) (bit_of row s) (sym (here s (omega arith)) ∙ subst (λ y. cell_of new w y s ≡ true) e is) in
+              (cell_held old w m n r s left right (subst (λ y. cell_of old w y s ≡ true) (sym e) both.0), λ same. both.1)
+          | inr apart ↦ (cell_held old w m n r s left right (sym (others r s (omega arith) apart) ∙ is), λ e. absurd (apart e))
+        ]
+
+    from : (r s : ℕ) → Holds (table_pairing old w m n).pairs r s × (r ≡ x → HasBit row s) → Holds (table_pairing new w m n).pairs r s
+    from r s (was, passes) =
+        let (left, right, is) = held_cell old w m n r s was in
+        elim (cases_eq r x) [
+          | inl e ↦
+              let cell : cell_of new w x s ≡ true = here s (omega arith) ∙ and_from (cell_of old w x s) (bit_of row s) (subst (λ y. cell_of old w y s ≡ true) e is) (passes e) in
+              cell_held new w m n r s left right (subst (λ y. cell_of new w y s ≡ true) (sym e) cell)
+          | inr apart ↦ cell_held new w m n r s left right (others r s (omega arith) apart ∙ is)
+        ]
+
+-- the columns stay those of states where one row is narrowed
+pub columns_narrowed :
+    (old new row : List ℕ) (w m n x : ℕ)
+    → ((q : ℕ) → q < w * 64 → cell_of new w x q ≡ (cell_of old w x q && bit_of row q))
+    → ((r q : ℕ) → q < w * 64 → ¬ (r ≡ x) → cell_of new w r q ≡ cell_of old w r q)
+    → ((y s : ℕ) → y < m → s < w * 64 → HasCell old w y s → s < n)
+    → (y s : ℕ) → y < m → s < w * 64 → HasCell new w y s → s < n
+columns_narrowed old new row w m n x here others columns y s y_in near cell = elim (cases_eq y x) [
+  | inl e ↦
+      let both = and_parts (cell_of old w x s) (bit_of row s) (sym (here s near) ∙ subst (λ z. cell_of new w z s ≡ true) e cell) in
+      columns y s y_in near (subst (λ z. cell_of old w z s ≡ true) (sym e) both.0)
+  | inr apart ↦ columns y s y_in near (sym (others y s near apart) ∙ cell)
+]
 
 -- a row's bits are the pairs of its place
 pub row_pairs :

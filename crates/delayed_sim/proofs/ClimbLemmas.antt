@@ -1,5 +1,5 @@
 -- From one level of ranks to the next, and the last one.
-use Rattle.std.proofs.Common.{◌≡◌, ℕ, zero, suc, ◌*◌, ◌<◌, ◌≤◌, ◌⊎◌, ◌↔◌, inl, inr, Option, None, List, length, sym, ap, ◌∙◌, subst, arith}
+use Rattle.std.proofs.Common.{◌≡◌, ℕ, zero, suc, ◌*◌, ◌<◌, ◌≤◌, ◌⊎◌, ◌↔◌, inl, inr, None, List, length, sym, ap, ◌∙◌, subst, arith}
 use Rattle.std.proofs.lemmas.Bool.{cases_eq, cases_lt}
 use Rattle.auto_core.specs.Automaton.{Automaton, IsAutomaton, Moves, IsAccepting, trans_at}
 use Rattle.auto_core.specs.declared.parts.Trans.{Trans}
@@ -18,7 +18,7 @@ move_of_number L t p t_in leaves = subst (λ x. Moves L x (trans_at L t).label (
 module _ (L A : Automaton) (R : Pairing) where
   -- Rank 0 is given where the right state is accepting.
   pub climb_starts :
-      (unranked : Pairing) (none ranks : List (Option ℕ)) (answered fresh : List ℕ)
+      (unranked : Pairing) (none ranks : List ℕ) (answered fresh : List ℕ)
       → R.places ≡ L.states
       → R.states ≡ A.states
       → IsPairing R
@@ -69,7 +69,7 @@ module _ (L A : Automaton) (R : Pairing) where
         | inr kept ↦ kept.1 ∙ clear p q
       ]
 
-module _ (L A : Automaton) (sound : IsAutomaton L) (valid : IsAutomaton A) (R : ℕ → ℕ → Type 0) (r : ℕ) (unranked : Pairing) (ranks : List (Option ℕ)) (answered fresh : List ℕ) (at : IsClimbed L A R r unranked ranks answered fresh) where
+module _ (L A : Automaton) (sound : IsAutomaton L) (valid : IsAutomaton A) (R : ℕ → ℕ → Type 0) (r : ℕ) (unranked : Pairing) (ranks : List ℕ) (answered fresh : List ℕ) (at : IsClimbed L A R r unranked ranks answered fresh) where
   -- The answers by the pairs of rank r are noted.
   module _ (answered' : List ℕ) (notes : (t q : ℕ) → t < length L.transitions → q < A.states → HasCell answered' (row_words A) t q ↔ (HasCell answered (row_words A) t q ⊎ HasFreshAnswer L A fresh t q)) where
     target_in : (t : ℕ) → t < length L.transitions → (trans_at L t).target < L.states
@@ -128,7 +128,7 @@ module _ (L A : Automaton) (sound : IsAutomaton L) (valid : IsAutomaton A) (R : 
 
     -- The pairs that are ready got the next rank.
     pub climb_next :
-        (unranked' : Pairing) (ranks' : List (Option ℕ)) (fresh' : List ℕ)
+        (unranked' : Pairing) (ranks' : List ℕ) (fresh' : List ℕ)
         → GivesRank L A (IsReady L A unranked answered') (suc r) unranked ranks unranked' ranks' fresh'
         → IsClimbed L A R (suc r) unranked' ranks' answered' fresh'
     climb_next unranked' ranks' fresh' gives = record {
@@ -206,7 +206,7 @@ module _ (L A : Automaton) (sound : IsAutomaton L) (valid : IsAutomaton A) (R : 
 
 -- No pair has the last rank: then no unranked pair can have any.
 pub climb_ends :
-    (L A : Automaton) (sound : IsAutomaton L) (valid : IsAutomaton A) (R : ℕ → ℕ → Type 0) (r : ℕ) (unranked : Pairing) (ranks : List (Option ℕ)) (answered fresh : List ℕ)
+    (L A : Automaton) (sound : IsAutomaton L) (valid : IsAutomaton A) (R : ℕ → ℕ → Type 0) (r : ℕ) (unranked : Pairing) (ranks : List ℕ) (answered fresh : List ℕ)
     → IsClimbed L A R (suc r) unranked ranks answered fresh
     → ((p q : ℕ) → p < L.states → q < A.states → IsRanked A ranks p q (suc r) → ⊥)
     → AreLeastRanks L A R ranks

@@ -11,8 +11,8 @@ use Rattle.std.proofs.lemmas.List.{get_or_default, get_or-map, length-map}
 use Rattle.auto_core.specs.Delayed.{HasRank}
 use Rattle.delayed_sim.specs.declared.entries.Entry.{Entry}
 use Rattle.delayed_sim.specs.declared.delayed.Delayed.TheInside.{Inside}
-use Rattle.delayed_sim.specs.Rankings.{Triple, row_key, triple_cmp, triple_at, IsTripleBefore, AreTriplesInOrder, IsRanking}
-use Rattle.delayed_sim.specs.Stored.{triple_of, triples_of, ranking_of, IsStoredRanking, no_entry, IsFound, IsBetween}
+use Rattle.delayed_sim.specs.Rankings.{Triple, row_key, triple_cmp, triple_at, IsTripleBefore, AreTriplesInOrder, IsTripleFrom, IsRanking}
+use Rattle.delayed_sim.specs.Stored.{triple_of, triples_of, ranking_of, IsStoredRanking, no_entry, IsFound, IsBetween, IsFirstFrom}
 use Rattle.delayed_sim.proofs.OrderLemmas.{triple_total, equal_less, once_in_order}
 
 -- ---- what an answer of the comparison says
@@ -28,7 +28,7 @@ both_equal Less r e = absurd (less_equal e)
 both_equal Equal r e = (refl, e)
 both_equal Greater r e = absurd (greater_equal e)
 
-same_list : (xs ys : List ℕ) → slice_cmp nat_cmp xs ys ≡ Equal → xs ≡ ys
+pub same_list : (xs ys : List ℕ) → slice_cmp nat_cmp xs ys ≡ Equal → xs ≡ ys
 same_list [] [] e = refl
 same_list [] (y ∷ ys) e = absurd (less_equal e)
 same_list (x ∷ xs) [] e = absurd (greater_equal e)
@@ -145,6 +145,70 @@ found_none n entries p b q low high h none rank has =
       | inl lt ↦ equal_less (triple_cmp x (p, b, q, None)) equal (h.below i lt)
       | inr le ↦ greater_equal (sym (h.above i (omega arith) i_in) ∙ equal)
     ]
+
+-- ---- the first entry from a triple on
+
+-- The first entry that does not stand before the triple is between these places.
+pub record IsFirstWithin (n : ℕ) (entries : List Entry) (key : Triple) (low high : ℕ) : Type 0 where
+  pub upto : low ≤ high
+  pub within : high ≤ length entries
+  pub below : (i : ℕ) → i < low → triple_cmp (triple_of n (get_or entries i no_entry)) key ≡ Less
+  pub from : (i : ℕ) → high ≤ i → i < length entries → triple_cmp (triple_of n (get_or entries i no_entry)) key ≡ Less → ⊥
+
+module _ (n : ℕ) (entries : List Entry) (key : Triple) (low high middle : ℕ) (order : AreTriplesInOrder (triples_of n entries)) (h : IsFirstWithin n entries key low high) (from : low ≤ middle) (lt : middle < high) where
+  pub first_upper : triple_cmp (triple_of n (get_or entries middle no_entry)) key ≡ Less → IsFirstWithin n entries key (middle + 1) high
+  first_upper less =
+      let within = h.within in
+      record {
+        upto = omega arith;
+        within = h.within;
+        below = λ i i_lt. elim (cases_eq i middle) [
+          | inl e ↦ subst (λ k. triple_cmp (triple_of n (get_or entries k no_entry)) key ≡ Less) (sym e) less
+          | inr apart ↦
+              triple_total.trans (triple_of n (get_or entries i no_entry)) (triple_of n (get_or entries middle no_entry)) key
+              (entry_before n entries i middle order (omega arith) (omega arith)) less
+        ];
+        from = h.from;
+      }
+
+  pub first_lower : (triple_cmp (triple_of n (get_or entries middle no_entry)) key ≡ Less → ⊥) → IsFirstWithin n entries key low middle
+  first_lower past =
+      let within = h.within in
+      record {
+        upto = from;
+        within = omega arith;
+        below = h.below;
+        from = λ i i_from i_in less. elim (cases_eq i middle) [
+          | inl e ↦ past (subst (λ k. triple_cmp (triple_of n (get_or entries k no_entry)) key ≡ Less) e less)
+          | inr apart ↦
+              past (triple_total.trans (triple_of n (get_or entries middle no_entry)) (triple_of n (get_or entries i no_entry)) key
+              (entry_before n entries middle i order (omega arith) i_in) less)
+        ];
+      }
+
+pub first_found : (n : ℕ) (entries : List Entry) (key : Triple) (low high : ℕ) → IsFirstWithin n entries key low high → high ≤ low → IsFirstFrom n entries key low
+first_found n entries key low high h met =
+    let upto = h.upto in
+    let within = h.within in
+    record {
+      upto = omega arith;
+      below = h.below;
+      from = λ i le i_in. h.from i (omega arith) i_in;
+    }
+
+-- of the triples as of the entries
+pub first_triple : (n : ℕ) (entries : List Entry) (key : Triple) (at : ℕ) → IsFirstFrom n entries key at → IsTripleFrom (triples_of n entries) key at
+first_triple n entries key at h =
+    let upto = h.upto in
+    let count = entry_count n entries in
+    let P : Triple → Type 0 = λ x. triple_cmp x key ≡ Less in
+    record {
+      upto = omega (arith, count);
+      below = λ j lt. subst P (sym (entry_triple n entries j (0, [], 0, None) (omega arith))) (h.below j lt);
+      from = λ j le j_in less.
+          let inside : j < length entries = omega (arith, count) in
+          h.from j le inside (subst P (entry_triple n entries j (0, [], 0, None) inside) less);
+    }
 
 -- ---- rows
 

@@ -1,6 +1,7 @@
 -- How large the game of places is.
 use Rattle.std.proofs.Common.{◌≡◌, ◌==◌, ℕ, zero, suc, ◌+◌, ◌-◌, ◌*◌, ◌^◌, ◌<◌, ◌≤◌, inl, inr, true, length, refl, ap, ◌∙◌, subst, arith}
 use Rattle.std.proofs.lemmas.Bool.{cases_eq, cases_Bool, cond-true, cond-false, eq-eqb, leb-true}
+use Rattle.std.proofs.lemmas.Nat.{mul-le}
 use Rattle.std.proofs.Math.Nat.{pow-zero, pow-suc, mul-le-mul_right, le-mul_of_pos_right}
 use Rattle.auto_core.specs.Automaton.{Automaton, IsAutomaton, IsInRange, IsBefore, trans, trans_at}
 use Rattle.auto_core.specs.declared.parts.Trans.{Trans}
@@ -161,3 +162,41 @@ small_game A n valid more fits =
 
     turned_of : (w s : ℕ) → w * s ≡ s * w
     turned_of w s = grind arith
+
+-- ---- the list of all triples
+
+-- With n announced letters all triples can be listed.
+pub record IsListable (A : Automaton) (n : ℕ) : Type 0 where
+  pub words : 0 < A.labels ^ (n - 1)
+  pub word_count : A.labels ^ (n - 1) < 2 ^ 32
+  pub places : A.states * A.labels ^ (n - 1) < 2 ^ 32
+  pub pairs : A.states * A.labels ^ (n - 1) * A.states + 1 < 2 ^ 32
+
+pub listable : (A : Automaton) (n : ℕ) → IsAutomaton A → 1 ≤ n → n ≡ letters_for A n → A.states ≤ 65535 → IsListable A n
+listable A n valid some fits few = elim (cases_eq n 1) [
+  | inl e ↦
+      let one : A.labels ^ (n - 1) ≡ 1 = ap (λ i. A.labels ^ (i - 1)) e ∙ pow-zero A.labels in
+      let square = mul-le A.states A.states 65535 65535 few few in
+      let places : A.states * A.labels ^ (n - 1) ≡ A.states = ap (λ w. A.states * w) one ∙ times_one A.states in
+      let pairs : A.states * A.labels ^ (n - 1) * A.states ≡ A.states * A.states = ap (λ x. x * A.states) places in
+      record {
+        words = omega arith;
+        word_count = omega arith;
+        places = omega arith;
+        pairs = omega arith;
+      }
+  | inr more ↦
+      let small = small_game A n valid (omega arith) fits in
+      let word_count = small.word_count in
+      let places = small.places in
+      let pairs = small.pairs in
+      record {
+        words = small.words;
+        word_count = omega arith;
+        places = omega arith;
+        pairs = omega arith;
+      }
+]
+  where
+    times_one : (s : ℕ) → s * 1 ≡ s
+    times_one s = grind arith

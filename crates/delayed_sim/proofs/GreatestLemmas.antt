@@ -1,5 +1,5 @@
 -- What goes while the game is played, and what is left.
-use Rattle.std.proofs.Common.{◌≡◌, ℕ, ◌<◌, Option, List, arith}
+use Rattle.std.proofs.Common.{◌≡◌, ℕ, ◌<◌, List, arith}
 use Rattle.auto_core.specs.Automaton.{Automaton, Moves}
 use Rattle.auto_core.specs.Game.{Holds}
 use Rattle.delayed_sim.specs.Pairings.{Pairing, IsPairing}
@@ -9,7 +9,7 @@ use Rattle.delayed_sim.proofs.CanLemmas.{right_can}
 
 -- Pairs that were dropped are in no right relation.
 pub drops_shrinks :
-    (L A : Automaton) (ranks : List (Option ℕ)) (R S : Pairing) (marks marks' : List ℕ)
+    (L A : Automaton) (ranks : List ℕ) (R S : Pairing) (marks marks' : List ℕ)
     → R.places ≡ L.states
     → R.states ≡ A.states
     → IsPairing R
@@ -28,7 +28,7 @@ drops_shrinks L A ranks R S marks marks' places size valid least drops = record 
 
 -- Moves to places whose rows lost no pair stay answered.
 pub drops_besides :
-    (L A : Automaton) (n : ℕ) (ranks : List (Option ℕ)) (R S : Pairing) (marks marks' : List ℕ)
+    (L A : Automaton) (n : ℕ) (ranks : List ℕ) (R S : Pairing) (marks marks' : List ℕ)
     → ((p a p' : ℕ) → Moves L p a p' → p' < L.states)
     → ((p q : ℕ) → Holds R.pairs p q → AnswersAll L A (Holds R.pairs) p q)
     → Drops L n ranks R S marks marks'

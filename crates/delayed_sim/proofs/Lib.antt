@@ -6,6 +6,7 @@ pub mod AheadLemmas
 pub mod RightLemmas
 pub mod BoardLemmas
 pub mod SettleLemmas
+pub mod SetLemmas
 pub mod BeforeLemmas
 pub mod CanLemmas
 pub mod ClimbLemmas
@@ -19,3 +20,6 @@ pub mod StepLemmas
 pub mod BoundLemmas
 pub mod RelateLemmas
 pub mod BuildLemmas
+pub mod RoundLemmas
+pub mod LevelLemmas
+pub mod FullLemmas

@@ -24,7 +24,7 @@ use Rattle.delayed_sim.proofs.WordLemmas.{number_order, lt_less, length-digits}
 use Rattle.delayed_sim.proofs.PlaceLemmas.{letters_of_place, number_of_place, state_of_place, place_state, place_letters, place_below}
 use Rattle.delayed_sim.proofs.AheadGreatest.{AreTriplesOfPairs}
 
-pub listed_none : (labels n : ℕ) (R : Pairing) (ranks : List (Option ℕ)) → AreListed labels n R ranks 0 0 []
+pub listed_none : (labels n : ℕ) (R : Pairing) (ranks : List ℕ) → AreListed labels n R ranks 0 0 []
 listed_none labels n R ranks = record {
   each = λ t h. absurd (none_in_nil t h);
   all = λ y s held before. absurd (nothing y s before);
@@ -35,29 +35,32 @@ listed_none labels n R ranks = record {
     nothing y s (inl lt) = omega arith
     nothing y s (inr both) = let lt = both.1 in omega arith
 
-module _ (labels n : ℕ) (R : Pairing) (ranks : List (Option ℕ)) (some : 1 ≤ n) (words : R.places ≡ R.states * labels ^ (n - 1)) (valid : IsPairing R) where
+-- the triples of pairs ascend as the pairs do
+pub here_before :
+    (labels n m : ℕ) (ranks : List ℕ) (states y s x q : ℕ)
+    → 1 ≤ n
+    → y < states * labels ^ (n - 1)
+    → x < states * labels ^ (n - 1)
+    → IsPairBefore (y, s) (x, q)
+    → IsTripleBefore (triple_here labels n m ranks y s) (triple_here labels n m ranks x q)
+here_before labels n m ranks states y s x q some y_in x_in (inl lt) =
+    let w = labels ^ (n - 1) in
+    let b = digits labels (n - 1) (y % w) in
+    let c = digits labels (n - 1) (x % w) in
+    let b_is = letters_of_place labels n states y some y_in in
+    let c_is = letters_of_place labels n states x some x_in in
+    let numbers : place_of labels (y / w) b < place_of labels (x / w) c = omega (arith, number_of_place labels n states y some y_in, number_of_place labels n states x some x_in) in
+    ap (λ o. ordering_then o (nat_cmp s q)) (number_order labels b c (y / w) (x / w) (length-digits labels (n - 1) (y % w) ∙ sym (length-digits labels (n - 1) (x % w))) b_is.1 c_is.1 numbers)
+here_before labels n m ranks states y s x q some y_in x_in (inr both) =
+    let k : List ℕ = row_key (triple_here labels n m ranks x q) in
+    let keys : row_key (triple_here labels n m ranks y s) ≡ k = ap (λ z. row_key (triple_here labels n m ranks z q)) both.0 in
+    ap (λ l. ordering_then (slice_cmp nat_cmp l k) (nat_cmp s q)) keys
+    ∙ ap (λ o. ordering_then o (nat_cmp s q)) (tied_itself nat_list_cmp_total k)
+    ∙ lt_less s q both.1
+
+module _ (labels n : ℕ) (R : Pairing) (ranks : List ℕ) (some : 1 ≤ n) (words : R.places ≡ R.states * labels ^ (n - 1)) (valid : IsPairing R) where
   in_places : (x q : ℕ) → Holds R.pairs x q → x < R.states * labels ^ (n - 1)
   in_places x q held = let lt = (valid.in_range x q held).0 in omega arith
-
-  -- the triples of pairs ascend as the pairs do
-  here_before : (y s x q : ℕ) → Holds R.pairs y s → Holds R.pairs x q → IsPairBefore (y, s) (x, q) → IsTripleBefore (triple_here labels n R.states ranks y s) (triple_here labels n R.states ranks x q)
-  here_before y s x q held next (inl lt) =
-      let w = labels ^ (n - 1) in
-      let y_in = in_places y s held in
-      let x_in = in_places x q next in
-      let b = digits labels (n - 1) (y % w) in
-      let c = digits labels (n - 1) (x % w) in
-      let b_is = letters_of_place labels n R.states y some y_in in
-      let c_is = letters_of_place labels n R.states x some x_in in
-      let numbers : place_of labels (y / w) b < place_of labels (x / w) c = omega (arith, number_of_place labels n R.states y some y_in, number_of_place labels n R.states x some x_in) in
-      ap (λ o. ordering_then o (nat_cmp s q)) (number_order labels b c (y / w) (x / w) (length-digits labels (n - 1) (y % w) ∙ sym (length-digits labels (n - 1) (x % w))) b_is.1 c_is.1 numbers)
-  here_before y s x q held next (inr both) =
-      let w = labels ^ (n - 1) in
-      let k : List ℕ = row_key (triple_here labels n R.states ranks x q) in
-      let keys : row_key (triple_here labels n R.states ranks y s) ≡ k = ap (λ z. row_key (triple_here labels n R.states ranks z q)) both.0 in
-      ap (λ l. ordering_then (slice_cmp nat_cmp l k) (nat_cmp s q)) keys
-      ∙ ap (λ o. ordering_then o (nat_cmp s q)) (tied_itself nat_list_cmp_total k)
-      ∙ lt_less s q both.1
 
   -- The next pair of the row is listed.
   pub listed_more :
@@ -81,7 +84,7 @@ module _ (labels n : ℕ) (R : Pairing) (ranks : List (Option ℕ)) (some : 1 �
     ];
     in_order = all_pairs_push IsTripleBefore T (triple_here labels n R.states ranks x q) h.in_order (λ k d k_in.
         let (y, s, held, before, is) = h.each (get_or T k d) (Contains-get_or T k d k_in) in
-        subst (λ t. IsTripleBefore t (triple_here labels n R.states ranks x q)) is (here_before y s x q held ((bits q).0 next.here) (up_to y s before)));
+        subst (λ t. IsTripleBefore t (triple_here labels n R.states ranks x q)) is (here_before labels n R.states ranks R.states y s x q some (in_places y s held) (in_places x q ((bits q).0 next.here)) (up_to y s before)));
   }
     where
       further : (y s : ℕ) → IsPairBefore (y, s) (x, at) → IsPairBefore (y, s) (x, q + 1)
@@ -134,7 +137,7 @@ module _ (labels n : ℕ) (R : Pairing) (ranks : List (Option ℕ)) (some : 1 �
 
 -- When all places are listed, the triples are those of all pairs.
 pub listed_pairs :
-    (A : Automaton) (n : ℕ) (S : Pairing) (ranks : List (Option ℕ)) (T : RankedTriples)
+    (A : Automaton) (n : ℕ) (S : Pairing) (ranks : List ℕ) (T : RankedTriples)
     → 1 ≤ n
     → S.states ≡ A.states
     → S.places ≡ A.states * A.labels ^ (n - 1)
@@ -174,7 +177,7 @@ listed_pairs A n S ranks T some size words valid h p b q o = (
 
 -- the entry that is made for a pair has its triple
 pub entry_here :
-    (labels n m : ℕ) (ranks : List (Option ℕ)) (x q : ℕ) (e : Entry)
+    (labels n m : ℕ) (ranks : List ℕ) (x q : ℕ) (e : Entry)
     → e.left ≡ x / labels ^ (n - 1)
     → take (n - 1) e.ahead ≡ digits labels (n - 1) (x % labels ^ (n - 1))
     → e.right ≡ q
@@ -191,7 +194,7 @@ entry_here labels n m ranks x q e left word right rank =
 
 -- an entry more has a triple more
 pub listed_push :
-    (labels n : ℕ) (R : Pairing) (ranks : List (Option ℕ)) (x at q : ℕ) (row : List ℕ) (entries : List Entry) (e : Entry)
+    (labels n : ℕ) (R : Pairing) (ranks : List ℕ) (x at q : ℕ) (row : List ℕ) (entries : List Entry) (e : Entry)
     → 1 ≤ n
     → R.places ≡ R.states * labels ^ (n - 1)
     → IsPairing R

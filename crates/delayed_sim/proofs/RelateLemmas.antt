@@ -1,14 +1,22 @@
 -- Which states are related whatever letters are announced.
 use Rattle.std.proofs.Common.{◌≡◌, ℕ, suc, ◌+◌, ◌<◌, ◌≤◌, ◌⊎◌, ◌↔◌, inl, inr, Bool, None, List, [], ◌∷◌, ◌++◌, length, Contains, refl, sym, ap, ◌∙◌, subst, arith, length-append}
 use Rattle.std.specs.Prelude.{IsTrue}
-use Rattle.std.proofs.lemmas.Bool.{cases_eq}
+use Rattle.std.specs.Cmp.{nat_cmp_is}
+use Rattle.std.specs.Cmp.Lexicographic.{slice_cmp}
+use Rattle.std.specs.Ordering.{nat_cmp, is_lt, ordering_then}
+use Rattle.std.specs.declared.cmp.Ordering.{Ordering}
+use Rattle.std.specs.declared.cmp.Ordering.TheVariants.{Less, Equal, Greater}
+use Rattle.std.proofs.lemmas.Bool.{cases_eq, cases_lt, false≢true}
+use Rattle.std.proofs.lemmas.Cmp.{nat_list_cmp_total, ranked, tied_itself}
 use Rattle.std.proofs.lemmas.List.{append-nil, append_assoc, get_or_default, nil_from_length}
-use Rattle.std.proofs.lemmas.List.Elements.{All-cons, All-head, All-tail}
+use Rattle.std.proofs.lemmas.List.Elements.{Contains-get_or, All-cons, All-head, All-tail}
 use Rattle.auto_core.specs.Game.{Holds}
-use Rattle.auto_core.specs.Delayed.{HoldsTriple, AreRelatedAhead}
+use Rattle.auto_core.specs.Rows.{bit_of, HasBit}
+use Rattle.auto_core.specs.Delayed.{RankedTriples, HoldsTriple, AreRelatedAhead}
 use Rattle.bit_rel.specs.Relation.{Relation, Adds}
-use Rattle.delayed_sim.specs.Rankings.{Triple, Ranking, IsRanking, triple_at}
+use Rattle.delayed_sim.specs.Rankings.{Triple, Ranking, IsRanking, IsTripleBefore, IsTripleFrom, row_key, triple_cmp, triple_at}
 use Rattle.delayed_sim.specs.Related.{HoldsEach}
+use Rattle.delayed_sim.proofs.EntryLemmas.{same_list}
 
 -- all letters are chosen
 pub each_whole : (R : Ranking) (word : List ℕ) (p q : ℕ) (t : Bool) → suc (length word) ≡ R.letters → (IsTrue t ↔ HoldsTriple R.triples word p q) → IsTrue t ↔ HoldsEach R word p q
@@ -18,6 +26,83 @@ each_whole R word p q t len told = (
       subst (λ l. HoldsTriple R.triples (word ++ l) p q) (sym (nil_from_length rest none)) (subst (λ l. HoldsTriple R.triples l p q) (sym (append-nil word)) (told.0 yes)),
   λ all. told.1 (subst (λ l. HoldsTriple R.triples l p q) (append-nil word) (all [] (omega arith) (λ i d i_in. absurd (omega arith)))),
 )
+
+-- ---- the triples of one left state and word stand together
+
+in_row :
+    (x : Triple) (p : ℕ) (b : List ℕ) (size : ℕ) (o : Ordering)
+    → slice_cmp nat_cmp (row_key x) (p ∷ b) ≡ o
+    → ordering_then o (nat_cmp x.2 size) ≡ Less
+    → (ordering_then o (nat_cmp x.2 0) ≡ Less → ⊥)
+    → row_key x ≡ p ∷ b
+in_row x p b size Less is lt past = absurd (past refl)
+in_row x p b size Equal is lt past = same_list (row_key x) (p ∷ b) is
+in_row x p b size Greater is lt past = absurd (false≢true (ap is_lt lt))
+
+whole_triple : (x : Triple) (p : ℕ) (b : List ℕ) (q : ℕ) → row_key x ≡ p ∷ b → x.2 ≡ q → ◌≡◌ {A = Triple} x (p, b, q, x.3)
+whole_triple (l, w, r, o) p b q key right = cc
+
+-- The triple at one of the places from `begin` up to `end`, before `at`, has this right state.
+abbrev pub IsPlaced : RankedTriples → ℕ → ℕ → ℕ → ℕ → Type 0
+IsPlaced X begin end at q = (i : ℕ) × (begin ≤ i) × (i < end) × (i < at) × ((triple_at X i).2 ≡ q)
+
+module _ (X : RankedTriples) (p : ℕ) (b : List ℕ) (size begin end : ℕ) (first : IsTripleFrom X (p, b, 0, None) begin) (last : IsTripleFrom X (p, b, size, None) end) where
+  pub placed_held : (q : ℕ) (at : ℕ) → IsPlaced X begin end at q → HoldsTriple X b p q
+  placed_held q at (i, from, lt, done, right) =
+      let upto = last.upto in
+      let x = triple_at X i in
+      let key : row_key x ≡ p ∷ b = in_row x p b size (slice_cmp nat_cmp (row_key x) (p ∷ b)) refl (last.below i lt) (first.from i from (omega arith)) in
+      let has : Contains X x = Contains-get_or X i (0, [], 0, None) (omega arith) in
+      let is : x ≡ (p, b, q, x.3) = whole_triple x p b q key right in
+      (x.3, subst (λ y. Contains X y) is has)
+
+  pub held_placed : (q : ℕ) (at : ℕ) → q < size → end ≤ at → HoldsTriple X b p q → IsPlaced X begin end at q
+  held_placed q at q_in all (o, (i, i_in, is)) =
+      let x : triple_at X i ≡ (p, b, q, o) = get_or_default X i (0, [], 0, None) (p, b, q, o) i_in ∙ is in
+      let keys : slice_cmp nat_cmp (p ∷ b) (p ∷ b) ≡ Equal = tied_itself nat_list_cmp_total (p ∷ b) in
+      let then_is : (s : ℕ) → triple_cmp (p, b, q, o) (p, b, s, None) ≡ nat_cmp q s = λ s. ap (λ r. ordering_then r (nat_cmp q s)) keys in
+      let inside : IsTripleBefore (p, b, q, o) (p, b, size, None) = then_is size ∙ sym (nat_cmp_is q size Less q_in) in
+      let past : IsTripleBefore (p, b, q, o) (p, b, 0, None) → ⊥ = λ before. let lt : q < 0 = ranked q 0 Less (sym before ∙ then_is 0) in omega arith in
+      let from : begin ≤ i = elim (cases_lt i begin) [
+        | inl lt ↦ absurd (past (subst (λ y. IsTripleBefore y (p, b, 0, None)) x (first.below i lt)))
+        | inr le ↦ le
+      ] in
+      let lt : i < end = elim (cases_lt i end) [
+        | inl lt ↦ lt
+        | inr le ↦ absurd (last.from i le i_in (subst (λ y. IsTripleBefore y (p, b, size, None)) (sym x) inside))
+      ] in
+      (i, from, lt, omega arith, ap (λ (t : Triple). t.2) x)
+
+-- one more place is marked
+pub placed_more :
+    (X : RankedTriples) (begin end at q : ℕ) (old now new : List ℕ)
+    → begin ≤ at
+    → at < end
+    → q ≡ (triple_at X at).2
+    → ((s : ℕ) → HasBit now s ↔ (HasBit old s ⊎ IsPlaced X begin end at s))
+    → HasBit new q
+    → ((s : ℕ) → ¬ (s ≡ q) → bit_of new s ≡ bit_of now s)
+    → (s : ℕ)
+    → HasBit new s ↔ (HasBit old s ⊎ IsPlaced X begin end (at + 1) s)
+placed_more X begin end at q old now new from lt right h here others s = elim (cases_eq s q) [
+  | inl e ↦ (
+    λ bit. inr (at, from, lt, omega arith, sym right ∙ sym e),
+    λ either. subst (λ x. HasBit new x) (sym e) here,
+  )
+  | inr apart ↦ (
+    λ bit. elim ((h s).0 (sym (others s apart) ∙ bit)) [
+      | inl was ↦ inl was
+      | inr (i, le, i_lt, done, is) ↦ inr (i, le, i_lt, omega arith, is)
+    ],
+    λ either. others s apart ∙ (h s).1 (elim either [
+      | inl was ↦ inl was
+      | inr (i, le, i_lt, done, is) ↦ elim (cases_eq i at) [
+        | inl e ↦ absurd (apart (sym is ∙ ap (λ k. (triple_at X k).2) e ∙ sym right))
+        | inr off ↦ inr (i, le, i_lt, omega arith, is)
+      ]
+    ]),
+  )
+]
 
 -- The next letter below a number is tried.
 abbrev pub HoldsUpto : Ranking → List ℕ → ℕ → ℕ → ℕ → Type 0

@@ -5,7 +5,7 @@ use Rattle.auto_core.specs.Automaton.{Automaton, Moves, trans_at}
 use Rattle.auto_core.specs.Rows.{bit_of, HasBit}
 use Rattle.auto_core.specs.Game.{Holds}
 use Rattle.delayed_sim.specs.Across.{HoldsPair}
-use Rattle.delayed_sim.specs.Pairings.{Pairing, IsPairing, Loses}
+use Rattle.delayed_sim.specs.Pairings.{Pairing, IsPairing, IsNarrowed, Loses}
 use Rattle.delayed_sim.proofs.BoardLemmas.{fewer_pairs}
 use Rattle.row_steps.specs.Walks.{IsNextBit}
 use Rattle.delayed_sim.specs.Before.{LeadsTo}
@@ -132,70 +132,34 @@ module _ (old : Pairing) (p : ℕ) (P : ℕ → Type 0) where
     same = h.same;
   }
 
--- one pair fewer
-pub lost_fewer : (now new : Pairing) (p q : ℕ) → IsPairing now → IsPairing new → Loses now new p q → Holds now.pairs p q → length new.pairs < length now.pairs
-lost_fewer now new p q was valid loses held = fewer_pairs now new p q was valid (λ r s k. ((loses.pairs r s).0 k).0) held (λ k. ((loses.pairs p q).0 k).1 (refl, refl))
+-- the row of p was narrowed, and had a state more
+pub row_filtered :
+    (R S : Pairing) (p q : ℕ) (row : List ℕ)
+    → IsPairing R
+    → IsPairing S
+    → IsNarrowed R S p row
+    → Holds R.pairs p q
+    → bit_of row q ≡ false
+    → IsFiltered R S p (λ s. HasBit row s) true
+row_filtered R S p q row was valid narrowed held out = record {
+  places = narrowed.places;
+  states = narrowed.states;
+  valid = valid;
+  pairs = narrowed.pairs;
+  some = λ yes. fewer_pairs R S p q was valid (λ r s k. ((narrowed.pairs r s).0 k).0) held (λ k. false≢true (sym out ∙ ((narrowed.pairs p q).0 k).1 refl));
+  same = λ no. absurd (false≢true (sym no));
+}
 
--- Pairs of p went whose right state does not pass.
-pub record HasTaken (old now : Pairing) (p : ℕ) (P : ℕ → Type 0) (changed : Bool) : Type 0 where
-  pub places : now.places ≡ old.places
-  pub states : now.states ≡ old.states
-  pub valid : IsPairing now
-  pub within : (r s : ℕ) → Holds now.pairs r s → Holds old.pairs r s
-  pub stays : (r s : ℕ) → Holds old.pairs r s → (r ≡ p → P s) → Holds now.pairs r s
-  pub upto : length now.pairs ≤ length old.pairs
-  pub some : changed ≡ true → length now.pairs < length old.pairs
-  pub same : changed ≡ false → now ≡ old
-
-module _ (old : Pairing) (p : ℕ) (P : ℕ → Type 0) where
-  pub taken_none : IsPairing old → HasTaken old old p P false
-  taken_none valid = record {
-    places = refl;
-    states = refl;
-    valid = valid;
-    within = λ r s h. h;
-    stays = λ r s h passes. h;
-    upto = omega arith;
-    some = λ e. absurd (false≢true e);
-    same = λ e. refl;
-  }
-
-  -- one more pair goes
-  pub taken_more :
-      (now new : Pairing) (changed : Bool) (q : ℕ)
-      → HasTaken old now p P changed
-      → Holds now.pairs p q
-      → (P q → ⊥)
-      → Loses now new p q
-      → IsPairing new
-      → HasTaken old new p P true
-  taken_more now new changed q h held fails loses valid =
-      let fell = lost_fewer now new p q h.valid valid loses held in
-      let upto = h.upto in
-      record {
-        places = loses.places ∙ h.places;
-        states = loses.states ∙ h.states;
-        valid = valid;
-        within = λ r s k. h.within r s ((loses.pairs r s).0 k).0;
-        stays = λ r s was passes. (loses.pairs r s).1 (h.stays r s was passes, λ is. fails (subst P is.1 (passes is.0)));
-        upto = omega arith;
-        some = λ e. omega arith;
-        same = λ e. absurd (false≢true (sym e));
-      }
-
-  -- no other pair has to go
-  pub taken_all : (now : Pairing) (changed : Bool) → HasTaken old now p P changed → ((s : ℕ) → Holds now.pairs p s → P s) → IsFiltered old now p P changed
-  taken_all now changed h passes = record {
-    places = h.places;
-    states = h.states;
-    valid = h.valid;
-    pairs = λ r s. (
-      λ held. (h.within r s held, λ e. passes s (subst (λ x. Holds now.pairs x s) e held)),
-      λ both. h.stays r s both.0 both.1,
-    );
-    some = h.some;
-    same = h.same;
-  }
+-- it has all the states of p
+pub row_passes : (R : Pairing) (p : ℕ) (row : List ℕ) → IsPairing R → ((q : ℕ) → Holds R.pairs p q → HasBit row q) → IsFiltered R R p (λ s. HasBit row s) false
+row_passes R p row valid passes = record {
+  places = refl;
+  states = refl;
+  valid = valid;
+  pairs = λ r s. (λ held. (held, λ e. passes s (subst (λ x. Holds R.pairs x s) e held)), λ both. both.0);
+  some = λ yes. absurd (false≢true yes);
+  same = λ no. refl;
+}
 
 module _ (L A : Automaton) where
   pub shrinks_none : (R : Pairing) → IsPairing R → Shrinks L A R R

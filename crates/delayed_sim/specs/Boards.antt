@@ -1,5 +1,5 @@
 -- What is known on the way to the least ranks, level by level.
-use Rattle.std.specs.Prelude.{◌≡◌, ℕ, ◌+◌, ◌*◌, ◌/◌, ◌<◌, ◌≤◌, ◌⊎◌, ◌↔◌, Option, None, Some, List, length}
+use Rattle.std.specs.Prelude.{◌≡◌, ℕ, ◌+◌, ◌*◌, ◌/◌, ◌<◌, ◌≤◌, ◌⊎◌, ◌↔◌, None, Some, List, length}
 use Rattle.auto_core.specs.Automaton.{Automaton, Moves, trans_at}
 use Rattle.auto_core.specs.Game.{Holds}
 use Rattle.auto_core.specs.Rows.{HasCell}
@@ -11,7 +11,7 @@ abbrev pub row_words : Automaton → ℕ
 row_words A = (A.states + 63) / 64
 
 -- The table gives the pair of states this rank.
-abbrev pub IsRanked : Automaton → List (Option ℕ) → ℕ → ℕ → ℕ → Type 0
+abbrev pub IsRanked : Automaton → List ℕ → ℕ → ℕ → ℕ → Type 0
 IsRanked A ranks p q s = rank_at ranks A.states p q ≡ Some s
 
 -- A move from q by the letter of the transition t of places leads to a state of the row of t's target.
@@ -24,7 +24,7 @@ IsReady L A unranked answered p q =
     Holds unranked.pairs p q × ((t : ℕ) → t < length L.transitions → (trans_at L t).source ≡ p → HasCell answered (row_words A) t q)
 
 -- The pairs that S tells were unranked and got the rank, and stand in the rows of `fresh`; nothing else changed.
-pub record GivesRank (L A : Automaton) (S : ℕ → ℕ → Type 0) (rank : ℕ) (unranked : Pairing) (ranks : List (Option ℕ)) (unranked' : Pairing) (ranks' : List (Option ℕ)) (fresh : List ℕ) : Type 0 where
+pub record GivesRank (L A : Automaton) (S : ℕ → ℕ → Type 0) (rank : ℕ) (unranked : Pairing) (ranks : List ℕ) (unranked' : Pairing) (ranks' : List ℕ) (fresh : List ℕ) : Type 0 where
   pub places : unranked'.places ≡ unranked.places
   pub states : unranked'.states ≡ unranked.states
   pub valid : IsPairing unranked'
@@ -36,7 +36,7 @@ pub record GivesRank (L A : Automaton) (S : ℕ → ℕ → Type 0) (rank : ℕ)
 
 -- The pairs of R that can have a rank of at most r have the least one; the others are unranked. Those of rank r stand in the rows of `fresh`, and each answer by a
 -- pair of lesser rank is noted in the row of its transition.
-pub record IsClimbed (L A : Automaton) (R : ℕ → ℕ → Type 0) (r : ℕ) (unranked : Pairing) (ranks : List (Option ℕ)) (answered fresh : List ℕ) : Type 0 where
+pub record IsClimbed (L A : Automaton) (R : ℕ → ℕ → Type 0) (r : ℕ) (unranked : Pairing) (ranks : List ℕ) (answered fresh : List ℕ) : Type 0 where
   pub places : unranked.places ≡ L.states
   pub states : unranked.states ≡ A.states
   pub valid : IsPairing unranked
@@ -50,7 +50,7 @@ pub record IsClimbed (L A : Automaton) (R : ℕ → ℕ → Type 0) (r : ℕ) (u
       ↔ ((q' s : ℕ) × Moves A q (trans_at L t).label q' × IsRanked A ranks (trans_at L t).target q' s × (s < r))
 
 -- The table has the least rank of each pair that can have one inside R, and no other rank.
-pub record AreLeastRanks (L A : Automaton) (R : ℕ → ℕ → Type 0) (ranks : List (Option ℕ)) : Type 0 where
+pub record AreLeastRanks (L A : Automaton) (R : ℕ → ℕ → Type 0) (ranks : List ℕ) : Type 0 where
   pub len : length ranks ≡ L.states * A.states
   pub each : (p q r : ℕ) → p < L.states → q < A.states → rank_at ranks A.states p q ≡ Some r → IsLeastRank L A R p q r
   pub all : (p q r : ℕ) → p < L.states → q < A.states → CanHave L A R r p q → (s : ℕ) × (rank_at ranks A.states p q ≡ Some s)

@@ -1,5 +1,5 @@
 -- The ranks that pairs can have inside a relation, and the table of ranks.
-use Rattle.std.specs.Prelude.{ℕ, zero, suc, ◌+◌, ◌*◌, ◌≤◌, ◌⊎◌, Option, None, List, slice_index_or}
+use Rattle.std.specs.Prelude.{ℕ, zero, suc, ◌+◌, ◌*◌, ◌≤◌, ◌⊎◌, Option, None, Some, List, slice_index}
 use Rattle.auto_core.specs.Automaton.{Automaton, Moves, IsAccepting}
 
 -- Inside R the pair can have a rank of at most r: its right state is accepting, or each move of the place is answered by a pair that can
@@ -14,6 +14,11 @@ pub record IsLeastRank (L A : Automaton) (R : ℕ → ℕ → Type 0) (p q r : �
   pub can : CanHave L A R r p q
   pub least : (s : ℕ) → CanHave L A R s p q → r ≤ s
 
+-- The rank for which this number stands in a table: one less, and none for 0.
+abbrev pub rank_of : ℕ → Option ℕ
+rank_of zero = None
+rank_of (suc r) = Some r
+
 -- The rank that stands at the pair's place in a table of n columns.
-abbrev pub rank_at : List (Option ℕ) → ℕ → ℕ → ℕ → Option ℕ
-rank_at ranks n p q = slice_index_or ranks (p * n + q) None
+abbrev pub rank_at : List ℕ → ℕ → ℕ → ℕ → Option ℕ
+rank_at ranks n p q = rank_of (slice_index ranks (p * n + q))

@@ -13,3 +13,4 @@ pub mod Unasked
 pub mod Words
 pub mod Steps
 pub mod Related
+pub mod Rounds

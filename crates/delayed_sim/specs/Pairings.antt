@@ -1,7 +1,7 @@
 -- Relations from places to states, and how `Board` holds them.
 use Rattle.std.specs.Prelude.{◌≡◌, ℕ, ◌+◌, ◌*◌, ◌/◌, ◌<◌, ◌≤◌, ◌↔◌, List, length}
 use Rattle.auto_core.specs.Game.{Holds, ArePairsBelow}
-use Rattle.auto_core.specs.Rows.{cell_of, HasCell}
+use Rattle.auto_core.specs.Rows.{cell_of, HasBit, HasCell}
 use Rattle.bit_rel.specs.Relation.{ArePairsAscending}
 use Rattle.bit_rel.specs.Stored.{pairs_below}
 use Rattle.delayed_sim.specs.declared.board.Board.TheInside.{Inside}
@@ -23,6 +23,12 @@ pub record Loses (old new : Pairing) (x q : ℕ) : Type 0 where
   pub places : new.places ≡ old.places
   pub states : new.states ≡ old.states
   pub pairs : (y s : ℕ) → Holds new.pairs y s ↔ (Holds old.pairs y s × ¬ ((y ≡ x) × (s ≡ q)))
+
+-- The new one is on the same places and states and holds the pairs of the old one, of the place x those alone whose state the row has.
+pub record IsNarrowed (old new : Pairing) (x : ℕ) (row : List ℕ) : Type 0 where
+  pub places : new.places ≡ old.places
+  pub states : new.states ≡ old.states
+  pub pairs : (y s : ℕ) → Holds new.pairs y s ↔ (Holds old.pairs y s × (y ≡ x → HasBit row s))
 
 -- The relation that a table of bits with a row for each place stands for.
 abbrev pub table_pairing : List ℕ → ℕ → ℕ → ℕ → Pairing

@@ -1,5 +1,5 @@
 -- What is left when the game is over.
-use Rattle.std.specs.Prelude.{ℕ, Option, List}
+use Rattle.std.specs.Prelude.{ℕ, List}
 use Rattle.auto_core.specs.Automaton.{Automaton, IsAccepting}
 use Rattle.auto_core.specs.Game.{Holds}
 use Rattle.delayed_sim.specs.Across.{RankedPairs, HoldsPair, AreRankedBelow, IsRightAcross}
@@ -13,7 +13,7 @@ HasEachRight L A R = (X : RankedPairs) → AreRankedBelow L.states A.states X �
 
 -- The pairs that are left lost none of a right relation; each move is answered by one of them; the table has their least ranks, and one for
 -- each whose place is accepting.
-pub record IsPlayed (L A : Automaton) (old new : Pairing) (ranks : List (Option ℕ)) : Type 0 where
+pub record IsPlayed (L A : Automaton) (old new : Pairing) (ranks : List ℕ) : Type 0 where
   pub shrinks : Shrinks L A old new
   pub answered : (x q : ℕ) → Holds new.pairs x q → AnswersAll L A (Holds new.pairs) x q
   pub least : AreLeastRanks L A (Holds new.pairs) ranks

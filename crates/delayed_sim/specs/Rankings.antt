@@ -75,3 +75,9 @@ abbrev pub HasJust : RankedTriples → List RankedTriple → Type 0
 HasJust X triples =
     (p : ℕ) (b : List ℕ) (q : ℕ) (rank : Option ℕ)
     → Contains X (p, b, q, rank) ↔ Contains triples (ranked_triple p b q rank)
+
+-- Just the triples before the place stand before x.
+pub record IsTripleFrom (X : RankedTriples) (x : Triple) (i : ℕ) : Type 0 where
+  pub upto : i ≤ length X
+  pub below : (j : ℕ) → j < i → IsTripleBefore (triple_at X j) x
+  pub from : (j : ℕ) → i ≤ j → j < length X → IsTripleBefore (triple_at X j) x → ⊥

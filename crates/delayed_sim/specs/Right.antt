@@ -21,9 +21,13 @@ IsAnsweredAhead A X limit b q a p' = (more : ℕ) (c : List ℕ) → more < A.la
 abbrev pub HasAnswers : Automaton → RankedTriples → Option ℕ → List ℕ → ℕ → ℕ → Type 0
 HasAnswers A X limit b p q = (a p' : ℕ) → Moves A p a p' → IsAnsweredAhead A X limit b q a p'
 
+-- The moves of the triple are answered, by triples of a rank below the limit if there is one.
+abbrev pub IsTripleAnswered : Automaton → RankedTriples → Option ℕ → Triple → Type 0
+IsTripleAnswered A X limit t = HasAnswers A X limit t.1 t.0 t.2
+
 -- The moves of the triple are answered, and its rank, or that it has none, is right.
 pub record IsTripleRight (A : Automaton) (X : RankedTriples) (x : Triple) : Type 0 where
-  pub answers : HasAnswers A X None x.1 x.0 x.2
+  pub answers : IsTripleAnswered A X None x
   pub ranked : IsAccepting A x.0 → (r : ℕ) × (x.3 ≡ Some r)
   pub at_zero : x.3 ≡ Some 0 → IsAccepting A x.2
-  pub above_zero : (r : ℕ) → x.3 ≡ Some r → 0 < r → HasAnswers A X (Some r) x.1 x.0 x.2
+  pub above_zero : (r : ℕ) → x.3 ≡ Some r → 0 < r → IsTripleAnswered A X (Some r) x

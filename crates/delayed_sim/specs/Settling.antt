@@ -1,5 +1,5 @@
 -- Taking pairs away that can be in no right relation.
-use Rattle.std.specs.Prelude.{◌≡◌, ℕ, ◌<◌, ◌≤◌, ◌↔◌, Bool, false, true, List, length, Option, Some}
+use Rattle.std.specs.Prelude.{◌≡◌, ℕ, ◌<◌, ◌≤◌, ◌↔◌, Bool, false, true, List, length, Some}
 use Rattle.auto_core.specs.Automaton.{Automaton, Moves, IsAccepting}
 use Rattle.auto_core.specs.Game.{Holds, IsWithin}
 use Rattle.auto_core.specs.Rows.{bit_of, HasBit}
@@ -63,11 +63,11 @@ pub record Tries (L A : Automaton) (old new : Pairing) (marks marks' : List ℕ)
   pub marked : (x : ℕ) → bit_of marks' x ≡ false → bit_of marks x ≡ false
 
 -- The pair has a rank.
-abbrev pub HasSomeRank : List (Option ℕ) → ℕ → ℕ → ℕ → Type 0
+abbrev pub HasSomeRank : List ℕ → ℕ → ℕ → ℕ → Type 0
 HasSomeRank ranks n p q = (r : ℕ) × (rank_at ranks n p q ≡ Some r)
 
 -- The pairs went whose place is accepting and that have no rank, and the rows that lost pairs are marked.
-pub record Drops (L : Automaton) (n : ℕ) (ranks : List (Option ℕ)) (old new : Pairing) (marks marks' : List ℕ) : Type 0 where
+pub record Drops (L : Automaton) (n : ℕ) (ranks : List ℕ) (old new : Pairing) (marks marks' : List ℕ) : Type 0 where
   pub places : new.places ≡ old.places
   pub states : new.states ≡ old.states
   pub valid : IsPairing new

@@ -40,6 +40,12 @@ pub record IsBetween (n : ℕ) (entries : List Entry) (key : Triple) (low high :
   pub below : (i : ℕ) → i < low → triple_cmp (triple_of n (slice_index_or entries i no_entry)) key ≡ Less
   pub above : (i : ℕ) → high ≤ i → i < length entries → triple_cmp (triple_of n (slice_index_or entries i no_entry)) key ≡ Greater
 
+-- Just the entries before the place stand before the triple.
+pub record IsFirstFrom (n : ℕ) (entries : List Entry) (key : Triple) (at : ℕ) : Type 0 where
+  pub upto : at ≤ length entries
+  pub below : (i : ℕ) → i < at → triple_cmp (triple_of n (slice_index_or entries i no_entry)) key ≡ Less
+  pub from : (i : ℕ) → at ≤ i → i < length entries → triple_cmp (triple_of n (slice_index_or entries i no_entry)) key ≡ Less → ⊥
+
 -- What holds after the entry was put in.
 pub record IsPutIn (n : ℕ) (old new : List Entry) (e : Entry) : Type 0 where
   pub in_order : AreTriplesInOrder (triples_of n new)

@@ -1,5 +1,5 @@
 -- Words of announced letters as numbers, the first letter being the highest digit, and places: a left state and such a word.
-use Rattle.std.specs.Prelude.{◌≡◌, ℕ, zero, suc, ◌+◌, ◌-◌, ◌*◌, ◌/◌, ◌%◌, ◌^◌, ◌<◌, ◌↔◌, Option, List, [], ◌∷◌, length, Contains}
+use Rattle.std.specs.Prelude.{◌≡◌, ℕ, zero, suc, ◌+◌, ◌-◌, ◌*◌, ◌/◌, ◌%◌, ◌^◌, ◌<◌, ◌↔◌, List, [], ◌∷◌, length, Contains}
 use Rattle.auto_core.specs.Automaton.{Automaton, IsAutomaton, Moves, IsAccepting}
 use Rattle.auto_core.specs.Game.{Holds}
 use Rattle.auto_core.specs.Delayed.{RankedTriples, Announces, AreAnnounced}
@@ -43,11 +43,11 @@ pub record ArePlaces (A : Automaton) (n : ℕ) (L : Automaton) : Type 0 where
   pub accepting : (b : List ℕ) (p : ℕ) → AreAnnounced A.labels n b → IsAccepting L (place_of A.labels p b) ↔ IsAccepting A p
 
 -- The triple of a place and a state of m, with the rank that the table has for the two.
-abbrev pub triple_here : ℕ → ℕ → ℕ → List (Option ℕ) → ℕ → ℕ → Triple
+abbrev pub triple_here : ℕ → ℕ → ℕ → List ℕ → ℕ → ℕ → Triple
 triple_here labels n m ranks x q = (x / labels ^ (n - 1), digits labels (n - 1) (x % labels ^ (n - 1)), q, rank_at ranks m x q)
 
 -- The list has just the triples of the pairs that stand before this one, in order.
-pub record AreListed (labels n : ℕ) (R : Pairing) (ranks : List (Option ℕ)) (x at : ℕ) (T : RankedTriples) : Type 0 where
+pub record AreListed (labels n : ℕ) (R : Pairing) (ranks : List ℕ) (x at : ℕ) (T : RankedTriples) : Type 0 where
   pub each :
       (t : Triple)
       → Contains T t

@@ -3,8 +3,9 @@
 ghost use Rattle.std.specs.Prelude.{◌≡◌, ◌+◌, ◌*◌, ◌/◌, ◌<◌, ◌≤◌, ◌↔◌, ◌⊎◌, ℕ, false, length};
 ghost use Rattle.auto_core.specs.Automaton.{IsAutomaton, Moves};
 ghost use Rattle.auto_core.specs.Rows.{bit_of, cell_of, HasBit, HasCell};
-ghost use Rattle.delayed_sim.specs.Before.{LeadsTo};
+ghost use Rattle.delayed_sim.specs.Before.{LeadsTo, AreSetsIfAny};
 
+use crate::sets::mark_ends_by;
 use auto_core::{Auto, rows};
 use row_steps::{next_bit, write_row};
 
@@ -25,7 +26,7 @@ fn clear_letters(places: &Auto, to: u32, none: &[u64], made: &mut [u64], width: 
 }
 
 /// Marks the states from which a move leads to `right`, each in the row of the move's letter.
-fn mark_before(automaton: &Auto, right: u32, made: &mut [u64], width: usize)
+pub fn mark_before(automaton: &Auto, right: u32, made: &mut [u64], width: usize)
     requires valid { IsAutomaton automaton.now }
     requires state { right < automaton.now.states }
     requires room { automaton.now.states ≤ width * 64 }
@@ -39,11 +40,28 @@ fn mark_before(automaton: &Auto, right: u32, made: &mut [u64], width: usize)
     }
 }
 
+/// Marks the states from which a move leads to a state of `ends`, each in the row of the move's letter.
+fn mark_ends(automaton: &Auto, ends: &[u64], made: &mut [u64], width: usize)
+    requires valid { IsAutomaton automaton.now }
+    requires ends { (q : ℕ) → HasBit ends.now q → q < automaton.now.states }
+    requires width { width ≡ (automaton.now.states + 63) / 64 }
+    requires ends_len { length ends.now ≡ width }
+    requires made { length made.old ≡ automaton.now.labels * width }
+    ensures { (a q : ℕ) → q < width * 64 → HasCell made.new width a q ↔ (HasCell made.old width a q ⊎ LeadsTo automaton.now a ends.now q) }
+{
+    let mut at = 0;
+    while let Some(right) = next_bit(ends, at) {
+        mark_before(automaton, right as u32, made, width);
+        at = right + 1;
+    }
+}
+
 /// Writes into the row of each letter by which moves lead to the place `to` the states from which a move by it leads to a state of
-/// `ends`. `row` is room for one row.
+/// `ends`. `sets` has the table of sets, or nothing, and `row` is room for one row.
 pub fn write_before(
     places: &Auto,
     automaton: &Auto,
+    sets: &[u64],
     to: u32,
     ends: &[u64],
     made: &mut [u64],
@@ -53,6 +71,7 @@ pub fn write_before(
     requires sound { IsAutomaton places.now }
     requires valid { IsAutomaton automaton.now }
     requires labels { places.now.labels ≡ automaton.now.labels }
+    requires sets { AreSetsIfAny automaton.now width sets.now }
     requires place { to < places.now.states }
     requires ends { (q : ℕ) → HasBit ends.now q → q < automaton.now.states }
     requires width { width ≡ (automaton.now.states + 63) / 64 }
@@ -63,9 +82,9 @@ pub fn write_before(
 {
     rows::clear_row(row);
     clear_letters(places, to, row, made, width);
-    let mut at = 0;
-    while let Some(right) = next_bit(ends, at) {
-        mark_before(automaton, right as u32, made, width);
-        at = right + 1;
+    if sets.is_empty() {
+        mark_ends(automaton, ends, made, width);
+    } else {
+        mark_ends_by(automaton, sets, ends, made, width);
     }
 }

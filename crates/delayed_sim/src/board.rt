@@ -4,11 +4,11 @@ ghost use Rattle.std.specs.Prelude.{◌≡◌, ◌+◌, ◌*◌, ◌/◌, ◌^�
 ghost use Rattle.auto_core.specs.Game.{Holds};
 ghost use Rattle.auto_core.specs.Rows.{HasBit};
 ghost use Rattle.bit_rel.specs.Relation.{IsRelation};
-ghost use Rattle.delayed_sim.specs.Pairings.{IsPairing, Loses};
+ghost use Rattle.delayed_sim.specs.Pairings.{IsPairing, Loses, IsNarrowed};
 
 use auto_core::{Memory, rows};
 use bit_rel::Rel;
-use row_steps::write_row;
+use row_steps::{and_row, write_row};
 use std::alloc::Global;
 use std::marker::Model;
 
@@ -98,6 +98,15 @@ impl Board {
         rows::row_at(&self.table, self.width, x as usize)
     }
 
+    /// The number of pairs, as room for their list.
+    pub fn room(&self) -> usize {
+        let mut count: usize = 0;
+        for at in 0..self.table.len() {
+            count = count.saturating_add(self.table[at].count_ones() as usize);
+        }
+        count
+    }
+
     /// Takes the pair away, and changes nothing else.
     pub fn clear(&mut self, x: u32, q: u32)
         requires left { x < self.old.places }
@@ -106,5 +115,15 @@ impl Board {
         ensures valid { IsPairing self.new }
     {
         rows::clear_cell(&mut self.table, self.width, x as usize, q as usize);
+    }
+
+    /// Takes away the pairs of the place whose state the row has not, and changes nothing else.
+    pub fn narrow(&mut self, x: u32, row: &[u64])
+        requires left { x < self.old.places }
+        requires len { length row.now ≡ (self.old.states + 63) / 64 }
+        ensures pairs { IsNarrowed self.old self.new x row.now }
+        ensures valid { IsPairing self.new }
+    {
+        and_row(&mut self.table, self.width, x as usize, row);
     }
 }

@@ -1,12 +1,13 @@
 //! A relation over announced letters some of whose triples have a rank.
 
-ghost use Rattle.std.specs.Prelude.{◌≡◌, ◌<◌, ◌≤◌, ◌↔◌, ℕ, length, IsTrue, IfOk, IfSome, IfNone};
+ghost use Rattle.std.specs.Prelude.{◌≡◌, ◌<◌, ◌≤◌, ◌↔◌, ℕ, length, IsTrue, None, IfOk, IfSome, IfNone};
 ghost use Rattle.std.specs.Cmp.Lexicographic.{slice_cmp};
 ghost use Rattle.std.specs.Ordering.{nat_cmp};
 ghost use Rattle.std.specs.declared.cmp.Ordering.TheVariants.{Less};
 ghost use Rattle.auto_core.specs.Game.{Holds};
 ghost use Rattle.auto_core.specs.Delayed.{AreAnnounced, HoldsTriple, HasRank, AreRelatedAhead};
-ghost use Rattle.delayed_sim.specs.Rankings.{IsRanking, AreTriplesGiven, DifferInTriples, HasJust, row_key, triple_at};
+ghost use Rattle.delayed_sim.specs.Rounds.{without, reranked};
+ghost use Rattle.delayed_sim.specs.Rankings.{IsRanking, AreTriplesGiven, DifferInTriples, HasJust, IsTripleFrom, row_key, triple_at};
 
 use crate::entries::{self, Entry};
 use crate::relating;
@@ -194,6 +195,33 @@ impl Delayed {
         ensures valid { IsRanking self.now }
     {
         self.entries[at].rank
+    }
+
+    /// The place of the first triple that does not stand before this one.
+    pub(crate) fn first_from(&self, p: u32, ahead: &[u32], q: u32) -> usize
+        ensures { IsTripleFrom self.now.triples (p, ahead.now, q, None) result }
+    {
+        entries::first_from(&self.entries, self.letters, p, ahead, q)
+    }
+
+    /// Takes the triple at this place out.
+    pub(crate) fn take_out(&mut self, at: usize)
+        requires { at < length self.old.triples }
+        ensures left { self.new ≡ without self.old at }
+        ensures valid { IsRanking self.new }
+    {
+        self.entries.remove(at);
+    }
+
+    /// Gives the triple at this place the rank, or takes the one that it has.
+    pub(crate) fn set_rank(&mut self, at: usize, rank: Option<u32>)
+        requires { at < length self.old.triples }
+        ensures ranked { self.new ≡ reranked self.old at rank }
+        ensures valid { IsRanking self.new }
+    {
+        let mut entry = self.entries[at];
+        entry.rank = rank;
+        self.entries[at] = entry;
     }
 
     /// The place past the last triple with the left state and the letters of the triple at this place.

@@ -1,8 +1,9 @@
 //! Triples with ranks as they are stored, in their order.
 
 ghost use Rattle.std.specs.Prelude.{◌≡◌, ◌-◌, ◌<◌, ◌≤◌, ◌↔◌, ℕ, Option, None, length, slice_index_or, take, Contains, IsTrue, IfOk, IfErr, IfSome, IfNone};
+ghost use Rattle.std.specs.declared.cmp.Ordering.TheVariants.{Less};
 ghost use Rattle.delayed_sim.specs.Rankings.{triple_cmp, row_key, AreTriplesInOrder};
-ghost use Rattle.delayed_sim.specs.Stored.{triple_of, triples_of, no_entry, IsFound, IsBetween, IsPutIn};
+ghost use Rattle.delayed_sim.specs.Stored.{triple_of, triples_of, no_entry, IsFound, IsBetween, IsFirstFrom, IsPutIn};
 
 use auto_core::Memory;
 use std::cmp::Ordering;
@@ -71,6 +72,45 @@ fn search(
         }
     }
     Err(low)
+}
+
+/// Tells whether the entry's triple stands before that of these states and letters.
+fn is_before(entry: &Entry, letters: u32, left: u32, ahead: &[u32], right: u32) -> bool
+    requires from { 1 ≤ letters }
+    requires upto { letters ≤ 4 }
+    ensures { IsTrue result ↔ triple_cmp (triple_of letters entry.now) (left, ahead.now, right, None) ≡ Less }
+{
+    match compare(entry, letters, left, ahead, right) {
+        Ordering::Less => true,
+        Ordering::Equal => false,
+        Ordering::Greater => false,
+    }
+}
+
+/// The place of the first entry that does not stand before this triple.
+pub(crate) fn first_from(
+    entries: &[Entry],
+    letters: u32,
+    left: u32,
+    ahead: &[u32],
+    right: u32,
+) -> usize
+    requires from { 1 ≤ letters }
+    requires upto { letters ≤ 4 }
+    requires in_order { AreTriplesInOrder (triples_of letters entries.now) }
+    ensures { IsFirstFrom letters entries.now (left, ahead.now, right, None) result }
+{
+    let mut low = 0;
+    let mut high = entries.len();
+    'halves: while low < high {
+        let middle = low + (high - low) / 2;
+        if is_before(&entries[middle], letters, left, ahead, right) {
+            low = middle + 1;
+        } else {
+            high = middle;
+        }
+    }
+    low
 }
 
 /// The place of the entry with these states and letters.

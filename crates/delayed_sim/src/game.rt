@@ -60,7 +60,7 @@ fn greatest_within(
     requires places { ArePlaces automaton.now letters places.now }
     requires words { 0 < automaton.now.labels ^ (letters - 1) }
     requires word_count { automaton.now.labels ^ (letters - 1) < 2 ^ 32 }
-    requires few { places.now.states * automaton.now.states + 1 < 2 ^ 32 }
+    requires few { places.now.states * automaton.now.states + 2 < 2 ^ 32 }
     requires equal { first.now.size ≡ automaton.now.states }
     requires first { HasEachRight places.now automaton.now (λ x q. Holds first.now.pairs (x / automaton.now.labels ^ (letters - 1)) q) }
     ensures size { IfOk result (λ d. d.size ≡ automaton.now.states) }
@@ -130,19 +130,4 @@ pub fn greatest(alloc: Global, automaton: &Auto, letters: u32) -> Result<Delayed
         return greatest_at_once(alloc, automaton);
     }
     greatest_ahead(alloc, automaton, letters)
-}
-
-/// The same relation by the plain program.
-pub fn greatest_by_rounds(alloc: Global, automaton: &Auto, letters: u32) -> Result<Delayed, Memory>
-    requires from { 1 ≤ letters }
-    requires upto { letters ≤ 4 }
-    requires fitting { letters ≡ letters_for automaton.now letters }
-    requires few { automaton.now.states ≤ 65535 }
-    ensures size { IfOk result (λ d. d.size ≡ automaton.now.states) }
-    ensures labels { IfOk result (λ d. d.labels ≡ automaton.now.labels) }
-    ensures letters { IfOk result (λ d. d.letters ≡ letters) }
-    ensures valid { IfOk result IsRanking }
-    ensures greatest { IfOk result (λ d. IsGreatestDelayed automaton.now letters d.triples) }
-{
-    greatest(alloc, automaton, letters)
 }

@@ -1,13 +1,13 @@
 //! The least ranks inside a relation, level by level: a pair is ranked when each move of its left state is answered by a pair that was
 //! ranked before.
 
-ghost use Rattle.std.specs.Prelude.{◌≡◌, ◌<◌, ◌≤◌, ◌↔◌, ◌⊎◌, ◌+◌, ◌*◌, ◌/◌, ◌^◌, ℕ, length, Some, None, true, false, All, slice_index, slice_index_or, IfOk};
+ghost use Rattle.std.specs.Prelude.{◌≡◌, ◌<◌, ◌≤◌, ◌↔◌, ◌⊎◌, ◌+◌, ◌*◌, ◌/◌, ◌^◌, ℕ, length, Some, None, true, false, All, slice_index, IfOk};
 ghost use Rattle.auto_core.specs.Automaton.{IsAutomaton, IsAccepting, trans_at};
 ghost use Rattle.auto_core.specs.Game.{Holds};
 ghost use Rattle.auto_core.specs.Rows.{HasBit, HasCell};
 ghost use Rattle.delayed_sim.specs.Pairings.{IsPairing};
 ghost use Rattle.delayed_sim.specs.Levels.{rank_at};
-ghost use Rattle.delayed_sim.specs.Before.{LeadsTo};
+ghost use Rattle.delayed_sim.specs.Before.{LeadsTo, AreSetsIfAny};
 ghost use Rattle.delayed_sim.specs.Boards.{HasFreshAnswer, IsReady, GivesRank, IsClimbed, AreLeastRanks};
 
 use crate::before::write_before;
@@ -18,12 +18,13 @@ use row_steps::{and_row, next_bit, write_row};
 use std::alloc::Global;
 
 /// Gives the rank to the pairs of the left state with the states of the row, all of which are unranked.
-fn give_ranks(unranked: &mut Board, ranks: &mut [Option<u32>], p: u32, row: &[u64], rank: u32)
+fn give_ranks(unranked: &mut Board, ranks: &mut [u32], p: u32, row: &[u64], rank: u32)
     requires left { p < unranked.old.places }
     requires few { unranked.old.states < 2 ^ 32 }
     requires valid { IsPairing unranked.old }
     requires len { length ranks.old ≡ unranked.old.places * unranked.old.states }
     requires row_len { length row.now < 2 ^ 32 }
+    requires rank { rank + 1 < 2 ^ 32 }
     requires row { (q : ℕ) → HasBit row.now q → Holds unranked.old.pairs p q }
     ensures places { unranked.new.places ≡ unranked.old.places }
     ensures states { unranked.new.states ≡ unranked.old.states }
@@ -36,7 +37,7 @@ fn give_ranks(unranked: &mut Board, ranks: &mut [Option<u32>], p: u32, row: &[u6
     let mut at = 0;
     while let Some(q) = next_bit(row, at) {
         unranked.clear(p, q as u32);
-        ranks[place(unranked.places(), unranked.states(), p, q as u32)] = Some(rank);
+        ranks[place(unranked.places(), unranked.states(), p, q as u32)] = rank + 1;
         at = q + 1;
     }
 }
@@ -72,12 +73,13 @@ fn rank_ready(
     answered: &[u64],
     rank: u32,
     unranked: &mut Board,
-    ranks: &mut [Option<u32>],
+    ranks: &mut [u32],
     fresh: &mut [u64],
     width: usize,
     row: &mut [u64],
 ) -> bool
     requires few { automaton.now.states < 2 ^ 32 }
+    requires rank { rank + 1 < 2 ^ 32 }
     requires width { width ≡ (automaton.now.states + 63) / 64 }
     requires places { unranked.old.places ≡ places.now.states }
     requires states { unranked.old.states ≡ automaton.now.states }
@@ -123,7 +125,7 @@ fn rank_accepting(
     places: &Auto,
     automaton: &Auto,
     unranked: &mut Board,
-    ranks: &mut [Option<u32>],
+    ranks: &mut [u32],
     fresh: &mut [u64],
     width: usize,
     row: &mut [u64],
@@ -153,6 +155,7 @@ fn rank_accepting(
 fn note_answers(
     places: &Auto,
     automaton: &Auto,
+    sets: &[u64],
     to: u32,
     ends: &[u64],
     answered: &mut [u64],
@@ -164,6 +167,7 @@ fn note_answers(
     requires over { IsAutomaton places.now }
     requires labels { places.now.labels ≡ automaton.now.labels }
     requires valid { IsAutomaton automaton.now }
+    requires sets { AreSetsIfAny automaton.now width sets.now }
     requires width { width ≡ (automaton.now.states + 63) / 64 }
     requires ends { (q : ℕ) → HasBit ends.now q → q < automaton.now.states }
     requires ends_len { length ends.now ≡ width }
@@ -173,7 +177,7 @@ fn note_answers(
     ensures { (t q : ℕ) → t < length places.now.transitions → q < width * 64 → HasCell answered.new width t q
         ↔ (HasCell answered.old width t q ⊎ (((trans_at places.now t).target ≡ to) × LeadsTo automaton.now (trans_at places.now t).label ends.now q)) }
 {
-    write_before(places, automaton, to, ends, made, width, row);
+    write_before(places, automaton, sets, to, ends, made, width, row);
     let before = places.predecessors(to);
     for i in 0..before.len() {
         let number = before[i] as usize;
@@ -186,6 +190,7 @@ fn note_answers(
 fn note_fresh(
     places: &Auto,
     automaton: &Auto,
+    sets: &[u64],
     fresh: &[u64],
     answered: &mut [u64],
     width: usize,
@@ -195,6 +200,7 @@ fn note_fresh(
     requires over { IsAutomaton places.now }
     requires labels { places.now.labels ≡ automaton.now.labels }
     requires valid { IsAutomaton automaton.now }
+    requires sets { AreSetsIfAny automaton.now width sets.now }
     requires width { width ≡ (automaton.now.states + 63) / 64 }
     requires fresh { length fresh.now ≡ places.now.states * width }
     requires columns { (p q : ℕ) → p < places.now.states → q < width * 64 → HasCell fresh.now width p q → q < automaton.now.states }
@@ -207,7 +213,9 @@ fn note_fresh(
     for to in 0..places.states() {
         let ends = rows::row_at(fresh, width, to as usize);
         match next_bit(ends, 0) {
-            Some(_first) => note_answers(places, automaton, to, ends, answered, width, made, row),
+            Some(_first) => note_answers(
+                places, automaton, sets, to, ends, answered, width, made, row,
+            ),
             None => {}
         }
     }
@@ -217,19 +225,21 @@ fn note_fresh(
 fn climb(
     places: &Auto,
     automaton: &Auto,
+    sets: &[u64],
     within: &Board,
     unranked: &mut Board,
-    ranks: &mut [Option<u32>],
+    ranks: &mut [u32],
     answered: &mut [u64],
     fresh: &mut [u64],
     width: usize,
     made: &mut [u64],
     row: &mut [u64],
 )
-    requires few { places.now.states * automaton.now.states + 1 < 2 ^ 32 }
+    requires few { places.now.states * automaton.now.states + 2 < 2 ^ 32 }
     requires over { IsAutomaton places.now }
     requires labels { places.now.labels ≡ automaton.now.labels }
     requires sound { IsAutomaton automaton.now }
+    requires sets { AreSetsIfAny automaton.now width sets.now }
     requires width { width ≡ (automaton.now.states + 63) / 64 }
     requires answered { length answered.old ≡ length places.now.transitions * width }
     requires fresh { length fresh.old ≡ places.now.states * width }
@@ -241,7 +251,7 @@ fn climb(
     let mut rank = 0;
     let mut any = true;
     'levels: while any {
-        note_fresh(places, automaton, fresh, answered, width, made, row);
+        note_fresh(places, automaton, sets, fresh, answered, width, made, row);
         rank += 1;
         any = rank_ready(
             places, automaton, answered, rank, unranked, ranks, fresh, width, row,
@@ -254,9 +264,10 @@ fn climb(
 fn rank_within(
     places: &Auto,
     automaton: &Auto,
+    sets: &[u64],
     board: &Board,
     unranked: &mut Board,
-    ranks: &mut [Option<u32>],
+    ranks: &mut [u32],
     answered: &mut [u64],
     fresh: &mut [u64],
     width: usize,
@@ -264,17 +275,18 @@ fn rank_within(
     row: &mut [u64],
     ends: &mut [u64],
 )
-    requires few { places.now.states * automaton.now.states + 1 < 2 ^ 32 }
+    requires few { places.now.states * automaton.now.states + 2 < 2 ^ 32 }
     requires over { IsAutomaton places.now }
     requires labels { places.now.labels ≡ automaton.now.labels }
     requires sound { IsAutomaton automaton.now }
+    requires sets { AreSetsIfAny automaton.now width sets.now }
     requires width { width ≡ (automaton.now.states + 63) / 64 }
     requires rows { board.now.places ≡ places.now.states }
     requires columns { board.now.states ≡ automaton.now.states }
     requires valid { IsPairing board.now }
     requires copied { unranked.old ≡ board.now }
     requires len { length ranks.old ≡ places.now.states * automaton.now.states }
-    requires clear { (i : ℕ) → slice_index_or ranks.old i None ≡ None }
+    requires clear { (i : ℕ) → slice_index ranks.old i ≡ 0 }
     requires answered { length answered.old ≡ length places.now.transitions * width }
     requires fresh { length fresh.old ≡ places.now.states * width }
     requires made { length made.old ≡ automaton.now.labels * width }
@@ -285,38 +297,31 @@ fn rank_within(
     rows::clear_row(answered);
     rank_accepting(places, automaton, unranked, ranks, fresh, width, row, ends);
     climb(
-        places, automaton, board, unranked, ranks, answered, fresh, width, made, row,
+        places, automaton, sets, board, unranked, ranks, answered, fresh, width, made, row,
     );
 }
 
-/// Makes the table one without ranks.
-fn clear_ranks(ranks: &mut [Option<u32>])
-    ensures { (i : ℕ) → slice_index_or ranks.new i None ≡ None }
-{
-    for i in 0..ranks.len() {
-        ranks[i] = None;
-    }
-}
-
-/// Writes into the table the least rank of each pair of the relation that can have one, and no other rank.
+/// Writes into the table, which has no ranks yet, the least rank of each pair of the relation that can have one.
 pub fn least_ranks(
     alloc: Global,
     places: &Auto,
     automaton: &Auto,
+    sets: &[u64],
     board: &Board,
-    ranks: &mut [Option<u32>],
+    ranks: &mut [u32],
 ) -> Result<(), Memory>
-    requires few { places.now.states * automaton.now.states + 1 < 2 ^ 32 }
+    requires few { places.now.states * automaton.now.states + 2 < 2 ^ 32 }
     requires over { IsAutomaton places.now }
     requires labels { places.now.labels ≡ automaton.now.labels }
     requires sound { IsAutomaton automaton.now }
+    requires sets { AreSetsIfAny automaton.now ((automaton.now.states + 63) / 64) sets.now }
     requires rows { board.now.places ≡ places.now.states }
     requires columns { board.now.states ≡ automaton.now.states }
     requires len { length ranks.old ≡ places.now.states * automaton.now.states }
+    requires clear { (i : ℕ) → slice_index ranks.old i ≡ 0 }
     ensures { IfOk result (λ _. AreLeastRanks places.now automaton.now (Holds board.now.pairs) ranks.new) }
 {
     let width = rows::words_for(automaton.states());
-    clear_ranks(ranks);
     let mut unranked = board.copied(alloc)?;
     let mut answered = vec![in alloc; 0; places.transitions().len() * width]?;
     let mut fresh = vec![in alloc; 0; places.states() as usize * width]?;
@@ -326,6 +331,7 @@ pub fn least_ranks(
     rank_within(
         places,
         automaton,
+        sets,
         board,
         &mut unranked,
         ranks,

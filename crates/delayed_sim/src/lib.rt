@@ -15,11 +15,14 @@ mod places;
 mod playing;
 mod relating;
 mod right;
+mod rounds;
+mod sets;
 mod settling;
 mod unasked;
 mod words;
 
 pub use delayed::{Delayed, RankedTriple};
-pub use game::{greatest, greatest_by_rounds};
+pub use game::greatest;
 pub use letters::letters_for;
 pub use right::holds;
+pub use rounds::greatest_by_rounds;

@@ -2,6 +2,7 @@
 
 ghost use Rattle.std.specs.Prelude.{◌≡◌, ◌+◌, ◌-◌, ◌*◌, ◌/◌, ◌%◌, ◌^◌, ◌<◌, ◌≤◌, ℕ, length, take, IfOk};
 ghost use Rattle.delayed_sim.specs.Pairings.{IsPairing};
+ghost use Rattle.delayed_sim.specs.Levels.{rank_of};
 ghost use Rattle.delayed_sim.specs.Stored.{triples_of};
 ghost use Rattle.delayed_sim.specs.Words.{digits, AreListed};
 
@@ -13,11 +14,21 @@ use auto_core::Memory;
 use row_steps::next_bit;
 use std::alloc::Global;
 
+/// The rank that stands in a table of ranks as this number: one less, and none where it is 0.
+fn rank_of(held: u32) -> Option<u32>
+    ensures { result ≡ rank_of held }
+{
+    if held == 0 {
+        return None;
+    }
+    Some(held - 1)
+}
+
 /// Appends the triples of the place, which has this left state and these letters.
 fn push_row(
     entries: &mut Vec<Entry>,
     board: &Board,
-    ranks: &[Option<u32>],
+    ranks: &[u32],
     labels: u32,
     letters: u32,
     x: u32,
@@ -38,7 +49,7 @@ fn push_row(
 {
     let mut at = 0;
     while let Some(q) = next_bit(board.row(x), at) {
-        let rank = ranks[place(board.places(), board.states(), x, q as u32)];
+        let rank = rank_of(ranks[place(board.places(), board.states(), x, q as u32)]);
         entries.push(Entry {
             left,
             ahead,
@@ -54,7 +65,7 @@ fn push_row(
 pub(crate) fn entries_of(
     alloc: Global,
     board: &Board,
-    ranks: &[Option<u32>],
+    ranks: &[u32],
     labels: u32,
     letters: u32,
 ) -> Result<Vec<Entry>, Memory>
@@ -68,7 +79,7 @@ pub(crate) fn entries_of(
     ensures { IfOk result (λ v. AreListed labels letters board.now ranks.now board.now.places 0 (triples_of letters v.items)) }
 {
     let words = word_count(labels, letters - 1);
-    let mut entries = Vec::new(alloc);
+    let mut entries = Vec::with_capacity(alloc, board.room())?;
     for x in 0..board.places() {
         let ahead = letters_of(labels, letters - 1, x % words);
         push_row(

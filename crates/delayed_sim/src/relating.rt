@@ -1,49 +1,80 @@
 //! The state relation: the pairs of states that are related whatever letters are announced.
 
-ghost use Rattle.std.specs.Prelude.{◌≡◌, ◌+◌, ◌<◌, ◌≤◌, ◌⊎◌, ◌↔◌, ℕ, [], All, length, take, IsTrue, IfOk};
+ghost use Rattle.std.specs.Prelude.{◌≡◌, ◌+◌, ◌/◌, ◌<◌, ◌≤◌, ◌⊎◌, ◌↔◌, ℕ, [], All, length, take, IfOk};
 ghost use Rattle.auto_core.specs.Game.{Holds};
-ghost use Rattle.auto_core.specs.Delayed.{AreRelatedAhead};
+ghost use Rattle.auto_core.specs.Rows.{HasBit};
+ghost use Rattle.auto_core.specs.Delayed.{AreAnnounced, HoldsTriple, AreRelatedAhead};
 ghost use Rattle.delayed_sim.specs.Rankings.{IsRanking};
 ghost use Rattle.delayed_sim.specs.Related.{HoldsEach};
 
 use crate::delayed::Delayed;
-use auto_core::Memory;
+use auto_core::{Memory, rows};
 use bit_rel::Rel;
+use row_steps::{and_row, mark_below};
 use std::alloc::Global;
 
-/// Tells whether the relation holds each triple of the two states whose letters begin with the first ones of the word.
-fn holds_each(delayed: &Delayed, p: u32, word: [u32; 3], chosen: u32, q: u32) -> bool
+/// Marks the right states of the triples of the left state with the letters.
+fn mark_row(delayed: &Delayed, p: u32, ahead: &[u32], row: &mut [u64])
+    requires letters { AreAnnounced delayed.now.labels delayed.now.letters ahead.now }
     requires left { p < delayed.now.size }
-    requires right { q < delayed.now.size }
+    requires len { length row.old ≡ (delayed.now.size + 63) / 64 }
+    requires valid { IsRanking delayed.now }
+    ensures { (q : ℕ) → HasBit row.new q ↔ (HasBit row.old q ⊎ HoldsTriple delayed.now.triples ahead.now p q) }
+{
+    let begin = delayed.first_from(p, ahead, 0);
+    let end = delayed.first_from(p, ahead, delayed.states());
+    for at in begin..end {
+        rows::set_bit(row, delayed.right(at) as usize);
+    }
+}
+
+/// Takes from the row the states with which the left state has not each triple whose letters begin with the first ones of the word. `spare`
+/// is room for one row.
+fn keep_each(
+    delayed: &Delayed,
+    p: u32,
+    word: [u32; 3],
+    chosen: u32,
+    row: &mut [u64],
+    spare: &mut [u64],
+)
+    requires left { p < delayed.now.size }
     requires inside { chosen < delayed.now.letters }
     requires short { delayed.now.letters ≤ 4 }
     requires letters { All (λ a. a < delayed.now.labels) (take chosen word) }
-    ensures { IsTrue result ↔ HoldsEach delayed.now (take chosen word) p q }
+    requires row { length row.old ≡ (delayed.now.size + 63) / 64 }
+    requires spare { length spare.old ≡ (delayed.now.size + 63) / 64 }
+    requires valid { IsRanking delayed.now }
+    ensures { (q : ℕ) → HasBit row.new q ↔ (HasBit row.old q × HoldsEach delayed.now (take chosen word) p q) }
 {
     if chosen + 1 == delayed.letters() {
-        return delayed.relates(p, &word[..chosen as usize], q);
+        rows::clear_row(spare);
+        mark_row(delayed, p, &word[..chosen as usize], spare);
+        and_row(row, rows::words_for(delayed.states()), 0, spare);
+        return;
     }
     for letter in 0..delayed.labels() {
         let mut longer = word;
         longer[chosen as usize] = letter;
-        if !holds_each(delayed, p, longer, chosen + 1, q) {
-            return false;
-        }
+        keep_each(delayed, p, longer, chosen + 1, row, spare);
     }
-    true
 }
 
-/// Relates the state to those to which it is related whatever letters are announced.
-fn relate_row(delayed: &Delayed, p: u32, related: &mut Rel)
+/// Relates the state to those to which it is related whatever letters are announced. `row` and `spare` are room for one row.
+fn relate_row(delayed: &Delayed, p: u32, related: &mut Rel, row: &mut [u64], spare: &mut [u64])
     requires equal { related.old.size ≡ delayed.now.size }
     requires left { p < delayed.now.size }
+    requires row { length row.old ≡ (delayed.now.size + 63) / 64 }
+    requires spare { length spare.old ≡ (delayed.now.size + 63) / 64 }
     requires valid { IsRanking delayed.now }
     ensures size { related.new.size ≡ related.old.size }
     ensures pairs { (r q : ℕ) → Holds related.new.pairs r q
         ↔ (Holds related.old.pairs r q ⊎ ((r ≡ p) × (q < delayed.now.size) × HoldsEach delayed.now [] p q)) }
 {
+    mark_below(row, delayed.states());
+    keep_each(delayed, p, [0; 3], 0, row, spare);
     for q in 0..delayed.states() {
-        if holds_each(delayed, p, [0; 3], 0, q) {
+        if rows::has_bit(row, q as usize) {
             related.set(p, q);
         }
     }
@@ -74,8 +105,11 @@ pub(crate) fn relation_of(alloc: Global, delayed: &Delayed) -> Result<Rel, Memor
         relate_triples(delayed, &mut related);
         return Ok(related);
     }
+    let width = rows::words_for(delayed.states());
+    let mut row = vec![in alloc; 0; width]?;
+    let mut spare = vec![in alloc; 0; width]?;
     for p in 0..delayed.states() {
-        relate_row(delayed, p, &mut related);
+        relate_row(delayed, p, &mut related, &mut row, &mut spare);
     }
     Ok(related)
 }

@@ -4,7 +4,7 @@ ghost use Rattle.std.specs.Prelude.{◌≡◌, ◌+◌, ◌<◌, ◌≤◌, ◌�
 ghost use Rattle.auto_core.specs.Automaton.{Moves, IsAccepting, trans_at};
 ghost use Rattle.auto_core.specs.Delayed.{AreAnnounced, HasRank, IsRight};
 ghost use Rattle.delayed_sim.specs.Rankings.{triple_at};
-ghost use Rattle.delayed_sim.specs.Right.{Suits, IsAnsweredWithin, IsAnsweredAhead, HasAnswers, IsTripleRight};
+ghost use Rattle.delayed_sim.specs.Right.{Suits, IsAnsweredWithin, IsAnsweredAhead, HasAnswers, IsTripleRight, IsTripleAnswered};
 
 use crate::delayed::Delayed;
 use auto_core::{Auto, Trans};
@@ -170,6 +170,23 @@ fn has_answers(
     true
 }
 
+/// Tells whether the moves of the triple at this place are answered, by triples of a rank below the limit if there is one.
+pub fn is_answered_at(automaton: &Auto, delayed: &Delayed, at: usize, limit: Option<u32>) -> bool
+    requires equal { delayed.now.size ≡ automaton.now.states }
+    requires same { delayed.now.labels ≡ automaton.now.labels }
+    requires inside { at < length delayed.now.triples }
+    ensures { IsTrue result ↔ IsTripleAnswered automaton.now delayed.now.triples limit (triple_at delayed.now.triples at) }
+{
+    has_answers(
+        automaton,
+        delayed,
+        delayed.left(at),
+        delayed.ahead(at),
+        delayed.right(at),
+        limit,
+    )
+}
+
 /// Tells whether the triple at this place is right.
 fn is_right(automaton: &Auto, delayed: &Delayed, at: usize) -> bool
     requires equal { delayed.now.size ≡ automaton.now.states }
@@ -179,11 +196,10 @@ fn is_right(automaton: &Auto, delayed: &Delayed, at: usize) -> bool
 {
     let p = delayed.left(at);
     let q = delayed.right(at);
-    let ahead = delayed.ahead(at);
     match delayed.rank_of(at) {
-        None => !automaton.accepting(p) && has_answers(automaton, delayed, p, ahead, q, None),
-        Some(0) => automaton.accepting(q) && has_answers(automaton, delayed, p, ahead, q, None),
-        Some(rank) => has_answers(automaton, delayed, p, ahead, q, Some(rank)),
+        None => !automaton.accepting(p) && is_answered_at(automaton, delayed, at, None),
+        Some(0) => automaton.accepting(q) && is_answered_at(automaton, delayed, at, None),
+        Some(rank) => is_answered_at(automaton, delayed, at, Some(rank)),
     }
 }
 

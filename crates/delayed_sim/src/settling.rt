@@ -1,35 +1,17 @@
 //! Taking pairs away until each move of a left state is answered by a pair that is left. A row is marked when it has lost pairs and the moves
 //! to its state are not tried again yet.
 
-ghost use Rattle.std.specs.Prelude.{◌≡◌, ◌+◌, ◌*◌, ◌/◌, ◌^◌, ◌<◌, ◌↔◌, ℕ, length, true, false, IfSome, IfNone};
+ghost use Rattle.std.specs.Prelude.{◌≡◌, ◌+◌, ◌*◌, ◌/◌, ◌^◌, ◌<◌, ◌↔◌, ℕ, length, true, false};
 ghost use Rattle.auto_core.specs.Automaton.{IsAutomaton};
 ghost use Rattle.auto_core.specs.Game.{Holds};
 ghost use Rattle.auto_core.specs.Rows.{bit_of, HasBit};
+ghost use Rattle.delayed_sim.specs.Before.{AreSetsIfAny};
 ghost use Rattle.delayed_sim.specs.Pairings.{IsPairing};
 ghost use Rattle.delayed_sim.specs.Settling.{AnswersAll, IsAnsweredInto, IsAnsweredBesides, IsFiltered, Shrinks, Tries};
 
 use crate::before::write_before;
 use crate::board::Board;
 use auto_core::{Auto, rows};
-
-/// A place that the one row has and the other has not, one in this word if it has such a place.
-fn missing_near(one: &[u64], other: &[u64], word: usize) -> Option<usize>
-    requires equal { length one.now ≡ length other.now }
-    requires few { length one.now < 2 ^ 32 }
-    ensures found { IfSome result (λ q. HasBit one.now q × (bit_of other.now q ≡ false)) }
-    ensures none { IfNone result ((q : ℕ) → HasBit one.now q → HasBit other.now q) }
-{
-    if word < one.len() {
-        let here = rows::row_at(one, 1, word);
-        if let Some(at) = rows::first_missing(here, rows::row_at(other, 1, word)) {
-            return Some(word * 64 + at);
-        }
-    }
-    match rows::first_missing(one, other) {
-        Some(q) => Some(q),
-        None => None,
-    }
-}
 
 /// Takes away the pairs of the left state whose right state the row has not, and tells whether there were any.
 fn keep_in_row(board: &mut Board, p: u32, row: &[u64]) -> bool
@@ -39,14 +21,13 @@ fn keep_in_row(board: &mut Board, p: u32, row: &[u64]) -> bool
     requires len { length row.now ≡ (board.old.states + 63) / 64 }
     ensures { IsFiltered board.old board.new p (λ q. HasBit row.now q) result }
 {
-    let mut changed = false;
-    let mut word = 0;
-    while let Some(q) = missing_near(board.row(p), row, word) {
-        board.clear(p, q as u32);
-        changed = true;
-        word = q / 64;
+    match rows::first_missing(board.row(p), row) {
+        Some(_first) => {
+            board.narrow(p, row);
+            true
+        }
+        None => false,
     }
-    changed
 }
 
 /// Takes away the pairs from whose right state no move answers one to this state, marks the rows that lose pairs, and tells whether
@@ -54,6 +35,7 @@ fn keep_in_row(board: &mut Board, p: u32, row: &[u64]) -> bool
 fn try_into(
     places: &Auto,
     automaton: &Auto,
+    sets: &[u64],
     board: &mut Board,
     to: u32,
     marks: &mut [u64],
@@ -64,6 +46,7 @@ fn try_into(
 ) -> bool
     requires over { IsAutomaton places.now }
     requires sound { IsAutomaton automaton.now }
+    requires sets { AreSetsIfAny automaton.now width sets.now }
     requires place { to < places.now.states }
     requires places { board.old.places ≡ places.now.states }
     requires states { board.old.states ≡ automaton.now.states }
@@ -80,7 +63,7 @@ fn try_into(
 {
     let mut any = false;
     ends.copy_from_slice(board.row(to));
-    write_before(places, automaton, to, ends, made, width, row);
+    write_before(places, automaton, sets, to, ends, made, width, row);
     let before = places.predecessors(to);
     for i in 0..before.len() {
         let step = places.transitions()[before[i] as usize];
@@ -101,6 +84,7 @@ fn try_into(
 fn pass(
     places: &Auto,
     automaton: &Auto,
+    sets: &[u64],
     board: &mut Board,
     marks: &mut [u64],
     ends: &mut [u64],
@@ -110,6 +94,7 @@ fn pass(
 ) -> bool
     requires over { IsAutomaton places.now }
     requires sound { IsAutomaton automaton.now }
+    requires sets { AreSetsIfAny automaton.now width sets.now }
     requires places { board.old.places ≡ places.now.states }
     requires states { board.old.states ≡ automaton.now.states }
     requires labels { places.now.labels ≡ automaton.now.labels }
@@ -129,7 +114,9 @@ fn pass(
     for to in (0..places.states()).rev() {
         if rows::has_bit(marks, to as usize) {
             rows::clear_bit(marks, to as usize);
-            if try_into(places, automaton, board, to, marks, ends, made, width, row) {
+            if try_into(
+                places, automaton, sets, board, to, marks, ends, made, width, row,
+            ) {
                 any = true;
             }
         }
@@ -142,6 +129,7 @@ fn pass(
 pub fn settle(
     places: &Auto,
     automaton: &Auto,
+    sets: &[u64],
     board: &mut Board,
     marks: &mut [u64],
     ends: &mut [u64],
@@ -151,6 +139,7 @@ pub fn settle(
 )
     requires over { IsAutomaton places.now }
     requires sound { IsAutomaton automaton.now }
+    requires sets { AreSetsIfAny automaton.now width sets.now }
     requires places { board.old.places ≡ places.now.states }
     requires states { board.old.states ≡ automaton.now.states }
     requires labels { places.now.labels ≡ automaton.now.labels }
@@ -165,5 +154,7 @@ pub fn settle(
     ensures unmarked { (x : ℕ) → x < places.now.states → bit_of marks.new x ≡ false }
     ensures answered { (p q : ℕ) → Holds board.new.pairs p q → AnswersAll places.now automaton.now (Holds board.new.pairs) p q }
 {
-    'passes: while pass(places, automaton, board, marks, ends, made, width, row) {}
+    'passes: while pass(
+        places, automaton, sets, board, marks, ends, made, width, row,
+    ) {}
 }

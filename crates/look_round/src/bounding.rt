@@ -20,6 +20,9 @@ const MOST_LETTERS: u32 = 64;
 /// At most so many words are tried.
 const MOST_WORDS: u32 = 2064;
 
+/// After so many words each it is asked whether a row is left with its own place alone.
+const WORDS_BETWEEN: usize = 8;
+
 /// Tells whether the row has no bit but its own.
 fn has_no_other(row: &[u64], own: usize) -> bool
     requires few { length row.now < 2 ^ 32 }
@@ -39,8 +42,9 @@ fn has_no_other(row: &[u64], own: usize) -> bool
     }
 }
 
-/// Takes from row p what the column has not, if the column has p, and tells whether the row is left with its own place alone by that.
-fn narrow_by(table: &mut [u64], width: usize, p: usize, column: &[u64]) -> bool
+/// Takes from row p what the column has not, if the column has p, and tells, where that is asked, whether the row is left with its own
+/// place alone by that.
+fn narrow_by(table: &mut [u64], width: usize, p: usize, column: &[u64], is_asked: bool) -> bool
     requires row { p * width + width ≤ length table.old }
     requires column { length column.now ≡ width }
     requires place { p / 64 < width }
@@ -53,6 +57,9 @@ fn narrow_by(table: &mut [u64], width: usize, p: usize, column: &[u64]) -> bool
         return false;
     }
     and_row(table, width, p, column);
+    if !is_asked {
+        return false;
+    }
     has_no_other(rows::row_at(table, width, p), p)
 }
 
@@ -66,7 +73,8 @@ fn narrow_row(table: &mut [u64], width: usize, p: usize, columns: &[u64], words:
     ensures others { (r q : ℕ) → q < width * 64 → ¬ (r ≡ p) → cell_of table.new width r q ≡ cell_of table.old width r q }
 {
     for i in 0..words {
-        if narrow_by(table, width, p, rows::row_at(columns, width, i)) {
+        let is_asked = i % WORDS_BETWEEN == 0;
+        if narrow_by(table, width, p, rows::row_at(columns, width, i), is_asked) {
             return;
         }
     }

@@ -3,6 +3,7 @@
 ghost use Rattle.std.specs.Prelude.{◌≡◌, Some, []};
 ghost use Rattle.delayed_sim.specs.Rankings.{ranked_triple};
 
+use crate::letters_tests::found;
 use crate::making::greatest_delayed;
 use crate::relation_tests::{held, pairs_in};
 use crate::tests::step;
@@ -25,6 +26,19 @@ fn ring(alloc: Global, n: u32) -> Result<List<Trans>, Memory> {
             label: 0,
             target: next,
         })?;
+    }
+    Ok(moves)
+}
+
+/// About a third of the transitions of five states by two letters, chosen by the number.
+fn chosen(alloc: Global, number: u32) -> Result<List<Trans>, Memory> {
+    let mut moves = List::new(alloc);
+    let mut drawn = number;
+    for place in 0..50 {
+        drawn = drawn.wrapping_mul(1_664_525).wrapping_add(1_013_904_223);
+        if drawn / 65_536 % 3 == 0 {
+            moves.push(step(place / 10, place / 5 % 2, place % 5))?;
+        }
     }
     Ok(moves)
 }
@@ -97,6 +111,34 @@ fn a_rank_too_low_is_not_right(rt: HostRuntime) -> Result<(), Fail> {
             ];
             let delayed = Delayed::build(alloc, 2, 1, 1, &triples)?;
             assert_eq!(rt; holds(&automaton, &delayed), right);
+        }
+    }
+    Ok(())
+}
+
+#[test]
+fn the_same_ranks_by_both_programs(rt: HostRuntime) -> Result<(), Fail> {
+    let alloc = rt.alloc();
+    // ranks rise one by one up to the next accepting state
+    let moves = ring(alloc, 12)?;
+    if moves.as_slice().len() < 100 {
+        let waits = Auto::build(alloc, 12, 1, 0, moves.as_slice(), &[0, 5])?;
+        // without an accepting state no pair has a rank, and each is related
+        let never = Auto::build(alloc, 12, 1, 0, moves.as_slice(), &[])?;
+        for asked in 1..5 {
+            assert_eq!(rt; found(alloc, &waits, asked)?, Some(144));
+            assert_eq!(rt; found(alloc, &never, asked)?, Some(144));
+        }
+    }
+    for number in 0..10 {
+        let moves = chosen(alloc, number)?;
+        if moves.as_slice().len() < 100 {
+            let some = Auto::build(alloc, 5, 2, 0, moves.as_slice(), &[number % 5])?;
+            let more = Auto::build(alloc, 5, 2, 0, moves.as_slice(), &[1, 3, 4])?;
+            for asked in 1..4 {
+                assert!(rt; found(alloc, &some, asked)?.is_some());
+                assert!(rt; found(alloc, &more, asked)?.is_some());
+            }
         }
     }
     Ok(())

@@ -27,7 +27,7 @@ fn are_same(one: &Delayed, other: &Delayed) -> bool {
 }
 
 /// How many triples the greatest relation with so many announced letters has; None where the two programs differ.
-fn found(alloc: Global, automaton: &Auto, asked: u32) -> Result<Option<usize>, Memory>
+pub(crate) fn found(alloc: Global, automaton: &Auto, asked: u32) -> Result<Option<usize>, Memory>
     requires few { automaton.now.states ≤ 65535 }
     requires from { 1 ≤ asked }
     requires upto { asked ≤ 4 }

@@ -1,4 +1,4 @@
-use Rattle.std.proofs.Common.{◌≡◌, ℕ, ◌-◌, ◌*◌, ◌/◌, ◌^◌, ◌<◌, ◌≤◌, List, Option, sym, ap, ◌∙◌, subst, arith}
+use Rattle.std.proofs.Common.{◌≡◌, ℕ, ◌-◌, ◌*◌, ◌/◌, ◌^◌, ◌<◌, ◌≤◌, List, sym, ap, ◌∙◌, subst, arith}
 use Rattle.auto_core.specs.Automaton.{Automaton, IsAutomaton}
 use Rattle.auto_core.specs.Game.{Holds}
 use Rattle.auto_core.specs.Delayed.{RankedTriples, AreTriplesOf, IsGreatestDelayed}
@@ -13,7 +13,7 @@ use Rattle.delayed_sim.proofs.game.greatest_within.Goals as goal
 
 -- What is left of the game of the places is the greatest relation.
 left_over :
-    (A L : Automaton) (n w : ℕ) (first : Relation) (R S : Pairing) (ranks : List (Option ℕ)) (T : RankedTriples)
+    (A L : Automaton) (n w : ℕ) (first : Relation) (R S : Pairing) (ranks : List ℕ) (T : RankedTriples)
     → 1 ≤ n
     → IsAutomaton A
     → ArePlaces A n L
@@ -40,9 +40,9 @@ left_over A L n w first R S ranks T some valid places is equal each r_places r_s
     (listed_pairs A n S ranks T some s_states s_places played.shrinks.valid listed)
 
 -- The list is of the automaton's labels and of the ranks.
-listed_here : (A : Automaton) (n labels : ℕ) (S : Pairing) (read ranks : List (Option ℕ)) (T : RankedTriples) → labels ≡ A.labels → read ≡ ranks → AreListed labels n S read S.places 0 T → AreListed A.labels n S ranks S.places 0 T
+listed_here : (A : Automaton) (n labels : ℕ) (S : Pairing) (read ranks : List ℕ) (T : RankedTriples) → labels ≡ A.labels → read ≡ ranks → AreListed labels n S read S.places 0 T → AreListed A.labels n S ranks S.places 0 T
 listed_here A n labels S read ranks T same is h =
-    subst (λ (l : ℕ). AreListed l n S ranks S.places 0 T) same (subst (λ (rs : List (Option ℕ)). AreListed labels n S rs S.places 0 T) is h)
+    subst (λ (l : ℕ). AreListed l n S ranks S.places 0 T) same (subst (λ (rs : List ℕ). AreListed labels n S rs S.places 0 T) is h)
 
 pub word_count-requires : goal.word_count-requires
 word_count-requires c =

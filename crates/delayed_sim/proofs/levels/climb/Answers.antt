@@ -58,6 +58,12 @@ levels-smaller c =
     let falls = sign_falls c.rank_ready-any.result (length c.rank_ready-any.new.unranked.pairs) (length c.levels.unranked.pairs) less c.rank_ready-any.ensures.some in
     omega arith
 
+pub rank_ready-any-requires-clause-rank : goal.rank_ready-any-requires-clause-rank
+rank_ready-any-requires-clause-rank c =
+    let room = c.levels.invariant.1 c.levels-test.true in
+    let few = c.requires.few in
+    omega arith
+
 pub overflow_add-rank : goal.overflow_add-rank
 overflow_add-rank c =
     let room = c.levels.invariant.1 c.levels-test.true in

@@ -1,4 +1,4 @@
-use Rattle.std.proofs.Common.{rules, ◌≡◌, ℕ, ◌+◌, ◌*◌, ◌<◌, inl, inr, Some, set, sym, ap, ◌∙◌, arith}
+use Rattle.std.proofs.Common.{rules, ◌≡◌, ℕ, ◌+◌, ◌*◌, ◌<◌, inl, inr, set, sym, ap, ◌∙◌, arith}
 use Rattle.std.proofs.lemmas.Bool.{cases_lt, false≢true}
 use Rattle.std.proofs.lemmas.List.{length-set}
 use Rattle.auto_core.specs.Rows.{HasBit}
@@ -51,8 +51,8 @@ loop-q-preserved c =
     let below = right_below first p q c.requires.valid (c.requires.row q c.in-Some.ensures.found.here) in
     let size : c.states.result ≡ n = c.states.ensures.count ∙ c.clear.ensures.pairs.states ∙ h.states in
     let at : c.place.result ≡ p * n + q = c.place.ensures.place ∙ ap (λ m. p * m + q) size in (
-      given_more first c.loop-q.unranked c.clear.new.self c.args.ranks.now ranks (set ranks c.place.result (Some c.args.rank)) p c.args.row.now c.args.rank c.loop-q.at q h c.in-Some.ensures.found c.clear.ensures.pairs c.clear.ensures.valid
-          (length-set ranks c.place.result (Some c.args.rank)) (rank_set ranks first.places n p q c.args.rank c.place.result (h.len ∙ c.requires.len) c.requires.left below at),
+      given_more first c.loop-q.unranked c.clear.new.self c.args.ranks.now ranks (set ranks c.place.result (c.args.rank + 1)) p c.args.row.now c.args.rank c.loop-q.at q h c.in-Some.ensures.found c.clear.ensures.pairs c.clear.ensures.valid
+          (length-set ranks c.place.result (c.args.rank + 1)) (rank_set ranks first.places n p q c.args.rank (c.args.rank + 1) c.place.result (omega arith) (h.len ∙ c.requires.len) c.requires.left below at),
       omega arith,
     )
 

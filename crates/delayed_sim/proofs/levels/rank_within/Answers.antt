@@ -1,8 +1,9 @@
-use Rattle.std.proofs.Common.{◌*◌, ◌+◌, sym, ◌∙◌, subst}
+use Rattle.std.proofs.Common.{◌*◌, ◌+◌, sym, ap, ◌∙◌, subst}
 use Rattle.std.proofs.lemmas.Bool.{false≢true}
 use Rattle.auto_core.specs.Automaton.{IsAccepting}
 use Rattle.auto_core.specs.Game.{Holds}
 use Rattle.delayed_sim.specs.Pairings.{Pairing, IsPairing}
+use Rattle.delayed_sim.specs.Levels.{rank_of}
 use Rattle.delayed_sim.specs.Boards.{row_words, GivesRank}
 use Rattle.delayed_sim.proofs.ClimbLemmas.{climb_starts}
 use Rattle.delayed_sim.proofs.levels.rank_within.Goals as goal
@@ -18,4 +19,4 @@ climb-requires-clause-climbed c =
     let gives : GivesRank L A (λ p q. Holds R.pairs p q × IsAccepting A q) 0 R c.args.ranks.now c.rank_accepting.new.unranked c.rank_accepting.new.ranks c.rank_accepting.new.fresh =
     subst (λ S. GivesRank L A (λ p q. Holds S.pairs p q × IsAccepting A q) 0 S c.args.ranks.now c.rank_accepting.new.unranked c.rank_accepting.new.ranks c.rank_accepting.new.fresh) c.requires.copied c.rank_accepting.ensures in
     climb_starts L A R c.rank_accepting.new.unranked c.args.ranks.now c.rank_accepting.new.ranks c.clear_row.new.row c.rank_accepting.new.fresh c.requires.rows c.requires.columns c.requires.valid c.requires.len
-    (λ p q. c.requires.clear (p * A.states + q)) (λ t q cell. false≢true (sym (c.clear_row.ensures (t * row_words A * 64 + q)) ∙ cell)) gives
+    (λ p q. ap (λ h. rank_of h) (c.requires.clear (p * A.states + q))) (λ t q cell. false≢true (sym (c.clear_row.ensures (t * row_words A * 64 + q)) ∙ cell)) gives

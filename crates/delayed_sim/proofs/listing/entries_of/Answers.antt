@@ -1,4 +1,4 @@
-use Rattle.std.proofs.Common.{rules, ◌≡◌, [], ℕ, ◌-◌, ◌*◌, ◌/◌, ◌%◌, ◌^◌, ◌<◌, sym, ap, ◌∙◌, subst, arith}
+use Rattle.std.proofs.Common.{◌≡◌, [], ℕ, ◌-◌, ◌*◌, ◌/◌, ◌%◌, ◌^◌, ◌<◌, sym, ap, ◌∙◌, subst, arith}
 use Rattle.std.proofs.lemmas.Nat.{mod_below}
 use Rattle.delayed_sim.specs.Stored.{triples_of}
 use Rattle.delayed_sim.specs.Words.{digits, AreListed}
@@ -8,7 +8,7 @@ use Rattle.delayed_sim.proofs.listing.entries_of.Goals as goal
 
 pub loop-x-init : goal.loop-x-init
 loop-x-init c =
-    let none : c.new-entries.result.items ≡ [] = search rules in
+    let none : c.in_ok-entries.entries.items ≡ [] = c.in_ok-entries.ensures.items in
     subst (λ l. AreListed c.args.labels c.args.letters c.args.board.now c.args.ranks.now 0 0 (triples_of c.args.letters l)) (sym none) (listed_none c.args.labels c.args.letters c.args.board.now c.args.ranks.now)
 
 pub letters_of-ahead-requires-clause-below : goal.letters_of-ahead-requires-clause-below

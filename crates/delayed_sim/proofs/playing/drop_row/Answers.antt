@@ -1,18 +1,18 @@
-use Rattle.std.proofs.Common.{rules, ◌≡◌, ◌+◌, ◌*◌, ℕ, Bool, true, false, Option, None, Some, get_or, refl, sym, ap, ◌∙◌, subst, arith}
-use Rattle.std.specs.Option.{is_some}
-use Rattle.std.proofs.lemmas.Bool.{false≢true}
+use Rattle.std.proofs.Common.{rules, ◌≡◌, ◌+◌, ◌*◌, ℕ, zero, suc, Bool, Some, get_or, refl, sym, ap, ◌∙◌, subst, arith}
 use Rattle.delayed_sim.specs.Pairings.{Pairing}
+use Rattle.delayed_sim.specs.Levels.{rank_of}
 use Rattle.delayed_sim.specs.Settling.{HasSomeRank}
+use Rattle.delayed_sim.proofs.CanLemmas.{none_is_some}
 use Rattle.delayed_sim.proofs.SettleLemmas.{HasTried, pair_below, tried_none, tried_passed, tried_taken, tried_all}
 use Rattle.delayed_sim.proofs.playing.drop_row.Goals as goal
-use Rattle.delayed_sim.proofs.playing.drop_row.Goals.{then-is_none, else-is_none}
+use Rattle.delayed_sim.proofs.playing.drop_row.Goals.{then-ranks-place-eq0, else-ranks-place-eq0}
 
-some_from_not : (o : Option ℕ) → is_some o ≡ true → (r : ℕ) × (o ≡ Some r)
-some_from_not (Some r) is = (r, refl)
-some_from_not None is = absurd (false≢true is)
+some_from_not : (held : ℕ) → (held ≡ 0 → ⊥) → (r : ℕ) × (rank_of held ≡ Some r)
+some_from_not zero apart = absurd (apart refl)
+some_from_not (suc r) apart = (r, refl)
 
-none_from_is : (o : Option ℕ) (r : ℕ) → is_some o ≡ false → o ≡ Some r → ⊥
-none_from_is o r is e = false≢true (sym is ∙ ap (λ x. is_some x) e)
+none_from_is : (held r : ℕ) → held ≡ 0 → rank_of held ≡ Some r → ⊥
+none_from_is held r is e = none_is_some (rank_of held) r (ap (λ h. rank_of h) is) e
 
 pub loop-q-init : goal.loop-q-init
 loop-q-init c = (tried_none c.args.board.now c.args.p (λ q. HasSomeRank c.args.ranks.now c.args.board.now.states c.args.p q) c.requires.valid, omega arith)
@@ -54,17 +54,17 @@ loop-q-preserved c =
     let below = pair_below now c.row.result.now old.states p q h.states h.valid next.here (c.row.ensures.bits q) in
     let at : c.place.result ≡ p * old.states + q = c.place.ensures.place ∙ ap (λ m. p * m + q) (c.states.ensures.count ∙ h.states) in
     let T : Pairing → Bool → Type 0 = λ R changed. HasTried old R p P changed (q + 1) in (
-      elim c.if-is_none.branch [
-        | then-is_none w ↦
-            let is : is_some (get_or ranks (p * old.states + q) None) ≡ false = subst (λ i. is_some (get_or ranks i None) ≡ false) at w.if-is_none.ensures in
-            subst (λ R. T R c.if-is_none.changed) (sym w.board-is)
+      elim c.if-ranks-place-eq0.branch [
+        | then-ranks-place-eq0 w ↦
+            let is : get_or ranks (p * old.states + q) 0 ≡ 0 = subst (λ i. get_or ranks i 0 ≡ 0) at w.if-ranks-place-eq0.true in
+            subst (λ R. T R c.if-ranks-place-eq0.changed) (sym w.board-is)
             (subst (λ b. T w.clear.new.self b) (sym w.changed-is)
-            (tried_taken old p P now w.clear.new.self c.loop-q.changed c.row.result.now c.loop-q.at q h c.row.ensures.bits next (λ has. none_from_is (get_or ranks (p * old.states + q) None) has.0 is has.1) w.clear.ensures.pairs w.clear.ensures.valid))
-        | else-is_none w ↦
-            let is : is_some (get_or ranks (p * old.states + q) None) ≡ true = subst (λ i. is_some (get_or ranks i None) ≡ true) at w.if-is_none.ensures in
-            subst (λ R. T R c.if-is_none.changed) (sym w.board-is)
+            (tried_taken old p P now w.clear.new.self c.loop-q.changed c.row.result.now c.loop-q.at q h c.row.ensures.bits next (λ has. none_from_is (get_or ranks (p * old.states + q) 0) has.0 is has.1) w.clear.ensures.pairs w.clear.ensures.valid))
+        | else-ranks-place-eq0 w ↦
+            let is : ¬ (get_or ranks (p * old.states + q) 0 ≡ 0) = subst (λ i. ¬ (get_or ranks i 0 ≡ 0)) at w.if-ranks-place-eq0.false in
+            subst (λ R. T R c.if-ranks-place-eq0.changed) (sym w.board-is)
             (subst (λ b. T now b) (sym w.changed-is)
-            (tried_passed old p P now c.loop-q.changed c.row.result.now c.loop-q.at q h c.row.ensures.bits next (some_from_not (get_or ranks (p * old.states + q) None) is)))
+            (tried_passed old p P now c.loop-q.changed c.row.result.now c.loop-q.at q h c.row.ensures.bits next (some_from_not (get_or ranks (p * old.states + q) 0) is)))
       ],
       omega arith,
     )

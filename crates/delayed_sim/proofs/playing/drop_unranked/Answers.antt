@@ -1,4 +1,4 @@
-use Rattle.std.proofs.Common.{◌≡◌, ℕ, ◌+◌, ◌<◌, ◌≤◌, ◌↔◌, inl, inr, Bool, true, false, List, Option, length, refl, sym, ap, ◌∙◌, subst, arith}
+use Rattle.std.proofs.Common.{◌≡◌, ℕ, ◌+◌, ◌<◌, ◌≤◌, ◌↔◌, inl, inr, Bool, true, false, List, length, refl, sym, ap, ◌∙◌, subst, arith}
 use Rattle.std.proofs.lemmas.Bool.{cases_eq, iff_false, false≢true}
 use Rattle.auto_core.specs.Automaton.{Automaton, IsAccepting}
 use Rattle.auto_core.specs.Rows.{bit_of}
@@ -11,7 +11,7 @@ use Rattle.delayed_sim.proofs.playing.drop_unranked.Goals.{then-accepting+then-d
 
 -- The next row was filtered.
 pairs_more :
-    (L : Automaton) (n : ℕ) (ranks : List (Option ℕ)) (old now new : Pairing) (p : ℕ) (b : Bool)
+    (L : Automaton) (n : ℕ) (ranks : List ℕ) (old now new : Pairing) (p : ℕ) (b : Bool)
     → ((r s : ℕ) → Holds now.pairs r s ↔ (Holds old.pairs r s × (r < p → IsAccepting L r → HasSomeRank ranks n r s)))
     → IsAccepting L p
     → IsFiltered now new p (λ q. HasSomeRank ranks n p q) b
@@ -34,7 +34,7 @@ pairs_more L n ranks old now new p b h accepting f r s = (
 
 -- The next row's state is not accepting.
 pairs_passed :
-    (L : Automaton) (n : ℕ) (ranks : List (Option ℕ)) (old now : Pairing) (p : ℕ)
+    (L : Automaton) (n : ℕ) (ranks : List ℕ) (old now : Pairing) (p : ℕ)
     → ((r s : ℕ) → Holds now.pairs r s ↔ (Holds old.pairs r s × (r < p → IsAccepting L r → HasSomeRank ranks n r s)))
     → (IsAccepting L p → ⊥)
     → (r s : ℕ) → Holds now.pairs r s ↔ (Holds old.pairs r s × (r < p + 1 → IsAccepting L r → HasSomeRank ranks n r s))

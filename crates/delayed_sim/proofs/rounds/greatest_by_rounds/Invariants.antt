@@ -1,0 +1,16 @@
+use Rattle.std.proofs.Common.{◌≡◌, ◌+◌, ◌^◌, ◌<◌, length}
+use Rattle.delayed_sim.specs.Rankings.{IsRanking}
+use Rattle.delayed_sim.specs.Rounds.{HasEachTriple}
+use Rattle.delayed_sim.proofs.rounds.greatest_by_rounds.Given as goal
+
+abbrev pub invariant-turns : goal.invariant-turns
+invariant-turns l =
+    (l.left.size ≡ l.automaton.states)
+    × (l.left.labels ≡ l.automaton.labels)
+    × (l.left.letters ≡ l.letters)
+    × IsRanking l.left
+    × (length l.left.triples + 1 < 2 ^ 32)
+    × HasEachTriple l.automaton l.left.letters l.left.triples
+
+abbrev pub decreases-turns : goal.decreases-turns
+decreases-turns l = length l.left.triples
