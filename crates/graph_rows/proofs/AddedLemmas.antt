@@ -1,8 +1,9 @@
 -- Columns added to a row, one addition after another, and row after row.
-use Rattle.std.proofs.Common.{◌≡◌, ℕ, ◌+◌, ◌*◌, ◌<◌, ◌≤◌, ◌↔◌, ◌⊎◌, inl, inr, List, refl, sym, ◌∙◌, subst, arith}
-use Rattle.std.proofs.lemmas.Bool.{cases_eq}
+use Rattle.std.proofs.Common.{◌≡◌, ℕ, ◌+◌, ◌*◌, ◌<◌, ◌≤◌, ◌↔◌, ◌⊎◌, ◌||◌, inl, inr, List, refl, sym, ◌∙◌, subst, arith}
+use Rattle.std.proofs.lemmas.Bool.{cases_eq, or_cases, or_left, or_right}
 use Rattle.auto_core.specs.Automaton.{Automaton, Moves, IsSuccessors, trans_at}
 use Rattle.auto_core.proofs.MoveLemmas.{successor_moves, moves_in_successors}
+use Rattle.auto_core.specs.Rows.{HasBit, bit_of, cell_of}
 use Rattle.graph_rows.specs.Added.{HasAdded}
 
 pub added_none : (width row : ℕ) (P : ℕ → Type 0) (table : List ℕ) → ((q : ℕ) → P q → ⊥) → HasAdded width row P table table
@@ -95,3 +96,24 @@ target_moves A p a begin end C s q = (
   λ ((t, from, below, at), c). (subst (λ x. Moves A p a x) at (successor_moves A p a begin end s t from below), c),
   λ (m, c). let (t, from, below, at) = moves_in_successors A p a begin end s q m in ((t, from, below, at), c),
 )
+
+-- A row's bits added to the row of a table.
+pub added_row :
+    (width row : ℕ) (P : ℕ → Type 0) (bits old new : List ℕ)
+    → ((q : ℕ) → HasBit bits q ↔ P q)
+    → ((q : ℕ) → q < width * 64 → cell_of new width row q ≡ (cell_of old width row q || bit_of bits q))
+    → ((r q : ℕ) → q < width * 64 → ¬ (r ≡ row) → cell_of new width r q ≡ cell_of old width r q)
+    → HasAdded width row P old new
+added_row width row P bits old new marks here others = record {
+  here = λ q q_in. (
+    λ cell. elim (or_cases (cell_of old width row q) (bit_of bits q) (sym (here q q_in) ∙ cell)) [
+      | inl was ↦ inl was
+      | inr bit ↦ inr ((marks q).0 bit)
+    ],
+    λ either. here q q_in ∙ elim either [
+      | inl was ↦ or_left (cell_of old width row q) (bit_of bits q) was
+      | inr is ↦ or_right (cell_of old width row q) (bit_of bits q) ((marks q).1 is)
+    ],
+  );
+  others = others;
+}

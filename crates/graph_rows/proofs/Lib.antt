@@ -4,3 +4,4 @@ pub mod ExtensionLemmas
 pub mod SameLemmas
 pub mod ArcLemmas
 pub mod CoveringLemmas
+pub mod PrintLemmas

@@ -1,3 +1,4 @@
 pub mod Block
 pub mod Added
 pub mod Covering
+pub mod Prints

@@ -1,7 +1,8 @@
 //! The graph of a letter, and a graph extended by a letter.
 
-ghost use Rattle.std.specs.Prelude.{◌≡◌, ◌*◌, ◌^◌, ◌<◌, ◌≤◌, ◌⊎◌, ℕ, true, length};
+ghost use Rattle.std.specs.Prelude.{◌≡◌, ◌*◌, ◌^◌, ◌<◌, ◌≤◌, ◌⊎◌, ◌↔◌, ℕ, true, length};
 ghost use Rattle.auto_core.specs.Automaton.{Moves, IsAccepting};
+ghost use Rattle.auto_core.specs.Rows.{HasBit};
 ghost use Rattle.auto_core.specs.Reach.{IsTable};
 ghost use Rattle.auto_core.specs.Graph.{IsGraph, SameGraph, graph_of_tables, letter_graph, extended};
 ghost use Rattle.graph_rows.specs.Block.{width_of, block_graph, IsFormed};
@@ -63,6 +64,69 @@ fn add_moves(
     }
 }
 
+/// The states that a move with the label leads to from `from`, as a row: all of them if the way to there passes an accepting state, as
+/// `flagged` tells, else the accepting ones.
+fn marked_moves<'a>(
+    automaton: &Auto,
+    label: u32,
+    from: u32,
+    flagged: bool,
+    width: usize,
+    letter_joined: &'a [u64],
+    letter_past: &'a [u64],
+) -> &'a [u64]
+    requires is_state { from < automaton.now.states }
+    requires letter_joined { IsTable letter_joined.now automaton.now.states width }
+    requires letter_past { IsTable letter_past.now automaton.now.states width }
+    requires letter { SameGraph (graph_of_tables letter_joined.now letter_past.now automaton.now.states width) (letter_graph automaton.now label) }
+    ensures len { length result.now ≡ width }
+    ensures bits { (q : ℕ) → HasBit result.now q ↔ (Moves automaton.now from label q × ((flagged ≡ true) ⊎ IsAccepting automaton.now q)) }
+{
+    if flagged {
+        rows::row_at(letter_joined, width, from as usize)
+    } else {
+        rows::row_at(letter_past, width, from as usize)
+    }
+}
+
+/// Joins the state of the row to each state that a move with the label leads to from `from`, by the graph of the letter; `flagged`
+/// tells whether the way to there passes an accepting state.
+fn add_step(
+    automaton: &Auto,
+    label: u32,
+    from: u32,
+    flagged: bool,
+    width: usize,
+    row: u32,
+    letter_joined: &[u64],
+    letter_past: &[u64],
+    joined: &mut [u64],
+    past: &mut [u64],
+)
+    requires is_state { from < automaton.now.states }
+    requires is_row { row < automaton.now.states }
+    requires letter_joined { IsTable letter_joined.now automaton.now.states width }
+    requires letter_past { IsTable letter_past.now automaton.now.states width }
+    requires letter { SameGraph (graph_of_tables letter_joined.now letter_past.now automaton.now.states width) (letter_graph automaton.now label) }
+    requires joined_len { length joined.old ≡ automaton.now.states * width }
+    requires past_len { length past.old ≡ automaton.now.states * width }
+    ensures joined { HasAdded width row (λ q. Moves automaton.now from label q) joined.old joined.new }
+    ensures past { HasAdded width row (λ q. Moves automaton.now from label q × ((flagged ≡ true) ⊎ IsAccepting automaton.now q)) past.old past.new }
+{
+    let moves = rows::row_at(letter_joined, width, from as usize);
+    rows::or_row(joined, width, row as usize, moves);
+    let marked = marked_moves(
+        automaton,
+        label,
+        from,
+        flagged,
+        width,
+        letter_joined,
+        letter_past,
+    );
+    rows::or_row(past, width, row as usize, marked);
+}
+
 /// Extends the arcs out of the state of the row by the moves with the label.
 fn add_row(
     automaton: &Auto,
@@ -71,6 +135,8 @@ fn add_row(
     row: u32,
     from_joined: &[u64],
     from_past: &[u64],
+    letter_joined: &[u64],
+    letter_past: &[u64],
     joined: &mut [u64],
     past: &mut [u64],
 )
@@ -79,6 +145,9 @@ fn add_row(
     requires is_row { row < automaton.now.states }
     requires from_joined { IsTable from_joined.now automaton.now.states width }
     requires from_past { IsTable from_past.now automaton.now.states width }
+    requires letter_joined { IsTable letter_joined.now automaton.now.states width }
+    requires letter_past { IsTable letter_past.now automaton.now.states width }
+    requires letter { SameGraph (graph_of_tables letter_joined.now letter_past.now automaton.now.states width) (letter_graph automaton.now label) }
     requires within { IsGraph (graph_of_tables from_joined.now from_past.now automaton.now.states width) }
     requires joined_len { length joined.old ≡ automaton.now.states * width }
     requires past_len { length past.old ≡ automaton.now.states * width }
@@ -89,13 +158,15 @@ fn add_row(
     let mut at = 0;
     while let Some(middle) = next_bit(reached, at) {
         let flagged = rows::has_cell(from_past, width, row as usize, middle);
-        add_moves(
+        add_step(
             automaton,
             label,
             middle as u32,
             flagged,
             width,
             row,
+            letter_joined,
+            letter_past,
             joined,
             past,
         );
@@ -124,12 +195,17 @@ fn write_extension(
     width: usize,
     from_joined: &[u64],
     from_past: &[u64],
+    letter_joined: &[u64],
+    letter_past: &[u64],
     joined: &mut [u64],
     past: &mut [u64],
 )
     requires few { width < 2 ^ 32 }
     requires from_joined { IsTable from_joined.now automaton.now.states width }
     requires from_past { IsTable from_past.now automaton.now.states width }
+    requires letter_joined { IsTable letter_joined.now automaton.now.states width }
+    requires letter_past { IsTable letter_past.now automaton.now.states width }
+    requires letter { SameGraph (graph_of_tables letter_joined.now letter_past.now automaton.now.states width) (letter_graph automaton.now label) }
     requires within { IsGraph (graph_of_tables from_joined.now from_past.now automaton.now.states width) }
     requires joined_len { length joined.old ≡ automaton.now.states * width }
     requires past_len { length past.old ≡ automaton.now.states * width }
@@ -147,6 +223,8 @@ fn write_extension(
             state,
             from_joined,
             from_past,
+            letter_joined,
+            letter_past,
             joined,
             past,
         );
@@ -165,8 +243,10 @@ pub fn letter(automaton: &Auto, label: u32, out: &mut [u64])
     write_letter(automaton, label, width, joined, past);
 }
 
-/// Writes the graph that has each arc of `from`, followed by each move with the label.
-pub fn extend(automaton: &Auto, label: u32, from: &[u64], out: &mut [u64])
+/// Writes the graph that has each arc of `from`, followed by each move with the label, by the graph of the letter.
+pub fn extend(automaton: &Auto, label: u32, letter: &[u64], from: &[u64], out: &mut [u64])
+    requires letter { IsFormed automaton.now.states letter.now }
+    requires is_letter { SameGraph (block_graph automaton.now.states letter.now) (letter_graph automaton.now label) }
     requires formed { IsFormed automaton.now.states from.now }
     requires len { length out.old ≡ 2 * automaton.now.states * width_of automaton.now.states }
     ensures formed { IsFormed automaton.now.states out.new }
@@ -181,6 +261,8 @@ pub fn extend(automaton: &Auto, label: u32, from: &[u64], out: &mut [u64])
         width,
         block::joined(states, from),
         block::past(states, from),
+        block::joined(states, letter),
+        block::past(states, letter),
         joined,
         past,
     );

@@ -5,7 +5,9 @@
 mod block;
 mod covering;
 mod letters;
+mod prints;
 
 pub use block::{arc, joined, past, same, words_of};
 pub use covering::covers;
 pub use letters::{extend, letter};
+pub use prints::{Print, misses, print_of};

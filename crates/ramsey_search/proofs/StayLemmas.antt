@@ -21,7 +21,7 @@ use Rattle.shared_graphs.specs.declared.graph_pairs.GraphPairs.{GraphPairs}
 use Rattle.shared_graphs.specs.declared.looping.Marked.{Marked}
 use Rattle.shared_graphs.specs.Memo.{AllTold, NothingTold, HasAnswer, HasNoted}
 use Rattle.shared_graphs.specs.Graphs.{block_at, IsThere, HasGrown, IsGraphOf, HasAdded, HasNumber, FitsLetter, FitsStep}
-use Rattle.shared_graphs.specs.GraphPairs.{FitsCovering, FitsLasso, AreGraphPairs}
+use Rattle.shared_graphs.specs.GraphPairs.{FitsLasso, AreGraphPairs}
 use Rattle.shared_graphs.specs.Looping.{AreMarked, IsLoopRow}
 use Rattle.ramsey_search.specs.Views.{seen, view}
 use Rattle.ramsey_search.specs.Kept.{IsFamily}

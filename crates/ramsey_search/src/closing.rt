@@ -9,8 +9,7 @@ ghost use Rattle.graph_rows.specs.Block.{IsFormed};
 ghost use Rattle.cert_value.specs.declared.types.StepLine.{StepLine};
 ghost use Rattle.ramsey_search.specs.declared.parts.Held.{Held};
 ghost use Rattle.shared_graphs.specs.Graphs.{HasGrown, IsStock, block_at};
-ghost use Rattle.shared_graphs.specs.Memo.{AllTold};
-ghost use Rattle.shared_graphs.specs.GraphPairs.{FitsCovering};
+ghost use Rattle.shared_graphs.specs.GraphPairs.{AreCoverings};
 ghost use Rattle.ramsey_search.specs.Views.{seen, view};
 ghost use Rattle.ramsey_search.specs.Kept.{FitsTogether, IsWhole, entries_held};
 ghost use Rattle.evidence.specs.Evidence.{IsEvidenceOf, IsStepOf};
@@ -23,18 +22,18 @@ use auto_core::{Auto, List, Memory};
 use bit_rel::Rel;
 use cert_value::{Element, Mark, StepLine};
 use evidence::Closure;
-use shared_graphs::{Graphs, Memo};
+use shared_graphs::{Coverings, Graphs};
 use std::alloc::Global;
 
 /// The least live element that subsumes this one; there is one.
-fn coverer(order: &Rel, graphs: &Graphs, told: &mut Memo, family: &Family, of: &Held) -> u32
+fn coverer(order: &Rel, graphs: &Graphs, told: &mut Coverings, family: &Family, of: &Held) -> u32
     requires from { of.now.arc.from < family.now.states }
     requires to { of.now.arc.to < family.now.states }
     requires fits { FitsTogether order.now.size (view graphs.now.graphs.items family.now) }
     requires formed { IsFormed order.now.size (block_at graphs.now.graphs.items of.now.graph) }
     requires some { HasCoverer order.now.size order.now.pairs (view graphs.now.graphs.items family.now) (seen graphs.now.graphs.items of.now) }
-    requires told { AllTold (FitsCovering order.now.size order.now.pairs graphs.now.graphs.items) told.old.told.items }
-    ensures told { AllTold (FitsCovering order.now.size order.now.pairs graphs.now.graphs.items) told.new.told.items }
+    requires told { AreCoverings order.now.size order.now.pairs graphs.now.graphs.items told.old }
+    ensures told { AreCoverings order.now.size order.now.pairs graphs.now.graphs.items told.new }
     ensures coverer { IsCovererOf order.now.size order.now.pairs (view graphs.now.graphs.items family.now) (seen graphs.now.graphs.items of.now) result }
 {
     match family.least(order, graphs, told, &of.arc, of.graph) {
@@ -48,15 +47,15 @@ fn elements(
     alloc: Global,
     order: &Rel,
     graphs: &Graphs,
-    told: &mut Memo,
+    told: &mut Coverings,
     family: &Family,
 ) -> Result<List<Element>, Memory>
     requires fits { FitsTogether order.now.size (view graphs.now.graphs.items family.now) }
     requires ends { (i : ℕ) (h : Held) → At family.now.held.items i h → (h.arc.from < family.now.states) × (h.arc.to < family.now.states) }
     requires some { (i : ℕ) (h : Held) → At family.now.held.items i h → slice_index_or family.now.live.items i false ≡ false
         → HasCoverer order.now.size order.now.pairs (view graphs.now.graphs.items family.now) (seen graphs.now.graphs.items h) }
-    requires told { AllTold (FitsCovering order.now.size order.now.pairs graphs.now.graphs.items) told.old.told.items }
-    ensures told { AllTold (FitsCovering order.now.size order.now.pairs graphs.now.graphs.items) told.new.told.items }
+    requires told { AreCoverings order.now.size order.now.pairs graphs.now.graphs.items told.old }
+    ensures told { AreCoverings order.now.size order.now.pairs graphs.now.graphs.items told.new }
     ensures elements { IfOk result (AreMarked order.now.size order.now.pairs (view graphs.now.graphs.items family.now) (length family.now.held.items)) }
 {
     let mut elements = List::new(alloc);
@@ -87,7 +86,7 @@ fn mark_of(elements: &[Element], number: u32) -> Mark
 fn marked_coverer(
     order: &Rel,
     graphs: &Graphs,
-    told: &mut Memo,
+    told: &mut Coverings,
     family: &Family,
     marked: &List<Element>,
     of: &Held,
@@ -99,8 +98,8 @@ fn marked_coverer(
     requires themselves { LiveCoverThemselves order.now.size order.now.pairs (view graphs.now.graphs.items family.now) }
     requires marked { AreMarked order.now.size order.now.pairs (view graphs.now.graphs.items family.now) (length family.now.held.items) marked.now }
     requires some { HasCoverer order.now.size order.now.pairs (view graphs.now.graphs.items family.now) (seen graphs.now.graphs.items of.now) }
-    requires told { AllTold (FitsCovering order.now.size order.now.pairs graphs.now.graphs.items) told.old.told.items }
-    ensures told { AllTold (FitsCovering order.now.size order.now.pairs graphs.now.graphs.items) told.new.told.items }
+    requires told { AreCoverings order.now.size order.now.pairs graphs.now.graphs.items told.old }
+    ensures told { AreCoverings order.now.size order.now.pairs graphs.now.graphs.items told.new }
     ensures coverer { IsCovererOf order.now.size order.now.pairs (view graphs.now.graphs.items family.now) (seen graphs.now.graphs.items of.now) result }
 {
     if let Some(number) = family.equal_to(&of.arc, of.graph) {
@@ -119,7 +118,7 @@ fn cover(
     second: &Auto,
     order: &Rel,
     graphs: &mut Graphs,
-    told: &mut Memo,
+    told: &mut Coverings,
     family: &Family,
     marked: &List<Element>,
 ) -> Result<List<u32>, Memory>
@@ -132,9 +131,9 @@ fn cover(
     requires marked { AreMarked order.now.size order.now.pairs (view graphs.old.graphs.items family.now) (length family.now.held.items) marked.now }
     requires some { (t : ℕ) → t < length first.now.transitions → HasSubsumer (supergraph_rules first.now second.now order.now.pairs) (entries_held first.now (view graphs.old.graphs.items family.now)) (base_entry first.now t) }
     requires stock { IsStock second.now graphs.old }
-    requires told { AllTold (FitsCovering second.now.states order.now.pairs graphs.old.graphs.items) told.old.told.items }
+    requires told { AreCoverings second.now.states order.now.pairs graphs.old.graphs.items told.old }
     ensures stock { IfOk result (λ _. IsStock second.now graphs.new) }
-    ensures told { IfOk result (λ _. AllTold (FitsCovering second.now.states order.now.pairs graphs.new.graphs.items) told.new.told.items) }
+    ensures told { IfOk result (λ _. AreCoverings second.now.states order.now.pairs graphs.new.graphs.items told.new) }
     ensures grown { IfOk result (λ _. HasGrown graphs.old.graphs.items graphs.new.graphs.items) }
     ensures size { IfOk result (λ cover. length cover ≡ length first.now.transitions) }
     ensures each { IfOk result (λ cover. (t j : ℕ) → At cover t j → IsLeastSubsumer (supergraph_rules first.now second.now order.now.pairs) (entries_held first.now (view graphs.old.graphs.items family.now)) (base_entry first.now t) j) }
@@ -154,7 +153,7 @@ fn step_line(
     second: &Auto,
     order: &Rel,
     graphs: &mut Graphs,
-    told: &mut Memo,
+    told: &mut Coverings,
     family: &Family,
     marked: &List<Element>,
     element: u32,
@@ -170,9 +169,9 @@ fn step_line(
     requires some { (x : Entry) (t : ℕ) → At (entries_held first.now (view graphs.old.graphs.items family.now)) element x → t < length first.now.transitions → (trans_at first.now t).source ≡ x.arc.to
         → HasSubsumer (supergraph_rules first.now second.now order.now.pairs) (entries_held first.now (view graphs.old.graphs.items family.now)) (next_entry first.now element x t) }
     requires stock { IsStock second.now graphs.old }
-    requires told { AllTold (FitsCovering second.now.states order.now.pairs graphs.old.graphs.items) told.old.told.items }
+    requires told { AreCoverings second.now.states order.now.pairs graphs.old.graphs.items told.old }
     ensures stock { IfOk result (λ _. IsStock second.now graphs.new) }
-    ensures told { IfOk result (λ _. AllTold (FitsCovering second.now.states order.now.pairs graphs.new.graphs.items) told.new.told.items) }
+    ensures told { IfOk result (λ _. AreCoverings second.now.states order.now.pairs graphs.new.graphs.items told.new) }
     ensures grown { IfOk result (λ _. HasGrown graphs.old.graphs.items graphs.new.graphs.items) }
     ensures step { IfOk result (IsStepOf (supergraph_rules first.now second.now order.now.pairs) (entries_held first.now (view graphs.old.graphs.items family.now))) }
     ensures element { IfOk result (λ line. line.element ≡ element) }
@@ -194,7 +193,7 @@ fn steps(
     second: &Auto,
     order: &Rel,
     graphs: &mut Graphs,
-    told: &mut Memo,
+    told: &mut Coverings,
     family: &Family,
     marked: &List<Element>,
 ) -> Result<List<StepLine>, Memory>
@@ -210,9 +209,9 @@ fn steps(
         → (trans_at first.now t).source ≡ x.arc.to
         → HasSubsumer (supergraph_rules first.now second.now order.now.pairs) (entries_held first.now (view graphs.old.graphs.items family.now)) (next_entry first.now e x t) }
     requires stock { IsStock second.now graphs.old }
-    requires told { AllTold (FitsCovering second.now.states order.now.pairs graphs.old.graphs.items) told.old.told.items }
+    requires told { AreCoverings second.now.states order.now.pairs graphs.old.graphs.items told.old }
     ensures stock { IfOk result (λ _. IsStock second.now graphs.new) }
-    ensures told { IfOk result (λ _. AllTold (FitsCovering second.now.states order.now.pairs graphs.new.graphs.items) told.new.told.items) }
+    ensures told { IfOk result (λ _. AreCoverings second.now.states order.now.pairs graphs.new.graphs.items told.new) }
     ensures grown { IfOk result (λ _. HasGrown graphs.old.graphs.items graphs.new.graphs.items) }
     ensures lines { IfOk result (λ steps. map (λ (l : StepLine). l.element) steps ≡ filter (λ e. slice_index_or family.now.live.items e false) (range_with_len 0 (length family.now.held.items))) }
     ensures each { IfOk result (λ steps. (k : ℕ) (l : StepLine) → At steps k l → IsStepOf (supergraph_rules first.now second.now order.now.pairs) (entries_held first.now (view graphs.old.graphs.items family.now)) l) }
@@ -235,7 +234,7 @@ pub(crate) fn closure(
     second: &Auto,
     order: &Rel,
     graphs: &mut Graphs,
-    told: &mut Memo,
+    told: &mut Coverings,
     family: &Family,
 ) -> Result<Closure, Memory>
     requires first_valid { IsAutomaton first.now }
@@ -246,7 +245,7 @@ pub(crate) fn closure(
     requires closed { (limit : ℕ) × SearchEnds first.now second.now order.now.pairs limit (Closed (entries_held first.now (view graphs.old.graphs.items family.now))) }
     requires few { length family.now.held.items < 2 ^ 32 }
     requires stock { IsStock second.now graphs.old }
-    requires told { AllTold (FitsCovering second.now.states order.now.pairs graphs.old.graphs.items) told.old.told.items }
+    requires told { AreCoverings second.now.states order.now.pairs graphs.old.graphs.items told.old }
     ensures { IfOk result (IsEvidenceOf (supergraph_rules first.now second.now order.now.pairs) (entries_held first.now (view graphs.old.graphs.items family.now))) }
 {
     let elements = elements(alloc, order, graphs, told, family)?;

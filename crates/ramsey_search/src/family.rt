@@ -5,8 +5,7 @@ ghost use Rattle.graph_rows.specs.Block.{IsFormed, block_graph};
 ghost use Rattle.supergraph.specs.Stands.{with_graph};
 ghost use Rattle.evidence.specs.Tables.{numbers_at};
 ghost use Rattle.shared_graphs.specs.Graphs.{block_at};
-ghost use Rattle.shared_graphs.specs.Memo.{AllTold};
-ghost use Rattle.shared_graphs.specs.GraphPairs.{FitsCovering};
+ghost use Rattle.shared_graphs.specs.GraphPairs.{AreCoverings};
 ghost use Rattle.ramsey_search.specs.Views.{seen, view};
 ghost use Rattle.ramsey_search.specs.Kept.{FitsTogether, HasEntered, IsEqualTo, NoneSubsumes, IsFirstSubsumer};
 
@@ -14,7 +13,7 @@ use crate::meeting::{drop_subsumed, least_subsumer, still_live};
 use crate::parts::Held;
 use auto_core::Memory;
 use bit_rel::Rel;
-use shared_graphs::{Graphs, Memo};
+use shared_graphs::{Coverings, Graphs};
 use std::alloc::Global;
 use supergraph::Arc;
 
@@ -118,7 +117,7 @@ impl Family {
         &self,
         order: &Rel,
         graphs: &Graphs,
-        told: &mut Memo,
+        told: &mut Coverings,
         arc: &Arc,
         graph: u32,
     ) -> Option<u32>
@@ -126,8 +125,8 @@ impl Family {
         requires to { arc.now.to < self.now.states }
         requires fits { FitsTogether order.now.size (view graphs.now.graphs.items self.now) }
         requires formed { IsFormed order.now.size (block_at graphs.now.graphs.items graph) }
-        requires told { AllTold (FitsCovering order.now.size order.now.pairs graphs.now.graphs.items) told.old.told.items }
-        ensures told { AllTold (FitsCovering order.now.size order.now.pairs graphs.now.graphs.items) told.new.told.items }
+        requires told { AreCoverings order.now.size order.now.pairs graphs.now.graphs.items told.old }
+        ensures told { AreCoverings order.now.size order.now.pairs graphs.now.graphs.items told.new }
         ensures found { let x = with_graph arc.now (block_graph order.now.size (block_at graphs.now.graphs.items graph)) in
             let held = (view graphs.now.graphs.items self.now).held in
             let numbers = numbers_at self.now.ends.items (arc.now.from * self.now.states + arc.now.to) in
@@ -150,7 +149,7 @@ impl Family {
         alloc: Global,
         order: &Rel,
         graphs: &Graphs,
-        told: &mut Memo,
+        told: &mut Coverings,
         new: Held,
     ) -> Result<(), Memory>
         requires from { new.arc.from < self.old.states }
@@ -158,8 +157,8 @@ impl Family {
         requires fits { FitsTogether order.now.size (view graphs.now.graphs.items self.old) }
         requires formed { IsFormed order.now.size (block_at graphs.now.graphs.items new.graph) }
         requires few { length self.old.held.items < 2 ^ 32 }
-        requires told { AllTold (FitsCovering order.now.size order.now.pairs graphs.now.graphs.items) told.old.told.items }
-        ensures told { AllTold (FitsCovering order.now.size order.now.pairs graphs.now.graphs.items) told.new.told.items }
+        requires told { AreCoverings order.now.size order.now.pairs graphs.now.graphs.items told.old }
+        ensures told { AreCoverings order.now.size order.now.pairs graphs.now.graphs.items told.new }
         ensures entered { OnOk result (HasEntered order.now.size order.now.pairs (seen graphs.now.graphs.items new)
             (view graphs.now.graphs.items self.old) (view graphs.now.graphs.items self.new)) }
         ensures held { OnOk result (self.new.held.items ≡ self.old.held.items ++ new ∷ []) }

@@ -1,18 +1,17 @@
 //! A candidate meets the live elements that have its ends.
 
-ghost use Rattle.std.specs.Prelude.{◌≡◌, length, map, vec_len, MatchOption, IfOk, filter, slice_index_or, false};
+ghost use Rattle.std.specs.Prelude.{◌≡◌, length, map, vec_len, MatchOption, IfOk, filter, slice_index_or, true, false};
 ghost use Rattle.graph_rows.specs.Block.{IsFormed, block_graph};
 ghost use Rattle.supergraph.specs.Stands.{with_graph};
 ghost use Rattle.shared_graphs.specs.Graphs.{block_at};
-ghost use Rattle.shared_graphs.specs.Memo.{AllTold};
-ghost use Rattle.shared_graphs.specs.GraphPairs.{FitsCovering};
+ghost use Rattle.shared_graphs.specs.GraphPairs.{AreCoverings};
 ghost use Rattle.ramsey_search.specs.Views.{seen};
 ghost use Rattle.ramsey_search.specs.Kept.{AreFormed, AreThere, NoneSubsumes, IsFirstSubsumer, AreDropped, held_super};
 
 use crate::parts::Held;
 use auto_core::Memory;
 use bit_rel::Rel;
-use shared_graphs::{Graph, Memo, subsumes};
+use shared_graphs::{Coverings, Graph};
 use std::alloc::Global;
 use supergraph::Arc;
 
@@ -20,7 +19,7 @@ use supergraph::Arc;
 pub(crate) fn least_subsumer(
     order: &Rel,
     graphs: &[Graph],
-    told: &mut Memo,
+    told: &mut Coverings,
     held: &[Held],
     among: &[u32],
     arc: &Arc,
@@ -29,15 +28,15 @@ pub(crate) fn least_subsumer(
     requires there { AreThere among.now (length held.now) }
     requires formed { AreFormed order.now.size (map (seen graphs.now) held.now) }
     requires graph { IsFormed order.now.size (block_at graphs.now graph) }
-    requires told { AllTold (FitsCovering order.now.size order.now.pairs graphs.now) told.old.told.items }
-    ensures told { AllTold (FitsCovering order.now.size order.now.pairs graphs.now) told.new.told.items }
+    requires told { AreCoverings order.now.size order.now.pairs graphs.now told.old }
+    ensures told { AreCoverings order.now.size order.now.pairs graphs.now told.new }
     ensures found { let x = with_graph arc.now (block_graph order.now.size (block_at graphs.now graph)) in
         let held = map (seen graphs.now) held.now in
         MatchOption result (NoneSubsumes order.now.size order.now.pairs held among.now x) (IsFirstSubsumer order.now.size order.now.pairs held among.now x) }
 {
     for number in among {
         let element = &held[*number as usize];
-        if subsumes(order, graphs, told, &element.arc, element.graph, arc, graph) {
+        if told.subsumes(order, graphs, &element.arc, element.graph, arc, graph) {
             return Some(*number);
         }
     }
@@ -48,7 +47,7 @@ pub(crate) fn least_subsumer(
 pub(crate) fn drop_subsumed(
     order: &Rel,
     graphs: &[Graph],
-    told: &mut Memo,
+    told: &mut Coverings,
     held: &[Held],
     among: &[u32],
     new: &Held,
@@ -58,16 +57,15 @@ pub(crate) fn drop_subsumed(
     requires formed { AreFormed order.now.size (map (seen graphs.now) held.now) }
     requires graph { IsFormed order.now.size (block_at graphs.now new.now.graph) }
     requires flags { vec_len live.old ≡ length held.now }
-    requires told { AllTold (FitsCovering order.now.size order.now.pairs graphs.now) told.old.told.items }
-    ensures told { AllTold (FitsCovering order.now.size order.now.pairs graphs.now) told.new.told.items }
+    requires told { AreCoverings order.now.size order.now.pairs graphs.now told.old }
+    ensures told { AreCoverings order.now.size order.now.pairs graphs.now told.new }
     ensures dropped { AreDropped order.now.size order.now.pairs (map (seen graphs.now) held.now) among.now (held_super order.now.size (seen graphs.now new.now)) live.old.items live.new.items }
 {
     for number in among {
         let element = &held[*number as usize];
-        if subsumes(
+        if told.subsumes(
             order,
             graphs,
-            told,
             &new.arc,
             new.graph,
             &element.arc,
@@ -78,11 +76,27 @@ pub(crate) fn drop_subsumed(
     }
 }
 
+/// Tells whether all of these elements are live.
+fn are_all_live(among: &[u32], live: &[bool]) -> bool
+    requires { AreThere among.now (length live.now) }
+    ensures { result ≡ true → filter (λ j. slice_index_or live.now j false) among.now ≡ among.now }
+{
+    for number in among {
+        if !live[*number as usize] {
+            return false;
+        }
+    }
+    true
+}
+
 /// Those of these elements that are live.
 pub(crate) fn still_live(alloc: Global, among: &[u32], live: &[bool]) -> Result<Vec<u32>, Memory>
     requires { AreThere among.now (length live.now) }
     ensures { IfOk result (λ kept. kept.items ≡ filter (λ j. slice_index_or live.now j false) among.now) }
 {
+    if are_all_live(among, live) {
+        return Ok(among.to_vec(alloc)?);
+    }
     let mut kept = Vec::new(alloc);
     for number in among {
         if live[*number as usize] {

@@ -79,6 +79,11 @@ fn consider(
     if let Some(_number) = family.equal_to(&new.arc, new.graph) {
         return Ok(Fate::GoesOn);
     }
+    answers
+        .covers
+        .print(alloc, order, &graphs.graphs, new.graph)?;
+    let is_turn = new.arc.from == new.arc.to && new.arc.accepting;
+    answers.look(alloc, second, &graphs.graphs, new.graph, is_turn)?;
     match family.least(order, graphs, &mut answers.covers, &new.arc, new.graph) {
         Some(_number) => Ok(Fate::GoesOn),
         None => admit(

@@ -7,6 +7,8 @@ use Rattle.std.proofs.lemmas.List.{get_or_append_left, get_or_past, length-map, 
 use Rattle.auto_core.specs.Automaton.{Automaton}
 use Rattle.auto_core.specs.Graph as words
 use Rattle.auto_core.specs.Outcome.{At}
+use Rattle.graph_rows.specs.declared.prints.Print.{Print}
+use Rattle.graph_rows.specs.Prints.{IsPrint}
 use Rattle.graph_rows.specs.Block.{IsFormed, block_graph, width_of}
 use Rattle.search_laws.proofs.PlaceLemmas.{at_new}
 use Rattle.search_laws.proofs.ListLemmas.{read_map}
@@ -15,11 +17,14 @@ use Rattle.shared_graphs.specs.declared.memo.Answer.TheVariants.{Number, Truth}
 use Rattle.shared_graphs.specs.declared.memo.Told.{Told}
 use Rattle.shared_graphs.specs.declared.graphs.Graph.{Graph}
 use Rattle.shared_graphs.specs.declared.graphs.Graphs.{Graphs}
+use Rattle.shared_graphs.specs.declared.coverings.Coverings.{Coverings}
 use Rattle.shared_graphs.specs.declared.graph_pairs.GraphPairs.{GraphPairs}
 use Rattle.shared_graphs.specs.declared.looping.Marked.{Marked}
 use Rattle.shared_graphs.specs.Memo.{AllTold, NothingTold, HasAnswer, HasNoted}
 use Rattle.shared_graphs.specs.Graphs.{block_at, IsThere, HasGrown, IsGraphOf, HasAdded, HasNumber, FitsLetter, FitsStep}
-use Rattle.shared_graphs.specs.GraphPairs.{FitsCovering, FitsLasso, AreGraphPairs}
+use Rattle.shared_graphs.specs.GraphPairs.{FitsCovering, FitsLasso, ArePrints, AreCoverings, AreGraphPairs}
+use Rattle.shared_graphs.specs.declared.glimpses.Glimpse.{Glimpse}
+use Rattle.shared_graphs.specs.Glimpses.{AreGlimpses, IsGlimpse}
 use Rattle.shared_graphs.specs.Looping.{AreMarked, IsLoopRow}
 
 -- What is found fits, and what is noted too.
@@ -140,6 +145,15 @@ module _ (old now : List Graph) (grown : HasGrown old now) where
   pub coverings_stay : (n : ℕ) (S : List (ℕ × ℕ)) (told : List (Option Told)) → AllTold (FitsCovering n S old) told → AllTold (FitsCovering n S now) told
   coverings_stay n S told = told_as (FitsCovering n S old) (FitsCovering n S now) told (covering_stays n S)
 
+  prints_stay : (n : ℕ) (S : List (ℕ × ℕ)) (prints : List Print) → ArePrints n S old prints → ArePrints n S now prints
+  prints_stay n S prints are k print is =
+      let size = grown.size in
+      let within = (are k print is).0 in
+      (omega arith, subst (λ l. IsPrint n (Holds S) l print) (sym (grown.same k within)) (are k print is).1)
+
+  pub all_coverings_stay : (n : ℕ) (S : List (ℕ × ℕ)) (c : Coverings) → AreCoverings n S old c → AreCoverings n S now c
+  all_coverings_stay n S c are = record { prints = prints_stay n S c.prints.items are.prints; told = coverings_stay n S c.told.told.items are.told }
+
   marked_stay : (n : ℕ) (all : List Marked) → AreMarked n old all → AreMarked n now all
   marked_stay n all are k marked is = elim (are k marked is) [
     | inl none ↦ inl none
@@ -149,10 +163,16 @@ module _ (old now : List Graph) (grown : HasGrown old now) where
         inr (record { within = omega arith; row = subst (λ l. IsLoopRow n (block_graph n l) marked.row.items) (sym (grown.same marked.graph within)) marks.row })
   ]
 
+  glimpses_stay : (B : Automaton) (glimpses : List Glimpse) → AreGlimpses B old glimpses → AreGlimpses B now glimpses
+  glimpses_stay B glimpses are k x is =
+      let size = grown.size in
+      let within = (are k x is).0 in
+      (omega arith, subst (λ l. IsGlimpse B (block_graph B.states l) x) (sym (grown.same k within)) (are k x is).1)
+
   pub pairs_stay : (B : Automaton) (S : List (ℕ × ℕ)) (answers : GraphPairs) → AreGraphPairs B S old answers → AreGraphPairs B S now answers
   pairs_stay B S answers are = record {
-    covers = coverings_stay B.states S answers.covers.told.items are.covers;
-    lassos = record { lassos = told_as (FitsLasso B old) (FitsLasso B now) answers.lassos.told.items (lasso_stays B) are.lassos.lassos; looping = marked_stay B.states answers.looping.marked.items are.lassos.looping; room = are.lassos.room };
+    covers = all_coverings_stay B.states S answers.covers are.covers;
+    lassos = record { lassos = told_as (FitsLasso B old) (FitsLasso B now) answers.lassos.told.items (lasso_stays B) are.lassos.lassos; looping = marked_stay B.states answers.looping.marked.items are.lassos.looping; glimpses = glimpses_stay B answers.glimpses.items are.lassos.glimpses; room = are.lassos.room };
   }
 
 -- A formed block is that of a graph that is there.

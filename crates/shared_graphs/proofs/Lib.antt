@@ -1,2 +1,4 @@
 pub mod MemoLemmas
 pub mod GraphsLemmas
+pub mod PrintLemmas
+pub mod GlimpseLemmas

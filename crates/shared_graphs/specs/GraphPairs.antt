@@ -3,12 +3,17 @@ use Rattle.std.specs.Prelude.{◌≡◌, ℕ, ◌<◌, ◌↔◌, List, length, 
 use Rattle.auto_core.specs.Automaton.{Automaton}
 use Rattle.auto_core.specs.Game.{Holds}
 use Rattle.auto_core.specs.Graph.{Covers, LassoIn}
+use Rattle.auto_core.specs.Outcome.{At}
 use Rattle.graph_rows.specs.Block.{block_graph}
+use Rattle.graph_rows.specs.declared.prints.Print.{Print}
+use Rattle.graph_rows.specs.Prints.{IsPrint, Misses}
 use Rattle.shared_graphs.specs.declared.memo.Answer.{Answer}
 use Rattle.shared_graphs.specs.declared.memo.Answer.TheVariants.{Number, Truth}
 use Rattle.shared_graphs.specs.declared.graphs.Graph.{Graph}
+use Rattle.shared_graphs.specs.declared.coverings.Coverings.{Coverings}
 use Rattle.shared_graphs.specs.declared.graph_pairs.GraphPairs.{GraphPairs}
 use Rattle.shared_graphs.specs.Graphs.{block_at}
+use Rattle.shared_graphs.specs.Glimpses.{AreGlimpses}
 use Rattle.shared_graphs.specs.Looping.{AreMarked}
 use Rattle.shared_graphs.specs.Memo.{AllTold}
 
@@ -23,13 +28,31 @@ FitsLasso B graphs g h (Number k) = Unit {0}
 FitsLasso B graphs g h (Truth is) =
     (g < length graphs) × (h < length graphs) × (IsTrue is ↔ LassoIn (block_graph B.states (block_at graphs g)) (block_graph B.states (block_at graphs h)) B.initial)
 
--- What is remembered of lassos and of loops is so, and there is room for the lasso test.
+-- What is remembered of lassos, of loops and at sight is so, and there is room for the lasso test.
 pub record AreLassosTold (B : Automaton) (graphs : List Graph) (answers : GraphPairs) : Type 0 where
   pub lassos : AllTold (FitsLasso B graphs) answers.lassos.told.items
   pub looping : AreMarked B.states graphs answers.looping.marked.items
+  pub glimpses : AreGlimpses B graphs answers.glimpses.items
   pub room : answers.scratch ≡ B.states
+
+-- Each print is that of the graph with its number.
+abbrev pub ArePrints : ℕ → List (ℕ × ℕ) → List Graph → List Print → Type 0
+ArePrints n S graphs prints = (k : ℕ) (print : Print) → At prints k print → (k < length graphs) × IsPrint n (Holds S) (block_at graphs k) print
+
+-- What is remembered of coverings is so.
+pub record AreCoverings (n : ℕ) (S : List (ℕ × ℕ)) (graphs : List Graph) (c : Coverings) : Type 0 where
+  pub prints : ArePrints n S graphs c.prints.items
+  pub told : AllTold (FitsCovering n S graphs) c.told.told.items
+
+-- The print of the first graph has a pair that the second one's has no answer to.
+pub record AreToldApart (prints : List Print) (g h : ℕ) : Type 0 where
+  pub first : Print
+  pub second : Print
+  pub first_is : At prints g first
+  pub second_is : At prints h second
+  pub misses : Misses first second
 
 -- All that is remembered of pairs is so.
 pub record AreGraphPairs (B : Automaton) (S : List (ℕ × ℕ)) (graphs : List Graph) (answers : GraphPairs) : Type 0 where
-  pub covers : AllTold (FitsCovering B.states S graphs) answers.covers.told.items
+  pub covers : AreCoverings B.states S graphs answers.covers
   pub lassos : AreLassosTold B graphs answers

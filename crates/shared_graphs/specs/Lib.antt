@@ -1,4 +1,5 @@
 pub mod Memo
 pub mod Graphs
 pub mod Looping
+pub mod Glimpses
 pub mod GraphPairs

@@ -73,18 +73,20 @@ fn letter_block(alloc: Global, second: &Auto, label: u32) -> Result<Vec<u64>, Me
     Ok(block)
 }
 
-/// The block of the graph, extended by the letter.
+/// The block of the graph, extended by the letter, whose own block is given.
 fn extended_block(
     alloc: Global,
     second: &Auto,
+    letter: &[u64],
     from: &[u64],
     label: u32,
 ) -> Result<Vec<u64>, Memory>
-    requires { IsFormed second.now.states from.now }
+    requires letter { IsBlockOf second.now (letter_graph second.now label) letter.now }
+    requires formed { IsFormed second.now.states from.now }
     ensures { IfOk result (λ b. IsBlockOf second.now (extended second.now (block_graph second.now.states from.now) label) b.items) }
 {
     let mut block = vec![in alloc; 0; graph_rows::words_of(second.states())]?;
-    graph_rows::extend(second, label, from, &mut block);
+    graph_rows::extend(second, label, letter, from, &mut block);
     Ok(block)
 }
 
@@ -182,6 +184,27 @@ impl Graphs {
         Ok(number)
     }
 
+    /// The block of the graph with this number, extended by the letter. The letter's graph is mostly remembered.
+    fn extended(
+        &self,
+        alloc: Global,
+        second: &Auto,
+        from: u32,
+        label: u32,
+    ) -> Result<Vec<u64>, Memory>
+        requires stock { IsStock second.now self.now }
+        requires formed { IsFormed second.now.states (block_at self.now.graphs.items from) }
+        ensures { IfOk result (λ b. IsBlockOf second.now (extended second.now (block_graph second.now.states (block_at self.now.graphs.items from)) label) b.items) }
+    {
+        let from = block_of(&self.graphs, from);
+        if let Some(Answer::Number(number)) = self.letters.find(0, label) {
+            let letter = block_of(&self.graphs, number);
+            return extended_block(alloc, second, letter, from, label);
+        }
+        let letter = letter_block(alloc, second, label)?;
+        extended_block(alloc, second, &letter, from, label)
+    }
+
     /// The number of the graph, extended by the letter.
     pub fn after(
         &mut self,
@@ -199,7 +222,7 @@ impl Graphs {
         if let Some(Answer::Number(number)) = self.steps.find(from, label) {
             return Ok(number);
         }
-        let block = extended_block(alloc, second, block_of(&self.graphs, from), label)?;
+        let block = self.extended(alloc, second, from, label)?;
         let is_there = (from as usize) < self.graphs.len();
         let number = self.number_of(block)?;
         if is_there {

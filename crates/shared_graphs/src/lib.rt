@@ -1,12 +1,16 @@
 //! Graphs of words, each kept once with a number, with what letters lead to from them and what was told of two, remembered.
 #![tactic(auto)]
 
+mod coverings;
+mod glimpses;
 mod graph_pairs;
 mod graphs;
 mod looping;
 mod memo;
 
-pub use graph_pairs::{GraphPairs, subsumes};
+pub use coverings::{Coverings, subsumes};
+pub use glimpses::Glimpse;
+pub use graph_pairs::GraphPairs;
 pub use graphs::{Graph, Graphs, block_of};
 pub use looping::{Looping, Marked, marked_row};
 pub use memo::{Answer, Memo, Told};

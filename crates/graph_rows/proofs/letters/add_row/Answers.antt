@@ -37,13 +37,13 @@ loop-middle-preserved c =
     no_arc c.args.from_joined.now c.row_at-reached.result.now A.states w row k c.row_at-reached.ensures.bits c.requires.from_joined.room (between k k_from k_to) in
     let C : ℕ → ℕ → Type 0 = λ m q. Moves A m a q in
     let D : ℕ → ℕ → Type 0 = λ m q. Moves A m a q × (HasCell c.args.from_past.now w row m ⊎ IsAccepting A q) in
-    let F : Bool → Type 0 = λ b. HasAdded w row (λ q. Moves A middle a q × ((b ≡ true) ⊎ IsAccepting A q)) c.loop-middle.past c.add_moves.new.past in (
-      added_then w row (Through R at C) (λ q. Moves A middle a q) (Through R (middle + 1) C) c.args.joined.now c.loop-middle.joined c.add_moves.new.joined
+    let F : Bool → Type 0 = λ b. HasAdded w row (λ q. Moves A middle a q × ((b ≡ true) ⊎ IsAccepting A q)) c.loop-middle.past c.add_step.new.past in (
+      added_then w row (Through R at C) (λ q. Moves A middle a q) (Through R (middle + 1) C) c.args.joined.now c.loop-middle.joined c.add_step.new.joined
           (λ q q_in. through_more R at middle C (λ r. Moves A middle a r) from arc free q (λ h. h, λ h. h))
-          c.loop-middle.invariant.0 c.add_moves.ensures.joined,
-      added_then w row (Through R at D) (λ q. D middle q) (Through R (middle + 1) D) c.args.past.now c.loop-middle.past c.add_moves.new.past
+          c.loop-middle.invariant.0 c.add_step.ensures.joined,
+      added_then w row (Through R at D) (λ q. D middle q) (Through R (middle + 1) D) c.args.past.now c.loop-middle.past c.add_step.new.past
           (λ q q_in. through_more R at middle D (λ r. D middle r) from arc free q (λ h. h, λ h. h))
-          c.loop-middle.invariant.1 (subst F c.has_cell-flagged.ensures c.add_moves.ensures.past),
+          c.loop-middle.invariant.1 (subst F c.has_cell-flagged.ensures c.add_step.ensures.past),
       omega arith,
     )
 

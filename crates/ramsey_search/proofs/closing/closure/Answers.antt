@@ -8,8 +8,7 @@ use Rattle.search_laws.proofs.PlaceLemmas.{at_within}
 use Rattle.search_laws.proofs.ListLemmas.{at_map}
 use Rattle.ramsey_search.specs.declared.family.Family.{Family}
 use Rattle.shared_graphs.specs.declared.graphs.Graph.{Graph}
-use Rattle.shared_graphs.specs.Memo.{AllTold}
-use Rattle.shared_graphs.specs.GraphPairs.{FitsCovering}
+use Rattle.shared_graphs.specs.GraphPairs.{AreCoverings}
 use Rattle.ramsey_search.specs.Views.{View, seen, view}
 use Rattle.ramsey_search.specs.Marks.{AreMarked, LiveCoverThemselves}
 use Rattle.ramsey_search.specs.Kept.{IsWhole, entries_held}
@@ -77,7 +76,7 @@ elements-requires-clause-told c =
     let v : View = view g f in
     let es : List Entry = entries_held A v in
     let limit : ℕ = c.requires.closed.0 in
-    subst (λ m. AllTold (FitsCovering m S g) c.args.told.now.told.items) (sym c.requires.order_size) c.requires.told
+    subst (λ m. AreCoverings m S g c.args.told.now) (sym c.requires.order_size) c.requires.told
 
 pub cover-requires-clause-told : goal.cover-requires-clause-told
 cover-requires-clause-told c =
@@ -90,7 +89,7 @@ cover-requires-clause-told c =
     let v : View = view g f in
     let es : List Entry = entries_held A v in
     let limit : ℕ = c.requires.closed.0 in
-    subst (λ m. AllTold (FitsCovering m S g) c.elements.new.told.told.items) c.requires.order_size c.elements.ensures.told
+    subst (λ m. AreCoverings m S g c.elements.new.told) c.requires.order_size c.elements.ensures.told
 
 pub cover-requires-clause-some : goal.cover-requires-clause-some
 cover-requires-clause-some c =

@@ -7,12 +7,11 @@ use Rattle.ramsey_search.specs.declared.parts.Held.{Held}
 use Rattle.ramsey_search.specs.declared.family.Family.{Family}
 use Rattle.shared_graphs.specs.declared.graphs.Graph.{Graph}
 use Rattle.shared_graphs.specs.Graphs.{HasGrown}
-use Rattle.shared_graphs.specs.Memo.{AllTold}
-use Rattle.shared_graphs.specs.GraphPairs.{FitsCovering}
+use Rattle.shared_graphs.specs.GraphPairs.{AreCoverings}
 use Rattle.ramsey_search.specs.Views.{View, seen, view}
 use Rattle.ramsey_search.specs.Marks.{AreMarked, LiveCoverThemselves}
 use Rattle.ramsey_search.specs.Kept.{IsKept, IsWhole, entries_held}
-use Rattle.shared_graphs.proofs.GraphsLemmas.{grown_none, grown_more, coverings_stay}
+use Rattle.shared_graphs.proofs.GraphsLemmas.{grown_none, grown_more, all_coverings_stay}
 use Rattle.ramsey_search.proofs.StayLemmas.{view_stays}
 use Rattle.ramsey_search.proofs.TurnLemmas.{fits_together, base_is_candidate, candidate_in_range}
 use Rattle.ramsey_search.proofs.ClosureLemmas.{has_coverer, coverer_is_least}
@@ -212,8 +211,8 @@ marked_coverer-requires-clause-told c =
     let now : View = view g_now f in
     let whole : IsWhole A B S now = subst (IsWhole A B S) (sym same) c.requires.whole in
     let es : List Entry = entries_held A now in
-    subst (λ m. AllTold (FitsCovering m S g_now) c.loop-t.told.told.items) (sym c.requires.order_size)
-    (coverings_stay g_mid g_now c.in_ok-start.ensures.grown B.states S c.loop-t.told.told.items c.loop-t.invariant.told)
+    subst (λ m. AreCoverings m S g_now c.loop-t.told) (sym c.requires.order_size)
+    (all_coverings_stay g_mid g_now c.in_ok-start.ensures.grown B.states S c.loop-t.told c.loop-t.invariant.told)
 
 pub loop-t-preserved : goal.loop-t-preserved
 loop-t-preserved c =
@@ -250,7 +249,7 @@ loop-t-preserved c =
     let total = ap length pushed in
     record {
       stock = c.in_ok-start.ensures.stock;
-      told = subst (λ m. AllTold (FitsCovering m S g_now) c.marked_coverer.new.told.told.items) c.requires.order_size c.marked_coverer.ensures.told;
+      told = subst (λ m. AreCoverings m S g_now c.marked_coverer.new.told) c.requires.order_size c.marked_coverer.ensures.told;
       grown = grown;
       size = omega arith;
       each = λ k j is. elim (at_cases c.loop-t.cover c.marked_coverer.result k j (subst (λ l. At l k j) pushed is)) [

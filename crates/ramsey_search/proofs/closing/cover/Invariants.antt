@@ -1,8 +1,7 @@
 use Rattle.std.proofs.Common.{◌≡◌, ℕ, length}
 use Rattle.auto_core.specs.Outcome.{At, IsLeastSubsumer, base_entry, supergraph_rules}
 use Rattle.shared_graphs.specs.Graphs.{IsStock, HasGrown}
-use Rattle.shared_graphs.specs.Memo.{AllTold}
-use Rattle.shared_graphs.specs.GraphPairs.{FitsCovering}
+use Rattle.shared_graphs.specs.GraphPairs.{AreCoverings}
 use Rattle.ramsey_search.specs.Views.{view}
 use Rattle.ramsey_search.specs.Kept.{entries_held}
 use Rattle.ramsey_search.proofs.closing.cover.Given as goal
@@ -10,7 +9,7 @@ use Rattle.ramsey_search.proofs.closing.cover.Given as goal
 abbrev pub invariant-loop-t : goal.invariant-loop-t
 invariant-loop-t l = record {
   stock : IsStock l.second l.graphs;
-  told : AllTold (FitsCovering l.second.states l.order.pairs l.graphs.graphs.items) l.told.told.items;
+  told : AreCoverings l.second.states l.order.pairs l.graphs.graphs.items l.told;
   grown : HasGrown l.initial.graphs.graphs.items l.graphs.graphs.items;
   size : length l.cover ≡ l.t;
   each : (t j : ℕ) → At l.cover t j → IsLeastSubsumer (supergraph_rules l.first l.second l.order.pairs) (entries_held l.first (view l.initial.graphs.graphs.items l.family)) (base_entry l.first t) j;

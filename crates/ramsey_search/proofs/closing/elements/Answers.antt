@@ -6,9 +6,8 @@ use Rattle.search_laws.proofs.ListLemmas.{at_map}
 use Rattle.ramsey_search.specs.declared.parts.Held.{Held}
 use Rattle.ramsey_search.specs.declared.family.Family.{Family}
 use Rattle.shared_graphs.specs.declared.graphs.Graph.{Graph}
-use Rattle.shared_graphs.specs.declared.memo.Memo.{Memo}
-use Rattle.shared_graphs.specs.Memo.{AllTold}
-use Rattle.shared_graphs.specs.GraphPairs.{FitsCovering}
+use Rattle.shared_graphs.specs.declared.coverings.Coverings.{Coverings}
+use Rattle.shared_graphs.specs.GraphPairs.{AreCoverings}
 use Rattle.ramsey_search.specs.Views.{View, seen, view}
 use Rattle.ramsey_search.specs.Marks.{IsHeldMark, AreMarked}
 use Rattle.search_laws.proofs.PlaceLemmas.{read_at}
@@ -60,8 +59,8 @@ loop-number-preserved c =
     ] in
     record {
       told = elim c.if-index.branch [
-        | then-index w ↦ subst (λ (k : Memo). AllTold (FitsCovering n S g) k.told.items) (sym w.told-is) c.loop-number.invariant.told
-        | else-index w ↦ subst (λ (k : Memo). AllTold (FitsCovering n S g) k.told.items) (sym w.told-is) w.coverer.ensures.told
+        | then-index w ↦ subst (λ (k : Coverings). AreCoverings n S g k) (sym w.told-is) c.loop-number.invariant.told
+        | else-index w ↦ subst (λ (k : Coverings). AreCoverings n S g k) (sym w.told-is) w.coverer.ensures.told
       ];
       marked = subst (AreMarked n S v (i + 1)) (sym pushed) (marked_more n S v i c.loop-number.elements m (seen g h) seen_h refl mark c.loop-number.invariant.marked);
     }

@@ -1,11 +1,10 @@
-use Rattle.shared_graphs.specs.Memo.{AllTold}
-use Rattle.shared_graphs.specs.GraphPairs.{FitsCovering}
+use Rattle.shared_graphs.specs.GraphPairs.{AreCoverings}
 use Rattle.ramsey_search.specs.Views.{view}
 use Rattle.ramsey_search.specs.Marks.{AreMarked}
 use Rattle.ramsey_search.proofs.closing.elements.Given as goal
 
 abbrev pub invariant-loop-number : goal.invariant-loop-number
 invariant-loop-number l = record {
-  told : AllTold (FitsCovering l.order.size l.order.pairs l.graphs.graphs.items) l.told.told.items;
+  told : AreCoverings l.order.size l.order.pairs l.graphs.graphs.items l.told;
   marked : AreMarked l.order.size l.order.pairs (view l.graphs.graphs.items l.family) l.number l.elements;
 }

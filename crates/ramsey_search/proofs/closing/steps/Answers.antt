@@ -9,10 +9,9 @@ use Rattle.search_laws.proofs.PlaceLemmas.{at_cases, at_within}
 use Rattle.ramsey_search.specs.declared.family.Family.{Family}
 use Rattle.shared_graphs.specs.declared.graphs.Graph.{Graph}
 use Rattle.shared_graphs.specs.declared.graphs.Graphs.{Graphs}
-use Rattle.shared_graphs.specs.declared.memo.Memo.{Memo}
+use Rattle.shared_graphs.specs.declared.coverings.Coverings.{Coverings}
 use Rattle.shared_graphs.specs.Graphs.{HasGrown, IsStock}
-use Rattle.shared_graphs.specs.Memo.{AllTold}
-use Rattle.shared_graphs.specs.GraphPairs.{FitsCovering}
+use Rattle.shared_graphs.specs.GraphPairs.{AreCoverings}
 use Rattle.ramsey_search.specs.Views.{View, view}
 use Rattle.ramsey_search.specs.Marks.{AreMarked, LiveCoverThemselves}
 use Rattle.ramsey_search.specs.Kept.{IsWhole, entries_held}
@@ -123,8 +122,8 @@ loop-element-preserved c =
           let step : IsStepOf (supergraph_rules A B S) (entries_held A old) line = subst (λ v. IsStepOf (supergraph_rules A B S) (entries_held A v) line) same w.in_ok-step_line.ensures.step in
           record {
             stock = subst (IsStock B) (sym w.graphs-is) w.in_ok-step_line.ensures.stock;
-            told = subst (λ (m : Graphs). AllTold (FitsCovering B.states S m.graphs.items) c.if-index.told.told.items) (sym w.graphs-is)
-                (subst (λ (m : Memo). AllTold (FitsCovering B.states S w.step_line.new.graphs.graphs.items) m.told.items) (sym w.told-is) w.in_ok-step_line.ensures.told);
+            told = subst (λ (m : Graphs). AreCoverings B.states S m.graphs.items c.if-index.told) (sym w.graphs-is)
+                (subst (λ (m : Coverings). AreCoverings B.states S w.step_line.new.graphs.graphs.items m) (sym w.told-is) w.in_ok-step_line.ensures.told);
             grown = subst (λ (m : Graphs). HasGrown g m.graphs.items) (sym w.graphs-is) (grown_more g g_mid w.step_line.new.graphs.graphs.items c.loop-element.invariant.grown w.in_ok-step_line.ensures.grown);
             lines = ap (map (λ (s : StepLine). s.element)) pushed
                 ∙ map-append (λ (s : StepLine). s.element) c.loop-element.steps (line ∷ [])
@@ -142,8 +141,8 @@ loop-element-preserved c =
           let off : live e ≡ false = flag ∙ w.if-index.false in
           record {
             stock = subst (IsStock B) (sym w.graphs-is) c.loop-element.invariant.stock;
-            told = subst (λ (m : Graphs). AllTold (FitsCovering B.states S m.graphs.items) c.if-index.told.told.items) (sym w.graphs-is)
-                (subst (λ (m : Memo). AllTold (FitsCovering B.states S g_mid) m.told.items) (sym w.told-is) c.loop-element.invariant.told);
+            told = subst (λ (m : Graphs). AreCoverings B.states S m.graphs.items c.if-index.told) (sym w.graphs-is)
+                (subst (λ (m : Coverings). AreCoverings B.states S g_mid m) (sym w.told-is) c.loop-element.invariant.told);
             grown = subst (λ (m : Graphs). HasGrown g m.graphs.items) (sym w.graphs-is) c.loop-element.invariant.grown;
             lines = ap (map (λ (s : StepLine). s.element)) unchanged
                 ∙ before

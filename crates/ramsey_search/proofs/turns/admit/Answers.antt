@@ -4,11 +4,10 @@ use Rattle.auto_core.specs.Automaton.{Automaton}
 use Rattle.auto_core.specs.Outcome.{At, Entry}
 use Rattle.graph_rows.specs.Block.{IsFormed}
 use Rattle.search_laws.proofs.PlaceLemmas.{at_new, at_within}
-use Rattle.shared_graphs.specs.declared.memo.Memo.{Memo}
+use Rattle.shared_graphs.specs.declared.coverings.Coverings.{Coverings}
 use Rattle.shared_graphs.specs.declared.graphs.Graph.{Graph}
 use Rattle.evidence.specs.Entries.{entry_of}
-use Rattle.shared_graphs.specs.Memo.{AllTold}
-use Rattle.shared_graphs.specs.GraphPairs.{FitsCovering}
+use Rattle.shared_graphs.specs.GraphPairs.{AreCoverings}
 use Rattle.ramsey_search.specs.Views.{Seen, View, seen, view}
 use Rattle.ramsey_search.specs.Kept.{IsFamily, HasEntered, IsTold, entries_held, IsWhole}
 use Rattle.ramsey_search.proofs.EntriesLemmas.{entries_entered}
@@ -69,7 +68,7 @@ enter-requires-clause-told c =
     let old : View = view graphs c.args.family.now in
     let h : Seen = seen graphs c.args.new in
     let es : List Entry = entries_held A old in
-    subst (λ n. AllTold (FitsCovering n S graphs) c.args.answers.now.covers.told.items) (sym c.requires.order_size) c.requires.answers.covers
+    subst (λ n. AreCoverings n S graphs c.args.answers.now.covers) (sym c.requires.order_size) c.requires.answers.covers
 
 pub returns-then-number-limit-clause-come : goal.returns-then-number-limit-clause-come
 returns-then-number-limit-clause-come c =
@@ -99,8 +98,8 @@ returns-then-number-limit-clause-answers c =
     let h : Seen = seen graphs c.args.new in
     let es : List Entry = entries_held A old in
     record {
-      covers = subst (λ n. AllTold (FitsCovering n S graphs) c.enter.new.told.told.items) c.requires.order_size c.enter.ensures.told;
-      lassos = record { lassos = c.requires.answers.lassos.lassos; looping = c.requires.answers.lassos.looping; room = c.requires.answers.lassos.room };
+      covers = subst (λ n. AreCoverings n S graphs c.enter.new.told) c.requires.order_size c.enter.ensures.told;
+      lassos = record { lassos = c.requires.answers.lassos.lassos; looping = c.requires.answers.lassos.looping; glimpses = c.requires.answers.lassos.glimpses; room = c.requires.answers.lassos.room };
     }
 
 pub first_failing-requires-clause-fits : goal.first_failing-requires-clause-fits
@@ -151,7 +150,7 @@ first_failing-requires-clause-told c =
     let old : View = view graphs c.args.family.now in
     let h : Seen = seen graphs c.args.new in
     let es : List Entry = entries_held A old in
-    record { lassos = c.requires.answers.lassos.lassos; looping = c.requires.answers.lassos.looping; room = c.requires.answers.lassos.room }
+    record { lassos = c.requires.answers.lassos.lassos; looping = c.requires.answers.lassos.looping; glimpses = c.requires.answers.lassos.glimpses; room = c.requires.answers.lassos.room }
 
 pub returns-clause-come : goal.returns-clause-come
 returns-clause-come c =
@@ -191,7 +190,7 @@ returns-clause-answers c =
     let h : Seen = seen graphs c.args.new in
     let es : List Entry = entries_held A old in
     record {
-      covers = subst (λ (m : Memo). AllTold (FitsCovering B.states S graphs) m.told.items) (sym c.first_failing.ensures.covers)
-          (subst (λ n. AllTold (FitsCovering n S graphs) c.enter.new.told.told.items) c.requires.order_size c.enter.ensures.told);
+      covers = subst (λ (m : Coverings). AreCoverings B.states S graphs m) (sym c.first_failing.ensures.covers)
+          (subst (λ n. AreCoverings n S graphs c.enter.new.told) c.requires.order_size c.enter.ensures.told);
       lassos = c.first_failing.ensures.told;
     }

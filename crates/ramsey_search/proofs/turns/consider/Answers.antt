@@ -5,8 +5,9 @@ use Rattle.graph_rows.specs.Block.{IsFormed}
 use Rattle.shared_graphs.specs.declared.graphs.Graph.{Graph}
 use Rattle.evidence.specs.Entries.{entry_of}
 use Rattle.evidence.specs.Tables.{numbers_at}
-use Rattle.shared_graphs.specs.Memo.{AllTold}
-use Rattle.shared_graphs.specs.GraphPairs.{FitsCovering}
+use Rattle.shared_graphs.specs.declared.coverings.Coverings.{Coverings}
+use Rattle.shared_graphs.specs.Graphs.{block_at}
+use Rattle.shared_graphs.specs.GraphPairs.{AreCoverings, AreLassosTold}
 use Rattle.ramsey_search.specs.Views.{Seen, View, seen, view}
 use Rattle.ramsey_search.specs.Kept.{entries_held, NoneSubsumes, IsFirstSubsumer, held_super}
 use Rattle.ramsey_search.proofs.EqualLemmas.{equal_subsumes}
@@ -59,16 +60,34 @@ least-requires-clause-formed c =
     let es : List Entry = entries_held A f in
     subst (λ n. IsFormed n h.graph) (sym c.requires.order_size) c.requires.candidate.kept.formed
 
-pub least-requires-clause-told : goal.least-requires-clause-told
-least-requires-clause-told c =
-    let A : Automaton = c.args.first.now in
-    let B : Automaton = c.args.second.now in
+pub print-requires-clause-formed : goal.print-requires-clause-formed
+print-requires-clause-formed c =
+    let graphs : List Graph = c.args.graphs.now.graphs.items in
+    subst (λ g. IsFormed c.args.order.now.size (block_at g c.args.new.graph)) (sym c.deref.ensures.value)
+    (subst (λ n. IsFormed n (block_at graphs c.args.new.graph)) (sym c.requires.order_size) c.requires.candidate.kept.formed)
+
+pub print-requires-clause-told : goal.print-requires-clause-told
+print-requires-clause-told c =
     let S : List (ℕ × ℕ) = c.args.order.now.pairs in
     let graphs : List Graph = c.args.graphs.now.graphs.items in
-    let f : View = view graphs c.args.family.now in
-    let h : Seen = seen graphs c.args.new in
-    let es : List Entry = entries_held A f in
-    subst (λ n. AllTold (FitsCovering n S graphs) c.args.answers.now.covers.told.items) (sym c.requires.order_size) c.requires.answers.covers
+    subst (λ g. AreCoverings c.args.order.now.size S g c.args.answers.now.covers) (sym c.deref.ensures.value)
+    (subst (λ n. AreCoverings n S graphs c.args.answers.now.covers) (sym c.requires.order_size) c.requires.answers.covers)
+
+pub look-requires-clause-formed : goal.look-requires-clause-formed
+look-requires-clause-formed c =
+    subst (λ g. IsFormed c.args.second.now.states (block_at g c.args.new.graph)) (sym c.deref-2.ensures.value) c.requires.candidate.kept.formed
+
+pub look-requires-clause-told : goal.look-requires-clause-told
+look-requires-clause-told c =
+    let told = c.requires.answers.lassos in
+    subst (λ g. AreLassosTold c.args.second.now g (record { covers = c.print.new.self; lassos = c.args.answers.now.lassos; looping = c.args.answers.now.looping; glimpses = c.args.answers.now.glimpses; scratch = c.args.answers.now.scratch })) (sym c.deref-2.ensures.value)
+    (record { lassos = told.lassos; looping = told.looping; glimpses = told.glimpses; room = told.room })
+
+pub least-requires-clause-told : goal.least-requires-clause-told
+least-requires-clause-told c =
+    let S : List (ℕ × ℕ) = c.args.order.now.pairs in
+    subst (λ (m : Coverings). AreCoverings c.args.order.now.size S c.args.graphs.now.graphs.items m) (sym c.look.ensures.covers)
+    (subst (λ g. AreCoverings c.args.order.now.size S g c.print.new.self) c.deref.ensures.value c.print.ensures.told)
 
 pub returns-in-Some-least-clause-answers : goal.returns-in-Some-least-clause-answers
 returns-in-Some-least-clause-answers c =
@@ -79,9 +98,10 @@ returns-in-Some-least-clause-answers c =
     let f : View = view graphs c.args.family.now in
     let h : Seen = seen graphs c.args.new in
     let es : List Entry = entries_held A f in
+    let told : AreLassosTold B graphs c.look.new.self = subst (λ g. AreLassosTold B g c.look.new.self) c.deref-2.ensures.value c.look.ensures.told in
     record {
-      covers = subst (λ n. AllTold (FitsCovering n S graphs) c.least.new.told.told.items) c.requires.order_size c.least.ensures.told;
-      lassos = record { lassos = c.requires.answers.lassos.lassos; looping = c.requires.answers.lassos.looping; room = c.requires.answers.lassos.room };
+      covers = subst (λ n. AreCoverings n S graphs c.least.new.told) c.requires.order_size c.least.ensures.told;
+      lassos = record { lassos = told.lassos; looping = told.looping; glimpses = told.glimpses; room = told.room };
     }
 
 pub admit-requires-clause-answers : goal.admit-requires-clause-answers
@@ -93,9 +113,10 @@ admit-requires-clause-answers c =
     let f : View = view graphs c.args.family.now in
     let h : Seen = seen graphs c.args.new in
     let es : List Entry = entries_held A f in
+    let told : AreLassosTold B graphs c.look.new.self = subst (λ g. AreLassosTold B g c.look.new.self) c.deref-2.ensures.value c.look.ensures.told in
     record {
-      covers = subst (λ n. AllTold (FitsCovering n S graphs) c.least.new.told.told.items) c.requires.order_size c.least.ensures.told;
-      lassos = record { lassos = c.requires.answers.lassos.lassos; looping = c.requires.answers.lassos.looping; room = c.requires.answers.lassos.room };
+      covers = subst (λ n. AreCoverings n S graphs c.least.new.told) c.requires.order_size c.least.ensures.told;
+      lassos = record { lassos = told.lassos; looping = told.looping; glimpses = told.glimpses; room = told.room };
     }
 
 pub admit-requires-clause-unmet : goal.admit-requires-clause-unmet

@@ -9,7 +9,7 @@ use Rattle.shared_graphs.specs.Graphs.{block_at}
 use Rattle.shared_graphs.specs.Memo.{HasAnswer}
 use Rattle.shared_graphs.specs.GraphPairs.{FitsCovering}
 use Rattle.shared_graphs.proofs.GraphsLemmas.{told_found, told_more}
-use Rattle.shared_graphs.proofs.graph_pairs.covers.Goals as goal
+use Rattle.shared_graphs.proofs.coverings.covers.Goals as goal
 
 pub returns-in-Some-Truth-clause-covers : goal.returns-in-Some-Truth-clause-covers
 returns-in-Some-Truth-clause-covers c =

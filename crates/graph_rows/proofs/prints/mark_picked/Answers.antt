@@ -1,0 +1,48 @@
+use Rattle.std.proofs.Common.{◌≡◌, ℕ, ◌+◌, ◌<◌, false, length, subst, sym, ap, ◌∙◌, arith}
+use Rattle.auto_core.specs.Rows.{HasBit, bit_of}
+use Rattle.auto_core.specs.Game.{Holds}
+use Rattle.auto_core.specs.Graph.{Graph}
+use Rattle.graph_rows.specs.Block.{block_graph}
+use Rattle.graph_rows.specs.Prints.{is_past, pairs_of, picked_source, picked_target}
+use Rattle.graph_rows.proofs.PrintLemmas.{own_more, rest_kept, rest_set, unmarked}
+use Rattle.graph_rows.proofs.prints.mark_picked.Goals as goal
+use Rattle.graph_rows.proofs.prints.mark_picked.Goals.{then-has_picked, else-has_picked, then-answers_picked, else-answers_picked}
+
+pub loop-j-init : goal.loop-j-init
+loop-j-init c = (
+  λ i bit. absurd (unmarked i (subst (λ l. HasBit l i) c.requires.own bit)),
+  λ i below. absurd (omega arith),
+  ap length c.requires.own,
+  ap length c.requires.answered,
+)
+
+pub loop-j-preserved : goal.loop-j-preserved
+loop-j-preserved c =
+    let n : ℕ = c.args.order.now.size in
+    let g : Graph = block_graph n c.args.g.now in
+    let j : ℕ = c.loop-j.j in
+    let P : ℕ → Type 0 = λ i. pairs_of g (is_past i) (picked_source n i) (picked_target n i) in
+    let Q : ℕ → Type 0 = λ i. (u : ℕ) → pairs_of g (is_past i) (picked_source n i) u → Holds c.args.order.now.pairs (picked_target n i) u → ⊥ in
+    let own : (i : ℕ) → HasBit c.if-has_picked.own i → P i =
+    elim c.if-has_picked.branch [
+      | then-has_picked w ↦
+          subst (λ l. (i : ℕ) → HasBit l i → P i) (sym w.own-is)
+          (own_more P c.loop-j.own w.set_bit.new.row j (c.has_picked.ensures w.if-has_picked.true) w.set_bit.ensures.others c.loop-j.invariant.0)
+      | else-has_picked w ↦ subst (λ l. (i : ℕ) → HasBit l i → P i) (sym w.own-is) c.loop-j.invariant.0
+    ] in
+    let answered : (i : ℕ) → i < j + 1 → bit_of c.if-answers_picked.answered i ≡ false → Q i =
+    elim c.if-answers_picked.branch [
+      | then-answers_picked w ↦
+          subst (λ l. (i : ℕ) → i < j + 1 → bit_of l i ≡ false → Q i) (sym w.answered-is)
+          (rest_set Q c.loop-j.answered w.set_bit-then-answers_picked.new.row j w.set_bit-then-answers_picked.ensures.here w.set_bit-then-answers_picked.ensures.others c.loop-j.invariant.1)
+      | else-answers_picked w ↦
+          subst (λ l. (i : ℕ) → i < j + 1 → bit_of l i ≡ false → Q i) (sym w.answered-is)
+          (rest_kept Q c.loop-j.answered j (c.answers_picked.ensures w.if-answers_picked.false) c.loop-j.invariant.1)
+    ] in
+    (own, answered, c.if-has_picked.auto.own ∙ c.loop-j.invariant.2, c.if-answers_picked.auto.answered ∙ c.loop-j.invariant.3)
+
+pub returns-clause-own : goal.returns-clause-own
+returns-clause-own c = λ x is j bit. c.loop-j.invariant.0 j (subst (λ l. HasBit l j) (sym is) bit)
+
+pub returns-clause-answered : goal.returns-clause-answered
+returns-clause-answered c = λ x is j u within none. c.loop-j.invariant.1 j (omega arith) (subst (λ l. bit_of l j ≡ false) (sym is) none) u

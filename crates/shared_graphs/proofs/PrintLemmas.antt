@@ -1,0 +1,51 @@
+-- Prints of graphs as they come, and graphs told apart by them.
+use Rattle.std.proofs.Common.{◌≡◌, ℕ, ◌<◌, Bool, true, false, List, [], ◌∷◌, ◌++◌, length, subst, inl, inr, sym}
+use Rattle.auto_core.specs.Game.{Holds}
+use Rattle.auto_core.specs.Graph as words
+use Rattle.auto_core.specs.Outcome.{At}
+use Rattle.graph_rows.specs.declared.prints.Print.{Print}
+use Rattle.graph_rows.specs.Block.{block_graph}
+use Rattle.graph_rows.specs.Prints.{IsPrint, is_past, pairs_of, picked_source, picked_target}
+use Rattle.search_laws.proofs.PlaceLemmas.{at_cases}
+use Rattle.shared_graphs.specs.declared.graphs.Graph.{Graph}
+use Rattle.shared_graphs.specs.Graphs.{block_at}
+use Rattle.shared_graphs.specs.GraphPairs.{ArePrints, AreToldApart}
+
+-- One print more.
+pub prints_more :
+    (n : ℕ) (S : List (ℕ × ℕ)) (graphs : List Graph) (old now : List Print) (print : Print)
+    → now ≡ old ++ print ∷ []
+    → length old < length graphs
+    → IsPrint n (Holds S) (block_at graphs (length old)) print
+    → ArePrints n S graphs old
+    → ArePrints n S graphs now
+prints_more n S graphs old now print now_is within is all k p p_is =
+    elim (at_cases old print k p (subst (λ l. At l k p) now_is p_is)) [
+      | inl was ↦ all k p was
+      | inr new ↦
+          subst (λ i. (i < length graphs) × IsPrint n (Holds S) (block_at graphs i) p) (sym new.0)
+          (subst (λ (q : Print). (length old < length graphs) × IsPrint n (Holds S) (block_at graphs (length old)) q) (sym new.1) (within, is))
+    ]
+
+-- A pair without an answer.
+missed :
+    (S : ℕ → ℕ → Type 0) (g h : words.Graph) (flag : Bool) (s t : ℕ)
+    → pairs_of g flag s t
+    → ((u : ℕ) → pairs_of h flag s u → S t u → ⊥)
+    → words.Covers S g h
+    → ⊥
+missed S g h false s t has none c = let (u, arc, rel) = c.joined s t has in none u arc rel
+missed S g h true s t has none c = let (u, arc, rel) = c.past s t has in none u arc rel
+
+pub apart :
+    (n : ℕ) (S : List (ℕ × ℕ)) (graphs : List Graph) (prints : List Print) (g h : ℕ)
+    → ArePrints n S graphs prints
+    → AreToldApart prints g h
+    → words.Covers (Holds S) (block_graph n (block_at graphs g)) (block_graph n (block_at graphs h))
+    → ⊥
+apart n S graphs prints g h all told =
+    let j = told.misses.at in
+    let first = (all g told.first told.first_is).1 in
+    let second = (all h told.second told.second_is).1 in
+    missed (Holds S) (block_graph n (block_at graphs g)) (block_graph n (block_at graphs h)) (is_past j) (picked_source n j) (picked_target n j)
+    (first.own j told.misses.own) (λ u. second.answered j u told.misses.within told.misses.unanswered)

@@ -1,0 +1,163 @@
+//! Which graph covers which, as it is remembered: by prints of graphs, which tell most pairs apart at once, and by answers about pairs.
+
+ghost use Rattle.std.specs.Prelude.{◌≡◌, ◌<◌, ◌↔◌, ℕ, List, true, IsTrue, IfOk, length};
+ghost use Rattle.auto_core.specs.Game.{Holds};
+ghost use Rattle.auto_core.specs.Graph.{Covers, Subsumes};
+ghost use Rattle.graph_rows.specs.Block.{block_graph, IsFormed};
+ghost use Rattle.supergraph.specs.Stands.{with_graph};
+ghost use Rattle.shared_graphs.specs.declared.graphs.Graph.{Graph};
+ghost use Rattle.shared_graphs.specs.Graphs.{block_at};
+ghost use Rattle.shared_graphs.specs.Memo.{AllTold};
+ghost use Rattle.shared_graphs.specs.GraphPairs.{AreCoverings, AreToldApart, FitsCovering};
+
+use crate::graphs::{Graph, block_of};
+use crate::memo::{Answer, Memo};
+use auto_core::Memory;
+use bit_rel::Rel;
+use graph_rows::{Print, misses, print_of};
+use std::alloc::Global;
+use supergraph::Arc;
+
+/// How many answers about pairs of graphs are remembered, of either kind.
+pub(crate) const PAIRS: usize = 16384;
+
+/// The prints of the first graphs, by their numbers, and what was told of pairs of graphs.
+#[derive(Debug, Drop)]
+pub struct Coverings {
+    pub prints: Vec<Print>,
+    pub told: Memo,
+}
+
+/// Tells whether graphs with both numbers are there.
+pub(crate) fn are_there(graphs: &[Graph], g: u32, h: u32) -> bool
+    ensures { result ≡ true → (g < length graphs.now) × (h < length graphs.now) }
+{
+    (g as usize) < graphs.len() && (h as usize) < graphs.len()
+}
+
+/// Tells whether the first graph covers the second.
+fn covers(order: &Rel, graphs: &[Graph], told: &mut Memo, g: u32, h: u32) -> bool
+    requires first { IsFormed order.now.size (block_at graphs.now g) }
+    requires second { IsFormed order.now.size (block_at graphs.now h) }
+    requires told { AllTold (FitsCovering order.now.size order.now.pairs graphs.now) told.old.told.items }
+    ensures told { AllTold (FitsCovering order.now.size order.now.pairs graphs.now) told.new.told.items }
+    ensures covers { IsTrue result
+        ↔ Covers (Holds order.now.pairs) (block_graph order.now.size (block_at graphs.now g)) (block_graph order.now.size (block_at graphs.now h)) }
+{
+    if let Some(Answer::Truth(holds)) = told.find(g, h) {
+        return holds;
+    }
+    let holds = graph_rows::covers(order, block_of(graphs, g), block_of(graphs, h));
+    if are_there(graphs, g, h) {
+        told.note(g, h, Answer::Truth(holds));
+    }
+    holds
+}
+
+/// Tells whether the arcs have the same ends, and the first is accepting where the second is.
+fn fits(x: &Arc, y: &Arc) -> bool
+    ensures { IsTrue result ↔ ((x.now.from ≡ y.now.from) × (x.now.to ≡ y.now.to) × (y.now.accepting ≡ true → x.now.accepting ≡ true)) }
+{
+    x.from == y.from && x.to == y.to && (x.accepting || !y.accepting)
+}
+
+/// Tells whether `x` with the graph `g` subsumes `y` with the graph `h`.
+pub fn subsumes(
+    order: &Rel,
+    graphs: &[Graph],
+    told: &mut Memo,
+    x: &Arc,
+    g: u32,
+    y: &Arc,
+    h: u32,
+) -> bool
+    requires first { IsFormed order.now.size (block_at graphs.now g) }
+    requires second { IsFormed order.now.size (block_at graphs.now h) }
+    requires told { AllTold (FitsCovering order.now.size order.now.pairs graphs.now) told.old.told.items }
+    ensures told { AllTold (FitsCovering order.now.size order.now.pairs graphs.now) told.new.told.items }
+    ensures subsumes { IsTrue result
+        ↔ Subsumes (Holds order.now.pairs) (with_graph x.now (block_graph order.now.size (block_at graphs.now g)))
+        (with_graph y.now (block_graph order.now.size (block_at graphs.now h))) }
+{
+    if !fits(x, y) {
+        return false;
+    }
+    covers(order, graphs, told, g, h)
+}
+
+/// Tells whether the prints show that the first graph does not cover the second.
+fn are_apart(prints: &[Print], g: u32, h: u32) -> bool
+    ensures { result ≡ true → AreToldApart prints.now g h }
+{
+    if g as usize >= prints.len() {
+        return false;
+    }
+    if h as usize >= prints.len() {
+        return false;
+    }
+    misses(&prints[g as usize], &prints[h as usize])
+}
+
+impl Coverings {
+    /// Nothing was told.
+    pub fn new(alloc: Global) -> Result<Coverings, Memory>
+        ensures { IfOk result (λ c. (n : ℕ) (S : List (ℕ × ℕ)) (graphs : List Graph) → AreCoverings n S graphs c) }
+    {
+        Ok(Coverings {
+            prints: Vec::new(alloc),
+            told: Memo::new(alloc, PAIRS)?,
+        })
+    }
+
+    /// Takes the print of the graph, if it is the first without one.
+    pub fn print(
+        &mut self,
+        alloc: Global,
+        order: &Rel,
+        graphs: &[Graph],
+        h: u32,
+    ) -> Result<(), Memory>
+        requires formed { IsFormed order.now.size (block_at graphs.now h) }
+        requires told { AreCoverings order.now.size order.now.pairs graphs.now self.old }
+        ensures told { AreCoverings order.now.size order.now.pairs graphs.now self.new }
+    {
+        if h as usize != self.prints.len() {
+            return Ok(());
+        }
+        if h as usize >= graphs.len() {
+            return Ok(());
+        }
+        if order.size() == 0 {
+            return Ok(());
+        }
+        self.prints.push(print_of(order, block_of(graphs, h)))?;
+        Ok(())
+    }
+
+    /// Tells whether `x` with the graph `g` subsumes `y` with the graph `h`.
+    pub fn subsumes(
+        &mut self,
+        order: &Rel,
+        graphs: &[Graph],
+        x: &Arc,
+        g: u32,
+        y: &Arc,
+        h: u32,
+    ) -> bool
+        requires first { IsFormed order.now.size (block_at graphs.now g) }
+        requires second { IsFormed order.now.size (block_at graphs.now h) }
+        requires told { AreCoverings order.now.size order.now.pairs graphs.now self.old }
+        ensures told { AreCoverings order.now.size order.now.pairs graphs.now self.new }
+        ensures subsumes { IsTrue result
+            ↔ Subsumes (Holds order.now.pairs) (with_graph x.now (block_graph order.now.size (block_at graphs.now g)))
+            (with_graph y.now (block_graph order.now.size (block_at graphs.now h))) }
+    {
+        if are_apart(&self.prints, g, h) {
+            return false;
+        }
+        if !fits(x, y) {
+            return false;
+        }
+        covers(order, graphs, &mut self.told, g, h)
+    }
+}

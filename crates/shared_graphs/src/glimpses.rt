@@ -1,0 +1,89 @@
+//! A first look at whether graphs have a lasso, by the first 64 states alone.
+
+ghost use Rattle.std.specs.Prelude.{◌≡◌, ℕ, List, [], ◌∷◌, true, IfOk};
+ghost use Rattle.auto_core.specs.Automaton.{Automaton};
+ghost use Rattle.auto_core.specs.Rows.{HasBit};
+ghost use Rattle.graph_rows.specs.Block.{block_graph, IsFormed};
+ghost use Rattle.shared_graphs.specs.Glimpses.{IsGlimpse, MeetAtSight};
+
+use crate::looping::marked_row;
+use auto_core::{Auto, Memory, rows};
+use lasso_test::Scratch;
+use std::alloc::Global;
+
+/// Of the first 64 states those to which an arc of the graph leads from the initial state, and those from which the graph has a loop, once
+/// these are marked.
+#[derive(Clone, Copy, Debug)]
+pub struct Glimpse {
+    pub entered: u64,
+    pub looping: u64,
+    pub is_marked: bool,
+}
+
+/// The first word of the row.
+fn first_word(row: &[u64]) -> u64
+    ensures { (q : ℕ) → HasBit (result ∷ []) q → HasBit row.now q }
+{
+    if row.len() == 0 {
+        return 0;
+    }
+    row[0]
+}
+
+/// The first of the states to which an arc of the graph leads from the initial state.
+fn entered_word(states: u32, block: &[u64], initial: u32) -> u64
+    requires { IsFormed states block.now }
+    ensures { (q : ℕ) → HasBit (result ∷ []) q → (block_graph states block.now).joined initial q }
+{
+    if initial >= states {
+        return 0;
+    }
+    let joined = graph_rows::joined(states, block);
+    first_word(rows::row_at(joined, rows::words_for(states), initial as usize))
+}
+
+/// The glimpse of the graph, no state being marked as one with a loop.
+pub(crate) fn unmarked(second: &Auto, block: &[u64]) -> Glimpse
+    requires { IsFormed second.now.states block.now }
+    ensures { IsGlimpse second.now (block_graph second.now.states block.now) result }
+{
+    Glimpse {
+        entered: entered_word(second.states(), block, second.initial()),
+        looping: 0,
+        is_marked: false,
+    }
+}
+
+/// The glimpse of the graph.
+pub(crate) fn glimpse_of(
+    alloc: Global,
+    second: &Auto,
+    block: &[u64],
+    scratch: &mut Scratch,
+) -> Result<Glimpse, Memory>
+    requires formed { IsFormed second.now.states block.now }
+    requires room { scratch.old ≡ second.now.states }
+    ensures glimpse { IfOk result (IsGlimpse second.now (block_graph second.now.states block.now)) }
+    ensures kept { scratch.new ≡ second.now.states }
+{
+    let states = second.states();
+    let row = marked_row(alloc, states, block, scratch)?;
+    Ok(Glimpse {
+        entered: entered_word(states, block, second.initial()),
+        looping: first_word(&row),
+        is_marked: true,
+    })
+}
+
+/// Tells whether the glimpses show a lasso.
+pub(crate) fn meet(glimpses: &[Glimpse], g: u32, h: u32) -> bool
+    ensures { result ≡ true → MeetAtSight glimpses.now g h }
+{
+    if g as usize >= glimpses.len() {
+        return false;
+    }
+    if h as usize >= glimpses.len() {
+        return false;
+    }
+    glimpses[g as usize].entered & glimpses[h as usize].looping != 0
+}
