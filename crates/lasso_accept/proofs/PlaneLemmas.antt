@@ -1,10 +1,14 @@
 -- The tables of the empty word, and of a word with a letter in front.
-use Rattle.std.proofs.Common.{◌≡◌, ◌↔◌, ◌⊎◌, ℕ, ◌+◌, ◌*◌, ◌<◌, ◌≤◌, inl, inr, Bool, true, false, ◌||◌, cond, List, [], ◌∷◌, length, refl, sym, ap, ◌∙◌, subst, arith}
-use Rattle.std.proofs.lemmas.Bool.{cases_eq, cases_Bool, false≢true}
+use Rattle.std.proofs.Common.{◌≡◌, ◌↔◌, ◌⊎◌, ℕ, ◌+◌, ◌*◌, ◌/◌, ◌<◌, ◌≤◌, inl, inr, Bool, true, false, ◌||◌, cond, List, [], ◌∷◌, ◌++◌, length, slice_index, refl, sym, ap, ◌∙◌, subst, arith}
+use Rattle.std.proofs.lemmas.Bool.{cases_eq, cases_lt, cases_Bool, false≢true}
 use Rattle.auto_core.specs.Automaton.{Automaton, IsAutomaton, Moves, is_accepting}
 use Rattle.auto_core.specs.Run.{Run}
 use Rattle.auto_core.specs.Rows.{HasCell, cell_of, bit_of}
+use Rattle.auto_core.proofs.BitLemmas.{bit_past}
 use Rattle.auto_core.proofs.MoveLemmas.{move_in_range}
+use Rattle.auto_core.proofs.PathLemmas.{run_split}
+use Rattle.path_laws.proofs.PumpingLemmas.{run_in_range}
+use Rattle.row_steps.proofs.WordLemmas.{bit_of_zero_word}
 use Rattle.lasso_accept.specs.Plane.{ArePlanes, chosen}
 
 -- The first rows of the new table have what their moves with the letter gather; the others have nothing.
@@ -221,5 +225,34 @@ planes_empty A width any flagged room any_len flagged_len d clear =
       flagged_runs = λ p q p_in q_in. (
         λ h. absurd (false≢true (sym (clear (p * width * 64 + q)) ∙ h)),
         λ (e, f). absurd (false≢true (sym f)),
+      );
+    }
+
+-- A row whose words are zero has no bit.
+pub no_bits : (row : List ℕ) → ((k : ℕ) → k < length row → slice_index row k ≡ 0) → (i : ℕ) → bit_of row i ≡ false
+no_bits row zeros i = elim (cases_lt (i / 64) (length row)) [ inl in_row ↦ bit_of_zero_word row i (zeros (i / 64) in_row) | inr past ↦ bit_past row i past ]
+
+-- Where the tables of a word join no states, they are those of every word that it ends.
+pub planes_end :
+    (A : Automaton)
+    → IsAutomaton A
+    → (x w : List ℕ) (width : ℕ) (any flagged : List ℕ)
+    → ArePlanes A w width any flagged
+    → ((i : ℕ) → bit_of any i ≡ false)
+    → ArePlanes A (x ++ w) width any flagged
+planes_end A valid x w width any flagged planes clear =
+    let no_cell : (p q : ℕ) → HasCell any width p q → ⊥ = λ p q cell. false≢true (sym (clear (p * width * 64 + q)) ∙ cell) in
+    let no_run : (p q : ℕ) (flag : Bool) → p < A.states → q < A.states → Run A p (x ++ w) q flag → ⊥ =
+    λ p q flag p_in q_in run.
+    let cut = run_split A p x w q flag run in
+    let middle_in = run_in_range A valid p x cut.middle cut.first_flag p_in cut.first in
+    no_cell cut.middle q ((planes.any_runs cut.middle q middle_in q_in).1 (cut.second_flag, cut.second)) in
+    record {
+      any_table = planes.any_table;
+      flagged_table = planes.flagged_table;
+      any_runs = λ p q p_in q_in. (λ cell. absurd (no_cell p q cell), λ (flag, run). absurd (no_run p q flag p_in q_in run));
+      flagged_runs = λ p q p_in q_in. (
+        λ cell. absurd (no_cell p q ((planes.any_runs p q p_in q_in).1 (true, (planes.flagged_runs p q p_in q_in).0 cell))),
+        λ run. absurd (no_run p q true p_in q_in run),
       );
     }

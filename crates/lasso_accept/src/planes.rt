@@ -1,8 +1,8 @@
 //! The graph of a word, made from its last letter to its first.
 
-ghost use Rattle.std.specs.Prelude.{◌≡◌, ◌+◌, ◌*◌, ◌/◌, ◌^◌, ◌<◌, ◌≤◌, ◌↔◌, ◌⊎◌, [], ◌∷◌, ℕ, List, length, IfOk, vec_len};
-ghost use Rattle.auto_core.specs.Automaton.{Moves};
-ghost use Rattle.auto_core.specs.Rows.{HasCell, cell_of};
+ghost use Rattle.std.specs.Prelude.{◌≡◌, ◌+◌, ◌*◌, ◌/◌, ◌^◌, ◌<◌, ◌≤◌, ◌↔◌, ◌⊎◌, [], ◌∷◌, ℕ, List, length, true, false, IfOk, vec_len};
+ghost use Rattle.auto_core.specs.Automaton.{IsAutomaton, Moves};
+ghost use Rattle.auto_core.specs.Rows.{HasCell, bit_of, cell_of};
 ghost use Rattle.auto_core.specs.Reach.{IsTable};
 ghost use Rattle.lasso_accept.specs.Plane.{ArePlanes, chosen};
 
@@ -30,37 +30,51 @@ pub fn pick<'a>(automaton: &Auto, state: u32, marked: &'a [u64], plain: &'a [u64
     }
 }
 
-/// Adds to the state's row, for each of its moves with the label, the row of the state that the move leads to: from `marked`
-/// where that state is accepting, else from `plain`.
+/// Adds to the state's row of both new tables, for each of its moves with the label, the row of the state that the move leads to. The
+/// flagged one gets the row of `any` where that state is accepting, else that of `flagged`.
 fn gather(
     automaton: &Auto,
     label: u32,
     state: u32,
     width: usize,
-    marked: &[u64],
-    plain: &[u64],
-    into: &mut [u64],
+    any: &[u64],
+    flagged: &[u64],
+    new_any: &mut [u64],
+    new_flagged: &mut [u64],
 )
-    requires marked_len { length marked.now ≡ automaton.now.states * width }
-    requires plain_len { length plain.now ≡ automaton.now.states * width }
-    requires into_len { length into.old ≡ automaton.now.states * width }
+    requires any_len { length any.now ≡ automaton.now.states * width }
+    requires flagged_len { length flagged.now ≡ automaton.now.states * width }
+    requires new_any_len { length new_any.old ≡ automaton.now.states * width }
+    requires new_flagged_len { length new_flagged.old ≡ automaton.now.states * width }
     requires is_state { state < automaton.now.states }
-    ensures here { (q : ℕ)
+    ensures any_here { (q : ℕ)
         → q < width * 64
-        → HasCell into.new width state q
-        ↔ (HasCell into.old width state q ⊎ ((r : ℕ) × Moves automaton.now state label r × HasCell (chosen automaton.now marked.now plain.now r) width r q)) }
-    ensures others { (p q : ℕ) → q < width * 64 → ¬ (p ≡ state) → cell_of into.new width p q ≡ cell_of into.old width p q }
+        → HasCell new_any.new width state q
+        ↔ (HasCell new_any.old width state q ⊎ ((r : ℕ) × Moves automaton.now state label r × HasCell (chosen automaton.now any.now any.now r) width r q)) }
+    ensures any_others { (p q : ℕ) → q < width * 64 → ¬ (p ≡ state) → cell_of new_any.new width p q ≡ cell_of new_any.old width p q }
+    ensures flagged_here { (q : ℕ)
+        → q < width * 64
+        → HasCell new_flagged.new width state q
+        ↔ (HasCell new_flagged.old width state q ⊎ ((r : ℕ) × Moves automaton.now state label r × HasCell (chosen automaton.now any.now flagged.now r) width r q)) }
+    ensures flagged_others { (p q : ℕ) → q < width * 64 → ¬ (p ≡ state) → cell_of new_flagged.new width p q ≡ cell_of new_flagged.old width p q }
 {
     let span = automaton.successors(state, label);
     let transitions = automaton.transitions();
     for t in span.begin..span.end {
         let target = transitions[t as usize].target;
-        let table = pick(automaton, target, marked, plain);
+        let plain = pick(automaton, target, any, any);
         rows::or_row(
-            into,
+            new_any,
             width,
             state as usize,
-            rows::row_at(table, width, target as usize),
+            rows::row_at(plain, width, target as usize),
+        );
+        let marked = pick(automaton, target, any, flagged);
+        rows::or_row(
+            new_flagged,
+            width,
+            state as usize,
+            rows::row_at(marked, width, target as usize),
         );
     }
 }
@@ -86,8 +100,16 @@ fn prepend(
     rows::clear_row(new_any);
     rows::clear_row(new_flagged);
     for state in 0..automaton.states() {
-        gather(automaton, label, state, width, any, any, new_any);
-        gather(automaton, label, state, width, any, flagged, new_flagged);
+        gather(
+            automaton,
+            label,
+            state,
+            width,
+            any,
+            flagged,
+            new_any,
+            new_flagged,
+        );
     }
 }
 
@@ -105,7 +127,19 @@ fn write_empty(automaton: &Auto, width: usize, any: &mut [u64], flagged: &mut [u
     }
 }
 
-/// Writes the tables of the word; the other two are room for as much.
+/// Tells whether the table has no bit.
+fn is_clear(table: &[u64]) -> bool
+    ensures { result ≡ true → (i : ℕ) → bit_of table.now i ≡ false }
+{
+    for word in table {
+        if *word != 0 {
+            return false;
+        }
+    }
+    true
+}
+
+/// Writes the tables of the word; the other two are room for as much. Once no states are joined, no more letters are asked.
 fn write_word(
     automaton: &Auto,
     word: &[u32],
@@ -115,6 +149,7 @@ fn write_word(
     next_any: &mut [u64],
     next_flagged: &mut [u64],
 )
+    requires valid { IsAutomaton automaton.now }
     requires room { automaton.now.states ≤ width * 64 }
     requires any_len { length any.old ≡ automaton.now.states * width }
     requires flagged_len { length flagged.old ≡ automaton.now.states * width }
@@ -124,6 +159,9 @@ fn write_word(
 {
     write_empty(automaton, width, any, flagged);
     for at in (0..word.len()).rev() {
+        if is_clear(any) {
+            return;
+        }
         prepend(
             automaton,
             word[at],

@@ -46,6 +46,9 @@ fn shrink_prefix(alloc: Global, first: &Auto, second: &Auto, lasso: Lasso) -> Re
     requires { LassoSeparates first.now second.now lasso }
     ensures { IfOk result (HasLeftOut first.now second.now lasso) }
 {
+    if lasso.prefix.as_slice().len() == 0 {
+        return Ok(lasso);
+    }
     let target = accepts_loop_from(alloc, first, lasso.turn.as_slice())?;
     let other_target = accepts_loop_from(alloc, second, lasso.turn.as_slice())?;
     let mut rests = Rests::of(alloc, first, &lasso, &target)?;

@@ -14,9 +14,9 @@ pub loop-state-preserved : goal.loop-state-preserved
 loop-state-preserved c =
     let A = c.args.automaton.now in
     let any = c.args.any.now in (
-      prepended_more A c.args.label c.args.width c.loop-state.state any any c.loop-state.new_any c.gather.new.into c.loop-state.invariant.0 c.gather.ensures.here c.gather.ensures.others,
-      prepended_more A c.args.label c.args.width c.loop-state.state any c.args.flagged.now c.loop-state.new_flagged c.gather-in-loop-state.new.into
-          c.loop-state.invariant.1 c.gather-in-loop-state.ensures.here c.gather-in-loop-state.ensures.others,
+      prepended_more A c.args.label c.args.width c.loop-state.state any any c.loop-state.new_any c.gather.new.new_any c.loop-state.invariant.0 c.gather.ensures.any_here c.gather.ensures.any_others,
+      prepended_more A c.args.label c.args.width c.loop-state.state any c.args.flagged.now c.loop-state.new_flagged c.gather.new.new_flagged
+          c.loop-state.invariant.1 c.gather.ensures.flagged_here c.gather.ensures.flagged_others,
     )
 
 pub returns : goal.returns

@@ -1,6 +1,7 @@
-use Rattle.std.proofs.Common.{◌≡◌, ℕ, ◌-◌, ◌+◌, ◌<◌, List, ◌∷◌, drop, get_or, length, sym, ap, ◌∙◌, subst, rules}
-use Rattle.std.proofs.lemmas.List.{drop_more}
+use Rattle.std.proofs.Common.{◌≡◌, ℕ, ◌-◌, ◌+◌, ◌<◌, List, ◌∷◌, take, drop, get_or, length, sym, ap, ◌∙◌, subst, rules}
+use Rattle.std.proofs.lemmas.List.{drop_more, take-append-drop}
 use Rattle.lasso_accept.specs.Plane.{ArePlanes}
+use Rattle.lasso_accept.proofs.PlaneLemmas.{planes_end}
 use Rattle.lasso_accept.proofs.planes.write_word.Goals as goal
 
 pub loop-at-preserved : goal.loop-at-preserved
@@ -18,3 +19,10 @@ loop-at-preserved c =
     let planes : ArePlanes A w c.args.width c.prepend.new.new_any c.prepend.new.new_flagged = c.prepend.ensures (drop c.loop-at.at word) c.loop-at.invariant in
     subst P (sym is)
     (subst R (sym c.copy_from_slice-in-loop-at.ensures.after) (subst Q (sym c.copy_from_slice.ensures.after) planes))
+
+pub returns-then-is_clear : goal.returns-then-is_clear
+returns-then-is_clear c =
+    let word = c.args.word.now in
+    let P : List ℕ → Type 0 = λ w. ArePlanes c.args.automaton.now w c.args.width c.loop-at.any c.loop-at.flagged in
+    subst P (take-append-drop c.loop-at.at word)
+    (planes_end c.args.automaton.now c.requires.valid (take c.loop-at.at word) (drop c.loop-at.at word) c.args.width c.loop-at.any c.loop-at.flagged c.loop-at.invariant (search rules))
