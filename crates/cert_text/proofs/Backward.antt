@@ -34,15 +34,15 @@ use Rattle.cert_value.specs.Text.{Line, spelled, numbers, letters_tokens, each, 
 use Rattle.cert_value.specs.declared.types.GoneBy.{GoneBy}
 use Rattle.cert_value.specs.WellFormed.{is_version, are_letters, rank_key, blocks_due, is_live, has_some, is_short, are_short, ascend, is_row, are_rows, is_block, is_rank_row, are_rank_rows, is_rank_block, are_gone, are_classes, is_first_step, is_second_step, is_origin, is_element, is_step_of, are_steps, are_logs, is_body, has_text}
 use Rattle.cert_text.specs.Lines.{Said, word_in, number_in, numbers_in, ascending_in, sizes_in, heading_in, row_in, rank_row_in, gone_by_in, first_head_in, second_head_in, origin_in, element_in, step_in}
-use Rattle.cert_text.specs.Grammar.{Read, Stopped, Then, after, next_line, read_rows, read_block, read_rank_rows, read_rank_block, read_blocks, read_classes, read_first_rest, read_first_steps, read_grounds, read_second_rest, read_second_steps, read_elements, read_steps, read_origins, read_cover, read_all_elements, read_closed, read_all_origins, read_limited, read_first_log, read_second_log, read_turn, read_lasso, read_word, yes_of, list_of, read_evidence, read_after_first, read_logs, read_body, is_bare, finish, cert_of, read_end, read_rest, read_sizes, read_lines}
+use Rattle.cert_text.specs.Grammar.{Outcome, On, Read, Stopped, Then, after, next_line, read_rows, read_block, read_rank_rows, read_rank_block, read_blocks, read_classes, read_first_rest, read_first_steps, read_grounds, read_second_rest, read_second_steps, read_elements, read_steps, read_origins, read_cover, read_all_elements, read_closed, read_all_origins, read_limited, read_first_log, read_second_log, read_turn, read_lasso, read_word, yes_of, list_of, read_evidence, read_after_first, read_logs, read_body, is_bare, finish, cert_of, read_end, read_rest, read_sizes, read_lines}
 use Rattle.std.specs.List.{list_all}
 use Rattle.std.proofs.lemmas.Bool.{and_parts, and_from, cond-true, cond-false, cases_Bool}
 use Rattle.cert_text.proofs.LineFacts.{word_bw, number_bw, numbers_bw, sorted_bw, sizes_bw, row_bw, rank_row_bw, gone_bw, step_bw, numbers_some}
 use Rattle.cert_text.proofs.HeadFacts.{first_head_line, is_first_head, first_head_bw, way_tokens, second_head_line, is_way, is_second_head, second_head_bw}
 use Rattle.cert_text.proofs.OriginFacts.{origin_bw, element_bw, heading_bw}
 
--- What is taken off the lines before the rest is read to a certificate.
-pub record Took {A : Type 0} (Fine : A → Type 0) (lines_of : A → List Line) (next : Then A) (ls : List Line) (c : Cert) : Type 0 where
+-- What is taken off the lines before the rest is read to its end.
+pub record Took {C A : Type 0} (Fine : A → Type 0) (lines_of : A → List Line) (next : On C A) (ls : List Line) (c : C) : Type 0 where
   pub item : A
   pub rest : List Line
   pub fine : Fine item
@@ -50,7 +50,7 @@ pub record Took {A : Type 0} (Fine : A → Type 0) (lines_of : A → List Line) 
   pub on : next item rest ≡ Read c
 
 -- A line that was read.
-pub record TookLine {A : Type 0} (said : Line → Said A) (next : Then A) (ls : List Line) (c : Cert) : Type 0 where
+pub record TookLine {C A : Type 0} (said : Line → Said A) (next : On C A) (ls : List Line) (c : C) : Type 0 where
   pub item : A
   pub line : Line
   pub rest : List Line
@@ -58,12 +58,12 @@ pub record TookLine {A : Type 0} (said : Line → Said A) (next : Then A) (ls : 
   pub told : said line ≡ Ok item
   pub on : next item rest ≡ Read c
 
-after_bw : {A : Type 0} (s : Said A) (next : Then A) (here rest : List Line) (c : Cert) → after s next here rest ≡ Read c
+after_bw : {C A : Type 0} (s : Said A) (next : On C A) (here rest : List Line) (c : C) → after s next here rest ≡ Read c
     → (a : A) × (s ≡ Ok a) × (next a rest ≡ Read c)
 after_bw (Ok a) next here rest c e = (a, refl, e)
 after_bw (Err fault) next here rest c e = absurd (cc)
 
-pub line_bw : {A : Type 0} (said : Line → Said A) (next : Then A) (ls : List Line) (c : Cert) → next_line said next ls ≡ Read c
+pub line_bw : {C A : Type 0} (said : Line → Said A) (next : On C A) (ls : List Line) (c : C) → next_line said next ls ≡ Read c
     → TookLine said next ls c
 line_bw said next [] c e = absurd (cc)
 line_bw said next (piece ∷ []) c e = absurd (cc)
@@ -80,7 +80,7 @@ cut_cons f x xs ls after rest p q = p ∙ ap (λ y. f x ++ y) q ∙ sym (append_
 abbrev pub AreRows : ℕ → ℕ → List Row → Type 0
 AreRows n bound rows = (length rows ≡ n) × (are_rows bound rows ≡ true)
 
-pub rows_bw : (v : ℕ) (n bound : ℕ) (acc : List Row) (next : Then (List Row)) (ls : List Line) (c : Cert) → read_rows v n bound acc next ls ≡ Read c
+pub rows_bw : {C : Type 0} (v : ℕ) (n bound : ℕ) (acc : List Row) (next : On C (List Row)) (ls : List Line) (c : C) → read_rows v n bound acc next ls ≡ Read c
     → Took (AreRows n bound) (λ rows. each (row_lines v) rows) (λ rows rest. next (acc ++ rows) rest) ls c
 rows_bw v zero bound acc next ls c e =
     record { item = []; rest = ls; fine = (refl, refl); cut = refl; on = ap (λ x. next x ls) (append-nil acc) ∙ e }
@@ -99,7 +99,7 @@ rows_bw v (suc n) bound acc next ls c e =
 abbrev pub IsBlock : RelBlock → Type 0
 IsBlock b = is_block b ≡ true
 
-pub block_bw : (v : ℕ) (next : Then RelBlock) (ls : List Line) (c : Cert) → read_block v next ls ≡ Read c → Took IsBlock (block_lines v) next ls c
+pub block_bw : {C : Type 0} (v : ℕ) (next : On C RelBlock) (ls : List Line) (c : C) → read_block v next ls ≡ Read c → Took IsBlock (block_lines v) next ls c
 block_bw v next ls c e =
     let l = line_bw (number_in keyword.Rel) (λ n. read_rows v n 0 [] (λ rows. next (record { rows = rows }))) ls c e in
     let f = number_bw keyword.Rel l.line l.item l.told in
@@ -626,11 +626,11 @@ bare_is ([] ∷ []) e = refl
 bare_is ([] ∷ other ∷ more) e = absurd (cc)
 bare_is ((b ∷ bs) ∷ more) e = absurd (cc)
 
-read_cond : (b : Bool) (x c : Cert) (k : TextKind) (ls : List Line) → cond b (Read x) (Stopped k ls) ≡ Read c → (b ≡ true) × (x ≡ c)
+read_cond : {C : Type 0} (b : Bool) (x c : C) (k : TextKind) (ls : List Line) → cond b (Read x) (Stopped k ls) ≡ Read c → (b ≡ true) × (x ≡ c)
 read_cond true x c k ls e = (refl, cc)
 read_cond false x c k ls e = absurd (cc)
 
-pub finish_bw : (x c : Cert) (ls : List Line) → finish x ls ≡ Read c → (x ≡ c) × (ls ≡ (([] ∷ []) ∷ []))
+pub finish_bw : {C : Type 0} (x c : C) (ls : List Line) → finish x ls ≡ Read c → (x ≡ c) × (ls ≡ (([] ∷ []) ∷ []))
 finish_bw x c [] e = absurd (cc)
 finish_bw x c (piece ∷ []) e =
     let p = read_cond (is_bare piece) x c Trailing (piece ∷ []) e in

@@ -31,7 +31,7 @@ use Rattle.cert_value.specs.Text.{Line, spelled, numbers, row_numbers, each, row
 use Rattle.cert_value.specs.declared.types.Grounds.{Grounds}
 use Rattle.cert_value.specs.WellFormed.{is_version, are_letters, rank_key, blocks_due, is_live, has_some, is_short, are_short, ascend, is_row, are_rows, is_block, is_rank_row, are_rank_rows, is_rank_block, are_gone, are_classes, is_first_step, are_grounds, is_second_step, is_origin, is_element, is_step_of, are_steps, are_logs, is_body, has_text}
 use Rattle.cert_text.specs.Lines.{Said, word_in, number_in, numbers_in, ascending_in, sizes_in, heading_in, row_in, rank_row_in, gone_by_in, first_head_in, second_head_in, origin_in, element_in, step_in}
-use Rattle.cert_text.specs.Grammar.{Then, after, next_line, read_rows, read_block, read_rank_rows, read_rank_block, read_blocks, read_classes, read_first_rest, read_first_steps, read_grounds, read_second_rest, read_second_steps, read_elements, read_steps, read_origins, read_cover, read_all_elements, read_closed, read_all_origins, read_limited, read_first_log, read_second_log, read_turn, yes_of, list_of, read_evidence, read_after_first, read_body, finish, cert_of, read_end, read_rest, read_sizes, read_lines}
+use Rattle.cert_text.specs.Grammar.{On, Then, after, next_line, read_rows, read_block, read_rank_rows, read_rank_block, read_blocks, read_classes, read_first_rest, read_first_steps, read_grounds, read_second_rest, read_second_steps, read_elements, read_steps, read_origins, read_cover, read_all_elements, read_closed, read_all_origins, read_limited, read_first_log, read_second_log, read_turn, yes_of, list_of, read_evidence, read_after_first, read_body, finish, cert_of, read_end, read_rest, read_sizes, read_lines}
 use Rattle.std.specs.List.{list_all}
 use Rattle.std.proofs.lemmas.Bool.{and_parts, and_from}
 use Rattle.cert_text.proofs.PairLemmas.{some_cons}
@@ -40,7 +40,7 @@ use Rattle.cert_text.proofs.HeadFacts.{first_head_fw, way_tokens, is_way, second
 use Rattle.cert_text.proofs.OriginFacts.{origin_fw, element_fw, heading_fw}
 
 -- a whole line is read
-pub line_fw : {A : Type 0} (said : Line → Said A) (next : Then A) (line : Line) (a : A) (rest : List Line) → said line ≡ Ok a
+pub line_fw : {C A : Type 0} (said : Line → Said A) (next : On C A) (line : Line) (a : A) (rest : List Line) → said line ≡ Ok a
     → has_some rest ≡ true → next_line said next (line ∷ rest) ≡ next a rest
 line_fw said next line a [] e h = absurd (cc)
 line_fw said next line a (other ∷ rest) e h = ap (λ s. after s next (line ∷ other ∷ rest) (other ∷ rest)) e
@@ -50,7 +50,7 @@ some_append [] rest h = h
 some_append (l ∷ ls) rest h = some_cons l (ls ++ rest)
 
 -- Rows.
-pub rows_fw : (v : ℕ) (rows acc : List Row) (bound : ℕ) (next : Then (List Row)) (rest : List Line) → are_rows bound rows ≡ true → has_some rest ≡ true
+pub rows_fw : {C : Type 0} (v : ℕ) (rows acc : List Row) (bound : ℕ) (next : On C (List Row)) (rest : List Line) → are_rows bound rows ≡ true → has_some rest ≡ true
     → read_rows v (length rows) bound acc next (each (row_lines v) rows ++ rest) ≡ next (acc ++ rows) rest
 rows_fw v [] acc bound next rest e h = ap (λ x. next x rest) (sym (append-nil acc))
 rows_fw v (row ∷ rows) acc bound next rest e h =
@@ -61,7 +61,7 @@ rows_fw v (row ∷ rows) acc bound next rest e h =
     ∙ rows_fw v rows (acc ++ row ∷ []) (row.left + 1) next rest a.1 h
     ∙ ap (λ x. next x rest) (append_assoc acc (row ∷ []) rows)
 
-pub block_fw : (v : ℕ) (b : RelBlock) (next : Then RelBlock) (rest : List Line) → is_block b ≡ true → has_some rest ≡ true
+pub block_fw : {C : Type 0} (v : ℕ) (b : RelBlock) (next : On C RelBlock) (rest : List Line) → is_block b ≡ true → has_some rest ≡ true
     → read_block v next (block_lines v b ++ rest) ≡ next b rest
 block_fw v b next rest e h =
     let a = and_parts (is_short (length b.rows)) _ e in

@@ -2,6 +2,7 @@ pub mod FormLemmas
 pub mod PairLemmas
 pub mod Resume
 pub mod ResumeState
+pub mod Reading
 pub mod ReadLemmas
 pub mod NumberFacts
 pub mod FormFacts

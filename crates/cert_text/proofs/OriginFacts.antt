@@ -263,7 +263,7 @@ heading_fw v m a e =
     ⊎_elim (λ one. subst P (sym (eqb-true v 1 one)) (heading_one m a)) (λ two. subst P (sym (eqb-true v 2 two)) (heading_two m a))
     (or_cases (v == 1) (v == 2) e)
 
-none_from : (o : Option TextKind) → is_none o ≡ true → o ≡ None
+pub none_from : (o : Option TextKind) → is_none o ≡ true → o ≡ None
 none_from None e = refl
 none_from (Some fault) e = absurd (cc)
 

@@ -25,17 +25,17 @@ use Rattle.cert_value.specs.Text.{Line, spelled, numbers, row_numbers, letters_t
 use Rattle.cert_text.proofs.BytesLines.{plain, PlainLine, PlainLines, spelled_plain, decimal_plain, numbers_plain}
 
 -- A line of a word and plain tokens.
-word_line : (w : Keyword) (rest : Line) → list_all plain rest ≡ true → PlainLine (spelled w ∷ rest)
+pub word_line : (w : Keyword) (rest : Line) → list_all plain rest ≡ true → PlainLine (spelled w ∷ rest)
 word_line w rest e = and_from (plain (spelled w)) (list_all plain rest) (spelled_plain w) e
 
 -- a number before plain tokens
-number_then : (n : ℕ) (rest : Line) → list_all plain rest ≡ true → list_all plain (decimal n ∷ rest) ≡ true
+pub number_then : (n : ℕ) (rest : Line) → list_all plain rest ≡ true → list_all plain (decimal n ∷ rest) ≡ true
 number_then n rest e = and_from (plain (decimal n)) (list_all plain rest) (decimal_plain n) e
 
-one_number : (w : Keyword) (n : ℕ) → PlainLine (spelled w ∷ decimal n ∷ [])
+pub one_number : (w : Keyword) (n : ℕ) → PlainLine (spelled w ∷ decimal n ∷ [])
 one_number w n = word_line w (decimal n ∷ []) (number_then n [] refl)
 
-plain_append : (ls ms : List Line) → PlainLines ls → PlainLines ms → PlainLines (ls ++ ms)
+pub plain_append : (ls ms : List Line) → PlainLines ls → PlainLines ms → PlainLines (ls ++ ms)
 plain_append [] ms p q = q
 plain_append (l ∷ ls) ms p q = (p.0, plain_append ls ms p.1 q)
 
@@ -46,7 +46,7 @@ plain_each f p (x ∷ xs) = plain_append (f x) (each f xs) (p x) (plain_each f p
 plain_row : (v : ℕ) (row : Row) → PlainLines (row_lines v row)
 plain_row v row = (word_line keyword.Row (decimal row.left ∷ numbers (row_numbers v row.runs)) (number_then row.left (numbers (row_numbers v row.runs)) (numbers_plain (row_numbers v row.runs))), tt)
 
-plain_block : (v : ℕ) (b : RelBlock) → PlainLines (block_lines v b)
+pub plain_block : (v : ℕ) (b : RelBlock) → PlainLines (block_lines v b)
 plain_block v b = (one_number keyword.Rel (length b.rows), plain_each (row_lines v) (plain_row v) b.rows)
 
 plain_rank_row : (row : RankRow) → PlainLines (rank_row_lines row)
@@ -68,7 +68,7 @@ plain_first v (first.Cut pair look gone blocks) = (
   (plain_numbers keyword.Gone (gone_numbers gone), plain_each (block_lines v) (plain_block v) blocks),
 )
 
-two_words : (w v : Keyword) (rest : Line) → list_all plain rest ≡ true → PlainLine (spelled w ∷ spelled v ∷ rest)
+pub two_words : (w v : Keyword) (rest : Line) → list_all plain rest ≡ true → PlainLine (spelled w ∷ spelled v ∷ rest)
 two_words w v rest e = word_line w (spelled v ∷ rest) (and_from (plain (spelled v)) (list_all plain rest) (spelled_plain v) e)
 
 plain_letters : (b : Bool) (letters : ℕ) → list_all plain (cond b (decimal letters ∷ []) []) ≡ true

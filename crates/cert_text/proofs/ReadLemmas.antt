@@ -15,6 +15,7 @@ use Rattle.cert_text.specs.Told.{Told, located}
 use Rattle.cert_text.specs.Grammar.{ReadOutcome, Read, Stopped, after, lines_of, read_lines, reading, told_at, first_left, is_bare}
 use Rattle.cert_text.specs.Machine.{step, ended, at_end}
 use Rattle.cert_text.proofs.ResumeState.{resume, state_law, state_last}
+use Rattle.cert_text.proofs.Reading.{stopped_by, read_by}
 use Rattle.cert_value.proofs.SplitLemmas.{split_none, split_some, rest_all}
 
 pub split_cons : (p : ℕ → Bool) (bs : List ℕ) → (part : List ℕ) × (parts : List (List ℕ)) × (slice_split p bs ≡ part ∷ parts)
@@ -48,18 +49,10 @@ pub told_stopped : (bytes : List ℕ) (fault : TextKind) (here : List Line) (n :
     → read_lines (lines_of bytes) ≡ Stopped fault here
     → n + length here ≡ length (lines_of bytes) + 1
     → reading bytes ≡ Err (record { line = n; kind = fault })
-told_stopped bytes fault here n e k =
-    let L = lines_of bytes in
-    let f : ReadOutcome → Result Cert TextFault = λ o. told_at (first_left L o) o in
-    let g : ℕ → Result Cert TextFault = λ m. Err (record { line = m; kind = fault }) in
-    let m : (length L + 1) - length here ≡ n = omega arith in
-    ap f e ∙ ap g m
+told_stopped = stopped_by read_lines
 
 pub told_read : (bytes : List ℕ) (c : Cert) → read_lines (lines_of bytes) ≡ Read c → reading bytes ≡ Ok c
-told_read bytes c e =
-    let L = lines_of bytes in
-    let f : ReadOutcome → Result Cert TextFault = λ o. told_at (first_left L o) o in
-    ap f e
+told_read = read_by read_lines
 
 -- the reader stops at a line
 pub stops : (bytes : List ℕ) (s : State) (t : Line) (rest : List ℕ) (n : ℕ) (fault : LineFault)

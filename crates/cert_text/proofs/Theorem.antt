@@ -14,9 +14,10 @@ use Rattle.cert_text.proofs.BytesLines.{lines_text, text_back}
 use Rattle.cert_text.proofs.PlainCert.{plain_cert}
 use Rattle.cert_text.proofs.Forward.{cert_fw}
 use Rattle.cert_text.proofs.Backward.{cert_bw, finish_bw}
+use Rattle.cert_text.proofs.Reading.{told_inv, found_by, only_by, fault_by, first_by}
 use Rattle.cert_text.proofs.ReadLemmas.{told_read, split_cons}
 
-some_lines : (bytes : List ℕ) → has_some (lines_of bytes) ≡ true
+pub some_lines : (bytes : List ℕ) → has_some (lines_of bytes) ≡ true
 some_lines bytes =
     let parts = split_cons (λ b. b == 10) bytes in
     ap (λ ps. has_some (map tokens_of ps)) parts.2 ∙ some_cons (tokens_of parts.0) (map tokens_of parts.1)
@@ -30,10 +31,6 @@ text_then c more e =
 pub reading_text : (c : Cert) → has_text c ≡ true → reading (text c) ≡ Ok c
 reading_text c e =
     told_read (text c) c (ap (λ b. read_lines (lines_of b)) (sym (append-nil (text c))) ∙ text_then c [] e)
-
-told_inv : (n : ℕ) (o : ReadOutcome) (c : Cert) → told_at n o ≡ Ok c → o ≡ Read c
-told_inv n (Read d) c e = let same : d ≡ c = cc in ap Read same
-told_inv n (Stopped fault rest) c e = absurd (cc)
 
 -- bytes that are read as a certificate are its text
 pub reading_back : (bytes : List ℕ) (c : Cert) → reading bytes ≡ Ok c → (has_text c ≡ true) × (bytes ≡ text c)
@@ -52,31 +49,15 @@ one_text c d more hc hd e =
 
 -- The clauses of the reader.
 pub found_of : (bytes : List ℕ) (r : Result Cert CertReadFault) → Told (reading bytes) r → IfOk r (λ c. WellFormed c × (bytes ≡ text c))
-found_of bytes (Ok c) t = reading_back bytes c t
-found_of bytes (Err e) t = tt
+found_of = found_by WellFormed text reading reading_back reading_text
 
 pub only_of : (bytes : List ℕ) (r : Result Cert CertReadFault) (c : Cert) → Told (reading bytes) r → WellFormed c → bytes ≡ text c
     → (r ≡ Ok c) ⊎ (r ≡ Err Memory)
-only_of bytes (Ok d) c t w e =
-    let own : reading bytes ≡ Ok c = ap reading e ∙ reading_text c w in
-    let same : d ≡ c = cc in
-    let f : Cert → Result Cert CertReadFault = λ x. Ok x in
-    inl (ap f same)
-only_of bytes (Err Memory) c t w e = inr refl
-only_of bytes (Err (Text f)) c t w e =
-    let own : reading bytes ≡ Ok c = ap reading e ∙ reading_text c w in
-    absurd (cc)
+only_of = only_by WellFormed text reading reading_back reading_text
 
 pub fault_of : (bytes : List ℕ) (r : Result Cert CertReadFault) (f : TextFault) → Told (reading bytes) r → r ≡ Err (Text f) → reading bytes ≡ Err f
-fault_of bytes r f t e =
-    let P : Result Cert CertReadFault → Type 0 = λ r. Told (reading bytes) r in
-    subst P e t
+fault_of bytes = fault_by (reading bytes)
 
 pub first_of : (bytes : List ℕ) (r : Result Cert CertReadFault) (f : TextFault) → Told (reading bytes) r → reading bytes ≡ Err f
     → (r ≡ Err (Text f)) ⊎ (r ≡ Err Memory)
-first_of bytes (Ok d) f t e = absurd (cc)
-first_of bytes (Err Memory) f t e = inr refl
-first_of bytes (Err (Text g)) f t e =
-    let same : g ≡ f = cc in
-    let k : TextFault → Result Cert CertReadFault = λ x. Err (Text x) in
-    inl (ap k same)
+first_of bytes = first_by (reading bytes)

@@ -41,34 +41,41 @@ use Rattle.cert_value.specs.Tokens.{tokens_of}
 use Rattle.cert_value.specs.WellFormed.{blocks_due, is_live, rank_key}
 use Rattle.cert_text.specs.Lines.{Said, word_in, number_in, numbers_in, ascending_in, sizes_in, heading_in, row_in, rank_row_in, gone_by_in, first_head_in, second_head_in, origin_in, element_in, step_in}
 
--- What comes of reading lines: a certificate, or a fault at the first of these lines.
-pub data ReadOutcome : Type 0 where
-  Read : Cert → ReadOutcome
-  Stopped : TextKind → List Line → ReadOutcome
+-- What comes of reading lines: the value that they are the text of, or a fault at the first of these lines.
+pub data Outcome (C : Type 0) : Type 0 where
+  Read : C → Outcome C
+  Stopped : TextKind → List Line → Outcome C
 
 -- What follows, given what was read and the lines that are left.
+abbrev pub On : Type 0 → Type 0 → Type 0
+On C A = A → List Line → Outcome C
+
+-- The same where the value is a certificate.
+abbrev pub ReadOutcome : Type 0
+ReadOutcome = Outcome Cert
+
 abbrev pub Then : Type 0 → Type 0
-Then A = A → List Line → ReadOutcome
+Then A = On Cert A
 
 -- On with what the line says, or stop at it.
-abbrev pub after : {A : Type 0} → Said A → Then A → List Line → List Line → ReadOutcome
+abbrev pub after : {C A : Type 0} → Said A → On C A → List Line → List Line → Outcome C
 after (Ok a) next here rest = next a rest
 after (Err fault) next here rest = Stopped fault here
 
 -- The next line. The last piece of the bytes is no whole line.
-abbrev pub next_line : {A : Type 0} → (Line → Said A) → Then A → List Line → ReadOutcome
+abbrev pub next_line : {C A : Type 0} → (Line → Said A) → On C A → List Line → Outcome C
 next_line said next [] = Stopped Truncated []
 next_line said next (piece ∷ []) = Stopped Truncated (piece ∷ [])
 next_line said next (line ∷ other ∷ rest) = after (said line) next (line ∷ other ∷ rest) (other ∷ rest)
 
 -- That many rows, whose left numbers ascend from the bound, after these.
-abbrev pub read_rows : ℕ → ℕ → ℕ → List Row → Then (List Row) → List Line → ReadOutcome
+abbrev pub read_rows : {C : Type 0} → ℕ → ℕ → ℕ → List Row → On C (List Row) → List Line → Outcome C
 read_rows v zero bound rows next lines = next rows lines
 read_rows v (suc n) bound rows next lines =
     next_line (row_in v bound) (λ row. read_rows v n (row.left + 1) (rows ++ row ∷ []) next) lines
 
 -- A relation.
-abbrev pub read_block : ℕ → Then RelBlock → List Line → ReadOutcome
+abbrev pub read_block : {C : Type 0} → ℕ → On C RelBlock → List Line → Outcome C
 read_block v next =
     next_line (number_in keyword.Rel) (λ n. read_rows v n 0 [] (λ rows. next (record { rows = rows })))
 
@@ -234,7 +241,7 @@ is_bare ([] ∷ other ∷ tokens) = false
 is_bare ((byte ∷ bytes) ∷ tokens) = false
 
 -- No byte follows the last line.
-abbrev pub finish : Then Cert
+abbrev pub finish : {C : Type 0} → On C C
 finish c [] = Stopped Trailing []
 finish c (piece ∷ []) = cond (is_bare piece) (Read c) (Stopped Trailing (piece ∷ []))
 finish c (line ∷ other ∷ rest) = Stopped Trailing (line ∷ other ∷ rest)
@@ -251,7 +258,7 @@ cert_of v m sizes b = record {
 }
 
 -- The last line, and nothing after it.
-abbrev pub read_end : Then Cert
+abbrev pub read_end : {C : Type 0} → On C C
 read_end c = next_line (word_in keyword.End) (λ u. finish c)
 
 -- What follows the line of sizes.
@@ -272,15 +279,19 @@ abbrev pub lines_of : List ℕ → List Line
 lines_of bytes = map tokens_of (slice_split (λ b. b == 10) bytes)
 
 -- What comes of the bytes, if a fault stands at the line with this number.
-abbrev pub told_at : ℕ → ReadOutcome → Result Cert TextFault
+abbrev pub told_at : {C : Type 0} → ℕ → Outcome C → Result C TextFault
 told_at line (Read c) = Ok c
 told_at line (Stopped fault rest) = Err (record { line = line; kind = fault })
 
 -- The number of the first line that is left, of these lines.
-abbrev pub first_left : List Line → ReadOutcome → ℕ
+abbrev pub first_left : {C : Type 0} → List Line → Outcome C → ℕ
 first_left lines (Read c) = 0
 first_left lines (Stopped fault rest) = (length lines + 1) - length rest
 
+-- What the bytes are, as this grammar reads lines: a value's text, or where they first begin none, and why.
+abbrev pub reading_by : {C : Type 0} → (List Line → Outcome C) → List ℕ → Result C TextFault
+reading_by read bytes = told_at (first_left (lines_of bytes) (read (lines_of bytes))) (read (lines_of bytes))
+
 -- What the bytes are: a certificate's text, or where they first begin none, and why.
 abbrev pub reading : List ℕ → Result Cert TextFault
-reading bytes = told_at (first_left (lines_of bytes) (read_lines (lines_of bytes))) (read_lines (lines_of bytes))
+reading bytes = reading_by read_lines bytes

@@ -5,10 +5,9 @@ use Rattle.cert_text.specs.declared.faults.CertReadFault.TheVariants.{Text, Memo
 use Rattle.cert_text.specs.declared.faults.LineFault.{LineFault}
 use Rattle.cert_text.specs.declared.faults.LineFault.TheVariants as line_fault
 use Rattle.cert_text.specs.declared.faults.TextFault.{TextFault}
-use Rattle.cert_value.specs.declared.types.Cert.{Cert}
 
 -- It gives what the text is, or want of memory.
-abbrev pub Told : Result Cert TextFault → Result Cert CertReadFault → Type 0
+abbrev pub Told : {C : Type 0} → Result C TextFault → Result C CertReadFault → Type 0
 Told told (Ok c) = told ≡ Ok c
 Told told (Err (Text fault)) = told ≡ Err fault
 Told told (Err Memory) = Unit {0}

@@ -40,9 +40,20 @@ pub enum CertReadFault {
     Memory,
 }
 
+impl From<Memory> for CertReadFault {
+    ghost use Rattle.std.specs.Prelude.{◌≡◌};
+    ghost use Rattle.cert_text.specs.declared.faults.CertReadFault.{CertReadFault};
+
+    ghost from_gives = { λ _ e. e ≡ CertReadFault.Memory };
+
+    fn from(_refused: Memory) -> CertReadFault {
+        CertReadFault::Memory
+    }
+}
+
 /// Why a line was not read.
 #[derive(Debug, Drop)]
-pub(crate) enum LineFault {
+pub enum LineFault {
     /// It may not stand here.
     Text(TextKind),
     /// The machine refused memory.

@@ -14,7 +14,7 @@ use std::alloc::Global;
 
 /// What is due at a place of a line.
 #[derive(Clone, Copy, Debug, PartialEq, Eq)]
-pub(crate) enum Place {
+pub enum Place {
     /// This word.
     Word(Keyword),
     /// A number.
@@ -23,7 +23,7 @@ pub(crate) enum Place {
 
 /// What is due past the places of a line.
 #[derive(Clone, Copy, Debug, PartialEq, Eq)]
-pub(crate) enum Tail {
+pub enum Tail {
     /// Nothing.
     Nothing,
     /// Any number of numbers.
@@ -205,7 +205,7 @@ fn has_places(count: usize, line: &[u8]) -> bool
 }
 
 /// What is wrong with the line, if these places and this tail are due.
-pub(crate) fn line_fault(places: &[Place], tail: Tail, line: &[u8]) -> Option<TextKind>
+pub fn line_fault(places: &[Place], tail: Tail, line: &[u8]) -> Option<TextKind>
     ensures { result ≡ line_fault places.now tail (tokens_of line.now) }
 {
     if has_empty(line) || !fits(places, line) {

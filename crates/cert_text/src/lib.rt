@@ -20,8 +20,9 @@ pub use cert_value::{
     Body, Cert, Element, FirstStep, GoneBy, Grounds, ListBody, Mark, RankBlock, RankRow, Ranked,
     RelBlock, Row, Run, SecondStep, StepLine, YesBody, upgrade, well_formed,
 };
-pub use faults::{CertReadFault, TextFault, TextKind};
+pub use faults::{CertReadFault, LineFault, TextFault, TextKind};
+pub use forms::{Place, Tail, line_fault};
 pub use laws::one_text;
-pub use lines::joined_runs;
-pub use read::read_cert;
+pub use lines::{Sizes, joined_runs, number_in, row_in, sizes_in, word_in};
+pub use read::{first_line, located, read_cert};
 pub use write::{write_cert, write_upgraded};

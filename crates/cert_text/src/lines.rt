@@ -19,13 +19,13 @@ use std::alloc::Global;
 
 /// The sizes that a certificate names.
 #[derive(Clone, Copy, Debug, PartialEq, Eq)]
-pub(crate) struct Sizes {
+pub struct Sizes {
     /// The states of the read first automaton.
-    pub(crate) first_states: u32,
+    pub first_states: u32,
     /// The states of the read second automaton.
-    pub(crate) second_states: u32,
+    pub second_states: u32,
     /// The joined labels.
-    pub(crate) labels: u32,
+    pub labels: u32,
 }
 
 /// What the first line says.
@@ -105,7 +105,7 @@ pub(crate) fn heading_in(line: &[u8]) -> Result<Heading, LineFault>
 }
 
 /// A line of one word.
-pub(crate) fn word_in(keyword: Keyword, line: &[u8]) -> Result<(), LineFault>
+pub fn word_in(keyword: Keyword, line: &[u8]) -> Result<(), LineFault>
     ensures { Agrees (word_in keyword (tokens_of line.now)) result }
 {
     match line_fault(&[Place::Word(keyword)], Tail::Nothing, line) {
@@ -115,7 +115,7 @@ pub(crate) fn word_in(keyword: Keyword, line: &[u8]) -> Result<(), LineFault>
 }
 
 /// A line of a word and a number.
-pub(crate) fn number_in(keyword: Keyword, line: &[u8]) -> Result<u32, LineFault>
+pub fn number_in(keyword: Keyword, line: &[u8]) -> Result<u32, LineFault>
     ensures { Agrees (number_in keyword (tokens_of line.now)) result }
 {
     match line_fault(&[Place::Word(keyword), Place::Number], Tail::Nothing, line) {
@@ -159,7 +159,7 @@ pub(crate) fn ascending_in(
 }
 
 /// The line of sizes.
-pub(crate) fn sizes_in(line: &[u8]) -> Result<Sizes, LineFault>
+pub fn sizes_in(line: &[u8]) -> Result<Sizes, LineFault>
     ensures { Agrees (sizes_in (tokens_of line.now)) result }
 {
     let places = [
@@ -308,7 +308,7 @@ fn row_ascends(version: u32, numbers: &[u32], runs: &[Run]) -> bool
 }
 
 /// A row of a relation, its left number not below the bound.
-pub(crate) fn row_in(alloc: Global, version: u32, bound: u64, line: &[u8]) -> Result<Row, LineFault>
+pub fn row_in(alloc: Global, version: u32, bound: u64, line: &[u8]) -> Result<Row, LineFault>
     ensures { Agrees (row_in version bound (tokens_of line.now)) result }
 {
     let places = [Place::Word(Keyword::Row), Place::Number];

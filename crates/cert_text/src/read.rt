@@ -25,7 +25,7 @@ fn newline_at(bytes: &[u8]) -> Option<usize>
 }
 
 /// The first line, without its LF, and what follows it.
-fn first_line(bytes: &[u8]) -> Option<(&[u8], &[u8])>
+pub fn first_line(bytes: &[u8]) -> Option<(&[u8], &[u8])>
     ensures cut { MatchOption result
         (lines_of bytes.now ≡ tokens_of bytes.now ∷ [])
         (λ cut. lines_of bytes.now ≡ tokens_of cut.0.now ∷ lines_of cut.1.now) }
@@ -38,7 +38,7 @@ fn first_line(bytes: &[u8]) -> Option<(&[u8], &[u8])>
 }
 
 /// The fault, at the line with this number.
-fn located(fault: LineFault, line: u32) -> CertReadFault
+pub fn located(fault: LineFault, line: u32) -> CertReadFault
     ensures { result ≡ located line fault }
 {
     match fault {

@@ -17,14 +17,14 @@ use std::cmp::Ordering;
 const TOO_LONG: u32 = 1_000_000_000;
 
 /// Whether the number has at most nine digits.
-fn is_short(number: u32) -> bool
+pub fn is_short(number: u32) -> bool
     ensures { result ≡ is_short number }
 {
     number < TOO_LONG
 }
 
 /// Whether the count has at most nine digits.
-fn is_short_count(count: usize) -> bool
+pub fn is_short_count(count: usize) -> bool
     ensures { result ≡ is_short count }
 {
     count < 1_000_000_000
@@ -95,7 +95,7 @@ fn is_row(bound: u64, row: &Row) -> bool
 }
 
 /// Whether the rows are, their left numbers ascending.
-fn are_rows(rows: &[Row]) -> bool
+pub fn are_rows(rows: &[Row]) -> bool
     ensures { result ≡ are_rows 0 rows.now }
 {
     let mut bound = 0u64;

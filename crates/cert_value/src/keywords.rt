@@ -1,9 +1,9 @@
-//! The words of a certificate's text.
+//! The words of a certificate's text, and of a cross relation's.
 
 ghost use Rattle.std.specs.Prelude.{◌≡◌};
 ghost use Rattle.cert_value.specs.Text.{spelled};
 
-/// A word that a line of a certificate may hold.
+/// A word that a line of a certificate or of a cross relation may hold.
 #[derive(Clone, Copy, Debug, PartialEq, Eq)]
 pub enum Keyword {
     Backward,
@@ -20,6 +20,7 @@ pub enum Keyword {
     Live,
     Log1,
     Log2,
+    Look,
     Loop,
     Merge,
     Next,
@@ -37,6 +38,7 @@ pub enum Keyword {
     No,
     One,
     RabitCert,
+    RabitCross,
     Two,
     Yes,
     Word,
@@ -63,6 +65,7 @@ impl Keyword {
             Keyword::Live => b"live",
             Keyword::Log1 => b"log1",
             Keyword::Log2 => b"log2",
+            Keyword::Look => b"look",
             Keyword::Loop => b"loop",
             Keyword::Merge => b"merge",
             Keyword::Next => b"next",
@@ -80,6 +83,7 @@ impl Keyword {
             Keyword::No => b"no",
             Keyword::One => b"1",
             Keyword::RabitCert => b"rabit-cert",
+            Keyword::RabitCross => b"rabit-cross",
             Keyword::Two => b"2",
             Keyword::Yes => b"yes",
             Keyword::Word => b"word",

@@ -10,8 +10,8 @@ mod types;
 mod versions;
 
 pub use checks::{
-    are_letters, ascend, blocks_due, exceeds_last, gone_ascend, is_live, rights_ascend,
-    runs_ascend, well_formed,
+    are_letters, are_rows, ascend, blocks_due, exceeds_last, gone_ascend, is_live, is_short,
+    is_short_count, rights_ascend, runs_ascend, well_formed,
 };
 pub use keywords::Keyword;
 pub use printing::{Print, print_all, print_count, print_keyword, print_line};

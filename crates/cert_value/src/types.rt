@@ -181,7 +181,7 @@ pub struct Run {
     pub last: u32,
 }
 
-/// A relation with ranks: exactly the pairs that it lists.
+/// A relation with ranks: exactly the triples that it lists.
 #[derive(Debug, Drop)]
 pub struct RankBlock {
     /// A row for each left number and announced word that have a right number, ascending.

@@ -1,5 +1,5 @@
 -- A game across two automata is a game on the automaton of both side by side.
-use Rattle.std.proofs.Common.{◌≡◌, ℕ, ◌+◌, ◌-◌, ◌<◌, ◌≤◌, ◌↔◌, inl, inr, List, [], ◌∷◌, map, refl, sym, ap, subst, arith}
+use Rattle.std.proofs.Common.{◌≡◌, ℕ, ◌+◌, ◌-◌, ◌<◌, ◌≤◌, inl, inr, List, [], ◌∷◌, map, refl, sym, ap, subst, arith}
 use Rattle.auto_core.specs.Automaton.{Automaton, IsAutomaton, Moves}
 use Rattle.auto_core.specs.Run.{PathBy, Path, end_of}
 use Rattle.auto_core.specs.Game.{MatchesForward, MayShow, Answers, Round, Stable, Holds, ArePairsBelow, IsWithin, IsGreatest, StableAcross}
@@ -7,19 +7,16 @@ use Rattle.auto_core.proofs.MoveLemmas.{move_in_range}
 use Rattle.auto_core.proofs.MemberLemmas.{map_has, map_from}
 use Rattle.path_laws.proofs.AppliedLemmas.{across_includes}
 use Rattle.cross_sim.specs.Cross.{IsGreatestCross, CrossIncludes}
-use Rattle.cross_sim.specs.Sides.{IsSideBySide, MatchesAcross}
+use Rattle.cross_sim.specs.Sides.{IsSideBySide, Raises, MatchesAcross}
 
--- R holds the pairs of S, the right numbers moved by n
-abbrev Raises : ℕ → List (ℕ × ℕ) → List (ℕ × ℕ) → Type 0
-Raises n S R = (p q : ℕ) → Holds R p q ↔ ((r : ℕ) × (q ≡ n + r) × Holds S p r)
-
-abbrev raise : ℕ → ℕ × ℕ → ℕ × ℕ
+-- The pair with its right number raised by n.
+abbrev pub raise : ℕ → ℕ × ℕ → ℕ × ℕ
 raise n x = (x.0, n + x.1)
 
 abbrev lower : ℕ → ℕ × ℕ → ℕ × ℕ
 lower n x = (x.0, x.1 - n)
 
-raised : (n : ℕ) (S : List (ℕ × ℕ)) → Raises n S (map (raise n) S)
+pub raised : (n : ℕ) (S : List (ℕ × ℕ)) → Raises n S (map (raise n) S)
 raised n S p q = (
   λ h.
       let (x, there, is) = map_from (raise n) S (p, q) h in
@@ -39,7 +36,7 @@ lowered n R high p q = (
       subst (λ z. Holds R z q) left (subst (λ z. Holds R x.0 z) same there),
 )
 
-raised_back : (n : ℕ) (S R : List (ℕ × ℕ)) → Raises n S R → (p r : ℕ) → Holds R p (n + r) → Holds S p r
+pub raised_back : (n : ℕ) (S R : List (ℕ × ℕ)) → Raises n S R → (p r : ℕ) → Holds R p (n + r) → Holds S p r
 raised_back n S R raises p r h =
     let (s, e, there) = (raises p (n + r)).0 h in
     let same : s ≡ r = omega arith in
@@ -108,7 +105,7 @@ module _ (A B U : Automaton) (a_valid : IsAutomaton A) (both : IsSideBySide A B 
           ],
         )
 
-    stable_in_both : ArePairsBelow A.states B.states S → StableAcross A B k S → Stable (Moves U) (Moves U) (MatchesAcross A.states U) k (Holds R)
+    pub stable_in_both : ArePairsBelow A.states B.states S → StableAcross A B k S → Stable (Moves U) (Moves U) (MatchesAcross A.states U) k (Holds R)
     stable_in_both below stable p q h =
         let (r, e, there) = (raises p q).0 h in
         let (lt, _) = below p r there in
@@ -119,7 +116,7 @@ module _ (A B U : Automaton) (a_valid : IsAutomaton A) (both : IsSideBySide A B 
           λ w ps path may. let first = path_in_first p w ps lt path in answered_in_both p r w ps first (round w ps first (shown_in_first p w ps may)),
         )
 
-    stable_apart : Stable (Moves U) (Moves U) (MatchesAcross A.states U) k (Holds R) → StableAcross A B k S
+    pub stable_apart : Stable (Moves U) (Moves U) (MatchesAcross A.states U) k (Holds R) → StableAcross A B k S
     stable_apart stable p r h =
         let (ok, round) = stable p (A.states + r) ((raises p (A.states + r)).1 (r, refl, h)) in (
           matched_apart p r ok,
@@ -156,6 +153,26 @@ module _ (A B U : Automaton) (a_valid : IsAutomaton A) (both : IsSideBySide A B 
           inside T below x y (r, e, there) =
               let (left, right) = below x r there in
               (omega (arith, left, both.states), omega (arith, right, e, both.states))
+
+  -- A pair that no stable list on the automaton of both has is in no list that is stable across.
+  pub never_across :
+      (p q : ℕ)
+      → ((T : List (ℕ × ℕ)) → ArePairsBelow U.states U.states T → Stable (Moves U) (Moves U) (MatchesAcross A.states U) k (Holds T) → Holds T p (A.states + q) → ⊥)
+      → (S : List (ℕ × ℕ))
+      → ArePairsBelow A.states B.states S
+      → StableAcross A B k S
+      → Holds S p q
+      → ⊥
+  never_across p q never S below stable held =
+      let up = raised A.states S in
+      let V = map (raise A.states) S in
+      let within : ArePairsBelow U.states U.states V = λ x y v. inside x y ((up x y).0 v) in
+      never V within (stable_in_both S V up below stable) ((up p (A.states + q)).1 (q, refl, held))
+    where
+      inside : (x y : ℕ) → ((r : ℕ) × (y ≡ A.states + r) × Holds S x r) → (x < U.states) × (y < U.states)
+      inside x y (r, e, there) =
+          let (left, right) = below x r there in
+          (omega (arith, left, both.states), omega (arith, right, e, both.states))
 
 pub cross_includes : CrossIncludes
 cross_includes A B k R valid some g held mode =

@@ -1,2 +1,6 @@
+pub mod CheckLemmas
 pub mod CrossLemmas
+pub mod RaisedLemmas
 pub mod SideLemmas
+pub mod WrittenLemmas
+pub mod ThereLemmas

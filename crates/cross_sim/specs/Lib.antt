@@ -1,2 +1,5 @@
 pub mod Cross
+pub mod Raising
+pub mod Rules
 pub mod Sides
+pub mod Written

@@ -1,8 +1,8 @@
 -- Two automata side by side in one, and what is asked there across them.
-use Rattle.std.specs.Prelude.{◌≡◌, ℕ, ◌+◌, ◌<◌, ◌≤◌, ◌↔◌}
+use Rattle.std.specs.Prelude.{◌≡◌, ℕ, ◌+◌, ◌<◌, ◌≤◌, ◌↔◌, List}
 use Rattle.std.proofs.Common.{arith}
 use Rattle.auto_core.specs.Automaton.{Automaton, Moves, IsAccepting}
-use Rattle.auto_core.specs.Game.{MatchesForward}
+use Rattle.auto_core.specs.Game.{Holds, MatchesForward}
 
 -- U is A and B side by side: A's states with A's moves, and then B's states with B's.
 pub record IsSideBySide (A B U : Automaton) : Type 0 where
@@ -11,6 +11,10 @@ pub record IsSideBySide (A B U : Automaton) : Type 0 where
   pub second_moves : (p a q : ℕ) → Moves U (A.states + p) a q ↔ ((r : ℕ) × (q ≡ A.states + r) × Moves B p a r)
   pub first_accepting : (p : ℕ) → p < A.states → IsAccepting U p ↔ IsAccepting A p
   pub second_accepting : (p : ℕ) → IsAccepting U (A.states + p) ↔ IsAccepting B p
+
+-- R holds the pairs of S, the right numbers raised by n.
+abbrev pub Raises : ℕ → List (ℕ × ℕ) → List (ℕ × ℕ) → Type 0
+Raises n S R = (p q : ℕ) → Holds R p q ↔ ((r : ℕ) × (q ≡ n + r) × Holds S p r)
 
 -- p is one of the first n states and q is not, and q is accepting if p is.
 abbrev pub MatchesAcross : ℕ → Automaton → ℕ → ℕ → Type 0

@@ -13,7 +13,7 @@ use std::alloc::Global;
 
 /// The two automata side by side in one, with no move between them: the first's states, and then the second's. It starts in the first's
 /// initial state.
-fn side_by_side(alloc: Global, first: &Auto, second: &Auto) -> Result<Auto, Memory>
+pub(crate) fn side_by_side(alloc: Global, first: &Auto, second: &Auto) -> Result<Auto, Memory>
     requires states { first.now.states + second.now.states < 2 ^ 32 }
     requires transitions { length first.now.transitions + length second.now.transitions < 2 ^ 32 }
     requires labels { first.now.labels ≡ second.now.labels }

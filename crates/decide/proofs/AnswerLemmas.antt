@@ -43,7 +43,7 @@ use Rattle.decide.specs.Answer.{IsOrder, Reductions, IsYesOf, IsListOf, IsLassoO
 use Rattle.decide.specs.Laws.{CanDecide, AreSettledEnds, StandApart, ListsNew, SaysTruth, AnswersAreFormed, AnswersAreValid, AnswersAreTrue}
 use Rattle.decide.proofs.EndLemmas.{AreGoodEnds, ends_in, good_ends}
 use Rattle.decide.proofs.PlaceLemmas.{all_from_places, pass_from_places}
-use Rattle.decide.proofs.RowLemmas.{all_short}
+use Rattle.relation_rows.proofs.RowLemmas.{all_short}
 use Rattle.decide.proofs.YesLemmas.{rules_hold, elements_formed, cover_formed, count_formed, steps_formed, includes, stand_apart, parts_of_placed, IsPlacedIn}
 use Rattle.decide.proofs.ListLemmas.{list_holds, listed_differ}
 

@@ -1,10 +1,8 @@
 -- A reduction's log as it stands in a certificate: its steps one by one, what its blocks name, and where its steps lead.
-use Rattle.std.proofs.Common.{◌≡◌, ◌↔◌, ◌⊎◌, ℕ, zero, suc, ◌+◌, ◌-◌, ◌<◌, ◌≤◌, inl, inr, Option, None, Some, true, ◌&&◌, ◌++◌, List, [], ◌∷◌, length, All, Contains, refl, sym, ap, ◌∙◌, subst, arith}
-use Rattle.std.specs.Prelude.{nat_le}
-use Rattle.std.specs.List.{flat_map, range_with_len}
-use Rattle.std.proofs.lemmas.Bool.{and_parts, leb-true}
+use Rattle.std.proofs.Common.{◌≡◌, ◌↔◌, ◌⊎◌, ℕ, zero, suc, ◌<◌, inl, inr, Option, None, Some, true, ◌++◌, List, [], ◌∷◌, length, All, Contains, refl, sym, ap, ◌∙◌, subst, arith}
+use Rattle.std.specs.List.{flat_map}
+use Rattle.std.proofs.lemmas.Bool.{and_parts}
 use Rattle.std.proofs.lemmas.List.{append-nil}
-use Rattle.std.proofs.lemmas.List.FromFn.{get_or-range_with_len, length-range_with_len}
 use Rattle.std.proofs.lemmas.List.Elements.{All-nil, All-cons, All-contains, All-from_recursion, Contains-get_or, Contains-append_left, Contains-append_right}
 use Rattle.auto_core.specs.Automaton.{Automaton, IsAutomaton, trans_at}
 use Rattle.auto_core.specs.Delayed.{RankedTriples, HoldsTriple, AreAnnounced, AreTriplesOf, AreRelatedAhead}
@@ -31,17 +29,14 @@ use Rattle.reduce_loop.proofs.MergeLemmas.{same_classes, same_closure}
 use Rattle.reduce_loop.proofs.StepLemmas.{after_valid}
 use Rattle.useful_states.proofs.KeepLaws.{kept_by_members}
 use Rattle.cert_value.specs.declared.types.RelBlock.{RelBlock}
-use Rattle.cert_value.specs.declared.types.Row.{Row}
-use Rattle.cert_value.specs.declared.types.Run.{Run}
 use Rattle.cert_value.specs.declared.types.RankBlock.{RankBlock}
 use Rattle.cert_value.specs.declared.types.RankRow.{RankRow}
 use Rattle.cert_value.specs.declared.types.Ranked.{Ranked}
-use Rattle.cert_value.specs.Text.{run_numbers, numbers_of as all_numbers}
-use Rattle.cert_value.specs.WellFormed.{is_short, runs_ascend_from, is_row, are_rows, rank_key, is_rank_row, are_rank_rows}
-use Rattle.log_check.specs.Blocks.{pairs_of_row, IsRowBelow, IsBlockBelow, rank_of, triples_of_row, IsRankRowBelow, IsRankBlockBelow}
+use Rattle.cert_value.specs.WellFormed.{is_short, are_rows, rank_key, is_rank_row, are_rank_rows}
+use Rattle.log_check.specs.Blocks.{IsBlockBelow, rank_of, triples_of_row, IsRankRowBelow, IsRankBlockBelow}
 use Rattle.log_check.specs.Follows.{LogRules, StepFollows, Follows}
 use Rattle.decide.specs.Written.{IsBlockOf, IsRankBlockOf, AreWritten}
-use Rattle.decide.proofs.RowLemmas.{row_parts, of_row}
+use Rattle.relation_rows.proofs.RowBoundLemmas.{rows_below}
 use Rattle.decide.proofs.RankRowLemmas.{in_triple, some_ranked}
 
 -- ---- lists that are written
@@ -121,38 +116,9 @@ module _
 
 -- ---- blocks whose pairs are below a number
 
--- Where the numbers of runs are below a number, the last one of each run is.
-lasts_below : (n bound : ℕ) (runs : List Run) → runs_ascend_from bound runs ≡ true → ((q : ℕ) → Contains (all_numbers runs) q → q < n) → All (λ (run : Run). run.last < n) runs
-lasts_below n bound [] apart below = All-nil (λ (run : Run). run.last < n)
-lasts_below n bound (run ∷ runs) apart below =
-    let a = and_parts (nat_le bound run.first) (nat_le run.first run.last && runs_ascend_from (run.last + 2) runs) apart in
-    let b = and_parts (nat_le run.first run.last) (runs_ascend_from (run.last + 2) runs) a.1 in
-    let le = leb-true run.first run.last b.0 in
-    let here : Contains (run_numbers run) run.last = range_has_last run.first run.last le in
-    All-cons (λ (run : Run). run.last < n) run runs (below run.last (Contains-append_left (run_numbers run) (all_numbers runs) run.last here))
-    (lasts_below n (run.last + 2) runs b.1 (λ q has. below q (Contains-append_right (run_numbers run) (all_numbers runs) q has)))
-  where
-    range_has_last : (n m : ℕ) → n ≤ m → Contains (range_with_len n (m + 1 - n)) m
-    range_has_last n m le =
-        let at = get_or-range_with_len n (m + 1 - n) (m - n) m (omega arith) in
-        let len = length-range_with_len n (m + 1 - n) in
-        let last : n + (m - n) ≡ m = omega arith in
-        (m - n, omega arith, at ∙ last)
-
-rows_below : (n bound : ℕ) (rows : List Row) → are_rows bound rows ≡ true → ((p q : ℕ) → Holds (flat_map pairs_of_row rows) p q → (p < n) × (q < n)) → All (IsRowBelow n) rows
-rows_below n bound [] formed below = All-nil (IsRowBelow n)
-rows_below n bound (row ∷ rows) formed below =
-    let parts = and_parts (is_row bound row) (are_rows (row.left + 1) rows) formed in
-    let r = row_parts bound row parts.0 in
-    let here : (q : ℕ) → Contains (all_numbers row.runs) q → (row.left < n) × (q < n) = λ q has.
-    below row.left q (Contains-append_left (pairs_of_row row) (flat_map pairs_of_row rows) (row.left, q) (of_row row row.left q refl has)) in
-    All-cons (IsRowBelow n) row rows
-    ((here r.a_right r.has_right).0, lasts_below n 0 row.runs r.apart (λ q has. (here q has).1))
-    (rows_below n (row.left + 1) rows parts.1 (λ p q h. below p q (Contains-append_right (pairs_of_row row) (flat_map pairs_of_row rows) (p, q) h)))
-
 pub block_below : (n : ℕ) (S : List (ℕ × ℕ)) (block : RelBlock) → IsBlockOf S block → ArePairsBelow n n S → IsBlockBelow n block
 block_below n S block is range =
-    rows_below n 0 block.rows (and_parts (is_short (length block.rows)) (are_rows 0 block.rows) is.formed).1 (λ p q h. range p q (subst (λ l. Holds l p q) is.pairs h))
+    rows_below n n 0 block.rows (and_parts (is_short (length block.rows)) (are_rows 0 block.rows) is.formed).1 (λ p q h. range p q (subst (λ l. Holds l p q) is.pairs h))
 
 row_below :
     (n labels letters : ℕ) (row : RankRow) (rights : List Ranked)

@@ -1,5 +1,4 @@
 pub mod PlaceLemmas
-pub mod RowLemmas
 pub mod RankRowLemmas
 pub mod WrittenLemmas
 pub mod BlockUniqueLemmas

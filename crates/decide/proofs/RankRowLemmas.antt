@@ -1,7 +1,7 @@
 -- The rows of a relation with ranks as they are made, and what they list.
-use Rattle.std.proofs.Common.{◌≡◌, ℕ, zero, suc, ◌+◌, ◌-◌, ◌<◌, ◌≤◌, ◌&&◌, ◌==◌, true, cond, inl, inr, Option, None, Some, List, [], ◌∷◌, ◌++◌, length, map, take, drop, get_or, All, Contains, refl, sym, ap, ◌∙◌, subst, arith, length-append}
+use Rattle.std.proofs.Common.{◌≡◌, ℕ, zero, suc, ◌+◌, ◌-◌, ◌<◌, ◌≤◌, ◌&&◌, ◌==◌, true, cond, inl, inr, Option, None, Some, List, [], ◌∷◌, ◌++◌, length, map, take, drop, Contains, refl, sym, ap, ◌∙◌, subst, arith, length-append}
 use Rattle.std.specs.Prelude.{IfSome, nat_le}
-use Rattle.std.specs.List.{list_all, flat_map}
+use Rattle.std.specs.List.{list_all}
 use Rattle.std.specs.Ordering.{MatchOrdering, is_lt, nat_cmp, ordering_then}
 use Rattle.std.specs.declared.cmp.Ordering.TheVariants.{Less, Equal}
 use Rattle.std.specs.Cmp.{ranks}
@@ -23,7 +23,7 @@ use Rattle.delayed_sim.specs.Rankings.{Triple, Ranking, IsRanking, IsTripleBefor
 use Rattle.log_check.specs.Blocks.{rank_of, triples_of_row}
 use Rattle.decide.specs.Written.{IsRankBlockOf}
 use Rattle.decide.specs.Rows.{HasFewTriples, IsRankRowOf, AreRankRows, ranked_of, code_for, last_key}
-use Rattle.decide.proofs.RowLemmas.{all_short}
+use Rattle.relation_rows.proofs.RowLemmas.{all_short}
 
 -- ---- lists
 

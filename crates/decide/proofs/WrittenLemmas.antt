@@ -1,8 +1,17 @@
 -- Lists whose things stand for those of others, one by one.
-use Rattle.std.proofs.Common.{◌≡◌, ℕ, ◌+◌, ◌<◌, ◌≤◌, Option, None, Some, List, [], ◌∷◌, ◌++◌, length, map, take, slice_index_or, refl, sym, ap, ◌∙◌, subst, take_all}
+use Rattle.std.proofs.Common.{◌≡◌, ℕ, ◌+◌, ◌<◌, ◌≤◌, Option, None, Some, List, [], ◌∷◌, ◌++◌, length, map, take, slice_index_or, refl, sym, ap, ◌∙◌, subst, take_all, arith, zero-add}
+use Rattle.std.specs.List.{flat_map}
+use Rattle.std.proofs.lemmas.Bool.{and_from, lt-ltb}
 use Rattle.std.proofs.lemmas.List.{take_more}
-use Rattle.bit_rel.specs.Relation.{Relation}
+use Rattle.auto_core.specs.Game.{Holds, ArePairsBelow}
+use Rattle.bit_rel.specs.Relation.{Relation, ArePairsAscending}
+use Rattle.bit_rel.proofs.PairLemmas.{same_pairs}
 use Rattle.cert_value.specs.declared.types.RelBlock.{RelBlock}
+use Rattle.cert_value.specs.declared.types.Row.{Row}
+use Rattle.cert_value.specs.WellFormed.{is_short, are_rows}
+use Rattle.log_check.specs.Blocks.{pairs_of_row}
+use Rattle.relation_rows.specs.Rows.{HoldsFrom, AreRows}
+use Rattle.relation_rows.proofs.RowLemmas.{rows_ascend}
 use Rattle.decide.specs.Written.{IsBlockOf, AreWritten, AreBlocksOf, given}
 use Rattle.decide.specs.Logs.{one_given}
 
@@ -34,6 +43,15 @@ copied_more f ss k d made new t lt before is e =
     map_behind : (xs : List _) (x : _) → map f (xs ++ x ∷ []) ≡ map f xs ++ f x ∷ []
     map_behind [] x = refl
     map_behind (y ∷ xs) x = ap (λ l. f y ∷ l) (map_behind xs x)
+
+-- All rows are the block of the relation.
+pub rows_are_block : (S : List (ℕ × ℕ)) (n : ℕ) (rows : List Row) → n ≤ 2048 → ArePairsBelow n n S → ArePairsAscending S → AreRows (HoldsFrom S 0 n) n rows → IsBlockOf S (record { rows = rows })
+rows_are_block S n rows small range ascending are = record {
+  formed = and_from (is_short (length rows)) (are_rows 0 rows) (lt-ltb (length rows) 1000000000 (let few = are.few in omega arith)) are.formed;
+  pairs = same_pairs (flat_map pairs_of_row rows) S (rows_ascend 0 rows are.formed) ascending
+      (λ z has. subst (Holds S z.0) (zero-add z.1) ((are.has z.0 z.1).0 has).1.1)
+      (λ z has. let (left, right) = range z.0 z.1 has in (are.has z.0 z.1).1 (left, (right, subst (Holds S z.0) (sym (zero-add z.1)) has)));
+}
 
 -- Blocks of relations that may be given.
 pub blocks_more : (blocks new : List RelBlock) (block : RelBlock) (R : Relation) → IsBlockOf R.pairs block → new ≡ blocks ++ block ∷ [] → (before : List Relation) → AreBlocksOf before blocks → AreBlocksOf (before ++ R ∷ []) new

@@ -3,42 +3,22 @@
 ghost use Rattle.std.specs.Prelude.{◌≡◌, ◌+◌, ◌-◌, ◌≤◌, ◌<◌, ℕ, IfOk, IfSome, drop, length, map, take};
 ghost use Rattle.delayed_sim.specs.Rankings.{row_key, triple_at};
 ghost use Rattle.decide.specs.Written.{IsBlockOf, IsRankBlockOf};
-ghost use Rattle.decide.specs.Rows.{AreRights, HasFewTriples, IsRankRowOf, ranked_of, code_for};
+ghost use Rattle.decide.specs.Rows.{HasFewTriples, IsRankRowOf, ranked_of, code_for};
 
 use auto_core::{List, Memory};
 use bit_rel::Rel;
-use cert_text::joined_runs;
-use cert_value::{RankBlock, RankRow, Ranked, RelBlock, Row};
+use cert_value::{RankBlock, RankRow, Ranked, RelBlock};
 use delayed_sim::Delayed;
+use relation_rows::rows_of;
 use std::alloc::Global;
-
-/// The states that the relation holds `left` with, ascending.
-fn rights_of(alloc: Global, rel: &Rel, left: u32) -> Result<List<u32>, Memory>
-    requires { left < rel.now.size }
-    ensures { IfOk result (AreRights rel.now.pairs left rel.now.size) }
-{
-    let mut rights = List::new(alloc);
-    for right in 0..rel.size() {
-        if rel.get(left, right) {
-            rights.push(right)?;
-        }
-    }
-    Ok(rights)
-}
 
 /// A row for each state that the relation holds with some state.
 pub(crate) fn block_of(alloc: Global, rel: &Rel) -> Result<RelBlock, Memory>
     requires { rel.now.size ≤ 2048 }
     ensures { IfOk result (IsBlockOf rel.now.pairs) }
 {
-    let mut rows = List::new(alloc);
-    for left in 0..rel.size() {
-        let rights = rights_of(alloc, rel, left)?;
-        if !rights.as_slice().is_empty() {
-            let runs = joined_runs(alloc, rights.as_slice())?;
-            rows.push(Row { left, runs })?;
-        }
-    }
+    let size = rel.size();
+    let rows = rows_of(alloc, rel, size, 0, size)?;
     Ok(RelBlock { rows })
 }
 

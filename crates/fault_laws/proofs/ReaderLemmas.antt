@@ -178,7 +178,7 @@ at_line head said next line other more kind rest (Err fault) own all told e =
     refused head said next line (other ∷ more) kind rest (own kind here) here (cc)
 
 ends_early : {A : Type 0} (head : Bool) (said : Line → Said A) (next : Then A) (piece : Line) (kind : TextKind) (rest : List Line)
-    → Stopped Truncated (piece ∷ []) ≡ Stopped kind rest → StopsSo head (next_line said next) (piece ∷ []) kind rest
+    → ◌≡◌ {A = ReadOutcome} (Stopped Truncated (piece ∷ [])) (Stopped kind rest) → StopsSo head (next_line said next) (piece ∷ []) kind rest
 ends_early head said next piece kind rest e =
     let is : piece ∷ [] ≡ rest = cc in
     let of : Truncated ≡ kind = cc in

@@ -35,7 +35,7 @@ stops_cond false c piece kind rest e =
     record { some = omega (arith, one); within = omega (arith, one); before_last = λ not other. absurd (other (sym of)) }
 
 stops_truncated : (piece : Line) (kind : TextKind) (rest : List Line)
-    → Stopped Truncated (piece ∷ []) ≡ Stopped kind rest → StopsIn (piece ∷ []) kind rest
+    → ◌≡◌ {A = ReadOutcome} (Stopped Truncated (piece ∷ [])) (Stopped kind rest) → StopsIn (piece ∷ []) kind rest
 stops_truncated piece kind rest e =
     let is : piece ∷ [] ≡ rest = cc in
     let of : Truncated ≡ kind = cc in

@@ -2,3 +2,4 @@ pub mod TakingLemmas
 pub mod RowLemmas
 pub mod NearLemmas
 pub mod FirstLemmas
+pub mod AskedLemmas

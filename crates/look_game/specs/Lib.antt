@@ -1,3 +1,4 @@
 pub mod Taking
 pub mod Near
 pub mod First
+pub mod Asked

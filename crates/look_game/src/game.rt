@@ -1,10 +1,11 @@
 //! The greatest relation, by a list of rows that are still to be tried.
 
-ghost use Rattle.std.specs.Prelude.{◌≡◌, ◌+◌, ◌/◌, ◌^◌, ◌<◌, ◌≤◌, ℕ, true, false, length, IfOk};
+ghost use Rattle.std.specs.Prelude.{◌≡◌, ◌+◌, ◌/◌, ◌^◌, ◌<◌, ◌≤◌, ℕ, List, true, false, None, length, IfOk, IfSome, IsTrue, ◌↔◌};
 ghost use Rattle.auto_core.specs.Automaton.{IsAutomaton};
-ghost use Rattle.auto_core.specs.Game.{IsGreatest};
+ghost use Rattle.auto_core.specs.Game.{ArePairsBelow, Holds, IsGreatest, Stable};
 ghost use Rattle.bit_rel.specs.Relation.{IsRelation};
 ghost use Rattle.look_game.specs.Taking.{TakesAway, TakesSome, KeepsOthers, HasRounds, HasStable};
+ghost use Rattle.look_game.specs.Asked.{IsLost, IsNeverKept};
 ghost use Rattle.look_game.specs.Near.{IsReachedWithin, IsFarFrom, HasOtherRounds};
 
 use crate::{first, near};
@@ -90,37 +91,104 @@ fn pass<S: Side>(
     any
 }
 
-/// Takes pairs away until each that is left has its round. The three rows are room.
+/// The pair that has to stay in a relation that is sought.
+#[derive(Clone, Copy, Debug)]
+struct Asked {
+    left: u32,
+    right: u32,
+}
+
+/// Tells whether a pair has to stay and is not there any more.
+fn is_lost(rel: &Rel, asked: Option<Asked>) -> bool
+    requires states { IfSome asked (λ pair. (pair.left < rel.now.size) × (pair.right < rel.now.size)) }
+    ensures { IsTrue result ↔ IsLost rel.now.pairs asked }
+{
+    match asked {
+        Some(pair) => !rel.get(pair.left, pair.right),
+        None => false,
+    }
+}
+
+/// Takes pairs away until each that is left has its round, and tells that; or until the pair that is asked for is lost. The three rows are
+/// room.
 fn settle<S: Side>(
     side: &S,
     automaton: &Auto,
     look: u32,
+    asked: Option<Asked>,
     rel: &mut Rel,
     scratch: &mut Scratch,
     marks: &mut [u64],
     changed: &mut [u64],
     spare: &mut [u64],
-)
+) -> bool
     requires valid { IsAutomaton automaton.now }
     requires look_from { 1 ≤ look }
     requires look_upto { look ≤ 6 }
+    requires asked_states { IfSome asked (λ pair. (pair.left < automaton.now.states) × (pair.right < automaton.now.states)) }
     requires equal { rel.old.size ≡ automaton.now.states }
     requires made { scratch.old ≡ record { states = automaton.now.states; look = look } }
     requires marks_len { length marks.old ≡ (automaton.now.states + 63) / 64 }
     requires changed_len { length changed.old ≡ (automaton.now.states + 63) / 64 }
     requires spare_len { length spare.old ≡ (automaton.now.states + 63) / 64 }
     ensures takes { TakesAway (S.goes side.now automaton.now) (S.keeps side.now automaton.now) look rel.old rel.new }
-    ensures rounds { (p : ℕ) → HasRounds (S.goes side.now automaton.now) (S.keeps side.now automaton.now) look rel.new p }
+    ensures rounds { result ≡ true → (p : ℕ) → HasRounds (S.goes side.now automaton.now) (S.keeps side.now automaton.now) look rel.new p }
+    ensures lost { result ≡ false → IsLost rel.new.pairs asked }
 {
     mark_below(marks, rel.size());
     'passes: while pass(side, automaton, look, marks, rel, scratch, changed) {
+        if is_lost(rel, asked) {
+            return false;
+        }
         near::mark_near(side, automaton, look, changed, marks, spare);
     }
+    true
 }
 
-/// The greatest relation at this lookahead, sought inside a relation that has each stable list inside. A row is tried again only if one
-/// that is reached from it within the lookahead has lost a pair.
+/// The greatest relation at this lookahead, sought inside a relation that has each stable list inside; or None, where a pair is asked for that no
+/// stable list has. A row is tried again only if one that is reached from it within the lookahead has lost a pair.
 fn greatest_within<S: Side>(
+    alloc: Global,
+    side: &S,
+    automaton: &Auto,
+    look: u32,
+    asked: Option<Asked>,
+    first: Rel,
+) -> Result<Option<Rel>, Memory>
+    requires look_from { 1 ≤ look }
+    requires look_upto { look ≤ 6 }
+    requires asked_states { IfSome asked (λ pair. (pair.left < automaton.now.states) × (pair.right < automaton.now.states)) }
+    requires size { first.size ≡ automaton.now.states }
+    requires stable { HasStable (S.goes side.now automaton.now) (S.keeps side.now automaton.now) look automaton.now.states first.pairs }
+    ensures size { IfOk result (λ found. IfSome found (λ r. r.size ≡ automaton.now.states)) }
+    ensures greatest { IfOk result (λ found. IfSome found (λ r. IsGreatest (S.goes side.now automaton.now) (S.goes side.now automaton.now) (S.keeps side.now automaton.now) look automaton.now.states automaton.now.states r.pairs)) }
+    ensures none { IfOk result (λ found. found ≡ None → IsNeverKept (S.goes side.now automaton.now) (S.keeps side.now automaton.now) look automaton.now.states asked) }
+{
+    if is_lost(&first, asked) {
+        return Ok(None);
+    }
+    let mut rel = first;
+    let mut scratch = Scratch::new(alloc, automaton, look)?;
+    let width = rows::words_for(automaton.states());
+    let mut marks = vec![in alloc; 0; width]?;
+    let mut changed = vec![in alloc; 0; width]?;
+    let mut spare = vec![in alloc; 0; width]?;
+    let is_settled = settle(
+        side,
+        automaton,
+        look,
+        asked,
+        &mut rel,
+        &mut scratch,
+        &mut marks,
+        &mut changed,
+        &mut spare,
+    );
+    if is_settled { Ok(Some(rel)) } else { Ok(None) }
+}
+
+/// The same where no pair is asked for.
+fn found<S: Side>(
     alloc: Global,
     side: &S,
     automaton: &Auto,
@@ -134,23 +202,10 @@ fn greatest_within<S: Side>(
     ensures size { IfOk result (λ r. r.size ≡ automaton.now.states) }
     ensures greatest { IfOk result (λ r. IsGreatest (S.goes side.now automaton.now) (S.goes side.now automaton.now) (S.keeps side.now automaton.now) look automaton.now.states automaton.now.states r.pairs) }
 {
-    let mut rel = first;
-    let mut scratch = Scratch::new(alloc, automaton, look)?;
-    let width = rows::words_for(automaton.states());
-    let mut marks = vec![in alloc; 0; width]?;
-    let mut changed = vec![in alloc; 0; width]?;
-    let mut spare = vec![in alloc; 0; width]?;
-    settle(
-        side,
-        automaton,
-        look,
-        &mut rel,
-        &mut scratch,
-        &mut marks,
-        &mut changed,
-        &mut spare,
-    );
-    Ok(rel)
+    match greatest_within(alloc, side, automaton, look, None, first)? {
+        Some(rel) => Ok(rel),
+        None => unreachable!(),
+    }
 }
 
 /// The greatest relation on the automaton's states each of whose pairs matches and has its round at this lookahead. It is sought
@@ -167,7 +222,43 @@ pub fn greatest<S: Side>(
     ensures greatest { IfOk result (λ r. IsGreatest (S.goes side.now automaton.now) (S.goes side.now automaton.now) (S.keeps side.now automaton.now) look automaton.now.states automaton.now.states r.pairs) }
 {
     let first = bound(alloc, side, automaton)?;
-    greatest_within(alloc, side, automaton, look, first)
+    found(alloc, side, automaton, look, first)
+}
+
+/// The greatest relation at this lookahead, if it has this pair, and None where no stable list has it: the search ends once the pair is lost.
+pub fn greatest_with<S: Side>(
+    alloc: Global,
+    side: &S,
+    automaton: &Auto,
+    look: u32,
+    left: u32,
+    right: u32,
+) -> Result<Option<Rel>, Memory>
+    requires look_from { 1 ≤ look }
+    requires look_upto { look ≤ 6 }
+    requires left { left < automaton.now.states }
+    requires right { right < automaton.now.states }
+    ensures size { IfOk result (λ found. IfSome found (λ r. r.size ≡ automaton.now.states)) }
+    ensures greatest { IfOk result (λ found. IfSome found (λ r. IsGreatest (S.goes side.now automaton.now) (S.goes side.now automaton.now) (S.keeps side.now automaton.now) look automaton.now.states automaton.now.states r.pairs)) }
+    ensures has { IfOk result (λ found. IfSome found (λ r. Holds r.pairs left right)) }
+    ensures lacks { IfOk result (λ found. found ≡ None → (T : List (ℕ × ℕ))
+        → ArePairsBelow automaton.now.states automaton.now.states T
+        → Stable (S.goes side.now automaton.now) (S.goes side.now automaton.now) (S.keeps side.now automaton.now) look (Holds T)
+        → Holds T left right
+        → ⊥) }
+{
+    let first = bound(alloc, side, automaton)?;
+    let asked = Asked { left, right };
+    match greatest_within(alloc, side, automaton, look, Some(asked), first)? {
+        Some(rel) => {
+            if rel.get(left, right) {
+                Ok(Some(rel))
+            } else {
+                Ok(None)
+            }
+        }
+        None => Ok(None),
+    }
 }
 
 /// The greatest relation at lookahead 1, sought inside the one at a larger lookahead: what is stable at lookahead 1 is stable at each.
@@ -187,5 +278,5 @@ pub fn greatest_near<S: Side>(
     if look == 1 {
         return Ok(far);
     }
-    greatest_within(alloc, side, automaton, 1, far)
+    found(alloc, side, automaton, 1, far)
 }

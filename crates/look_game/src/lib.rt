@@ -6,5 +6,5 @@ mod game;
 mod near;
 mod rounds;
 
-pub use game::{greatest, greatest_near};
+pub use game::{greatest, greatest_near, greatest_with};
 pub use rounds::greatest_by_rounds;

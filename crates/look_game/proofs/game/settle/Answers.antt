@@ -23,3 +23,8 @@ pub returns-clause-takes : goal.returns-clause-takes
 returns-clause-takes g c =
     takes_then (g.S.Side.goes c.args.side.now c.args.automaton.now) (g.S.Side.keeps c.args.side.now c.args.automaton.now) c.args.look c.args.rel.now c.passes.rel c.pass.new.rel c.passes.invariant.1
     c.pass.ensures.takes
+
+pub returns-then-is_lost-clause-takes : goal.returns-then-is_lost-clause-takes
+returns-then-is_lost-clause-takes g c =
+    takes_then (g.S.Side.goes c.args.side.now c.args.automaton.now) (g.S.Side.keeps c.args.side.now c.args.automaton.now) c.args.look c.args.rel.now c.passes.rel c.pass.new.rel c.passes.invariant.1
+    c.pass.ensures.takes

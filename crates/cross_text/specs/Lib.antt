@@ -1,0 +1,4 @@
+pub mod Grammar
+pub mod Law
+pub mod Reads
+pub mod Text
