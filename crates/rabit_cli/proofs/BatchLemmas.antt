@@ -30,11 +30,13 @@ use Rattle.rabit_frame.specs.Statuses.{status_number}
 use Rattle.rabit_frame.specs.Reading.{FileReads, IsOfKind, MayStopAt, CountsInTurn}
 use Rattle.rabit_frame.specs.Ending.{OfBoth, IsCutShort, Leaves, MayEnd, filed, status_of, status_unsent, WasSaid, SaysOnly}
 use Rattle.rabit_frame.specs.Carrying.{EndsSo, NoReply, IsCarriedOut, SaysEach}
-use Rattle.rabit_frame.proofs.EndLemmas.{own_number, may_plain, says_each, read_fault_of, read_line_of, memory_of}
+use Rattle.rabit_frame.proofs.EndLemmas.{own_number, may_plain, stop_plain, says_each, read_fault_of, read_line_of, memory_of}
 use Rattle.rabit_frame.proofs.TurnLemmas.{counts_here}
 use Rattle.rabit_cli.specs.Include.{usual_terms, LeavesDecided}
-use Rattle.rabit_cli.specs.Batch.{AreQuestions, AnswersQuestion, question_inputs, MeansQuestion, IsQuestionStatus, AreThere, LeaveInTurn, question_line, question_lines, times, RoseBy, IsCarriedEach, list_file, batch_inputs, IsUnreadStatus, IsUnread, IsBatch}
-use Rattle.rabit_cli.proofs.IncludeLemmas.{usual_bounded, one_include, include_low, leaves_include}
+use Rattle.rabit_cli.specs.Batch.{AreQuestions, AnswersQuestion, ShowsQuestion, question_inputs, MeansQuestion, IsQuestionStatus, AreThere, LeavesQuestion, LeaveInTurn, question_line, question_lines, times, RoseBy, IsCarriedEach, list_file, batch_inputs, IsUnreadStatus, IsUnread, IsBatch}
+use Rattle.rabit_words.specs.Question.{Batch}
+use Rattle.rabit_cli.specs.Complete.{AnswersBatch}
+use Rattle.rabit_cli.proofs.IncludeLemmas.{usual_bounded, one_include, include_low, leaves_include, shows_include}
 
 min_cases : (a b c : ℕ) → min a b ≤ c → (a ≤ c) ⊎ (b ≤ c)
 min_cases a b c low = elim (cases_lt b a) [
@@ -100,6 +102,16 @@ module _ (q : Question) (held held' : Option FileMap) (read read' put put' : ℕ
   pub leaves_question : OfBoth held held' (λ files files'. LeavesDecided files q.first q.second q.cert (usual_terms Buchi) (status_of e) put put' files')
   leaves_question =
       leaves_include held held' (status_of e) None (as_said e None 0).0 0 0 read read' put put' q.first q.second q.cert (usual_terms Buchi) (usual_bounded Buchi) e ends (as_said e None 0).1
+
+-- what a question's status up to 2 shows
+pub shows_question : (q : Question) (status : ℕ) (files files' : FileMap) → status ≤ 2 → LeavesQuestion q status files files' → ShowsQuestion q status files files'
+shows_question q status files files' low (ending.Reached r, (right, left), is) = elim right [
+  | inl stop ↦ (let four = (stop_plain files (question_inputs q) r stop).0 in absurd (omega arith))
+  | inr (values, reads, means) ↦ shows_include files q.first q.second q.cert (usual_terms Buchi) (usual_bounded Buchi) status files' None None r is left refl values reads means
+]
+shows_question q status files files' low (ending.ReadFault, left, is) = absurd (omega arith)
+shows_question q status files files' low (ending.WriteFault, left, is) = absurd (omega arith)
+shows_question q status files files' low (ending.OutOfMemory, left, is) = absurd (omega arith)
 
 -- ---- what is there stays there
 
@@ -168,6 +180,14 @@ rose_by status one more a b c rises stays rest = go (one == status) refl
     go true e = rose_more (2 ^ 64 - 1) (times status more) a b c (rises (eqb-true one status e)) rest
     go false e = subst (λ z. RoseBy (times status more) z c) (stays (λ is. false≢true (sym e ∙ eq-eqb one status is))) rest
 
+-- a count that the question left, and those after it, did not change
+stay_by : (status one : ℕ) (more : List ℕ) (a b c : ℕ) → ((one ≡ status → ⊥) → b ≡ a) → (times status more ≡ 0 → c ≡ b) → times status (one ∷ more) ≡ 0 → c ≡ a
+stay_by status one more a b c stays rest = go (one == status) refl
+  where
+    go : (t : Bool) → (one == status) ≡ t → (if t then 1 + times status more else times status more) ≡ 0 → c ≡ a
+    go true e none = absurd (omega (arith, none))
+    go false e none = rest none ∙ stays (λ is. false≢true (sym e ∙ eq-eqb one status is))
+
 -- ---- texts
 
 known_append : (sent : Option (List ℕ)) (a b : List ℕ) → append_known (append_known sent a) b ≡ append_known sent (a ++ b)
@@ -179,11 +199,14 @@ known_append (Some x) a b = ap Some (append_assoc x a b)
 pub each_none : (number : ℕ) (held held' : Option FileMap) (sent : Option (List ℕ)) (give read put missed : ℕ) → held' ≡ held → IsCarriedEach number [] held held' 0 sent sent give give read read put put missed missed
 each_none number held held' sent give read put missed stays = record {
   statuses = [];
+  within = omega arith;
   known = All-nil IsQuestionStatus;
   said = inl (refl, refl, known_nil sent, refl);
   in_turn = same held stays;
   read_faults_rose = rose_none read;
   put_faults_rose = rose_none put;
+  read_faults_stay = λ zero. refl;
+  put_faults_stay = λ zero. refl;
   missed_stays = none held;
 }
   where
@@ -206,6 +229,12 @@ module _ (q : Question) (number : ℕ) (held between : Option FileMap) (read rea
 
   put_more : (statuses : List ℕ) (put' : ℕ) → RoseBy (times 7 statuses) put1 put' → RoseBy (times 7 (status_of e ∷ statuses)) put put'
   put_more statuses put' rest = rose_by 7 (status_of e) statuses put put1 put' (λ is. ends.write_fault (ends_unwritten e is)) (λ other. ends.no_write_fault (λ is. other (ap status_of is))) rest
+
+  read_stay : (statuses : List ℕ) (read' : ℕ) → (times 6 statuses ≡ 0 → read' ≡ read1) → times 6 (status_of e ∷ statuses) ≡ 0 → read' ≡ read
+  read_stay statuses read' rest = stay_by 6 (status_of e) statuses read read1 read' (λ other. ends.no_read_fault (λ is. other (ap status_of is))) rest
+
+  put_stay : (statuses : List ℕ) (put' : ℕ) → (times 7 statuses ≡ 0 → put' ≡ put1) → times 7 (status_of e ∷ statuses) ≡ 0 → put' ≡ put
+  put_stay statuses put' rest = stay_by 7 (status_of e) statuses put put1 put' (λ other. ends.no_write_fault (λ is. other (ap status_of is))) rest
 
   turn_more : (questions : List Question) (statuses : List ℕ) (held' : Option FileMap) → OfBoth between held' (λ files files'. LeaveInTurn questions statuses files files') → OfBoth held held' (λ files files'. LeaveInTurn (q ∷ questions) (status_of e ∷ statuses) files files')
   turn_more questions statuses held' rest = go held ends.leaves
@@ -232,6 +261,7 @@ module _ (q : Question) (number : ℕ) (held between : Option FileMap) (read rea
       → IsCarriedEach number (q ∷ questions) held held' status sent sent' give give' read read' put put' missed missed'
   each_more questions held' status sent sent1 sent' give give1 give' read' put' missed' sends stays rest = record {
     statuses = status_of e ∷ rest.statuses;
+    within = (let few = rest.within in omega arith);
     known = All-cons IsQuestionStatus (status_of e) rest.statuses (question_status q e ends.may) rest.known;
     said = elim rest.said [
       | inl (zero, all, sends', stays') ↦ inl (zero, ap suc all, sends' ∙ ap (λ s. append_known s (question_lines (number + 1) rest.statuses)) sends ∙ known_append sent _ _, stays' ∙ stays)
@@ -241,6 +271,8 @@ module _ (q : Question) (number : ℕ) (held between : Option FileMap) (read rea
     in_turn = turn_more questions rest.statuses held' rest.in_turn;
     read_faults_rose = read_more rest.statuses read' rest.read_faults_rose;
     put_faults_rose = put_more rest.statuses put' rest.put_faults_rose;
+    read_faults_stay = read_stay rest.statuses read' rest.read_faults_stay;
+    put_faults_stay = put_stay rest.statuses put' rest.put_faults_stay;
     missed_stays = missed_more questions missed' rest.missed_stays;
   }
     where
@@ -257,11 +289,14 @@ module _ (q : Question) (number : ℕ) (held between : Option FileMap) (read rea
       → IsCarriedEach number (q ∷ questions) held between 7 sent sent' give give' read read1 put put1 missed missed1
   each_refused questions sent sent' give give' n sends rose = record {
     statuses = status_of e ∷ [];
+    within = omega arith;
     known = All-cons IsQuestionStatus (status_of e) [] (question_status q e ends.may) (All-nil IsQuestionStatus);
     said = inr (refl, rose, ([], status_of e, refl, (n, sends ∙ ap (λ m. append_known sent (take n (question_line m (status_of e)))) place)));
     in_turn = turn_more questions [] between (stay between);
     read_faults_rose = read_more [] read1 (rose_none read1);
     put_faults_rose = put_more [] put1 (rose_none put1);
+    read_faults_stay = read_stay [] read1 (λ zero. refl);
+    put_faults_stay = put_stay [] put1 (λ zero. refl);
     missed_stays = missed_more questions missed1 (none between);
   }
     where
@@ -306,10 +341,6 @@ unread_status list held held' status sent sent' give give' read read' put put' c
       | inr (values, kinds, none) ↦ absurd none
     ]
 
--- a list that was read was there
-pub read_is_there : (files : FileMap) (list : List ℕ) (v : Value) (before now : ℕ) → FileReads files (list_file list) v → CountsMissing (Some files) list before now → now ≡ before
-read_is_there files list v before now (bytes, has, few, reads) counts = counts ∙ ap (λ t. if t then before else counted before) (ap is_some has)
-
 -- ---- what the status of a batch says
 
 module _ (list : List ℕ) (held held' : Option FileMap) (status : ℕ) (sent sent' : Option (List ℕ)) (give give' read read' put put' missed missed' : ℕ)
@@ -320,6 +351,15 @@ module _ (list : List ℕ) (held held' : Option FileMap) (status : ℕ) (sent se
     | inl u ↦ unread u
     | inr asked ↦ elim asked.each.said [ inl said ↦ all said.0 | inr last ↦ refused last.0 last.1 ]
   ]
+
+  pub answers_batch : AnswersBatch (Batch list) status give give' read read'
+  answers_batch =
+      others (AnswersBatch (Batch list) status give give' read read')
+      (λ u. elim u.known [
+        | inl six ↦ inr (inr (inr (inl (six, read_fault_of NoReply (batch_inputs list) held held' status sent sent' give give' read read' put put' u.carried.end u.carried.ends u.carried.said six))))
+        | inr more ↦ elim more [ inl eight ↦ inr (inr (inl eight)) | inr eleven ↦ inr (inl eleven) ]
+      ])
+      (λ zero. inl zero) (λ seven rose. inr (inr (inr (inr rose))))
 
   pub no_usage : status ≡ 3 → ⊥
   no_usage three =
@@ -394,32 +434,41 @@ batch_unread list slot held held' status sent sent' give give' read read' put pu
       missing = counts_here held (list_file list) [] missed missed' (subst (λ (i : Input). CountsMissing held i.name missed missed') is counts);
     })
 
--- it is, and its questions are carried out
-pub batch_asked : (list : List ℕ) (slot : Input) (questions : List Question) (held between held' : Option FileMap) (status : ℕ) (sent sent' : Option (List ℕ)) (give give' read read1 read' put put1 put' missed missed1 missed' : ℕ)
-    → slot ≡ list_file list → IfSome held (λ files. FileReads files slot (value.Questions questions)) → CountsMissing held slot.name missed missed1 → between ≡ held → read1 ≡ read → put1 ≡ put
-    → IsCarriedEach 1 questions between held' status sent sent' give give' read1 read' put1 put' missed1 missed'
+-- the list was read, so its name was not missed
+read_is_held : (files : FileMap) (i : Input) (v : Value) (before now : ℕ) → FileReads files i v → CountsMissing (Some files) i.name before now → now ≡ before
+read_is_held files i v before now (bytes, has, few, reads) counts = counts ∙ go (map.contains_key files i.name) (ap is_some has)
+  where
+    go : (found : Bool) → found ≡ true → (if found then before else counted before) ≡ before
+    go true is = refl
+    go false is = absurd (false≢true is)
+
+-- the list is read, and its questions are carried out
+pub batch_asked : (list : List ℕ) (slot : Input) (held held1 held' : Option FileMap) (status : ℕ) (sent sent' : Option (List ℕ)) (give give' read read1 read' put put1 put' missed missed1 missed' : ℕ) (questions : List Question)
+    → slot ≡ list_file list → IsOfKind slot.kind (value.Questions questions) → IfSome held (λ files. FileReads files slot (value.Questions questions)) → CountsMissing held slot.name missed missed1
+    → held1 ≡ held → read1 ≡ read → put1 ≡ put
+    → IsCarriedEach 1 questions held1 held' status sent sent' give give' read1 read' put1 put' missed1 missed'
     → IsBatch list held held' status sent sent' give give' read read' put put' missed missed'
-batch_asked list slot questions held between held' status sent sent' give give' read read1 read' put put1 put' missed missed1 missed' is reads counts stays same_read same_put each =
-    let there = subst (λ (i : Input). IfSome held (λ files. FileReads files i (value.Questions questions))) is reads in
-    let counts' = subst (λ (i : Input). CountsMissing held i.name missed missed1) is counts in
-    let one = subst (λ (h : Option FileMap). IsCarriedEach 1 questions h held' status sent sent' give give' read1 read' put1 put' missed1 missed') stays each in
-    let two = subst (λ r. IsCarriedEach 1 questions held held' status sent sent' give give' r read' put1 put' missed1 missed') same_read one in
-    let three = subst (λ p. IsCarriedEach 1 questions held held' status sent sent' give give' read read' p put' missed1 missed') same_put two in
+batch_asked list slot held held1 held' status sent sent' give give' read read1 read' put put1 put' missed missed1 missed' questions is kind reads counts held_stays read_stays put_stays each =
+    let of = list_is_of_questions questions (subst (λ (i : Input). IsOfKind i.kind (value.Questions questions)) is kind) in
     inr (record {
       questions = questions;
-      read = there;
+      words = of.0;
+      few = of.1;
+      read = subst (λ (i : Input). IfSome held (λ files. FileReads files i (value.Questions questions))) is reads;
       each = record {
-        statuses = three.statuses;
-        known = three.known;
-        said = three.said;
-        in_turn = three.in_turn;
-        read_faults_rose = three.read_faults_rose;
-        put_faults_rose = three.put_faults_rose;
-        missed_stays = still held there counts' three.missed_stays;
+        statuses = each.statuses;
+        within = each.within;
+        known = each.known;
+        said = each.said;
+        in_turn = subst (λ (h : Option FileMap). OfBoth h held' (λ files files'. LeaveInTurn questions each.statuses files files')) held_stays each.in_turn;
+        read_faults_rose = subst (λ n. RoseBy (times 6 each.statuses) n read') read_stays each.read_faults_rose;
+        put_faults_rose = subst (λ n. RoseBy (times 7 each.statuses) n put') put_stays each.put_faults_rose;
+        read_faults_stay = λ none. each.read_faults_stay none ∙ read_stays;
+        put_faults_stay = λ none. each.put_faults_stay none ∙ put_stays;
+        missed_stays = stays held reads counts (subst (λ (h : Option FileMap). IfSome h (λ files. All (AreThere files) questions → missed' ≡ missed1)) held_stays each.missed_stays);
       };
     })
   where
-    still : (h : Option FileMap) → IfSome h (λ files. FileReads files (list_file list) (value.Questions questions)) → CountsMissing h list missed missed1
-        → IfSome h (λ files. All (AreThere files) questions → missed' ≡ missed1) → IfSome h (λ files. All (AreThere files) questions → missed' ≡ missed)
-    still None there c rest = tt
-    still (Some files) there c rest = λ all. rest all ∙ read_is_there files list (value.Questions questions) missed missed1 there c
+    stays : (h : Option FileMap) → IfSome h (λ files. FileReads files slot (value.Questions questions)) → CountsMissing h slot.name missed missed1 → IfSome h (λ files. All (AreThere files) questions → missed' ≡ missed1) → IfSome h (λ files. All (AreThere files) questions → missed' ≡ missed)
+    stays None reads counts later = tt
+    stays (Some files) reads counts later = λ there. later there ∙ read_is_held files slot (value.Questions questions) missed missed1 reads counts

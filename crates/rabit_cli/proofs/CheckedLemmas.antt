@@ -1,5 +1,6 @@
--- What `empty` and `universal` leave is right for a check.
-use Rattle.std.proofs.Common.{◌≡◌, ℕ, ◌^◌, ◌≤◌, List, [], ◌∷◌, length, inr, refl, sym, ◌∙◌, ap, arith}
+-- What `empty` and `universal` leave is right for a check, what `upgrade` leaves for that of the certificate, and what `cross` leaves for `cross-check`.
+use Rattle.std.proofs.Common.{◌≡◌, ◌↔◌, ℕ, ◌^◌, ◌≤◌, List, [], ◌∷◌, length, inl, inr, refl, sym, ◌∙◌, ap, subst, arith}
+use Rattle.std.specs.Prelude.{All}
 use Rattle.std.specs.FinMap as map
 use Rattle.shelf_io.specs.Shelf.{FileMap}
 use Rattle.auto_core.specs.declared.parts.Mode.{Mode}
@@ -14,23 +15,36 @@ use Rattle.cert_value.specs.declared.types.Cert.{Cert}
 use Rattle.cert_value.specs.declared.types.Body.{Body}
 use Rattle.cert_value.specs.declared.types.Body.TheVariants.{Yes, NoLasso, NoWord, Listing}
 use Rattle.cert_value.specs.Text.{text}
+use Rattle.cert_value.specs.WellFormed.{upgraded}
+use Rattle.cert_value.proofs.UpgradeLemmas.{text_up}
 use Rattle.cert_check.specs.Laws.{IsValid}
+use Rattle.cross_text.specs.Text.{cross_text}
+use Rattle.cross_sim.proofs.WrittenLemmas.{written_cross_keeps_rules}
 use Rattle.rabit_frame.specs.declared.parts.Value.TheVariants as value
 use Rattle.rabit_frame.specs.declared.parts.Status.TheVariants as status
 use Rattle.rabit_frame.specs.declared.parts.Reply.{Reply}
 use Rattle.rabit_frame.specs.Files.{Output}
-use Rattle.rabit_frame.specs.Reading.{FileReads, only_said}
+use Rattle.rabit_frame.specs.Reading.{FileReads, ReadInTurn, only_said}
+use Rattle.rabit_frame.specs.Statuses.{status_number}
+use Rattle.rabit_frame.specs.Ending.{IsReplyFor, filed}
+use Rattle.rabit_frame.proofs.EndLemmas.{stop_plain}
+use Rattle.rabit_frame.proofs.OneLemmas.{one_read_in_turn, stop_or_read_in_turn}
 use Rattle.rabit_words.specs.Question.{NamesDiffer}
 use Rattle.rabit_cli.specs.Printed.{included_text, not_included_text, word_not_included_text, limit_text}
-use Rattle.rabit_cli.specs.Files.{first_limits, second_limits, automaton_file, ReadsCertificate}
+use Rattle.rabit_cli.specs.Files.{first_limits, second_limits, automaton_file, certificate_file, ReadsCertificate}
 use Rattle.rabit_cli.specs.Replies.{IsVerdictReply}
 use Rattle.rabit_cli.specs.Property.{IsPropertyReply, property_puts}
 use Rattle.rabit_cli.specs.Empty.{empty_text, emptiness}
 use Rattle.rabit_cli.specs.Universal.{all_loops, universality}
-use Rattle.rabit_cli.specs.Laws.{EmptyIsChecked, UniversalIsChecked}
+use Rattle.rabit_cli.specs.Check.{check_inputs, Concludes, MeansCheck}
+use Rattle.rabit_cli.specs.Include.{pair_inputs, certificate_put}
+use Rattle.rabit_cli.specs.Upgrade.{upgrade_inputs}
+use Rattle.rabit_cli.specs.Cross.{cross_put, cross_check_inputs, MeansCrossCheck}
+use Rattle.rabit_cli.specs.Laws.{IsCheckReply, UpgradedFileIsChecked, CrossIsChecked, EmptyIsChecked, UniversalIsChecked}
+use Rattle.rabit_cli.proofs.UpgradeLemmas.{upgrade_checked}
 use Rattle.rabit_cli.proofs.EmptyLemmas.{empty_is_short}
 use Rattle.rabit_cli.proofs.UniversalLemmas.{universal_is_short, universal_has_no_fault}
-use Rattle.rabit_cli.proofs.LawLemmas.{written as put_there, other as put_elsewhere, reads_still}
+use Rattle.rabit_cli.proofs.LawLemmas.{written as put_there, other as put_elsewhere, reads_alike, stops_alike, reads_still}
 
 -- ---- the verdict of a check, beside what was found
 
@@ -94,3 +108,70 @@ universal_checked files a u c mode one other pair cert r apart is short says =
       ),
       answer.same,
     )
+
+-- ---- an upgrade
+
+-- where the automata's files hold the same, and the two certificates are checked alike, a check says the same
+check_over : (files files' : FileMap) (a b c c' : List ℕ) (cert cert' : Cert) → map.get files' a ≡ map.get files a → map.get files' b ≡ map.get files b → ReadsCertificate files c cert → ReadsCertificate files' c' cert'
+    → ((one two : Named) (s : Reply) → MeansCheck (value.Automaton one ∷ value.Automaton two ∷ value.Certificate cert ∷ []) s → MeansCheck (value.Automaton one ∷ value.Automaton two ∷ value.Certificate cert' ∷ []) s)
+    → (s : Reply) → IsCheckReply files a b c s → IsCheckReply files' a b c' s
+check_over files files' a b c c' cert cert' same_a same_b reads reads' alike s right = elim right [
+  | inl stop ↦ elim stop [
+    | inl first ↦ inl (inl (stops_alike files files' (automaton_file 1 first_limits a) s same_a first))
+    | inr (v, read, later) ↦ elim later [
+      | inl second ↦ inl (inr (v, reads_alike files files' (automaton_file 1 first_limits a) v same_a read, inl (stops_alike files files' (automaton_file 2 second_limits b) s same_b second)))
+      | inr (w, read', last) ↦ absurd (stop_or_read_in_turn files (certificate_file c ∷ []) s (value.Certificate cert ∷ []) last (reads, tt))
+    ]
+  ]
+  | inr (values, in_turn, (one, two, found, is, (pair, joined, says))) ↦
+      let (first, (second, (third, end))) = subst (ReadInTurn files (check_inputs a b c)) is in_turn in
+      let all = one_read_in_turn files (certificate_file c ∷ []) (value.Certificate found ∷ []) (value.Certificate cert ∷ []) (third, tt) (reads, tt) in
+      let same : found ≡ cert = cc in
+      inr (
+        value.Automaton one ∷ value.Automaton two ∷ value.Certificate cert' ∷ [],
+        (reads_alike files files' (automaton_file 1 first_limits a) (value.Automaton one) same_a first, (reads_alike files files' (automaton_file 2 second_limits b) (value.Automaton two) same_b second, (reads', tt))),
+        alike one two s (one, two, cert, refl, (pair, joined, subst (λ z. Concludes pair z s) same says)),
+      )
+]
+
+pub upgraded_file_checked : UpgradedFileIsChecked
+upgraded_file_checked files a b c out r s not_a not_b right zero short = elim right [
+  | inl stop ↦ let high = (stop_plain files (upgrade_inputs c) r stop).0 in absurd (omega (arith, high, zero))
+  | inr (values, in_turn, (cert, is, e)) ↦
+      let (reads, end) = subst (ReadInTurn files (upgrade_inputs c)) is in_turn in
+      let puts : r.puts ≡ certificate_put out (upgraded cert) ∷ [] = ap (λ z. z.puts) e in
+      let few : length (text (upgraded cert)) ≤ 2 ^ 30 = subst (All (λ (put : Output). length put.bytes ≤ 2 ^ 30)) puts short 0 (certificate_put out (upgraded cert)) (omega arith) in
+      let after : FileMap = map.insert files out (text (upgraded cert)) in
+      let same_a = put_elsewhere files out (text (upgraded cert)) a not_a in
+      let same_b = put_elsewhere files out (text (upgraded cert)) b not_b in
+      let reads' : ReadsCertificate after out (upgraded cert) = (text (upgraded cert), put_there files out (text (upgraded cert)), few, (text_up cert reads.3.0, refl)) in
+      subst (λ ps. IsCheckReply files a b c s ↔ IsCheckReply (filed files ps) a b out s) (sym puts) (
+        check_over files after a b c out cert (upgraded cert) same_a same_b reads reads' (λ one two t. (upgrade_checked one two cert t).0) s,
+        check_over after files a b out c (upgraded cert) cert (sym same_a) (sym same_b) reads' reads (λ one two t. (upgrade_checked one two cert t).1) s,
+      )
+]
+
+-- ---- a cross relation
+
+pub cross_checked : CrossIsChecked
+cross_checked files a b out look r not_a not_b from upto right zero short = elim right [
+  | inl stop ↦ let high = (stop_plain files (pair_inputs a b) r stop).0 in absurd (omega (arith, high, zero))
+  | inr (values, in_turn, (one, two, is, (pair, joined, (cross, of, says)))) ↦ elim says [
+    | inr (lacks, e) ↦ absurd (let ten = ap (λ z. status_number z.status) e in omega arith)
+    | inl (has, e) ↦
+        let (first, (second, end)) = subst (ReadInTurn files (pair_inputs a b)) is in_turn in
+        let few : length (cross_text cross) ≤ 2 ^ 30 = subst (All (λ (put : Output). length put.bytes ≤ 2 ^ 30)) (ap (λ z. z.puts) e) short 0 (cross_put out cross) (omega arith) in
+        subst (λ z. IsReplyFor MeansCrossCheck (cross_check_inputs a b out) (filed files z.puts) (only_said z.status z.text)) (sym e)
+        (inr (
+          value.Automaton one ∷ value.Automaton two ∷ value.Cross cross ∷ [],
+          (
+            reads_still files out (cross_text cross) (automaton_file 1 first_limits a) (value.Automaton one) not_a first,
+            (
+              reads_still files out (cross_text cross) (automaton_file 2 second_limits b) (value.Automaton two) not_b second,
+              ((cross_text cross, put_there files out (cross_text cross), few, (of.formed, refl)), tt),
+            ),
+          ),
+          (one, two, cross, refl, (pair, joined, inr (written_cross_keeps_rules pair look cross from upto of has, refl))),
+        ))
+  ]
+]

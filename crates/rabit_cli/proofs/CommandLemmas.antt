@@ -12,7 +12,7 @@ use Rattle.rabit_frame.specs.Carrying.{EndsSo, IsCarriedOut, ShowsResult}
 use Rattle.rabit_frame.proofs.EndLemmas.{may_plain, same_status, own_status, both_same, no_inputs, no_puts, no_puts_stay}
 use Rattle.std.specs.Prelude.{option_map}
 use Rattle.rabit_words.specs.declared.parts.Question.{Question as Held}
-use Rattle.rabit_words.specs.Question.{Question, Include, Check, Reduce, Drill, Upgrade, Equal, Batch, Union, Intersect, Shrink, Empty, Universal, IsProper, told, question_of}
+use Rattle.rabit_words.specs.Question.{Question, Include, Check, Reduce, Drill, Upgrade, Cross, CrossCheck, Equal, Batch, Union, Intersect, Shrink, Empty, Universal, IsProper, told, question_of}
 use Rattle.drawing.specs.declared.parts.Drill.{Drill as Drawing}
 use Rattle.drawing.specs.Drawn.{IsInBounds}
 use Rattle.rabit_cli.specs.Commands.{Batches, inputs_of, outputs_of, Means, Shows, Drills, LeavesFiles, SaysUsage}
@@ -20,7 +20,9 @@ use Rattle.auto_core.specs.declared.parts.Mode.{Mode}
 use Rattle.decide.specs.Terms.{AreBounded}
 use Rattle.rabit_cli.specs.Include.{asked_terms}
 use Rattle.rabit_cli.specs.Reduce.{asked_sight}
-use Rattle.rabit_cli.proofs.BatchLemmas.{unread_status}
+use Rattle.rabit_cli.proofs.CrossLemmas.{one_cross, cross_number, shows_cross, leaves_cross, one_cross_check, cross_check_puts, cross_check_number, shows_cross_check}
+use Rattle.rabit_cli.proofs.BatchLemmas.{unread_status, answers_batch}
+use Rattle.rabit_cli.specs.Complete.{AnswersBatch}
 use Rattle.rabit_cli.proofs.CheckLemmas.{one_check, check_puts, check_asked, shows_check}
 use Rattle.rabit_cli.proofs.IncludeLemmas.{one_include, include_asked, shows_include, leaves_include}
 use Rattle.rabit_cli.proofs.ReduceLemmas.{one_reduce, reduce_puts, reduce_asked, shows_reduce}
@@ -63,6 +65,8 @@ one_meaning (Some (Include a b c m look limit letters)) range values r s kinds p
 one_meaning (Some (Reduce a m look letters)) range values r s kinds p q = one_reduce a m (asked_sight look letters) range.0 values r s kinds p q
 one_meaning (Some (Drill seed states labels)) range values r s kinds p q = one_drill (drawing seed states labels) values r s p q
 one_meaning (Some (Upgrade c out)) range values r s kinds p q = one_upgrade out values r s p q
+one_meaning (Some (Cross a b out look)) range values r s kinds p q = one_cross out look values r s p q
+one_meaning (Some (CrossCheck a b f)) range values r s kinds p q = one_cross_check values r s p q
 one_meaning (Some (Equal a b c d)) range values r s kinds p q = one_equal c d values r s p q
 one_meaning (Some (Batch l)) range values r s kinds p q = absurd p
 one_meaning (Some (Union a b m)) range values r s kinds p q = one_union m values r s p q
@@ -78,6 +82,8 @@ no_outputs (Some (Include a b c m look limit letters)) none values r p = absurd 
 no_outputs (Some (Reduce a m look letters)) none values r p = reduce_puts m (asked_sight look letters) values r p
 no_outputs (Some (Drill seed states labels)) none values r p = drill_puts (drawing seed states labels) values r p
 no_outputs (Some (Upgrade c out)) none values r p = absurd (let f = none in cc)
+no_outputs (Some (Cross a b out look)) none values r p = absurd (let f = none in cc)
+no_outputs (Some (CrossCheck a b f)) none values r p = cross_check_puts values r p
 no_outputs (Some (Equal a b c d)) none values r p = absurd (let f = none in cc)
 no_outputs (Some (Batch l)) none values r p = absurd p
 no_outputs (Some (Union a b m)) none values r p = union_puts m values r p
@@ -93,6 +99,8 @@ usage_alone (Some (Include a b c m look limit letters)) values r p three = absur
 usage_alone (Some (Reduce a m look letters)) values r p three = absurd (reduce_asked m (asked_sight look letters) values r p three)
 usage_alone (Some (Drill seed states labels)) values r p three = absurd (drill_asked (drawing seed states labels) values r p three)
 usage_alone (Some (Upgrade c out)) values r p three = absurd (let zero = upgrade_number out values r p in omega arith)
+usage_alone (Some (Cross a b out look)) values r p three = absurd (elim (cross_number out look values r p) [ inl zero ↦ omega arith | inr ten ↦ omega arith ])
+usage_alone (Some (CrossCheck a b f)) values r p three = absurd (elim (cross_check_number values r p) [ inl zero ↦ omega arith | inr five ↦ omega arith ])
 usage_alone (Some (Equal a b c d)) values r p three = absurd (equal_asked c d values r p three)
 usage_alone (Some (Batch l)) values r p three = absurd p
 usage_alone (Some (Union a b m)) values r p three = absurd (elim (union_number m values r p) [ inl zero ↦ omega arith | inr twelve ↦ omega arith ])
@@ -111,6 +119,8 @@ module _ (status : ℕ) (sent sent' : Option (List ℕ)) where
   shows (Some (Drill seed states labels)) range low files files' (r, values, reads, p, number, left, sends) =
       shows_drill (drawing seed states labels) status sent sent' r (in_bounds seed states labels range) number sends values p
   shows (Some (Upgrade c out)) range low files files' (r, values, reads, p, number, left, sends) = shows_upgrade files c out status files' sent sent' r number left sends values reads p
+  shows (Some (Cross a b out look)) range low files files' (r, values, reads, p, number, left, sends) = shows_cross files a b out look status files' sent sent' r range.0 range.1 number left sends values reads p
+  shows (Some (CrossCheck a b f)) range low files files' (r, values, reads, p, number, left, sends) = shows_cross_check files a b f status sent sent' r number sends values reads p
   shows (Some (Equal a b c d)) range low files files' (r, values, reads, p, number, left, sends) = shows_equal files a b c d status files' sent sent' r number left sends values reads p
   shows (Some (Batch l)) range low files files' (r, values, reads, p, number, left, sends) = absurd p
   shows (Some (Union a b m)) range low files files' (r, values, reads, p, number, left, sends) = shows_union files a b m status sent sent' r number sends values reads p
@@ -164,6 +174,8 @@ module _ (held held' : Option FileMap) (status : ℕ) (sent sent' : Option (List
   drills (Some (Include a b d m look limit letters)) range c = tt
   drills (Some (Reduce a m look letters)) range c = tt
   drills (Some (Upgrade d out)) range c = tt
+  drills (Some (Cross a b out look)) range c = tt
+  drills (Some (CrossCheck a b f)) range c = tt
   drills (Some (Equal a b d out)) range c = tt
   drills (Some (Batch l)) range c = tt
   drills (Some (Union a b m)) range c = tt
@@ -193,6 +205,8 @@ module _ (held held' : Option FileMap) (status : ℕ) (sent sent' : Option (List
   leaves (Some (Reduce a m look letters)) range c = stays_with (Some (Reduce a m look letters)) c refl
   leaves (Some (Drill seed states labels)) range c = stays_with (Some (Drill seed states labels)) c refl
   leaves (Some (Upgrade d out)) range c = leaves_upgrade held held' status sent sent' sink sink' faults faults' puts puts' d out c.end c.ends c.said
+  leaves (Some (Cross a b out look)) range c = leaves_cross held held' status sent sent' sink sink' faults faults' puts puts' a b out look c.end c.ends c.said
+  leaves (Some (CrossCheck a b f)) range c = stays_with (Some (CrossCheck a b f)) c refl
   leaves (Some (Equal a b d out)) range c = leaves_equal held held' status sent sent' sink sink' faults faults' puts puts' a b d out c.end c.ends c.said
   leaves (Some (Batch l)) range c = stays_with (Some (Batch l)) c refl
   leaves (Some (Union a b m)) range c = stays_with (Some (Union a b m)) c refl
@@ -212,9 +226,29 @@ module _ (held held' : Option FileMap) (status : ℕ) (sent sent' : Option (List
   batches (Some (Reduce a m look letters)) c missed missed' missing = tt
   batches (Some (Drill seed states labels)) c missed missed' missing = tt
   batches (Some (Upgrade d out)) c missed missed' missing = tt
+  batches (Some (Cross a b out look)) c missed missed' missing = tt
+  batches (Some (CrossCheck a b f)) c missed missed' missing = tt
   batches (Some (Equal a b d out)) c missed missed' missing = tt
   batches (Some (Union a b m)) c missed missed' missing = tt
   batches (Some (Intersect a b m)) c missed missed' missing = tt
   batches (Some (Shrink a b d out)) c missed missed' missing = tt
   batches (Some (Empty a e d m)) c missed missed' missing = tt
   batches (Some (Universal a u d m)) c missed missed' missing = tt
+
+  -- and its status
+  pub answers_batches : (q : Option Question) → Carried q → (missed missed' : ℕ) → IfSome held (λ files. CountsInTurn files (inputs_of q) missed missed') → IfSome q (λ asked. AnswersBatch asked status sink sink' faults faults')
+  answers_batches (Some (Batch l)) c missed missed' missing = answers_batch l held held' status sent sent' sink sink' faults faults' puts puts' missed missed' (batches (Some (Batch l)) c missed missed' missing)
+  answers_batches None c missed missed' missing = tt
+  answers_batches (Some (Check a b d)) c missed missed' missing = tt
+  answers_batches (Some (Include a b d m look limit letters)) c missed missed' missing = tt
+  answers_batches (Some (Reduce a m look letters)) c missed missed' missing = tt
+  answers_batches (Some (Drill seed states labels)) c missed missed' missing = tt
+  answers_batches (Some (Upgrade d out)) c missed missed' missing = tt
+  answers_batches (Some (Cross a b out look)) c missed missed' missing = tt
+  answers_batches (Some (CrossCheck a b f)) c missed missed' missing = tt
+  answers_batches (Some (Equal a b d out)) c missed missed' missing = tt
+  answers_batches (Some (Union a b m)) c missed missed' missing = tt
+  answers_batches (Some (Intersect a b m)) c missed missed' missing = tt
+  answers_batches (Some (Shrink a b d out)) c missed missed' missing = tt
+  answers_batches (Some (Empty a e d m)) c missed missed' missing = tt
+  answers_batches (Some (Universal a u d m)) c missed missed' missing = tt

@@ -11,6 +11,7 @@ use Rattle.ba_format.proofs.LawLemmas.{joins_as_one}
 use Rattle.cert_value.specs.declared.types.Cert.{Cert}
 use Rattle.cert_value.specs.declared.types.Body.{Body}
 use Rattle.cert_value.specs.declared.types.Body.TheVariants.{Yes, NoLasso, NoWord, Listing}
+use Rattle.cert_value.specs.declared.types.Answer.TheVariants as an_answer
 use Rattle.cert_value.specs.Text.{answer_of}
 use Rattle.decide.specs.Answer.{IsAnswer}
 use Rattle.decide.specs.Laws.{SaysTruth}
@@ -32,7 +33,7 @@ use Rattle.rabit_frame.proofs.EndLemmas.{leaves_by_status}
 use Rattle.rabit_cli.specs.Files.{second_limits, automaton_file}
 use Rattle.rabit_cli.specs.Include.{usual_terms, IsCertForWithin}
 use Rattle.rabit_cli.specs.Shrink.{IsNo}
-use Rattle.rabit_cli.specs.Equal.{equal_inputs, first_apart_reply, both_reply, both_puts, IsEqualReply, MeansEqual, AreCertsFor, AreEqualPuts, HoldsEqual, HoldsEqualPart, LeavesEqual, Separates, IsList, ShowsEqual}
+use Rattle.rabit_cli.specs.Equal.{equal_inputs, first_apart_reply, both_reply, both_puts, IsEqualReply, MeansEqual, AreCertsFor, AreEqualPuts, HoldsEqual, HoldsEqualPart, LeavesEqual, Separates, IsListBody, ShowsEqual}
 use Rattle.rabit_cli.proofs.IncludeLemmas.{usual_bounded, cert_for_within}
 use Rattle.rabit_cli.proofs.PairLemmas.{within_first}
 
@@ -174,8 +175,8 @@ module _ (files : FileMap) (a b c d : List ℕ) where
         held_by : (said : Both) → r ≡ reply_by said → files' ≡ filed files (both_puts c d cert other)
         held_by said e = left ∙ ap (λ z. filed files z.puts) e ∙ ap (filed files) (puts_of_both said converse.labels other.body (both_puts c d cert other))
 
-        shows_equal_now : r ≡ reply_by both.Equal → Includes pair.first pair.second Buchi → Includes converse.first converse.second Buchi → ShowsEqual files a b c d status files' sent sent'
-        shows_equal_now e forth back =
+        shows_equal_now : r ≡ reply_by both.Equal → answer_of cert.body ≡ an_answer.Yes → answer_of other.body ≡ an_answer.Yes → Includes pair.first pair.second Buchi → Includes converse.first converse.second Buchi → ShowsEqual files a b c d status files' sent sent'
+        shows_equal_now e accepts converse_accepts forth back =
             let zero : status ≡ 0 = sym number ∙ ap (λ z. status_number z.status) e in
             record {
               equal = λ f. record {
@@ -184,6 +185,8 @@ module _ (files : FileMap) (a b c d : List ℕ) where
                 cert = cert;
                 other = other;
                 certs = certs;
+                says_yes = accepts;
+                other_says_yes = converse_accepts;
                 same = same_by converse turned forth back;
                 held = held_by both.Equal e;
                 printed = sends ∙ ap (λ z. append_known sent z.text) e;
@@ -211,7 +214,7 @@ module _ (files : FileMap) (a b c d : List ℕ) where
               listed = λ f. absurd (omega arith);
             }
 
-        shows_limit : r ≡ reply_by both.Limit → ¬ IsNo other.body → IsList cert.body ⊎ IsList other.body → ShowsEqual files a b c d status files' sent sent'
+        shows_limit : r ≡ reply_by both.Limit → ¬ IsNo other.body → IsListBody cert.body ⊎ IsListBody other.body → ShowsEqual files a b c d status files' sent sent'
         shows_limit e not' lists =
             let two : status ≡ 2 = sym number ∙ ap (λ z. status_number z.status) e in
             record {
@@ -235,14 +238,14 @@ module _ (files : FileMap) (a b c d : List ℕ) where
         by_bodies (NoLasso l) y is_x is_y e = absurd (not (subst IsNo (sym is_x) tt))
         by_bodies (NoWord w) y is_x is_y e = absurd (not (subst IsNo (sym is_x) tt))
         by_bodies (Yes p) (Yes q) is_x is_y e =
-            shows_equal_now e (subst (SaysTruth pair (usual_terms Buchi)) is_x certs.first.truth).0 (subst (SaysTruth converse (usual_terms Buchi)) is_y certs.second.truth).0
+            shows_equal_now e (ap answer_of is_x) (ap answer_of is_y) (subst (SaysTruth pair (usual_terms Buchi)) is_x certs.first.truth).0 (subst (SaysTruth converse (usual_terms Buchi)) is_y certs.second.truth).0
         by_bodies (Yes p) (NoLasso l) is_x is_y e = shows_second e (subst IsNo (sym is_y) tt)
         by_bodies (Yes p) (NoWord w) is_x is_y e = shows_second e (subst IsNo (sym is_y) tt)
-        by_bodies (Yes p) (Listing l) is_x is_y e = shows_limit e (λ h. subst IsNo is_y h) (inr (subst IsList (sym is_y) tt))
+        by_bodies (Yes p) (Listing l) is_x is_y e = shows_limit e (λ h. subst IsNo is_y h) (inr (subst IsListBody (sym is_y) tt))
         by_bodies (Listing l) (NoLasso m) is_x is_y e = shows_second e (subst IsNo (sym is_y) tt)
         by_bodies (Listing l) (NoWord w) is_x is_y e = shows_second e (subst IsNo (sym is_y) tt)
-        by_bodies (Listing l) (Yes q) is_x is_y e = shows_limit e (λ h. subst IsNo is_y h) (inl (subst IsList (sym is_x) tt))
-        by_bodies (Listing l) (Listing m) is_x is_y e = shows_limit e (λ h. subst IsNo is_y h) (inl (subst IsList (sym is_x) tt))
+        by_bodies (Listing l) (Yes q) is_x is_y e = shows_limit e (λ h. subst IsNo is_y h) (inl (subst IsListBody (sym is_x) tt))
+        by_bodies (Listing l) (Listing m) is_x is_y e = shows_limit e (λ h. subst IsNo is_y h) (inl (subst IsListBody (sym is_x) tt))
 
       shows_of : IsEqualReply c d one two pair r → ShowsEqual files a b c d status files' sent sent'
       shows_of (cert, answer, says) = elim says [

@@ -25,7 +25,7 @@ use Rattle.rabit_frame.specs.declared.parts.Value.{Value}
 use Rattle.rabit_frame.specs.declared.parts.Value.TheVariants as value
 use Rattle.rabit_frame.specs.declared.parts.Reply.{Reply}
 use Rattle.rabit_frame.specs.Files.{Input, Output}
-use Rattle.rabit_frame.specs.Reading.{only_said, FileReads}
+use Rattle.rabit_frame.specs.Reading.{only_said, FileReads, FileStops}
 use Rattle.rabit_cli.specs.Files.{first_limits, second_limits, automaton_file}
 use Rattle.rabit_frame.proofs.OneLemmas.{one_read_in_turn, stop_or_read_in_turn}
 use Rattle.rabit_cli.specs.Replies.{IsVerdictReply}
@@ -35,6 +35,13 @@ use Rattle.rabit_cli.proofs.IncludeLemmas.{cert_for, reads_cert}
 use Rattle.rabit_cli.proofs.VerdictLemmas.{puts_of_verdict}
 use Rattle.rabit_frame.specs.Ending.{filed}
 use Rattle.rabit_frame.proofs.EndLemmas.{stop_plain}
+
+-- what a file is read as goes by its bytes
+pub reads_alike : (files files' : FileMap) (input : Input) (v : Value) → map.get files' input.name ≡ map.get files input.name → FileReads files input v → FileReads files' input v
+reads_alike files files' input v same (b, has, few, reads) = (b, same ∙ has, few, reads)
+
+pub stops_alike : (files files' : FileMap) (input : Input) (r : Reply) → map.get files' input.name ≡ map.get files input.name → FileStops files input r → FileStops files' input r
+stops_alike files files' input r same (b, has, why) = (b, same ∙ has, why)
 
 -- what the written name holds, and what the others do
 module _ (files : FileMap) (c bytes : List ℕ) where
@@ -50,7 +57,7 @@ module _ (files : FileMap) (c bytes : List ℕ) where
       ∙ ap (λ b. cond b (Some bytes) (map.get files name)) (false_from_ne_true (bytes_eq name c) (λ t. differ (sym ((bytes_eq-Decides name c).0 t))))
 
   pub reads_still : (input : Input) (v : Value) → (c ≡ input.name → ⊥) → FileReads files input v → FileReads (map.insert files c bytes) input v
-  reads_still input v differ (b, has, few, reads) = (b, other input.name differ ∙ has, few, reads)
+  reads_still input v differ = reads_alike files (map.insert files c bytes) input v (other input.name differ)
 
 -- the verdict without the files that are written
 said_alone : (m : Mode) (pair : Joined) (body : Body) (puts : List Output) (r : Reply) → IsVerdictReply m pair body puts r → IsVerdictReply m pair body [] (only_said r.status r.text)

@@ -9,6 +9,7 @@ pub mod DrillLemmas
 pub mod CombineLemmas
 pub mod ShrinkLemmas
 pub mod UpgradeLemmas
+pub mod CrossLemmas
 pub mod EqualLemmas
 pub mod OwnLemmas
 pub mod PropertyLemmas

@@ -21,7 +21,7 @@ use Rattle.cert_value.specs.WellFormed.{WellFormed, is_version, is_short, are_sh
 use Rattle.cert_check.specs.Rules.{KeepsRules, BodyHolds}
 use Rattle.cert_check.specs.Laws.{IsValid}
 use Rattle.cert_check.proofs.RuleLemmas.{one_rule, none_kept}
-use Rattle.decide.proofs.RowLemmas.{all_short}
+use Rattle.relation_rows.proofs.RowLemmas.{all_short}
 use Rattle.lasso_shrink.specs.Shrinking.{word_without, letters_of, lasso_without, IsShrunkLasso, IsShrunkWord}
 use Rattle.lasso_shrink.specs.Shrinking as shrinking
 use Rattle.lasso_shrink.proofs.LawLemmas.{shrunk_lasso_is_one, shrunk_word_is_one, shrunk_lasso_has_its_letters, shrunk_word_has_its_letters}

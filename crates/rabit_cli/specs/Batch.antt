@@ -1,5 +1,5 @@
 -- `batch LIST`: the questions of a list are carried out one after the other, and a line is said of each.
-use Rattle.std.specs.Prelude.{◌≡◌, ℕ, ◌+◌, ◌-◌, ◌^◌, ◌≤◌, ◌==◌, ◌⊎◌, min, List, [], ◌∷◌, ◌++◌, length, take, map, All, Option, Some, IfSome, true, decimal, if◌then◌else◌}
+use Rattle.std.specs.Prelude.{◌≡◌, ℕ, ◌+◌, ◌-◌, ◌^◌, ◌≤◌, ◌==◌, ◌⊎◌, min, List, [], ◌∷◌, ◌++◌, length, take, map, All, Option, Some, None, IfSome, true, decimal, if◌then◌else◌}
 use Rattle.std.specs.FinMap as files
 use Rattle.std.specs.List.{list_all}
 use Rattle.std.specs.Io.KnownBytes.{append_known}
@@ -19,7 +19,7 @@ use Rattle.rabit_frame.specs.Statuses.{status_number}
 use Rattle.rabit_frame.specs.Reading.{FileReads, CountsInTurn}
 use Rattle.rabit_frame.specs.Ending.{IsReplyFor, OfBoth, Leaves, filed, status_of}
 use Rattle.rabit_frame.specs.Carrying.{NoReply, IsCarriedOut}
-use Rattle.rabit_cli.specs.Include.{usual_terms, pair_inputs, MeansInclude}
+use Rattle.rabit_cli.specs.Include.{usual_terms, pair_inputs, MeansInclude, ShowsInclude}
 
 -- ---- one question
 
@@ -48,6 +48,10 @@ AnswersQuestion q files held' status read_faults read_faults' put_faults put_fau
     ⊎ Rose read_faults read_faults'
     ⊎ Rose put_faults put_faults'
     ⊎ (status ≡ 8)
+
+-- What a status up to 2 of a question shows: what the same status of `include` does, with nothing printed.
+abbrev pub ShowsQuestion : Question → ℕ → FileMap → FileMap → Type 0
+ShowsQuestion q status files files' = ShowsInclude files q.first q.second q.cert (usual_terms Buchi) status files' None None
 
 -- The files of its automata are there.
 abbrev pub AreThere : FileMap → Question → Type 0
@@ -103,13 +107,17 @@ abbrev pub RoseBy : ℕ → ℕ → ℕ → Type 0
 RoseBy n before now = min (before + n) (2 ^ 64 - 1) ≤ now
 
 -- The questions were carried out one after the other, the first with this number, until all were or the sink refused a line.
+-- The count of failed reads rose once at least for each status 6, and did not change where there is none; so did that of failed puts for 7.
 pub record IsCarriedEach (number : ℕ) (questions : List Question) (held held' : Option FileMap) (status : ℕ) (sent sent' : Option (List ℕ)) (give_faults give_faults' read_faults read_faults' put_faults put_faults' missed missed' : ℕ) : Type 0 where
   pub statuses : List ℕ
+  pub within : length statuses ≤ length questions
   pub known : All IsQuestionStatus statuses
   pub said : AllSaid number questions statuses status sent sent' give_faults give_faults' ⊎ LastRefused number statuses status sent sent' give_faults give_faults'
   pub in_turn : OfBoth held held' (λ files files'. LeaveInTurn questions statuses files files')
   pub read_faults_rose : RoseBy (times 6 statuses) read_faults read_faults'
   pub put_faults_rose : RoseBy (times 7 statuses) put_faults put_faults'
+  pub read_faults_stay : times 6 statuses ≡ 0 → read_faults' ≡ read_faults
+  pub put_faults_stay : times 7 statuses ≡ 0 → put_faults' ≡ put_faults
   pub missed_stays : IfSome held (λ files. All (AreThere files) questions → missed' ≡ missed)
 
 -- ---- the whole batch
@@ -135,6 +143,8 @@ pub record IsUnread (list : List ℕ) (held held' : Option FileMap) (status : �
 -- The list was read, and its questions were carried out from the first on.
 pub record AreAsked (list : List ℕ) (held held' : Option FileMap) (status : ℕ) (sent sent' : Option (List ℕ)) (give_faults give_faults' read_faults read_faults' put_faults put_faults' missed missed' : ℕ) : Type 0 where
   pub questions : List Question
+  pub words : AreQuestions questions
+  pub few : length questions ≤ 1000
   pub read : IfSome held (λ files. FileReads files (list_file list) (value.Questions questions))
   pub each : IsCarriedEach 1 questions held held' status sent sent' give_faults give_faults' read_faults read_faults' put_faults put_faults' missed missed'
 

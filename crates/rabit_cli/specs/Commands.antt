@@ -7,7 +7,7 @@ use Rattle.rabit_frame.specs.Files.{Input}
 use Rattle.rabit_frame.specs.Lines.{memory_line}
 use Rattle.rabit_frame.specs.Ending.{SaysOnly}
 use Rattle.rabit_frame.specs.Carrying.{NoReply}
-use Rattle.rabit_words.specs.Question.{Question, Include, Check, Reduce, Drill, Upgrade, Equal, Batch, Union, Intersect, Shrink, Empty, Universal}
+use Rattle.rabit_words.specs.Question.{Question, Include, Check, Reduce, Drill, Upgrade, Cross, CrossCheck, Equal, Batch, Union, Intersect, Shrink, Empty, Universal}
 use Rattle.rabit_cli.specs.Printed.{usage_text}
 use Rattle.rabit_cli.specs.Replies.{usage_reply}
 use Rattle.rabit_cli.specs.Check.{check_inputs, MeansCheck, ShowsCheck}
@@ -16,6 +16,7 @@ use Rattle.rabit_cli.specs.Reduce.{reduce_inputs, asked_sight, MeansReduce, Show
 use Rattle.rabit_cli.specs.Drill.{MeansDrill, ShowsDrill, SaysDrill}
 use Rattle.rabit_cli.specs.Upgrade.{upgrade_inputs, MeansUpgrade, ShowsUpgrade, LeavesUpgraded}
 use Rattle.rabit_cli.specs.Equal.{equal_inputs, MeansEqual, ShowsEqual, LeavesEqual}
+use Rattle.rabit_cli.specs.Cross.{MeansCross, ShowsCross, LeavesCross, cross_check_inputs, MeansCrossCheck, ShowsCrossCheck}
 use Rattle.rabit_cli.specs.Batch.{batch_inputs, IsBatch}
 use Rattle.rabit_cli.specs.Union.{MeansUnion, ShowsUnion}
 use Rattle.rabit_cli.specs.Intersect.{MeansIntersect, ShowsIntersect}
@@ -29,7 +30,7 @@ abbrev pub IsSingle : Option Question → Type 0
 IsSingle (Some (Batch list)) = ⊥
 IsSingle question = Unit {0}
 
--- The files that are read, in order; those of a batch's questions are read with these.
+-- The files that are read, in order; those of a batch's questions are read after these and are not among them.
 abbrev pub inputs_of : Option Question → List Input
 inputs_of None = []
 inputs_of (Some (Check a b c)) = check_inputs a b c
@@ -37,6 +38,8 @@ inputs_of (Some (Include a b c mode look limit letters)) = pair_inputs a b
 inputs_of (Some (Reduce a mode look letters)) = reduce_inputs a
 inputs_of (Some (Drill seed states labels)) = []
 inputs_of (Some (Upgrade c out)) = upgrade_inputs c
+inputs_of (Some (Cross a b out look)) = pair_inputs a b
+inputs_of (Some (CrossCheck a b f)) = cross_check_inputs a b f
 inputs_of (Some (Equal a b c d)) = equal_inputs a b
 inputs_of (Some (Batch list)) = batch_inputs list
 inputs_of (Some (Union a b mode)) = pair_inputs a b
@@ -49,6 +52,7 @@ inputs_of (Some (Universal a u c mode)) = property_inputs universality a
 abbrev pub outputs_of : Option Question → List (List ℕ)
 outputs_of (Some (Include a b c mode look limit letters)) = c ∷ []
 outputs_of (Some (Upgrade c out)) = out ∷ []
+outputs_of (Some (Cross a b out look)) = out ∷ []
 outputs_of (Some (Equal a b c d)) = c ∷ d ∷ []
 outputs_of (Some (Shrink a b c out)) = out ∷ []
 outputs_of (Some (Empty a e c mode)) = e ∷ c ∷ []
@@ -63,6 +67,8 @@ Means (Some (Include a b c mode look limit letters)) values r = MeansInclude c (
 Means (Some (Reduce a mode look letters)) values r = MeansReduce mode (asked_sight look letters) values r
 Means (Some (Drill seed states labels)) values r = MeansDrill (record { seed = seed; states = states; labels = labels }) values r
 Means (Some (Upgrade c out)) values r = MeansUpgrade out values r
+Means (Some (Cross a b out look)) values r = MeansCross out look values r
+Means (Some (CrossCheck a b f)) values r = MeansCrossCheck values r
 Means (Some (Equal a b c d)) values r = MeansEqual c d values r
 Means (Some (Batch list)) values r = NoReply values r
 Means (Some (Union a b mode)) values r = MeansUnion mode values r
@@ -78,6 +84,8 @@ Shows (Some (Include a b c mode look limit letters)) status files files' sent se
 Shows (Some (Reduce a mode look letters)) status files files' sent sent' = ShowsReduce files a mode (asked_sight look letters) status sent sent'
 Shows (Some (Drill seed states labels)) status files files' sent sent' = ShowsDrill (record { seed = seed; states = states; labels = labels }) status sent sent'
 Shows (Some (Upgrade c out)) status files files' sent sent' = ShowsUpgrade files c out status files' sent sent'
+Shows (Some (Cross a b out look)) status files files' sent sent' = ShowsCross files a b out look status files' sent sent'
+Shows (Some (CrossCheck a b f)) status files files' sent sent' = ShowsCrossCheck files a b f status sent sent'
 Shows (Some (Equal a b c d)) status files files' sent sent' = ShowsEqual files a b c d status files' sent sent'
 Shows (Some (Batch list)) status files files' sent sent' = ⊥
 Shows (Some (Union a b mode)) status files files' sent sent' = ShowsUnion files a b mode status sent sent'
@@ -98,11 +106,12 @@ abbrev pub Drills : Question → ℕ → Option (List ℕ) → Option (List ℕ)
 Drills (Drill seed states labels) status sent sent' sink sink' = SaysDrill (record { seed = seed; states = states; labels = labels }) status sent sent' sink sink'
 Drills question status sent sent' sink sink' = Unit {0}
 
--- What the files are afterwards: only a decision, an upgrade, a comparison and a shrinking write, and only the files of certificates, and `empty` and `universal` the
+-- What the files are afterwards: only a decision, an upgrade, a cross relation's search, a comparison and a shrinking write, and only the files of certificates or of the relation, and `empty` and `universal` the
 -- made automaton's too.
 abbrev pub LeavesFiles : Option Question → ℕ → ℕ → ℕ → FileMap → FileMap → Type 0
 LeavesFiles (Some (Include a b c mode look limit letters)) status puts puts' files files' = LeavesDecided files a b c (asked_terms mode look limit letters) status puts puts' files'
 LeavesFiles (Some (Upgrade c out)) status puts puts' files files' = LeavesUpgraded files c out status puts puts' files'
+LeavesFiles (Some (Cross a b out look)) status puts puts' files files' = LeavesCross files a b out look status puts puts' files'
 LeavesFiles (Some (Equal a b c d)) status puts puts' files files' = LeavesEqual files a b c d status puts puts' files'
 LeavesFiles (Some (Shrink a b c out)) status puts puts' files files' = LeavesShrunk files a b c out status puts puts' files'
 LeavesFiles (Some (Empty a e c mode)) status puts puts' files files' = LeavesBoth emptiness files a e c mode status puts puts' files'

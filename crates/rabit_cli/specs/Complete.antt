@@ -5,10 +5,11 @@ use Rattle.shelf_io.specs.Shelf.{FileMap}
 use Rattle.rabit_frame.specs.declared.parts.Value.{Value}
 use Rattle.rabit_frame.specs.Files.{Input}
 use Rattle.rabit_frame.specs.Reading.{ReadInTurn}
-use Rattle.rabit_words.specs.Question.{Question, Include, Check, Reduce, Drill, Upgrade, Equal, Batch, Union, Intersect, Shrink, Empty, Universal}
+use Rattle.rabit_words.specs.Question.{Question, Include, Check, Reduce, Drill, Upgrade, Cross, CrossCheck, Equal, Batch, Union, Intersect, Shrink, Empty, Universal}
 use Rattle.rabit_cli.specs.Include.{pair_inputs}
 use Rattle.rabit_cli.specs.Reduce.{reduce_inputs}
 use Rattle.rabit_cli.specs.Upgrade.{IsUpgradeStatus}
+use Rattle.rabit_cli.specs.Cross.{IsCrossStatus, IsCrossCheckStatus}
 use Rattle.rabit_cli.specs.Equal.{equal_inputs}
 use Rattle.rabit_cli.specs.Union.{IsUnionStatus}
 use Rattle.rabit_cli.specs.Intersect.{IsIntersectionStatus}
@@ -24,6 +25,8 @@ automata_of (Include a b c mode look limit letters) = pair_inputs a b
 automata_of (Reduce a mode look letters) = reduce_inputs a
 automata_of (Drill seed states labels) = []
 automata_of (Upgrade c out) = []
+automata_of (Cross a b out look) = pair_inputs a b
+automata_of (CrossCheck a b f) = pair_inputs a b
 automata_of (Equal a b c d) = equal_inputs a b
 automata_of (Batch list) = []
 automata_of (Union a b mode) = pair_inputs a b
@@ -33,15 +36,17 @@ automata_of (Empty a e c mode) = property_inputs emptiness a
 automata_of (Universal a u c mode) = property_inputs universality a
 
 -- The statuses of the command's results for these files, and that of want of memory. A check may also refuse the certificate; of an upgrade, a
--- union, an intersection and a shrinking the files tell which status it is. That of a batch is of a list with a fault, before its questions.
+-- union, an intersection and a shrinking the files tell which status it is. A batch is no single question: what it answers is told by `AnswersBatch`.
 abbrev pub MayAnswer : Question → FileMap → ℕ → Type 0
 MayAnswer (Check a b c) files status = (status ≤ 2) ⊎ (status ≡ 5) ⊎ (status ≡ 8)
 MayAnswer (Include a b c mode look limit letters) files status = (status ≤ 2) ⊎ (status ≡ 8)
 MayAnswer (Reduce a mode look letters) files status = (status ≡ 0) ⊎ (status ≡ 8)
 MayAnswer (Drill seed states labels) files status = (status ≡ 0) ⊎ (status ≡ 8)
 MayAnswer (Upgrade c out) files status = IsUpgradeStatus files c status ⊎ (status ≡ 8)
+MayAnswer (Cross a b out look) files status = IsCrossStatus files a b look status ⊎ (status ≡ 8)
+MayAnswer (CrossCheck a b f) files status = IsCrossCheckStatus files a b f status ⊎ (status ≡ 8)
 MayAnswer (Equal a b c d) files status = (status ≤ 2) ⊎ (status ≡ 8)
-MayAnswer (Batch list) files status = (status ≡ 11) ⊎ (status ≡ 8)
+MayAnswer (Batch list) files status = ⊥
 MayAnswer (Union a b mode) files status = IsUnionStatus files a b status ⊎ (status ≡ 8)
 MayAnswer (Intersect a b mode) files status = IsIntersectionStatus mode files a b status ⊎ (status ≡ 8)
 MayAnswer (Shrink a b c out) files status = IsShrinkStatus files a b c status ⊎ (status ≡ 8)
@@ -53,3 +58,10 @@ abbrev pub AnswersWhatReads : Question → FileMap → ℕ → ℕ → ℕ → �
 AnswersWhatReads q files status give_faults give_faults' read_faults read_faults' put_faults put_faults' =
     (values : List Value) → ReadInTurn files (automata_of q) values →
     MayAnswer q files status ⊎ Rose read_faults read_faults' ⊎ Rose give_faults give_faults' ⊎ Rose put_faults put_faults'
+
+-- A batch whose lines were all given ends with 0, with 11 for a list with a fault, with 8 for want of memory before its first question, and with 6 only
+-- where a read failed.
+abbrev pub AnswersBatch : Question → ℕ → ℕ → ℕ → ℕ → ℕ → Type 0
+AnswersBatch (Batch list) status give_faults give_faults' read_faults read_faults' =
+    (status ≡ 0) ⊎ (status ≡ 11) ⊎ (status ≡ 8) ⊎ ((status ≡ 6) × Rose read_faults read_faults') ⊎ Rose give_faults give_faults'
+AnswersBatch question status give_faults give_faults' read_faults read_faults' = Unit {0}

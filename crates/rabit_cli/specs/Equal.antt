@@ -10,6 +10,7 @@ use Rattle.ba_format.specs.Joining.{IsJoined}
 use Rattle.cert_value.specs.declared.types.Cert.{Cert}
 use Rattle.cert_value.specs.declared.types.Body.{Body}
 use Rattle.cert_value.specs.declared.types.Body.TheVariants.{Yes, NoLasso, NoWord, Listing}
+use Rattle.cert_value.specs.declared.types.Answer.TheVariants as answer
 use Rattle.cert_value.specs.Text.{answer_of}
 use Rattle.decide.specs.Answer.{IsAnswer}
 use Rattle.equal_batch.specs.declared.outcome.Both.{Both}
@@ -38,6 +39,7 @@ abbrev pub first_apart_reply : List ℕ → Joined → Cert → Reply
 first_apart_reply c pair cert = reply_with status.Refuted (first_apart_text pair.labels cert.body) (certificate_put c cert ∷ [])
 
 -- The reply by what both answers say together, where both certificates are written. The labels and the body are those of the second answer.
+-- That the first is apart does not come here, since then the second is not decided.
 abbrev pub both_reply : Both → List (List ℕ) → Body → List Output → Reply
 both_reply (both.Equal) labels body puts = reply_with status.Done equal_text puts
 both_reply (both.FirstApart) labels body puts = reply_with status.Refuted (second_apart_text labels body) puts
@@ -107,11 +109,11 @@ Separates pair (NoWord word) = SeparatesWord pair.first pair.second word
 Separates pair (Listing list) = ⊥
 
 -- The body is a list.
-abbrev pub IsList : Body → Type 0
-IsList (Yes evidence) = ⊥
-IsList (NoLasso lasso) = ⊥
-IsList (NoWord word) = ⊥
-IsList (Listing list) = Unit {0}
+abbrev pub IsListBody : Body → Type 0
+IsListBody (Yes evidence) = ⊥
+IsListBody (NoLasso lasso) = ⊥
+IsListBody (NoWord word) = ⊥
+IsListBody (Listing list) = Unit {0}
 
 -- Both accept the same lassos, and that was said; both certificates are written, and each says yes.
 pub record AreShownEqual (files : FileMap) (a b c d : List ℕ) (files' : FileMap) (sent sent' : Option (List ℕ)) : Type 0 where
@@ -120,6 +122,8 @@ pub record AreShownEqual (files : FileMap) (a b c d : List ℕ) (files' : FileMa
   pub cert : Cert
   pub other : Cert
   pub certs : AreCertsFor files a b pair converse cert other
+  pub says_yes : answer_of cert.body ≡ answer.Yes
+  pub other_says_yes : answer_of other.body ≡ answer.Yes
   pub same : Same pair.first pair.second Buchi
   pub held : files' ≡ filed files (both_puts c d cert other)
   pub printed : sent' ≡ append_known sent equal_text
@@ -154,7 +158,7 @@ pub record IsEqualListed (files : FileMap) (a b c d : List ℕ) (files' : FileMa
   pub certs : AreCertsFor files a b pair converse cert other
   pub not_first : ¬ IsNo cert.body
   pub not_second : ¬ IsNo other.body
-  pub lists : IsList cert.body ⊎ IsList other.body
+  pub lists : IsListBody cert.body ⊎ IsListBody other.body
   pub held : files' ≡ filed files (both_puts c d cert other)
   pub printed : sent' ≡ append_known sent (limit_text usual_limit)
 

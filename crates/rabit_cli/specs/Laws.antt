@@ -1,4 +1,4 @@
--- What a check says of what a decision wrote.
+-- What a check says of what a decision, an upgrade and a search for a cross relation wrote, and what the texts read as that `empty` and `universal` make.
 use Rattle.std.specs.Prelude.{◌≡◌, ◌≢◌, ◌≤◌, ◌^◌, ◌↔◌, ℕ, List, [], ◌∷◌, length, All}
 use Rattle.std.specs.FinMap as map
 use Rattle.shelf_io.specs.Shelf.{FileMap}
@@ -27,6 +27,8 @@ use Rattle.rabit_cli.specs.Files.{ReadsPair, ReadsCertificate}
 use Rattle.rabit_cli.specs.Replies.{IsVerdictReply}
 use Rattle.rabit_cli.specs.Check.{check_inputs, MeansCheck}
 use Rattle.rabit_cli.specs.Include.{pair_inputs, MeansInclude}
+use Rattle.rabit_cli.specs.Upgrade.{upgrade_inputs, MeansUpgrade}
+use Rattle.rabit_cli.specs.Cross.{MeansCross, cross_check_inputs, MeansCrossCheck}
 use Rattle.rabit_cli.specs.Property.{Property, IsPropertyCertFor, IsPropertyReply, property_puts}
 use Rattle.rabit_cli.specs.Empty.{empty_text, AcceptsNothing, emptiness}
 use Rattle.rabit_cli.specs.Universal.{all_loops, AcceptsAll, universality}
@@ -76,6 +78,32 @@ UpgradeIsChecked =
     (one two : Named) (cert : Cert) (r : Reply)
     → MeansCheck (value.Automaton one ∷ value.Automaton two ∷ value.Certificate cert ∷ []) r
     ↔ MeansCheck (value.Automaton one ∷ value.Automaton two ∷ value.Certificate (upgraded cert) ∷ []) r
+
+-- Where the upgrade's name is neither automaton's, and `upgrade` wrote at most 1 GiB, a check of the upgrade over the files that it leaves says what a
+-- check of the certificate says over the files before.
+abbrev pub UpgradedFileIsChecked : Type 0
+UpgradedFileIsChecked =
+    (files : FileMap) (a b c out : List ℕ) (r s : Reply)
+    → out ≢ a
+    → out ≢ b
+    → IsReplyFor (MeansUpgrade out) (upgrade_inputs c) files r
+    → status_number r.status ≡ 0
+    → All (λ (put : Output). length put.bytes ≤ 2 ^ 30) r.puts
+    → IsCheckReply files a b c s ↔ IsCheckReply (filed files r.puts) a b out s
+
+-- Where the relation's name is neither automaton's, and `cross` found the relation and wrote at most 1 GiB, `cross-check` says of the files that it
+-- leaves what it said.
+abbrev pub CrossIsChecked : Type 0
+CrossIsChecked =
+    (files : FileMap) (a b out : List ℕ) (look : ℕ) (r : Reply)
+    → out ≢ a
+    → out ≢ b
+    → 1 ≤ look
+    → look ≤ 6
+    → IsReplyFor (MeansCross out look) (pair_inputs a b) files r
+    → status_number r.status ≡ 0
+    → All (λ (put : Output). length put.bytes ≤ 2 ^ 30) r.puts
+    → IsReplyFor MeansCrossCheck (cross_check_inputs a b out) (filed files r.puts) (only_said r.status r.text)
 
 -- Whatever the text that `empty` makes reads as accepts nothing.
 abbrev pub EmptyTextAcceptsNothing : Type 0

@@ -11,6 +11,7 @@ pub mod Union
 pub mod Intersect
 pub mod Shrink
 pub mod Upgrade
+pub mod Cross
 pub mod Equal
 pub mod Property
 pub mod Empty

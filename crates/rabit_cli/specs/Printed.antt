@@ -25,7 +25,15 @@ word_text labels (a ∷ word) = 32 ∷ (label_text labels a ++ further_letters l
 -- How the program is used.
 abbrev pub usage_text : List ℕ
 usage_text =
-    codes "usage: rabit include A B CERT [--finite] [--look K] [--limit N] [--letters M] | check A B CERT | reduce A [--finite] [--look K] [--letters M] | drill SEED STATES LABELS | upgrade CERT OUT | equal A B C1 C2 | batch LIST | union A B [--finite] | intersect A B [--finite] | shrink A B CERT OUT | empty A E CERT [--finite] | universal A U CERT [--finite]" ++ line_end
+    codes "usage: rabit include A B CERT [--finite] [--look K] [--limit N] [--letters M] | check A B CERT | reduce A [--finite] [--look K] [--letters M] | drill SEED STATES LABELS | upgrade CERT OUT | cross A B OUT [--look K] | cross-check A B FILE | equal A B C1 C2 | batch LIST | union A B [--finite] | intersect A B [--finite] | shrink A B CERT OUT | empty A E CERT [--finite] | universal A U CERT [--finite]" ++ line_end
+
+-- The second automaton accepts what the first does, since a cross relation shows it.
+abbrev pub by_simulation_text : List ℕ
+by_simulation_text = codes "included by simulation" ++ line_end
+
+-- No cross relation has the pair of the initial states.
+abbrev pub no_relation_text : List ℕ
+no_relation_text = codes "no cross relation" ++ line_end
 
 -- The automaton that was asked for is too large.
 abbrev pub too_large_text : List ℕ

@@ -2,6 +2,7 @@
 
 use crate::include_tests::says;
 use crate::shrink_tests::{holds, shelf_of};
+use shelf_io::{Failed, Shelf};
 use std::test::Fail;
 
 const ONE_A: &str = "[0]\na,[0]->[0]\n[0]\n";
@@ -36,6 +37,25 @@ fn a_question_ends_no_batch_and_a_refused_line_does(rt: HostRuntime) -> Result<(
         assert_eq!(rt; said, (status, true));
         assert!(rt; holds(alloc, &mut shelf, "C", certificate));
         assert!(rt; holds(alloc, &mut shelf, "D", other));
+    }
+    Ok(())
+}
+
+#[test]
+fn no_file_is_begun_after_a_refused_line(rt: HostRuntime) -> Result<(), Fail> {
+    let alloc = rt.alloc();
+    let files = [("A", ONE_A), ("L", "A A C\nA A D\nA A C\n")];
+    // the list is read in three calls, and each question makes seven; the first `take` of the question after the refused line would fail
+    let rows = [(0, 11, ""), (1, 18, "1 0\n")];
+    for (refused, fails, printed) in rows {
+        let mut shelf = shelf_of(alloc, &files, &[fails])?;
+        let said = says(alloc, &["batch", "L"], &mut shelf, &[refused], printed)?;
+        assert_eq!(rt; said, (7, true));
+
+        // the call before that `take` was not made: it is the next
+        let mut buf = [0; 4];
+        assert_eq!(rt; shelf.begin("A"), Ok(()));
+        assert_eq!(rt; shelf.take(&mut buf), Err(Failed));
     }
     Ok(())
 }

@@ -10,7 +10,7 @@ ghost use Rattle.rabit_frame.specs.Reading.{FileReads, IsOfKind, CountsInTurn};
 ghost use Rattle.rabit_frame.specs.Ending.{OfBoth, status_of};
 ghost use Rattle.rabit_frame.specs.Carrying.{EndsSo};
 ghost use Rattle.rabit_cli.specs.Include.{usual_terms, LeavesDecided};
-ghost use Rattle.rabit_cli.specs.Batch.{question_inputs, MeansQuestion, IsQuestionStatus, AnswersQuestion, question_line, AreQuestions, IsCarriedEach, list_file, IsBatch};
+ghost use Rattle.rabit_cli.specs.Batch.{question_inputs, MeansQuestion, IsQuestionStatus, ShowsQuestion, AnswersQuestion, question_line, AreQuestions, IsCarriedEach, list_file, IsBatch};
 
 use crate::including;
 use crate::including::Asked;
@@ -72,6 +72,9 @@ pub fn answer_one<H: Shelf>(alloc: Global, question: &Question, shelf: &mut H) -
     ensures ends { (end : AnEnding) × EndsSo (MeansQuestion question.now) (question_inputs question.now) end (H.held shelf.old) (H.held shelf.new) (H.faults shelf.old) (H.faults shelf.new) (H.put_faults shelf.old) (H.put_faults shelf.new) × (status_of end ≡ result) }
     ensures status { IsQuestionStatus result }
 
+    // What a status up to 2 shows: an inclusion, a lasso that separates, or a list past the limit, with the certificate's file.
+    ensures shows { result ≤ 2 → OfBoth (H.held shelf.old) (H.held shelf.new) (λ files files'. ShowsQuestion question.now result files files') }
+
     // The right reply, whatever it is, has its status answered and its files written, unless a call of the shelf failed or memory was refused.
     ensures exact { IfSome (H.held shelf.old) (λ files. AnswersQuestion question.now files (H.held shelf.new) result (H.faults shelf.old) (H.faults shelf.new) (H.put_faults shelf.old) (H.put_faults shelf.new)) }
 
@@ -89,7 +92,7 @@ pub fn answer_one<H: Shelf>(alloc: Global, question: &Question, shelf: &mut H) -
     ensures missing { IfSome (H.held shelf.old) (λ files. CountsInTurn files (question_inputs question.now) (H.missed shelf.old) (H.missed shelf.new)) }
 {
     let asking = Asking { question };
-    rabit_frame::answer_one(alloc, &asking, shelf)
+    rabit_frame::carry_out_unsaid(alloc, &asking, shelf)
 }
 
 /// Makes the line of the question with this number. There is room for 15 bytes.

@@ -10,8 +10,8 @@ ghost use Rattle.rabit_cli.specs.Commands.{IsSingle, inputs_of, Means};
 use crate::files::{FIRST_LIMITS, SECOND_LIMITS};
 use crate::including::Asked;
 use crate::{
-    checking, drilling, emptiness, equality, including, intersecting, properties, reducing,
-    replies, shrinking, uniting, universality, upgrading,
+    checking, cross_checking, crossing, drilling, emptiness, equality, including, intersecting,
+    properties, reducing, replies, shrinking, uniting, universality, upgrading,
 };
 use auto_core::{List, Memory};
 use drawing::Drill;
@@ -42,6 +42,16 @@ fn slots_of<'a>(alloc: Global, question: &'a Question) -> Result<List<Slot<'a>>,
         Question::Drill { .. } => Ok(List::new(alloc)),
         Question::Upgrade { certificate, .. } => {
             return upgrading::slots(alloc, certificate.as_str());
+        },
+        Question::Cross { first, second, .. } => {
+            return including::slots(alloc, first.as_str(), second.as_str());
+        },
+        Question::CrossCheck {
+            first,
+            second,
+            relation,
+        } => {
+            return cross_checking::slots(alloc, first.as_str(), second.as_str(), relation.as_str());
         },
         Question::Equal { first, second, .. } => {
             return equality::slots(alloc, first.as_str(), second.as_str());
@@ -127,6 +137,12 @@ fn reply_to<'a>(
         },
         Question::Upgrade { upgraded, .. } => {
             return upgrading::reply(alloc, upgraded.as_str(), values);
+        },
+        Question::Cross { relation, look, .. } => {
+            return crossing::reply(alloc, relation.as_str(), *look, values);
+        },
+        Question::CrossCheck { .. } => {
+            return cross_checking::reply(alloc, values);
         },
         Question::Equal {
             certificate,

@@ -1,8 +1,10 @@
 //! Faulty texts of automata, and what the program says of each.
 
-use crate::tests::{ONLY_B, RING, RING_NO, check};
+use crate::include_tests::says;
+use crate::tests::{ONLY_B, RING, RING_NO, check, shelf_of};
 use auto_core::Memory;
 use ba_format::{BaFault, BaKind, Limits, ReadFault, read};
+use shelf_io::{Failed, Shelf};
 use std::alloc::Global;
 use std::test::Fail;
 
@@ -70,6 +72,25 @@ fn each_text_has_its_first_fault(rt: HostRuntime) -> Result<(), Fail> {
             (4, true),
             "{text:?}"
         );
+    }
+    Ok(())
+}
+
+#[test]
+fn the_first_fault_decides(rt: HostRuntime) -> Result<(), Fail> {
+    let alloc = rt.alloc();
+    let files = [("A", "a,[0]-[1]\n"), ("B", ONLY_B), ("C", RING_NO)];
+    for command in ["include", "check"] {
+        // each file is read in three calls, so the fifth call is the first `take` of the second file
+        let mut shelf = shelf_of(alloc, &files, &[4])?;
+        let words = [command, "A", "B", "C"];
+        let said = says(alloc, &words, &mut shelf, &[], "file 1 line 1: Shape\n")?;
+        assert_eq!(rt; said, (4, true));
+
+        // only three calls were made: the fourth is the next, and the fifth fails now
+        let mut buf = [0; 4];
+        assert_eq!(rt; shelf.begin("B"), Ok(()));
+        assert_eq!(rt; shelf.take(&mut buf), Err(Failed));
     }
     Ok(())
 }

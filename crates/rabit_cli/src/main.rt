@@ -6,6 +6,8 @@ mod batching;
 mod checking;
 mod combining;
 mod commands;
+mod cross_checking;
+mod crossing;
 mod drilling;
 mod emptiness;
 mod equality;
@@ -55,6 +57,8 @@ mod certificate_tests;
 mod certificate_text_tests;
 #[cfg(test)]
 mod combine_tests;
+#[cfg(test)]
+mod cross_tests;
 #[cfg(test)]
 mod equality_tests;
 #[cfg(test)]

@@ -9,7 +9,7 @@ ghost use Rattle.rabit_frame.specs.Reading.{CountsInTurn};
 ghost use Rattle.rabit_frame.specs.Ending.{OfBoth, SaysOnly};
 ghost use Rattle.rabit_frame.specs.Carrying.{IsCarriedOut, SaysEach, ShowsReply, LeavesUnwritten};
 ghost use Rattle.rabit_words.specs.Question.{question_of};
-ghost use Rattle.rabit_cli.specs.Complete.{AnswersWhatReads};
+ghost use Rattle.rabit_cli.specs.Complete.{AnswersWhatReads, AnswersBatch};
 ghost use Rattle.rabit_cli.specs.Commands.{IsSingle, inputs_of, outputs_of, Means, Shows, Batches, Drills, LeavesFiles, SaysUsage};
 
 use crate::batching::batch;
@@ -50,11 +50,11 @@ pub fn run<H: Shelf, K: Sink>(alloc: Global, words: &[String], shelf: &mut H, ou
         (H.faults shelf.old) (H.faults shelf.new) (H.put_faults shelf.old) (H.put_faults shelf.new) (H.missed shelf.old) (H.missed shelf.new)) }
 
     // What a status up to 2 shows, command by command: an inclusion, a lasso that separates, a list past the limit, a reduced automaton, what a drill found,
-    // a union, an intersection, what is left of a no, an automaton that accepts nothing or everything, or what shows that it does not.
+    // a certificate in version 2, a cross relation, two automata that accept the same, a union, an intersection, what is left of a no, an automaton that accepts nothing or everything, or what shows that it does not.
     ensures shows { IsSingle (question_of (map string_bytes words.now)) → result ≤ 2 → OfBoth (H.held shelf.old) (H.held shelf.new) (λ files files'.
         Shows (question_of (map string_bytes words.now)) result files files' (K.sent out.old) (K.sent out.new)) }
 
-    // A status of a command's own is that of the right reply, whose files are written and whose text was given.
+    // A status of a command's own is that of the right reply: its files are written, and its text was given, or where the sink's count rose a front of it.
     ensures shown { IsSingle (question_of (map string_bytes words.now)) → IsOwn result → OfBoth (H.held shelf.old) (H.held shelf.new) (λ files files'.
         ShowsReply (Means (question_of (map string_bytes words.now))) (inputs_of (question_of (map string_bytes words.now)))
         result (K.sent out.old) (K.sent out.new) (K.faults out.old) (K.faults out.new) files files') }
@@ -65,8 +65,13 @@ pub fn run<H: Shelf, K: Sink>(alloc: Global, words: &[String], shelf: &mut H, ou
         AnswersWhatReads asked files result (K.faults out.old) (K.faults out.new) (H.faults shelf.old) (H.faults shelf.new)
         (H.put_faults shelf.old) (H.put_faults shelf.new))) }
 
-    // What the shelf holds afterwards: only a decision and a shrinking write, and only the file of a certificate, and `empty` and `universal`
-    // that of the automaton that they make too.
+    // A batch whose lines were all given ends with 0, with 11 for a list with a fault, with 8 before its first question, and with 6 only where
+    // a read failed.
+    ensures complete_batch { IfSome (question_of (map string_bytes words.now)) (λ asked.
+        AnswersBatch asked result (K.faults out.old) (K.faults out.new) (H.faults shelf.old) (H.faults shelf.new)) }
+
+    // What the shelf holds afterwards: only `include`, `upgrade`, `cross`, `equal` and `shrink` write, and only the files of certificates or of
+    // the cross relation, and `empty` and `universal` that of the automaton that they make too.
     ensures files { IsSingle (question_of (map string_bytes words.now)) → OfBoth (H.held shelf.old) (H.held shelf.new) (λ files files'.
         LeavesFiles (question_of (map string_bytes words.now)) result (H.put_faults shelf.old) (H.put_faults shelf.new) files files') }
 

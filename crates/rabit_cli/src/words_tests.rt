@@ -9,7 +9,7 @@ const ONE_A: &str = "[0]\na,[0]->[0]\n[0]\n";
 fn words_that_ask_nothing_get_the_usage(rt: HostRuntime) -> Result<(), Fail> {
     let alloc = rt.alloc();
     let files = [("A", ONE_A)];
-    let rows: [&[&str]; 20] = [
+    let rows: [&[&str]; 25] = [
         &["help"],
         &["help", "reduce"],
         &["reduce", "A", "-h"],
@@ -26,6 +26,11 @@ fn words_that_ask_nothing_get_the_usage(rt: HostRuntime) -> Result<(), Fail> {
         &["include", "A", "A", "C", "--letters=1", "--letters=1"],
         &["check", "A", "A", "C", "--letters", "2"],
         &["upgrade", "A"],
+        &["cross", "A", "A"],
+        &["cross", "A", "A", "C", "--look", "7"],
+        &["cross-check", "A", "A", "C", "--look", "2"],
+        &["batch"],
+        &["batch", "A", "A"],
         &["equal", "A", "A", "C"],
         &["equal", "A", "A", "C", "C"],
         &["drill", "4294967296", "2", "1"],

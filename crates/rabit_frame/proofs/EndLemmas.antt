@@ -26,6 +26,7 @@ own_number (status.Limit) = (λ e. omega arith, λ e. omega arith, λ e. omega a
 own_number (status.Usage) = (λ e. omega arith, λ e. omega arith, λ e. omega arith)
 own_number (status.BadFile) = (λ e. omega arith, λ e. omega arith, λ e. omega arith)
 own_number (status.BadCertificate) = (λ e. omega arith, λ e. omega arith, λ e. omega arith)
+own_number (status.NoRelation) = (λ e. omega arith, λ e. omega arith, λ e. omega arith)
 own_number (status.BadList) = (λ e. omega arith, λ e. omega arith, λ e. omega arith)
 own_number (status.TooLarge) = (λ e. omega arith, λ e. omega arith, λ e. omega arith)
 own_number (status.NothingToShrink) = (λ e. omega arith, λ e. omega arith, λ e. omega arith)
@@ -38,6 +39,7 @@ unsent_number (status.Limit) = inl refl
 unsent_number (status.Usage) = inr (refl, omega arith)
 unsent_number (status.BadFile) = inr (refl, omega arith)
 unsent_number (status.BadCertificate) = inr (refl, omega arith)
+unsent_number (status.NoRelation) = inr (refl, omega arith)
 unsent_number (status.BadList) = inr (refl, omega arith)
 unsent_number (status.TooLarge) = inr (refl, omega arith)
 unsent_number (status.NothingToShrink) = inr (refl, omega arith)
@@ -50,6 +52,7 @@ unsent_low (status.Limit) e = omega arith
 unsent_low (status.Usage) e = absurd (omega arith)
 unsent_low (status.BadFile) e = absurd (omega arith)
 unsent_low (status.BadCertificate) e = absurd (omega arith)
+unsent_low (status.NoRelation) e = absurd (omega arith)
 unsent_low (status.BadList) e = absurd (omega arith)
 unsent_low (status.TooLarge) e = absurd (omega arith)
 unsent_low (status.NothingToShrink) e = absurd (omega arith)
@@ -61,11 +64,13 @@ IsPlainStop r = (4 ≤ status_number r.status) × (r.puts ≡ [])
 fault_plain : (k : FileKind) (bytes : List ℕ) (r : Reply) → HasFault k bytes r → IsPlainStop r
 fault_plain (kind.Automaton n l) bytes r (f, is, e) = subst IsPlainStop (sym e) (omega arith, refl)
 fault_plain (kind.Certificate) bytes r (f, is, e) = subst IsPlainStop (sym e) (omega arith, refl)
+fault_plain (kind.Cross) bytes r (f, is, e) = subst IsPlainStop (sym e) (omega arith, refl)
 fault_plain (kind.Questions) bytes r (l, is, e) = subst IsPlainStop (sym e) (omega arith, refl)
 
 long_plain : (k : FileKind) (r : Reply) → r ≡ long_reply k → IsPlainStop r
 long_plain (kind.Automaton n l) r e = subst IsPlainStop (sym e) (omega arith, refl)
 long_plain (kind.Certificate) r e = subst IsPlainStop (sym e) (omega arith, refl)
+long_plain (kind.Cross) r e = subst IsPlainStop (sym e) (omega arith, refl)
 long_plain (kind.Questions) r e = subst IsPlainStop (sym e) (omega arith, refl)
 
 pub stop_plain : (files : FileMap) (is : List Input) (r : Reply) → StopInTurn files is r → IsPlainStop r

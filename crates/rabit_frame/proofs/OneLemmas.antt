@@ -6,6 +6,8 @@ use Rattle.ba_format.proofs.FaultlessLemmas.{read_is_within}
 use Rattle.ba_format.proofs.LabelLemmas.{labels_fit}
 use Rattle.cert_text.specs.Grammar.{reading}
 use Rattle.cert_text.proofs.Theorem.{reading_text}
+use Rattle.cross_text.specs.Grammar.{cross_reading}
+use Rattle.cross_text.proofs.TextLemmas.{reading_text as reading_cross}
 use Rattle.equal_batch.proofs.ListLemmas.{list_is_one, list_has_no_bad_line}
 use Rattle.rabit_frame.specs.declared.parts.FileKind.{FileKind}
 use Rattle.rabit_frame.specs.declared.parts.FileKind.TheVariants as kind
@@ -37,24 +39,40 @@ one_value : (k : FileKind) (bytes : List ℕ) (v w : Value) → ReadsAs k bytes 
 one_value (kind.Automaton n l) bytes (value.Automaton x) (value.Automaton y) p q = ap (λ z. value.Automaton z) (reads_as_one bytes l x y p q)
 one_value (kind.Automaton n l) bytes (value.Automaton x) (value.Certificate d) p q = absurd q
 one_value (kind.Automaton n l) bytes (value.Automaton x) (value.Questions e) p q = absurd q
+one_value (kind.Automaton n l) bytes (value.Automaton x) (value.Cross e) p q = absurd q
 one_value (kind.Automaton n l) bytes (value.Certificate c) w p q = absurd p
 one_value (kind.Automaton n l) bytes (value.Questions e) w p q = absurd p
+one_value (kind.Automaton n l) bytes (value.Cross e) w p q = absurd p
 one_value (kind.Certificate) bytes (value.Certificate c) (value.Certificate d) p q =
     ap (λ z. value.Certificate z) (same_ok c d (reading bytes) (ap reading p.1 ∙ reading_text c p.0) (ap reading q.1 ∙ reading_text d q.0))
 one_value (kind.Certificate) bytes (value.Certificate c) (value.Automaton y) p q = absurd q
 one_value (kind.Certificate) bytes (value.Certificate c) (value.Questions e) p q = absurd q
+one_value (kind.Certificate) bytes (value.Certificate c) (value.Cross e) p q = absurd q
 one_value (kind.Certificate) bytes (value.Automaton x) w p q = absurd p
 one_value (kind.Certificate) bytes (value.Questions e) w p q = absurd p
+one_value (kind.Certificate) bytes (value.Cross e) w p q = absurd p
+one_value (kind.Cross) bytes (value.Cross c) (value.Cross d) p q =
+    ap (λ z. value.Cross z) (same_ok c d (cross_reading bytes) (ap cross_reading p.1 ∙ reading_cross c p.0) (ap cross_reading q.1 ∙ reading_cross d q.0))
+one_value (kind.Cross) bytes (value.Cross c) (value.Automaton y) p q = absurd q
+one_value (kind.Cross) bytes (value.Cross c) (value.Certificate d) p q = absurd q
+one_value (kind.Cross) bytes (value.Cross c) (value.Questions e) p q = absurd q
+one_value (kind.Cross) bytes (value.Automaton x) w p q = absurd p
+one_value (kind.Cross) bytes (value.Certificate c) w p q = absurd p
+one_value (kind.Cross) bytes (value.Questions e) w p q = absurd p
 one_value (kind.Questions) bytes (value.Questions e) (value.Questions f) p q = ap (λ z. value.Questions z) (list_is_one e f bytes p q)
 one_value (kind.Questions) bytes (value.Questions e) (value.Automaton y) p q = absurd q
 one_value (kind.Questions) bytes (value.Questions e) (value.Certificate d) p q = absurd q
+one_value (kind.Questions) bytes (value.Questions e) (value.Cross c) p q = absurd q
 one_value (kind.Questions) bytes (value.Automaton x) w p q = absurd p
 one_value (kind.Questions) bytes (value.Certificate c) w p q = absurd p
+one_value (kind.Questions) bytes (value.Cross c) w p q = absurd p
 
 one_fault : (k : FileKind) (bytes : List ℕ) (r s : Reply) → HasFault k bytes r → HasFault k bytes s → r ≡ s
 one_fault (kind.Automaton n l) bytes r s (f, is, e) (g, is', e') =
     e ∙ ap (λ z. only_said status.BadFile (file_line n z.line (kind_name z.kind))) (same_some f g _ is is') ∙ sym e'
 one_fault (kind.Certificate) bytes r s (f, is, e) (g, is', e') =
+    e ∙ ap (λ z. only_said status.BadCertificate (certificate_line z.line (text_kind_name z.kind))) (same_error f g _ is is') ∙ sym e'
+one_fault (kind.Cross) bytes r s (f, is, e) (g, is', e') =
     e ∙ ap (λ z. only_said status.BadCertificate (certificate_line z.line (text_kind_name z.kind))) (same_error f g _ is is') ∙ sym e'
 one_fault (kind.Questions) bytes r s (l, is, e) (m, is', e') = e ∙ ap (λ z. only_said status.BadList (list_line z)) (same_some l m _ is is') ∙ sym e'
 
@@ -62,23 +80,37 @@ fault_or_value : (k : FileKind) (bytes : List ℕ) (r : Reply) (v : Value) → H
 fault_or_value (kind.Automaton n l) bytes r (value.Automaton x) (f, is, e) q = none_some f _ q.no_fault is
 fault_or_value (kind.Automaton n l) bytes r (value.Certificate c) p q = q
 fault_or_value (kind.Automaton n l) bytes r (value.Questions e) p q = q
+fault_or_value (kind.Automaton n l) bytes r (value.Cross e) p q = q
 fault_or_value (kind.Certificate) bytes r (value.Certificate c) (f, is, e) q = ok_error c f _ (ap reading q.1 ∙ reading_text c q.0) is
 fault_or_value (kind.Certificate) bytes r (value.Automaton x) p q = q
 fault_or_value (kind.Certificate) bytes r (value.Questions e) p q = q
+fault_or_value (kind.Certificate) bytes r (value.Cross e) p q = q
+fault_or_value (kind.Cross) bytes r (value.Cross c) (f, is, e) q = ok_error c f _ (ap cross_reading q.1 ∙ reading_cross c q.0) is
+fault_or_value (kind.Cross) bytes r (value.Automaton x) p q = q
+fault_or_value (kind.Cross) bytes r (value.Certificate c) p q = q
+fault_or_value (kind.Cross) bytes r (value.Questions e) p q = q
 fault_or_value (kind.Questions) bytes r (value.Questions e) (l, is, said) q = none_some l _ (list_has_no_bad_line e bytes q) is
 fault_or_value (kind.Questions) bytes r (value.Automaton x) p q = q
 fault_or_value (kind.Questions) bytes r (value.Certificate c) p q = q
+fault_or_value (kind.Questions) bytes r (value.Cross c) p q = q
 
 pub kind_of_read : (k : FileKind) (bytes : List ℕ) (v : Value) → ReadsAs k bytes v → IsOfKind k v
 kind_of_read (kind.Automaton n l) bytes (value.Automaton x) p = (read_is_within bytes l x p, p.reading.auto.valid, labels_fit bytes l x p)
 kind_of_read (kind.Automaton n l) bytes (value.Certificate c) p = absurd p
 kind_of_read (kind.Automaton n l) bytes (value.Questions e) p = absurd p
+kind_of_read (kind.Automaton n l) bytes (value.Cross e) p = absurd p
 kind_of_read (kind.Certificate) bytes (value.Certificate c) p = p.0
 kind_of_read (kind.Certificate) bytes (value.Automaton x) p = absurd p
 kind_of_read (kind.Certificate) bytes (value.Questions e) p = absurd p
+kind_of_read (kind.Certificate) bytes (value.Cross e) p = absurd p
+kind_of_read (kind.Cross) bytes (value.Cross c) p = p.0
+kind_of_read (kind.Cross) bytes (value.Automaton x) p = absurd p
+kind_of_read (kind.Cross) bytes (value.Certificate c) p = absurd p
+kind_of_read (kind.Cross) bytes (value.Questions e) p = absurd p
 kind_of_read (kind.Questions) bytes (value.Questions e) p = (bytes, p)
 kind_of_read (kind.Questions) bytes (value.Automaton x) p = absurd p
 kind_of_read (kind.Questions) bytes (value.Certificate c) p = absurd p
+kind_of_read (kind.Questions) bytes (value.Cross c) p = absurd p
 
 module _ (files : FileMap) where
   one_read : (i : Input) (v w : Value) → FileReads files i v → FileReads files i w → v ≡ w

@@ -13,6 +13,8 @@ use Rattle.cert_text.specs.declared.faults.TextFault.{TextFault}
 use Rattle.cert_text.specs.Law.{FirstFault}
 use Rattle.cert_value.specs.Text.{text}
 use Rattle.cert_value.specs.WellFormed.{WellFormed}
+use Rattle.cross_text.specs.Grammar.{FirstCrossFault}
+use Rattle.cross_text.specs.Text.{CrossFormed, cross_text}
 use Rattle.equal_batch.specs.Questions.{IsList, first_bad}
 use Rattle.rabit_frame.specs.declared.parts.FileKind.{FileKind}
 use Rattle.rabit_frame.specs.declared.parts.FileKind.TheVariants as kind
@@ -34,22 +36,25 @@ reply_with s said puts = record { status = s; text = said; puts = puts }
 abbrev pub only_said : Status → List ℕ → Reply
 only_said s said = reply_with s said []
 
--- The most bytes of a file: 16 MiB of an automaton's, 1 GiB of a certificate's, 64 KiB of a list's.
+-- The most bytes of a file: 16 MiB of an automaton's, 1 GiB of a certificate's and of a cross relation's, 64 KiB of a list's.
 abbrev pub most_bytes : FileKind → ℕ
 most_bytes (kind.Automaton number limits) = 2 ^ 24
 most_bytes (kind.Certificate) = 2 ^ 30
+most_bytes (kind.Cross) = 2 ^ 30
 most_bytes (kind.Questions) = 2 ^ 16
 
 -- What is said of a file that has more.
 abbrev pub long_reply : FileKind → Reply
 long_reply (kind.Automaton number limits) = only_said status.BadFile (file_line number 0 (codes "Long"))
 long_reply (kind.Certificate) = only_said status.BadCertificate (certificate_line 0 (codes "Long"))
+long_reply (kind.Cross) = only_said status.BadCertificate (certificate_line 0 (codes "Long"))
 long_reply (kind.Questions) = only_said status.BadList (list_line 0)
 
--- The bytes read as this: an automaton within the limits, or the certificate or the list of questions whose text they are.
+-- The bytes read as this: an automaton within the limits, or the certificate, the cross relation or the list of questions whose text they are.
 abbrev pub ReadsAs : FileKind → List ℕ → Value → Type 0
 ReadsAs (kind.Automaton number limits) bytes (value.Automaton named) = Reads bytes limits named
 ReadsAs (kind.Certificate) bytes (value.Certificate cert) = WellFormed cert × (bytes ≡ text cert)
+ReadsAs (kind.Cross) bytes (value.Cross cross) = CrossFormed cross × (bytes ≡ cross_text cross)
 ReadsAs (kind.Questions) bytes (value.Questions questions) = IsList questions bytes
 ReadsAs k bytes v = ⊥
 
@@ -59,6 +64,8 @@ HasFault (kind.Automaton number limits) bytes r =
     (fault : BaFault) × (fault_of bytes limits ≡ Some fault) × (r ≡ only_said status.BadFile (file_line number fault.line (kind_name fault.kind)))
 HasFault (kind.Certificate) bytes r =
     (fault : TextFault) × FirstFault bytes fault × (r ≡ only_said status.BadCertificate (certificate_line fault.line (text_kind_name fault.kind)))
+HasFault (kind.Cross) bytes r =
+    (fault : TextFault) × FirstCrossFault bytes fault × (r ≡ only_said status.BadCertificate (certificate_line fault.line (text_kind_name fault.kind)))
 HasFault (kind.Questions) bytes r = (line : ℕ) × (first_bad bytes ≡ Some line) × (r ≡ only_said status.BadList (list_line line))
 
 -- The texts of the labels can be written, and are all different.
@@ -69,6 +76,7 @@ HasWritableLabels named = All IsLabelText named.labels × AreDifferent named.lab
 abbrev pub IsOfKind : FileKind → Value → Type 0
 IsOfKind (kind.Automaton number limits) (value.Automaton named) = IsWithinLimits limits named × IsAutomaton named.auto × HasWritableLabels named
 IsOfKind (kind.Certificate) (value.Certificate cert) = WellFormed cert
+IsOfKind (kind.Cross) (value.Cross cross) = CrossFormed cross
 IsOfKind (kind.Questions) (value.Questions questions) = (bytes : List ℕ) × IsList questions bytes
 IsOfKind k v = ⊥
 

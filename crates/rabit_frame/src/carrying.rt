@@ -117,7 +117,7 @@ pub fn read_alone<H: Shelf>(
 }
 
 /// Carries out the command but says nothing, and answers the status that it ends with.
-pub fn answer_one<W: Work, H: Shelf>(alloc: Global, work: &W, shelf: &mut H) -> u8
+pub fn carry_out_unsaid<W: Work, H: Shelf>(alloc: Global, work: &W, shelf: &mut H) -> u8
     requires fit { W.is_fit work.now }
     ensures ends { (end : AnEnding) × EndsSo (W.means work.now) (W.inputs work.now) end (H.held shelf.old) (H.held shelf.new) (H.faults shelf.old) (H.faults shelf.new) (H.put_faults shelf.old) (H.put_faults shelf.new) × (result ≡ status_of end) }
     ensures missing { IfSome (H.held shelf.old) (λ files. CountsInTurn files (W.inputs work.now) (H.missed shelf.old) (H.missed shelf.new)) }

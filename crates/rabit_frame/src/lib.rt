@@ -8,7 +8,7 @@ mod putting;
 mod reading;
 mod work;
 
-pub use carrying::{answer_one, carry_out, read_alone, say};
+pub use carrying::{carry_out, carry_out_unsaid, read_alone, say};
 pub use lines::{append, line};
 pub use parts::{Ending, FileKind, Put, Reply, Slot, Status, Value};
 pub use work::Work;

@@ -7,6 +7,7 @@ ghost use Rattle.rabit_frame.specs.Reading.{only_said};
 use auto_core::List;
 use ba_format::{Limits, Named};
 use cert_text::Cert;
+use cross_text::Cross;
 use equal_batch::Question;
 use std::alloc::Global;
 use std::marker::Model;
@@ -23,6 +24,8 @@ pub enum FileKind {
     },
     /// A certificate, from at most 1 GiB.
     Certificate,
+    /// A cross relation, from at most 1 GiB.
+    Cross,
     /// A list of questions, from at most 64 KiB.
     Questions,
 }
@@ -51,6 +54,8 @@ pub enum Value {
     Automaton(Named),
     /// A certificate.
     Certificate(Cert),
+    /// A cross relation.
+    Cross(Cross),
     /// A list of questions.
     Questions(List<Question>),
 }
@@ -87,6 +92,8 @@ pub enum Status {
     BadFile,
     /// 5: a certificate has a fault, or breaks a rule.
     BadCertificate,
+    /// 10: no simulation across the automata relates their initial states.
+    NoRelation,
     /// 11: a list of questions has a bad line.
     BadList,
     /// 12: the automaton that was asked for is too large.
@@ -107,6 +114,7 @@ impl Status {
             Status::Usage => 3,
             Status::BadFile => 4,
             Status::BadCertificate => 5,
+            Status::NoRelation => 10,
             Status::BadList => 11,
             Status::TooLarge => 12,
             Status::NothingToShrink => 13,

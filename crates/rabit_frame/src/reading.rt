@@ -22,6 +22,7 @@ fn most_bytes(kind: FileKind) -> u64
     match kind {
         FileKind::Automaton { .. } => 16_777_216,
         FileKind::Certificate => 1_073_741_824,
+        FileKind::Cross => 1_073_741_824,
         FileKind::Questions => 65_536,
     }
 }
@@ -43,7 +44,7 @@ fn long_reply(alloc: Global, kind: FileKind) -> Result<Reply<'static>, Memory>
             let text = lines::file_text(alloc, number, 0, "Long")?;
             Ok(Reply::saying(alloc, Status::BadFile, text))
         },
-        FileKind::Certificate => {
+        FileKind::Certificate | FileKind::Cross => {
             let text = lines::certificate_text(alloc, 0, "Long")?;
             Ok(Reply::saying(alloc, Status::BadCertificate, text))
         },
@@ -95,6 +96,11 @@ fn value_of(alloc: Global, kind: FileKind, bytes: &[u8]) -> Result<Value, Halt>
         },
         FileKind::Certificate => match cert_text::read_cert(alloc, bytes) {
             Ok(cert) => Ok(Value::Certificate(cert)),
+            Err(CertReadFault::Text(fault)) => Err(halted(certificate_reply(alloc, fault))),
+            Err(CertReadFault::Memory) => Err(Halt::OutOfMemory),
+        },
+        FileKind::Cross => match cross_text::read_cross(alloc, bytes) {
+            Ok(cross) => Ok(Value::Cross(cross)),
             Err(CertReadFault::Text(fault)) => Err(halted(certificate_reply(alloc, fault))),
             Err(CertReadFault::Memory) => Err(Halt::OutOfMemory),
         },

@@ -7,7 +7,7 @@ use Rattle.std.proofs.lemmas.Slice.Eq.{bytes_eq-Decides}
 use Rattle.clap.specs.Words.{Row, Kinds, first_of, fault_of, subcommand_of}
 use Rattle.rabit_words.specs.Number.{number_between, number_or, number_if_named}
 use Rattle.rabit_words.specs.Command.{rabit_app}
-use Rattle.rabit_words.specs.Question.{Question, Equal, Empty, Universal, mode_by, IsProper, look_in, limit_in, letters_in, letters_named_in, number_at, asks_include, asks_check, asks_reduce, asks_drill, asks_upgrade, asks_equal, asks_batch, asks_union, asks_intersect, asks_shrink, names_differ, NamesDiffer, asks_if_names_differ, asks_empty, asks_universal, asks_by, asks_found, asks_unless, has_help_word, question_of}
+use Rattle.rabit_words.specs.Question.{Question, Equal, Empty, Universal, mode_by, IsProper, look_in, limit_in, letters_in, letters_named_in, number_at, asks_include, asks_check, asks_reduce, asks_drill, asks_upgrade, asks_cross, asks_cross_check, asks_equal, asks_batch, asks_union, asks_intersect, asks_shrink, names_differ, NamesDiffer, asks_if_names_differ, asks_empty, asks_universal, asks_by, asks_found, asks_unless, has_help_word, question_of}
 use Rattle.rabit_words.proofs.NumberLemmas.{number_in_range}
 
 and_then_gives : {X Y : Type 0} (P : Y → Type 0) (f : X → Option Y) (o : Option X) → ((x : X) → o ≡ Some x → IfSome (f x) P) → IfSome (option_and_then f o) P
@@ -118,6 +118,19 @@ module _ (rows : List Row) where
       and_then_gives IsProper _ (first_of (codes "CERT") rows) (λ c is_c.
       map_gives IsProper _ (first_of (codes "OUT") rows) (λ d is_d. tt))
 
+  cross_range : IfSome (asks_cross rows) IsProper
+  cross_range =
+      and_then_gives IsProper _ (first_of (codes "A") rows) (λ a is_a.
+      and_then_gives IsProper _ (first_of (codes "B") rows) (λ b is_b.
+      and_then_gives IsProper _ (first_of (codes "OUT") rows) (λ d is_d.
+      map_gives IsProper _ (look_in rows) (λ look is_look. look_range look is_look))))
+
+  cross_check_range : IfSome (asks_cross_check rows) IsProper
+  cross_check_range =
+      and_then_gives IsProper _ (first_of (codes "A") rows) (λ a is_a.
+      and_then_gives IsProper _ (first_of (codes "B") rows) (λ b is_b.
+      map_gives IsProper _ (first_of (codes "FILE") rows) (λ f is_f. tt)))
+
   equal_range : IfSome (asks_equal rows) IsProper
   equal_range =
       and_then_gives IsProper _ (first_of (codes "A") rows) (λ a is_a.
@@ -170,13 +183,15 @@ module _ (rows : List Row) where
       (choice_gives IsProper (bytes_eq name (codes "reduce")) (asks_reduce rows) _ reduce_range
       (choice_gives IsProper (bytes_eq name (codes "drill")) (asks_drill rows) _ drill_range
       (choice_gives IsProper (bytes_eq name (codes "upgrade")) (asks_upgrade rows) _ upgrade_range
+      (choice_gives IsProper (bytes_eq name (codes "cross")) (asks_cross rows) _ cross_range
+      (choice_gives IsProper (bytes_eq name (codes "cross-check")) (asks_cross_check rows) _ cross_check_range
       (choice_gives IsProper (bytes_eq name (codes "equal")) (asks_equal rows) _ equal_range
       (choice_gives IsProper (bytes_eq name (codes "batch")) (asks_batch rows) _ batch_range
       (choice_gives IsProper (bytes_eq name (codes "union")) (asks_union rows) _ union_range
       (choice_gives IsProper (bytes_eq name (codes "intersect")) (asks_intersect rows) _ intersect_range
       (choice_gives IsProper (bytes_eq name (codes "shrink")) (asks_shrink rows) _ shrink_range
       (choice_gives IsProper (bytes_eq name (codes "empty")) (asks_empty rows) _ empty_range
-      (choice_gives IsProper (bytes_eq name (codes "universal")) (asks_universal rows) None universal_range tt)))))))))))
+      (choice_gives IsProper (bytes_eq name (codes "universal")) (asks_universal rows) None universal_range tt)))))))))))))
 
 found_range : (found : Option (List ℕ × List Row)) → IfSome (asks_found found) IsProper
 found_range None = tt

@@ -50,6 +50,14 @@ drill_app = with_rule (with_rule (with_rule (new_app (codes "drill")) (place (co
 abbrev pub upgrade_app : App
 upgrade_app = with_rule (with_rule (new_app (codes "upgrade")) (place (codes "CERT"))) (place (codes "OUT"))
 
+-- `cross A B OUT [--look K]`
+abbrev pub cross_app : App
+cross_app = with_rule (with_rule (two_files_app (codes "cross")) (place (codes "OUT"))) (option_with_word (codes "look"))
+
+-- `cross-check A B FILE`
+abbrev pub cross_check_app : App
+cross_check_app = with_rule (two_files_app (codes "cross-check")) (place (codes "FILE"))
+
 -- `equal A B C1 C2`
 abbrev pub equal_app : App
 equal_app = with_rule (with_rule (two_files_app (codes "equal")) (place (codes "C1"))) (place (codes "C2"))
@@ -90,4 +98,4 @@ needing_subcommand s = record s { subcommand_required = true }
 -- The program's command.
 abbrev pub rabit_app : App
 rabit_app =
-    with_subcommand (with_subcommand (with_subcommand (with_subcommand (with_subcommand (with_subcommand (with_subcommand (with_subcommand (with_subcommand (with_subcommand (with_subcommand (with_subcommand (on_top needing_subcommand (new_app (codes "rabit"))) include_app.top) check_app.top) reduce_app.top) drill_app.top) upgrade_app.top) equal_app.top) batch_app.top) union_app.top) intersect_app.top) shrink_app.top) empty_app.top) universal_app.top
+    with_subcommand (with_subcommand (with_subcommand (with_subcommand (with_subcommand (with_subcommand (with_subcommand (with_subcommand (with_subcommand (with_subcommand (with_subcommand (with_subcommand (with_subcommand (with_subcommand (on_top needing_subcommand (new_app (codes "rabit"))) include_app.top) check_app.top) reduce_app.top) drill_app.top) upgrade_app.top) cross_app.top) cross_check_app.top) equal_app.top) batch_app.top) union_app.top) intersect_app.top) shrink_app.top) empty_app.top) universal_app.top

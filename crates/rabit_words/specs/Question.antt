@@ -18,6 +18,8 @@ pub data Question : Type 0 where
   Reduce : (name : List ℕ) (mode : Mode) (look letters : ℕ) → Question
   Drill : (seed states labels : ℕ) → Question
   Upgrade : (certificate upgraded : List ℕ) → Question
+  Cross : (first second relation : List ℕ) (look : ℕ) → Question
+  CrossCheck : (first second relation : List ℕ) → Question
   Equal : (first second certificate converse : List ℕ) → Question
   Batch : (list : List ℕ) → Question
   Union : (first second : List ℕ) (mode : Mode) → Question
@@ -33,6 +35,8 @@ told (held.Check a b c) = Check (string_bytes a) (string_bytes b) (string_bytes 
 told (held.Reduce a mode look letters) = Reduce (string_bytes a) mode look letters
 told (held.Drill seed states labels) = Drill seed states labels
 told (held.Upgrade c d) = Upgrade (string_bytes c) (string_bytes d)
+told (held.Cross a b d look) = Cross (string_bytes a) (string_bytes b) (string_bytes d) look
+told (held.CrossCheck a b f) = CrossCheck (string_bytes a) (string_bytes b) (string_bytes f)
 told (held.Equal a b c d) = Equal (string_bytes a) (string_bytes b) (string_bytes c) (string_bytes d)
 told (held.Batch l) = Batch (string_bytes l)
 told (held.Union a b mode) = Union (string_bytes a) (string_bytes b) mode
@@ -114,6 +118,22 @@ asks_drill rows =
 abbrev pub asks_upgrade : List Row → Option Question
 asks_upgrade rows = option_and_then (λ c. option_map (λ d. Upgrade c d) (first_of (codes "OUT") rows)) (first_of (codes "CERT") rows)
 
+-- The same of `cross`.
+abbrev pub asks_cross : List Row → Option Question
+asks_cross rows =
+    option_and_then
+    (λ a. option_and_then
+    (λ b. option_and_then
+    (λ d. option_map (λ look. Cross a b d look) (look_in rows))
+    (first_of (codes "OUT") rows)) (first_of (codes "B") rows)) (first_of (codes "A") rows)
+
+-- The same of `cross-check`.
+abbrev pub asks_cross_check : List Row → Option Question
+asks_cross_check rows =
+    option_and_then
+    (λ a. option_and_then
+    (λ b. option_map (λ f. CrossCheck a b f) (first_of (codes "FILE") rows)) (first_of (codes "B") rows)) (first_of (codes "A") rows)
+
 -- The same of `equal`, where the names of the two certificates differ.
 abbrev pub asks_equal : List Row → Option Question
 asks_equal rows =
@@ -182,13 +202,15 @@ asks_by name rows =
     else (if bytes_eq name (codes "reduce") then asks_reduce rows
     else (if bytes_eq name (codes "drill") then asks_drill rows
     else (if bytes_eq name (codes "upgrade") then asks_upgrade rows
+    else (if bytes_eq name (codes "cross") then asks_cross rows
+    else (if bytes_eq name (codes "cross-check") then asks_cross_check rows
     else (if bytes_eq name (codes "equal") then asks_equal rows
     else (if bytes_eq name (codes "batch") then asks_batch rows
     else (if bytes_eq name (codes "union") then asks_union rows
     else (if bytes_eq name (codes "intersect") then asks_intersect rows
     else (if bytes_eq name (codes "shrink") then asks_shrink rows
     else (if bytes_eq name (codes "empty") then asks_empty rows
-    else (if bytes_eq name (codes "universal") then asks_universal rows else None)))))))))))
+    else (if bytes_eq name (codes "universal") then asks_universal rows else None)))))))))))))
 
 -- The same of the subcommand that was found, if one was.
 abbrev pub asks_found : Option (List ℕ × List Row) → Option Question
@@ -233,6 +255,8 @@ IsProper (Check a b c) = Unit {0}
 IsProper (Reduce a mode look letters) = (1 ≤ look) × (look ≤ 6) × (1 ≤ letters) × (letters ≤ 4)
 IsProper (Drill seed states labels) = (seed < 2 ^ 32) × (2 ≤ states) × (states ≤ 512) × (1 ≤ labels) × (labels ≤ 26)
 IsProper (Upgrade c d) = Unit {0}
+IsProper (Cross a b d look) = (1 ≤ look) × (look ≤ 6)
+IsProper (CrossCheck a b f) = Unit {0}
 IsProper (Equal a b c d) = c ≢ d
 IsProper (Batch l) = Unit {0}
 IsProper (Union a b mode) = Unit {0}

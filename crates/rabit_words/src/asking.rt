@@ -4,7 +4,7 @@ ghost use Rattle.std.specs.Prelude.{◌≡◌, ◌∷◌, IfOk, IfSome, codes, m
 ghost use Rattle.std.specs.List.{list_any};
 ghost use Rattle.std.specs.String.{string_bytes};
 ghost use Rattle.clap.specs.Words.{first_of, found_of, rows_of, subcommand_rows_of};
-ghost use Rattle.rabit_words.specs.Question.{told, mode_by, look_in, limit_in, letters_in, letters_named_in, IsProper, number_at, asks_include, asks_check, asks_reduce, asks_drill, asks_upgrade, asks_equal, asks_batch, asks_union, asks_intersect, asks_shrink, names_differ, asks_empty, asks_universal, asks_by, asks_found, asks_on_line, is_help_option, starts_with_help, has_help_word, question_of};
+ghost use Rattle.rabit_words.specs.Question.{told, mode_by, look_in, limit_in, letters_in, letters_named_in, IsProper, number_at, asks_include, asks_check, asks_reduce, asks_drill, asks_upgrade, asks_cross, asks_cross_check, asks_equal, asks_batch, asks_union, asks_intersect, asks_shrink, names_differ, asks_empty, asks_universal, asks_by, asks_found, asks_on_line, is_help_option, starts_with_help, has_help_word, question_of};
 
 use crate::command::rabit;
 use crate::number::{number_between, number_if_named, number_or};
@@ -194,6 +194,50 @@ fn upgrade_in(alloc: Global, found: &ArgMatches<'_>) -> Result<Option<Question>,
     }))
 }
 
+/// What is asked where these stand in the places of `cross`.
+fn cross_in(alloc: Global, found: &ArgMatches<'_>) -> Result<Option<Question>, Memory>
+    ensures { IfOk result (λ asked. option_map told asked ≡ asks_cross (rows_of (found_of found.now))) }
+{
+    let Some(first) = word_of(found, "A") else {
+        return Ok(None);
+    };
+    let Some(second) = word_of(found, "B") else {
+        return Ok(None);
+    };
+    let Some(relation) = word_of(found, "OUT") else {
+        return Ok(None);
+    };
+    let Some(look) = look_of(found) else {
+        return Ok(None);
+    };
+    Ok(Some(Question::Cross {
+        first: named(alloc, first)?,
+        second: named(alloc, second)?,
+        relation: named(alloc, relation)?,
+        look,
+    }))
+}
+
+/// What is asked where these stand in the places of `cross-check`.
+fn cross_check_in(alloc: Global, found: &ArgMatches<'_>) -> Result<Option<Question>, Memory>
+    ensures { IfOk result (λ asked. option_map told asked ≡ asks_cross_check (rows_of (found_of found.now))) }
+{
+    let Some(first) = word_of(found, "A") else {
+        return Ok(None);
+    };
+    let Some(second) = word_of(found, "B") else {
+        return Ok(None);
+    };
+    let Some(relation) = word_of(found, "FILE") else {
+        return Ok(None);
+    };
+    Ok(Some(Question::CrossCheck {
+        first: named(alloc, first)?,
+        second: named(alloc, second)?,
+        relation: named(alloc, relation)?,
+    }))
+}
+
 /// What is asked where these stand in the places of `equal`.
 fn equal_in(alloc: Global, found: &ArgMatches<'_>) -> Result<Option<Question>, Memory>
     ensures { IfOk result (λ asked. option_map told asked ≡ asks_equal (rows_of (found_of found.now))) }
@@ -368,6 +412,12 @@ fn asked_by(alloc: Global, name: &str, found: &ArgMatches<'_>) -> Result<Option<
     }
     if name == "upgrade" {
         return upgrade_in(alloc, found);
+    }
+    if name == "cross" {
+        return cross_in(alloc, found);
+    }
+    if name == "cross-check" {
+        return cross_check_in(alloc, found);
     }
     if name == "equal" {
         return equal_in(alloc, found);

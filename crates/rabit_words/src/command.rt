@@ -3,7 +3,7 @@
 ghost use Rattle.std.specs.Prelude.{◌≡◌, false, codes, IfOk};
 ghost use Rattle.clap.specs.Words.{rule_of, app_of};
 ghost use Rattle.clap.specs.declared.builder.command.Command.TheViews.{out-Command};
-ghost use Rattle.rabit_words.specs.Command.{place, option_with_word, option_alone, two_files_app, three_files_app, include_app, check_app, reduce_app, drill_app, upgrade_app, equal_app, batch_app, union_app, intersect_app, shrink_app, deciding_app, empty_app, universal_app, rabit_app};
+ghost use Rattle.rabit_words.specs.Command.{place, option_with_word, option_alone, two_files_app, three_files_app, include_app, check_app, reduce_app, drill_app, upgrade_app, cross_app, cross_check_app, equal_app, batch_app, union_app, intersect_app, shrink_app, deciding_app, empty_app, universal_app, rabit_app};
 
 use clap::{Arg, ArgAction, Command};
 use std::alloc::{AllocError, Global};
@@ -103,6 +103,24 @@ fn upgrade<'a>(alloc: Global) -> Result<Command<'a>, AllocError>
         .arg(place(alloc, "OUT"))
 }
 
+/// `cross A B OUT [--look K]`
+fn cross<'a>(alloc: Global) -> Result<Command<'a>, AllocError>
+    ensures app { IfOk result (λ c. app_of c ≡ cross_app) }
+    ensures local { IfOk result (λ c. (out-Command c).has_globals ≡ false) }
+{
+    with_two_files(alloc, "cross")?
+        .arg(place(alloc, "OUT"))?
+        .arg(option_with_word(alloc, "look"))
+}
+
+/// `cross-check A B FILE`
+fn cross_check<'a>(alloc: Global) -> Result<Command<'a>, AllocError>
+    ensures app { IfOk result (λ c. app_of c ≡ cross_check_app) }
+    ensures local { IfOk result (λ c. (out-Command c).has_globals ≡ false) }
+{
+    with_two_files(alloc, "cross-check")?.arg(place(alloc, "FILE"))
+}
+
 /// `equal A B C1 C2`
 fn equal<'a>(alloc: Global) -> Result<Command<'a>, AllocError>
     ensures app { IfOk result (λ c. app_of c ≡ equal_app) }
@@ -184,6 +202,8 @@ pub fn rabit<'a>(alloc: Global) -> Result<Command<'a>, AllocError>
         .subcommand(reduce(alloc)?)?
         .subcommand(drill(alloc)?)?
         .subcommand(upgrade(alloc)?)?
+        .subcommand(cross(alloc)?)?
+        .subcommand(cross_check(alloc)?)?
         .subcommand(equal(alloc)?)?
         .subcommand(batch(alloc)?)?
         .subcommand(union(alloc)?)?

@@ -65,6 +65,26 @@ pub enum Question {
         /// The file that the certificate of version 2 is written to.
         upgraded: String,
     },
+    /// Looks for a simulation of an automaton by another, and writes it.
+    Cross {
+        /// The first automaton's file.
+        first: String,
+        /// The second automaton's file.
+        second: String,
+        /// The file that the relation is written to.
+        relation: String,
+        /// The lookahead, from 1 to 6.
+        look: u32,
+    },
+    /// Checks a simulation of an automaton by another.
+    CrossCheck {
+        /// The first automaton's file.
+        first: String,
+        /// The second automaton's file.
+        second: String,
+        /// The relation's file.
+        relation: String,
+    },
     /// Decides whether two automata accept the same, and writes the certificates of both inclusions.
     Equal {
         /// The first automaton's file.

@@ -1,9 +1,13 @@
-use Rattle.std.proofs.Common.{◌≡◌, Option, rules}
+use Rattle.std.proofs.Common.{◌≡◌, List, Option, IfSome, subst, rules}
 use Rattle.shelf_io.specs.Shelf.{FileMap}
+use Rattle.equal_batch.specs.declared.questions.Question.{Question}
 use Rattle.rabit_frame.specs.declared.parts.Ending.TheVariants as ending
+use Rattle.rabit_frame.specs.declared.parts.Value.{Value}
+use Rattle.rabit_frame.specs.declared.parts.Value.TheVariants as value
+use Rattle.rabit_frame.specs.Reading.{FileReads, IsOfKind}
 use Rattle.rabit_frame.specs.Carrying.{NoReply}
 use Rattle.rabit_frame.proofs.EndLemmas.{ends_refused}
-use Rattle.rabit_cli.proofs.BatchLemmas.{batch_unread}
+use Rattle.rabit_cli.proofs.BatchLemmas.{batch_unread, batch_asked}
 use Rattle.rabit_cli.proofs.batching.batch.Goals as goal
 
 pub returns-in-Ok-Questions : goal.returns-in-Ok-Questions
@@ -19,3 +23,14 @@ returns g c =
     let held : Option FileMap = g.H.Shelf.held c.args.shelf.now in
     let held' : Option FileMap = g.H.Shelf.held c.read_alone.new.shelf in
     batch_unread c.args.list.now c.list_slot.result held held' _ _ _ _ _ _ _ _ _ _ _ c.in-Err.ending c.list_slot.ensures c.in-Err.ensures.ends c.say-in-Err.ensures c.read_alone.ensures.counts_missing
+
+pub returns-in-Ok-with_capacity : goal.returns-in-Ok-with_capacity
+returns-in-Ok-with_capacity g c =
+    let held : Option FileMap = g.H.Shelf.held c.args.shelf.now in
+    let held1 : Option FileMap = g.H.Shelf.held c.read_alone.new.shelf in
+    let held' : Option FileMap = g.H.Shelf.held c.carry_each.new.shelf in
+    let questions : List Question = c.as_slice.result.now in
+    let is : c.in-Ok-Questions.field-0 ≡ value.Questions questions = search rules in
+    batch_asked c.args.list.now c.list_slot.result held held1 held' _ _ _ _ _ _ _ _ _ _ _ _ _ _ questions c.list_slot.ensures
+    (subst (IsOfKind c.list_slot.result.kind) is c.in-Ok-Questions.ensures.kind) (subst (λ (v : Value). IfSome held (λ files. FileReads files c.list_slot.result v)) is c.in-Ok-Questions.ensures.read)
+    c.read_alone.ensures.counts_missing c.read_alone.ensures.files_stay c.in-Ok-Questions.ensures.faults_stay c.read_alone.ensures.puts_stay c.carry_each.ensures

@@ -10,6 +10,7 @@ use Rattle.rabit_cli.specs.Drill.{MeansDrill}
 use Rattle.rabit_cli.specs.Union.{MeansUnion}
 use Rattle.rabit_cli.specs.Intersect.{MeansIntersect}
 use Rattle.rabit_cli.specs.Shrink.{MeansShrink}
+use Rattle.rabit_cli.specs.Cross.{MeansCross}
 use Rattle.rabit_cli.specs.Equal.{MeansEqual}
 use Rattle.rabit_cli.specs.Upgrade.{MeansUpgrade}
 use Rattle.rabit_cli.proofs.commands.reply_to.Goals as goal
@@ -54,3 +55,9 @@ returns-in-Upgrade c =
     let values = c.args.values.now in
     subst (λ q. IfOk c.reply-in-Upgrade.result (Means (Some (told q)) values)) (sym c.in-Upgrade.is)
     (subst (λ name. IfOk c.reply-in-Upgrade.result (λ (r : Reply). MeansUpgrade name values r)) c.as_str-in-Upgrade.ensures.value c.reply-in-Upgrade.ensures)
+
+pub returns-in-Cross : goal.returns-in-Cross
+returns-in-Cross c =
+    let values = c.args.values.now in
+    subst (λ q. IfOk c.reply-in-Cross.result (Means (Some (told q)) values)) (sym c.in-Cross.is)
+    (subst (λ name. IfOk c.reply-in-Cross.result (λ (r : Reply). MeansCross name c.in-Cross.look values r)) c.as_str-in-Cross.ensures.value c.reply-in-Cross.ensures)

@@ -4,7 +4,9 @@ use Rattle.rabit_frame.proofs.EndLemmas.{both_map}
 use Rattle.rabit_words.specs.Question.{Question, Batch, question_of}
 use Rattle.rabit_cli.specs.Commands.{IsSingle, inputs_of, Batches, Drills}
 use Rattle.rabit_words.proofs.RangeLemmas.{question_is_proper}
-use Rattle.rabit_cli.proofs.CommandLemmas.{batch_found, batches, one_meaning, shows, asked_nothing, says_usage, drills, reads_none, writes_none, leaves}
+use Rattle.rabit_cli.proofs.CommandLemmas.{batch_found, batches, answers_batches, one_meaning, shows, asked_nothing, says_usage, drills, reads_none, writes_none, leaves}
+use Rattle.rabit_cli.specs.Complete.{AnswersBatch}
+use Rattle.rabit_cli.proofs.BatchLemmas.{answers_batch}
 use Rattle.rabit_cli.proofs.CompleteLemmas.{answers_what_reads}
 use Rattle.rabit_cli.proofs.top.run.Goals as goal
 
@@ -35,7 +37,7 @@ pub returns-clause-writes_none : goal.returns-clause-writes_none
 returns-clause-writes_none g c single none = let words = map (string_bytes {Z = Global}) c.args.words.now in writes_none _ _ _ _ _ _ _ _ _ _ _ (question_of words) c.carry_out.ensures.carried none
 
 pub returns-clause-complete : goal.returns-clause-complete
-returns-clause-complete g c single = let words = map (string_bytes {Z = Global}) c.args.words.now in answers_what_reads _ _ _ _ _ _ _ _ _ _ _ (question_of words) c.carry_out.ensures.carried
+returns-clause-complete g c single = let words = map (string_bytes {Z = Global}) c.args.words.now in answers_what_reads _ _ _ _ _ _ _ _ _ _ _ (question_of words) single c.carry_out.ensures.carried
 
 pub returns-clause-batch : goal.returns-clause-batch
 returns-clause-batch g c =
@@ -150,3 +152,16 @@ returns-in-Some-clause-batch g c =
     Batches asked (g.H.Shelf.held c.args.shelf.now) (g.H.Shelf.held c.batch.new.shelf) c.batch.result (g.K.Sink.sent c.args.out.now) (g.K.Sink.sent c.batch.new.out) (g.K.Sink.faults c.args.out.now) (g.K.Sink.faults c.batch.new.out)
     (g.H.Shelf.faults c.args.shelf.now) (g.H.Shelf.faults c.batch.new.shelf) (g.H.Shelf.put_faults c.args.shelf.now) (g.H.Shelf.put_faults c.batch.new.shelf) (g.H.Shelf.missed c.args.shelf.now) (g.H.Shelf.missed c.batch.new.shelf)) in
     subst P (sym is) c.batch.ensures
+
+pub returns-clause-complete_batch : goal.returns-clause-complete_batch
+returns-clause-complete_batch g c =
+    let words = map (string_bytes {Z = Global}) c.args.words.now in
+    answers_batches _ _ _ _ _ _ _ _ _ _ _ (question_of words) c.carry_out.ensures.carried _ _ c.carry_out.ensures.missing
+
+pub returns-in-Some-clause-complete_batch : goal.returns-in-Some-clause-complete_batch
+returns-in-Some-clause-complete_batch g c =
+    let words = map (string_bytes {Z = Global}) c.args.words.now in
+    let (question, held, batch) = c.in-Some.ensures in
+    let is : question_of words ≡ Some (Batch c.in-Some.list.now) = batch_found c.question.result question c.in-Some.list.now words held batch c.question.ensures.asked in
+    let P : Option Question → Type 0 = λ z. IfSome z (λ asked. AnswersBatch asked c.batch.result (g.K.Sink.faults c.args.out.now) (g.K.Sink.faults c.batch.new.out) (g.H.Shelf.faults c.args.shelf.now) (g.H.Shelf.faults c.batch.new.shelf)) in
+    subst P (sym is) (answers_batch c.in-Some.list.now _ _ _ _ _ _ _ _ _ _ _ _ _ c.batch.ensures)
