@@ -1,12 +1,13 @@
 #!/usr/bin/env python3
-"""A second checker of certificates of both versions, in plain Python, written from docs/FORMATS.md alone.
+"""A second checker of certificates of both versions and of cross files, in plain Python, written from docs/FORMATS.md alone.
 
     tools/check_cert.py A B CERT
+    tools/check_cert.py --cross A B FILE
 
-It prints what `rabit check A B CERT` prints and ends with the same status: 0 included, 1 not included, 2 a list, 4 a fault of
-an automaton's text, 5 a refused certificate, 6 a file that cannot be read. It shares no line with the program. It is not
-proved, it is not fast, and it takes what memory it needs: its use is that somebody who trusts neither the program nor its
-proofs can read it in an evening.
+It prints what `rabit check A B CERT`, with the option what `rabit cross-check A B FILE`, prints and ends with the same
+status: 0 included, 1 not included, 2 a list, 4 a fault of an automaton's text, 5 a refused certificate or cross file, 6 a
+file that cannot be read. It shares no line with the program. It is not proved, it is not fast, and it takes what memory it
+needs: its use is that somebody who trusts neither the program nor its proofs can read it in an evening.
 """
 import sys
 from itertools import groupby
@@ -19,6 +20,7 @@ HEADERS = [
     for mode in ("buchi", "finite")
     for form in ("yes", "no", "list")
 ]
+CROSS_HEADER = b"rabit-cross 1"
 
 
 class Refused(Exception):
@@ -178,6 +180,13 @@ class Text:
             self.fault("Shape")
         return fits[0], numbers
 
+    def finish(self):
+        """The line `end`, and nothing behind it."""
+        self.take(kind("end"))
+        if self.place < len(self.data):
+            self.at += 1
+            self.fault("Trailing")
+
     def number(self, token, due):
         fine = token.isdigit() and len(token) <= 9 and (token == b"0" or token[:1] != b"0")
         if not fine and due:
@@ -305,11 +314,20 @@ def read_certificate(data):
                     if named != element:
                         text.fault("Order")
                     cert["steps"].append((named, by))
-    text.take(kind("end"))
-    if text.place < len(data):
-        text.at += 1
-        text.fault("Trailing")
+    text.finish()
     return cert
+
+
+def read_cross(data):
+    """The cross file as a dictionary, or the first fault of the text."""
+    text = Text(data)
+    if text.line() != CROSS_HEADER:
+        text.fault("Header")
+    cross = {"sizes": tuple(text.take(kind("sizes # # #"))[1])}
+    (cross["look"],) = text.take(kind("look #"))[1]
+    cross["block"] = read_block(text, 1)
+    text.finish()
+    return cross
 
 
 # ---------------------------------------------------------------- relations and games
@@ -329,15 +347,15 @@ def closure(states, block):
     return reached
 
 
-def round_holds(moves, matched, look, block, left, right):
-    """Whether each path that is shown from `left` is answered from `right`."""
+def round_holds(moves, answers, matched, look, block, left, right):
+    """Whether each path that `moves` show from `left` is answered from `right`."""
 
     def lost(state, depth, replies):
         # replies: the states at which an answer that has kept up so far may stand
         if depth == look or depth and not moves[state]:
             return True
         for label, target in moves[state]:
-            after = {t for reply in replies for l, t in moves[reply] if l == label and matched(target, t)}
+            after = {t for reply in replies for l, t in answers[reply] if l == label and matched(target, t)}
             if any(t in block.get(target, ()) for t in after):
                 continue
             if lost(target, depth + 1, frozenset(after)):
@@ -356,7 +374,20 @@ def stable(automaton, side, look, block):
         return fine and (side == "forward" or p != automaton.initial or q == automaton.initial)
 
     return all(
-        matched(p, q) and round_holds(moves, matched, look, block, p, q) for p, rights in block.items() for q in rights
+        matched(p, q) and round_holds(moves, moves, matched, look, block, p, q) for p, rights in block.items() for q in rights
+    )
+
+
+def stable_across(first, second, look, block):
+    """Whether each pair of a state of the first and a state of the second matches and wins its round across."""
+
+    def matched(p, q):
+        return p not in first.accepting or q in second.accepting
+
+    return all(
+        matched(p, q) and round_holds(first.moves, second.moves, matched, look, block, p, q)
+        for p, rights in block.items()
+        for q in rights
     )
 
 
@@ -782,6 +813,23 @@ def check(first, second, labels, cert):
     return [b"included" + finite.encode()], 0
 
 
+def check_cross(first, second, labels, cross):
+    """The line that tells the verdict of a cross file that keeps the rules, and its status."""
+    if cross["sizes"] != (first.states, second.states, len(labels)):
+        broken(0, 1)
+    if not 1 <= cross["look"] <= 6:
+        broken(1, 1)
+    rows = cross["block"]
+    if any(p >= first.states or runs[-1][1] >= second.states for p, runs in rows.items()):
+        broken(2, 1)
+    block = taken_apart(rows)
+    if second.initial not in block.get(first.initial, ()):
+        broken(2, 19)
+    if not stable_across(first, second, cross["look"], block):
+        broken(2, 20)
+    return [b"included by simulation"], 0
+
+
 def load(name):
     try:
         with open(name, "rb") as file:
@@ -791,14 +839,17 @@ def load(name):
 
 
 def main(words):
-    if len(words) != 3:
+    across = words[:1] == ["--cross"]
+    names = words[1:] if across else words
+    if len(names) != 3:
         print(__doc__, file=sys.stderr)
         return 3
+    reader, checker = (read_cross, check_cross) if across else (read_certificate, check)
     try:
-        first, first_labels = read_automaton(1, load(words[0]))
-        second, second_labels = read_automaton(2, load(words[1]))
-        cert = read_certificate(load(words[2]))
-        lines, status = check(*join(first, first_labels, second, second_labels), cert)
+        first, first_labels = read_automaton(1, load(names[0]))
+        second, second_labels = read_automaton(2, load(names[1]))
+        evidence = reader(load(names[2]))
+        lines, status = checker(*join(first, first_labels, second, second_labels), evidence)
     except Refused as refused:
         lines, status = [refused.text.encode()], refused.status
     sys.stdout.buffer.write(b"".join(line + b"\n" for line in lines))

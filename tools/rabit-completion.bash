@@ -3,7 +3,7 @@ _rabit() {
     local word=${COMP_WORDS[COMP_CWORD]} before=${COMP_WORDS[COMP_CWORD - 1]} options=
     COMPREPLY=()
     if [ "$COMP_CWORD" -eq 1 ]; then
-        mapfile -t COMPREPLY < <(compgen -W "include check reduce drill upgrade equal batch union intersect shrink empty universal" -- "$word")
+        mapfile -t COMPREPLY < <(compgen -W "include check reduce drill upgrade cross cross-check equal batch union intersect shrink empty universal" -- "$word")
         return
     fi
     case $before in
@@ -23,6 +23,7 @@ _rabit() {
     case ${COMP_WORDS[1]} in
     include) options="--finite --look --limit --letters" ;;
     reduce) options="--finite --look --letters" ;;
+    cross) options="--look" ;;
     union | intersect | empty | universal) options="--finite" ;;
     esac
     case $word in
