@@ -19,7 +19,8 @@ pub enum Told {
     Nothing,
 }
 
-fn is_reply<S: Side>(side: &S, automaton: &Auto, step: Move, reply: Move) -> bool
+/// Tells whether the reply answers the step: it has the step's letter, and its state matches the step's.
+pub fn is_reply<S: Side>(side: &S, automaton: &Auto, step: Move, reply: Move) -> bool
     requires step { step.to < automaton.now.states }
     requires reply { reply.to < automaton.now.states }
     ensures { IsTrue result ↔ ((reply.label ≡ step.label) × S.keeps side.now automaton.now step.to reply.to) }

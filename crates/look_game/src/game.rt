@@ -8,6 +8,7 @@ ghost use Rattle.look_game.specs.Taking.{TakesAway, TakesSome, KeepsOthers, HasR
 ghost use Rattle.look_game.specs.Asked.{IsLost, IsNeverKept};
 ghost use Rattle.look_game.specs.Near.{IsReachedWithin, IsFarFrom, HasOtherRounds};
 
+use crate::asked::{Pair, is_lost, may_stay};
 use crate::{first, near};
 use auto_core::{Auto, Memory, rows};
 use bit_rel::Rel;
@@ -91,31 +92,13 @@ fn pass<S: Side>(
     any
 }
 
-/// The pair that has to stay in a relation that is sought.
-#[derive(Clone, Copy, Debug)]
-struct Asked {
-    left: u32,
-    right: u32,
-}
-
-/// Tells whether a pair has to stay and is not there any more.
-fn is_lost(rel: &Rel, asked: Option<Asked>) -> bool
-    requires states { IfSome asked (λ pair. (pair.left < rel.now.size) × (pair.right < rel.now.size)) }
-    ensures { IsTrue result ↔ IsLost rel.now.pairs asked }
-{
-    match asked {
-        Some(pair) => !rel.get(pair.left, pair.right),
-        None => false,
-    }
-}
-
 /// Takes pairs away until each that is left has its round, and tells that; or until the pair that is asked for is lost. The three rows are
 /// room.
 fn settle<S: Side>(
     side: &S,
     automaton: &Auto,
     look: u32,
-    asked: Option<Asked>,
+    asked: Option<Pair>,
     rel: &mut Rel,
     scratch: &mut Scratch,
     marks: &mut [u64],
@@ -152,7 +135,7 @@ fn greatest_within<S: Side>(
     side: &S,
     automaton: &Auto,
     look: u32,
-    asked: Option<Asked>,
+    asked: Option<Pair>,
     first: Rel,
 ) -> Result<Option<Rel>, Memory>
     requires look_from { 1 ≤ look }
@@ -247,8 +230,11 @@ pub fn greatest_with<S: Side>(
         → Holds T left right
         → ⊥) }
 {
+    let asked = Pair { left, right };
+    if !may_stay(alloc, side, automaton, look, asked)? {
+        return Ok(None);
+    }
     let first = bound(alloc, side, automaton)?;
-    let asked = Asked { left, right };
     match greatest_within(alloc, side, automaton, look, Some(asked), first)? {
         Some(rel) => {
             if rel.get(left, right) {

@@ -1,6 +1,7 @@
 //! The greatest relation that a game of looking ahead keeps.
 #![tactic(auto)]
 
+mod asked;
 mod first;
 mod game;
 mod near;
