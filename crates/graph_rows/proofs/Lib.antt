@@ -1,6 +1,7 @@
 pub mod AddedLemmas
 pub mod RowsLemmas
 pub mod ExtensionLemmas
+pub mod TwinLemmas
 pub mod SameLemmas
 pub mod ArcLemmas
 pub mod CoveringLemmas

@@ -7,10 +7,10 @@ use Rattle.graph_rows.specs.declared.prints.Print.{Print}
 
 -- The pair with the number j, and whether it is asked for past an accepting state.
 abbrev pub picked_source : ℕ → ℕ → ℕ
-picked_source n j = (j * 101 + j / 7) % n
+picked_source n j = (j * 160 + j / 4 + 32) % n
 
 abbrev pub picked_target : ℕ → ℕ → ℕ
-picked_target n j = (j * 71 + j / 5) % n
+picked_target n j = (j * 77 + j / 2 + 18) % n
 
 abbrev pub is_past : ℕ → Bool
 is_past j = j % 2 == 1

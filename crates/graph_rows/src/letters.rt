@@ -1,8 +1,8 @@
 //! The graph of a letter, and a graph extended by a letter.
 
-ghost use Rattle.std.specs.Prelude.{◌≡◌, ◌*◌, ◌^◌, ◌<◌, ◌≤◌, ◌⊎◌, ◌↔◌, ℕ, true, length};
+ghost use Rattle.std.specs.Prelude.{◌≡◌, ◌+◌, ◌*◌, ◌^◌, ◌<◌, ◌≤◌, ◌⊎◌, ◌↔◌, ℕ, true, length};
 ghost use Rattle.auto_core.specs.Automaton.{Moves, IsAccepting};
-ghost use Rattle.auto_core.specs.Rows.{HasBit};
+ghost use Rattle.auto_core.specs.Rows.{HasBit, cell_of};
 ghost use Rattle.auto_core.specs.Reach.{IsTable};
 ghost use Rattle.auto_core.specs.Graph.{IsGraph, SameGraph, graph_of_tables, letter_graph, extended};
 ghost use Rattle.graph_rows.specs.Block.{width_of, block_graph, IsFormed};
@@ -189,6 +189,65 @@ fn write_letter(automaton: &Auto, label: u32, width: usize, joined: &mut [u64], 
     }
 }
 
+/// How many places there are for the latest rows that differ.
+const PLACES: usize = 64;
+
+/// The place of the row, by its words.
+fn place_of(table: &[u64], width: usize, row: u32) -> usize
+    requires { row * width + width ≤ length table.now }
+    ensures { result < 64 }
+{
+    let mut mixed: u64 = 0;
+    for word in rows::row_at(table, width, row as usize) {
+        mixed = (mixed ^ *word).wrapping_mul(0x9E3779B97F4A7C15);
+    }
+    (mixed >> 32) as usize % PLACES
+}
+
+/// Tells whether both rows of the table are the same.
+fn are_same(table: &[u64], width: usize, row: u32, other: u32) -> bool
+    requires row { row * width + width ≤ length table.now }
+    requires other { other * width + width ≤ length table.now }
+    ensures { result ≡ true → (q : ℕ) → q < width * 64 → cell_of table.now width row q ≡ cell_of table.now width other q }
+{
+    rows::row_at(table, width, row as usize) == rows::row_at(table, width, other as usize)
+}
+
+/// The state at the place of the row, if it comes before the state of the row and has the same rows in both tables; else the state of
+/// the row.
+fn twin_of(latest: &[u32], joined: &[u64], past: &[u64], width: usize, row: u32) -> u32
+    requires places { length latest.now ≡ 64 }
+    requires joined { row * width + width ≤ length joined.now }
+    requires past { row * width + width ≤ length past.now }
+    ensures joined { (q : ℕ) → q < width * 64 → cell_of joined.now width row q ≡ cell_of joined.now width result q }
+    ensures past { (q : ℕ) → q < width * 64 → cell_of past.now width row q ≡ cell_of past.now width result q }
+    ensures most { result ≤ row }
+{
+    let other = latest[place_of(joined, width, row)];
+    if other >= row {
+        return row;
+    }
+    if !are_same(joined, width, row, other) {
+        return row;
+    }
+    if !are_same(past, width, row, other) {
+        return row;
+    }
+    other
+}
+
+/// Copies a row of the table to a later one.
+fn copy_row(table: &mut [u64], width: usize, from: u32, to: u32)
+    requires before { from < to }
+    requires row { to * width + width ≤ length table.old }
+    ensures here { (q : ℕ) → q < width * 64 → cell_of table.new width to q ≡ cell_of table.old width from q }
+    ensures others { (r q : ℕ) → q < width * 64 → ¬ (r ≡ to) → cell_of table.new width r q ≡ cell_of table.old width r q }
+{
+    for j in 0..width {
+        table[to as usize * width + j] = table[from as usize * width + j];
+    }
+}
+
 fn write_extension(
     automaton: &Auto,
     label: u32,
@@ -215,19 +274,27 @@ fn write_extension(
 {
     rows::clear_row(joined);
     rows::clear_row(past);
+    let mut latest = [0; PLACES];
     for state in 0..automaton.states() {
-        add_row(
-            automaton,
-            label,
-            width,
-            state,
-            from_joined,
-            from_past,
-            letter_joined,
-            letter_past,
-            joined,
-            past,
-        );
+        let other = twin_of(&latest, from_joined, from_past, width, state);
+        if other < state {
+            copy_row(joined, width, other, state);
+            copy_row(past, width, other, state);
+        } else {
+            add_row(
+                automaton,
+                label,
+                width,
+                state,
+                from_joined,
+                from_past,
+                letter_joined,
+                letter_past,
+                joined,
+                past,
+            );
+            latest[place_of(from_joined, width, state)] = state;
+        }
     }
 }
 

@@ -23,7 +23,7 @@ fn source_of(n: u32, j: u32) -> u32
     requires few { j < 64 }
     ensures { result ≡ picked_source n j }
 {
-    (j * 101 + j / 7) % n
+    (j * 160 + j / 4 + 32) % n
 }
 
 /// The second state of the pair with the number `j`.
@@ -32,7 +32,7 @@ fn target_of(n: u32, j: u32) -> u32
     requires few { j < 64 }
     ensures { result ≡ picked_target n j }
 {
-    (j * 71 + j / 5) % n
+    (j * 77 + j / 2 + 18) % n
 }
 
 /// Tells whether the graph has the pair with the number `j`.

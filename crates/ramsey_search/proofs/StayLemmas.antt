@@ -1,28 +1,14 @@
 -- The family looks the same as graphs come.
-use Rattle.std.proofs.Common.{◌≡◌, ℕ, zero, suc, ◌*◌, ◌<◌, ◌≤◌, ◌↔◌, List, [], ◌∷◌, ◌++◌, length, map, slice_index_or, Option, refl, sym, ap, ◌∙◌, subst, inl, inr, arith, length-append}
-use Rattle.std.specs.Prelude.{IsTrue}
-use Rattle.auto_core.specs.Game.{Holds}
-use Rattle.std.proofs.lemmas.Bool.{cases_lt}
-use Rattle.std.proofs.lemmas.List.{get_or_append_left, get_or_past, length-map, map-append}
+use Rattle.std.proofs.Common.{◌≡◌, ℕ, ◌≤◌, List, refl, ap, ◌∙◌, arith}
+use Rattle.std.proofs.lemmas.List.{length-map}
 use Rattle.auto_core.specs.Automaton.{Automaton}
-use Rattle.auto_core.specs.Graph as words
-use Rattle.auto_core.specs.Outcome.{At, Entry}
-use Rattle.graph_rows.specs.Block.{IsFormed, block_graph, width_of}
-use Rattle.search_laws.proofs.PlaceLemmas.{at_same, at_within, at_some, at_new, same_maps}
-use Rattle.search_laws.proofs.ListLemmas.{at_map, read_map}
-use Rattle.shared_graphs.specs.declared.memo.Answer.{Answer}
-use Rattle.shared_graphs.specs.declared.memo.Answer.TheVariants.{Number, Truth}
-use Rattle.shared_graphs.specs.declared.memo.Told.{Told}
+use Rattle.auto_core.specs.Outcome.{Entry}
+use Rattle.search_laws.proofs.PlaceLemmas.{at_same, at_within, at_some, same_maps}
+use Rattle.search_laws.proofs.ListLemmas.{at_map}
 use Rattle.ramsey_search.specs.declared.parts.Held.{Held}
 use Rattle.ramsey_search.specs.declared.family.Family.{Family}
 use Rattle.shared_graphs.specs.declared.graphs.Graph.{Graph}
-use Rattle.shared_graphs.specs.declared.graphs.Graphs.{Graphs}
-use Rattle.shared_graphs.specs.declared.graph_pairs.GraphPairs.{GraphPairs}
-use Rattle.shared_graphs.specs.declared.looping.Marked.{Marked}
-use Rattle.shared_graphs.specs.Memo.{AllTold, NothingTold, HasAnswer, HasNoted}
-use Rattle.shared_graphs.specs.Graphs.{block_at, IsThere, HasGrown, IsGraphOf, HasAdded, HasNumber, FitsLetter, FitsStep}
-use Rattle.shared_graphs.specs.GraphPairs.{FitsLasso, AreGraphPairs}
-use Rattle.shared_graphs.specs.Looping.{AreMarked, IsLoopRow}
+use Rattle.shared_graphs.specs.Graphs.{block_at, HasGrown}
 use Rattle.ramsey_search.specs.Views.{seen, view}
 use Rattle.ramsey_search.specs.Kept.{IsFamily}
 use Rattle.shared_graphs.proofs.GraphsLemmas.{formed_there}

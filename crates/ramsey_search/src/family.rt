@@ -1,15 +1,15 @@
 //! The elements that have entered.
 
-ghost use Rattle.std.specs.Prelude.{◌≡◌, ◌+◌, ◌*◌, ◌^◌, ◌<◌, ◌≤◌, ℕ, [], ◌∷◌, ◌++◌, length, MatchOption, IfOk, IfSome, OnOk};
+ghost use Rattle.std.specs.Prelude.{◌≡◌, ◌+◌, ◌*◌, ◌^◌, ◌<◌, ◌≤◌, ℕ, [], ◌∷◌, ◌++◌, length, filter, slice_index_or, false, MatchOption, IfOk, IfSome, OnOk};
 ghost use Rattle.graph_rows.specs.Block.{IsFormed, block_graph};
 ghost use Rattle.supergraph.specs.Stands.{with_graph};
 ghost use Rattle.evidence.specs.Tables.{numbers_at};
 ghost use Rattle.shared_graphs.specs.Graphs.{block_at};
 ghost use Rattle.shared_graphs.specs.GraphPairs.{AreCoverings};
 ghost use Rattle.ramsey_search.specs.Views.{seen, view};
-ghost use Rattle.ramsey_search.specs.Kept.{FitsTogether, HasEntered, IsEqualTo, NoneSubsumes, IsFirstSubsumer};
+ghost use Rattle.ramsey_search.specs.Kept.{AreThere, FitsTogether, HasEntered, IsEqualTo, NoneSubsumes, IsFirstSubsumer};
 
-use crate::meeting::{drop_subsumed, least_subsumer, still_live};
+use crate::meeting::{are_all_live, drop_subsumed, least_subsumer, still_live};
 use crate::parts::Held;
 use auto_core::Memory;
 use bit_rel::Rel;
@@ -49,6 +49,30 @@ fn take_place(latest: &mut Vec<u32>, new: &Held, number: u32) {
     if place < latest.len() {
         latest[place] = number;
     }
+}
+
+/// Puts the number behind those of the elements of the place that are live.
+fn take_in(
+    alloc: Global,
+    ends: &mut Vec<Vec<u32>>,
+    place: usize,
+    live: &[bool],
+    number: u32,
+) -> Result<(), Memory>
+    requires within { place < length ends.old.items }
+    requires there { AreThere (numbers_at ends.old.items place) (length live.now) }
+    ensures size { OnOk result (length ends.new.items ≡ length ends.old.items) }
+    ensures here { OnOk result (numbers_at ends.new.items place ≡ filter (λ j. slice_index_or live.now j false) (numbers_at ends.old.items place) ++ number ∷ []) }
+    ensures others { OnOk result ((k : ℕ) → (k ≡ place → ⊥) → numbers_at ends.new.items k ≡ numbers_at ends.old.items k) }
+{
+    if are_all_live(&ends[place], live) {
+        ends[place].push(number)?;
+        return Ok(());
+    }
+    let mut kept = still_live(alloc, &ends[place], live)?;
+    kept.push(number)?;
+    ends[place] = kept;
+    Ok(())
 }
 
 impl Family {
@@ -174,9 +198,7 @@ impl Family {
             &new,
             &mut self.live,
         );
-        let mut kept = still_live(alloc, &self.ends[place], &self.live)?;
-        kept.push(number)?;
-        self.ends[place] = kept;
+        take_in(alloc, &mut self.ends, place, &self.live, number)?;
         self.held.push(new)?;
         self.live.push(true)?;
         take_place(&mut self.latest, &new, number);

@@ -1,7 +1,10 @@
 //! A candidate meets the live elements that have its ends.
 
-ghost use Rattle.std.specs.Prelude.{◌≡◌, length, map, vec_len, MatchOption, IfOk, filter, slice_index_or, true, false};
+ghost use Rattle.std.specs.Prelude.{◌≡◌, ◌↔◌, length, map, vec_len, IsTrue, MatchOption, IfOk, IfSome, filter, slice_index_or, true, false};
+ghost use Rattle.auto_core.specs.Game.{Holds};
+ghost use Rattle.auto_core.specs.Graph.{Subsumes};
 ghost use Rattle.graph_rows.specs.Block.{IsFormed, block_graph};
+ghost use Rattle.graph_rows.specs.Prints.{IsPrint};
 ghost use Rattle.supergraph.specs.Stands.{with_graph};
 ghost use Rattle.shared_graphs.specs.Graphs.{block_at};
 ghost use Rattle.shared_graphs.specs.GraphPairs.{AreCoverings};
@@ -11,9 +14,66 @@ ghost use Rattle.ramsey_search.specs.Kept.{AreFormed, AreThere, NoneSubsumes, Is
 use crate::parts::Held;
 use auto_core::Memory;
 use bit_rel::Rel;
+use graph_rows::Print;
 use shared_graphs::{Coverings, Graph};
 use std::alloc::Global;
 use supergraph::Arc;
+
+/// Tells whether the element subsumes the arc with the graph, which has this print.
+fn subsumes_arc(
+    order: &Rel,
+    graphs: &[Graph],
+    told: &mut Coverings,
+    element: &Held,
+    arc: &Arc,
+    graph: u32,
+    print: &Option<Print>,
+) -> bool
+    requires first { IsFormed order.now.size (block_at graphs.now element.now.graph) }
+    requires second { IsFormed order.now.size (block_at graphs.now graph) }
+    requires told { AreCoverings order.now.size order.now.pairs graphs.now told.old }
+    requires print { IfSome print.now (IsPrint order.now.size (Holds order.now.pairs) (block_at graphs.now graph)) }
+    ensures told { AreCoverings order.now.size order.now.pairs graphs.now told.new }
+    ensures subsumes { IsTrue result
+        ↔ Subsumes (Holds order.now.pairs) (with_graph element.now.arc (block_graph order.now.size (block_at graphs.now element.now.graph)))
+        (with_graph arc.now (block_graph order.now.size (block_at graphs.now graph))) }
+{
+    if told.misses_second(order, graphs, element.graph, graph, print) {
+        return false;
+    }
+    told.subsumes(order, graphs, &element.arc, element.graph, arc, graph)
+}
+
+/// Tells whether the new one, whose graph has this print, subsumes the element.
+fn subsumes_element(
+    order: &Rel,
+    graphs: &[Graph],
+    told: &mut Coverings,
+    new: &Held,
+    print: &Option<Print>,
+    element: &Held,
+) -> bool
+    requires first { IsFormed order.now.size (block_at graphs.now new.now.graph) }
+    requires second { IsFormed order.now.size (block_at graphs.now element.now.graph) }
+    requires told { AreCoverings order.now.size order.now.pairs graphs.now told.old }
+    requires print { IfSome print.now (IsPrint order.now.size (Holds order.now.pairs) (block_at graphs.now new.now.graph)) }
+    ensures told { AreCoverings order.now.size order.now.pairs graphs.now told.new }
+    ensures subsumes { IsTrue result
+        ↔ Subsumes (Holds order.now.pairs) (with_graph new.now.arc (block_graph order.now.size (block_at graphs.now new.now.graph)))
+        (with_graph element.now.arc (block_graph order.now.size (block_at graphs.now element.now.graph))) }
+{
+    if told.misses_first(order, graphs, new.graph, element.graph, print) {
+        return false;
+    }
+    told.subsumes(
+        order,
+        graphs,
+        &new.arc,
+        new.graph,
+        &element.arc,
+        element.graph,
+    )
+}
 
 /// The first of these elements that subsumes the arc with the graph.
 pub(crate) fn least_subsumer(
@@ -34,9 +94,10 @@ pub(crate) fn least_subsumer(
         let held = map (seen graphs.now) held.now in
         MatchOption result (NoneSubsumes order.now.size order.now.pairs held among.now x) (IsFirstSubsumer order.now.size order.now.pairs held among.now x) }
 {
+    let print = told.print_at(order, graphs, graph);
     for number in among {
         let element = &held[*number as usize];
-        if told.subsumes(order, graphs, &element.arc, element.graph, arc, graph) {
+        if subsumes_arc(order, graphs, told, element, arc, graph, &print) {
             return Some(*number);
         }
     }
@@ -61,23 +122,17 @@ pub(crate) fn drop_subsumed(
     ensures told { AreCoverings order.now.size order.now.pairs graphs.now told.new }
     ensures dropped { AreDropped order.now.size order.now.pairs (map (seen graphs.now) held.now) among.now (held_super order.now.size (seen graphs.now new.now)) live.old.items live.new.items }
 {
+    let print = told.print_at(order, graphs, new.graph);
     for number in among {
         let element = &held[*number as usize];
-        if told.subsumes(
-            order,
-            graphs,
-            &new.arc,
-            new.graph,
-            &element.arc,
-            element.graph,
-        ) {
+        if subsumes_element(order, graphs, told, new, &print, element) {
             live[*number as usize] = false;
         }
     }
 }
 
 /// Tells whether all of these elements are live.
-fn are_all_live(among: &[u32], live: &[bool]) -> bool
+pub(crate) fn are_all_live(among: &[u32], live: &[bool]) -> bool
     requires { AreThere among.now (length live.now) }
     ensures { result ≡ true → filter (λ j. slice_index_or live.now j false) among.now ≡ among.now }
 {

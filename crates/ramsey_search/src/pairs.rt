@@ -16,11 +16,9 @@ use crate::family::Family;
 use crate::parts::{Fate, Held};
 use auto_core::Auto;
 use shared_graphs::{Graph, GraphPairs, Graphs};
-use std::alloc::Global;
 
 /// Tells whether the pair fails: it is tested, and its graphs have no lasso.
 fn fails(
-    alloc: Global,
     first: &Auto,
     second: &Auto,
     graphs: &[Graph],
@@ -40,70 +38,11 @@ fn fails(
         && x.arc.to == y.arc.from
         && y.arc.from == y.arc.to
         && y.arc.accepting
-        && !answers.passes(alloc, second, graphs, x.graph, y.graph)
-}
-
-/// Tells whether it is seen at once that the pair passes.
-fn passes_at_sight(
-    first: &Auto,
-    second: &Auto,
-    graphs: &[Graph],
-    x: &Held,
-    y: &Held,
-    answers: &GraphPairs,
-) -> bool
-    requires second { IsFormed second.now.states (block_at graphs.now y.now.graph) }
-    requires told { AreLassosTold second.now graphs.now answers.now }
-    ensures { result ≡ true → Passes first.now second.now (held_super second.now.states (seen graphs.now x.now)) (held_super second.now.states (seen graphs.now y.now)) }
-{
-    if x.arc.from != first.initial() {
-        return true;
-    }
-    if x.arc.to != y.arc.from {
-        return true;
-    }
-    if y.arc.from != y.arc.to {
-        return true;
-    }
-    if !y.arc.accepting {
-        return true;
-    }
-    answers.pass_at_sight(second, graphs, x.graph, y.graph)
-}
-
-/// Tells whether it is seen at once that all pairs of the element `new` with these elements pass.
-fn all_pass_at_sight(
-    first: &Auto,
-    second: &Auto,
-    graphs: &[Graph],
-    held: &[Held],
-    among: &[u32],
-    new: u32,
-    answers: &GraphPairs,
-) -> bool
-    requires new { new < length held.now }
-    requires there { AreThere among.now (length held.now) }
-    requires formed { AreFormed second.now.states (map (seen graphs.now) held.now) }
-    requires told { AreLassosTold second.now graphs.now answers.now }
-    ensures { result ≡ true → (it : Held) → At held.now new it
-        → AllPass first.now second.now second.now.states (map (seen graphs.now) held.now) among.now (seen graphs.now it) (length among.now) }
-{
-    let x = &held[new as usize];
-    for number in among {
-        let y = &held[*number as usize];
-        if !passes_at_sight(first, second, graphs, x, y, answers) {
-            return false;
-        }
-        if !passes_at_sight(first, second, graphs, y, x, answers) {
-            return false;
-        }
-    }
-    true
+        && !answers.passes(second, graphs, x.graph, y.graph)
 }
 
 /// The first pair that fails of the element `new` with these elements.
 fn first_among(
-    alloc: Global,
     first: &Auto,
     second: &Auto,
     graphs: &[Graph],
@@ -123,45 +62,19 @@ fn first_among(
     let x = &held[new as usize];
     for number in among {
         let y = &held[*number as usize];
-        if fails(alloc, first, second, graphs, x, y, answers) {
+        if fails(first, second, graphs, x, y, answers) {
             return Fate::Apart(new, *number);
         }
-        if fails(alloc, first, second, graphs, y, x, answers) {
+        if fails(first, second, graphs, y, x, answers) {
             return Fate::Apart(*number, new);
         }
     }
     Fate::GoesOn
 }
 
-/// The same, where most pairs are seen to pass at once.
-fn first_told(
-    alloc: Global,
-    first: &Auto,
-    second: &Auto,
-    graphs: &[Graph],
-    held: &[Held],
-    among: &[u32],
-    new: u32,
-    answers: &mut GraphPairs,
-) -> Fate
-    requires new { new < length held.now }
-    requires there { AreThere among.now (length held.now) }
-    requires formed { AreFormed second.now.states (map (seen graphs.now) held.now) }
-    requires told { AreLassosTold second.now graphs.now answers.old }
-    ensures failing { (it : Held) → At held.now new it → AreTold first.now second.now second.now.states (map (seen graphs.now) held.now) among.now new (seen graphs.now it) result }
-    ensures told { AreLassosTold second.now graphs.now answers.new }
-    ensures covers { answers.new.covers ≡ answers.old.covers }
-{
-    if all_pass_at_sight(first, second, graphs, held, among, new, answers) {
-        return Fate::GoesOn;
-    }
-    first_among(alloc, first, second, graphs, held, among, new, answers)
-}
-
 /// The first pair that fails of the element `new` with live elements, if one does. Pairs with elements of other ends than those
 /// looked at are not tested.
 pub(crate) fn first_failing(
-    alloc: Global,
     first: &Auto,
     second: &Auto,
     graphs: &Graphs,
@@ -185,8 +98,7 @@ pub(crate) fn first_failing(
     let arc = family.held[new as usize].arc;
     if arc.from == start {
         let among = family.between(arc.to, arc.to);
-        first_told(
-            alloc,
+        first_among(
             first,
             second,
             &graphs.graphs,
@@ -197,8 +109,7 @@ pub(crate) fn first_failing(
         )
     } else if arc.from == arc.to {
         let among = family.between(start, arc.from);
-        first_told(
-            alloc,
+        first_among(
             first,
             second,
             &graphs.graphs,

@@ -49,7 +49,9 @@ fn admit(
     if number == limit {
         return Ok(Fate::Full);
     }
-    Ok(first_failing(alloc, first, second, graphs, family, number, answers))
+    let is_turn = new.arc.from == new.arc.to && new.arc.accepting;
+    answers.look(alloc, second, &graphs.graphs, new.graph, is_turn)?;
+    Ok(first_failing(first, second, graphs, family, number, answers))
 }
 
 /// A candidate comes: it is passed over if it is equal to an element or a live element subsumes it, and else admitted.
@@ -82,8 +84,7 @@ fn consider(
     answers
         .covers
         .print(alloc, order, &graphs.graphs, new.graph)?;
-    let is_turn = new.arc.from == new.arc.to && new.arc.accepting;
-    answers.look(alloc, second, &graphs.graphs, new.graph, is_turn)?;
+    answers.look(alloc, second, &graphs.graphs, new.graph, false)?;
     match family.least(order, graphs, &mut answers.covers, &new.arc, new.graph) {
         Some(_number) => Ok(Fate::GoesOn),
         None => admit(

@@ -15,17 +15,16 @@ use Rattle.search_laws.proofs.ListLemmas.{read_map}
 use Rattle.shared_graphs.specs.declared.memo.Answer.{Answer}
 use Rattle.shared_graphs.specs.declared.memo.Answer.TheVariants.{Number, Truth}
 use Rattle.shared_graphs.specs.declared.memo.Told.{Told}
+use Rattle.shared_graphs.specs.declared.memo.Memo.{Memo}
 use Rattle.shared_graphs.specs.declared.graphs.Graph.{Graph}
 use Rattle.shared_graphs.specs.declared.graphs.Graphs.{Graphs}
 use Rattle.shared_graphs.specs.declared.coverings.Coverings.{Coverings}
 use Rattle.shared_graphs.specs.declared.graph_pairs.GraphPairs.{GraphPairs}
-use Rattle.shared_graphs.specs.declared.looping.Marked.{Marked}
-use Rattle.shared_graphs.specs.Memo.{AllTold, NothingTold, HasAnswer, HasNoted}
-use Rattle.shared_graphs.specs.Graphs.{block_at, IsThere, HasGrown, IsGraphOf, HasAdded, HasNumber, FitsLetter, FitsStep}
-use Rattle.shared_graphs.specs.GraphPairs.{FitsCovering, FitsLasso, ArePrints, AreCoverings, AreGraphPairs}
+use Rattle.shared_graphs.specs.Memo.{AllTold, NothingTold, HasAnswer, HasNoOther, HasNoted}
+use Rattle.shared_graphs.specs.Graphs.{block_at, IsBlockOf, IsThere, HasGrown, IsGraphOf, HasAdded, HasNumber, FitsLetter, FitsStep}
+use Rattle.shared_graphs.specs.GraphPairs.{FitsCovering, ArePrints, AreCoverings, AreGraphPairs}
 use Rattle.shared_graphs.specs.declared.glimpses.Glimpse.{Glimpse}
 use Rattle.shared_graphs.specs.Glimpses.{AreGlimpses, IsGlimpse}
-use Rattle.shared_graphs.specs.Looping.{AreMarked, IsLoopRow}
 
 -- What is found fits, and what is noted too.
 pub told_found : (fits : ℕ → ℕ → Answer → Type 0) (told : List (Option Told)) (first second : ℕ) (answer : Answer) → AllTold fits told → HasAnswer told first second answer → fits first second answer
@@ -47,6 +46,12 @@ told_none fits told none k t is = absurd (none k t is)
 
 told_as : (fits other : ℕ → ℕ → Answer → Type 0) (told : List (Option Told)) → ((x y : ℕ) (a : Answer) → fits x y a → other x y a) → AllTold fits told → AllTold other told
 told_as fits other told goes all k t is = goes t.first t.second t.answer (all k t is)
+
+pub told_still : (fits : ℕ → ℕ → Answer → Type 0) (old now : List (Option Told)) → HasNoOther old now → AllTold fits old → AllTold fits now
+told_still fits old now none all k t is =
+    let (j, was, was_is, first, second, answer) = none k t is in
+    subst (λ a. fits t.first t.second a) (sym answer)
+    (subst (λ m. fits t.first m was.answer) (sym second) (subst (λ m. fits m was.second was.answer) (sym first) (all j was was_is)))
 
 -- One more graph.
 pub grown_none : (graphs : List Graph) → HasGrown graphs graphs
@@ -124,18 +129,6 @@ module _ (old now : List Graph) (grown : HasGrown old now) where
             (subst (λ l. IsTrue so ↔ words.Covers (Holds S) (block_graph n (block_at old g)) (block_graph n l)) (sym (grown.same h second)) is.2),
       )
 
-  lasso_stays : (B : Automaton) (g h : ℕ) (a : Answer) → FitsLasso B old g h a → FitsLasso B now g h a
-  lasso_stays B g h (Number k) is = tt
-  lasso_stays B g h (Truth so) is =
-      let size = grown.size in
-      let first = is.0 in
-      let second = is.1 in (
-        omega arith,
-        omega arith,
-        subst (λ l. IsTrue so ↔ words.LassoIn (block_graph B.states l) (block_graph B.states (block_at now h)) B.initial) (sym (grown.same g first))
-            (subst (λ l. IsTrue so ↔ words.LassoIn (block_graph B.states (block_at old g)) (block_graph B.states l) B.initial) (sym (grown.same h second)) is.2),
-      )
-
   pub letters_stay : (B : Automaton) (told : List (Option Told)) → AllTold (FitsLetter B old) told → AllTold (FitsLetter B now) told
   letters_stay B told = told_as (FitsLetter B old) (FitsLetter B now) told (letter_stays B)
 
@@ -154,15 +147,6 @@ module _ (old now : List Graph) (grown : HasGrown old now) where
   pub all_coverings_stay : (n : ℕ) (S : List (ℕ × ℕ)) (c : Coverings) → AreCoverings n S old c → AreCoverings n S now c
   all_coverings_stay n S c are = record { prints = prints_stay n S c.prints.items are.prints; told = coverings_stay n S c.told.told.items are.told }
 
-  marked_stay : (n : ℕ) (all : List Marked) → AreMarked n old all → AreMarked n now all
-  marked_stay n all are k marked is = elim (are k marked is) [
-    | inl none ↦ inl none
-    | inr marks ↦
-        let size = grown.size in
-        let within = marks.within in
-        inr (record { within = omega arith; row = subst (λ l. IsLoopRow n (block_graph n l) marked.row.items) (sym (grown.same marked.graph within)) marks.row })
-  ]
-
   glimpses_stay : (B : Automaton) (glimpses : List Glimpse) → AreGlimpses B old glimpses → AreGlimpses B now glimpses
   glimpses_stay B glimpses are k x is =
       let size = grown.size in
@@ -172,8 +156,37 @@ module _ (old now : List Graph) (grown : HasGrown old now) where
   pub pairs_stay : (B : Automaton) (S : List (ℕ × ℕ)) (answers : GraphPairs) → AreGraphPairs B S old answers → AreGraphPairs B S now answers
   pairs_stay B S answers are = record {
     covers = all_coverings_stay B.states S answers.covers are.covers;
-    lassos = record { lassos = told_as (FitsLasso B old) (FitsLasso B now) answers.lassos.told.items (lasso_stays B) are.lassos.lassos; looping = marked_stay B.states answers.looping.marked.items are.lassos.looping; glimpses = glimpses_stay B answers.glimpses.items are.lassos.glimpses; room = are.lassos.room };
+    lassos = record { glimpses = glimpses_stay B answers.glimpses.items are.lassos.glimpses; room = are.lassos.room };
   }
+
+-- One more extension is remembered, of a graph that was there, whose number was given, once the table has no other ones.
+pub step_noted :
+    (B : Automaton) (old mid : Graphs) (from label k : ℕ) (block : List ℕ) (steps now : List (Option Told))
+    → AllTold (FitsStep B old.graphs.items) old.steps.told.items
+    → HasNumber block old mid k
+    → IsBlockOf B (words.extended B (block_graph B.states (block_at old.graphs.items from)) label) block
+    → from < length old.graphs.items
+    → HasNoOther mid.steps.told.items steps
+    → HasNoted from label (Number k) steps now
+    → AllTold (FitsStep B mid.graphs.items) now
+step_noted B old mid from label k block steps now all has is within none noted =
+    let size = has.grown.size in
+    let same = has.grown.same from within in
+    let G : List ℕ → words.Graph = λ l. words.extended B (block_graph B.states l) label in
+    let before : AllTold (FitsStep B mid.graphs.items) mid.steps.told.items =
+    subst (λ (m : Memo). AllTold (FitsStep B mid.graphs.items) m.told.items) (sym has.steps)
+    (steps_stay old.graphs.items mid.graphs.items has.grown B old.steps.told.items all) in
+    told_more (FitsStep B mid.graphs.items) steps now from label (Number k) (told_still (FitsStep B mid.graphs.items) mid.steps.told.items steps none before) (
+      omega arith,
+      record {
+        within = has.there.within;
+        block = record {
+          formed = subst (IsFormed B.states) (sym has.there.is) is.formed;
+          same = subst (λ l. words.SameGraph (block_graph B.states l) (G (block_at mid.graphs.items from))) (sym has.there.is) (subst (λ l. words.SameGraph (block_graph B.states block) (G l)) (sym same) is.same);
+        };
+      },
+    )
+    noted
 
 -- A formed block is that of a graph that is there.
 pub formed_there : (n : ℕ) (graphs : List Graph) (k : ℕ) → 1 ≤ n → IsFormed n (block_at graphs k) → k < length graphs

@@ -5,7 +5,7 @@ use Rattle.auto_core.specs.Graph as words
 use Rattle.auto_core.specs.Outcome.{At}
 use Rattle.graph_rows.specs.declared.prints.Print.{Print}
 use Rattle.graph_rows.specs.Block.{block_graph}
-use Rattle.graph_rows.specs.Prints.{IsPrint, is_past, pairs_of, picked_source, picked_target}
+use Rattle.graph_rows.specs.Prints.{IsPrint, Misses, is_past, pairs_of, picked_source, picked_target}
 use Rattle.search_laws.proofs.PlaceLemmas.{at_cases}
 use Rattle.shared_graphs.specs.declared.graphs.Graph.{Graph}
 use Rattle.shared_graphs.specs.Graphs.{block_at}
@@ -37,6 +37,18 @@ missed :
 missed S g h false s t has none c = let (u, arc, rel) = c.joined s t has in none u arc rel
 missed S g h true s t has none c = let (u, arc, rel) = c.past s t has in none u arc rel
 
+pub misses_apart :
+    (n : ℕ) (S : List (ℕ × ℕ)) (g h : List ℕ) (first second : Print)
+    → IsPrint n (Holds S) g first
+    → IsPrint n (Holds S) h second
+    → Misses first second
+    → words.Covers (Holds S) (block_graph n g) (block_graph n h)
+    → ⊥
+misses_apart n S g h first second first_is second_is misses =
+    let j = misses.at in
+    missed (Holds S) (block_graph n g) (block_graph n h) (is_past j) (picked_source n j) (picked_target n j)
+    (first_is.own j misses.own) (λ u. second_is.answered j u misses.within misses.unanswered)
+
 pub apart :
     (n : ℕ) (S : List (ℕ × ℕ)) (graphs : List Graph) (prints : List Print) (g h : ℕ)
     → ArePrints n S graphs prints
@@ -44,8 +56,4 @@ pub apart :
     → words.Covers (Holds S) (block_graph n (block_at graphs g)) (block_graph n (block_at graphs h))
     → ⊥
 apart n S graphs prints g h all told =
-    let j = told.misses.at in
-    let first = (all g told.first told.first_is).1 in
-    let second = (all h told.second told.second_is).1 in
-    missed (Holds S) (block_graph n (block_at graphs g)) (block_graph n (block_at graphs h)) (is_past j) (picked_source n j) (picked_target n j)
-    (first.own j told.misses.own) (λ u. second.answered j u told.misses.within told.misses.unanswered)
+    misses_apart n S (block_at graphs g) (block_at graphs h) told.first told.second (all g told.first told.first_is).1 (all h told.second told.second_is).1 told.misses

@@ -1,5 +1,5 @@
 -- Glimpses of graphs.
-use Rattle.std.specs.Prelude.{ℕ, ◌<◌, List, [], ◌∷◌, length}
+use Rattle.std.specs.Prelude.{◌≡◌, ◌⊎◌, ℕ, ◌<◌, List, [], ◌∷◌, length}
 use Rattle.auto_core.specs.Automaton.{Automaton}
 use Rattle.auto_core.specs.Graph as words
 use Rattle.auto_core.specs.Outcome.{At}
@@ -9,11 +9,14 @@ use Rattle.lasso_test.specs.Loops.{HasLoop}
 use Rattle.shared_graphs.specs.declared.graphs.Graph.{Graph}
 use Rattle.shared_graphs.specs.declared.glimpses.Glimpse.{Glimpse}
 use Rattle.shared_graphs.specs.Graphs.{block_at}
+use Rattle.shared_graphs.specs.Looping.{IsLoopRow}
 
--- The bits are of states that an arc enters from the initial state, and of states from which there is a loop.
+-- The bits are of states that an arc enters from the initial state, and of states from which there is a loop; the row, if there is one,
+-- marks all of these.
 pub record IsGlimpse (B : Automaton) (graph : words.Graph) (glimpse : Glimpse) : Type 0 where
   pub entered : (q : ℕ) → HasBit (glimpse.entered ∷ []) q → graph.joined B.initial q
   pub looping : (q : ℕ) → HasBit (glimpse.looping ∷ []) q → HasLoop graph q
+  pub row : (glimpse.row.items ≡ []) ⊎ IsLoopRow B.states graph glimpse.row.items
 
 -- Each glimpse is that of the graph with its number.
 abbrev pub AreGlimpses : Automaton → List Graph → List Glimpse → Type 0

@@ -2,7 +2,7 @@
 use Rattle.std.specs.Prelude.{◌≡◌, ℕ, ◌<◌, ◌↔◌, List, length, IsTrue}
 use Rattle.auto_core.specs.Automaton.{Automaton}
 use Rattle.auto_core.specs.Game.{Holds}
-use Rattle.auto_core.specs.Graph.{Covers, LassoIn}
+use Rattle.auto_core.specs.Graph.{Covers}
 use Rattle.auto_core.specs.Outcome.{At}
 use Rattle.graph_rows.specs.Block.{block_graph}
 use Rattle.graph_rows.specs.declared.prints.Print.{Print}
@@ -14,24 +14,16 @@ use Rattle.shared_graphs.specs.declared.coverings.Coverings.{Coverings}
 use Rattle.shared_graphs.specs.declared.graph_pairs.GraphPairs.{GraphPairs}
 use Rattle.shared_graphs.specs.Graphs.{block_at}
 use Rattle.shared_graphs.specs.Glimpses.{AreGlimpses}
-use Rattle.shared_graphs.specs.Looping.{AreMarked}
 use Rattle.shared_graphs.specs.Memo.{AllTold}
 
--- The answer tells whether the first graph covers the second, or whether they have a lasso.
+-- The answer tells whether the first graph covers the second.
 abbrev pub FitsCovering : ℕ → List (ℕ × ℕ) → List Graph → ℕ → ℕ → Answer → Type 0
 FitsCovering n S graphs g h (Number k) = Unit {0}
 FitsCovering n S graphs g h (Truth is) =
     (g < length graphs) × (h < length graphs) × (IsTrue is ↔ Covers (Holds S) (block_graph n (block_at graphs g)) (block_graph n (block_at graphs h)))
 
-abbrev pub FitsLasso : Automaton → List Graph → ℕ → ℕ → Answer → Type 0
-FitsLasso B graphs g h (Number k) = Unit {0}
-FitsLasso B graphs g h (Truth is) =
-    (g < length graphs) × (h < length graphs) × (IsTrue is ↔ LassoIn (block_graph B.states (block_at graphs g)) (block_graph B.states (block_at graphs h)) B.initial)
-
--- What is remembered of lassos, of loops and at sight is so, and there is room for the lasso test.
+-- The glimpses are those of the graphs, and there is room for the lasso test.
 pub record AreLassosTold (B : Automaton) (graphs : List Graph) (answers : GraphPairs) : Type 0 where
-  pub lassos : AllTold (FitsLasso B graphs) answers.lassos.told.items
-  pub looping : AreMarked B.states graphs answers.looping.marked.items
   pub glimpses : AreGlimpses B graphs answers.glimpses.items
   pub room : answers.scratch ≡ B.states
 

@@ -25,3 +25,8 @@ pub record HasAnswer (told : List (Option Told)) (first second : ℕ) (answer : 
 abbrev pub HasNoted : ℕ → ℕ → Answer → List (Option Told) → List (Option Told) → Type 0
 HasNoted first second answer old now =
     (k : ℕ) (t : Told) → At now k (Some t) → At old k (Some t) ⊎ ((t.first ≡ first) × (t.second ≡ second) × (t.answer ≡ answer))
+
+-- Each answer was remembered before: no two numbers have another one.
+abbrev pub HasNoOther : List (Option Told) → List (Option Told) → Type 0
+HasNoOther old now =
+    (k : ℕ) (t : Told) → At now k (Some t) → (j : ℕ) × (was : Told) × At old j (Some was) × (t.first ≡ was.first) × (t.second ≡ was.second) × (t.answer ≡ was.answer)

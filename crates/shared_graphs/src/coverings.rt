@@ -1,9 +1,10 @@
 //! Which graph covers which, as it is remembered: by prints of graphs, which tell most pairs apart at once, and by answers about pairs.
 
-ghost use Rattle.std.specs.Prelude.{◌≡◌, ◌<◌, ◌↔◌, ℕ, List, true, IsTrue, IfOk, length};
+ghost use Rattle.std.specs.Prelude.{◌≡◌, ◌<◌, ◌↔◌, ℕ, List, true, IsTrue, IfOk, IfSome, length};
 ghost use Rattle.auto_core.specs.Game.{Holds};
 ghost use Rattle.auto_core.specs.Graph.{Covers, Subsumes};
 ghost use Rattle.graph_rows.specs.Block.{block_graph, IsFormed};
+ghost use Rattle.graph_rows.specs.Prints.{IsPrint};
 ghost use Rattle.supergraph.specs.Stands.{with_graph};
 ghost use Rattle.shared_graphs.specs.declared.graphs.Graph.{Graph};
 ghost use Rattle.shared_graphs.specs.Graphs.{block_at};
@@ -19,7 +20,7 @@ use std::alloc::Global;
 use supergraph::Arc;
 
 /// How many answers about pairs of graphs are remembered, of either kind.
-pub(crate) const PAIRS: usize = 16384;
+const PAIRS: usize = 4096;
 
 /// The prints of the first graphs, by their numbers, and what was told of pairs of graphs.
 #[derive(Debug, Drop)]
@@ -132,6 +133,61 @@ impl Coverings {
         }
         self.prints.push(print_of(order, block_of(graphs, h)))?;
         Ok(())
+    }
+
+    /// The print of the graph, if it was taken.
+    pub fn print_at(&self, order: &Rel, graphs: &[Graph], h: u32) -> Option<Print>
+        requires told { AreCoverings order.now.size order.now.pairs graphs.now self.now }
+        ensures { IfSome result (IsPrint order.now.size (Holds order.now.pairs) (block_at graphs.now h)) }
+    {
+        if h as usize >= self.prints.len() {
+            return None;
+        }
+        Some(self.prints[h as usize])
+    }
+
+    /// Tells whether prints show that the first graph does not cover the second, whose print is given.
+    pub fn misses_second(
+        &self,
+        order: &Rel,
+        graphs: &[Graph],
+        g: u32,
+        h: u32,
+        print: &Option<Print>,
+    ) -> bool
+        requires told { AreCoverings order.now.size order.now.pairs graphs.now self.now }
+        requires print { IfSome print.now (IsPrint order.now.size (Holds order.now.pairs) (block_at graphs.now h)) }
+        ensures { result ≡ true → Covers (Holds order.now.pairs) (block_graph order.now.size (block_at graphs.now g)) (block_graph order.now.size (block_at graphs.now h)) → ⊥ }
+    {
+        if g as usize >= self.prints.len() {
+            return false;
+        }
+        match *print {
+            Some(print) => misses(&self.prints[g as usize], &print),
+            None => false,
+        }
+    }
+
+    /// Tells whether prints show that the first graph, whose print is given, does not cover the second.
+    pub fn misses_first(
+        &self,
+        order: &Rel,
+        graphs: &[Graph],
+        g: u32,
+        h: u32,
+        print: &Option<Print>,
+    ) -> bool
+        requires told { AreCoverings order.now.size order.now.pairs graphs.now self.now }
+        requires print { IfSome print.now (IsPrint order.now.size (Holds order.now.pairs) (block_at graphs.now g)) }
+        ensures { result ≡ true → Covers (Holds order.now.pairs) (block_graph order.now.size (block_at graphs.now g)) (block_graph order.now.size (block_at graphs.now h)) → ⊥ }
+    {
+        if h as usize >= self.prints.len() {
+            return false;
+        }
+        match *print {
+            Some(print) => misses(&print, &self.prints[h as usize]),
+            None => false,
+        }
     }
 
     /// Tells whether `x` with the graph `g` subsumes `y` with the graph `h`.

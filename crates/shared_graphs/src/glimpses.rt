@@ -1,23 +1,26 @@
-//! A first look at whether graphs have a lasso, by the first 64 states alone.
+//! What is kept of graphs to tell whether two of them have a lasso: for a first look the first 64 states alone, and the states with a loop.
 
-ghost use Rattle.std.specs.Prelude.{◌≡◌, ℕ, List, [], ◌∷◌, true, IfOk};
+ghost use Rattle.std.specs.Prelude.{◌≡◌, ◌↔◌, ℕ, List, [], ◌∷◌, true, IsTrue, IfOk, IfSome};
 ghost use Rattle.auto_core.specs.Automaton.{Automaton};
+ghost use Rattle.auto_core.specs.Graph.{LassoIn};
 ghost use Rattle.auto_core.specs.Rows.{HasBit};
 ghost use Rattle.graph_rows.specs.Block.{block_graph, IsFormed};
-ghost use Rattle.shared_graphs.specs.Glimpses.{IsGlimpse, MeetAtSight};
+ghost use Rattle.shared_graphs.specs.Graphs.{block_at};
+ghost use Rattle.shared_graphs.specs.Glimpses.{AreGlimpses, IsGlimpse, MeetAtSight};
 
+use crate::graphs::{Graph, block_of};
 use crate::looping::marked_row;
 use auto_core::{Auto, Memory, rows};
-use lasso_test::Scratch;
+use lasso_test::{Scratch, enters};
 use std::alloc::Global;
 
-/// Of the first 64 states those to which an arc of the graph leads from the initial state, and those from which the graph has a loop, once
-/// these are marked.
-#[derive(Clone, Copy, Debug)]
+/// Of the first 64 states those to which an arc of the graph leads from the initial state, and those from which the graph has a loop; and the
+/// row of all states from which it has one. With no row they are not marked.
+#[derive(Debug, Drop)]
 pub struct Glimpse {
     pub entered: u64,
     pub looping: u64,
-    pub is_marked: bool,
+    pub row: Vec<u64>,
 }
 
 /// The first word of the row.
@@ -43,14 +46,14 @@ fn entered_word(states: u32, block: &[u64], initial: u32) -> u64
 }
 
 /// The glimpse of the graph, no state being marked as one with a loop.
-pub(crate) fn unmarked(second: &Auto, block: &[u64]) -> Glimpse
+pub(crate) fn unmarked(alloc: Global, second: &Auto, block: &[u64]) -> Glimpse
     requires { IsFormed second.now.states block.now }
     ensures { IsGlimpse second.now (block_graph second.now.states block.now) result }
 {
     Glimpse {
         entered: entered_word(second.states(), block, second.initial()),
         looping: 0,
-        is_marked: false,
+        row: Vec::new(alloc),
     }
 }
 
@@ -71,7 +74,7 @@ pub(crate) fn glimpse_of(
     Ok(Glimpse {
         entered: entered_word(states, block, second.initial()),
         looping: first_word(&row),
-        is_marked: true,
+        row,
     })
 }
 
@@ -85,5 +88,36 @@ pub(crate) fn meet(glimpses: &[Glimpse], g: u32, h: u32) -> bool
     if h as usize >= glimpses.len() {
         return false;
     }
-    glimpses[g as usize].entered & glimpses[h as usize].looping != 0
+    let first = &glimpses[g as usize];
+    let second = &glimpses[h as usize];
+    first.entered & second.looping != 0
+}
+
+/// Tells whether the graphs have a lasso from the initial state, if the states with a loop are marked in the second.
+pub(crate) fn told(
+    second: &Auto,
+    graphs: &[Graph],
+    glimpses: &[Glimpse],
+    g: u32,
+    h: u32,
+) -> Option<bool>
+    requires first { IsFormed second.now.states (block_at graphs.now g) }
+    requires second { IsFormed second.now.states (block_at graphs.now h) }
+    requires glimpses { AreGlimpses second.now graphs.now glimpses.now }
+    ensures { IfSome result (λ holds. IsTrue holds
+        ↔ LassoIn (block_graph second.now.states (block_at graphs.now g)) (block_graph second.now.states (block_at graphs.now h)) second.now.initial) }
+{
+    if h as usize >= glimpses.len() {
+        return None;
+    }
+    let glimpse = &glimpses[h as usize];
+    if glimpse.row.len() == 0 {
+        return None;
+    }
+    Some(enters(
+        second.states(),
+        block_of(graphs, g),
+        second.initial(),
+        &glimpse.row,
+    ))
 }

@@ -1,4 +1,4 @@
-//! What was told of pairs of graphs, remembered: whether one covers another, and whether they have a lasso.
+//! Pairs of graphs: whether one covers another, as it is remembered, and whether they have a lasso.
 
 ghost use Rattle.std.specs.Prelude.{◌≡◌, ◌↔◌, ℕ, List, true, IsTrue, IfOk};
 ghost use Rattle.auto_core.specs.Automaton.{Automaton};
@@ -8,21 +8,17 @@ ghost use Rattle.shared_graphs.specs.declared.graphs.Graph.{Graph};
 ghost use Rattle.shared_graphs.specs.Graphs.{block_at};
 ghost use Rattle.shared_graphs.specs.GraphPairs.{AreLassosTold, AreGraphPairs};
 
-use crate::coverings::{Coverings, PAIRS, are_there};
-use crate::glimpses::{Glimpse, glimpse_of, meet, unmarked};
+use crate::coverings::Coverings;
+use crate::glimpses::{Glimpse, glimpse_of, meet, told, unmarked};
 use crate::graphs::{Graph, block_of};
-use crate::looping::Looping;
-use crate::memo::{Answer, Memo};
 use auto_core::{Auto, Memory};
 use lasso_test::Scratch;
 use std::alloc::Global;
 
-/// What is remembered of pairs of graphs, and the room for the lasso test.
+/// What is remembered of pairs of graphs, the glimpses of graphs by their numbers, and the room for the lasso test.
 #[derive(Debug, Drop)]
 pub struct GraphPairs {
     pub covers: Coverings,
-    pub lassos: Memo,
-    pub looping: Looping,
     pub glimpses: Vec<Glimpse>,
     pub scratch: Scratch,
 }
@@ -34,15 +30,19 @@ impl GraphPairs {
     {
         Ok(GraphPairs {
             covers: Coverings::new(alloc)?,
-            lassos: Memo::new(alloc, PAIRS)?,
-            looping: Looping::new(alloc)?,
             glimpses: Vec::new(alloc),
             scratch: Scratch::new(alloc, states)?,
         })
     }
 
     /// Takes the glimpse of the graph, if it is the first without one.
-    fn glimpse(&mut self, second: &Auto, graphs: &[Graph], h: u32) -> Result<(), Memory>
+    fn glimpse(
+        &mut self,
+        alloc: Global,
+        second: &Auto,
+        graphs: &[Graph],
+        h: u32,
+    ) -> Result<(), Memory>
         requires formed { IsFormed second.now.states (block_at graphs.now h) }
         requires told { AreLassosTold second.now graphs.now self.old }
         ensures told { AreLassosTold second.now graphs.now self.new }
@@ -54,7 +54,7 @@ impl GraphPairs {
         if h as usize >= graphs.len() {
             return Ok(());
         }
-        let glimpse = unmarked(second, block_of(graphs, h));
+        let glimpse = unmarked(alloc, second, block_of(graphs, h));
         self.glimpses.push(glimpse)?;
         Ok(())
     }
@@ -69,7 +69,7 @@ impl GraphPairs {
         if h as usize >= self.glimpses.len() || h as usize >= graphs.len() {
             return Ok(());
         }
-        if self.glimpses[h as usize].is_marked {
+        if self.glimpses[h as usize].row.len() != 0 {
             return Ok(());
         }
         let glimpse = glimpse_of(alloc, second, block_of(graphs, h), &mut self.scratch)?;
@@ -91,7 +91,7 @@ impl GraphPairs {
         ensures told { AreLassosTold second.now graphs.now self.new }
         ensures covers { self.new.covers ≡ self.old.covers }
     {
-        self.glimpse(second, graphs, h)?;
+        self.glimpse(alloc, second, graphs, h)?;
         if is_turn {
             self.mark(alloc, second, graphs, h)?;
         }
@@ -109,7 +109,7 @@ impl GraphPairs {
     }
 
     /// Tells whether the graphs have a lasso from the initial state.
-    pub fn passes(&mut self, alloc: Global, second: &Auto, graphs: &[Graph], g: u32, h: u32) -> bool
+    pub fn passes(&mut self, second: &Auto, graphs: &[Graph], g: u32, h: u32) -> bool
         requires first { IsFormed second.now.states (block_at graphs.now g) }
         requires second { IsFormed second.now.states (block_at graphs.now h) }
         requires told { AreLassosTold second.now graphs.now self.old }
@@ -118,24 +118,18 @@ impl GraphPairs {
         ensures passes { IsTrue result
             ↔ LassoIn (block_graph second.now.states (block_at graphs.now g)) (block_graph second.now.states (block_at graphs.now h)) second.now.initial }
     {
-        if let Some(holds) = self.looping.told(second, graphs, g, h) {
+        if self.pass_at_sight(second, graphs, g, h) {
+            return true;
+        }
+        if let Some(holds) = told(second, graphs, &self.glimpses, g, h) {
             return holds;
         }
-        self.looping
-            .ask(alloc, second.states(), graphs, h, &mut self.scratch);
-        if let Some(Answer::Truth(holds)) = self.lassos.find(g, h) {
-            return holds;
-        }
-        let holds = lasso_test::passes(
+        lasso_test::passes(
             second.states(),
             block_of(graphs, g),
             block_of(graphs, h),
             second.initial(),
             &mut self.scratch,
-        );
-        if are_there(graphs, g, h) {
-            self.lassos.note(g, h, Answer::Truth(holds));
-        }
-        holds
+        )
     }
 }

@@ -5,6 +5,7 @@ ghost use Rattle.auto_core.specs.Automaton.{Automaton};
 ghost use Rattle.auto_core.specs.Graph.{letter_graph, extended};
 ghost use Rattle.graph_rows.specs.Block.{block_graph, IsFormed};
 ghost use Rattle.shared_graphs.specs.Graphs.{block_at, HasAdded, HasGrown, HasNumber, IsBlockOf, IsGraphOf, IsStock, IsThere};
+ghost use Rattle.shared_graphs.specs.Memo.{HasNoOther};
 
 use crate::memo::{Answer, Memo};
 use auto_core::{Auto, Memory};
@@ -16,8 +17,10 @@ const PLACES: usize = 4096;
 /// How many graphs of letters are remembered.
 const LETTERS: usize = 256;
 
-/// How many extensions of graphs by letters are remembered.
-const STEPS: usize = 16384;
+/// How many extensions of graphs by letters are remembered at first, and at most.
+const STEPS: usize = 1024;
+
+const MOST_STEPS: usize = 65536;
 
 /// A graph: its block, the mixed words of the block, and the number of the graph before it at the same place, which need not be
 /// there.
@@ -205,6 +208,19 @@ impl Graphs {
         extended_block(alloc, second, &letter, from, label)
     }
 
+    /// Makes room for more extensions, where many graphs have come.
+    fn make_room(&mut self, alloc: Global) -> Result<(), Memory>
+        ensures graphs { IfOk result (λ _. self.new.graphs ≡ self.old.graphs) }
+        ensures letters { IfOk result (λ _. self.new.letters ≡ self.old.letters) }
+        ensures steps { IfOk result (λ _. HasNoOther self.old.steps.told.items self.new.steps.told.items) }
+    {
+        let places = self.steps.told.len();
+        if places < MOST_STEPS && self.graphs.len() > places / 2 {
+            self.steps.grow(alloc, MOST_STEPS.min(places * 8))?;
+        }
+        Ok(())
+    }
+
     /// The number of the graph, extended by the letter.
     pub fn after(
         &mut self,
@@ -226,6 +242,7 @@ impl Graphs {
         let is_there = (from as usize) < self.graphs.len();
         let number = self.number_of(block)?;
         if is_there {
+            self.make_room(alloc)?;
             self.steps.note(from, label, Answer::Number(number));
         }
         Ok(number)

@@ -12,5 +12,5 @@ pub use coverings::{Coverings, subsumes};
 pub use glimpses::Glimpse;
 pub use graph_pairs::GraphPairs;
 pub use graphs::{Graph, Graphs, block_of};
-pub use looping::{Looping, Marked, marked_row};
+pub use looping::marked_row;
 pub use memo::{Answer, Memo, Told};

@@ -1,7 +1,7 @@
 //! Answers that are remembered, in a table of fixed size: a later one may take the place of an earlier one.
 
 ghost use Rattle.std.specs.Prelude.{IfOk, IfSome};
-ghost use Rattle.shared_graphs.specs.Memo.{NothingTold, HasAnswer, HasNoted};
+ghost use Rattle.shared_graphs.specs.Memo.{NothingTold, HasAnswer, HasNoOther, HasNoted};
 
 use auto_core::Memory;
 use std::alloc::Global;
@@ -82,5 +82,19 @@ impl Memo {
                 answer,
             });
         }
+    }
+
+    /// Gives the table so many places. Answers whose place is taken by a later one are lost.
+    pub fn grow(&mut self, alloc: Global, places: usize) -> Result<(), Memory>
+        ensures { IfOk result (λ _. HasNoOther self.old.told.items self.new.told.items) }
+    {
+        let mut grown = Memo::new(alloc, places)?;
+        for place in 0..self.told.len() {
+            if let Some(told) = self.told[place] {
+                grown.note(told.first, told.second, told.answer);
+            }
+        }
+        self.told = grown.told;
+        Ok(())
     }
 }

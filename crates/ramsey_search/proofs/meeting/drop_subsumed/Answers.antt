@@ -10,10 +10,10 @@ use Rattle.search_laws.proofs.PlaceLemmas.{read_at}
 use Rattle.ramsey_search.proofs.MeetingLemmas.{AreDroppedSoFar, dropped_all, dropped_more, kept_more}
 use Rattle.ramsey_search.proofs.SeenLemmas.{held_of, seen_is, seen_formed}
 use Rattle.ramsey_search.proofs.meeting.drop_subsumed.Goals as goal
-use Rattle.ramsey_search.proofs.meeting.drop_subsumed.Goals.{then-subsumes, else-subsumes}
+use Rattle.ramsey_search.proofs.meeting.drop_subsumed.Goals.{then-subsumes_element, else-subsumes_element}
 
-pub subsumes-requires-clause-second : goal.subsumes-requires-clause-second
-subsumes-requires-clause-second c =
+pub subsumes_element-requires-clause-second : goal.subsumes_element-requires-clause-second
+subsumes_element-requires-clause-second c =
     let j : ℕ = slice_index_or c.args.among.now c.loop-number.number-index 0 in
     let is : At c.args.among.now c.loop-number.number-index j = read_at c.args.among.now c.loop-number.number-index 0 j c.loop-number-test.true refl in
     seen_formed c.args.order.now.size c.args.graphs.now c.args.held.now j (c.requires.there c.loop-number.number-index j is) c.requires.formed
@@ -44,16 +44,16 @@ loop-number-preserved c =
     let flags : vec_len c.args.live.now ≡ length c.args.held.now = c.requires.flags in
     let then : vec_len c.args.live.now ≡ length c.args.live.now.items = c.args.live.now.ok.0 in
     record {
-      told = c.subsumes.ensures.told;
-      dropped = elim c.if-subsumes.branch [
-        | then-subsumes w ↦
-            let is_so : Subsumes (Holds S) new (held_super n h) = w.if-subsumes.ensures.subsumes.0 refl in
-            let items : c.if-subsumes.live.items ≡ slice_set c.loop-number.live.items j false = ap (λ v. v.items) w.live-is in
+      told = c.subsumes_element.ensures.told;
+      dropped = elim c.if-subsumes_element.branch [
+        | then-subsumes_element w ↦
+            let is_so : Subsumes (Holds S) new (held_super n h) = w.if-subsumes_element.ensures.subsumes.0 refl in
+            let items : c.if-subsumes_element.live.items ≡ slice_set c.loop-number.live.items j false = ap (λ v. v.items) w.live-is in
             subst (λ l. AreDroppedSoFar n S held c.args.among.now new c.args.live.now.items l (c.loop-number.number-index + 1)) (sym items)
             (dropped_more n S held c.args.among.now new c.args.live.now.items c.loop-number.live.items c.loop-number.number-index j h is there (omega arith) is_so c.loop-number.invariant.dropped)
-        | else-subsumes w ↦
-            let not_so : Subsumes (Holds S) new (held_super n h) → ⊥ = λ sub. false≢true (w.if-subsumes.ensures.subsumes.1 sub) in
-            let items : c.if-subsumes.live.items ≡ c.loop-number.live.items = ap (λ v. v.items) w.live-is in
+        | else-subsumes_element w ↦
+            let not_so : Subsumes (Holds S) new (held_super n h) → ⊥ = λ sub. false≢true (w.if-subsumes_element.ensures.subsumes.1 sub) in
+            let items : c.if-subsumes_element.live.items ≡ c.loop-number.live.items = ap (λ v. v.items) w.live-is in
             subst (λ l. AreDroppedSoFar n S held c.args.among.now new c.args.live.now.items l (c.loop-number.number-index + 1)) (sym items)
             (kept_more n S held c.args.among.now new c.args.live.now.items c.loop-number.live.items c.loop-number.number-index j h is there not_so c.loop-number.invariant.dropped)
       ];

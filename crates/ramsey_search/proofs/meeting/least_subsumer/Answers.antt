@@ -13,14 +13,14 @@ use Rattle.ramsey_search.specs.Kept.{held_super}
 use Rattle.ramsey_search.proofs.SeenLemmas.{held_of, seen_is, seen_formed}
 use Rattle.ramsey_search.proofs.meeting.least_subsumer.Goals as goal
 
-pub subsumes-requires-clause-first : goal.subsumes-requires-clause-first
-subsumes-requires-clause-first c =
+pub subsumes_arc-requires-clause-first : goal.subsumes_arc-requires-clause-first
+subsumes_arc-requires-clause-first c =
     let j : ℕ = slice_index_or c.args.among.now c.loop-number.number-index 0 in
     let is : At c.args.among.now c.loop-number.number-index j = read_at c.args.among.now c.loop-number.number-index 0 j c.loop-number-test.true refl in
     seen_formed c.args.order.now.size c.args.graphs.now c.args.held.now j (c.requires.there c.loop-number.number-index j is) c.requires.formed
 
-pub returns-then-subsumes-clause-found : goal.returns-then-subsumes-clause-found
-returns-then-subsumes-clause-found c =
+pub returns-then-subsumes_arc-clause-found : goal.returns-then-subsumes_arc-clause-found
+returns-then-subsumes_arc-clause-found c =
     let graphs : List Graph = c.args.graphs.now in
     let j : ℕ = slice_index_or c.args.among.now c.loop-number.number-index 0 in
     let is : At c.args.among.now c.loop-number.number-index j = read_at c.args.among.now c.loop-number.number-index 0 j c.loop-number-test.true refl in
@@ -29,7 +29,7 @@ returns-then-subsumes-clause-found c =
       is = is;
       element = seen graphs (held_of c.args.held.now j);
       element_is = seen_is graphs c.args.held.now j (c.requires.there c.loop-number.number-index j is);
-      subsumes = c.if-subsumes.ensures.subsumes.0 refl;
+      subsumes = c.if-subsumes_arc.ensures.subsumes.0 refl;
       before = λ k i g lt i_is g_is sub. c.loop-number.invariant.before k i g lt i_is g_is sub;
     }
 
@@ -41,7 +41,7 @@ loop-number-preserved c =
     let h : Seen = seen graphs (held_of c.args.held.now j) in
     let there : At (map (seen graphs) c.args.held.now) j h = seen_is graphs c.args.held.now j (c.requires.there c.loop-number.number-index j is) in
     record {
-      told = c.if-subsumes.ensures.told;
+      told = c.if-subsumes_arc.ensures.told;
       before = λ k i g lt i_is g_is sub. elim (cases_lt k c.loop-number.number-index) [
         | inl less ↦ c.loop-number.invariant.before k i g less i_is g_is sub
         | inr more ↦
@@ -50,7 +50,7 @@ loop-number-preserved c =
             let g_same : g ≡ h = at_same (map (seen graphs) c.args.held.now) j g h (subst (λ m. At (map (seen graphs) c.args.held.now) m g) same g_is) there in
             let found : Subsumes (Holds c.args.order.now.pairs) (held_super c.args.order.now.size h) (with_graph c.args.arc.now (block_graph c.args.order.now.size (block_at graphs c.args.graph))) =
             subst (λ y. Subsumes (Holds c.args.order.now.pairs) (held_super c.args.order.now.size y) (with_graph c.args.arc.now (block_graph c.args.order.now.size (block_at graphs c.args.graph)))) g_same sub in
-            false≢true (c.if-subsumes.ensures.subsumes.1 found)
+            false≢true (c.if-subsumes_arc.ensures.subsumes.1 found)
       ];
     }
 

@@ -6,8 +6,9 @@ use Rattle.graph_rows.specs.Block.{IsFormed}
 use Rattle.search_laws.proofs.PlaceLemmas.{at_new, at_within}
 use Rattle.shared_graphs.specs.declared.coverings.Coverings.{Coverings}
 use Rattle.shared_graphs.specs.declared.graphs.Graph.{Graph}
+use Rattle.shared_graphs.specs.Graphs.{block_at}
 use Rattle.evidence.specs.Entries.{entry_of}
-use Rattle.shared_graphs.specs.GraphPairs.{AreCoverings}
+use Rattle.shared_graphs.specs.GraphPairs.{AreCoverings, AreLassosTold}
 use Rattle.ramsey_search.specs.Views.{Seen, View, seen, view}
 use Rattle.ramsey_search.specs.Kept.{IsFamily, HasEntered, IsTold, entries_held, IsWhole}
 use Rattle.ramsey_search.proofs.EntriesLemmas.{entries_entered}
@@ -99,7 +100,7 @@ returns-then-number-limit-clause-answers c =
     let es : List Entry = entries_held A old in
     record {
       covers = subst (λ n. AreCoverings n S graphs c.enter.new.told) c.requires.order_size c.enter.ensures.told;
-      lassos = record { lassos = c.requires.answers.lassos.lassos; looping = c.requires.answers.lassos.looping; glimpses = c.requires.answers.lassos.glimpses; room = c.requires.answers.lassos.room };
+      lassos = record { glimpses = c.requires.answers.lassos.glimpses; room = c.requires.answers.lassos.room };
     }
 
 pub first_failing-requires-clause-fits : goal.first_failing-requires-clause-fits
@@ -141,16 +142,18 @@ first_failing-requires-clause-ends c =
     let e = entry_at A B S graphs c.enter.new.self whole c.len-number.result within in
     held_in_range A B S c.requires.first_valid (entries_held A now) whole.origins c.len-number.result e.0 (seen graphs k) e.1 (held_stands A B S graphs c.enter.new.self whole c.len-number.result k e.0 k_is e.1)
 
+pub look-requires-clause-formed : goal.look-requires-clause-formed
+look-requires-clause-formed c =
+    subst (λ g. IsFormed c.args.second.now.states (block_at g c.args.new.graph)) (sym c.deref.ensures.value) c.requires.candidate.kept.formed
+
+pub look-requires-clause-told : goal.look-requires-clause-told
+look-requires-clause-told c =
+    let told = c.requires.answers.lassos in
+    subst (λ g. AreLassosTold c.args.second.now g (record { covers = c.enter.new.told; glimpses = c.args.answers.now.glimpses; scratch = c.args.answers.now.scratch })) (sym c.deref.ensures.value)
+    (record { glimpses = told.glimpses; room = told.room })
+
 pub first_failing-requires-clause-told : goal.first_failing-requires-clause-told
-first_failing-requires-clause-told c =
-    let A : Automaton = c.args.first.now in
-    let B : Automaton = c.args.second.now in
-    let S : List (ℕ × ℕ) = c.args.order.now.pairs in
-    let graphs : List Graph = c.args.graphs.now.graphs.items in
-    let old : View = view graphs c.args.family.now in
-    let h : Seen = seen graphs c.args.new in
-    let es : List Entry = entries_held A old in
-    record { lassos = c.requires.answers.lassos.lassos; looping = c.requires.answers.lassos.looping; glimpses = c.requires.answers.lassos.glimpses; room = c.requires.answers.lassos.room }
+first_failing-requires-clause-told c = subst (λ g. AreLassosTold c.args.second.now g c.look.new.self) c.deref.ensures.value c.look.ensures.told
 
 pub returns-clause-come : goal.returns-clause-come
 returns-clause-come c =
@@ -191,6 +194,7 @@ returns-clause-answers c =
     let es : List Entry = entries_held A old in
     record {
       covers = subst (λ (m : Coverings). AreCoverings B.states S graphs m) (sym c.first_failing.ensures.covers)
-          (subst (λ n. AreCoverings n S graphs c.enter.new.told) c.requires.order_size c.enter.ensures.told);
+          (subst (λ (m : Coverings). AreCoverings B.states S graphs m) (sym c.look.ensures.covers)
+          (subst (λ n. AreCoverings n S graphs c.enter.new.told) c.requires.order_size c.enter.ensures.told));
       lassos = c.first_failing.ensures.told;
     }

@@ -80,8 +80,8 @@ look-requires-clause-formed c =
 pub look-requires-clause-told : goal.look-requires-clause-told
 look-requires-clause-told c =
     let told = c.requires.answers.lassos in
-    subst (λ g. AreLassosTold c.args.second.now g (record { covers = c.print.new.self; lassos = c.args.answers.now.lassos; looping = c.args.answers.now.looping; glimpses = c.args.answers.now.glimpses; scratch = c.args.answers.now.scratch })) (sym c.deref-2.ensures.value)
-    (record { lassos = told.lassos; looping = told.looping; glimpses = told.glimpses; room = told.room })
+    subst (λ g. AreLassosTold c.args.second.now g (record { covers = c.print.new.self; glimpses = c.args.answers.now.glimpses; scratch = c.args.answers.now.scratch })) (sym c.deref-2.ensures.value)
+    (record { glimpses = told.glimpses; room = told.room })
 
 pub least-requires-clause-told : goal.least-requires-clause-told
 least-requires-clause-told c =
@@ -101,7 +101,7 @@ returns-in-Some-least-clause-answers c =
     let told : AreLassosTold B graphs c.look.new.self = subst (λ g. AreLassosTold B g c.look.new.self) c.deref-2.ensures.value c.look.ensures.told in
     record {
       covers = subst (λ n. AreCoverings n S graphs c.least.new.told) c.requires.order_size c.least.ensures.told;
-      lassos = record { lassos = told.lassos; looping = told.looping; glimpses = told.glimpses; room = told.room };
+      lassos = record { glimpses = told.glimpses; room = told.room };
     }
 
 pub admit-requires-clause-answers : goal.admit-requires-clause-answers
@@ -116,7 +116,7 @@ admit-requires-clause-answers c =
     let told : AreLassosTold B graphs c.look.new.self = subst (λ g. AreLassosTold B g c.look.new.self) c.deref-2.ensures.value c.look.ensures.told in
     record {
       covers = subst (λ n. AreCoverings n S graphs c.least.new.told) c.requires.order_size c.least.ensures.told;
-      lassos = record { lassos = told.lassos; looping = told.looping; glimpses = told.glimpses; room = told.room };
+      lassos = record { glimpses = told.glimpses; room = told.room };
     }
 
 pub admit-requires-clause-unmet : goal.admit-requires-clause-unmet

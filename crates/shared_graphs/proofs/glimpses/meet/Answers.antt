@@ -1,4 +1,4 @@
-use Rattle.std.proofs.Common.{◌≡◌, ◌<◌, bit_and, false, length, slice_index_or, refl, rules}
+use Rattle.std.proofs.Common.{◌≡◌, ◌<◌, bit_and, length, rules}
 use Rattle.graph_rows.proofs.PrintLemmas.{words_meet}
 use Rattle.search_laws.proofs.PlaceLemmas.{read_at}
 use Rattle.shared_graphs.specs.declared.glimpses.Glimpse.{Glimpse}
@@ -6,9 +6,8 @@ use Rattle.shared_graphs.proofs.glimpses.meet.Goals as goal
 
 pub returns : goal.returns
 returns c = λ told.
-    let none : Glimpse = record { entered = 0; looping = 0; is_marked = false } in
-    let first : Glimpse = slice_index_or c.args.glimpses.now c.args.g none in
-    let second : Glimpse = slice_index_or c.args.glimpses.now c.args.h none in
+    let first : Glimpse = c.index-glimpses-g.result in
+    let second : Glimpse = c.index-glimpses-h.result in
     let g_in : c.args.g < length c.args.glimpses.now = search rules in
     let h_in : c.args.h < length c.args.glimpses.now = search rules in
     let some : bit_and first.entered second.looping ≡ 0 → ⊥ = search rules in
@@ -16,8 +15,8 @@ returns c = λ told.
     record {
       first = first;
       second = second;
-      first_is = read_at c.args.glimpses.now c.args.g none first g_in refl;
-      second_is = read_at c.args.glimpses.now c.args.h none second h_in refl;
+      first_is = read_at c.args.glimpses.now c.args.g first first g_in c.index-glimpses-g.is;
+      second_is = read_at c.args.glimpses.now c.args.h second second h_in c.index-glimpses-h.is;
       state = meet.0;
       entered = meet.1;
       looping = meet.2;

@@ -1,4 +1,4 @@
-use Rattle.std.proofs.Common.{ℕ, [], ◌∷◌, subst}
+use Rattle.std.proofs.Common.{ℕ, [], ◌∷◌, inl, subst}
 use Rattle.auto_core.specs.Rows.{HasBit}
 use Rattle.graph_rows.specs.Block.{block_graph}
 use Rattle.shared_graphs.proofs.GlimpseLemmas.{no_bit}
@@ -11,4 +11,5 @@ returns c =
     record {
       entered = subst (λ i. P c.args.second.now.states i) c.initial.ensures.state (subst (λ n. P n c.initial.result) c.states.ensures.count c.entered_word.ensures);
       looping = λ q bit. absurd (no_bit q bit);
+      row = inl c.new.ensures.items;
     }

@@ -1,4 +1,4 @@
-use Rattle.std.proofs.Common.{◌≡◌, ℕ, ◌+◌, ◌*◌, ◌<◌, Bool, false, List, [], ◌∷◌, ◌++◌, length, map, Vec, slice_index_or, slice_set, refl, sym, ap, ◌∙◌, subst, arith, length-set}
+use Rattle.std.proofs.Common.{◌≡◌, ℕ, ◌+◌, ◌*◌, ◌<◌, Bool, false, List, [], ◌∷◌, ◌++◌, length, map, Vec, slice_index_or, refl, sym, ap, ◌∙◌, subst, arith}
 use Rattle.std.specs.Prelude.{filter}
 use Rattle.std.proofs.lemmas.List.{length-map, map-append}
 use Rattle.std.specs.declared.alloc.Global.{Global}
@@ -7,7 +7,7 @@ use Rattle.shared_graphs.specs.declared.graphs.Graph.{Graph}
 use Rattle.evidence.specs.Tables.{numbers_at}
 use Rattle.ramsey_search.specs.Views.{Seen, seen}
 use Rattle.ramsey_search.specs.Kept.{AreDropped, AreFormed, held_super}
-use Rattle.evidence.proofs.TableLemmas.{numbers_is, numbers_set, numbers_stay}
+use Rattle.evidence.proofs.TableLemmas.{numbers_is}
 use Rattle.ramsey_search.proofs.family.Family.enter.Goals as goal
 
 pub drop_subsumed-requires-clause-there : goal.drop_subsumed-requires-clause-there
@@ -30,20 +30,16 @@ drop_subsumed-requires-clause-formed c =
     subst (λ g. AreFormed n (map (seen g) c.deref-2.result.now)) (sym c.deref.ensures.value)
     (subst (λ l. AreFormed n (map (seen c.args.graphs.now.graphs.items) l)) (sym c.deref-2.ensures.value) c.requires.fits.formed)
 
-pub still_live-requires : goal.still_live-requires
-still_live-requires c = λ k j is.
+pub take_in-requires-clause-there : goal.take_in-requires-clause-there
+take_in-requires-clause-there c = λ k j is.
     let graphs : List Graph = c.args.graphs.now.graphs.items in
     let ends : List (Vec ℕ Global) = c.args.self.now.ends.items in
-    let place : ℕ = c.place-place.result in
-    let h1 = c.place-place.ensures.within in
-    let h2 = c.requires.fits.ends_size in
-    let lt : place < length ends = omega arith in
-    let numbers : numbers_at ends (c.args.new.arc.from * c.args.self.now.states + c.args.new.arc.to) ≡ c.deref-4.result.now =
-    ap (numbers_at ends) (sym c.place-place.ensures.place) ∙ numbers_is ends place c.index-2.result.now lt c.index-2.ensures ∙ sym c.deref-4.ensures.value in
+    let numbers : numbers_at ends c.place-place.result ≡ numbers_at ends (c.args.new.arc.from * c.args.self.now.states + c.args.new.arc.to) =
+    ap (numbers_at ends) c.place-place.ensures.place in
     let below : j < length (map (seen graphs) c.args.self.now.held.items) =
-    c.requires.fits.there c.args.new.arc.from c.args.new.arc.to c.requires.from c.requires.to k j (subst (λ l. At l k j) (sym numbers) is) in
+    c.requires.fits.there c.args.new.arc.from c.args.new.arc.to c.requires.from c.requires.to k j (subst (λ l. At l k j) numbers is) in
     let size : length c.drop_subsumed.new.live.items ≡ length c.args.self.now.live.items = c.drop_subsumed.ensures.dropped.size in
-    let flags : c.deref-5.result.now ≡ c.drop_subsumed.new.live.items = c.deref-5.ensures.value in
+    let flags : c.deref-4.result.now ≡ c.drop_subsumed.new.live.items = c.deref-4.ensures.value in
     let h3 = c.requires.fits.live_size in
     subst (λ l. j < length l) (sym flags) (omega arith)
 
@@ -62,26 +58,23 @@ returns-clause-entered c =
     let lt : place < length ends = omega arith in
     let flags : List Bool = c.drop_subsumed.new.live.items in
     let first : c.deref-3.result.now ≡ numbers_at ends place = c.deref-3.ensures.value ∙ sym (numbers_is ends place c.index.result.now lt c.index.ensures) in
-    let second : c.deref-4.result.now ≡ numbers_at ends place = c.deref-4.ensures.value ∙ sym (numbers_is ends place c.index-2.result.now lt c.index-2.ensures) in
     let dropped : AreDropped n S (map (seen c.deref.result.now) c.deref-2.result.now) c.deref-3.result.now (held_super n (seen c.deref.result.now c.args.new)) c.args.self.now.live.items flags = c.drop_subsumed.ensures.dropped in
-    let kept : c.in_ok-kept.kept.items ≡ filter (λ j. slice_index_or c.deref-5.result.now j false) c.deref-4.result.now = c.in_ok-kept.ensures in
     let number : c.len-number.result ≡ length held = c.len-number.ensures ∙ c.args.self.now.held.ok.0 ∙ sym (length-map c.args.self.now.held.items (seen graphs)) in
-    let pushed : c.push.new.self.items ≡ c.in_ok-kept.kept.items ++ c.len-number.result ∷ [] = c.in_ok-push.ensures.items in
-    let items : c.push.new.self.items ≡ filter (λ j. slice_index_or flags j false) (numbers_at ends place) ++ length held ∷ [] =
-    pushed
-    ∙ ap (λ k. c.in_ok-kept.kept.items ++ k ∷ []) number
-    ∙ ap (λ l. l ++ length held ∷ []) (kept ∙ ap (λ l. filter (λ j. slice_index_or l j false) c.deref-4.result.now) c.deref-5.ensures.value ∙ ap (filter (λ j. slice_index_or flags j false)) second) in
+    let flags_are : c.deref-4.result.now ≡ flags = c.deref-4.ensures.value in
+    let items : numbers_at c.take_in.new.ends.items place ≡ filter (λ j. slice_index_or flags j false) (numbers_at ends place) ++ length held ∷ [] =
+    c.in_ok-take_in.ensures.here
+    ∙ ap (λ l. filter (λ j. slice_index_or l j false) (numbers_at ends place) ++ c.len-number.result ∷ []) flags_are
+    ∙ ap (λ k. filter (λ j. slice_index_or flags j false) (numbers_at ends place) ++ k ∷ []) number in
     record {
       states = refl;
-      held = ap (map (seen graphs)) c.in_ok-push-2.ensures.items ∙ map-append (seen graphs) c.args.self.now.held.items (c.args.new ∷ []);
+      held = ap (map (seen graphs)) c.in_ok-push.ensures.items ∙ map-append (seen graphs) c.args.self.now.held.items (c.args.new ∷ []);
       flags = flags;
       dropped = subst (λ k. AreDropped n S held (numbers_at ends k) (held_super n new) c.args.self.now.live.items flags) place_is
           (subst (λ l. AreDropped n S held l (held_super n new) c.args.self.now.live.items flags) first
           (subst (λ l. AreDropped n S (map (seen graphs) l) c.deref-3.result.now (held_super n new) c.args.self.now.live.items flags) c.deref-2.ensures.value
           (subst (λ g. AreDropped n S (map (seen g) c.deref-2.result.now) c.deref-3.result.now (held_super n (seen g c.args.new)) c.args.self.now.live.items flags) c.deref.ensures.value dropped)));
-      live = c.in_ok-push-3.ensures.items;
-      ends_size = length-set ends place c.push.new.self;
-      here = subst (λ k. numbers_at (slice_set ends place c.push.new.self) k ≡ filter (λ j. slice_index_or flags j false) (numbers_at ends k) ++ length held ∷ []) place_is
-          (numbers_set ends place c.push.new.self lt ∙ items);
-      others = λ k other. numbers_stay ends place k c.push.new.self (λ e. other (e ∙ place_is));
+      live = c.in_ok-push-2.ensures.items;
+      ends_size = c.in_ok-take_in.ensures.size;
+      here = subst (λ k. numbers_at c.take_in.new.ends.items k ≡ filter (λ j. slice_index_or flags j false) (numbers_at ends k) ++ length held ∷ []) place_is items;
+      others = λ k other. c.in_ok-take_in.ensures.others k (λ e. other (e ∙ place_is));
     }

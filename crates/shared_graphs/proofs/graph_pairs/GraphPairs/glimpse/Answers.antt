@@ -13,8 +13,6 @@ returns-clause-told c =
     let is : IsGlimpse c.args.second.now (block_graph n (block_at c.args.graphs.now c.args.h)) c.unmarked-glimpse.result =
     subst (λ l. IsGlimpse c.args.second.now (block_graph n l) c.unmarked-glimpse.result) c.block_of.ensures c.unmarked-glimpse.ensures in
     record {
-      lassos = c.requires.told.lassos;
-      looping = c.requires.told.looping;
       glimpses = glimpses_more c.args.second.now c.args.graphs.now c.args.self.now.glimpses.items c.push.new.self.items c.unmarked-glimpse.result c.in_ok-push.ensures.items
           (subst (λ k. k < length c.args.graphs.now) next there)
           (subst (λ k. IsGlimpse c.args.second.now (block_graph n (block_at c.args.graphs.now k)) c.unmarked-glimpse.result) next is)

@@ -12,8 +12,6 @@ returns-clause-told c =
     let is : IsGlimpse c.args.second.now (block_graph n (block_at c.args.graphs.now c.args.h)) c.in_ok-glimpse.glimpse =
     subst (λ l. IsGlimpse c.args.second.now (block_graph n l) c.in_ok-glimpse.glimpse) c.block_of.ensures c.in_ok-glimpse.ensures.glimpse in
     record {
-      lassos = c.requires.told.lassos;
-      looping = c.requires.told.looping;
       glimpses = glimpse_set c.args.second.now c.args.graphs.now c.args.self.now.glimpses.items c.args.h c.in_ok-glimpse.glimpse there is c.requires.told.glimpses;
       room = c.glimpse_of.ensures.kept;
     }
