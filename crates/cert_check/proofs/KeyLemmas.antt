@@ -1,5 +1,5 @@
 -- Elements with the same key are the same supergraph, in finite mode the same pair, and the other way round.
-use Rattle.std.proofs.Common.{◌≡◌, ◌↔◌, ◌⊎◌, ℕ, ◌+◌, ◌*◌, ◌/◌, ◌%◌, ◌<◌, ◌==◌, Bool, true, false, cond, inl, inr, Vec, Global, List, [], ◌∷◌, ◌++◌, length, get_or, slice_index_or, refl, sym, ap, ◌∙◌, subst, arith}
+use Rattle.std.proofs.Common.{◌≡◌, ◌↔◌, ◌⊎◌, ℕ, ◌+◌, ◌*◌, ◌/◌, ◌%◌, ◌<◌, ◌==◌, Bool, true, false, cond, inl, inr, List, [], ◌∷◌, ◌++◌, length, get_or, slice_index_or, refl, sym, ap, ◌∙◌, subst, arith}
 use Rattle.std.specs.Int.{bit_at}
 use Rattle.std.specs.Cmp.{both_ways}
 use Rattle.std.specs.BTreeSet.{BTreeSet}
@@ -26,7 +26,7 @@ use Rattle.supergraph.specs.Stands.{with_word}
 use Rattle.cert_value.specs.declared.types.Element.{Element}
 use Rattle.cert_check.specs.Inclusion.{element_arcs}
 use Rattle.cert_check.specs.Listing.{SameIn, DiffersFromEarlier}
-use Rattle.cert_check.specs.Supers.{StandFor, AreSupers, held_arc, held_block, held_number, key_of, key_at, flag_word, Fit, has_key, HasKey}
+use Rattle.cert_check.specs.Supers.{StandFor, AreSupers, held_arc, held_block, held_number, key_of, key_at, flag_word, Fit, Key, has_key, HasKey}
 use Rattle.cert_check.specs.Firsts.{AreFirsts}
 use Rattle.cert_check.specs.declared.elements.Supers.{Supers}
 
@@ -95,7 +95,7 @@ module _ (A B : Automaton) (a b : Arc) (g h : List ℕ) (i j : ℕ) (x y : WordA
   same_from_keys Finite s t blocks same =
       let rows : g ≡ h = blocks (ap (λ l. slice_index_or l 0 0) same) in
       record {
-        state = back_by_arc Finite s t ℕ (λ z. z.to) (ap (λ l. slice_index_or l 1 0) same);
+        state = back_by_arc Finite s t ℕ (λ z. z.to) (ap (λ l. slice_index_or l 2 0) same);
         members = λ q. (
           λ is. (t.word q).0 (subst (λ l. HasBit l q) rows ((s.word q).1 is)),
           λ is. (s.word q).0 (subst (λ l. HasBit l q) (sym rows) ((t.word q).1 is)),
@@ -118,7 +118,7 @@ module _ (A B : Automaton) (a b : Arc) (g h : List ℕ) (i j : ℕ) (x y : WordA
         λ has. (t.word q).1 ((same.members q).0 ((s.word q).0 has)),
         λ has. (s.word q).1 ((same.members q).1 ((t.word q).0 has)),
       )) in
-      ap (λ k. k ∷ a.to ∷ []) (firsts rows) ∙ ap (λ k. j ∷ k ∷ []) to
+      ap (λ k. k ∷ 0 ∷ a.to ∷ 0 ∷ []) (firsts rows) ∙ ap (λ k. j ∷ 0 ∷ k ∷ 0 ∷ []) to
 
 -- The keys of all elements.
 module _ (m : Mode) (A B : Automaton) (elements : List Element) (S : Supers) (are : AreSupers m A B elements (length elements) S) (firsts : List ℕ) (apart : AreFirsts S.graphs.graphs.items firsts) where
@@ -142,12 +142,12 @@ module _ (m : Mode) (A B : Automaton) (elements : List Element) (S : Supers) (ar
       (arc_at A (element_arcs A elements) d) (arc_at A (element_arcs A elements) e) m (are.each d d_in) (are.each e lt) (blocks_alike d e d_in lt).0 same)
 
 -- A set with one key more.
-pub one_added : (old new : BTreeSet (Vec ℕ Global)) (key : Vec ℕ Global) → ((q : Vec ℕ Global) → has_key new q ≡ cond (is_eq (slice_cmp nat_cmp key.items q.items)) true (has_key old q)) →
-    (other : Vec ℕ Global) → HasKey new other ↔ (HasKey old other ⊎ (other.items ≡ key.items))
-one_added old new key updates other = by (bytes_eq key.items other.items) (bytes_eq-Decides key.items other.items)
-    (updates other ∙ ap (λ b. cond b true (has_key old other)) (is_eq-slice_cmp key.items other.items))
+pub one_added : (old new : BTreeSet Key) (key : Key) → ((q : Key) → has_key new q ≡ cond (is_eq (slice_cmp nat_cmp key q)) true (has_key old q)) →
+    (other : Key) → HasKey new other ↔ (HasKey old other ⊎ (other ≡ key))
+one_added old new key updates other = by (bytes_eq key other) (bytes_eq-Decides key other)
+    (updates other ∙ ap (λ b. cond b true (has_key old other)) (is_eq-slice_cmp key other))
   where
-    by : (b : Bool) → ((b ≡ true) ↔ (key.items ≡ other.items)) → has_key new other ≡ cond b true (has_key old other) → HasKey new other ↔ (HasKey old other ⊎ (other.items ≡ key.items))
+    by : (b : Bool) → ((b ≡ true) ↔ (key ≡ other)) → has_key new other ≡ cond b true (has_key old other) → HasKey new other ↔ (HasKey old other ⊎ (other ≡ key))
     by true same is = (λ _. inr (sym (same.0 refl)), λ _. is)
     by false same is = (
       λ has. inl (sym is ∙ has),

@@ -76,12 +76,12 @@ key_parts : (xs ys : List ℕ) (p g q h : ℕ) → xs ≡ p ∷ g ∷ [] → ys 
 key_parts xs ys p g q h x y same = let both = sym x ∙ same ∙ y in (ap (λ l. slice_index_or l 0 0) both, ap (λ l. slice_index_or l 1 0) both)
 
 -- One key more, of which this holds.
-pub keys_more : (P : ℕ → ℕ → Type 0) (old new : BTreeSet Key) (key : Key) (p g : ℕ) → key.items ≡ p ∷ g ∷ [] →
-    ((other : Key) → HasKey new other ↔ (HasKey old other ⊎ (other.items ≡ key.items))) → P p g →
-    ((k : Key) (q h : ℕ) → HasKey old k → k.items ≡ q ∷ h ∷ [] → P q h) → (k : Key) (q h : ℕ) → HasKey new k → k.items ≡ q ∷ h ∷ [] → P q h
+pub keys_more : (P : ℕ → ℕ → Type 0) (old new : BTreeSet Key) (key : Key) (p g : ℕ) → key ≡ p ∷ g ∷ [] →
+    ((other : Key) → HasKey new other ↔ (HasKey old other ⊎ (other ≡ key))) → P p g →
+    ((k : Key) (q h : ℕ) → HasKey old k → k ≡ q ∷ h ∷ [] → P q h) → (k : Key) (q h : ℕ) → HasKey new k → k ≡ q ∷ h ∷ [] → P q h
 keys_more P old new key p g is added here before k q h has k_is = elim ((added k).0 has) [
   | inl was ↦ before k q h was k_is
-  | inr same ↦ let parts = key_parts key.items k.items p g q h is k_is (sym same) in subst (P q) parts.1 (subst (λ m. P m g) parts.0 here)
+  | inr same ↦ let parts = key_parts key k p g q h is k_is (sym same) in subst (P q) parts.1 (subst (λ m. P m g) parts.0 here)
 ]
 
 -- The test of one element against the turns at its end.

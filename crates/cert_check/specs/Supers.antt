@@ -1,6 +1,5 @@
 -- What the check holds of a certificate's elements: of each the arc, and its word's graph, in finite mode its word's set.
-use Rattle.std.specs.Prelude.{◌≡◌, ℕ, ◌+◌, ◌*◌, ◌/◌, ◌^◌, ◌<◌, ◌↔◌, Bool, true, false, List, [], ◌∷◌, ◌++◌, length, slice_index_or, Vec}
-use Rattle.std.specs.Global.{Global}
+use Rattle.std.specs.Prelude.{◌≡◌, ℕ, ◌+◌, ◌*◌, ◌/◌, ◌^◌, ◌<◌, ◌↔◌, Bool, true, false, List, [], ◌∷◌, ◌++◌, length, slice_index_or}
 use Rattle.std.specs.BTreeSet.{BTreeSet, contains}
 use Rattle.std.specs.Cmp.Lexicographic.{slice_cmp}
 use Rattle.std.specs.Ordering.{nat_cmp}
@@ -104,10 +103,10 @@ flag_word false = 0
 flag_word true = 1
 
 -- By what elements are compared: the first number of the graph, in finite mode of the set, and the ends and the flag of the arc, in finite
--- mode its end alone.
+-- mode its end alone, with 0 in the other places.
 abbrev pub key_of : Mode → Arc → ℕ → List ℕ
 key_of Buchi arc first = first ∷ arc.from ∷ arc.to ∷ flag_word arc.accepting ∷ []
-key_of Finite arc first = first ∷ arc.to ∷ []
+key_of Finite arc first = first ∷ 0 ∷ arc.to ∷ 0 ∷ []
 
 -- The key of the element with this number.
 abbrev pub key_at : Mode → Supers → List ℕ → ℕ → List ℕ
@@ -117,13 +116,13 @@ key_at mode supers firsts e = key_of mode (held_arc supers e) (slice_index_or fi
 abbrev pub Fit : List ℕ → Type 0
 Fit words = (k : ℕ) → slice_index_or words k 0 < 2 ^ 64
 
--- The words of a key, as they are held.
+-- The words of a key.
 abbrev pub Key : Type 0
-Key = Vec ℕ Global
+Key = List ℕ
 
 -- Whether the key is among those seen.
 abbrev pub has_key : BTreeSet Key → Key → Bool
-has_key seen key = contains (λ v w. slice_cmp nat_cmp v.items w.items) seen key
+has_key seen key = contains (slice_cmp nat_cmp) seen key
 
 abbrev pub HasKey : BTreeSet Key → Key → Type 0
 HasKey seen key = has_key seen key ≡ true

@@ -44,7 +44,7 @@ pub record HasAddedAt (old new : List (Vec ℕ Global)) (place number : ℕ) : T
 
 -- Each key that was seen is that of a state and a graph that is listed at it.
 abbrev pub AreListed : BTreeSet Key → List (Vec ℕ Global) → Type 0
-AreListed seen turns = (key : Key) (p g : ℕ) → HasKey seen key → key.items ≡ p ∷ g ∷ [] → Contains (numbers_at turns p) g
+AreListed seen turns = (key : Key) (p g : ℕ) → HasKey seen key → key ≡ p ∷ g ∷ [] → Contains (numbers_at turns p) g
 
 -- The graph has a lasso with each of the others, from the second automaton's initial state.
 abbrev pub HasLassos : Automaton → List Graph → ℕ → List ℕ → Type 0
@@ -58,7 +58,7 @@ AreLoops n graphs loops = (h : ℕ) → (numbers_at loops h ≡ []) ⊎ IsLoopRo
 -- What is remembered of tests is so: each key is that of a state and a graph that has a lasso with each of those listed at the state. There
 -- is room for further tests.
 pub record AreTests (B : Automaton) (graphs : List Graph) (turns : List (Vec ℕ Global)) (tests : Tests) : Type 0 where
-  pub passed : (key : Key) (p g : ℕ) → HasKey tests.passed key → key.items ≡ p ∷ g ∷ [] → HasLassos B graphs g (numbers_at turns p)
+  pub passed : (key : Key) (p g : ℕ) → HasKey tests.passed key → key ≡ p ∷ g ∷ [] → HasLassos B graphs g (numbers_at turns p)
   pub loops : AreLoops B.states graphs tests.loops.items
   pub size : length tests.loops.items ≡ length graphs
   pub room : tests.scratch ≡ B.states

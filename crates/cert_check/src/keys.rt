@@ -21,28 +21,13 @@ fn flag_of(arc: &Arc) -> u64
     if arc.accepting { 1 } else { 0 }
 }
 
-/// The key of these words.
-pub fn key_with(alloc: Global, words: &[u64]) -> Result<Vec<u64>, Memory>
-    ensures { IfOk result (λ key. key.items ≡ words.now) }
-{
-    let mut key = Vec::with_capacity(alloc, words.len())?;
-    key.extend_from_slice(words)?;
-    Ok(key)
-}
-
 /// The key of an arc and the first number of its graph, in finite mode of its set.
-fn arc_key(alloc: Global, mode: Mode, arc: &Arc, first: u64) -> Result<Vec<u64>, Memory>
-    ensures { IfOk result (λ key. key.items ≡ key_of mode arc.now first) }
+fn arc_key(mode: Mode, arc: &Arc, first: u64) -> [u64; 4]
+    ensures { result ≡ key_of mode arc.now first }
 {
     match mode {
-        Mode::Buchi => {
-            let words = [first, arc.from as u64, arc.to as u64, flag_of(arc)];
-            key_with(alloc, &words)
-        }
-        Mode::Finite => {
-            let words = [first, arc.to as u64];
-            key_with(alloc, &words)
-        }
+        Mode::Buchi => [first, arc.from as u64, arc.to as u64, flag_of(arc)],
+        Mode::Finite => [first, 0, arc.to as u64, 0],
     }
 }
 
@@ -52,28 +37,22 @@ fn note_fit(words: &[u64])
 {}
 
 /// The key of the element `e`.
-fn key_from(
-    alloc: Global,
-    mode: Mode,
-    supers: &Supers,
-    firsts: &[u64],
-    e: usize,
-) -> Result<Vec<u64>, Memory>
+fn key_from(mode: Mode, supers: &Supers, firsts: &[u64], e: usize) -> [u64; 4]
     requires arcs { e < length supers.now.arcs.items }
     requires numbers { e < length supers.now.numbers.items }
     requires firsts { held_number supers.now e < length firsts.now }
-    ensures key { IfOk result (λ key. key.items ≡ key_at mode supers.now firsts.now e) }
-    ensures fits { IfOk result (λ _. Fit (held_block supers.now e)) }
+    ensures key { result ≡ key_at mode supers.now firsts.now e }
+    ensures fits { Fit (held_block supers.now e) }
 {
     note_fit(supers.block(e));
     let it = supers.element(e);
-    arc_key(alloc, mode, &it.arc, firsts[it.number as usize])
+    arc_key(mode, &it.arc, firsts[it.number as usize])
 }
 
 /// Adds the key, and tells whether it was not there.
-pub fn is_new(seen: &mut BTreeSet<Vec<u64>>, key: Vec<u64>) -> Result<bool, Memory>
-    ensures told { IfOk result (λ new. new ≡ not (has_key seen.old key)) }
-    ensures added { IfOk result (λ _. (other : Key) → HasKey seen.new other ↔ (HasKey seen.old other ⊎ (other.items ≡ key.items))) }
+pub fn is_new<const N: usize>(seen: &mut BTreeSet<[u64; N]>, key: [u64; N]) -> Result<bool, Memory>
+    ensures told { IfOk result (λ new. new ≡ not (has_key seen.old key.entry)) }
+    ensures added { IfOk result (λ _. (other : Key) → HasKey seen.new other ↔ (HasKey seen.old other ⊎ (other ≡ key.entry))) }
 {
     match seen.insert(key) {
         Ok(new) => Ok(new),
@@ -100,7 +79,7 @@ pub fn check_differences(
     let mut seen = BTreeSet::new(alloc);
     let items = elements.as_slice();
     for e in 0..items.len() {
-        let key = key_from(alloc, mode, supers, &firsts, e)?;
+        let key = key_from(mode, supers, &firsts, e);
         if !is_new(&mut seen, key)? {
             return Err(CheckFault::Refused(Refusal {
                 rule: 18,

@@ -27,18 +27,17 @@ use std::collections::BTreeSet;
 /// has a loop past an accepting state, if it was asked for often, and room.
 #[derive(Drop)]
 pub struct Tests {
-    pub passed: BTreeSet<Vec<u64>>,
+    pub passed: BTreeSet<[u64; 2]>,
     pub asked: Vec<u32>,
     pub loops: Vec<Vec<u64>>,
     pub scratch: Scratch,
 }
 
 /// The key of a state and a graph.
-fn pair_key(alloc: Global, state: u32, graph: u32) -> Result<Vec<u64>, Memory>
-    ensures { IfOk result (λ key. key.items ≡ state ∷ graph ∷ []) }
+fn pair_key(state: u32, graph: u32) -> [u64; 2]
+    ensures { result ≡ state ∷ graph ∷ [] }
 {
-    let words = [state as u64, graph as u64];
-    keys::key_with(alloc, &words)
+    [state as u64, graph as u64]
 }
 
 /// A table of so many lists, without numbers.
@@ -86,13 +85,12 @@ fn add_at(lists: &mut Vec<Vec<u32>>, place: usize, number: u32) -> Result<(), Me
 
 /// Adds the graph of the element to those at its state, if it is a turn and its graph is not there yet.
 fn add_turn(
-    alloc: Global,
     first: &Auto,
     second: &Auto,
     evidence: &YesBody,
     supers: &Supers,
     e: u32,
-    seen: &mut BTreeSet<Vec<u64>>,
+    seen: &mut BTreeSet<[u64; 2]>,
     turns: &mut Vec<Vec<u32>>,
 ) -> Result<(), Memory>
     requires supers { AreSupers Buchi first.now second.now evidence.now.elements (length evidence.now.elements) supers.now }
@@ -108,7 +106,7 @@ fn add_turn(
     // the contract of this call says that the automaton is valid
     let _states = first.states();
     let it = supers.element(e as usize);
-    let key = pair_key(alloc, it.arc.from, it.number)?;
+    let key = pair_key(it.arc.from, it.number);
     if !keys::is_new(seen, key)? {
         return Ok(());
     }
@@ -130,9 +128,7 @@ fn turns_by_state(
     let mut turns = empty_lists(alloc, first.states())?;
     let mut seen = BTreeSet::new(alloc);
     for e in 0..evidence.elements.as_slice().len() as u32 {
-        add_turn(
-            alloc, first, second, evidence, supers, e, &mut seen, &mut turns,
-        )?;
+        add_turn(first, second, evidence, supers, e, &mut seen, &mut turns)?;
     }
     Ok(turns)
 }
@@ -287,7 +283,7 @@ fn passes_with_all(
     if it.arc.from != first.initial() {
         return Ok(true);
     }
-    let key = pair_key(alloc, it.arc.to, it.number)?;
+    let key = pair_key(it.arc.to, it.number);
     if !keys::is_new(&mut tests.passed, key)? {
         return Ok(true);
     }

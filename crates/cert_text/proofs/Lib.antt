@@ -5,6 +5,7 @@ pub mod ResumeState
 pub mod Reading
 pub mod ReadLemmas
 pub mod NumberFacts
+pub mod StraightLemmas
 pub mod FormFacts
 pub mod RunFacts
 pub mod LineFacts

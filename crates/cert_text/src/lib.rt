@@ -14,6 +14,7 @@ mod origins;
 mod parts;
 mod read;
 mod second_log;
+mod straight;
 mod write;
 
 pub use cert_value::{

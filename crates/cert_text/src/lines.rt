@@ -9,6 +9,7 @@ ghost use Rattle.cert_text.specs.Agrees.{Agrees};
 
 use crate::faults::{LineFault, TextKind};
 use crate::forms::{Place, Tail, line_fault, value_at, values_from, values_in};
+use crate::straight::straight_step;
 use crate::write::{answer_word, mode_word, version_word};
 use auto_core::{List, Memory, Mode};
 use cert_value::{
@@ -379,6 +380,9 @@ pub(crate) fn gone_by_in(alloc: Global, line: &[u8]) -> Result<List<GoneBy>, Lin
 pub(crate) fn step_in(alloc: Global, number: usize, line: &[u8]) -> Result<StepLine, LineFault>
     ensures { Agrees (step_in number (tokens_of line.now)) result }
 {
+    if let Some(step) = straight_step(alloc, number, line)? {
+        return Ok(step);
+    }
     if let Some(fault) = line_fault(
         &[Place::Word(Keyword::Step), Place::Number],
         Tail::Numbers,

@@ -7,6 +7,7 @@ ghost use Rattle.cert_text.specs.Agrees.{Agrees};
 
 use crate::faults::LineFault;
 use crate::forms::{Place, Tail, fits, line_fault, value_at};
+use crate::straight::{straight_element, straight_origin};
 use auto_core::{Mode, Origin};
 use cert_value::{Element, Keyword, Mark};
 
@@ -25,6 +26,9 @@ fn next_origin_in(line: &[u8]) -> Result<Origin, LineFault>
 pub(crate) fn origin_in(mode: Mode, line: &[u8]) -> Result<Origin, LineFault>
     ensures { Agrees (origin_in mode (tokens_of line.now)) result }
 {
+    if let Some(origin) = straight_origin(mode, line) {
+        return Ok(origin);
+    }
     let base = [Place::Word(Keyword::Base), Place::Number];
     if mode == Mode::Buchi && fits(&base, line) {
         return match line_fault(&base, Tail::Nothing, line) {
@@ -148,6 +152,9 @@ fn start_element_in(line: &[u8]) -> Result<Element, LineFault>
 pub(crate) fn element_in(mode: Mode, line: &[u8]) -> Result<Element, LineFault>
     ensures { Agrees (element_in mode (tokens_of line.now)) result }
 {
+    if let Some(element) = straight_element(mode, line) {
+        return Ok(element);
+    }
     match mode {
         Mode::Buchi => base_element_in(line),
         Mode::Finite => start_element_in(line),

@@ -30,10 +30,10 @@ returns-then-not-branch-clause-turns c =
     let e : ℕ = c.args.e in
     let n : ℕ = c.args.first.now.states in
     let old : List (Vec ℕ Global) = c.args.turns.now.items in
-    let key_is : c.in_ok-key.key.items ≡ (held_arc su e).from ∷ held_number su e ∷ [] =
-    c.in_ok-key.ensures ∙ ap (λ (m : Numbered). m.arc.from ∷ m.number ∷ []) c.element-it.ensures in
-    let there : has_key c.args.seen.now c.in_ok-key.key ≡ true = search rules in
-    let listed : Contains (numbers_at old (held_arc su e).from) (held_number su e) = c.requires.seen c.in_ok-key.key (held_arc su e).from (held_number su e) there key_is in
+    let key_is : c.pair_key-key.result ≡ (held_arc su e).from ∷ held_number su e ∷ [] =
+    c.pair_key-key.ensures ∙ ap (λ (m : Numbered). m.arc.from ∷ m.number ∷ []) c.element-it.ensures in
+    let there : has_key c.args.seen.now c.pair_key-key.result ≡ true = search rules in
+    let listed : Contains (numbers_at old (held_arc su e).from) (held_number su e) = c.requires.seen c.pair_key-key.result (held_arc su e).from (held_number su e) there key_is in
     turns_kept ev su e n old c.requires.turns (λ turn. listed)
 
 pub returns-then-not-branch-clause-seen : goal.returns-then-not-branch-clause-seen
@@ -43,11 +43,11 @@ returns-then-not-branch-clause-seen c =
     let e : ℕ = c.args.e in
     let n : ℕ = c.args.first.now.states in
     let old : List (Vec ℕ Global) = c.args.turns.now.items in
-    let key_is : c.in_ok-key.key.items ≡ (held_arc su e).from ∷ held_number su e ∷ [] =
-    c.in_ok-key.ensures ∙ ap (λ (m : Numbered). m.arc.from ∷ m.number ∷ []) c.element-it.ensures in
-    let there : has_key c.args.seen.now c.in_ok-key.key ≡ true = search rules in
-    let listed : Contains (numbers_at old (held_arc su e).from) (held_number su e) = c.requires.seen c.in_ok-key.key (held_arc su e).from (held_number su e) there key_is in
-    keys_more (λ p h. Contains (numbers_at old p) h) c.args.seen.now c.is_new.new.seen c.in_ok-key.key (held_arc su e).from (held_number su e) key_is
+    let key_is : c.pair_key-key.result ≡ (held_arc su e).from ∷ held_number su e ∷ [] =
+    c.pair_key-key.ensures ∙ ap (λ (m : Numbered). m.arc.from ∷ m.number ∷ []) c.element-it.ensures in
+    let there : has_key c.args.seen.now c.pair_key-key.result ≡ true = search rules in
+    let listed : Contains (numbers_at old (held_arc su e).from) (held_number su e) = c.requires.seen c.pair_key-key.result (held_arc su e).from (held_number su e) there key_is in
+    keys_more (λ p h. Contains (numbers_at old p) h) c.args.seen.now c.is_new.new.seen c.pair_key-key.result (held_arc su e).from (held_number su e) key_is
     c.in_ok-is_new.ensures.added listed c.requires.seen
 
 pub add_at-requires : goal.add_at-requires
@@ -85,13 +85,13 @@ returns-clause-seen c =
     let e : ℕ = c.args.e in
     let n : ℕ = c.args.first.now.states in
     let old : List (Vec ℕ Global) = c.args.turns.now.items in
-    let key_is : c.in_ok-key.key.items ≡ (held_arc su e).from ∷ held_number su e ∷ [] =
-    c.in_ok-key.ensures ∙ ap (λ (m : Numbered). m.arc.from ∷ m.number ∷ []) c.element-it.ensures in
+    let key_is : c.pair_key-key.result ≡ (held_arc su e).from ∷ held_number su e ∷ [] =
+    c.pair_key-key.ensures ∙ ap (λ (m : Numbered). m.arc.from ∷ m.number ∷ []) c.element-it.ensures in
     let new : List (Vec ℕ Global) = c.add_at.new.lists.items in
     let turn : IsTurn ev su e = c.is_turn.ensures.0 (search rules) in
     let here : HasAddedAt old new c.element-it.result.arc.from c.element-it.result.number → HasAddedAt old new (held_arc su e).from (held_number su e) =
     λ h. subst (λ (m : Numbered). HasAddedAt old new m.arc.from m.number) c.element-it.ensures h in
     if_ok_as c.add_at.result (λ _. HasAddedAt old new c.element-it.result.arc.from c.element-it.result.number) (λ _. AreListed c.is_new.new.seen new)
-    (λ _ added. keys_more (λ p h. Contains (numbers_at new p) h) c.args.seen.now c.is_new.new.seen c.in_ok-key.key (held_arc su e).from (held_number su e) key_is
+    (λ _ added. keys_more (λ p h. Contains (numbers_at new p) h) c.args.seen.now c.is_new.new.seen c.pair_key-key.result (held_arc su e).from (held_number su e) key_is
     c.in_ok-is_new.ensures.added (listed_now old new (held_arc su e).from (held_number su e) (here added))
     (λ k q h has is. listed_stay old new (held_arc su e).from (held_number su e) (here added) q h (c.requires.seen k q h has is))) c.add_at.ensures

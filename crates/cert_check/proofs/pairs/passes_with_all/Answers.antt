@@ -27,9 +27,9 @@ returns-then-not-branch-clause-told c =
     let to : ℕ = (held_arc su e).to in
     let live : live_in ev e ≡ true = c.is_live.ensures.0 c.if-not-is_live.false in
     let starts : (held_arc su e).from ≡ A.initial = ap (λ (m : Numbered). m.arc.from) (sym c.element-it.ensures) ∙ c.if-it-initial.false ∙ c.initial.ensures.state in
-    let key_is : c.in_ok-key.key.items ≡ to ∷ held_number su e ∷ [] = c.in_ok-key.ensures ∙ ap (λ (m : Numbered). m.arc.to ∷ m.number ∷ []) c.element-it.ensures in
-    let there : has_key c.args.tests.now.passed c.in_ok-key.key ≡ true = search rules in
-    let lassos : HasLassos B su.graphs.graphs.items (held_number su e) (numbers_at c.args.turns.now to) = c.requires.tests.passed c.in_ok-key.key to (held_number su e) there key_is in
+    let key_is : c.pair_key-key.result ≡ to ∷ held_number su e ∷ [] = c.pair_key-key.ensures ∙ ap (λ (m : Numbered). m.arc.to ∷ m.number ∷ []) c.element-it.ensures in
+    let there : has_key c.args.tests.now.passed c.pair_key-key.result ≡ true = search rules in
+    let lassos : HasLassos B su.graphs.graphs.items (held_number su e) (numbers_at c.args.turns.now to) = c.requires.tests.passed c.pair_key-key.result to (held_number su e) there key_is in
     passes_told A B ev su c.requires.supers e (numbers_at c.args.turns.now to) true c.requires.element live starts
     (λ g. (c.requires.turns.only to g, c.requires.turns.all to g)) (λ _. lassos, λ _. refl)
 
@@ -39,11 +39,11 @@ returns-then-not-branch-clause-tests c = λ _.
     let su : Supers = c.args.supers.now in
     let e : ℕ = c.args.e in
     let to : ℕ = (held_arc su e).to in
-    let key_is : c.in_ok-key.key.items ≡ to ∷ held_number su e ∷ [] = c.in_ok-key.ensures ∙ ap (λ (m : Numbered). m.arc.to ∷ m.number ∷ []) c.element-it.ensures in
-    let there : has_key c.args.tests.now.passed c.in_ok-key.key ≡ true = search rules in
+    let key_is : c.pair_key-key.result ≡ to ∷ held_number su e ∷ [] = c.pair_key-key.ensures ∙ ap (λ (m : Numbered). m.arc.to ∷ m.number ∷ []) c.element-it.ensures in
+    let there : has_key c.args.tests.now.passed c.pair_key-key.result ≡ true = search rules in
     record {
-      passed = keys_more (λ p g. HasLassos B su.graphs.graphs.items g (numbers_at c.args.turns.now p)) c.args.tests.now.passed c.is_new.new.seen c.in_ok-key.key to (held_number su e) key_is
-          c.in_ok-is_new.ensures.added (c.requires.tests.passed c.in_ok-key.key to (held_number su e) there key_is) c.requires.tests.passed;
+      passed = keys_more (λ p g. HasLassos B su.graphs.graphs.items g (numbers_at c.args.turns.now p)) c.args.tests.now.passed c.is_new.new.seen c.pair_key-key.result to (held_number su e) key_is
+          c.in_ok-is_new.ensures.added (c.requires.tests.passed c.pair_key-key.result to (held_number su e) there key_is) c.requires.tests.passed;
       loops = c.requires.tests.loops;
       size = c.requires.tests.size;
       room = c.requires.tests.room;
@@ -130,12 +130,12 @@ returns-clause-tests c = λ is.
     let within : p < length c.args.turns.now = omega (arith, ends, to_is, c.requires.turns.count) in
     let list : c.deref-2.result.now ≡ numbers_at c.args.turns.now to =
     c.deref-2.ensures.value ∙ sym (numbers_is c.args.turns.now p c.index-turns-it.result within c.index-turns-it.is) ∙ ap (numbers_at c.args.turns.now) to_is in
-    let key_is : c.in_ok-key.key.items ≡ to ∷ held_number su e ∷ [] = c.in_ok-key.ensures ∙ ap (λ (m : Numbered). m.arc.to ∷ m.number ∷ []) c.element-it.ensures in
+    let key_is : c.pair_key-key.result ≡ to ∷ held_number su e ∷ [] = c.pair_key-key.ensures ∙ ap (λ (m : Numbered). m.arc.to ∷ m.number ∷ []) c.element-it.ensures in
     let asked : IsTrue c.in_ok-holds.holds ↔ HasLassos B su.graphs.graphs.items (held_number su e) (numbers_at c.args.turns.now to) =
     lassos_named B c.deref.result.now su.graphs.graphs.items c.element-it.result.number (held_number su e) c.deref-2.result.now (numbers_at c.args.turns.now to) c.in_ok-holds.holds
     c.deref.ensures.value (ap (λ (m : Numbered). m.number) c.element-it.ensures) list c.in_ok-holds.ensures.told in
     record {
-      passed = keys_more (λ q g. HasLassos B su.graphs.graphs.items g (numbers_at c.args.turns.now q)) c.args.tests.now.passed c.is_new.new.seen c.in_ok-key.key to (held_number su e) key_is
+      passed = keys_more (λ q g. HasLassos B su.graphs.graphs.items g (numbers_at c.args.turns.now q)) c.args.tests.now.passed c.is_new.new.seen c.pair_key-key.result to (held_number su e) key_is
           c.in_ok-is_new.ensures.added (asked.0 is) c.requires.tests.passed;
       loops = subst (λ (l : List Graph). AreLoops B.states l c.has_lassos.new.loops.items) c.deref.ensures.value c.in_ok-holds.ensures.loops;
       size = c.in_ok-holds.ensures.size ∙ c.requires.tests.size;
