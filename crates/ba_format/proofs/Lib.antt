@@ -12,3 +12,4 @@ pub mod BackLemmas
 pub mod LabelLemmas
 pub mod CountLemmas
 pub mod FaultlessLemmas
+pub mod PieceLemmas

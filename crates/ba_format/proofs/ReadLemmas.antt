@@ -57,17 +57,17 @@ module _ (limits : Limits) (text rest : List ℕ) (number : ℕ) (draft : Draft)
   after : List ℕ
   after = after_first is_newline rest
 
-  shorter : length (after_first is_newline rest) + 1 ≤ length rest
+  pub shorter : length (after_first is_newline rest) + 1 ≤ length rest
   shorter = omega (arith, length-drop (position_or_len is_newline rest + 1) rest)
 
   pub shorter_rest : (number + 1) + length (after_first is_newline rest) ≤ length text
   shorter_rest = omega (arith, shorter, u.short)
 
-  cut : lines_from (number + 1) (slice_split is_newline rest)
+  pub cut : lines_from (number + 1) (slice_split is_newline rest)
       ≡ onto_lines (number + 1) (trimmed (before_first is_newline rest)) (lines_from (number + 1 + 1) (slice_split is_newline (after_first is_newline rest)))
   cut = lines-first (number + 1) rest h
 
-  pub Underway-blank : trimmed (before_first is_newline rest) ≡ [] → Underway limits text (after_first is_newline rest) (number + 1) draft
+  abbrev pub Underway-blank : trimmed (before_first is_newline rest) ≡ [] → Underway limits text (after_first is_newline rest) (number + 1) draft
   Underway-blank b =
       let same = cut ∙ ap (λ l. onto_lines (number + 1) l (lines_from (number + 1 + 1) (slice_split is_newline (after_first is_newline rest)))) b in
       record {
@@ -81,13 +81,13 @@ module _ (limits : Limits) (text rest : List ℕ) (number : ℕ) (draft : Draft)
       }
 
   -- the line is the first of those left
-  line_first : (line : List ℕ) → line ≡ trimmed (before_first is_newline rest) → 0 < length line
+  pub line_first : (line : List ℕ) → line ≡ trimmed (before_first is_newline rest) → 0 < length line
       → lines_from (number + 1) (slice_split is_newline rest)
       ≡ record { number = number + 1; text = line } ∷ lines_from (number + 1 + 1) (slice_split is_newline (after_first is_newline rest))
   line_first [] e n = absurd (omega arith)
   line_first (b ∷ bs) e n = cut ∙ ap (λ l. onto_lines (number + 1) l (lines_from (number + 1 + 1) (slice_split is_newline (after_first is_newline rest)))) (sym e)
 
-  pub Underway-taken : (line : List ℕ) (new : Draft) → line ≡ trimmed (before_first is_newline rest) → 0 < length line
+  abbrev pub Underway-taken : (line : List ℕ) (new : Draft) → line ≡ trimmed (before_first is_newline rest) → 0 < length line
       → (kind_of_line limits u.entries line ≡ None) × Stands new (u.entries ++ content_of line ∷ []) × Fits limits (u.entries ++ content_of line ∷ [])
       → Underway limits text (after_first is_newline rest) (number + 1) new
   Underway-taken line new e n (none, s, f) =

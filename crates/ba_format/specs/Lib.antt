@@ -5,5 +5,6 @@ pub mod Seen
 pub mod Draft
 pub mod Joining
 pub mod Reading
+pub mod Pieces
 pub mod Writing
 pub mod Laws

@@ -7,12 +7,14 @@ mod joining;
 pub mod laws;
 mod lines;
 mod parts;
+mod pieces;
 mod reading;
 mod texts;
 mod writing;
 
 pub use joining::join;
 pub use parts::{BaFault, BaKind, Joined, Limits, Named, ReadFault};
+pub use pieces::Reader;
 pub use reading::read;
 pub use texts::Texts;
 pub use writing::write;

@@ -2,6 +2,7 @@
 
 use crate::texts::Texts;
 use auto_core::{Auto, Memory};
+use std::alloc::AllocError;
 use thiserror::Error;
 
 /// The most states, labels and different transitions that a text may bring.
@@ -65,6 +66,17 @@ impl From<Memory> for ReadFault {
     ghost from_gives = { λ _ e. e ≡ ReadFault.Memory };
 
     fn from(_refused: Memory) -> ReadFault {
+        ReadFault::Memory
+    }
+}
+
+impl From<AllocError> for ReadFault {
+    ghost use Rattle.std.specs.Prelude.{◌≡◌};
+    ghost use Rattle.ba_format.specs.declared.parts.ReadFault.{ReadFault};
+
+    ghost from_gives = { λ _ e. e ≡ ReadFault.Memory };
+
+    fn from(_refused: AllocError) -> ReadFault {
         ReadFault::Memory
     }
 }
