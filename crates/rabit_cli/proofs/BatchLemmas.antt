@@ -27,11 +27,11 @@ use Rattle.rabit_frame.specs.declared.parts.Ending.TheVariants as ending
 use Rattle.rabit_frame.specs.Files.{Input, Output}
 use Rattle.rabit_frame.specs.Lines.{read_line, memory_line}
 use Rattle.rabit_frame.specs.Statuses.{status_number}
-use Rattle.rabit_frame.specs.Reading.{FileReads, IsOfKind, MayStopAt, CountsInTurn}
+use Rattle.rabit_frame.specs.Reading.{FileReads, IsOfKind, MayStopAt, CountsInTurn, BegunInTurn}
 use Rattle.rabit_frame.specs.Ending.{OfBoth, IsCutShort, Leaves, MayEnd, filed, status_of, status_unsent, WasSaid, SaysOnly}
 use Rattle.rabit_frame.specs.Carrying.{EndsSo, NoReply, IsCarriedOut, SaysEach}
 use Rattle.rabit_frame.proofs.EndLemmas.{own_number, may_plain, stop_plain, says_each, read_fault_of, read_line_of, memory_of}
-use Rattle.rabit_frame.proofs.TurnLemmas.{counts_here}
+use Rattle.rabit_frame.proofs.TurnLemmas.{counts_here, begun_here}
 use Rattle.rabit_cli.specs.Include.{usual_terms, LeavesDecided}
 use Rattle.rabit_cli.specs.Batch.{AreQuestions, AnswersQuestion, ShowsQuestion, question_inputs, MeansQuestion, IsQuestionStatus, AreThere, LeavesQuestion, LeaveInTurn, question_line, question_lines, times, RoseBy, IsCarriedEach, list_file, batch_inputs, IsUnreadStatus, IsUnread, IsBatch}
 use Rattle.rabit_words.specs.Question.{Batch}
@@ -196,8 +196,8 @@ known_append (Some x) a b = ap Some (append_assoc x a b)
 
 -- ---- one question more
 
-pub each_none : (number : ℕ) (held held' : Option FileMap) (sent : Option (List ℕ)) (give read put missed : ℕ) → held' ≡ held → IsCarriedEach number [] held held' 0 sent sent give give read read put put missed missed
-each_none number held held' sent give read put missed stays = record {
+pub each_none : (number : ℕ) (held held' : Option FileMap) (sent : Option (List ℕ)) (give read put missed begins : ℕ) → held' ≡ held → IsCarriedEach number [] held held' 0 sent sent give give read read put put missed missed begins begins
+each_none number held held' sent give read put missed begins stays = record {
   statuses = [];
   within = omega arith;
   known = All-nil IsQuestionStatus;
@@ -214,16 +214,16 @@ each_none number held held' sent give read put missed stays = record {
     known_nil None = refl
     known_nil (Some x) = ap Some (sym (append_nil x))
 
-    same : (h : Option FileMap) → held' ≡ h → OfBoth h held' (λ files files'. LeaveInTurn [] [] files files')
+    same : (h : Option FileMap) → held' ≡ h → OfBoth h held' (λ files files'. LeaveInTurn [] [] files files' begins begins)
     same None e = e
-    same (Some files) e = (files, e, refl)
+    same (Some files) e = (files, e, (refl, refl))
 
     none : (h : Option FileMap) → IfSome h (λ files. All (AreThere files) [] → missed ≡ missed)
     none None = tt
     none (Some files) = λ there. refl
 
-module _ (q : Question) (number : ℕ) (held between : Option FileMap) (read read1 put put1 missed missed1 : ℕ) (e : Ending) (ends : EndsSo (MeansQuestion q) (question_inputs q) e held between read read1 put put1)
-    (counts : IfSome held (λ files. CountsInTurn files (question_inputs q) missed missed1)) where
+module _ (q : Question) (number : ℕ) (held between : Option FileMap) (read read1 put put1 missed missed1 begins begins1 : ℕ) (e : Ending) (ends : EndsSo (MeansQuestion q) (question_inputs q) e held between read read1 put put1)
+    (counts : IfSome held (λ files. CountsInTurn files (question_inputs q) missed missed1)) (begun : IfSome held (λ files. BegunInTurn files (question_inputs q) begins begins1)) where
   read_more : (statuses : List ℕ) (read' : ℕ) → RoseBy (times 6 statuses) read1 read' → RoseBy (times 6 (status_of e ∷ statuses)) read read'
   read_more statuses read' rest = rose_by 6 (status_of e) statuses read read1 read' (λ is. ends.read_fault (ends_unread e is)) (λ other. ends.no_read_fault (λ is. other (ap status_of is))) rest
 
@@ -236,14 +236,15 @@ module _ (q : Question) (number : ℕ) (held between : Option FileMap) (read rea
   put_stay : (statuses : List ℕ) (put' : ℕ) → (times 7 statuses ≡ 0 → put' ≡ put1) → times 7 (status_of e ∷ statuses) ≡ 0 → put' ≡ put
   put_stay statuses put' rest = stay_by 7 (status_of e) statuses put put1 put' (λ other. ends.no_write_fault (λ is. other (ap status_of is))) rest
 
-  turn_more : (questions : List Question) (statuses : List ℕ) (held' : Option FileMap) → OfBoth between held' (λ files files'. LeaveInTurn questions statuses files files') → OfBoth held held' (λ files files'. LeaveInTurn (q ∷ questions) (status_of e ∷ statuses) files files')
-  turn_more questions statuses held' rest = go held ends.leaves
+  turn_more : (questions : List Question) (statuses : List ℕ) (held' : Option FileMap) (begins' : ℕ) → OfBoth between held' (λ files files'. LeaveInTurn questions statuses files files' begins1 begins') → OfBoth held held' (λ files files'. LeaveInTurn (q ∷ questions) (status_of e ∷ statuses) files files' begins begins')
+  turn_more questions statuses held' begins' rest = go held ends.leaves begun
     where
-      go : (h : Option FileMap) → OfBoth h between (λ files files'. Leaves (MeansQuestion q) (question_inputs q) e files files') → OfBoth h held' (λ files files'. LeaveInTurn (q ∷ questions) (status_of e ∷ statuses) files files')
-      go None none = subst (λ (m : Option FileMap). OfBoth m held' (λ files files'. LeaveInTurn questions statuses files files')) none rest
-      go (Some files) (mid, is, left) =
-          let (files', is', later) = subst (λ (m : Option FileMap). OfBoth m held' (λ files files'. LeaveInTurn questions statuses files files')) is rest in
-          (files', is', (mid, (e, left, refl), later))
+      go : (h : Option FileMap) → OfBoth h between (λ files files'. Leaves (MeansQuestion q) (question_inputs q) e files files') → IfSome h (λ files. BegunInTurn files (question_inputs q) begins begins1)
+          → OfBoth h held' (λ files files'. LeaveInTurn (q ∷ questions) (status_of e ∷ statuses) files files' begins begins')
+      go None none b = subst (λ (m : Option FileMap). OfBoth m held' (λ files files'. LeaveInTurn questions statuses files files' begins1 begins')) none rest
+      go (Some files) (mid, is, left) b =
+          let (files', is', later) = subst (λ (m : Option FileMap). OfBoth m held' (λ files files'. LeaveInTurn questions statuses files files' begins1 begins')) is rest in
+          (files', is', (mid, begins1, (e, left, refl), b, later))
 
   missed_more : (questions : List Question) (missed' : ℕ) → IfSome between (λ files. All (AreThere files) questions → missed' ≡ missed1) → IfSome held (λ files. All (AreThere files) (q ∷ questions) → missed' ≡ missed)
   missed_more questions missed' rest = go held ends.leaves counts
@@ -255,11 +256,11 @@ module _ (q : Question) (number : ℕ) (held between : Option FileMap) (read rea
           later (all_keep (MeansQuestion q) (question_inputs q) files mid e questions left (All-tail (AreThere files) q questions there))
           ∙ counts_none q files missed missed1 c (All-head (AreThere files) q questions there)
 
-  pub each_more : (questions : List Question) (held' : Option FileMap) (status : ℕ) (sent sent1 sent' : Option (List ℕ)) (give give1 give' read' put' missed' : ℕ)
+  pub each_more : (questions : List Question) (held' : Option FileMap) (status : ℕ) (sent sent1 sent' : Option (List ℕ)) (give give1 give' read' put' missed' begins' : ℕ)
       → sent1 ≡ append_known sent (question_line number (status_of e)) → give1 ≡ give
-      → IsCarriedEach (number + 1) questions between held' status sent1 sent' give1 give' read1 read' put1 put' missed1 missed'
-      → IsCarriedEach number (q ∷ questions) held held' status sent sent' give give' read read' put put' missed missed'
-  each_more questions held' status sent sent1 sent' give give1 give' read' put' missed' sends stays rest = record {
+      → IsCarriedEach (number + 1) questions between held' status sent1 sent' give1 give' read1 read' put1 put' missed1 missed' begins1 begins'
+      → IsCarriedEach number (q ∷ questions) held held' status sent sent' give give' read read' put put' missed missed' begins begins'
+  each_more questions held' status sent sent1 sent' give give1 give' read' put' missed' begins' sends stays rest = record {
     statuses = status_of e ∷ rest.statuses;
     within = (let few = rest.within in omega arith);
     known = All-cons IsQuestionStatus (status_of e) rest.statuses (question_status q e ends.may) rest.known;
@@ -268,7 +269,7 @@ module _ (q : Question) (number : ℕ) (held between : Option FileMap) (read rea
       | inr (seven, rose, (before, last, is, (n, sends'))) ↦
           inr (seven, subst (λ g. Rose g give') stays rose, (status_of e ∷ before, last, ap (λ ss. status_of e ∷ ss) is, (n, front before last n sends')))
     ];
-    in_turn = turn_more questions rest.statuses held' rest.in_turn;
+    in_turn = turn_more questions rest.statuses held' begins' rest.in_turn;
     read_faults_rose = read_more rest.statuses read' rest.read_faults_rose;
     put_faults_rose = put_more rest.statuses put' rest.put_faults_rose;
     read_faults_stay = read_stay rest.statuses read' rest.read_faults_stay;
@@ -286,13 +287,13 @@ module _ (q : Question) (number : ℕ) (held between : Option FileMap) (read rea
           ∙ ap (λ m. append_known sent (question_lines number (status_of e ∷ before) ++ take n (question_line m last))) place
 
   pub each_refused : (questions : List Question) (sent sent' : Option (List ℕ)) (give give' n : ℕ) → sent' ≡ append_known sent (take n (question_line number (status_of e))) → Rose give give'
-      → IsCarriedEach number (q ∷ questions) held between 7 sent sent' give give' read read1 put put1 missed missed1
+      → IsCarriedEach number (q ∷ questions) held between 7 sent sent' give give' read read1 put put1 missed missed1 begins begins1
   each_refused questions sent sent' give give' n sends rose = record {
     statuses = status_of e ∷ [];
     within = omega arith;
     known = All-cons IsQuestionStatus (status_of e) [] (question_status q e ends.may) (All-nil IsQuestionStatus);
     said = inr (refl, rose, ([], status_of e, refl, (n, sends ∙ ap (λ m. append_known sent (take n (question_line m (status_of e)))) place)));
-    in_turn = turn_more questions [] between (stay between);
+    in_turn = turn_more questions [] between begins1 (stay between);
     read_faults_rose = read_more [] read1 (rose_none read1);
     put_faults_rose = put_more [] put1 (rose_none put1);
     read_faults_stay = read_stay [] read1 (λ zero. refl);
@@ -306,9 +307,9 @@ module _ (q : Question) (number : ℕ) (held between : Option FileMap) (read rea
       place : number ≡ number + length none_more
       place = omega arith
 
-      stay : (h : Option FileMap) → OfBoth h h (λ files files'. LeaveInTurn questions [] files files')
+      stay : (h : Option FileMap) → OfBoth h h (λ files files'. LeaveInTurn questions [] files files' begins1 begins1)
       stay None = refl
-      stay (Some files) = (files, refl, refl)
+      stay (Some files) = (files, refl, (refl, refl))
 
       none : (h : Option FileMap) → IfSome h (λ files. All (AreThere files) questions → missed1 ≡ missed1)
       none None = tt
@@ -343,10 +344,10 @@ unread_status list held held' status sent sent' give give' read read' put put' c
 
 -- ---- what the status of a batch says
 
-module _ (list : List ℕ) (held held' : Option FileMap) (status : ℕ) (sent sent' : Option (List ℕ)) (give give' read read' put put' missed missed' : ℕ)
-    (is : IsBatch list held held' status sent sent' give give' read read' put put' missed missed') where
+module _ (list : List ℕ) (held held' : Option FileMap) (status : ℕ) (sent sent' : Option (List ℕ)) (give give' read read' put put' missed missed' begins begins' : ℕ)
+    (is : IsBatch list held held' status sent sent' give give' read read' put put' missed missed' begins begins') where
   -- unless no question was asked it is 0 or 7
-  others : (P : Type 0) → (IsUnread list held held' status sent sent' give give' read read' put put' missed missed' → P) → (status ≡ 0 → P) → (status ≡ 7 → Rose give give' → P) → P
+  others : (P : Type 0) → (IsUnread list held held' status sent sent' give give' read read' put put' missed missed' begins begins' → P) → (status ≡ 0 → P) → (status ≡ 7 → Rose give give' → P) → P
   others P unread all refused = elim is [
     | inl u ↦ unread u
     | inr asked ↦ elim asked.each.said [ inl said ↦ all said.0 | inr last ↦ refused last.0 last.1 ]
@@ -422,16 +423,17 @@ list_is_of_questions questions (bytes, is) = (is.words, is.few)
 -- ---- the whole batch
 
 -- the list is not read
-pub batch_unread : (list : List ℕ) (slot : Input) (held held' : Option FileMap) (status : ℕ) (sent sent' : Option (List ℕ)) (give give' read read' put put' missed missed' : ℕ) (e : Ending)
-    → slot ≡ list_file list → EndsSo NoReply (slot ∷ []) e held held' read read' put put' → WasSaid e status sent sent' give give' → CountsMissing held slot.name missed missed'
-    → IsBatch list held held' status sent sent' give give' read read' put put' missed missed'
-batch_unread list slot held held' status sent sent' give give' read read' put put' missed missed' e is ends said counts =
+pub batch_unread : (list : List ℕ) (slot : Input) (held held' : Option FileMap) (status : ℕ) (sent sent' : Option (List ℕ)) (give give' read read' put put' missed missed' begins begins' : ℕ) (e : Ending)
+    → slot ≡ list_file list → EndsSo NoReply (slot ∷ []) e held held' read read' put put' → WasSaid e status sent sent' give give' → CountsMissing held slot.name missed missed' → begins' ≡ counted begins
+    → IsBatch list held held' status sent sent' give give' read read' put put' missed missed' begins begins'
+batch_unread list slot held held' status sent sent' give give' read read' put put' missed missed' begins begins' e is ends said counts begun =
     let carried : IsCarriedOut NoReply (batch_inputs list) held held' status sent sent' give give' read read' put put' =
     record { end = e; ends = subst (λ (i : Input). EndsSo NoReply (i ∷ []) e held held' read read' put put') is ends; said = said } in
     inl (record {
       carried = carried;
       known = unread_status list held held' status sent sent' give give' read read' put put' carried;
       missing = counts_here held (list_file list) [] missed missed' (subst (λ (i : Input). CountsMissing held i.name missed missed') is counts);
+      begun = begun_here held (list_file list) [] begins begins' begun;
     })
 
 -- the list was read, so its name was not missed
@@ -443,12 +445,12 @@ read_is_held files i v before now (bytes, has, few, reads) counts = counts ∙ g
     go false is = absurd (false≢true is)
 
 -- the list is read, and its questions are carried out
-pub batch_asked : (list : List ℕ) (slot : Input) (held held1 held' : Option FileMap) (status : ℕ) (sent sent' : Option (List ℕ)) (give give' read read1 read' put put1 put' missed missed1 missed' : ℕ) (questions : List Question)
+pub batch_asked : (list : List ℕ) (slot : Input) (held held1 held' : Option FileMap) (status : ℕ) (sent sent' : Option (List ℕ)) (give give' read read1 read' put put1 put' missed missed1 missed' begins begins1 begins' : ℕ) (questions : List Question)
     → slot ≡ list_file list → IsOfKind slot.kind (value.Questions questions) → IfSome held (λ files. FileReads files slot (value.Questions questions)) → CountsMissing held slot.name missed missed1
-    → held1 ≡ held → read1 ≡ read → put1 ≡ put
-    → IsCarriedEach 1 questions held1 held' status sent sent' give give' read1 read' put1 put' missed1 missed'
-    → IsBatch list held held' status sent sent' give give' read read' put put' missed missed'
-batch_asked list slot held held1 held' status sent sent' give give' read read1 read' put put1 put' missed missed1 missed' questions is kind reads counts held_stays read_stays put_stays each =
+    → held1 ≡ held → read1 ≡ read → put1 ≡ put → begins1 ≡ counted begins
+    → IsCarriedEach 1 questions held1 held' status sent sent' give give' read1 read' put1 put' missed1 missed' begins1 begins'
+    → IsBatch list held held' status sent sent' give give' read read' put put' missed missed' begins begins'
+batch_asked list slot held held1 held' status sent sent' give give' read read1 read' put put1 put' missed missed1 missed' begins begins1 begins' questions is kind reads counts held_stays read_stays put_stays begun each =
     let of = list_is_of_questions questions (subst (λ (i : Input). IsOfKind i.kind (value.Questions questions)) is kind) in
     inr (record {
       questions = questions;
@@ -460,7 +462,9 @@ batch_asked list slot held held1 held' status sent sent' give give' read read1 r
         within = each.within;
         known = each.known;
         said = each.said;
-        in_turn = subst (λ (h : Option FileMap). OfBoth h held' (λ files files'. LeaveInTurn questions each.statuses files files')) held_stays each.in_turn;
+        in_turn =
+            subst (λ n. OfBoth held held' (λ files files'. LeaveInTurn questions each.statuses files files' n begins')) begun
+            (subst (λ (h : Option FileMap). OfBoth h held' (λ files files'. LeaveInTurn questions each.statuses files files' begins1 begins')) held_stays each.in_turn);
         read_faults_rose = subst (λ n. RoseBy (times 6 each.statuses) n read') read_stays each.read_faults_rose;
         put_faults_rose = subst (λ n. RoseBy (times 7 each.statuses) n put') put_stays each.put_faults_rose;
         read_faults_stay = λ none. each.read_faults_stay none ∙ read_stays;

@@ -6,7 +6,7 @@ use Rattle.rabit_frame.specs.declared.parts.Reply.{Reply}
 use Rattle.rabit_frame.specs.declared.parts.Ending.{Ending}
 use Rattle.rabit_frame.specs.declared.parts.Ending.TheVariants as ending
 use Rattle.rabit_frame.specs.Statuses.{status_number}
-use Rattle.rabit_frame.specs.Reading.{AreOfKinds, CountsInTurn}
+use Rattle.rabit_frame.specs.Reading.{AreOfKinds, CountsInTurn, BegunInTurn}
 use Rattle.rabit_frame.specs.Ending.{OfBoth, WasSaid}
 use Rattle.rabit_frame.specs.Carrying.{EndsSo, IsCarriedOut, ShowsResult}
 use Rattle.rabit_frame.proofs.EndLemmas.{may_plain, same_status, own_status, both_same, no_inputs, no_puts, no_puts_stay}
@@ -216,39 +216,39 @@ module _ (held held' : Option FileMap) (status : ℕ) (sent sent' : Option (List
   leaves (Some (Universal a u d m)) range c = leaves_property universality universality_decidable u d m held held' status sent sent' sink sink' faults faults' puts puts' a c.end c.ends c.said
 
   -- a batch that was carried out as if it had a reply of its own has no question asked
-  pub batches : (q : Option Question) → Carried q → (missed missed' : ℕ) → IfSome held (λ files. CountsInTurn files (inputs_of q) missed missed')
-      → IfSome q (λ asked. Batches asked held held' status sent sent' sink sink' faults faults' puts puts' missed missed')
-  batches (Some (Batch l)) c missed missed' missing =
-      inl (record { carried = c; known = unread_status l held held' status sent sent' sink sink' faults faults' puts puts' c; missing = missing })
-  batches None c missed missed' missing = tt
-  batches (Some (Check a b d)) c missed missed' missing = tt
-  batches (Some (Include a b d m look limit letters)) c missed missed' missing = tt
-  batches (Some (Reduce a m look letters)) c missed missed' missing = tt
-  batches (Some (Drill seed states labels)) c missed missed' missing = tt
-  batches (Some (Upgrade d out)) c missed missed' missing = tt
-  batches (Some (Cross a b out look)) c missed missed' missing = tt
-  batches (Some (CrossCheck a b f)) c missed missed' missing = tt
-  batches (Some (Equal a b d out)) c missed missed' missing = tt
-  batches (Some (Union a b m)) c missed missed' missing = tt
-  batches (Some (Intersect a b m)) c missed missed' missing = tt
-  batches (Some (Shrink a b d out)) c missed missed' missing = tt
-  batches (Some (Empty a e d m)) c missed missed' missing = tt
-  batches (Some (Universal a u d m)) c missed missed' missing = tt
+  pub batches : (q : Option Question) → Carried q → (missed missed' begins begins' : ℕ) → IfSome held (λ files. CountsInTurn files (inputs_of q) missed missed') → IfSome held (λ files. BegunInTurn files (inputs_of q) begins begins')
+      → IfSome q (λ asked. Batches asked held held' status sent sent' sink sink' faults faults' puts puts' missed missed' begins begins')
+  batches (Some (Batch l)) c missed missed' begins begins' missing begun =
+      inl (record { carried = c; known = unread_status l held held' status sent sent' sink sink' faults faults' puts puts' c; missing = missing; begun = begun })
+  batches None c missed missed' begins begins' missing begun = tt
+  batches (Some (Check a b d)) c missed missed' begins begins' missing begun = tt
+  batches (Some (Include a b d m look limit letters)) c missed missed' begins begins' missing begun = tt
+  batches (Some (Reduce a m look letters)) c missed missed' begins begins' missing begun = tt
+  batches (Some (Drill seed states labels)) c missed missed' begins begins' missing begun = tt
+  batches (Some (Upgrade d out)) c missed missed' begins begins' missing begun = tt
+  batches (Some (Cross a b out look)) c missed missed' begins begins' missing begun = tt
+  batches (Some (CrossCheck a b f)) c missed missed' begins begins' missing begun = tt
+  batches (Some (Equal a b d out)) c missed missed' begins begins' missing begun = tt
+  batches (Some (Union a b m)) c missed missed' begins begins' missing begun = tt
+  batches (Some (Intersect a b m)) c missed missed' begins begins' missing begun = tt
+  batches (Some (Shrink a b d out)) c missed missed' begins begins' missing begun = tt
+  batches (Some (Empty a e d m)) c missed missed' begins begins' missing begun = tt
+  batches (Some (Universal a u d m)) c missed missed' begins begins' missing begun = tt
 
   -- and its status
-  pub answers_batches : (q : Option Question) → Carried q → (missed missed' : ℕ) → IfSome held (λ files. CountsInTurn files (inputs_of q) missed missed') → IfSome q (λ asked. AnswersBatch asked status sink sink' faults faults')
-  answers_batches (Some (Batch l)) c missed missed' missing = answers_batch l held held' status sent sent' sink sink' faults faults' puts puts' missed missed' (batches (Some (Batch l)) c missed missed' missing)
-  answers_batches None c missed missed' missing = tt
-  answers_batches (Some (Check a b d)) c missed missed' missing = tt
-  answers_batches (Some (Include a b d m look limit letters)) c missed missed' missing = tt
-  answers_batches (Some (Reduce a m look letters)) c missed missed' missing = tt
-  answers_batches (Some (Drill seed states labels)) c missed missed' missing = tt
-  answers_batches (Some (Upgrade d out)) c missed missed' missing = tt
-  answers_batches (Some (Cross a b out look)) c missed missed' missing = tt
-  answers_batches (Some (CrossCheck a b f)) c missed missed' missing = tt
-  answers_batches (Some (Equal a b d out)) c missed missed' missing = tt
-  answers_batches (Some (Union a b m)) c missed missed' missing = tt
-  answers_batches (Some (Intersect a b m)) c missed missed' missing = tt
-  answers_batches (Some (Shrink a b d out)) c missed missed' missing = tt
-  answers_batches (Some (Empty a e d m)) c missed missed' missing = tt
-  answers_batches (Some (Universal a u d m)) c missed missed' missing = tt
+  pub answers_batches : (q : Option Question) → Carried q → (missed missed' begins begins' : ℕ) → IfSome held (λ files. CountsInTurn files (inputs_of q) missed missed') → IfSome held (λ files. BegunInTurn files (inputs_of q) begins begins') → IfSome q (λ asked. AnswersBatch asked status sink sink' faults faults')
+  answers_batches (Some (Batch l)) c missed missed' begins begins' missing begun = answers_batch l held held' status sent sent' sink sink' faults faults' puts puts' missed missed' begins begins' (batches (Some (Batch l)) c missed missed' begins begins' missing begun)
+  answers_batches None c missed missed' begins begins' missing begun = tt
+  answers_batches (Some (Check a b d)) c missed missed' begins begins' missing begun = tt
+  answers_batches (Some (Include a b d m look limit letters)) c missed missed' begins begins' missing begun = tt
+  answers_batches (Some (Reduce a m look letters)) c missed missed' begins begins' missing begun = tt
+  answers_batches (Some (Drill seed states labels)) c missed missed' begins begins' missing begun = tt
+  answers_batches (Some (Upgrade d out)) c missed missed' begins begins' missing begun = tt
+  answers_batches (Some (Cross a b out look)) c missed missed' begins begins' missing begun = tt
+  answers_batches (Some (CrossCheck a b f)) c missed missed' begins begins' missing begun = tt
+  answers_batches (Some (Equal a b d out)) c missed missed' begins begins' missing begun = tt
+  answers_batches (Some (Union a b m)) c missed missed' begins begins' missing begun = tt
+  answers_batches (Some (Intersect a b m)) c missed missed' begins begins' missing begun = tt
+  answers_batches (Some (Shrink a b d out)) c missed missed' begins begins' missing begun = tt
+  answers_batches (Some (Empty a e d m)) c missed missed' begins begins' missing begun = tt
+  answers_batches (Some (Universal a u d m)) c missed missed' begins begins' missing begun = tt

@@ -3,7 +3,7 @@ use Rattle.std.specs.Prelude.{◌≡◌, ℕ, ◌+◌, ◌-◌, ◌^◌, ◌≤�
 use Rattle.std.specs.FinMap as files
 use Rattle.std.specs.List.{list_all}
 use Rattle.std.specs.Io.KnownBytes.{append_known}
-use Rattle.shelf_io.specs.Counts.{Rose}
+use Rattle.shelf_io.specs.Counts.{Rose, counted}
 use Rattle.shelf_io.specs.Shelf.{FileMap}
 use Rattle.auto_core.specs.declared.parts.Mode.TheVariants.{Buchi}
 use Rattle.equal_batch.specs.declared.questions.Question.{Question}
@@ -16,7 +16,7 @@ use Rattle.rabit_frame.specs.declared.parts.Ending.{Ending}
 use Rattle.rabit_frame.specs.Files.{Input}
 use Rattle.rabit_frame.specs.Lines.{line_end}
 use Rattle.rabit_frame.specs.Statuses.{status_number}
-use Rattle.rabit_frame.specs.Reading.{FileReads, CountsInTurn}
+use Rattle.rabit_frame.specs.Reading.{FileReads, CountsInTurn, BegunInTurn}
 use Rattle.rabit_frame.specs.Ending.{IsReplyFor, OfBoth, Leaves, filed, status_of}
 use Rattle.rabit_frame.specs.Carrying.{NoReply, IsCarriedOut}
 use Rattle.rabit_cli.specs.Include.{usual_terms, pair_inputs, MeansInclude, ShowsInclude}
@@ -63,12 +63,17 @@ AreQuestions questions = list_all is_question (map line_of questions) ≡ true
 
 -- ---- one after the other
 
--- The first questions, one for each status, ended with these, each asked of the files that the one before it left.
-abbrev pub LeaveInTurn : List Question → List ℕ → FileMap → FileMap → Type 0
-LeaveInTurn questions [] files files' = files' ≡ files
-LeaveInTurn [] (status ∷ statuses) files files' = ⊥
-LeaveInTurn (q ∷ questions) (status ∷ statuses) files files' =
-    (between : FileMap) × LeavesQuestion q status files between × LeaveInTurn questions statuses between files'
+-- The first questions, one for each status, ended with these, each asked of the files that the one before it left. By the count of begins, each
+-- began its files in turn, and none of a later question was begun.
+abbrev pub LeaveInTurn : List Question → List ℕ → FileMap → FileMap → ℕ → ℕ → Type 0
+LeaveInTurn questions [] files files' begins begins' = (files' ≡ files) × (begins' ≡ begins)
+LeaveInTurn [] (status ∷ statuses) files files' begins begins' = ⊥
+LeaveInTurn (q ∷ questions) (status ∷ statuses) files files' begins begins' =
+    (between : FileMap)
+    × (begun : ℕ)
+    × LeavesQuestion q status files between
+    × BegunInTurn files (question_inputs q) begins begun
+    × LeaveInTurn questions statuses between files' begun begins'
 
 -- The line of the question with this number.
 abbrev pub question_line : ℕ → ℕ → List ℕ
@@ -108,12 +113,12 @@ RoseBy n before now = min (before + n) (2 ^ 64 - 1) ≤ now
 
 -- The questions were carried out one after the other, the first with this number, until all were or the sink refused a line.
 -- The count of failed reads rose once at least for each status 6, and did not change where there is none; so did that of failed puts for 7.
-pub record IsCarriedEach (number : ℕ) (questions : List Question) (held held' : Option FileMap) (status : ℕ) (sent sent' : Option (List ℕ)) (give_faults give_faults' read_faults read_faults' put_faults put_faults' missed missed' : ℕ) : Type 0 where
+pub record IsCarriedEach (number : ℕ) (questions : List Question) (held held' : Option FileMap) (status : ℕ) (sent sent' : Option (List ℕ)) (give_faults give_faults' read_faults read_faults' put_faults put_faults' missed missed' begins begins' : ℕ) : Type 0 where
   pub statuses : List ℕ
   pub within : length statuses ≤ length questions
   pub known : All IsQuestionStatus statuses
   pub said : AllSaid number questions statuses status sent sent' give_faults give_faults' ⊎ LastRefused number statuses status sent sent' give_faults give_faults'
-  pub in_turn : OfBoth held held' (λ files files'. LeaveInTurn questions statuses files files')
+  pub in_turn : OfBoth held held' (λ files files'. LeaveInTurn questions statuses files files' begins begins')
   pub read_faults_rose : RoseBy (times 6 statuses) read_faults read_faults'
   pub put_faults_rose : RoseBy (times 7 statuses) put_faults put_faults'
   pub read_faults_stay : times 6 statuses ≡ 0 → read_faults' ≡ read_faults
@@ -135,21 +140,22 @@ abbrev pub IsUnreadStatus : ℕ → Type 0
 IsUnreadStatus status = (status ≡ 6) ⊎ (status ≡ 8) ⊎ (status ≡ 11)
 
 -- No question was carried out, and why was said.
-pub record IsUnread (list : List ℕ) (held held' : Option FileMap) (status : ℕ) (sent sent' : Option (List ℕ)) (give_faults give_faults' read_faults read_faults' put_faults put_faults' missed missed' : ℕ) : Type 0 where
+pub record IsUnread (list : List ℕ) (held held' : Option FileMap) (status : ℕ) (sent sent' : Option (List ℕ)) (give_faults give_faults' read_faults read_faults' put_faults put_faults' missed missed' begins begins' : ℕ) : Type 0 where
   pub carried : IsCarriedOut NoReply (batch_inputs list) held held' status sent sent' give_faults give_faults' read_faults read_faults' put_faults put_faults'
   pub known : IsUnreadStatus status
   pub missing : IfSome held (λ files. CountsInTurn files (batch_inputs list) missed missed')
+  pub begun : IfSome held (λ files. BegunInTurn files (batch_inputs list) begins begins')
 
--- The list was read, and its questions were carried out from the first on.
-pub record AreAsked (list : List ℕ) (held held' : Option FileMap) (status : ℕ) (sent sent' : Option (List ℕ)) (give_faults give_faults' read_faults read_faults' put_faults put_faults' missed missed' : ℕ) : Type 0 where
+-- The list, the first file begun, was read, and its questions were carried out from the first on.
+pub record AreAsked (list : List ℕ) (held held' : Option FileMap) (status : ℕ) (sent sent' : Option (List ℕ)) (give_faults give_faults' read_faults read_faults' put_faults put_faults' missed missed' begins begins' : ℕ) : Type 0 where
   pub questions : List Question
   pub words : AreQuestions questions
   pub few : length questions ≤ 1000
   pub read : IfSome held (λ files. FileReads files (list_file list) (value.Questions questions))
-  pub each : IsCarriedEach 1 questions held held' status sent sent' give_faults give_faults' read_faults read_faults' put_faults put_faults' missed missed'
+  pub each : IsCarriedEach 1 questions held held' status sent sent' give_faults give_faults' read_faults read_faults' put_faults put_faults' missed missed' (counted begins) begins'
 
 -- How a batch goes.
-abbrev pub IsBatch : List ℕ → Option FileMap → Option FileMap → ℕ → Option (List ℕ) → Option (List ℕ) → ℕ → ℕ → ℕ → ℕ → ℕ → ℕ → ℕ → ℕ → Type 0
-IsBatch list held held' status sent sent' give_faults give_faults' read_faults read_faults' put_faults put_faults' missed missed' =
-    IsUnread list held held' status sent sent' give_faults give_faults' read_faults read_faults' put_faults put_faults' missed missed'
-    ⊎ AreAsked list held held' status sent sent' give_faults give_faults' read_faults read_faults' put_faults put_faults' missed missed'
+abbrev pub IsBatch : List ℕ → Option FileMap → Option FileMap → ℕ → Option (List ℕ) → Option (List ℕ) → ℕ → ℕ → ℕ → ℕ → ℕ → ℕ → ℕ → ℕ → ℕ → ℕ → Type 0
+IsBatch list held held' status sent sent' give_faults give_faults' read_faults read_faults' put_faults put_faults' missed missed' begins begins' =
+    IsUnread list held held' status sent sent' give_faults give_faults' read_faults read_faults' put_faults put_faults' missed missed' begins begins'
+    ⊎ AreAsked list held held' status sent sent' give_faults give_faults' read_faults read_faults' put_faults put_faults' missed missed' begins begins'

@@ -6,7 +6,7 @@ ghost use Rattle.auto_core.specs.declared.parts.Mode.TheVariants.{Buchi};
 ghost use Rattle.equal_batch.specs.Questions.{is_word, is_question, line_of};
 ghost use Rattle.rabit_frame.specs.declared.parts.Value.TheVariants as value;
 ghost use Rattle.rabit_frame.specs.declared.parts.Ending.{Ending as AnEnding};
-ghost use Rattle.rabit_frame.specs.Reading.{FileReads, IsOfKind, CountsInTurn};
+ghost use Rattle.rabit_frame.specs.Reading.{FileReads, IsOfKind, CountsInTurn, BegunInTurn};
 ghost use Rattle.rabit_frame.specs.Ending.{OfBoth, status_of};
 ghost use Rattle.rabit_frame.specs.Carrying.{EndsSo};
 ghost use Rattle.rabit_cli.specs.Include.{usual_terms, LeavesDecided};
@@ -88,8 +88,9 @@ pub fn answer_one<H: Shelf>(alloc: Global, question: &Question, shelf: &mut H) -
     ensures write_fault { result ≡ 7 → Rose (H.put_faults shelf.old) (H.put_faults shelf.new) }
     ensures no_write_fault { result ≢ 7 → H.put_faults shelf.new ≡ H.put_faults shelf.old }
 
-    // Where the shelf tells its files, a missing one is counted only in its turn, after those before it read as values.
+    // Where the shelf tells its files, each is begun once those before it read as values, and a missing one is counted only in its turn.
     ensures missing { IfSome (H.held shelf.old) (λ files. CountsInTurn files (question_inputs question.now) (H.missed shelf.old) (H.missed shelf.new)) }
+    ensures begun { IfSome (H.held shelf.old) (λ files. BegunInTurn files (question_inputs question.now) (H.begins shelf.old) (H.begins shelf.new)) }
 {
     let asking = Asking { question };
     rabit_frame::carry_out_unsaid(alloc, &asking, shelf)
@@ -127,7 +128,7 @@ fn carry_each<H: Shelf, K: Sink>(
     requires few { number + length questions.now ≤ 1001 }
     requires room { 15 ≤ vec_capacity line.old }
     ensures { IsCarriedEach number questions.now (H.held shelf.old) (H.held shelf.new) result (K.sent out.old) (K.sent out.new) (K.faults out.old) (K.faults out.new)
-        (H.faults shelf.old) (H.faults shelf.new) (H.put_faults shelf.old) (H.put_faults shelf.new) (H.missed shelf.old) (H.missed shelf.new) }
+        (H.faults shelf.old) (H.faults shelf.new) (H.put_faults shelf.old) (H.put_faults shelf.new) (H.missed shelf.old) (H.missed shelf.new) (H.begins shelf.old) (H.begins shelf.new) }
 {
     match questions {
         [] => 0,
@@ -155,7 +156,7 @@ fn list_slot<'a>(name: &'a str) -> Slot<'a>
 /// Reads the list, and carries out its questions one after the other.
 pub fn batch<H: Shelf, K: Sink>(alloc: Global, list: &str, shelf: &mut H, out: &mut K) -> u8
     ensures { IsBatch list.now (H.held shelf.old) (H.held shelf.new) result (K.sent out.old) (K.sent out.new) (K.faults out.old) (K.faults out.new)
-        (H.faults shelf.old) (H.faults shelf.new) (H.put_faults shelf.old) (H.put_faults shelf.new) (H.missed shelf.old) (H.missed shelf.new) }
+        (H.faults shelf.old) (H.faults shelf.new) (H.put_faults shelf.old) (H.put_faults shelf.new) (H.missed shelf.old) (H.missed shelf.new) (H.begins shelf.old) (H.begins shelf.new) }
 {
     match read_alone(alloc, shelf, &list_slot(list)) {
         Ok(Value::Questions(questions)) => match Vec::with_capacity(alloc, 15) {

@@ -5,7 +5,7 @@ ghost use Rattle.std.specs.String.{string_bytes};
 ghost use Rattle.shelf_io.specs.Counts.{Rose};
 ghost use Rattle.rabit_frame.specs.Lines.{read_line, memory_line};
 ghost use Rattle.rabit_frame.specs.Statuses.{IsOwn};
-ghost use Rattle.rabit_frame.specs.Reading.{CountsInTurn};
+ghost use Rattle.rabit_frame.specs.Reading.{CountsInTurn, BegunInTurn};
 ghost use Rattle.rabit_frame.specs.Ending.{OfBoth, SaysOnly};
 ghost use Rattle.rabit_frame.specs.Carrying.{IsCarriedOut, SaysEach, ShowsReply, LeavesUnwritten};
 ghost use Rattle.rabit_words.specs.Question.{question_of};
@@ -47,7 +47,7 @@ pub fn run<H: Shelf, K: Sink>(alloc: Global, words: &[String], shelf: &mut H, ou
     // before it left, and a line with its number and its status was given before the next began.
     ensures batch { IfSome (question_of (map string_bytes words.now)) (λ asked.
         Batches asked (H.held shelf.old) (H.held shelf.new) result (K.sent out.old) (K.sent out.new) (K.faults out.old) (K.faults out.new)
-        (H.faults shelf.old) (H.faults shelf.new) (H.put_faults shelf.old) (H.put_faults shelf.new) (H.missed shelf.old) (H.missed shelf.new)) }
+        (H.faults shelf.old) (H.faults shelf.new) (H.put_faults shelf.old) (H.put_faults shelf.new) (H.missed shelf.old) (H.missed shelf.new) (H.begins shelf.old) (H.begins shelf.new)) }
 
     // What a status up to 2 shows, command by command: an inclusion, a lasso that separates, a list past the limit, a reduced automaton, what a drill found,
     // a certificate in version 2, a cross relation, two automata that accept the same, a union, an intersection, what is left of a no, an automaton that accepts nothing or everything, or what shows that it does not.
@@ -92,7 +92,10 @@ pub fn run<H: Shelf, K: Sink>(alloc: Global, words: &[String], shelf: &mut H, ou
     ensures reads_none { inputs_of (question_of (map string_bytes words.now)) ≡ [] → H.faults shelf.new ≡ H.faults shelf.old }
     ensures writes_none { IsSingle (question_of (map string_bytes words.now)) → outputs_of (question_of (map string_bytes words.now)) ≡ [] → H.put_faults shelf.new ≡ H.put_faults shelf.old }
 
-    // Where the shelf tells its files, a missing one is counted only where the command reads it, after those before it.
+    // The first fault decides: where the shelf tells its files, each that the command reads is begun once those before it read as values, and a
+    // missing one is counted only in its turn.
+    ensures begun { IsSingle (question_of (map string_bytes words.now)) → IfSome (H.held shelf.old) (λ files.
+        BegunInTurn files (inputs_of (question_of (map string_bytes words.now))) (H.begins shelf.old) (H.begins shelf.new)) }
     ensures missing { IsSingle (question_of (map string_bytes words.now)) → IfSome (H.held shelf.old) (λ files.
         CountsInTurn files (inputs_of (question_of (map string_bytes words.now))) (H.missed shelf.old) (H.missed shelf.new)) }
 {

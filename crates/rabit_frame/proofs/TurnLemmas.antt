@@ -9,7 +9,7 @@ use Rattle.rabit_frame.specs.declared.parts.Reply.{Reply}
 use Rattle.rabit_frame.specs.declared.parts.Halt.{Halt}
 use Rattle.rabit_frame.specs.declared.parts.Halt.TheVariants as halt
 use Rattle.rabit_frame.specs.Files.{Input}
-use Rattle.rabit_frame.specs.Reading.{FileReads, FileStops, IsOfKind, StopInTurn, CountsInTurn, MayStopAt, MayStop, HaltsBy, AddsRead, TellsRead}
+use Rattle.rabit_frame.specs.Reading.{FileReads, FileStops, IsOfKind, StopInTurn, CountsInTurn, BegunInTurn, MayStopAt, MayStop, HaltsBy, AddsRead, TellsRead}
 
 pub halts_weaker : (P Q : Reply → Type 0) (h : Halt) → ((r : Reply) → P r → Q r) → HaltsBy P h → HaltsBy Q h
 halts_weaker P Q (halt.Stopped r) f p = f r p
@@ -75,6 +75,20 @@ counts_later (Some files) i is v before between now h reads k =
       | inr lacks ↦ inr (inl lacks)
       | inl same ↦ elim k [ inl same' ↦ inl (same' ∙ same) | inr later ↦ inr (inr (v, reads, later)) ]
     ]
+
+pub begun_none : (held : Option FileMap) (is : List Input) (before now : ℕ) → now ≡ before → IfSome held (λ files. BegunInTurn files is before now)
+begun_none None is before now h = tt
+begun_none (Some files) [] before now h = h
+begun_none (Some files) (i ∷ is) before now h = inl h
+
+pub begun_here : (held : Option FileMap) (i : Input) (is : List Input) (before now : ℕ) → now ≡ counted before → IfSome held (λ files. BegunInTurn files (i ∷ is) before now)
+begun_here None i is before now h = tt
+begun_here (Some files) i is before now h = inr (inl h)
+
+pub begun_later : (held : Option FileMap) (i : Input) (is : List Input) (v : Value) (before between now : ℕ) → between ≡ counted before → IfSome held (λ files. FileReads files i v) →
+    IfSome held (λ files. BegunInTurn files is between now) → IfSome held (λ files. BegunInTurn files (i ∷ is) before now)
+begun_later None i is v before between now h reads later = tt
+begun_later (Some files) i is v before between now h reads later = inr (inr (v, reads, subst (λ n. BegunInTurn files is n now) h later))
 
 -- a list of one or more is its first and those after it
 pub split_at_first : {X : Type 0} (xs : List X) (x item : X) → x ≡ item → item ≡ get_or xs 0 item → 1 ≤ length xs → xs ≡ x ∷ take (length xs - 1) (drop 1 xs)

@@ -1,6 +1,7 @@
 -- What a command's files are read as, each in its turn.
 use Rattle.std.specs.Prelude.{◌≡◌, ℕ, ◌<◌, ◌≤◌, ◌^◌, ◌⊎◌, List, [], ◌∷◌, ◌++◌, length, All, codes, Option, Some, IfSome, false}
 use Rattle.std.specs.FinMap as map
+use Rattle.shelf_io.specs.Counts.{counted}
 use Rattle.shelf_io.specs.Shelf.{FileMap}
 use Rattle.auto_core.specs.Automaton.{IsAutomaton}
 use Rattle.ba_format.specs.declared.parts.BaFault.{BaFault}
@@ -126,6 +127,15 @@ MissInTurn files (i ∷ is) = IsMissing files i.name ⊎ ((read : Value) × File
 -- The count of missing names stays, or a name was missing in its turn.
 abbrev pub CountsInTurn : FileMap → List Input → ℕ → ℕ → Type 0
 CountsInTurn files inputs before now = (now ≡ before) ⊎ MissInTurn files inputs
+
+-- By the count of begins: none of the files was begun, or the first alone, or, since it reads as a value, the others in turn too.
+-- So no file is begun before what those before it hold is known.
+abbrev pub BegunInTurn : FileMap → List Input → ℕ → ℕ → Type 0
+BegunInTurn files [] before now = now ≡ before
+BegunInTurn files (i ∷ is) before now =
+    (now ≡ before)
+    ⊎ (now ≡ counted before)
+    ⊎ ((read : Value) × FileReads files i read × BegunInTurn files is (counted before) now)
 
 -- What may be said of a file of this kind that is not read, whatever it holds.
 abbrev pub MayStopAt : FileKind → Reply → Type 0

@@ -2,14 +2,14 @@
 
 ghost use Rattle.std.specs.Prelude.{◌≡◌, ◌≢◌, ◌≤◌, ◌⊎◌, ◌∷◌, [], ℕ, List as Items, length, Err, IfOk, IfErr, IfSome};
 ghost use Rattle.std.specs.Io.KnownBytes.{append_known};
-ghost use Rattle.shelf_io.specs.Counts.{Rose};
+ghost use Rattle.shelf_io.specs.Counts.{Rose, counted};
 ghost use Rattle.shelf_io.specs.Shelf.{CountsMissing};
 ghost use Rattle.rabit_frame.specs.declared.parts.Value.{Value as AValue};
 ghost use Rattle.rabit_frame.specs.declared.parts.Reply.{Reply as AReply};
 ghost use Rattle.rabit_frame.specs.declared.parts.Ending.{Ending as AnEnding};
 ghost use Rattle.rabit_frame.specs.Lines.{read_line, memory_line};
 ghost use Rattle.rabit_frame.specs.Statuses.{IsOwn};
-ghost use Rattle.rabit_frame.specs.Reading.{AreOfKinds, IsOfKind, FileReads, CountsInTurn};
+ghost use Rattle.rabit_frame.specs.Reading.{AreOfKinds, IsOfKind, FileReads, CountsInTurn, BegunInTurn};
 ghost use Rattle.rabit_frame.specs.Ending.{IsReplyFor, MayReply, OfBoth, WasGiven, WasSaid, SaysOnly, status_of};
 ghost use Rattle.rabit_frame.specs.Carrying.{EndsSo, NoReply, IsCarriedOut, SaysEach, ShowsReply, ShowsResult, LeavesUnwritten};
 
@@ -35,6 +35,7 @@ fn reply_of<'w, W: Work, H: Shelf>(
     ensures files_stay { H.held shelf.new ≡ H.held shelf.old }
     ensures puts_stay { H.put_faults shelf.new ≡ H.put_faults shelf.old }
     ensures missing { IfSome (H.held shelf.old) (λ files. CountsInTurn files (W.inputs work.now) (H.missed shelf.old) (H.missed shelf.new)) }
+    ensures begun { IfSome (H.held shelf.old) (λ files. BegunInTurn files (W.inputs work.now) (H.begins shelf.old) (H.begins shelf.new)) }
 {
     let slots = match work.slots(alloc) {
         Ok(slots) => slots,
@@ -56,6 +57,7 @@ fn ending_of<'w, W: Work, H: Shelf>(alloc: Global, work: &'w W, shelf: &mut H) -
     requires fit { W.is_fit work.now }
     ensures ends { EndsSo (W.means work.now) (W.inputs work.now) result (H.held shelf.old) (H.held shelf.new) (H.faults shelf.old) (H.faults shelf.new) (H.put_faults shelf.old) (H.put_faults shelf.new) }
     ensures missing { IfSome (H.held shelf.old) (λ files. CountsInTurn files (W.inputs work.now) (H.missed shelf.old) (H.missed shelf.new)) }
+    ensures begun { IfSome (H.held shelf.old) (λ files. BegunInTurn files (W.inputs work.now) (H.begins shelf.old) (H.begins shelf.new)) }
 {
     let reply = match reply_of(alloc, work, shelf) {
         Ok(reply) => reply,
@@ -107,6 +109,7 @@ pub fn read_alone<H: Shelf>(
     ensures files_stay { H.held shelf.new ≡ H.held shelf.old }
     ensures puts_stay { H.put_faults shelf.new ≡ H.put_faults shelf.old }
     ensures counts_missing { CountsMissing (H.held shelf.old) slot.now.name (H.missed shelf.old) (H.missed shelf.new) }
+    ensures counts_begin { H.begins shelf.new ≡ counted (H.begins shelf.old) }
 {
     match reading::read_one(alloc, shelf, slot) {
         Ok(value) => Ok(value),
@@ -121,6 +124,7 @@ pub fn carry_out_unsaid<W: Work, H: Shelf>(alloc: Global, work: &W, shelf: &mut 
     requires fit { W.is_fit work.now }
     ensures ends { (end : AnEnding) × EndsSo (W.means work.now) (W.inputs work.now) end (H.held shelf.old) (H.held shelf.new) (H.faults shelf.old) (H.faults shelf.new) (H.put_faults shelf.old) (H.put_faults shelf.new) × (result ≡ status_of end) }
     ensures missing { IfSome (H.held shelf.old) (λ files. CountsInTurn files (W.inputs work.now) (H.missed shelf.old) (H.missed shelf.new)) }
+    ensures begun { IfSome (H.held shelf.old) (λ files. BegunInTurn files (W.inputs work.now) (H.begins shelf.old) (H.begins shelf.new)) }
 {
     match ending_of(alloc, work, shelf) {
         Ending::Reached(reply) => reply.status.number(),
@@ -170,8 +174,9 @@ pub fn carry_out<W: Work, H: Shelf, K: Sink>(
     ensures unwritten { result ≡ 7 → OfBoth (H.held shelf.old) (H.held shelf.new) (λ files files'.
         LeavesUnwritten (W.means work.now) (W.inputs work.now) (K.sent out.old) (K.sent out.new) (K.faults out.old) (K.faults out.new) (H.put_faults shelf.old) (H.put_faults shelf.new) files files') }
 
-    // Where the shelf tells its files, a missing one is counted only in its turn, after those before it read as values.
+    // Where the shelf tells its files, each is begun once those before it read as values, and a missing one is counted only in its turn.
     ensures missing { IfSome (H.held shelf.old) (λ files. CountsInTurn files (W.inputs work.now) (H.missed shelf.old) (H.missed shelf.new)) }
+    ensures begun { IfSome (H.held shelf.old) (λ files. BegunInTurn files (W.inputs work.now) (H.begins shelf.old) (H.begins shelf.new)) }
 {
     let ending = ending_of(alloc, work, shelf);
     say(&ending, out)

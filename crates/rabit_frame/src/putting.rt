@@ -16,6 +16,7 @@ pub fn put_all<H: Shelf>(shelf: &mut H, puts: &[Put<'_>]) -> Result<(), Failed>
     ensures done { OnOk result (H.put_faults shelf.new ≡ H.put_faults shelf.old) }
     ensures faults_stay { H.faults shelf.new ≡ H.faults shelf.old }
     ensures missed_stay { H.missed shelf.new ≡ H.missed shelf.old }
+    ensures begins_stay { H.begins shelf.new ≡ H.begins shelf.old }
 {
     match puts {
         [] => Ok(()),

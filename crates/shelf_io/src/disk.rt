@@ -26,6 +26,8 @@ pub struct DiskShelf<'a, R: Files> {
     faults: u64,
     /// The count of refused puts.
     put_faults: u64,
+    /// The count of begins.
+    begins: u64,
 }
 
 impl<'a, R: Files> DiskShelf<'a, R> {
@@ -34,6 +36,7 @@ impl<'a, R: Files> DiskShelf<'a, R> {
         ensures none_taken { ⟦<DiskShelf<'a, R> as Shelf>⟧.taken result ≡ 0 }
         ensures no_faults { ⟦<DiskShelf<'a, R> as Shelf>⟧.faults result ≡ 0 }
         ensures no_put_faults { ⟦<DiskShelf<'a, R> as Shelf>⟧.put_faults result ≡ 0 }
+        ensures no_begins { ⟦<DiskShelf<'a, R> as Shelf>⟧.begins result ≡ 0 }
         ensures nothing_begun { ⟦<DiskShelf<'a, R> as Shelf>⟧.begun result ≡ Nothing }
     {
         DiskShelf {
@@ -42,6 +45,7 @@ impl<'a, R: Files> DiskShelf<'a, R> {
             taken: 0,
             faults: 0,
             put_faults: 0,
+            begins: 0,
         }
     }
 
@@ -51,6 +55,7 @@ impl<'a, R: Files> DiskShelf<'a, R> {
         ensures taken { self.new.taken ≡ self.old.taken }
         ensures faults { self.new.faults ≡ self.old.faults }
         ensures put_faults { self.new.put_faults ≡ self.old.put_faults }
+        ensures begins { self.new.begins ≡ self.old.begins }
     {
         let mut file = fs::create(self.rt, name)?;
         if self.is_begun(&file)? {
@@ -97,7 +102,10 @@ impl<R: Files> Shelf for DiskShelf<'_, R> {
 
     ghost missed = { λ _. 0 };
 
+    ghost begins = { λ s. s.begins };
+
     fn begin(&mut self, name: &str) -> Result<(), Failed> {
+        self.begins = self.begins.saturating_add(1);
         self.taken = 0;
         match fs::open(self.rt, name) {
             Ok(file) => {

@@ -2,7 +2,7 @@
 
 ghost use Rattle.std.specs.Prelude.{◌≡◌, ◌≢◌, ◌<◌, ◌≤◌, ◌↔◌, ◌++◌, length, IfOk, OnOk, IsErrOf, vec_len};
 ghost use Rattle.std.specs.Io.KnownBytes.{IsAtEnd, Consumes};
-ghost use Rattle.shelf_io.specs.Counts.{Rose};
+ghost use Rattle.shelf_io.specs.Counts.{Rose, counted};
 ghost use Rattle.shelf_io.specs.Shelf.{CountsMissing};
 ghost use Rattle.shelf_io.specs.Load.{HoldsUnder, HoldsMoreThan, TakesMoreThan, Lacks};
 
@@ -38,6 +38,7 @@ pub fn load<H: Shelf>(
     ensures puts_stay { H.put_faults shelf.new ≡ H.put_faults shelf.old }
     ensures never_falls { H.faults shelf.old ≤ H.faults shelf.new }
     ensures counts_missing { CountsMissing (H.held shelf.old) name.now (H.missed shelf.old) (H.missed shelf.new) }
+    ensures counts_begin { H.begins shelf.new ≡ counted (H.begins shelf.old) }
 {
     shelf.begin(name)?;
     let mut piece = zeros(alloc, PIECE)?;
@@ -71,6 +72,7 @@ fn take_all<H: Shelf>(
     ensures puts_stay { H.put_faults shelf.new ≡ H.put_faults shelf.old }
     ensures never_falls { H.faults shelf.old ≤ H.faults shelf.new }
     ensures missed_stay { H.missed shelf.new ≡ H.missed shelf.old }
+    ensures begins_stay { H.begins shelf.new ≡ H.begins shelf.old }
 {
     let mut bytes = List::new(alloc);
     let mut room = cap;

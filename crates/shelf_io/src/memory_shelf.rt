@@ -41,6 +41,8 @@ pub struct MemShelf {
     put_faults: u64,
     /// The count of begins of a name that is not held.
     missed: u64,
+    /// The count of begins.
+    begins: u64,
     ghost in_range: { ForSome reading (λ r. r.index < length drawer.files) },
     ghost bytes_reserved: { room ≤ drawer.spare_bytes },
     ghost places_reserved: { room ≤ drawer.spare_places },
@@ -65,6 +67,7 @@ impl MemShelf {
         ensures no_faults { IfOk result (λ shelf. ⟦<MemShelf as Shelf>⟧.faults shelf ≡ 0) }
         ensures no_put_faults { IfOk result (λ shelf. ⟦<MemShelf as Shelf>⟧.put_faults shelf ≡ 0) }
         ensures none_missed { IfOk result (λ shelf. ⟦<MemShelf as Shelf>⟧.missed shelf ≡ 0) }
+        ensures no_begins { IfOk result (λ shelf. ⟦<MemShelf as Shelf>⟧.begins shelf ≡ 0) }
         ensures room { IfOk result (λ shelf. shelf.room ≡ room) }
         ensures piece { IfOk result (λ shelf. shelf.piece ≡ piece) }
         ensures plan { IfOk result (λ shelf. shelf.plan ≡ plan fails 0) }
@@ -84,6 +87,7 @@ impl MemShelf {
             faults: 0,
             put_faults: 0,
             missed: 0,
+            begins: 0,
         })
     }
 }
@@ -110,9 +114,11 @@ impl Shelf for MemShelf {
 
     ghost missed = { λ s. s.missed };
 
+    ghost begins = { λ s. s.begins };
+
     fn begin(&mut self, name: &str) -> Result<(), Failed>
         ensures files_stay { held_in self.new.drawer.files ≡ held_in self.old.drawer.files }
-        ensures begins { IsBegunBy result name.now (begun_in self.new.drawer.files self.new.reading) }
+        ensures begun { IsBegunBy result name.now (begun_in self.new.drawer.files self.new.reading) }
         ensures leaves { LeavesToTake (held_in self.old.drawer.files) name.now result
             (left_in self.new.drawer.files self.new.reading) }
         ensures from_start { self.new.taken ≡ 0 }
@@ -120,6 +126,7 @@ impl Shelf for MemShelf {
         ensures puts_stay { self.new.put_faults ≡ self.old.put_faults }
         ensures counts_missing { CountsMissing (held_in self.old.drawer.files) name.now
             self.old.missed self.new.missed }
+        ensures counts_begin { self.new.begins ≡ counted self.old.begins }
 
         // It fails just where it is to fail or the name is missing.
         ensures fails { IsErr result ↔ (IsDue self.old.plan ⊎ Lacks (held_in self.old.drawer.files) name.now) }
@@ -130,6 +137,7 @@ impl Shelf for MemShelf {
         ensures numbered { self.new.plan ≡ plan self.old.plan.fails (counted self.old.plan.calls) }
     {
         let due = self.plan.next();
+        self.begins = self.begins.saturating_add(1);
         self.taken = 0;
         self.reading = None;
         let Some(index) = self.drawer.find(name.as_bytes()) else {
@@ -158,6 +166,7 @@ impl Shelf for MemShelf {
             begun_in self.old.drawer.files self.old.reading }
         ensures puts_stay { self.new.put_faults ≡ self.old.put_faults }
         ensures missed_stay { self.new.missed ≡ self.old.missed }
+        ensures begins_stay { self.new.begins ≡ self.old.begins }
 
         // It fails just where it is to fail, and gives as many bytes as fit the buffer and a piece.
         ensures fails { IsErr result ↔ IsDue self.old.plan }
@@ -190,6 +199,7 @@ impl Shelf for MemShelf {
         ensures put_cause { HasCause self.old.put_faults self.new.put_faults result }
         ensures faults_stay { self.new.faults ≡ self.old.faults }
         ensures missed_stay { self.new.missed ≡ self.old.missed }
+        ensures begins_stay { self.new.begins ≡ self.old.begins }
 
         // It fails just where it is to fail or the room is too little, and then no file changes.
         ensures fails { IsErr result ↔

@@ -3,7 +3,7 @@
 ghost use Rattle.std.specs.Prelude.{◌≡◌, ◌≢◌, ℕ, List, IsSome, IfOk, Option};
 ghost use Rattle.std.specs.Io.{ReadsAtMost};
 ghost use Rattle.std.specs.Io.KnownBytes.{ReadConsumes};
-ghost use Rattle.shelf_io.specs.Counts.{HasCause};
+ghost use Rattle.shelf_io.specs.Counts.{HasCause, counted};
 ghost use Rattle.shelf_io.specs.Shelf.{FileMap, Begun, Nothing, Unnamed, IsBegunBy, LeavesToTake, CountsMissing, CountsTaken, Puts, LeavesBegun, LeavesLeft};
 ghost use Rattle.shelf_io.specs.Sink.{Gives};
 
@@ -33,15 +33,19 @@ pub trait Shelf {
     /// The count of begins of a name that is not held, where the shelf tells that.
     ghost missed: { Self → ℕ };
 
+    /// The count of begins, refused ones among them.
+    ghost begins: { Self → ℕ };
+
     /// Begins to read the named file. A name that is not there is refused; refused, nothing is begun.
     fn begin(&mut self, name: &str) -> Result<(), Failed>
         ensures files_stay { held self.new ≡ held self.old }
-        ensures begins { IsBegunBy result name.now (begun self.new) }
+        ensures begun { IsBegunBy result name.now (begun self.new) }
         ensures leaves { LeavesToTake (held self.old) name.now result (left self.new) }
         ensures from_start { taken self.new ≡ 0 }
         ensures cause { HasCause (faults self.old) (faults self.new) result }
         ensures puts_stay { put_faults self.new ≡ put_faults self.old }
-        ensures counts_missing { CountsMissing (held self.old) name.now (missed self.old) (missed self.new) };
+        ensures counts_missing { CountsMissing (held self.old) name.now (missed self.old) (missed self.new) }
+        ensures counts_begin { begins self.new ≡ counted (begins self.old) };
 
     /// Moves the next bytes of the begun file to the front of the buffer, and answers how many.
     /// For a buffer that isn't empty, 0 says that the file is at its end or that nothing is begun.
@@ -55,7 +59,8 @@ pub trait Shelf {
         ensures files_stay { held self.new ≡ held self.old }
         ensures stays_begun { begun self.new ≡ begun self.old }
         ensures puts_stay { put_faults self.new ≡ put_faults self.old }
-        ensures missed_stay { missed self.new ≡ missed self.old };
+        ensures missed_stay { missed self.new ≡ missed self.old }
+        ensures begins_stay { begins self.new ≡ begins self.old };
 
     /// Makes the named file hold just these bytes. Refused, it holds a front of them or what it held
     /// before. All other files stay, and so does the file that is read, unless it is the named one:
@@ -67,7 +72,8 @@ pub trait Shelf {
         ensures taken_stay { taken self.new ≡ taken self.old }
         ensures put_cause { HasCause (put_faults self.old) (put_faults self.new) result }
         ensures faults_stay { faults self.new ≡ faults self.old }
-        ensures missed_stay { missed self.new ≡ missed self.old };
+        ensures missed_stay { missed self.new ≡ missed self.old }
+        ensures begins_stay { begins self.new ≡ begins self.old };
 
     /// Law: a shelf that tells its files tells what remains of the begun one.
     ghost tells_left: { (s : Self) → IsSome (held s) → IsSome (left s) };

@@ -19,8 +19,9 @@ returns-in-empty g t c =
     let read : ℕ = g.H.Shelf.faults c.args.shelf.now in
     let put : ℕ = g.H.Shelf.put_faults c.args.shelf.now in
     let missed : ℕ = g.H.Shelf.missed c.args.shelf.now in
-    subst (λ (qs : List Question). IsCarriedEach c.args.number qs held held 0 sent sent give give read read put put missed missed) (sym none)
-    (each_none c.args.number held held sent give read put missed refl)
+    let begins : ℕ = g.H.Shelf.begins c.args.shelf.now in
+    subst (λ (qs : List Question). IsCarriedEach c.args.number qs held held 0 sent sent give give read read put put missed missed begins begins) (sym none)
+    (each_none c.args.number held held sent give read put missed begins refl)
 
 pub returns-in-Ok : goal.returns-in-Ok
 returns-in-Ok g t c =
@@ -37,9 +38,9 @@ returns-in-Ok g t c =
     let held : Option FileMap = g.H.Shelf.held c.args.shelf.now in
     let held' : Option FileMap = g.H.Shelf.held c.carry_each.new.shelf in
     let P : List Question → Type 0 = λ xs. IsCarriedEach number xs held held' c.carry_each.result sent (g.K.Sink.sent c.carry_each.new.out) (g.K.Sink.faults c.args.out.now) (g.K.Sink.faults c.carry_each.new.out) (g.H.Shelf.faults c.args.shelf.now) (g.H.Shelf.faults c.carry_each.new.shelf)
-    (g.H.Shelf.put_faults c.args.shelf.now) (g.H.Shelf.put_faults c.carry_each.new.shelf) (g.H.Shelf.missed c.args.shelf.now) (g.H.Shelf.missed c.carry_each.new.shelf) in
+    (g.H.Shelf.put_faults c.args.shelf.now) (g.H.Shelf.put_faults c.carry_each.new.shelf) (g.H.Shelf.missed c.args.shelf.now) (g.H.Shelf.missed c.carry_each.new.shelf) (g.H.Shelf.begins c.args.shelf.now) (g.H.Shelf.begins c.carry_each.new.shelf) in
     subst P (sym split)
-    (each_more q number held (g.H.Shelf.held c.answer_one-status.new.shelf) _ _ _ _ _ _ e ends c.answer_one-status.ensures.missing rest held' c.carry_each.result sent sent1 _ _ _ _ _ _ _ sends c.in-Ok.ensures.cause.done c.carry_each.ensures)
+    (each_more q number held (g.H.Shelf.held c.answer_one-status.new.shelf) _ _ _ _ _ _ _ _ e ends c.answer_one-status.ensures.missing c.answer_one-status.ensures.begun rest held' c.carry_each.result sent sent1 _ _ _ _ _ _ _ _ sends c.in-Ok.ensures.cause.done c.carry_each.ensures)
 
 pub returns-in-Err : goal.returns-in-Err
 returns-in-Err g t c =
@@ -57,5 +58,5 @@ returns-in-Err g t c =
     let held : Option FileMap = g.H.Shelf.held c.args.shelf.now in
     let between : Option FileMap = g.H.Shelf.held c.answer_one-status.new.shelf in
     let P : List Question → Type 0 = λ xs. IsCarriedEach number xs held between 7 sent sent' (g.K.Sink.faults c.args.out.now) (g.K.Sink.faults c.give.new.self) (g.H.Shelf.faults c.args.shelf.now) (g.H.Shelf.faults c.answer_one-status.new.shelf)
-    (g.H.Shelf.put_faults c.args.shelf.now) (g.H.Shelf.put_faults c.answer_one-status.new.shelf) (g.H.Shelf.missed c.args.shelf.now) (g.H.Shelf.missed c.answer_one-status.new.shelf) in
-    subst P (sym split) (each_refused q number held between _ _ _ _ _ _ e ends c.answer_one-status.ensures.missing rest sent sent' _ _ n sends c.in-Err.ensures.cause.refused)
+    (g.H.Shelf.put_faults c.args.shelf.now) (g.H.Shelf.put_faults c.answer_one-status.new.shelf) (g.H.Shelf.missed c.args.shelf.now) (g.H.Shelf.missed c.answer_one-status.new.shelf) (g.H.Shelf.begins c.args.shelf.now) (g.H.Shelf.begins c.answer_one-status.new.shelf) in
+    subst P (sym split) (each_refused q number held between _ _ _ _ _ _ _ _ e ends c.answer_one-status.ensures.missing c.answer_one-status.ensures.begun rest sent sent' _ _ n sends c.in-Err.ensures.cause.refused)

@@ -15,14 +15,14 @@ returns-in-Ok-Questions g c =
     let held : Option FileMap = g.H.Shelf.held c.args.shelf.now in
     let held' : Option FileMap = g.H.Shelf.held c.read_alone.new.shelf in
     let none : g.H.Shelf.faults c.read_alone.new.shelf ≡ g.H.Shelf.faults c.args.shelf.now = search rules in
-    batch_unread c.args.list.now c.list_slot.result held held' _ _ _ _ _ _ _ _ _ _ _ ending.OutOfMemory c.list_slot.ensures
-    (ends_refused NoReply _ held held' held' _ _ _ _ none c.read_alone.ensures.files_stay c.read_alone.ensures.puts_stay) c.say.ensures c.read_alone.ensures.counts_missing
+    batch_unread c.args.list.now c.list_slot.result held held' _ _ _ _ _ _ _ _ _ _ _ _ _ ending.OutOfMemory c.list_slot.ensures
+    (ends_refused NoReply _ held held' held' _ _ _ _ none c.read_alone.ensures.files_stay c.read_alone.ensures.puts_stay) c.say.ensures c.read_alone.ensures.counts_missing c.read_alone.ensures.counts_begin
 
 pub returns : goal.returns
 returns g c =
     let held : Option FileMap = g.H.Shelf.held c.args.shelf.now in
     let held' : Option FileMap = g.H.Shelf.held c.read_alone.new.shelf in
-    batch_unread c.args.list.now c.list_slot.result held held' _ _ _ _ _ _ _ _ _ _ _ c.in-Err.ending c.list_slot.ensures c.in-Err.ensures.ends c.say-in-Err.ensures c.read_alone.ensures.counts_missing
+    batch_unread c.args.list.now c.list_slot.result held held' _ _ _ _ _ _ _ _ _ _ _ _ _ c.in-Err.ending c.list_slot.ensures c.in-Err.ensures.ends c.say-in-Err.ensures c.read_alone.ensures.counts_missing c.read_alone.ensures.counts_begin
 
 pub returns-in-Ok-with_capacity : goal.returns-in-Ok-with_capacity
 returns-in-Ok-with_capacity g c =
@@ -31,6 +31,6 @@ returns-in-Ok-with_capacity g c =
     let held' : Option FileMap = g.H.Shelf.held c.carry_each.new.shelf in
     let questions : List Question = c.as_slice.result.now in
     let is : c.in-Ok-Questions.field-0 ≡ value.Questions questions = search rules in
-    batch_asked c.args.list.now c.list_slot.result held held1 held' _ _ _ _ _ _ _ _ _ _ _ _ _ _ questions c.list_slot.ensures
+    batch_asked c.args.list.now c.list_slot.result held held1 held' _ _ _ _ _ _ _ _ _ _ _ _ _ _ _ _ _ questions c.list_slot.ensures
     (subst (IsOfKind c.list_slot.result.kind) is c.in-Ok-Questions.ensures.kind) (subst (λ (v : Value). IfSome held (λ files. FileReads files c.list_slot.result v)) is c.in-Ok-Questions.ensures.read)
-    c.read_alone.ensures.counts_missing c.read_alone.ensures.files_stay c.in-Ok-Questions.ensures.faults_stay c.read_alone.ensures.puts_stay c.carry_each.ensures
+    c.read_alone.ensures.counts_missing c.read_alone.ensures.files_stay c.in-Ok-Questions.ensures.faults_stay c.read_alone.ensures.puts_stay c.read_alone.ensures.counts_begin c.carry_each.ensures

@@ -14,6 +14,7 @@ invariant-pieces g l =
     × (g.H.Shelf.faults l.shelf ≡ g.H.Shelf.faults l.initial.shelf)
     × (g.H.Shelf.put_faults l.shelf ≡ g.H.Shelf.put_faults l.initial.shelf)
     × (g.H.Shelf.missed l.shelf ≡ g.H.Shelf.missed l.initial.shelf)
+    × (g.H.Shelf.begins l.shelf ≡ g.H.Shelf.begins l.initial.shelf)
 
 abbrev pub decreases-pieces : goal.decreases-pieces
 decreases-pieces g l = l.room
