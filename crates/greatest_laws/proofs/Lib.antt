@@ -5,3 +5,4 @@ pub mod GreatestLemmas
 pub mod WordLemmas
 pub mod RankLemmas
 pub mod DelayedLemmas
+pub mod OneLetterLemmas
