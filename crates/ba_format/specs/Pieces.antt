@@ -53,7 +53,8 @@ HasComeTo Faultless lines line limits bytes = (lines.limits ≡ limits) × AreTa
 HasComeTo (Faulty fault) lines line limits bytes = HasFirstFault bytes limits fault
 HasComeTo Refused lines line limits bytes = Unit {0}
 
--- The pieces that the reader was fed are these bytes, within these limits.
+-- The reader holds what is to be known of these bytes, fed in any pieces, to read them and what follows within these limits. Of one that
+-- was refused memory nothing is to be known.
 abbrev pub HasRead : Reader → Limits → List ℕ → Type 0
 HasRead reader limits bytes = HasComeTo reader.progress reader.lines reader.line.items limits bytes
 

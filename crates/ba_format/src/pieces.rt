@@ -133,7 +133,7 @@ pub struct Reader {
 }
 
 impl Reader {
-    /// A reader before the first piece, within these limits. It takes no memory yet.
+    /// A reader before the first piece, for texts within these limits.
     pub fn new(alloc: Global, limits: &Limits) -> Result<Reader, Memory>
         ensures { IfOk result (λ reader. HasRead reader limits.now []) }
     {
@@ -219,6 +219,7 @@ impl Reader {
         ensures named { (limits : TheLimits) (bytes : List ℕ) → HasRead self limits bytes → length bytes ≤ 2 ^ 24 → IfOk result (Reads bytes limits) }
         ensures within { (limits : TheLimits) (bytes : List ℕ) → HasRead self limits bytes → length bytes ≤ 2 ^ 24 → IfOk result (IsWithinLimits limits) }
         ensures fault { (limits : TheLimits) (bytes : List ℕ) → HasRead self limits bytes → length bytes ≤ 2 ^ 24 → (fault : AFault) → result ≡ Err (ReadFault.Ba fault) → fault_of bytes limits ≡ Some fault }
+        ensures found { (limits : TheLimits) (bytes : List ℕ) → HasRead self limits bytes → length bytes ≤ 2 ^ 24 → (fault : AFault) → fault_of bytes limits ≡ Some fault → (result ≡ Err (ReadFault.Ba fault)) ⊎ (result ≡ Err ReadFault.Memory) }
         ensures refused { WasRefused self → result ≡ Err ReadFault.Memory }
     {
         match self.progress {

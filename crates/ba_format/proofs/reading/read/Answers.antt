@@ -1,5 +1,4 @@
 use Rattle.std.proofs.Common.{[], arith}
-use Rattle.ba_format.proofs.PieceLemmas.{found_from}
 use Rattle.ba_format.proofs.reading.read.Goals as goal
 
 pub returns-in-Ok-clause-fault : goal.returns-in-Ok-clause-fault
@@ -10,5 +9,4 @@ returns-in-Ok-clause-fault c = λ fault is.
 pub returns-in-Ok-clause-found : goal.returns-in-Ok-clause-found
 returns-in-Ok-clause-found c = λ fault is.
     let has = c.in-Ok.ensures.read c.args.limits.now [] c.in_ok-reader.ensures (omega (arith, c.requires)) in
-    found_from c.finish.result c.args.bytes.now c.args.limits.now fault (c.finish.ensures.named c.args.limits.now c.args.bytes.now has c.requires)
-    (λ f told. c.finish.ensures.fault c.args.limits.now c.args.bytes.now has c.requires f told) is
+    c.finish.ensures.found c.args.limits.now c.args.bytes.now has c.requires fault is
