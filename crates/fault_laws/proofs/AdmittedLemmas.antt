@@ -1,5 +1,5 @@
 -- The first fault against the lines that are admitted.
-use Rattle.std.proofs.Common.{◌≡◌, ◌≢◌, ℕ, ◌<◌, ◌≤◌, ◌+◌, true, List, [], ◌∷◌, ◌++◌, length, take, inl, inr, ◌⊎◌, Result, Ok, Err, refl, sym, ap, ◌∙◌, subst, append-nil, arith}
+use Rattle.std.proofs.Common.{◌≡◌, ◌≢◌, ℕ, ◌<◌, ◌≤◌, ◌+◌, true, List, [], ◌∷◌, ◌++◌, length, take, inl, inr, Result, Err, refl, sym, ap, ◌∙◌, subst, append-nil, arith}
 use Rattle.std.proofs.lemmas.Bool.{cases_lt}
 use Rattle.std.proofs.lemmas.List.{take-take, length-append}
 use Rattle.std.proofs.Math.Seq.{take-append_seam}
@@ -16,26 +16,28 @@ use Rattle.cert_text.proofs.Theorem.{reading_text, reading_back}
 use Rattle.fault_laws.specs.FirstFaults.{whole_lines, BeginCert}
 use Rattle.fault_laws.specs.Admitted.{first_part, AreAdmitted, FaultEndsAdmitted, CertLinesAreAdmitted, HoldsNoText, TruncatedAtTheEnd, TruncatedJustWhere, HeaderInLineOne}
 use Rattle.fault_laws.specs.Texts.{TextsAreRead, TextOrFault, NoTextHasFault, OneFirstFault, TrailingFollowsText}
+use Rattle.fault_laws.proofs.TextLemmas.{is_read, has_no_fault, is_text_or_has_fault, one_fault}
 use Rattle.fault_laws.proofs.LineLemmas.{lines_count}
 use Rattle.fault_laws.proofs.ReaderLemmas.{StopsSo, bare}
 use Rattle.fault_laws.proofs.GrammarLemmas.{lines_read}
-use Rattle.fault_laws.proofs.FaultLemmas.{IsStop, stop, fault_stands_later, lines_begin_none}
+use Rattle.fault_laws.proofs.PlaceLemmas.{IsStop, stop}
+use Rattle.fault_laws.proofs.FaultLemmas.{fault_stands_later, lines_begin_none}
 use Rattle.fault_laws.proofs.EndLemmas.{more_is_trailing}
 use Rattle.fault_laws.proofs.PartLemmas.{part_lines, part_count, part_begins, part_whole, part_of}
 
 -- How the reader stops at the first fault.
 record Stands (bytes : List ℕ) (fault : TextFault) : Type 0 where
-  at : IsStop bytes fault
+  at : IsStop read_lines bytes fault
   so : StopsSo true read_lines (lines_of bytes) fault.kind at.rest
 
 stands : (bytes : List ℕ) (fault : TextFault) → FirstFault bytes fault → Stands bytes fault
 stands bytes fault e =
-    let s = stop bytes fault e in
+    let s = stop read_lines bytes fault e in
     let count = lines_count bytes in
     record { at = s; so = lines_read.stops (lines_of bytes) fault.kind s.rest (omega (arith, count)) s.stops }
 
 pub one_first_fault : OneFirstFault
-one_first_fault bytes fault other e f = cc
+one_first_fault bytes fault other e f = one_fault (reading bytes) fault other e f
 
 -- A fault within the first n lines is the fault of all bytes with those lines.
 same_fault : (bytes others : List ℕ) (n : ℕ) (fault : TextFault)
@@ -132,18 +134,13 @@ header_in_line_one bytes fault e is =
 
 -- Texts and faults.
 pub texts_are_read : TextsAreRead
-texts_are_read bytes c = (λ e. reading_back bytes c e, λ (w, same). ap reading same ∙ reading_text c w)
+texts_are_read bytes c = is_read WellFormed text reading reading_back reading_text bytes c
 
 pub no_text_has_fault : NoTextHasFault
-no_text_has_fault c fault w e = let own = reading_text c w in absurd (cc)
-
-text_or : (bytes : List ℕ) (r : Result Cert TextFault) → reading bytes ≡ r
-    → ((c : Cert) × WellFormed c × (bytes ≡ text c)) ⊎ ((fault : TextFault) × FirstFault bytes fault)
-text_or bytes (Ok c) e = let (w, same) = reading_back bytes c e in inl (c, w, same)
-text_or bytes (Err fault) e = inr (fault, e)
+no_text_has_fault c fault w e = has_no_fault WellFormed text reading reading_back reading_text c fault w e
 
 pub text_or_fault : TextOrFault
-text_or_fault bytes = text_or bytes (reading bytes) refl
+text_or_fault bytes = is_text_or_has_fault WellFormed text reading reading_back reading_text bytes
 
 pub trailing_follows_text : TrailingFollowsText
 trailing_follows_text bytes fault e is =

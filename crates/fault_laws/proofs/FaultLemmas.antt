@@ -1,22 +1,20 @@
--- Where the first fault stands.
-use Rattle.std.proofs.Common.{◌≡◌, ℕ, ◌+◌, ◌-◌, List, [], length, Ok, Err, refl, sym, ap, ◌∙◌, append-nil, arith}
+-- Where the first fault of a certificate's text stands.
+use Rattle.std.proofs.Common.{◌≡◌, ℕ, List, [], Ok, refl, sym, ap, ◌∙◌, append-nil}
 use Rattle.auto_core.specs.declared.parts.Mode.{Mode}
 use Rattle.auto_core.specs.declared.parts.Mode.TheVariants as mode
 use Rattle.cert_value.specs.declared.types.Cert.{Cert}
 use Rattle.cert_value.specs.declared.types.Answer.{Answer}
 use Rattle.cert_value.specs.declared.types.Answer.TheVariants as answer
-use Rattle.cert_text.specs.declared.faults.TextFault.{TextFault}
 use Rattle.cert_value.specs.Text.{Line, text}
 use Rattle.cert_value.specs.WellFormed.{WellFormed}
-use Rattle.cert_text.specs.Law.{FirstFault}
 use Rattle.cert_text.specs.Lines.{heading, heading_in, sizes_in}
-use Rattle.cert_text.specs.Grammar.{ReadOutcome, Read, Stopped, lines_of, read_lines, read_sizes, read_rest, told_at, first_left}
+use Rattle.cert_text.specs.Grammar.{Read, lines_of, read_lines, read_sizes, read_rest}
 use Rattle.cert_text.specs.Machine.{step, done_cert, begun}
 use Rattle.cert_text.proofs.ResumeState.{resume, state_law, state_last}
 use Rattle.cert_text.proofs.Theorem.{text_then}
 use Rattle.fault_laws.specs.FirstFaults.{FaultStandsLater, LinesBeginNone}
-use Rattle.fault_laws.proofs.LineLemmas.{lines_count, same_lines}
 use Rattle.fault_laws.proofs.StopLemmas.{IsReader, same_reader, line_reader, machine_reader}
+use Rattle.fault_laws.proofs.PlaceLemmas.{stands_later, begin_none}
 
 -- what follows a first line is read by the machine
 rest_reader : (h : _) → ((sizes : _) (ls : List Line) → read_rest h sizes ls ≡ resume (begun h sizes) ls) → IsReader (read_sizes h)
@@ -38,50 +36,12 @@ head_reader line h e = head_reads h.version h.mode h.answer
 pub reader : IsReader read_lines
 reader = line_reader heading_in read_sizes head_reader
 
--- The lines that are left at the first fault.
-pub record IsStop (bytes : List ℕ) (fault : TextFault) : Type 0 where
-  pub rest : List Line
-  pub stops : read_lines (lines_of bytes) ≡ Stopped fault.kind rest
-  pub line : fault.line ≡ (length (lines_of bytes) + 1) - length rest
-
-stop_of : (lines : List Line) (o : ReadOutcome) (fault : TextFault) → told_at (first_left lines o) o ≡ Err fault
-    → (rest : List Line) × (o ≡ Stopped fault.kind rest) × (fault.line ≡ (length lines + 1) - length rest)
-stop_of lines (Read c) fault e = absurd (cc)
-stop_of lines (Stopped kind rest) fault e =
-    let here : TextFault = record { line = (length lines + 1) - length rest; kind = kind } in
-    let is : here ≡ fault = cc in
-    (rest, ap (λ (f : TextFault). Stopped f.kind rest) is, sym (ap (λ (f : TextFault). f.line) is))
-
-pub stop : (bytes : List ℕ) (fault : TextFault) → FirstFault bytes fault → IsStop bytes fault
-stop bytes fault e =
-    let p = stop_of (lines_of bytes) (read_lines (lines_of bytes)) fault e in
-    record { rest = p.0; stops = p.1; line = p.2 }
-
 -- the lines of a certificate's text are read to the end
 pub read_whole : (c : Cert) → WellFormed c → read_lines (lines_of (text c)) ≡ Read c
 read_whole c w = ap (λ b. read_lines (lines_of b)) (sym (append-nil (text c))) ∙ text_then c [] w
 
 pub fault_stands_later : FaultStandsLater
-fault_stands_later bytes n fault begun e =
-    let at = stop bytes fault e in
-    let c = begun.0 in
-    let alike = begun.2 in
-    let here = lines_count bytes in
-    let there = lines_count (text c) in
-    let left = alike.lines in
-    let right = alike.other_lines in
-    let far = reader.later n (lines_of bytes) (lines_of (text c)) c fault.kind at.rest
-    (same_lines n bytes (text c) alike) (omega (arith, left, here)) (omega (arith, right, there)) (read_whole c begun.1) at.stops in
-    let line = at.line in
-    omega (arith, line, far)
+fault_stands_later bytes n fault begun e = stands_later WellFormed text read_lines read_whole reader bytes n fault begun e
 
 pub lines_begin_none : LinesBeginNone
-lines_begin_none bytes fault e not other =
-    let at = stop bytes fault e in
-    let here = lines_count bytes in
-    let t = reader.stops (lines_of bytes) fault.kind at.rest (omega (arith, here)) at.stops in
-    let two = t.before_last not other in
-    let line = at.line in (
-      omega (arith, two, line, here),
-      λ begun. let far = fault_stands_later bytes fault.line fault begun e in omega (arith, far),
-    )
+lines_begin_none bytes fault e not other = begin_none WellFormed text read_lines read_whole reader bytes fault e not other

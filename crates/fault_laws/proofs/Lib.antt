@@ -1,11 +1,14 @@
+pub mod TextLemmas
 pub mod LineLemmas
 pub mod StopLemmas
 pub mod ReaderLemmas
 pub mod SaidLemmas
 pub mod GrammarLemmas
+pub mod PlaceLemmas
 pub mod FaultLemmas
 pub mod EndLemmas
 pub mod PartLemmas
 pub mod AdmittedLemmas
 pub mod HeaderLemmas
 pub mod EndlessLemmas
+pub mod CrossLemmas

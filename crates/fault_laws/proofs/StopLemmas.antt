@@ -1,11 +1,11 @@
--- Where a reader of lines stops: first for any machine of states, then for the certificates'.
+-- Where a reader of lines stops, whatever it reads: of one line, of the end, and of a machine of states.
 use Rattle.std.proofs.Common.{◌≡◌, ◌≢◌, ℕ, zero, suc, ◌<◌, ◌≤◌, ◌+◌, List, [], ◌∷◌, length, take, Bool, true, false, cond, Option, Some, None, Ok, Err, refl, sym, ap, ◌∙◌, subst, arith}
 use Rattle.cert_value.specs.declared.types.Cert.{Cert}
 use Rattle.cert_text.specs.declared.faults.TextKind.{TextKind}
 use Rattle.cert_text.specs.declared.faults.TextKind.TheVariants.{Truncated, Trailing}
 use Rattle.cert_value.specs.Text.{Line}
 use Rattle.cert_text.specs.Lines.{Said}
-use Rattle.cert_text.specs.Grammar.{ReadOutcome, Read, Stopped, Then, after, next_line, is_bare}
+use Rattle.cert_text.specs.Grammar.{ReadOutcome, Outcome, On, Read, Stopped, after, next_line, is_bare, finish}
 use Rattle.cert_text.specs.Machine.{ended}
 
 -- Where a reader of these lines stops.
@@ -15,17 +15,17 @@ pub record StopsIn (lines : List Line) (kind : TextKind) (rest : List Line) : Ty
   pub before_last : kind ≢ Truncated → kind ≢ Trailing → 2 ≤ length rest
 
 -- A reader stops within the lines, and before the last piece unless the text ends too soon or goes on.
-abbrev pub Stops : (List Line → ReadOutcome) → Type 0
+abbrev pub Stops : {C : Type 0} → (List Line → Outcome C) → Type 0
 Stops f = (lines : List Line) (kind : TextKind) (rest : List Line) → 1 ≤ length lines → f lines ≡ Stopped kind rest → StopsIn lines kind rest
 
 -- Where the lines begin as lines that are read to the end, a reader stops after those.
-abbrev pub StopsLater : (List Line → ReadOutcome) → Type 0
-StopsLater f =
-    (n : ℕ) (lines others : List Line) (c : Cert) (kind : TextKind) (rest : List Line)
+abbrev pub StopsLater : {C : Type 0} → (List Line → Outcome C) → Type 0
+StopsLater {C} f =
+    (n : ℕ) (lines others : List Line) (c : C) (kind : TextKind) (rest : List Line)
     → take n lines ≡ take n others → n < length lines → n < length others
     → f others ≡ Read c → f lines ≡ Stopped kind rest → length rest + n ≤ length lines
 
-stops_cond : (b : Bool) (c : Cert) (piece : Line) (kind : TextKind) (rest : List Line)
+stops_cond : {C : Type 0} (b : Bool) (c : C) (piece : Line) (kind : TextKind) (rest : List Line)
     → cond b (Read c) (Stopped Trailing (piece ∷ [])) ≡ Stopped kind rest → StopsIn (piece ∷ []) kind rest
 stops_cond true c piece kind rest e = absurd (cc)
 stops_cond false c piece kind rest e =
@@ -34,8 +34,8 @@ stops_cond false c piece kind rest e =
     let one : 1 ≡ length rest = ap length is in
     record { some = omega (arith, one); within = omega (arith, one); before_last = λ not other. absurd (other (sym of)) }
 
-stops_truncated : (piece : Line) (kind : TextKind) (rest : List Line)
-    → ◌≡◌ {A = ReadOutcome} (Stopped Truncated (piece ∷ [])) (Stopped kind rest) → StopsIn (piece ∷ []) kind rest
+stops_truncated : {C : Type 0} (piece : Line) (kind : TextKind) (rest : List Line)
+    → ◌≡◌ {A = Outcome C} (Stopped Truncated (piece ∷ [])) (Stopped kind rest) → StopsIn (piece ∷ []) kind rest
 stops_truncated piece kind rest e =
     let is : piece ∷ [] ≡ rest = cc in
     let of : Truncated ≡ kind = cc in
@@ -47,7 +47,7 @@ stops_last : (d : Option Cert) (piece : Line) (kind : TextKind) (rest : List Lin
 stops_last (Some c) piece kind rest e = stops_cond (is_bare piece) c piece kind rest e
 stops_last None piece kind rest e = stops_truncated piece kind rest e
 
-stops_at : {A : Type 0} (said : Said A) (next : Then A) (line other : Line) (more : List Line) (kind : TextKind) (rest : List Line)
+stops_at : {C A : Type 0} (said : Said A) (next : On C A) (line other : Line) (more : List Line) (kind : TextKind) (rest : List Line)
     → ((a : A) → said ≡ Ok a → next a (other ∷ more) ≡ Stopped kind rest → StopsIn (other ∷ more) kind rest)
     → after said next (line ∷ other ∷ more) (other ∷ more) ≡ Stopped kind rest
     → StopsIn (line ∷ other ∷ more) kind rest
@@ -60,7 +60,7 @@ stops_at (Err fault) next line other more kind rest again e =
     let len : length (line ∷ other ∷ more) ≡ length rest = ap length is in
     record { some = omega (arith, len); within = omega (arith, len); before_last = λ _ _. omega (arith, len) }
 
-later_at : {A : Type 0} (said : Said A) (next : Then A) (line m other : Line) (ms more : List Line) (c : Cert) (kind : TextKind) (rest : List Line)
+later_at : {C A : Type 0} (said : Said A) (next : On C A) (line m other : Line) (ms more : List Line) (c : C) (kind : TextKind) (rest : List Line)
     (n : ℕ)
     → ((a : A) → said ≡ Ok a → next a (m ∷ ms) ≡ Read c → next a (other ∷ more) ≡ Stopped kind rest → length rest + n ≤ length (other ∷ more))
     → after said next (line ∷ m ∷ ms) (m ∷ ms) ≡ Read c
@@ -70,18 +70,18 @@ later_at (Ok a) next line m other ms more c kind rest n again e f = let t = agai
 later_at (Err fault) next line m other ms more c kind rest n again e f = absurd (cc)
 
 -- Both of them.
-pub record IsReader (f : List Line → ReadOutcome) : Type 0 where
+pub record IsReader {C : Type 0} (f : List Line → Outcome C) : Type 0 where
   pub stops : Stops f
   pub later : StopsLater f
 
-pub same_reader : (f g : List Line → ReadOutcome) → ((ls : List Line) → f ls ≡ g ls) → IsReader g → IsReader f
+pub same_reader : {C : Type 0} (f g : List Line → Outcome C) → ((ls : List Line) → f ls ≡ g ls) → IsReader g → IsReader f
 same_reader f g same is = record {
   stops = λ lines kind rest h e. is.stops lines kind rest h (sym (same lines) ∙ e);
   later = λ n lines others c kind rest alike h k e f. is.later n lines others c kind rest alike h k (sym (same others) ∙ e) (sym (same lines) ∙ f);
 }
 
 -- One line.
-module _ {A : Type 0} (said : Line → Said A) (next : Then A) (all : (line : Line) (a : A) → said line ≡ Ok a → IsReader (next a)) where
+module _ {C A : Type 0} (said : Line → Said A) (next : On C A) (all : (line : Line) (a : A) → said line ≡ Ok a → IsReader (next a)) where
   line_stops : Stops (next_line said next)
   line_stops [] kind rest h e = absurd (omega arith)
   line_stops (piece ∷ []) kind rest h e = stops_truncated piece kind rest e
@@ -106,6 +106,25 @@ module _ {A : Type 0} (said : Line → Said A) (next : Then A) (all : (line : Li
 
   pub line_reader : IsReader (next_line said next)
   line_reader = record { stops = line_stops; later = line_later }
+
+-- The end.
+finish_stops : {C : Type 0} (c : C) → Stops (finish c)
+finish_stops c [] kind rest h e = absurd (omega arith)
+finish_stops c (piece ∷ []) kind rest h e = stops_cond (is_bare piece) c piece kind rest e
+finish_stops c (line ∷ other ∷ more) kind rest h e =
+    let is : line ∷ other ∷ more ≡ rest = cc in
+    let len : length (line ∷ other ∷ more) ≡ length rest = ap length is in
+    record { some = omega (arith, len); within = omega (arith, len); before_last = λ _ _. omega (arith, len) }
+
+finish_later : {C : Type 0} (c : C) → StopsLater (finish c)
+finish_later c n lines [] d kind rest same h k e f = absurd (cc)
+finish_later c n lines (piece ∷ []) d kind rest same h k e f =
+    let within = (finish_stops c lines kind rest (omega arith) f).within in
+    omega (arith, within, k)
+finish_later c n lines (line ∷ other ∷ more) d kind rest same h k e f = absurd (cc)
+
+pub finish_reader : {C : Type 0} (c : C) → IsReader (finish c)
+finish_reader c = record { stops = finish_stops c; later = finish_later c }
 
 -- A machine of states: `step` says what a line makes of a state, and after the last piece nothing more may be due.
 module _ {S : Type 0} (resume : S → List Line → ReadOutcome) (step : S → Line → Said S) (done : S → Option Cert)

@@ -1,3 +1,4 @@
 pub mod FirstFaults
 pub mod Admitted
 pub mod Texts
+pub mod Crosses

@@ -1,8 +1,9 @@
-//! Where the first fault of a certificate's text stands.
+//! Where the first fault of a certificate's or a cross relation's text stands.
 
 ghost use Rattle.fault_laws.specs.FirstFaults.{FaultStandsLater, LinesBeginNone, MoreIsTrailing};
 ghost use Rattle.fault_laws.specs.Admitted.{EndlessIsAdmitted, FaultEndsAdmitted, CertLinesAreAdmitted, TruncatedAtTheEnd, TruncatedJustWhere, HeaderInLineOne, HeaderJustWhere};
 ghost use Rattle.fault_laws.specs.Texts.{TextsAreRead, TextOrFault, NoTextHasFault, OneFirstFault, TrailingFollowsText};
+ghost use Rattle.fault_laws.specs.Crosses.{CrossTextsAreRead, CrossTextOrFault, NoCrossTextHasFault, OneFirstCrossFault, CrossFaultStandsLater, CrossLinesBeginNone};
 
 /// After so many lines as a certificate's text begins with, a first fault stands in a later line.
 pub fn fault_stands_after_a_certificates_lines()
@@ -78,4 +79,35 @@ pub fn no_text_has_a_fault()
 /// Bytes have one first fault at most.
 pub fn there_is_one_first_fault()
     ensures { OneFirstFault }
+{}
+
+/// Bytes are read as a cross relation just where they are its text.
+pub fn cross_texts_are_read()
+    ensures { CrossTextsAreRead }
+{}
+
+/// Bytes are a cross relation's text, or they have a first fault.
+pub fn bytes_are_a_cross_text_or_have_a_fault()
+    ensures { CrossTextOrFault }
+{}
+
+/// No text of a cross relation has a first fault.
+pub fn no_cross_text_has_a_fault()
+    ensures { NoCrossTextHasFault }
+{}
+
+/// Bytes have one first fault of a cross relation's text at most.
+pub fn there_is_one_first_cross_fault()
+    ensures { OneFirstCrossFault }
+{}
+
+/// After so many lines as a cross relation's text begins with, a first fault stands in a later line.
+pub fn fault_stands_after_a_cross_relations_lines()
+    ensures { CrossFaultStandsLater }
+{}
+
+/// A fault that is neither that the text ends too soon nor that it goes on stands in a whole line, and with the lines up to that one no
+/// cross relation's text begins.
+pub fn lines_up_to_the_fault_begin_no_cross_text()
+    ensures { CrossLinesBeginNone }
 {}
