@@ -27,7 +27,7 @@ use Rattle.rabit_frame.specs.declared.parts.Ending.TheVariants as ending
 use Rattle.rabit_frame.specs.Files.{Input, Output}
 use Rattle.rabit_frame.specs.Lines.{read_line, memory_line}
 use Rattle.rabit_frame.specs.Statuses.{status_number}
-use Rattle.rabit_frame.specs.Reading.{FileReads, IsOfKind, MayStopAt, CountsInTurn, BegunInTurn}
+use Rattle.rabit_frame.specs.Reading.{FileReads, IsOfKind, MayStopAt, CountsInTurn, BegunInTurn, AllBegun}
 use Rattle.rabit_frame.specs.Ending.{OfBoth, IsCutShort, Leaves, MayEnd, filed, status_of, status_unsent, WasSaid, SaysOnly}
 use Rattle.rabit_frame.specs.Carrying.{EndsSo, NoReply, IsCarriedOut, SaysEach}
 use Rattle.rabit_frame.proofs.EndLemmas.{own_number, may_plain, stop_plain, says_each, read_fault_of, read_line_of, memory_of}
@@ -36,6 +36,7 @@ use Rattle.rabit_cli.specs.Include.{usual_terms, LeavesDecided}
 use Rattle.rabit_cli.specs.Batch.{AreQuestions, AnswersQuestion, ShowsQuestion, question_inputs, MeansQuestion, IsQuestionStatus, AreThere, LeavesQuestion, LeaveInTurn, question_line, question_lines, times, RoseBy, IsCarriedEach, list_file, batch_inputs, IsUnreadStatus, IsUnread, IsBatch}
 use Rattle.rabit_words.specs.Question.{Batch}
 use Rattle.rabit_cli.specs.Complete.{AnswersBatch}
+use Rattle.rabit_cli.specs.Laws.{QuestionsShowInTurn}
 use Rattle.rabit_cli.proofs.IncludeLemmas.{usual_bounded, one_include, include_low, leaves_include, shows_include}
 
 min_cases : (a b c : ℕ) → min a b ≤ c → (a ≤ c) ⊎ (b ≤ c)
@@ -112,6 +113,17 @@ shows_question q status files files' low (ending.Reached r, (right, left), is) =
 shows_question q status files files' low (ending.ReadFault, left, is) = absurd (omega arith)
 shows_question q status files files' low (ending.WriteFault, left, is) = absurd (omega arith)
 shows_question q status files files' low (ending.OutOfMemory, left, is) = absurd (omega arith)
+
+-- and what each of some in turn shows
+pub questions_show : QuestionsShowInTurn
+questions_show questions [] files files' begins begins' (same, begun) = same
+questions_show [] (status ∷ statuses) files files' begins begins' none = none
+questions_show (q ∷ questions) (status ∷ statuses) files files' begins begins' (between, begun, leaves, turn, all, later) = (
+  between,
+  leaves,
+  λ low. shows_question q status files between low leaves,
+  questions_show questions statuses between files' begun begins' later,
+)
 
 -- ---- what is there stays there
 
@@ -223,7 +235,7 @@ each_none number held held' sent give read put missed begins stays = record {
     none (Some files) = λ there. refl
 
 module _ (q : Question) (number : ℕ) (held between : Option FileMap) (read read1 put put1 missed missed1 begins begins1 : ℕ) (e : Ending) (ends : EndsSo (MeansQuestion q) (question_inputs q) e held between read read1 put put1)
-    (counts : IfSome held (λ files. CountsInTurn files (question_inputs q) missed missed1)) (begun : IfSome held (λ files. BegunInTurn files (question_inputs q) begins begins1)) where
+    (counts : IfSome held (λ files. CountsInTurn files (question_inputs q) missed missed1)) (begun : IfSome held (λ files. BegunInTurn files (question_inputs q) begins begins1)) (all_begun : status_of e ≤ 2 → AllBegun (question_inputs q) begins begins1) where
   read_more : (statuses : List ℕ) (read' : ℕ) → RoseBy (times 6 statuses) read1 read' → RoseBy (times 6 (status_of e ∷ statuses)) read read'
   read_more statuses read' rest = rose_by 6 (status_of e) statuses read read1 read' (λ is. ends.read_fault (ends_unread e is)) (λ other. ends.no_read_fault (λ is. other (ap status_of is))) rest
 
@@ -244,7 +256,7 @@ module _ (q : Question) (number : ℕ) (held between : Option FileMap) (read rea
       go None none b = subst (λ (m : Option FileMap). OfBoth m held' (λ files files'. LeaveInTurn questions statuses files files' begins1 begins')) none rest
       go (Some files) (mid, is, left) b =
           let (files', is', later) = subst (λ (m : Option FileMap). OfBoth m held' (λ files files'. LeaveInTurn questions statuses files files' begins1 begins')) is rest in
-          (files', is', (mid, begins1, (e, left, refl), b, later))
+          (files', is', (mid, begins1, (e, left, refl), b, all_begun, later))
 
   missed_more : (questions : List Question) (missed' : ℕ) → IfSome between (λ files. All (AreThere files) questions → missed' ≡ missed1) → IfSome held (λ files. All (AreThere files) (q ∷ questions) → missed' ≡ missed)
   missed_more questions missed' rest = go held ends.leaves counts
@@ -433,7 +445,7 @@ batch_unread list slot held held' status sent sent' give give' read read' put pu
       carried = carried;
       known = unread_status list held held' status sent sent' give give' read read' put put' carried;
       missing = counts_here held (list_file list) [] missed missed' (subst (λ (i : Input). CountsMissing held i.name missed missed') is counts);
-      begun = begun_here held (list_file list) [] begins begins' begun;
+      begun_in_turn = begun_here held (list_file list) [] begins begins' begun;
     })
 
 -- the list was read, so its name was not missed

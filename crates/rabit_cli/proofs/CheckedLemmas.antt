@@ -40,7 +40,7 @@ use Rattle.rabit_cli.specs.Check.{check_inputs, Concludes, MeansCheck}
 use Rattle.rabit_cli.specs.Include.{pair_inputs, certificate_put}
 use Rattle.rabit_cli.specs.Upgrade.{upgrade_inputs}
 use Rattle.rabit_cli.specs.Cross.{cross_put, cross_check_inputs, MeansCrossCheck}
-use Rattle.rabit_cli.specs.Laws.{IsCheckReply, UpgradedFileIsChecked, CrossIsChecked, EmptyIsChecked, UniversalIsChecked}
+use Rattle.rabit_cli.specs.Laws.{IsCheckReply, UpgradedFileIsChecked, CrossIsChecked, CrossRelationsAreAccepted, EmptyIsChecked, UniversalIsChecked}
 use Rattle.rabit_cli.proofs.UpgradeLemmas.{upgrade_checked}
 use Rattle.rabit_cli.proofs.EmptyLemmas.{empty_is_short}
 use Rattle.rabit_cli.proofs.UniversalLemmas.{universal_is_short, universal_has_no_fault}
@@ -175,3 +175,12 @@ cross_checked files a b out look r not_a not_b from upto right zero short = elim
         ))
   ]
 ]
+
+pub cross_relations_accepted : CrossRelationsAreAccepted
+cross_relations_accepted files a b f look pair cross from upto (read, of, has) held =
+    let (one, two, first, second, joined) = read in
+    inr (
+      value.Automaton one ∷ value.Automaton two ∷ value.Cross cross ∷ [],
+      (first, (second, (held, tt))),
+      (one, two, cross, refl, (pair, joined, inr (written_cross_keeps_rules pair look cross from upto of has, refl))),
+    )

@@ -219,7 +219,7 @@ module _ (held held' : Option FileMap) (status : ℕ) (sent sent' : Option (List
   pub batches : (q : Option Question) → Carried q → (missed missed' begins begins' : ℕ) → IfSome held (λ files. CountsInTurn files (inputs_of q) missed missed') → IfSome held (λ files. BegunInTurn files (inputs_of q) begins begins')
       → IfSome q (λ asked. Batches asked held held' status sent sent' sink sink' faults faults' puts puts' missed missed' begins begins')
   batches (Some (Batch l)) c missed missed' begins begins' missing begun =
-      inl (record { carried = c; known = unread_status l held held' status sent sent' sink sink' faults faults' puts puts' c; missing = missing; begun = begun })
+      inl (record { carried = c; known = unread_status l held held' status sent sent' sink sink' faults faults' puts puts' c; missing = missing; begun_in_turn = begun })
   batches None c missed missed' begins begins' missing begun = tt
   batches (Some (Check a b d)) c missed missed' begins begins' missing begun = tt
   batches (Some (Include a b d m look limit letters)) c missed missed' begins begins' missing begun = tt

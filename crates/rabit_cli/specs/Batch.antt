@@ -16,7 +16,7 @@ use Rattle.rabit_frame.specs.declared.parts.Ending.{Ending}
 use Rattle.rabit_frame.specs.Files.{Input}
 use Rattle.rabit_frame.specs.Lines.{line_end}
 use Rattle.rabit_frame.specs.Statuses.{status_number}
-use Rattle.rabit_frame.specs.Reading.{FileReads, CountsInTurn, BegunInTurn}
+use Rattle.rabit_frame.specs.Reading.{FileReads, CountsInTurn, BegunInTurn, AllBegun}
 use Rattle.rabit_frame.specs.Ending.{IsReplyFor, OfBoth, Leaves, filed, status_of}
 use Rattle.rabit_frame.specs.Carrying.{NoReply, IsCarriedOut}
 use Rattle.rabit_cli.specs.Include.{usual_terms, pair_inputs, MeansInclude, ShowsInclude}
@@ -64,16 +64,28 @@ AreQuestions questions = list_all is_question (map line_of questions) ≡ true
 -- ---- one after the other
 
 -- The first questions, one for each status, ended with these, each asked of the files that the one before it left. By the count of begins, each
--- began its files in turn, and none of a later question was begun.
+-- began its files in turn, all of them where its status is up to 2, and none of a later question was begun.
 abbrev pub LeaveInTurn : List Question → List ℕ → FileMap → FileMap → ℕ → ℕ → Type 0
 LeaveInTurn questions [] files files' begins begins' = (files' ≡ files) × (begins' ≡ begins)
 LeaveInTurn [] (status ∷ statuses) files files' begins begins' = ⊥
 LeaveInTurn (q ∷ questions) (status ∷ statuses) files files' begins begins' =
     (between : FileMap)
-    × (begun : ℕ)
+    × (begins_between : ℕ)
     × LeavesQuestion q status files between
-    × BegunInTurn files (question_inputs q) begins begun
-    × LeaveInTurn questions statuses between files' begun begins'
+    × BegunInTurn files (question_inputs q) begins begins_between
+    × (status ≤ 2 → AllBegun (question_inputs q) begins begins_between)
+    × LeaveInTurn questions statuses between files' begins_between begins'
+
+-- The first questions, one for each status, were asked so, each of the files that the one before it left, and each status up to 2 shows what that of
+-- `include` does, of the files as they were when its question was asked and as that left them.
+abbrev pub ShowInTurn : List Question → List ℕ → FileMap → FileMap → Type 0
+ShowInTurn questions [] files files' = files' ≡ files
+ShowInTurn [] (status ∷ statuses) files files' = ⊥
+ShowInTurn (q ∷ questions) (status ∷ statuses) files files' =
+    (between : FileMap)
+    × LeavesQuestion q status files between
+    × (status ≤ 2 → ShowsQuestion q status files between)
+    × ShowInTurn questions statuses between files'
 
 -- The line of the question with this number.
 abbrev pub question_line : ℕ → ℕ → List ℕ
@@ -144,7 +156,7 @@ pub record IsUnread (list : List ℕ) (held held' : Option FileMap) (status : �
   pub carried : IsCarriedOut NoReply (batch_inputs list) held held' status sent sent' give_faults give_faults' read_faults read_faults' put_faults put_faults'
   pub known : IsUnreadStatus status
   pub missing : IfSome held (λ files. CountsInTurn files (batch_inputs list) missed missed')
-  pub begun : IfSome held (λ files. BegunInTurn files (batch_inputs list) begins begins')
+  pub begun_in_turn : IfSome held (λ files. BegunInTurn files (batch_inputs list) begins begins')
 
 -- The list, the first file begun, was read, and its questions were carried out from the first on.
 pub record AreAsked (list : List ℕ) (held held' : Option FileMap) (status : ℕ) (sent sent' : Option (List ℕ)) (give_faults give_faults' read_faults read_faults' put_faults put_faults' missed missed' begins begins' : ℕ) : Type 0 where

@@ -1,4 +1,5 @@
--- What a check says of what a decision, an upgrade and a search for a cross relation wrote, and what the texts read as that `empty` and `universal` make.
+-- What a check says of what a decision, an upgrade and a search for a cross relation wrote, what the questions of a batch show, and what the texts read as that
+-- `empty` and `universal` make.
 use Rattle.std.specs.Prelude.{◌≡◌, ◌≢◌, ◌≤◌, ◌^◌, ◌↔◌, ℕ, List, [], ◌∷◌, length, All}
 use Rattle.std.specs.FinMap as map
 use Rattle.shelf_io.specs.Shelf.{FileMap}
@@ -6,6 +7,8 @@ use Rattle.ba_format.specs.declared.parts.Joined.{Joined}
 use Rattle.cert_value.specs.declared.types.Cert.{Cert}
 use Rattle.cert_value.specs.Text.{text}
 use Rattle.cert_value.specs.WellFormed.{upgraded}
+use Rattle.cross_text.specs.declared.types.Cross.{Cross}
+use Rattle.equal_batch.specs.declared.questions.Question.{Question}
 use Rattle.decide.specs.Answer.{IsAnswer}
 use Rattle.decide.specs.Terms.{AreBounded}
 use Rattle.decide.specs.declared.terms.Terms.{Terms}
@@ -18,17 +21,20 @@ use Rattle.ba_format.specs.Sight.{AreDifferent}
 use Rattle.ba_format.specs.Writing.{written}
 use Rattle.rabit_words.specs.Question.{NamesDiffer}
 use Rattle.rabit_frame.specs.declared.parts.Value.TheVariants as value
+use Rattle.rabit_frame.specs.declared.parts.Status.TheVariants as status
 use Rattle.rabit_frame.specs.declared.parts.Reply.{Reply}
 use Rattle.rabit_frame.specs.Files.{Output}
 use Rattle.rabit_frame.specs.Statuses.{status_number}
 use Rattle.rabit_frame.specs.Reading.{only_said}
 use Rattle.rabit_frame.specs.Ending.{IsReplyFor, filed}
 use Rattle.rabit_cli.specs.Files.{ReadsPair, ReadsCertificate}
+use Rattle.rabit_cli.specs.Printed.{by_simulation_text}
 use Rattle.rabit_cli.specs.Replies.{IsVerdictReply}
 use Rattle.rabit_cli.specs.Check.{check_inputs, MeansCheck}
 use Rattle.rabit_cli.specs.Include.{pair_inputs, MeansInclude}
 use Rattle.rabit_cli.specs.Upgrade.{upgrade_inputs, MeansUpgrade}
-use Rattle.rabit_cli.specs.Cross.{MeansCross, cross_check_inputs, MeansCrossCheck}
+use Rattle.rabit_cli.specs.Cross.{MeansCross, IsCrossFor, ReadsCross, cross_check_inputs, MeansCrossCheck}
+use Rattle.rabit_cli.specs.Batch.{LeaveInTurn, ShowInTurn}
 use Rattle.rabit_cli.specs.Property.{Property, IsPropertyCertFor, IsPropertyReply, property_puts}
 use Rattle.rabit_cli.specs.Empty.{empty_text, AcceptsNothing, emptiness}
 use Rattle.rabit_cli.specs.Universal.{all_loops, AcceptsAll, universality}
@@ -104,6 +110,24 @@ CrossIsChecked =
     → status_number r.status ≡ 0
     → All (λ (put : Output). length put.bytes ≤ 2 ^ 30) r.puts
     → IsReplyFor MeansCrossCheck (cross_check_inputs a b out) (filed files r.puts) (only_said r.status r.text)
+
+-- Wherever a file of at most 1 GiB holds the text of the greatest cross relation of two automata, at a lookahead of 1 to 6, and that has the pair of the
+-- initial states, `cross-check` of it for those two says that the inclusion holds by simulation.
+abbrev pub CrossRelationsAreAccepted : Type 0
+CrossRelationsAreAccepted =
+    (files : FileMap) (a b f : List ℕ) (look : ℕ) (pair : Joined) (cross : Cross)
+    → 1 ≤ look
+    → look ≤ 6
+    → IsCrossFor files a b look pair cross
+    → ReadsCross files f cross
+    → IsReplyFor MeansCrossCheck (cross_check_inputs a b f) files (only_said status.Done by_simulation_text)
+
+-- Questions that were carried out in turn show in turn what `include` shows.
+abbrev pub QuestionsShowInTurn : Type 0
+QuestionsShowInTurn =
+    (questions : List Question) (statuses : List ℕ) (files files' : FileMap) (begins begins' : ℕ)
+    → LeaveInTurn questions statuses files files' begins begins'
+    → ShowInTurn questions statuses files files'
 
 -- Whatever the text that `empty` makes reads as accepts nothing.
 abbrev pub EmptyTextAcceptsNothing : Type 0

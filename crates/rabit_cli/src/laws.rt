@@ -1,6 +1,6 @@
 //! What the commands have to do with one another: each law is the contract of a function that does nothing.
 
-ghost use Rattle.rabit_cli.specs.Laws.{CheckAgrees, IncludeIsChecked, AnswersAreAccepted, UpgradeIsChecked, UpgradedFileIsChecked, CrossIsChecked, EmptyTextAcceptsNothing, UniversalTextAcceptsAll, EmptyIsChecked, UniversalIsChecked};
+ghost use Rattle.rabit_cli.specs.Laws.{CheckAgrees, IncludeIsChecked, AnswersAreAccepted, UpgradeIsChecked, UpgradedFileIsChecked, CrossIsChecked, CrossRelationsAreAccepted, QuestionsShowInTurn, EmptyTextAcceptsNothing, UniversalTextAcceptsAll, EmptyIsChecked, UniversalIsChecked};
 
 /// A check of the answer that a decision wrote under a name of its own says what the decision said, where the file has at most 1 GiB.
 pub fn check_agrees()
@@ -30,6 +30,16 @@ pub fn upgraded_file_is_checked()
 /// What `cross` left is accepted by `cross-check`.
 pub fn cross_is_checked()
     ensures { CrossIsChecked }
+{}
+
+/// `cross-check` accepts each greatest cross relation that has the pair of the initial states, wherever a file of at most 1 GiB holds its text.
+pub fn cross_relations_are_accepted()
+    ensures { CrossRelationsAreAccepted }
+{}
+
+/// Of the questions of a batch each status up to 2 shows what that of `include` does, of the files that the questions before it have left.
+pub fn questions_show_in_turn()
+    ensures { QuestionsShowInTurn }
 {}
 
 /// Whatever the text that `empty` makes reads as accepts nothing.

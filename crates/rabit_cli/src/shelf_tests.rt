@@ -120,6 +120,11 @@ fn reads_and_writes_real_files(rt: HostRuntime) -> Result<(), Fail> {
     assert_eq!(rt; shelf.put(first.as_str(), b"longer than before"), Ok(()));
     assert_eq!(rt; shelf.take(&mut buf), Ok(0));
 
+    // a refused put of the begun file ends it too: a folder is opened, but neither read nor made
+    assert_eq!(rt; shelf.begin("/tmp"), Ok(()));
+    assert_eq!(rt; shelf.put("/tmp", b"x"), Err(Failed));
+    assert_eq!(rt; shelf.take(&mut buf), Ok(0));
+
     // a folder that isn't there
     assert_eq!(rt; shelf.put("/tmp/rabit_shelf_io/no/such", b"x"), Err(Failed));
     fs::remove_file(&rt, first.as_str())?;

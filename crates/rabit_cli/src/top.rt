@@ -5,7 +5,7 @@ ghost use Rattle.std.specs.String.{string_bytes};
 ghost use Rattle.shelf_io.specs.Counts.{Rose};
 ghost use Rattle.rabit_frame.specs.Lines.{read_line, memory_line};
 ghost use Rattle.rabit_frame.specs.Statuses.{IsOwn};
-ghost use Rattle.rabit_frame.specs.Reading.{CountsInTurn, BegunInTurn};
+ghost use Rattle.rabit_frame.specs.Reading.{CountsInTurn, BegunInTurn, AllBegun, BlamesInTurn};
 ghost use Rattle.rabit_frame.specs.Ending.{OfBoth, SaysOnly};
 ghost use Rattle.rabit_frame.specs.Carrying.{IsCarriedOut, SaysEach, ShowsReply, LeavesUnwritten};
 ghost use Rattle.rabit_words.specs.Question.{question_of};
@@ -44,7 +44,8 @@ pub fn run<H: Shelf, K: Sink>(alloc: Global, words: &[String], shelf: &mut H, ou
         Drills asked result (K.sent out.old) (K.sent out.new) (K.faults out.old) (K.faults out.new)) }
 
     // A batch: its list is not read, and that was said; or its questions were carried out one after the other, each on the files that the one
-    // before it left, and a line with its number and its status was given before the next began.
+    // before it left, and a line with its number and its status was given before the next began. The law `questions_show_in_turn` tells what a
+    // status up to 2 of a line shows.
     ensures batch { IfSome (question_of (map string_bytes words.now)) (λ asked.
         Batches asked (H.held shelf.old) (H.held shelf.new) result (K.sent out.old) (K.sent out.new) (K.faults out.old) (K.faults out.new)
         (H.faults shelf.old) (H.faults shelf.new) (H.put_faults shelf.old) (H.put_faults shelf.new) (H.missed shelf.old) (H.missed shelf.new) (H.begins shelf.old) (H.begins shelf.new)) }
@@ -60,7 +61,8 @@ pub fn run<H: Shelf, K: Sink>(alloc: Global, words: &[String], shelf: &mut H, ou
         result (K.sent out.old) (K.sent out.new) (K.faults out.old) (K.faults out.new) files files') }
 
     // A question whose automata all read is answered: by a result of its command, unless a count of the outside rose or memory was refused.
-    // With `exact` and the law `answers_are_accepted` a check of an answer's file has the verdict of the answer.
+    // With `exact` and the law `answers_are_accepted` a check of an answer's file has the verdict of the answer, and with the law
+    // `cross_relations_are_accepted` so has `cross-check` of a cross relation's.
     ensures complete { IsSingle (question_of (map string_bytes words.now)) → IfSome (question_of (map string_bytes words.now)) (λ asked. IfSome (H.held shelf.old) (λ files.
         AnswersWhatReads asked files result (K.faults out.old) (K.faults out.new) (H.faults shelf.old) (H.faults shelf.new)
         (H.put_faults shelf.old) (H.put_faults shelf.new))) }
@@ -92,10 +94,14 @@ pub fn run<H: Shelf, K: Sink>(alloc: Global, words: &[String], shelf: &mut H, ou
     ensures reads_none { inputs_of (question_of (map string_bytes words.now)) ≡ [] → H.faults shelf.new ≡ H.faults shelf.old }
     ensures writes_none { IsSingle (question_of (map string_bytes words.now)) → outputs_of (question_of (map string_bytes words.now)) ≡ [] → H.put_faults shelf.new ≡ H.put_faults shelf.old }
 
-    // The first fault decides: where the shelf tells its files, each that the command reads is begun once those before it read as values, and a
-    // missing one is counted only in its turn.
-    ensures begun { IsSingle (question_of (map string_bytes words.now)) → IfSome (H.held shelf.old) (λ files.
+    // The first fault decides: where the shelf tells its files, each that the command reads is begun only when those before it read as values, and
+    // a missing one is counted only in its turn. Up to 2 all were begun; at 6 the file of which a read was refused is the first that did not read.
+    ensures begun_in_turn { IsSingle (question_of (map string_bytes words.now)) → IfSome (H.held shelf.old) (λ files.
         BegunInTurn files (inputs_of (question_of (map string_bytes words.now))) (H.begins shelf.old) (H.begins shelf.new)) }
+    ensures all_begun { IsSingle (question_of (map string_bytes words.now)) → result ≤ 2 →
+        AllBegun (inputs_of (question_of (map string_bytes words.now))) (H.begins shelf.old) (H.begins shelf.new) }
+    ensures blames { IsSingle (question_of (map string_bytes words.now)) → result ≡ 6 → IfSome (H.held shelf.old) (λ files.
+        BlamesInTurn files (inputs_of (question_of (map string_bytes words.now))) (H.blamed shelf.new)) }
     ensures missing { IsSingle (question_of (map string_bytes words.now)) → IfSome (H.held shelf.old) (λ files.
         CountsInTurn files (inputs_of (question_of (map string_bytes words.now))) (H.missed shelf.old) (H.missed shelf.new)) }
 {

@@ -3,13 +3,13 @@ use Rattle.std.proofs.Common.{◌≡◌, ◌⊎◌, ℕ, ◌-◌, ◌≤◌, Lis
 use Rattle.std.proofs.lemmas.List.{take_all}
 use Rattle.std.specs.FinMap as map
 use Rattle.shelf_io.specs.Counts.{counted}
-use Rattle.shelf_io.specs.Shelf.{FileMap, CountsMissing}
+use Rattle.shelf_io.specs.Shelf.{FileMap, Begun, CountsMissing, IsBlamed}
 use Rattle.rabit_frame.specs.declared.parts.Value.{Value}
 use Rattle.rabit_frame.specs.declared.parts.Reply.{Reply}
 use Rattle.rabit_frame.specs.declared.parts.Halt.{Halt}
 use Rattle.rabit_frame.specs.declared.parts.Halt.TheVariants as halt
 use Rattle.rabit_frame.specs.Files.{Input}
-use Rattle.rabit_frame.specs.Reading.{FileReads, FileStops, IsOfKind, StopInTurn, CountsInTurn, BegunInTurn, MayStopAt, MayStop, HaltsBy, AddsRead, TellsRead}
+use Rattle.rabit_frame.specs.Reading.{FileReads, FileStops, IsOfKind, StopInTurn, CountsInTurn, BegunInTurn, AllBegun, BlamesInTurn, MayStopAt, MayStop, HaltsBy, AddsRead, TellsRead}
 
 pub halts_weaker : (P Q : Reply → Type 0) (h : Halt) → ((r : Reply) → P r → Q r) → HaltsBy P h → HaltsBy Q h
 halts_weaker P Q (halt.Stopped r) f p = f r p
@@ -89,6 +89,17 @@ pub begun_later : (held : Option FileMap) (i : Input) (is : List Input) (v : Val
     IfSome held (λ files. BegunInTurn files is between now) → IfSome held (λ files. BegunInTurn files (i ∷ is) before now)
 begun_later None i is v before between now h reads later = tt
 begun_later (Some files) i is v before between now h reads later = inr (inr (v, reads, subst (λ n. BegunInTurn files is n now) h later))
+
+pub all_later : (i : Input) (is : List Input) (before between now : ℕ) → between ≡ counted before → AllBegun is between now → AllBegun (i ∷ is) before now
+all_later i is before between now h later = subst (λ n. AllBegun is n now) h later
+
+pub blames_here : (held : Option FileMap) (i : Input) (is : List Input) (blamed : Begun) → IfSome held (λ files. IsBlamed files i.name blamed) → IfSome held (λ files. BlamesInTurn files (i ∷ is) blamed)
+blames_here None i is blamed h = tt
+blames_here (Some files) i is blamed h = inl h
+
+pub blames_later : (held : Option FileMap) (i : Input) (is : List Input) (v : Value) (blamed : Begun) → IfSome held (λ files. FileReads files i v) → IfSome held (λ files. BlamesInTurn files is blamed) → IfSome held (λ files. BlamesInTurn files (i ∷ is) blamed)
+blames_later None i is v blamed reads later = tt
+blames_later (Some files) i is v blamed reads later = inr (v, reads, later)
 
 -- a list of one or more is its first and those after it
 pub split_at_first : {X : Type 0} (xs : List X) (x item : X) → x ≡ item → item ≡ get_or xs 0 item → 1 ≤ length xs → xs ≡ x ∷ take (length xs - 1) (drop 1 xs)

@@ -2,7 +2,7 @@
 use Rattle.std.specs.Prelude.{◌≡◌, ℕ, ◌<◌, ◌≤◌, ◌^◌, ◌⊎◌, List, [], ◌∷◌, ◌++◌, length, All, codes, Option, Some, IfSome, false}
 use Rattle.std.specs.FinMap as map
 use Rattle.shelf_io.specs.Counts.{counted}
-use Rattle.shelf_io.specs.Shelf.{FileMap}
+use Rattle.shelf_io.specs.Shelf.{FileMap, Begun, IsBlamed}
 use Rattle.auto_core.specs.Automaton.{IsAutomaton}
 use Rattle.ba_format.specs.declared.parts.BaFault.{BaFault}
 use Rattle.ba_format.specs.declared.parts.Named.{Named}
@@ -136,6 +136,16 @@ BegunInTurn files (i ∷ is) before now =
     (now ≡ before)
     ⊎ (now ≡ counted before)
     ⊎ ((read : Value) × FileReads files i read × BegunInTurn files is (counted before) now)
+
+-- All of the files were begun.
+abbrev pub AllBegun : List Input → ℕ → ℕ → Type 0
+AllBegun [] before now = now ≡ before
+AllBegun (i ∷ is) before now = AllBegun is (counted before) now
+
+-- The file that a read was refused of is one of these, and those before it read as values.
+abbrev pub BlamesInTurn : FileMap → List Input → Begun → Type 0
+BlamesInTurn files [] blamed = ⊥
+BlamesInTurn files (i ∷ is) blamed = IsBlamed files i.name blamed ⊎ ((read : Value) × FileReads files i read × BlamesInTurn files is blamed)
 
 -- What may be said of a file of this kind that is not read, whatever it holds.
 abbrev pub MayStopAt : FileKind → Reply → Type 0

@@ -3,13 +3,13 @@
 ghost use Rattle.std.specs.Prelude.{◌≡◌, ◌≢◌, ◌≤◌, ◌⊎◌, ◌∷◌, [], ℕ, List as Items, length, Err, IfOk, IfErr, IfSome};
 ghost use Rattle.std.specs.Io.KnownBytes.{append_known};
 ghost use Rattle.shelf_io.specs.Counts.{Rose, counted};
-ghost use Rattle.shelf_io.specs.Shelf.{CountsMissing};
+ghost use Rattle.shelf_io.specs.Shelf.{CountsMissing, IsBlamed};
 ghost use Rattle.rabit_frame.specs.declared.parts.Value.{Value as AValue};
 ghost use Rattle.rabit_frame.specs.declared.parts.Reply.{Reply as AReply};
 ghost use Rattle.rabit_frame.specs.declared.parts.Ending.{Ending as AnEnding};
 ghost use Rattle.rabit_frame.specs.Lines.{read_line, memory_line};
 ghost use Rattle.rabit_frame.specs.Statuses.{IsOwn};
-ghost use Rattle.rabit_frame.specs.Reading.{AreOfKinds, IsOfKind, FileReads, CountsInTurn, BegunInTurn};
+ghost use Rattle.rabit_frame.specs.Reading.{AreOfKinds, IsOfKind, FileReads, MayStop, CountsInTurn, BegunInTurn, AllBegun, BlamesInTurn};
 ghost use Rattle.rabit_frame.specs.Ending.{IsReplyFor, MayReply, OfBoth, WasGiven, WasSaid, SaysOnly, status_of};
 ghost use Rattle.rabit_frame.specs.Carrying.{EndsSo, NoReply, IsCarriedOut, SaysEach, ShowsReply, ShowsResult, LeavesUnwritten};
 
@@ -35,7 +35,9 @@ fn reply_of<'w, W: Work, H: Shelf>(
     ensures files_stay { H.held shelf.new ≡ H.held shelf.old }
     ensures puts_stay { H.put_faults shelf.new ≡ H.put_faults shelf.old }
     ensures missing { IfSome (H.held shelf.old) (λ files. CountsInTurn files (W.inputs work.now) (H.missed shelf.old) (H.missed shelf.new)) }
-    ensures begun { IfSome (H.held shelf.old) (λ files. BegunInTurn files (W.inputs work.now) (H.begins shelf.old) (H.begins shelf.new)) }
+    ensures begun_in_turn { IfSome (H.held shelf.old) (λ files. BegunInTurn files (W.inputs work.now) (H.begins shelf.old) (H.begins shelf.new)) }
+    ensures all_begun { IfOk result (λ reply. MayStop (W.inputs work.now) reply ⊎ AllBegun (W.inputs work.now) (H.begins shelf.old) (H.begins shelf.new)) }
+    ensures blames { result ≡ Err Lack.ReadFault → IfSome (H.held shelf.old) (λ files. BlamesInTurn files (W.inputs work.now) (H.blamed shelf.new)) }
 {
     let slots = match work.slots(alloc) {
         Ok(slots) => slots,
@@ -57,7 +59,9 @@ fn ending_of<'w, W: Work, H: Shelf>(alloc: Global, work: &'w W, shelf: &mut H) -
     requires fit { W.is_fit work.now }
     ensures ends { EndsSo (W.means work.now) (W.inputs work.now) result (H.held shelf.old) (H.held shelf.new) (H.faults shelf.old) (H.faults shelf.new) (H.put_faults shelf.old) (H.put_faults shelf.new) }
     ensures missing { IfSome (H.held shelf.old) (λ files. CountsInTurn files (W.inputs work.now) (H.missed shelf.old) (H.missed shelf.new)) }
-    ensures begun { IfSome (H.held shelf.old) (λ files. BegunInTurn files (W.inputs work.now) (H.begins shelf.old) (H.begins shelf.new)) }
+    ensures begun_in_turn { IfSome (H.held shelf.old) (λ files. BegunInTurn files (W.inputs work.now) (H.begins shelf.old) (H.begins shelf.new)) }
+    ensures all_begun { status_of result ≤ 2 → AllBegun (W.inputs work.now) (H.begins shelf.old) (H.begins shelf.new) }
+    ensures blames { status_of result ≡ 6 → IfSome (H.held shelf.old) (λ files. BlamesInTurn files (W.inputs work.now) (H.blamed shelf.new)) }
 {
     let reply = match reply_of(alloc, work, shelf) {
         Ok(reply) => reply,
@@ -110,6 +114,7 @@ pub fn read_alone<H: Shelf>(
     ensures puts_stay { H.put_faults shelf.new ≡ H.put_faults shelf.old }
     ensures counts_missing { CountsMissing (H.held shelf.old) slot.now.name (H.missed shelf.old) (H.missed shelf.new) }
     ensures counts_begin { H.begins shelf.new ≡ counted (H.begins shelf.old) }
+    ensures blames { result ≡ Err Ending.ReadFault → IfSome (H.held shelf.old) (λ files. IsBlamed files slot.now.name (H.blamed shelf.new)) }
 {
     match reading::read_one(alloc, shelf, slot) {
         Ok(value) => Ok(value),
@@ -124,7 +129,9 @@ pub fn carry_out_unsaid<W: Work, H: Shelf>(alloc: Global, work: &W, shelf: &mut 
     requires fit { W.is_fit work.now }
     ensures ends { (end : AnEnding) × EndsSo (W.means work.now) (W.inputs work.now) end (H.held shelf.old) (H.held shelf.new) (H.faults shelf.old) (H.faults shelf.new) (H.put_faults shelf.old) (H.put_faults shelf.new) × (result ≡ status_of end) }
     ensures missing { IfSome (H.held shelf.old) (λ files. CountsInTurn files (W.inputs work.now) (H.missed shelf.old) (H.missed shelf.new)) }
-    ensures begun { IfSome (H.held shelf.old) (λ files. BegunInTurn files (W.inputs work.now) (H.begins shelf.old) (H.begins shelf.new)) }
+    ensures begun_in_turn { IfSome (H.held shelf.old) (λ files. BegunInTurn files (W.inputs work.now) (H.begins shelf.old) (H.begins shelf.new)) }
+    ensures all_begun { result ≤ 2 → AllBegun (W.inputs work.now) (H.begins shelf.old) (H.begins shelf.new) }
+    ensures blames { result ≡ 6 → IfSome (H.held shelf.old) (λ files. BlamesInTurn files (W.inputs work.now) (H.blamed shelf.new)) }
 {
     match ending_of(alloc, work, shelf) {
         Ending::Reached(reply) => reply.status.number(),
@@ -174,9 +181,12 @@ pub fn carry_out<W: Work, H: Shelf, K: Sink>(
     ensures unwritten { result ≡ 7 → OfBoth (H.held shelf.old) (H.held shelf.new) (λ files files'.
         LeavesUnwritten (W.means work.now) (W.inputs work.now) (K.sent out.old) (K.sent out.new) (K.faults out.old) (K.faults out.new) (H.put_faults shelf.old) (H.put_faults shelf.new) files files') }
 
-    // Where the shelf tells its files, each is begun once those before it read as values, and a missing one is counted only in its turn.
+    // Where the shelf tells its files, each is begun only when those before it read as values, and a missing one is counted only in its turn.
+    // Up to 2 all were begun; at 6 the file of which a read was refused is the first that did not read.
     ensures missing { IfSome (H.held shelf.old) (λ files. CountsInTurn files (W.inputs work.now) (H.missed shelf.old) (H.missed shelf.new)) }
-    ensures begun { IfSome (H.held shelf.old) (λ files. BegunInTurn files (W.inputs work.now) (H.begins shelf.old) (H.begins shelf.new)) }
+    ensures begun_in_turn { IfSome (H.held shelf.old) (λ files. BegunInTurn files (W.inputs work.now) (H.begins shelf.old) (H.begins shelf.new)) }
+    ensures all_begun { result ≤ 2 → AllBegun (W.inputs work.now) (H.begins shelf.old) (H.begins shelf.new) }
+    ensures blames { result ≡ 6 → IfSome (H.held shelf.old) (λ files. BlamesInTurn files (W.inputs work.now) (H.blamed shelf.new)) }
 {
     let ending = ending_of(alloc, work, shelf);
     say(&ending, out)

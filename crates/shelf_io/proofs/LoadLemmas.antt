@@ -1,5 +1,5 @@
 -- What a file's pieces say together, and what a file that gave more bytes than were allowed has.
-use Rattle.std.proofs.Common.{◌≡◌, ℕ, ◌+◌, ◌<◌, ◌≤◌, ◌++◌, List, length, take, Option, None, Some, IsSome, Result, Ok, Err, arith, length-append, length-take, append_assoc, subst, refl}
+use Rattle.std.proofs.Common.{◌≡◌, ℕ, ◌+◌, ◌<◌, ◌≤◌, ◌++◌, List, length, take, Option, None, Some, IsSome, Result, Ok, Err, IsErrOf, arith, length-append, length-take, append_assoc, subst, refl}
 use Rattle.std.specs.FinMap as map
 use Rattle.std.specs.Io.KnownBytes.{Consumes}
 use Rattle.shelf_io.specs.Shelf.{FileMap, LeavesToTake}
@@ -33,3 +33,7 @@ holds_more None name result x left left' most is leaves taken = tt
 holds_more (Some files) name (Ok y) x left left' most is leaves taken =
     of_found (map.get files name) left' most leaves.0 (subst (λ o. TakesMoreThan o left' most) leaves.1 taken)
 holds_more (Some files) name (Err e) x left left' most is leaves taken = cc
+
+-- the error is the same, whatever an Ok would give
+pub same_error : {T U E : Type 0} (e f : E) → IsErrOf {T = T} {E = E} (Err e) f → IsErrOf {T = U} {E = E} (Err e) f
+same_error e f is = cc

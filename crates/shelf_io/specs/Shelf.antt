@@ -1,5 +1,5 @@
 -- What a shelf holds and what its calls do to that.
-use Rattle.std.specs.Prelude.{◌≡◌, ◌≢◌, ℕ, ◌+◌, ◌-◌, ◌^◌, min, List, [], take, if◌then◌else◌, Option, None, Some, IsSome, Result, Ok, Err, OnErr, MatchResult, ◌⊎◌}
+use Rattle.std.specs.Prelude.{◌≡◌, ◌≢◌, ℕ, ◌+◌, ◌-◌, ◌^◌, min, List, [], take, if◌then◌else◌, false, Option, None, Some, IsSome, Result, Ok, Err, OnErr, MatchResult, ◌⊎◌}
 use Rattle.std.specs.Ordering.{nat_cmp}
 use Rattle.std.specs.Cmp.Lexicographic.{slice_cmp}
 use Rattle.std.specs.FinMap as map
@@ -34,6 +34,20 @@ abbrev pub CountsMissing : Option FileMap → List ℕ → ℕ → ℕ → Type 
 CountsMissing None name before now = now ≡ before
 CountsMissing (Some files) name before now =
     now ≡ (if map.contains_key files name then before else counted before)
+
+-- The file that a read was refused of has this name, where the name is held.
+abbrev pub IsBlamed : FileMap → List ℕ → Begun → Type 0
+IsBlamed files name now = (map.contains_key files name ≡ false) ⊎ (now ≡ Named name)
+
+-- A shelf that tells its files tells of which one a `begin` was refused; where it was not, nothing is said anew.
+abbrev pub BlamesBegun : {T E : Type 0} → Option FileMap → List ℕ → Result T E → Begun → Begun → Type 0
+BlamesBegun None name result before now = Unit {0}
+BlamesBegun (Some files) name result before now = MatchResult result (λ _. now ≡ before) (λ _. IsBlamed files name now)
+
+-- The same of a `take`: it was refused of the begun file.
+abbrev pub BlamesTaken : {T E : Type 0} → Option FileMap → Begun → Result T E → Begun → Begun → Type 0
+BlamesTaken None begun result before now = Unit {0}
+BlamesTaken (Some files) begun result before now = MatchResult result (λ _. now ≡ before) (λ _. now ≡ begun)
 
 -- The bytes that a `take` gave are added to those taken before, up to 2^64 - 1.
 abbrev pub CountsTaken : {E : Type 0} → ℕ → ℕ → Result ℕ E → Type 0

@@ -49,7 +49,7 @@ impl<'a, R: Files> DiskShelf<'a, R> {
         }
     }
 
-    /// Writes the bytes, all of them, to the named file, and stops reading that file if it is the begun one.
+    /// Stops reading the begun file if it has this name, and writes the bytes, all of them, to the named file.
     fn write_file(&mut self, name: &str, bytes: &[u8]) -> io::Result<()>
         ensures begun { is_some self.old.begun ≡ false → is_some self.new.begun ≡ false }
         ensures taken { self.new.taken ≡ self.old.taken }
@@ -57,21 +57,25 @@ impl<'a, R: Files> DiskShelf<'a, R> {
         ensures put_faults { self.new.put_faults ≡ self.old.put_faults }
         ensures begins { self.new.begins ≡ self.old.begins }
     {
-        let mut file = fs::create(self.rt, name)?;
-        if self.is_begun(&file)? {
+        if self.may_be_begun(name) {
             self.begun = None;
         }
+        let mut file = fs::create(self.rt, name)?;
         write_all(&mut file, bytes)
     }
 
-    /// Whether this is the file that is read.
-    fn is_begun(&self, file: &R::File) -> io::Result<bool> {
+    /// Whether the file that is read has this name. Where the machine does not tell which file that is, it may have.
+    fn may_be_begun(&self, name: &str) -> bool {
         let Some(begun) = &self.begun else {
-            return Ok(false);
+            return false;
         };
-        let begun = begun.metadata()?;
-        let file = file.metadata()?;
-        Ok(begun.dev() == file.dev() && begun.ino() == file.ino())
+        let Ok(named) = self.rt.metadata(name) else {
+            return false;
+        };
+        match begun.metadata() {
+            Ok(begun) => begun.dev() == named.dev() && begun.ino() == named.ino(),
+            Err(_) => true,
+        }
     }
 }
 
@@ -103,6 +107,8 @@ impl<R: Files> Shelf for DiskShelf<'_, R> {
     ghost missed = { λ _. 0 };
 
     ghost begins = { λ s. s.begins };
+
+    ghost blamed = { λ _. Unnamed };
 
     fn begin(&mut self, name: &str) -> Result<(), Failed> {
         self.begins = self.begins.saturating_add(1);

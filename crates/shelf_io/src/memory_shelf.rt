@@ -5,7 +5,7 @@ ghost use Rattle.std.specs.Option.{ForSome};
 ghost use Rattle.std.specs.Io.{ReadsAtMost};
 ghost use Rattle.std.specs.Io.KnownBytes.{ReadConsumes};
 ghost use Rattle.shelf_io.specs.Counts.{counted, HasCause};
-ghost use Rattle.shelf_io.specs.Shelf.{Nothing, IsBegunBy, LeavesToTake, CountsMissing, CountsTaken, Puts, LeavesBegun, LeavesLeft};
+ghost use Rattle.shelf_io.specs.Shelf.{Nothing, IsBegunBy, LeavesToTake, CountsMissing, BlamesBegun, BlamesTaken, CountsTaken, Puts, LeavesBegun, LeavesLeft};
 ghost use Rattle.shelf_io.specs.Load.{Lacks};
 ghost use Rattle.shelf_io.specs.Stored.{files_of};
 ghost use Rattle.shelf_io.specs.Reading.{held_in, begun_in, begun_in-told, left_in, rest_in};
@@ -43,6 +43,8 @@ pub struct MemShelf {
     missed: u64,
     /// The count of begins.
     begins: u64,
+    /// The file of which a read was refused last.
+    blamed: Option<Reading>,
     ghost in_range: { ForSome reading (λ r. r.index < length drawer.files) },
     ghost bytes_reserved: { room ≤ drawer.spare_bytes },
     ghost places_reserved: { room ≤ drawer.spare_places },
@@ -88,6 +90,7 @@ impl MemShelf {
             put_faults: 0,
             missed: 0,
             begins: 0,
+            blamed: None,
         })
     }
 }
@@ -116,6 +119,8 @@ impl Shelf for MemShelf {
 
     ghost begins = { λ s. s.begins };
 
+    ghost blamed = { λ s. begun_in s.drawer.files s.blamed };
+
     fn begin(&mut self, name: &str) -> Result<(), Failed>
         ensures files_stay { held_in self.new.drawer.files ≡ held_in self.old.drawer.files }
         ensures begun { IsBegunBy result name.now (begun_in self.new.drawer.files self.new.reading) }
@@ -127,6 +132,8 @@ impl Shelf for MemShelf {
         ensures counts_missing { CountsMissing (held_in self.old.drawer.files) name.now
             self.old.missed self.new.missed }
         ensures counts_begin { self.new.begins ≡ counted self.old.begins }
+        ensures blames { BlamesBegun (held_in self.old.drawer.files) name.now result
+            (begun_in self.old.drawer.files self.old.blamed) (begun_in self.new.drawer.files self.new.blamed) }
 
         // It fails just where it is to fail or the name is missing.
         ensures fails { IsErr result ↔ (IsDue self.old.plan ⊎ Lacks (held_in self.old.drawer.files) name.now) }
@@ -141,15 +148,18 @@ impl Shelf for MemShelf {
         self.taken = 0;
         self.reading = None;
         let Some(index) = self.drawer.find(name.as_bytes()) else {
+            self.blamed = None;
             self.missed = self.missed.saturating_add(1);
             self.faults = self.faults.saturating_add(1);
             return Err(Failed);
         };
+        let begun = Some(Reading { index, at: 0 });
         if due {
+            self.blamed = begun;
             self.faults = self.faults.saturating_add(1);
             return Err(Failed);
         }
-        self.reading = Some(Reading { index, at: 0 });
+        self.reading = begun;
         Ok(())
     }
 
@@ -167,6 +177,8 @@ impl Shelf for MemShelf {
         ensures puts_stay { self.new.put_faults ≡ self.old.put_faults }
         ensures missed_stay { self.new.missed ≡ self.old.missed }
         ensures begins_stay { self.new.begins ≡ self.old.begins }
+        ensures blames { BlamesTaken (held_in self.old.drawer.files) (begun_in self.old.drawer.files self.old.reading) result
+            (begun_in self.old.drawer.files self.old.blamed) (begun_in self.new.drawer.files self.new.blamed) }
 
         // It fails just where it is to fail, and gives as many bytes as fit the buffer and a piece.
         ensures fails { IsErr result ↔ IsDue self.old.plan }
@@ -179,6 +191,7 @@ impl Shelf for MemShelf {
         ensures numbered { self.new.plan ≡ plan self.old.plan.fails (counted self.old.plan.calls) }
     {
         if self.plan.next() {
+            self.blamed = self.reading;
             self.faults = self.faults.saturating_add(1);
             return Err(Failed);
         }

@@ -4,7 +4,7 @@ ghost use Rattle.std.specs.Prelude.{◌≡◌, ◌≢◌, ℕ, List, IsSome, IfO
 ghost use Rattle.std.specs.Io.{ReadsAtMost};
 ghost use Rattle.std.specs.Io.KnownBytes.{ReadConsumes};
 ghost use Rattle.shelf_io.specs.Counts.{HasCause, counted};
-ghost use Rattle.shelf_io.specs.Shelf.{FileMap, Begun, Nothing, Unnamed, IsBegunBy, LeavesToTake, CountsMissing, CountsTaken, Puts, LeavesBegun, LeavesLeft};
+ghost use Rattle.shelf_io.specs.Shelf.{FileMap, Begun, Nothing, Unnamed, IsBegunBy, LeavesToTake, CountsMissing, BlamesBegun, BlamesTaken, CountsTaken, Puts, LeavesBegun, LeavesLeft};
 ghost use Rattle.shelf_io.specs.Sink.{Gives};
 
 use crate::parts::Failed;
@@ -36,6 +36,9 @@ pub trait Shelf {
     /// The count of begins, refused ones among them.
     ghost begins: { Self → ℕ };
 
+    /// The file of which a read was refused last, where the shelf tells its files: nothing, if its name was not held.
+    ghost blamed: { Self → Begun };
+
     /// Begins to read the named file. A name that is not there is refused; refused, nothing is begun.
     fn begin(&mut self, name: &str) -> Result<(), Failed>
         ensures files_stay { held self.new ≡ held self.old }
@@ -45,7 +48,8 @@ pub trait Shelf {
         ensures cause { HasCause (faults self.old) (faults self.new) result }
         ensures puts_stay { put_faults self.new ≡ put_faults self.old }
         ensures counts_missing { CountsMissing (held self.old) name.now (missed self.old) (missed self.new) }
-        ensures counts_begin { begins self.new ≡ counted (begins self.old) };
+        ensures counts_begin { begins self.new ≡ counted (begins self.old) }
+        ensures blames { BlamesBegun (held self.old) name.now result (blamed self.old) (blamed self.new) };
 
     /// Moves the next bytes of the begun file to the front of the buffer, and answers how many.
     /// For a buffer that isn't empty, 0 says that the file is at its end or that nothing is begun.
@@ -60,7 +64,8 @@ pub trait Shelf {
         ensures stays_begun { begun self.new ≡ begun self.old }
         ensures puts_stay { put_faults self.new ≡ put_faults self.old }
         ensures missed_stay { missed self.new ≡ missed self.old }
-        ensures begins_stay { begins self.new ≡ begins self.old };
+        ensures begins_stay { begins self.new ≡ begins self.old }
+        ensures blames { BlamesTaken (held self.old) (begun self.old) result (blamed self.old) (blamed self.new) };
 
     /// Makes the named file hold just these bytes. Refused, it holds a front of them or what it held
     /// before. All other files stay, and so does the file that is read, unless it is the named one:

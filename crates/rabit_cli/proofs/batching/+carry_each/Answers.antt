@@ -1,4 +1,4 @@
-use Rattle.std.proofs.Common.{◌≡◌, ◌∙◌, ◌-◌, ℕ, List, ◌∷◌, length, take, drop, Option, refl, sym, ap, subst, arith}
+use Rattle.std.proofs.Common.{◌≡◌, ◌∙◌, ◌≤◌, ◌-◌, ℕ, List, ◌∷◌, length, take, drop, Option, refl, sym, ap, subst, arith}
 use Rattle.std.proofs.lemmas.List.{nil_from_length}
 use Rattle.std.specs.Io.KnownBytes.{append_known}
 use Rattle.shelf_io.specs.Shelf.{FileMap}
@@ -40,7 +40,7 @@ returns-in-Ok g t c =
     let P : List Question → Type 0 = λ xs. IsCarriedEach number xs held held' c.carry_each.result sent (g.K.Sink.sent c.carry_each.new.out) (g.K.Sink.faults c.args.out.now) (g.K.Sink.faults c.carry_each.new.out) (g.H.Shelf.faults c.args.shelf.now) (g.H.Shelf.faults c.carry_each.new.shelf)
     (g.H.Shelf.put_faults c.args.shelf.now) (g.H.Shelf.put_faults c.carry_each.new.shelf) (g.H.Shelf.missed c.args.shelf.now) (g.H.Shelf.missed c.carry_each.new.shelf) (g.H.Shelf.begins c.args.shelf.now) (g.H.Shelf.begins c.carry_each.new.shelf) in
     subst P (sym split)
-    (each_more q number held (g.H.Shelf.held c.answer_one-status.new.shelf) _ _ _ _ _ _ _ _ e ends c.answer_one-status.ensures.missing c.answer_one-status.ensures.begun rest held' c.carry_each.result sent sent1 _ _ _ _ _ _ _ _ sends c.in-Ok.ensures.cause.done c.carry_each.ensures)
+    (each_more q number held (g.H.Shelf.held c.answer_one-status.new.shelf) _ _ _ _ _ _ _ _ e ends c.answer_one-status.ensures.missing c.answer_one-status.ensures.begun_in_turn (λ low. c.answer_one-status.ensures.all_begun (subst (λ s. s ≤ 2) is low)) rest held' c.carry_each.result sent sent1 _ _ _ _ _ _ _ _ sends c.in-Ok.ensures.cause.done c.carry_each.ensures)
 
 pub returns-in-Err : goal.returns-in-Err
 returns-in-Err g t c =
@@ -59,4 +59,4 @@ returns-in-Err g t c =
     let between : Option FileMap = g.H.Shelf.held c.answer_one-status.new.shelf in
     let P : List Question → Type 0 = λ xs. IsCarriedEach number xs held between 7 sent sent' (g.K.Sink.faults c.args.out.now) (g.K.Sink.faults c.give.new.self) (g.H.Shelf.faults c.args.shelf.now) (g.H.Shelf.faults c.answer_one-status.new.shelf)
     (g.H.Shelf.put_faults c.args.shelf.now) (g.H.Shelf.put_faults c.answer_one-status.new.shelf) (g.H.Shelf.missed c.args.shelf.now) (g.H.Shelf.missed c.answer_one-status.new.shelf) (g.H.Shelf.begins c.args.shelf.now) (g.H.Shelf.begins c.answer_one-status.new.shelf) in
-    subst P (sym split) (each_refused q number held between _ _ _ _ _ _ _ _ e ends c.answer_one-status.ensures.missing c.answer_one-status.ensures.begun rest sent sent' _ _ n sends c.in-Err.ensures.cause.refused)
+    subst P (sym split) (each_refused q number held between _ _ _ _ _ _ _ _ e ends c.answer_one-status.ensures.missing c.answer_one-status.ensures.begun_in_turn (λ low. c.answer_one-status.ensures.all_begun (subst (λ s. s ≤ 2) is low)) rest sent sent' _ _ n sends c.in-Err.ensures.cause.refused)

@@ -42,7 +42,7 @@ returns-clause-complete g c single = let words = map (string_bytes {Z = Global})
 pub returns-clause-batch : goal.returns-clause-batch
 returns-clause-batch g c =
     let words = map (string_bytes {Z = Global}) c.args.words.now in
-    batches _ _ _ _ _ _ _ _ _ _ _ (question_of words) c.carry_out.ensures.carried _ _ _ _ c.carry_out.ensures.missing c.carry_out.ensures.begun
+    batches _ _ _ _ _ _ _ _ _ _ _ (question_of words) c.carry_out.ensures.carried _ _ _ _ c.carry_out.ensures.missing c.carry_out.ensures.begun_in_turn
 
 pub returns-in-Some-clause-carried : goal.returns-in-Some-clause-carried
 returns-in-Some-clause-carried g c single =
@@ -121,8 +121,22 @@ returns-in-Some-clause-missing g c single =
     let is : question_of words ≡ Some (Batch c.in-Some.list.now) = batch_found c.question.result question c.in-Some.list.now words held batch c.question.ensures.asked in
     absurd (subst IsSingle is single)
 
-pub returns-in-Some-clause-begun : goal.returns-in-Some-clause-begun
-returns-in-Some-clause-begun g c single =
+pub returns-in-Some-clause-begun_in_turn : goal.returns-in-Some-clause-begun_in_turn
+returns-in-Some-clause-begun_in_turn g c single =
+    let words = map (string_bytes {Z = Global}) c.args.words.now in
+    let (question, held, batch) = c.in-Some.ensures in
+    let is : question_of words ≡ Some (Batch c.in-Some.list.now) = batch_found c.question.result question c.in-Some.list.now words held batch c.question.ensures.asked in
+    absurd (subst IsSingle is single)
+
+pub returns-in-Some-clause-all_begun : goal.returns-in-Some-clause-all_begun
+returns-in-Some-clause-all_begun g c single low =
+    let words = map (string_bytes {Z = Global}) c.args.words.now in
+    let (question, held, batch) = c.in-Some.ensures in
+    let is : question_of words ≡ Some (Batch c.in-Some.list.now) = batch_found c.question.result question c.in-Some.list.now words held batch c.question.ensures.asked in
+    absurd (subst IsSingle is single)
+
+pub returns-in-Some-clause-blames : goal.returns-in-Some-clause-blames
+returns-in-Some-clause-blames g c single six =
     let words = map (string_bytes {Z = Global}) c.args.words.now in
     let (question, held, batch) = c.in-Some.ensures in
     let is : question_of words ≡ Some (Batch c.in-Some.list.now) = batch_found c.question.result question c.in-Some.list.now words held batch c.question.ensures.asked in
@@ -163,7 +177,7 @@ returns-in-Some-clause-batch g c =
 pub returns-clause-complete_batch : goal.returns-clause-complete_batch
 returns-clause-complete_batch g c =
     let words = map (string_bytes {Z = Global}) c.args.words.now in
-    answers_batches _ _ _ _ _ _ _ _ _ _ _ (question_of words) c.carry_out.ensures.carried _ _ _ _ c.carry_out.ensures.missing c.carry_out.ensures.begun
+    answers_batches _ _ _ _ _ _ _ _ _ _ _ (question_of words) c.carry_out.ensures.carried _ _ _ _ c.carry_out.ensures.missing c.carry_out.ensures.begun_in_turn
 
 pub returns-in-Some-clause-complete_batch : goal.returns-in-Some-clause-complete_batch
 returns-in-Some-clause-complete_batch g c =

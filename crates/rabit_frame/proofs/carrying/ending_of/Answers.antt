@@ -1,9 +1,10 @@
-use Rattle.std.proofs.Common.{◌≡◌, ◌≤◌, ◌∙◌, ℕ, List, length, rules, subst, Option, OnErr}
+use Rattle.std.proofs.Common.{inl, inr, arith, sym, ◌≡◌, ◌≤◌, ◌∙◌, ℕ, List, length, rules, subst, Option, OnErr}
 use Rattle.rabit_frame.specs.Files.{Output}
 use Rattle.shelf_io.specs.Shelf.{FileMap}
 use Rattle.shelf_io.specs.Counts.{Rose}
+use Rattle.rabit_frame.specs.Reading.{AllBegun}
 use Rattle.rabit_frame.specs.Ending.{OfBoth, filed, IsCutShort}
-use Rattle.rabit_frame.proofs.EndLemmas.{on_error, ends_unread, ends_refused, ends_reached, ends_cut}
+use Rattle.rabit_frame.proofs.EndLemmas.{may_plain, on_error, ends_unread, ends_refused, ends_reached, ends_cut}
 use Rattle.rabit_frame.proofs.carrying.ending_of.Goals as goal
 
 pub returns-in-Err-ReadFault-clause-ends : goal.returns-in-Err-ReadFault-clause-ends
@@ -40,3 +41,13 @@ returns-clause-ends g c =
     let R : ℕ → Type 0 = λ n. Rose n (g.H.Shelf.put_faults c.put_all.new.shelf) in
     let none = w.faults_stay ∙ e.no_read_fault (λ is. cc) in
     ends_cut _ _ held between held' _ _ _ _ c.in-Ok.reply e.right e.may e.files_stay (subst P c.as_slice.ensures (failed _ w.cut)) (subst Q c.as_slice.ensures (failed _ w.some)) none (subst R e.puts_stay (failed _ w.failed))
+
+-- a reply with a status up to 2 is one to all files
+pub returns-in-Ok-put_all-clause-all_begun : goal.returns-in-Ok-put_all-clause-all_begun
+returns-in-Ok-put_all-clause-all_begun g c low =
+    let w = c.in-Ok-put_all.ensures in
+    let begins = g.H.Shelf.begins c.args.shelf.now in
+    elim c.in-Ok.ensures.all_begun [
+      | inl stop ↦ absurd (let high = (may_plain _ _ stop).0 in omega arith)
+      | inr all ↦ subst (AllBegun (g.W.Work.inputs c.args.work.now) begins) (sym w.begins_stay) all
+    ]

@@ -1,7 +1,13 @@
-use Rattle.std.proofs.Common.{Ok, refl}
-use Rattle.shelf_io.proofs.LoadLemmas.{holds_more}
+use Rattle.std.proofs.Common.{◌<◌, ◌^◌, ℕ, length, ap, arith, rules, length-append}
+use Rattle.shelf_io.specs.declared.parts.LoadFault.TheVariants.{Long}
+use Rattle.shelf_io.proofs.LoadLemmas.{same_error}
 use Rattle.shelf_io.proofs.loading.load.Goals as goal
 
-pub returns-clause-long_file : goal.returns-clause-long_file
-returns-clause-long_file g c is =
-    holds_more _ _ (Ok c.in_ok-begin.field-0) c.in_ok-begin.field-0 _ _ _ refl c.in_ok-begin.ensures.leaves (c.take_all.ensures.long_left is)
+pub returns-in-Err-clause-long : goal.returns-in-Err-clause-long
+returns-in-Err-clause-long g c =
+    let few : length c.pour.new.eater < 2 ^ 63 = search rules in (
+      λ is. let long = same_error {U = ℕ} c.in-Err.fault Long is in
+          let (bytes, less, eaten) = c.in-Err.ensures.long_fed long in
+          c.in-Err.ensures.only_long long (omega (arith, few, less, ap length eaten, length-append c.new-bytes.result bytes)),
+      λ more. same_error c.in-Err.fault Long (c.in-Err.ensures.long more),
+    )
