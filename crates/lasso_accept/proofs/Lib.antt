@@ -6,3 +6,4 @@ pub mod WalkLemmas
 pub mod CountdownLemmas
 pub mod RunLemmas
 pub mod LoopingLemmas
+pub mod TailLemmas

@@ -4,3 +4,4 @@ pub mod Countdown
 pub mod LassoRun
 pub mod Route
 pub mod Looping
+pub mod Tails

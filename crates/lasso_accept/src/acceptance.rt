@@ -1,7 +1,10 @@
 //! Acceptance of a lasso: its prefix leads to a state from which its loop is accepted.
 
-ghost use Rattle.std.specs.Prelude.{◌↔◌, IfOk, IsTrue};
+ghost use Rattle.std.specs.Prelude.{◌<◌, ◌↔◌, ℕ, IfOk, IsTrue};
 ghost use Rattle.auto_core.specs.Accept.{AcceptsLasso};
+ghost use Rattle.auto_core.specs.Rows.{HasBit};
+ghost use Rattle.set_rows.specs.Sets.{IsRow};
+ghost use Rattle.lasso_accept.specs.Looping.{AcceptsLoopFrom};
 
 use crate::looping::accepts_loop_from;
 use auto_core::{Auto, Lasso, Memory};
@@ -14,7 +17,23 @@ use std::alloc::Global;
 pub fn accepts_lasso(alloc: Global, automaton: &Auto, lasso: &Lasso) -> Result<bool, Memory>
     ensures { IfOk result (λ told. IsTrue told ↔ AcceptsLasso automaton.now lasso.now.prefix lasso.now.turn) }
 {
-    let ends = reached(alloc, automaton, lasso.prefix.as_slice())?;
     let looping = accepts_loop_from(alloc, automaton, lasso.turn.as_slice())?;
-    Ok(meets(&ends, &looping))
+    is_accepted(alloc, automaton, lasso, &looping)
+}
+
+/// Tells whether the automaton accepts the lasso. The row has the states from which its loop is accepted.
+pub(crate) fn is_accepted(
+    alloc: Global,
+    automaton: &Auto,
+    lasso: &Lasso,
+    looping: &[u64],
+) -> Result<bool, Memory>
+    requires row { IsRow automaton.now.states looping.now }
+    requires loops { (p : ℕ)
+        → HasBit looping.now p
+        ↔ ((p < automaton.now.states) × AcceptsLoopFrom automaton.now lasso.now.turn p) }
+    ensures { IfOk result (λ told. IsTrue told ↔ AcceptsLasso automaton.now lasso.now.prefix lasso.now.turn) }
+{
+    let ends = reached(alloc, automaton, lasso.prefix.as_slice())?;
+    Ok(meets(&ends, looping))
 }

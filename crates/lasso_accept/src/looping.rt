@@ -4,8 +4,10 @@ ghost use Rattle.std.specs.Prelude.{◌+◌, ◌/◌, ◌<◌, ◌↔◌, ℕ, I
 ghost use Rattle.auto_core.specs.Rows.{HasBit};
 ghost use Rattle.set_rows.specs.Sets.{IsRow};
 ghost use Rattle.lasso_accept.specs.Looping.{AcceptsLoopFrom, AreRests};
+ghost use Rattle.lasso_accept.specs.Tails.{AreTails};
 
-use crate::{guide, planes};
+use crate::guide;
+use crate::tails::{Tail, planes_by};
 use auto_core::{Auto, Lasso, Memory, rows};
 use loop_rows::{Room, mark_loops};
 use std::alloc::Global;
@@ -17,9 +19,25 @@ pub fn accepts_loop_from(alloc: Global, automaton: &Auto, turn: &[u32]) -> Resul
         → HasBit row.items p
         ↔ ((p < automaton.now.states) × AcceptsLoopFrom automaton.now turn.now p)) }
 {
+    loop_row(alloc, automaton, turn, &[])
+}
+
+/// The states from which the loop, repeated for ever, is accepted, by tables that are kept of its ends.
+pub(crate) fn loop_row(
+    alloc: Global,
+    automaton: &Auto,
+    turn: &[u32],
+    kept: &[Tail],
+) -> Result<Vec<u64>, Memory>
+    requires { AreTails automaton.now turn.now kept.now }
+    ensures row { IfOk result (λ row. IsRow automaton.now.states row.items) }
+    ensures members { IfOk result (λ row. (p : ℕ)
+        → HasBit row.items p
+        ↔ ((p < automaton.now.states) × AcceptsLoopFrom automaton.now turn.now p)) }
+{
     let states = automaton.states();
     let width = rows::words_for(states);
-    let table = planes::planes_of(alloc, automaton, turn, width)?;
+    let table = planes_by(alloc, automaton, turn, width, kept)?;
     let mut out = vec![in alloc; 0; width]?;
     let mut room = Room::new(alloc, states)?;
     mark_loops(&table.any, &table.flagged, states, &mut out, &mut room);

@@ -1,6 +1,6 @@
 //! The graph of a word, made from its last letter to its first.
 
-ghost use Rattle.std.specs.Prelude.{◌≡◌, ◌+◌, ◌*◌, ◌/◌, ◌^◌, ◌<◌, ◌≤◌, ◌↔◌, ◌⊎◌, [], ◌∷◌, ℕ, List, length, true, false, IfOk, vec_len};
+ghost use Rattle.std.specs.Prelude.{◌≡◌, ◌+◌, ◌*◌, ◌/◌, ◌^◌, ◌<◌, ◌≤◌, ◌↔◌, ◌⊎◌, [], ◌∷◌, ℕ, List, length, true, false, ◌++◌, IfOk, vec_len};
 ghost use Rattle.auto_core.specs.Automaton.{IsAutomaton, Moves};
 ghost use Rattle.auto_core.specs.Rows.{HasCell, bit_of, cell_of};
 ghost use Rattle.auto_core.specs.Reach.{IsTable};
@@ -139,7 +139,45 @@ fn is_clear(table: &[u64]) -> bool
     true
 }
 
-/// Writes the tables of the word; the other two are room for as much. Once no states are joined, no more letters are asked.
+/// Puts the word in front of the one that the tables are of; the other two are room for as much. Once no states are joined, no more letters
+/// are asked.
+fn write_before(
+    automaton: &Auto,
+    word: &[u32],
+    width: usize,
+    any: &mut [u64],
+    flagged: &mut [u64],
+    next_any: &mut [u64],
+    next_flagged: &mut [u64],
+)
+    requires valid { IsAutomaton automaton.now }
+    requires any_len { length any.old ≡ automaton.now.states * width }
+    requires flagged_len { length flagged.old ≡ automaton.now.states * width }
+    requires next_any_len { length next_any.old ≡ automaton.now.states * width }
+    requires next_flagged_len { length next_flagged.old ≡ automaton.now.states * width }
+    ensures { (w : List ℕ)
+        → ArePlanes automaton.now w width any.old flagged.old
+        → ArePlanes automaton.now (word.now ++ w) width any.new flagged.new }
+{
+    for at in (0..word.len()).rev() {
+        if is_clear(any) {
+            return;
+        }
+        prepend(
+            automaton,
+            word[at],
+            width,
+            any,
+            flagged,
+            next_any,
+            next_flagged,
+        );
+        any.copy_from_slice(next_any);
+        flagged.copy_from_slice(next_flagged);
+    }
+}
+
+/// Writes the tables of the word; the last two are room for as much.
 fn write_word(
     automaton: &Auto,
     word: &[u32],
@@ -158,22 +196,43 @@ fn write_word(
     ensures { ArePlanes automaton.now word.now width any.new flagged.new }
 {
     write_empty(automaton, width, any, flagged);
-    for at in (0..word.len()).rev() {
-        if is_clear(any) {
-            return;
-        }
-        prepend(
-            automaton,
-            word[at],
-            width,
-            any,
-            flagged,
-            next_any,
-            next_flagged,
-        );
-        any.copy_from_slice(next_any);
-        flagged.copy_from_slice(next_flagged);
-    }
+    write_before(automaton, word, width, any, flagged, next_any, next_flagged);
+}
+
+/// Writes the tables of a word with the letters in front, from those of the word; the last two are room for as much.
+fn write_after(
+    automaton: &Auto,
+    letters: &[u32],
+    width: usize,
+    from_any: &[u64],
+    from_flagged: &[u64],
+    any: &mut [u64],
+    flagged: &mut [u64],
+    next_any: &mut [u64],
+    next_flagged: &mut [u64],
+)
+    requires valid { IsAutomaton automaton.now }
+    requires from_any_len { length from_any.now ≡ automaton.now.states * width }
+    requires from_flagged_len { length from_flagged.now ≡ automaton.now.states * width }
+    requires any_len { length any.old ≡ automaton.now.states * width }
+    requires flagged_len { length flagged.old ≡ automaton.now.states * width }
+    requires next_any_len { length next_any.old ≡ automaton.now.states * width }
+    requires next_flagged_len { length next_flagged.old ≡ automaton.now.states * width }
+    ensures { (w : List ℕ)
+        → ArePlanes automaton.now w width from_any.now from_flagged.now
+        → ArePlanes automaton.now (letters.now ++ w) width any.new flagged.new }
+{
+    any.copy_from_slice(from_any);
+    flagged.copy_from_slice(from_flagged);
+    write_before(
+        automaton,
+        letters,
+        width,
+        any,
+        flagged,
+        next_any,
+        next_flagged,
+    );
 }
 
 fn table(alloc: Global, states: u32, width: usize) -> Result<Vec<u64>, Memory>
@@ -203,6 +262,40 @@ pub fn planes_of(
         automaton,
         word,
         width,
+        &mut any,
+        &mut flagged,
+        &mut next_any,
+        &mut next_flagged,
+    );
+    Ok(Planes { any, flagged })
+}
+
+/// The tables of the word with the letters in front, from those of the word.
+pub fn planes_before(
+    alloc: Global,
+    automaton: &Auto,
+    letters: &[u32],
+    width: usize,
+    planes: &Planes,
+) -> Result<Planes, Memory>
+    requires few { width < 2 ^ 32 }
+    requires any { IsTable planes.now.any.items automaton.now.states width }
+    requires flagged { IsTable planes.now.flagged.items automaton.now.states width }
+    ensures { (w : List ℕ)
+        → ArePlanes automaton.now w width planes.now.any.items planes.now.flagged.items
+        → IfOk result (λ p. ArePlanes automaton.now (letters.now ++ w) width p.any.items p.flagged.items) }
+{
+    let states = automaton.states();
+    let mut any = table(alloc, states, width)?;
+    let mut flagged = table(alloc, states, width)?;
+    let mut next_any = table(alloc, states, width)?;
+    let mut next_flagged = table(alloc, states, width)?;
+    write_after(
+        automaton,
+        letters,
+        width,
+        &planes.any,
+        &planes.flagged,
         &mut any,
         &mut flagged,
         &mut next_any,

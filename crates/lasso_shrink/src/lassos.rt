@@ -2,6 +2,7 @@
 
 ghost use Rattle.std.specs.Prelude.{◌≡◌, ◌<◌, ◌↔◌, IfOk, IsTrue, MatchOption};
 ghost use Rattle.auto_core.specs.Accept.{SeparatesLasso};
+ghost use Rattle.lasso_accept.specs.Tails.{HasTails};
 ghost use Rattle.lasso_shrink.specs.Shrinking.{letters_of, lasso_without, LassoSeparates, LassoLeavesOne, LassoNeedsEach, IsShrunkLasso};
 ghost use Rattle.lasso_shrink.specs.Prefixes.{PrefixNeedsEach, HasLeftOut};
 
@@ -9,17 +10,28 @@ use crate::copying::{copied, without};
 use crate::places::first_place;
 use crate::rests::Rests;
 use auto_core::{Auto, Lasso, Memory};
-use lasso_accept::{accepts_lasso, accepts_loop_from};
+use lasso_accept::{Tails, accepts_loop_from};
 use std::alloc::Global;
 
 /// Tells whether the first automaton accepts the lasso and the second does not.
-fn separates(alloc: Global, first: &Auto, second: &Auto, lasso: &Lasso) -> Result<bool, Memory>
-    ensures { IfOk result (λ told. IsTrue told ↔ LassoSeparates first.now second.now lasso.now) }
+fn separates(
+    alloc: Global,
+    first: &Auto,
+    second: &Auto,
+    lasso: &Lasso,
+    tails: &mut Tails,
+    other_tails: &mut Tails,
+) -> Result<bool, Memory>
+    requires tails { HasTails first.now tails.old }
+    requires other_tails { HasTails second.now other_tails.old }
+    ensures told { IfOk result (λ told. IsTrue told ↔ LassoSeparates first.now second.now lasso.now) }
+    ensures tails { IfOk result (λ _. HasTails first.now tails.new) }
+    ensures other_tails { IfOk result (λ _. HasTails second.now other_tails.new) }
 {
-    if !accepts_lasso(alloc, first, lasso)? {
+    if !tails.accepts_lasso(alloc, first, lasso)? {
         return Ok(false);
     }
-    let other = accepts_lasso(alloc, second, lasso)?;
+    let other = other_tails.accepts_lasso(alloc, second, lasso)?;
     Ok(!other)
 }
 
@@ -70,14 +82,20 @@ fn shorter(
     first: &Auto,
     second: &Auto,
     lasso: &Lasso,
+    tails: &mut Tails,
+    other_tails: &mut Tails,
 ) -> Result<Option<Lasso>, Memory>
-    requires { PrefixNeedsEach first.now second.now lasso.now }
-    ensures { IfOk result (λ left. MatchOption left (LassoNeedsEach first.now second.now lasso.now) (LassoLeavesOne first.now second.now lasso.now)) }
+    requires needed { PrefixNeedsEach first.now second.now lasso.now }
+    requires tails { HasTails first.now tails.old }
+    requires other_tails { HasTails second.now other_tails.old }
+    ensures tails { IfOk result (λ _. HasTails first.now tails.new) }
+    ensures other_tails { IfOk result (λ _. HasTails second.now other_tails.new) }
+    ensures left { IfOk result (λ left. MatchOption left (LassoNeedsEach first.now second.now lasso.now) (LassoLeavesOne first.now second.now lasso.now)) }
 {
     let prefix = lasso.prefix.as_slice().len();
     for place in prefix..prefix + lasso.turn.as_slice().len() {
         let left = left_without(alloc, lasso, place)?;
-        if separates(alloc, first, second, &left)? {
+        if separates(alloc, first, second, &left, tails, other_tails)? {
             return Ok(Some(left));
         }
     }
@@ -95,10 +113,12 @@ pub fn shrink(alloc: Global, first: &Auto, second: &Auto, lasso: &Lasso) -> Resu
     let prefix = copied(alloc, lasso.prefix.as_slice())?;
     let turn = copied(alloc, lasso.turn.as_slice())?;
     let mut current = shrink_prefix(alloc, first, second, Lasso { prefix, turn })?;
-    let mut next = shorter(alloc, first, second, &current)?;
+    let mut tails = Tails::new(alloc);
+    let mut other_tails = Tails::new(alloc);
+    let mut next = shorter(alloc, first, second, &current, &mut tails, &mut other_tails)?;
     while let Some(left) = next {
         current = shrink_prefix(alloc, first, second, left)?;
-        next = shorter(alloc, first, second, &current)?;
+        next = shorter(alloc, first, second, &current, &mut tails, &mut other_tails)?;
     }
     Ok(current)
 }

@@ -35,7 +35,9 @@ loop-next-preserved c =
     record {
       left_out = (more.letters + suc n, out_join (LassoSeparates A B) letters_of lasso_without (suc n) more.letters c.args.lasso.now c.in-Some.left c.in_ok-current-2.current (now, before, one) more.left_out);
       separates = more.separates;
-      told = c.in_ok-next-2.ensures;
+      tails = c.in_ok-next-2.ensures.tails;
+      other_tails = c.in_ok-next-2.ensures.other_tails;
+      told = c.in_ok-next-2.ensures.left;
     }
 
 pub shrink_prefix-requires : goal.shrink_prefix-requires
@@ -51,4 +53,10 @@ loop-next-init c =
     let F : List ℕ → List ℕ → Lasso = λ u v. record { prefix = u; turn = v } in
     let same : F c.in_ok-prefix.prefix c.in_ok-turn.turn ≡ c.args.lasso.now = ap₂ F (c.in_ok-prefix.ensures ∙ c.as_slice.ensures) (c.in_ok-turn.ensures ∙ c.as_slice-2.ensures) in
     let start : HasLeftOut A B c.args.lasso.now c.in_ok-current.current = subst (λ x. HasLeftOut A B x c.in_ok-current.current) same c.in_ok-current.ensures in
-    record { left_out = (start.letters, start.left_out); separates = start.separates; told = c.in_ok-next.ensures }
+    record { left_out = (start.letters, start.left_out); separates = start.separates; tails = c.in_ok-next.ensures.tails; other_tails = c.in_ok-next.ensures.other_tails; told = c.in_ok-next.ensures.left }
+
+pub shorter-requires-clause-tails : goal.shorter-requires-clause-tails
+shorter-requires-clause-tails c = c.new-tails.ensures c.args.first.now
+
+pub shorter-requires-clause-other_tails : goal.shorter-requires-clause-other_tails
+shorter-requires-clause-other_tails c = c.new-other_tails.ensures c.args.second.now

@@ -7,7 +7,7 @@ use Rattle.loop_rows.specs.Loops.{LeadsToLoop}
 use Rattle.lasso_accept.specs.Plane.{ArePlanes}
 use Rattle.lasso_accept.specs.Looping.{AcceptsLoopFrom}
 use Rattle.lasso_accept.proofs.LoopingLemmas.{written_whole, leads_as_accepts}
-use Rattle.lasso_accept.proofs.looping.accepts_loop_from.Goals as goal
+use Rattle.lasso_accept.proofs.looping.loop_row.Goals as goal
 
 pub returns-clause-row : goal.returns-clause-row
 returns-clause-row c =
