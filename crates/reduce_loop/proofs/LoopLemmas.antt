@@ -1,13 +1,16 @@
 -- What is known on the way through the passes.
-use Rattle.std.proofs.Common.{◌≡◌, ℕ, suc, ◌+◌, ◌<◌, inl, inr, List, [], ◌∷◌, ◌++◌, length, take, get_or, refl, sym, ap, ◌∙◌, subst, arith, length-append}
+use Rattle.std.proofs.Common.{◌≡◌, ℕ, suc, ◌+◌, ◌<◌, inl, inr, List, [], ◌∷◌, ◌++◌, length, Contains, take, get_or, refl, sym, ap, ◌∙◌, subst, arith, length-append}
 use Rattle.std.proofs.lemmas.List.{append_assoc, append-nil, take_more}
+use Rattle.std.proofs.lemmas.List.Elements.{Contains-append_cases}
 use Rattle.auto_core.specs.Automaton.{Automaton, IsAutomaton}
 use Rattle.auto_core.specs.declared.parts.Mode.{Mode}
+use Rattle.auto_core.proofs.PathLemmas.{Contains-cons_cases, none_in_nil}
 use Rattle.reduce_loop.specs.declared.steps.Foresight.{Foresight}
 use Rattle.reduce_loop.specs.declared.steps.Kind.{Kind}
 use Rattle.reduce_loop.specs.declared.steps.Step.{Step}
 use Rattle.reduce_loop.specs.Kinds.{kinds_of, After}
 use Rattle.reduce_loop.specs.Logs.{IsLogged, LogThrough, LogsOn, IsLog}
+use Rattle.reduce_loop.specs.Passes.{AreIdle}
 use Rattle.reduce_loop.specs.Size.{size_of}
 use Rattle.reduce_loop.proofs.PassLemmas.{log_on, log_tells}
 
@@ -26,6 +29,16 @@ logs_more A B C mode sight i kinds kind d start log new now (front, through, is)
   subst (λ l. LogThrough A mode sight l C (front ++ now)) (ap (λ x. take i kinds ++ x ∷ []) at ∙ sym (take_more kinds i d lt)) (log_on mode sight (take i kinds) kind A B C front now through step logged),
   more ∙ ap (λ l. l ++ now) is ∙ append_assoc start front now,
 )
+
+-- a step of one kind more leaves A as it is
+pub idle_more : (A : Automaton) (mode : Mode) (sight : Foresight) (kinds new : List Kind) (kind : Kind) → AreIdle A mode sight kinds → After A mode sight kind A → new ≡ kinds ++ kind ∷ [] → AreIdle A mode sight new
+idle_more A mode sight kinds new kind idle after is other h = elim (Contains-append_cases kinds (kind ∷ []) other (subst (λ l. Contains l other) is h)) [
+  | inl before ↦ idle other before
+  | inr behind ↦ elim (Contains-cons_cases kind other [] behind) [
+    | inl e ↦ subst (λ k. After A mode sight k A) e after
+    | inr later ↦ absurd (none_in_nil other later)
+  ]
+]
 
 -- What leads on from B, behind this log, leads on from A.
 abbrev pub Leads : Automaton → Mode → Foresight → Automaton → List Step → Type 0

@@ -1,10 +1,14 @@
 -- Passes: all steps in order, again and again until a pass changes nothing.
-use Rattle.std.specs.Prelude.{◌≡◌, ℕ, zero, suc, List, [], ◌∷◌}
+use Rattle.std.specs.Prelude.{◌≡◌, ℕ, zero, suc, List, [], ◌∷◌, Contains}
 use Rattle.auto_core.specs.Automaton.{Automaton}
 use Rattle.auto_core.specs.declared.parts.Mode.{Mode}
 use Rattle.reduce_loop.specs.declared.steps.Foresight.{Foresight}
 use Rattle.reduce_loop.specs.declared.steps.Kind.{Kind}
 use Rattle.reduce_loop.specs.Kinds.{kinds_of, After}
+
+-- A step of each of these kinds leaves A as it is.
+abbrev pub AreIdle : Automaton → Mode → Foresight → List Kind → Type 0
+AreIdle A mode sight kinds = (kind : Kind) → Contains kinds kind → After A mode sight kind A
 
 -- Steps of these kinds, one after the other, lead from A to C.
 abbrev pub Through : Automaton → Mode → Foresight → List Kind → Automaton → Type 0

@@ -1,11 +1,11 @@
 //! Steps, passes, and passes until nothing changes.
 
-ghost use Rattle.std.specs.Prelude.{◌≡◌, ◌<◌, ◌≤◌, ℕ, List, [], ◌∷◌, ◌++◌, length, Contains, IfOk};
+ghost use Rattle.std.specs.Prelude.{◌≡◌, ◌<◌, ◌≤◌, ℕ, List, [], ◌∷◌, ◌++◌, true, length, Contains, IfOk};
 ghost use Rattle.auto_core.specs.Automaton.{IsAutomaton};
 ghost use Rattle.auto_core.specs.Accept.{Same};
 ghost use Rattle.reduce_loop.specs.Kinds.{After, kinds_of};
 ghost use Rattle.reduce_loop.specs.Known.{IsKnown};
-ghost use Rattle.reduce_loop.specs.Passes.{IsReduced};
+ghost use Rattle.reduce_loop.specs.Passes.{AreIdle, IsReduced};
 ghost use Rattle.reduce_loop.specs.Settled.{IsSettled};
 ghost use Rattle.reduce_loop.specs.Logs.{IsLogged, LogsOn, IsLog};
 ghost use Rattle.reduce_loop.specs.declared.steps.Step.{Step};
@@ -49,19 +49,34 @@ fn kinds(mode: Mode) -> &'static [Kind]
 }
 
 /// An automaton of which nothing is known yet, with the log that leads to it.
-fn going(auto: Auto, log: List<Step>) -> Going
+fn going(alloc: Global, auto: Auto, log: List<Step>) -> Going
     ensures automaton { result.auto ≡ auto }
     ensures log { result.log ≡ log }
     ensures known { (k : ℕ) → IsKnown result.auto k result.known }
+    ensures idle { result.idle ≡ [] }
 {
     Going {
         auto,
         log,
         known: nothing_known(),
+        idle: List::new(alloc),
     }
 }
 
-/// Takes a step, and logs it if it changed something. What is known of the automaton is kept as long as nothing changes.
+/// Tells whether the list has the kind.
+fn has_kind(kinds: &[Kind], kind: Kind) -> bool
+    ensures { result ≡ true → Contains kinds.now kind }
+{
+    for other in kinds {
+        if *other == kind {
+            return true;
+        }
+    }
+    false
+}
+
+/// Takes a step, and logs it if it changed something. What is known of the automaton is kept as long as nothing changes, and a step that
+/// is known to change nothing is not taken again.
 fn take(
     alloc: Global,
     state: Going,
@@ -76,22 +91,30 @@ fn take(
     requires letters_from { 1 ≤ sight.letters }
     requires letters_upto { sight.letters ≤ 4 }
     requires known { IsKnown state.auto sight.look state.known }
+    requires idle { AreIdle state.auto mode sight state.idle }
     ensures after { IfOk result (λ new. After state.auto mode sight kind new.auto) }
     ensures logged { IfOk result (λ new. (now : List Step) × IsLogged state.auto mode sight kind new.auto now × (new.log ≡ state.log ++ now)) }
     ensures known { IfOk result (λ new. IsKnown new.auto sight.look new.known) }
+    ensures idle { IfOk result (λ new. AreIdle new.auto mode sight new.idle) }
 {
+    if has_kind(state.idle.as_slice(), kind) {
+        return Ok(state);
+    }
     let mut known = state.known;
     let made = make(alloc, &state.auto, &mut known, kind, mode, sight)?;
     if is_same(&made.automaton, &state.auto) {
+        let mut idle = state.idle;
+        idle.push(kind)?;
         return Ok(Going {
             auto: state.auto,
             log: state.log,
             known,
+            idle,
         });
     }
     let mut log = state.log;
     log.push(made.entry)?;
-    Ok(going(made.automaton, log))
+    Ok(going(alloc, made.automaton, log))
 }
 
 /// Takes the steps of one pass.
@@ -103,8 +126,10 @@ fn pass(alloc: Global, state: Going, mode: Mode, sight: Foresight) -> Result<Goi
     requires letters_upto { sight.letters ≤ 4 }
     requires valid { IsAutomaton state.auto }
     requires known { IsKnown state.auto sight.look state.known }
+    requires idle { AreIdle state.auto mode sight state.idle }
     ensures logs { IfOk result (λ new. LogsOn state.auto mode sight (kinds_of mode) state.log new.auto new.log) }
     ensures known { IfOk result (λ new. IsKnown new.auto sight.look new.known) }
+    ensures idle { IfOk result (λ new. AreIdle new.auto mode sight new.idle) }
 {
     let mut state = state;
     for kind in kinds(mode) {
@@ -141,7 +166,7 @@ fn reduce_by(
     ensures same { IfOk result (λ r. Same automaton.now r.auto mode) }
     ensures settled { IfOk result (λ r. IsSettled r.auto mode sight) }
 {
-    let mut state = going(copied(alloc, automaton)?, List::new(alloc));
+    let mut state = going(alloc, copied(alloc, automaton)?, List::new(alloc));
     loop {
         let before = state.log.as_slice().len();
         state = pass(alloc, state, mode, sight)?;

@@ -105,6 +105,8 @@ pub(crate) struct Going {
     pub(crate) log: List<Step>,
     /// Its greatest relations that were found.
     pub(crate) known: Known,
+    /// The kinds of the steps that were tried on it and leave it as it is.
+    pub(crate) idle: List<Kind>,
 }
 
 /// What a step makes, whether or not that is a change.

@@ -30,6 +30,7 @@ loop-kind-preserved c =
     logs_more A B new.auto c.args.mode c.args.sight i kinds _ _ c.args.state.log c.loop-kind.state.log new.log logged.0 on lt refl c.in_ok-state.ensures.after logged.1 logged.2 in (
       subst (λ l. LogsOn A c.args.mode c.args.sight (take (i + 1) l) c.args.state.log new.auto new.log) c.kinds-kind-items.ensures more,
       c.in_ok-state.ensures.known,
+      c.in_ok-state.ensures.idle,
     )
 
 pub take-requires-clause-known : goal.take-requires-clause-known
@@ -37,3 +38,9 @@ take-requires-clause-known c = c.loop-kind.invariant.1
 
 pub returns-clause-known : goal.returns-clause-known
 returns-clause-known c = c.loop-kind.invariant.1
+
+pub take-requires-clause-idle : goal.take-requires-clause-idle
+take-requires-clause-idle c = c.loop-kind.invariant.2
+
+pub returns-clause-idle : goal.returns-clause-idle
+returns-clause-idle c = c.loop-kind.invariant.2

@@ -58,4 +58,5 @@ loop-state-preserved c =
       omega arith,
       (further c).leads,
       c.in_ok-state.ensures.known,
+      c.in_ok-state.ensures.idle,
     )
