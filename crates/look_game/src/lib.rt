@@ -4,6 +4,7 @@
 mod asked;
 mod first;
 mod game;
+mod losing;
 mod near;
 mod rounds;
 

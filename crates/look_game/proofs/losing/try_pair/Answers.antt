@@ -1,6 +1,6 @@
 use Rattle.std.proofs.lemmas.Bool.{iff_false}
 use Rattle.look_game.proofs.TakingLemmas.{takes_none, takes_one}
-use Rattle.look_game.proofs.asked.try_pair.Goals as goal
+use Rattle.look_game.proofs.losing.try_pair.Goals as goal
 
 pub returns-then-not-holds-clause-takes : goal.returns-then-not-holds-clause-takes
 returns-then-not-holds-clause-takes g c =
