@@ -42,7 +42,7 @@ use Rattle.rabit_cli.specs.Printed.{refused_text}
 use Rattle.rabit_cli.specs.Replies.{IsVerdictReply, SaysApart}
 use Rattle.rabit_cli.specs.Include.{certificate_put}
 use Rattle.rabit_cli.specs.Check.{check_inputs}
-use Rattle.rabit_cli.specs.Shrink.{IsNo, IsShrunkBody, with_body, IsShrinkReply, MeansShrink, IsShrunkFor, HoldsShrunk, HoldsShrunkFront, LeavesShrunk, ShowsShrink, IsShrinkStatus}
+use Rattle.rabit_cli.specs.Shrink.{IsNo, IsShrunkBody, shrunk_no, IsShrinkReply, MeansShrink, IsShrunkFor, HoldsShrunk, HoldsShrunkFront, LeavesShrunk, ShowsShrink, IsShrinkStatus}
 use Rattle.rabit_cli.proofs.VerdictLemmas.{HaveTexts, one_verdict, puts_of_verdict}
 
 -- ---- what is left
@@ -80,7 +80,7 @@ module _ (pair : Joined) where
   made v m first second labels body = record { version = v; mode = m; first_states = first; second_states = second; labels = labels; body = body }
 
   -- with what is left the certificate is valid
-  valid_by : (v : ℕ) (m : Mode) (first second labels : ℕ) (body left : Body) → WellFormed (made v m first second labels body) → KeepsRules pair (made v m first second labels body) → IsShrunkBody pair body left → IsValid pair (made v m first second labels left)
+  valid_by : (v : ℕ) (m : Mode) (first second labels : ℕ) (body left : Body) → WellFormed (made v m first second labels body) → KeepsRules pair (made v m first second labels body) → IsShrunkBody pair body left → IsValid pair (made 1 m first second labels left)
   valid_by v m first second labels (Yes evidence) left formed keeps shrunk = absurd shrunk
   valid_by v m first second labels (Listing list) left formed keeps shrunk = absurd shrunk
   valid_by v m first second labels (NoLasso lasso) left formed keeps (l, is, e) =
@@ -98,15 +98,15 @@ module _ (pair : Joined) where
       let some = loop_has_letters pair.first l.prefix l.turn apart.0 in
       let good = and_from (are_short l.prefix) (are_short l.turn && has_some l.turn) (short_letters (length pair.labels) l.prefix (omega arith) prefix_left)
       (and_from (are_short l.turn) (has_some l.turn) (short_letters (length pair.labels) l.turn (omega arith) turn_left) some) in
-      subst (λ b. IsValid pair (made v m first second labels b)) (sym e) (record {
+      subst (λ b. IsValid pair (made 1 m first second labels b)) (sym e) (record {
         formed =
-            and_from (is_version v) (is_short first && (is_short second && (is_short labels && is_body v m (NoLasso l)))) zero.0
-            (and_from (is_short first) (is_short second && (is_short labels && is_body v m (NoLasso l))) one.0
-            (and_from (is_short second) (is_short labels && is_body v m (NoLasso l)) two.0 (and_from (is_short labels) (is_body v m (NoLasso l)) three.0 (of_mode l m three.1 good))));
+            and_from (is_version 1) (is_short first && (is_short second && (is_short labels && is_body 1 m (NoLasso l)))) refl
+            (and_from (is_short first) (is_short second && (is_short labels && is_body 1 m (NoLasso l))) one.0
+            (and_from (is_short second) (is_short labels && is_body 1 m (NoLasso l)) two.0 (and_from (is_short labels) (is_body 1 m (NoLasso l)) three.0 (of_mode l m three.1 good))));
         keeps = (keeps.0, (prefix_left, (turn_left, (apart.0, (apart.1, tt)))));
       })
     where
-      of_mode : (l : Lasso) (m : Mode) → is_body v m (NoLasso lasso) ≡ true → are_short l.prefix && (are_short l.turn && has_some l.turn) ≡ true → is_body v m (NoLasso l) ≡ true
+      of_mode : (l : Lasso) (m : Mode) → is_body v m (NoLasso lasso) ≡ true → are_short l.prefix && (are_short l.turn && has_some l.turn) ≡ true → is_body 1 m (NoLasso l) ≡ true
       of_mode l Buchi is good = good
       of_mode l Finite is good = absurd (false≢true is)
   valid_by v m first second labels (NoWord word) left formed keeps (w, is, e) =
@@ -119,20 +119,20 @@ module _ (pair : Joined) where
       let few = ltb-true labels 1000000000 three.0 in
       let apart = word_apart word w is (accepts, rejects) in
       let letters_left = all_left (length pair.labels) word w (λ a. shrunk_word_has_its_letters pair.first pair.second word w a is) letters in
-      subst (λ b. IsValid pair (made v m first second labels b)) (sym e) (record {
+      subst (λ b. IsValid pair (made 1 m first second labels b)) (sym e) (record {
         formed =
-            and_from (is_version v) (is_short first && (is_short second && (is_short labels && is_body v m (NoWord w)))) zero.0
-            (and_from (is_short first) (is_short second && (is_short labels && is_body v m (NoWord w))) one.0
-            (and_from (is_short second) (is_short labels && is_body v m (NoWord w)) two.0
-            (and_from (is_short labels) (is_body v m (NoWord w)) three.0 (of_mode w m three.1 (short_letters (length pair.labels) w (omega arith) letters_left)))));
+            and_from (is_version 1) (is_short first && (is_short second && (is_short labels && is_body 1 m (NoWord w)))) refl
+            (and_from (is_short first) (is_short second && (is_short labels && is_body 1 m (NoWord w))) one.0
+            (and_from (is_short second) (is_short labels && is_body 1 m (NoWord w)) two.0
+            (and_from (is_short labels) (is_body 1 m (NoWord w)) three.0 (of_mode w m three.1 (short_letters (length pair.labels) w (omega arith) letters_left)))));
         keeps = (keeps.0, (letters_left, (apart.0, (apart.1, tt))));
       })
     where
-      of_mode : (w : List ℕ) (m : Mode) → is_body v m (NoWord word) ≡ true → are_short w ≡ true → is_body v m (NoWord w) ≡ true
+      of_mode : (w : List ℕ) (m : Mode) → is_body v m (NoWord word) ≡ true → are_short w ≡ true → is_body 1 m (NoWord w) ≡ true
       of_mode w Buchi is good = absurd (false≢true is)
       of_mode w Finite is good = good
 
-  pub left_is_valid : (cert : Cert) (left : Body) → WellFormed cert → KeepsRules pair cert → IsShrunkBody pair cert.body left → IsValid pair (with_body cert left)
+  pub left_is_valid : (cert : Cert) (left : Body) → WellFormed cert → KeepsRules pair cert → IsShrunkBody pair cert.body left → IsValid pair (shrunk_no cert left)
   left_is_valid cert left formed keeps shrunk = valid_by cert.version cert.mode cert.first_states cert.second_states cert.labels cert.body left formed keeps shrunk
 
   -- its letters are labels of the pair
@@ -182,18 +182,18 @@ module _ (pair : Joined) where
   left_number m (NoLasso lasso) left puts r (l, is, e) says = ap (λ z. status_number z.status) (subst (λ b. IsVerdictReply m pair b puts r) e says)
   left_number m (NoWord word) left puts r (w, is, e) says = ap (λ z. status_number z.status) (subst (λ b. IsVerdictReply m pair b puts r) e says)
 
-  left_apart : (cert : Cert) (body left : Body) (puts : List Output) (r : Reply) (sent sent' : Option (List ℕ)) → IsShrunkBody pair body left → IsValid pair (with_body cert left) → IsVerdictReply cert.mode pair left puts r →
+  left_apart : (cert : Cert) (body left : Body) (puts : List Output) (r : Reply) (sent sent' : Option (List ℕ)) → IsShrunkBody pair body left → IsValid pair (shrunk_no cert left) → IsVerdictReply cert.mode pair left puts r →
       sent' ≡ append_known sent r.text → SaysApart pair left sent sent'
   left_apart cert (Yes evidence) left puts r sent sent' p valid says sends = absurd p
   left_apart cert (Listing list) left puts r sent sent' p valid says sends = absurd p
   left_apart cert (NoLasso lasso) left puts r sent sent' (l, is, e) valid says sends =
       let says' = subst (λ b. IsVerdictReply cert.mode pair b puts r) e says in
-      let valid' = subst (λ b. IsValid pair (with_body cert b)) e valid in
+      let valid' = subst (λ b. IsValid pair (shrunk_no cert b)) e valid in
       let all = valid'.keeps.1 in
       subst (λ b. SaysApart pair b sent sent') (sym e) ((all.1.1.0, all.1.1.1.0), sends ∙ ap (λ z. append_known sent z.text) says')
   left_apart cert (NoWord word) left puts r sent sent' (w, is, e) valid says sends =
       let says' = subst (λ b. IsVerdictReply cert.mode pair b puts r) e says in
-      let valid' = subst (λ b. IsValid pair (with_body cert b)) e valid in
+      let valid' = subst (λ b. IsValid pair (shrunk_no cert b)) e valid in
       let all = valid'.keeps.1 in
       subst (λ b. SaysApart pair b sent sent') (sym e) ((all.1.0, all.1.1.0), sends ∙ ap (λ z. append_known sent z.text) says')
 
@@ -211,19 +211,19 @@ module _ (pair : Joined) where
   one_shrunk name cert r s (inr (inr (keeps, (left, shrunk, says)))) (inr (inl (keeps', not, is'))) = absurd (not (left_of_no cert.body left shrunk))
   one_shrunk name cert r s (inr (inr (keeps, (left, shrunk, says)))) (inr (inr (keeps', (left', shrunk', says')))) =
       let same : left ≡ left' = one_left cert.body left left' shrunk shrunk' in
-      let P : Body → Type 0 = λ b. IsVerdictReply cert.mode pair b (certificate_put name (with_body cert b) ∷ []) r in
-      one_verdict cert.mode pair left' (certificate_put name (with_body cert left') ∷ []) r s (subst P same says) says'
+      let P : Body → Type 0 = λ b. IsVerdictReply cert.mode pair b (certificate_put name (shrunk_no cert b) ∷ []) r in
+      one_verdict cert.mode pair left' (certificate_put name (shrunk_no cert left') ∷ []) r s (subst P same says) says'
 
   -- only what is left writes
   shrunk_writes : (name : List ℕ) (cert : Cert) (r : Reply) → IsShrinkReply name pair cert r → 3 ≤ status_number r.status → r.puts ≡ []
   shrunk_writes name cert r (inl (refusal, breaks, is)) high = ap (λ z. z.puts) is
   shrunk_writes name cert r (inr (inl (keeps, not, is))) high = ap (λ z. z.puts) is
-  shrunk_writes name cert r (inr (inr (keeps, (left, shrunk, says)))) high = absurd (let one = left_number cert.mode cert.body left (certificate_put name (with_body cert left) ∷ []) r shrunk says in omega arith)
+  shrunk_writes name cert r (inr (inr (keeps, (left, shrunk, says)))) high = absurd (let one = left_number cert.mode cert.body left (certificate_put name (shrunk_no cert left) ∷ []) r shrunk says in omega arith)
 
   shrunk_number : (name : List ℕ) (cert : Cert) (r : Reply) → IsShrinkReply name pair cert r → (status_number r.status ≡ 1) ⊎ (status_number r.status ≡ 13) ⊎ (status_number r.status ≡ 5)
   shrunk_number name cert r (inl (refusal, breaks, is)) = inr (inr (ap (λ z. status_number z.status) is))
   shrunk_number name cert r (inr (inl (keeps, not, is))) = inr (inl (ap (λ z. status_number z.status) is))
-  shrunk_number name cert r (inr (inr (keeps, (left, shrunk, says)))) = inl (left_number cert.mode cert.body left (certificate_put name (with_body cert left) ∷ []) r shrunk says)
+  shrunk_number name cert r (inr (inr (keeps, (left, shrunk, says)))) = inl (left_number cert.mode cert.body left (certificate_put name (shrunk_no cert left) ∷ []) r shrunk says)
 
 pub one_shrink : (name : List ℕ) (values : List Value) (r s : Reply) → MeansShrink name values r → MeansShrink name values s → r ≡ s
 one_shrink name values r s (one, two, cert, is, (pair, joined, here)) (one', two', cert', is', (pair', joined', there)) =
@@ -252,7 +252,7 @@ shrink_asked name values r (one, two, cert, is, (pair, joined, here)) three = el
 module _ (files : FileMap) (a b c out : List ℕ) where
   -- a reply that writes is that of what is left
   abbrev IsOfLeft : Reply → Type 0
-  IsOfLeft r = (pair : Joined) × (cert : Cert) × (left : Body) × IsShrunkFor files a b c pair cert left × IsVerdictReply cert.mode pair left (certificate_put out (with_body cert left) ∷ []) r
+  IsOfLeft r = (pair : Joined) × (cert : Cert) × (left : Body) × IsShrunkFor files a b c pair cert left × IsVerdictReply cert.mode pair left (certificate_put out (shrunk_no cert left) ∷ []) r
 
   shrink_cases : (values : List Value) (r : Reply) → ReadInTurn files (check_inputs a b c) values → MeansShrink out values r → IsOfLeft r ⊎ ((3 ≤ status_number r.status) × (r.puts ≡ []))
   shrink_cases values r reads (one, two, cert, is, (pair, joined, inl (refusal, breaks, e))) =
@@ -283,7 +283,7 @@ module _ (files : FileMap) (a b c out : List ℕ) where
     shows_shrink values reads means = elim (shrink_cases values r reads means) [
       | inl of ↦
           let (pair, cert, body, is, says) = of in
-          let put : Output = certificate_put out (with_body cert body) in
+          let put : Output = certificate_put out (shrunk_no cert body) in
           let one : status ≡ 1 = sym number ∙ left_number pair cert.mode cert.body body (put ∷ []) r is.shrunk says in
           record {
             shrunk = λ e. record {
@@ -303,7 +303,7 @@ module _ (files : FileMap) (a b c out : List ℕ) where
   holds_shrunk files' values r reads means low left = elim (shrink_cases values r reads means) [
     | inl of ↦
         let (pair, cert, body, is, says) = of in
-        (pair, cert, body, is, left ∙ ap (filed files) (puts_of_verdict cert.mode pair body (certificate_put out (with_body cert body) ∷ []) r says))
+        (pair, cert, body, is, left ∙ ap (filed files) (puts_of_verdict cert.mode pair body (certificate_put out (shrunk_no cert body) ∷ []) r says))
     | inr other ↦ (let high = other.0 in absurd (omega arith))
   ]
 
@@ -311,7 +311,7 @@ module _ (files : FileMap) (a b c out : List ℕ) where
   holds_shrunk_front files' values r reads means cut = elim (shrink_cases values r reads means) [
     | inl of ↦
         let (pair, cert, body, is, says) = of in
-        let cut' = subst (λ ps. IsCutShort files ps files') (puts_of_verdict cert.mode pair body (certificate_put out (with_body cert body) ∷ []) r says) cut in
+        let cut' = subst (λ ps. IsCutShort files ps files') (puts_of_verdict cert.mode pair body (certificate_put out (shrunk_no cert body) ∷ []) r says) cut in
         (pair, cert, body, is, cut')
     | inr other ↦ absurd (subst (λ ps. IsCutShort files ps files') other.1 cut)
   ]
@@ -340,7 +340,7 @@ module _ (files : FileMap) (a b c out : List ℕ) where
       let (first, (second, (third, end))) = subst (ReadInTurn files (check_inputs a b c)) is reads in
       inl (
         (pair, cert, (one, two, first, second, joined), third, record { formed = third.3.0; keeps = keeps }, left_of_no pair cert.body left shrunk),
-        same ∙ left_number pair cert.mode cert.body left (certificate_put out (with_body cert left) ∷ []) r shrunk says,
+        same ∙ left_number pair cert.mode cert.body left (certificate_put out (shrunk_no cert left) ∷ []) r shrunk says,
       )
 
   pub shrink_status : (r : Reply) → (StopInTurn files (check_inputs a b c) r → status_number r.status ≡ 5) → IsReplyFor (MeansShrink out) (check_inputs a b c) files r → (n : ℕ) → n ≡ status_number r.status → IsShrinkStatus files a b c n

@@ -36,9 +36,9 @@ IsShrunkBody pair (NoLasso lasso) body = (left : Lasso) × IsShrunkLasso pair.fi
 IsShrunkBody pair (NoWord word) body = (left : List ℕ) × IsShrunkWord pair.first pair.second word left × (body ≡ NoWord left)
 IsShrunkBody pair (Listing list) body = ⊥
 
--- The certificate with another body.
-abbrev pub with_body : Cert → Body → Cert
-with_body cert body = record cert { body = body }
+-- The no of version 1 with this body, whatever the version of the certificate.
+abbrev pub shrunk_no : Cert → Body → Cert
+shrunk_no cert body = record cert { version = 1; body = body }
 
 -- The reply to two joined automata and a certificate: it is refused, as by a check; or it is valid, and has nothing to shrink, or what is left is written
 -- and printed.
@@ -47,7 +47,7 @@ IsShrinkReply name pair cert r =
     IsRefusedReply pair cert r
     ⊎ (KeepsRules pair cert × ¬ IsNo cert.body × (r ≡ nothing_to_shrink_reply))
     ⊎ (KeepsRules pair cert
-    × ((left : Body) × IsShrunkBody pair cert.body left × IsVerdictReply cert.mode pair left (certificate_put name (with_body cert left) ∷ []) r))
+    × ((left : Body) × IsShrunkBody pair cert.body left × IsVerdictReply cert.mode pair left (certificate_put name (shrunk_no cert left) ∷ []) r))
 
 -- The reply to what was read.
 abbrev pub MeansShrink : List ℕ → List Value → Reply → Type 0
@@ -63,7 +63,7 @@ pub record IsShrunkFor (files : FileMap) (a b c : List ℕ) (pair : Joined) (cer
   pub certificate : ReadsCertificate files c cert
   pub valid : IsValid pair cert
   pub shrunk : IsShrunkBody pair cert.body left
-  pub left_valid : IsValid pair (with_body cert left)
+  pub left_valid : IsValid pair (shrunk_no cert left)
 
 -- The name holds the whole text of the shorter certificate, and all other files are as before.
 abbrev pub HoldsShrunk : FileMap → List ℕ → List ℕ → List ℕ → List ℕ → FileMap → Type 0
@@ -72,7 +72,7 @@ HoldsShrunk files a b c out files' =
     × (cert : Cert)
     × (left : Body)
     × IsShrunkFor files a b c pair cert left
-    × (files' ≡ map.insert files out (text (with_body cert left)))
+    × (files' ≡ map.insert files out (text (shrunk_no cert left)))
 
 -- The name holds a front of that text, or what it held before, and all other files are as before.
 abbrev pub HoldsShrunkFront : FileMap → List ℕ → List ℕ → List ℕ → List ℕ → FileMap → Type 0
@@ -81,7 +81,7 @@ HoldsShrunkFront files a b c out files' =
     × (cert : Cert)
     × (left : Body)
     × IsShrunkFor files a b c pair cert left
-    × IsCutShort files (certificate_put out (with_body cert left) ∷ []) files'
+    × IsCutShort files (certificate_put out (shrunk_no cert left) ∷ []) files'
 
 -- What it leaves, by its status.
 abbrev pub LeavesShrunk : FileMap → List ℕ → List ℕ → List ℕ → List ℕ → ℕ → ℕ → ℕ → FileMap → Type 0
@@ -95,7 +95,7 @@ pub record IsShrunkShown (files : FileMap) (a b c out : List ℕ) (files' : File
   pub left : Body
   pub is_left : IsShrunkFor files a b c pair cert left
   pub apart : SaysApart pair left sent sent'
-  pub held : files' ≡ map.insert files out (text (with_body cert left))
+  pub held : files' ≡ map.insert files out (text (shrunk_no cert left))
 
 -- What a status up to 2 shows: 1 what is left of a lasso or a word and still separates, and 0 and 2 do not come.
 pub record ShowsShrink (files : FileMap) (a b c out : List ℕ) (status : ℕ) (files' : FileMap) (sent sent' : Option (List ℕ)) : Type 0 where

@@ -58,7 +58,7 @@ fn shrunk<'a>(alloc: Global, name: &'a str, pair: &Joined, cert: &Cert) -> Resul
         return nothing_to_shrink(alloc);
     };
     let left = Cert {
-        version: cert.version,
+        version: 1,
         mode: cert.mode,
         first_states: cert.first_states,
         second_states: cert.second_states,
