@@ -8,11 +8,11 @@ use Rattle.std.proofs.lemmas.Str.Ascii.{IsAscii-from_all}
 use Rattle.std.proofs.lemmas.Cmp.{nat_list_cmp_total}
 use Rattle.std.specs.FinMap as map
 use Rattle.std.specs.FinMap.{get-insert}
-use Rattle.std.specs.Prelude.{is_some, nat_lt, IsUtf8, map as map_list}
+use Rattle.std.specs.Prelude.{◌≢◌, is_some, nat_lt, IsUtf8, map as map_list}
 use Rattle.std.specs.List.{list_all}
 use Rattle.std.specs.Io.KnownBytes.{append_known}
 use Rattle.shelf_io.specs.Counts.{Rose, counted}
-use Rattle.shelf_io.specs.Shelf.{FileMap, CountsMissing}
+use Rattle.shelf_io.specs.Shelf.{FileMap, CountsMissing, IsBlamed}
 use Rattle.auto_core.specs.declared.parts.Mode.TheVariants.{Buchi}
 use Rattle.ba_format.specs.declared.parts.Limits.{Limits}
 use Rattle.cert_value.specs.WellFormed.{has_some}
@@ -27,13 +27,13 @@ use Rattle.rabit_frame.specs.declared.parts.Ending.TheVariants as ending
 use Rattle.rabit_frame.specs.Files.{Input, Output}
 use Rattle.rabit_frame.specs.Lines.{read_line, memory_line}
 use Rattle.rabit_frame.specs.Statuses.{status_number}
-use Rattle.rabit_frame.specs.Reading.{FileReads, IsOfKind, MayStopAt, CountsInTurn, BegunInTurn, AllBegun}
+use Rattle.rabit_frame.specs.Reading.{FileReads, IsOfKind, MayStopAt, MissedInTurn, BegunInTurn, AllBegun, BlamesInTurn}
 use Rattle.rabit_frame.specs.Ending.{OfBoth, IsCutShort, Leaves, MayEnd, filed, status_of, status_unsent, WasSaid, SaysOnly}
 use Rattle.rabit_frame.specs.Carrying.{EndsSo, NoReply, IsCarriedOut, SaysEach}
 use Rattle.rabit_frame.proofs.EndLemmas.{own_number, may_plain, stop_plain, says_each, read_fault_of, read_line_of, memory_of}
 use Rattle.rabit_frame.proofs.TurnLemmas.{counts_here, begun_here}
 use Rattle.rabit_cli.specs.Include.{usual_terms, LeavesDecided}
-use Rattle.rabit_cli.specs.Batch.{AreQuestions, AnswersQuestion, ShowsQuestion, question_inputs, MeansQuestion, IsQuestionStatus, AreThere, LeavesQuestion, LeaveInTurn, question_line, question_lines, times, RoseBy, IsCarriedEach, list_file, batch_inputs, IsUnreadStatus, IsUnread, IsBatch}
+use Rattle.rabit_cli.specs.Batch.{AreQuestions, AnswersQuestion, ShowsQuestion, question_inputs, MeansQuestion, IsQuestionStatus, AreThere, LeavesQuestion, LeaveInTurn, question_line, question_lines, times, RoseBy, IsCarriedEach, list_file, batch_inputs, IsUnreadStatus, IsUnread, IsBatch, Calls, calls_of, MadeCalls}
 use Rattle.rabit_words.specs.Question.{Batch}
 use Rattle.rabit_cli.specs.Complete.{AnswersBatch}
 use Rattle.rabit_cli.specs.Laws.{QuestionsShowInTurn}
@@ -116,13 +116,13 @@ shows_question q status files files' low (ending.OutOfMemory, left, is) = absurd
 
 -- and what each of some in turn shows
 pub questions_show : QuestionsShowInTurn
-questions_show questions [] files files' begins begins' (same, begun) = same
-questions_show [] (status ∷ statuses) files files' begins begins' none = none
-questions_show (q ∷ questions) (status ∷ statuses) files files' begins begins' (between, begun, leaves, turn, all, later) = (
+questions_show questions [] files files' calls calls' (same, none) = same
+questions_show [] (status ∷ statuses) files files' calls calls' none = none
+questions_show (q ∷ questions) (status ∷ statuses) files files' calls calls' (between, middle, leaves, made, later) = (
   between,
   leaves,
   λ low. shows_question q status files between low leaves,
-  questions_show questions statuses between files' begun begins' later,
+  questions_show questions statuses between files' middle calls' later,
 )
 
 -- ---- what is there stays there
@@ -162,7 +162,7 @@ module _ (means : List Value → Reply → Type 0) (inputs : List Input) (files 
       All-cons (AreThere files') q qs (leaves_keep e q.first left here.0, leaves_keep e q.second left here.1) (all_keep e qs left (All-tail (AreThere files) q qs there))
 
 -- no name that is there is missed
-counts_none : (q : Question) (files : FileMap) (before now : ℕ) → CountsInTurn files (question_inputs q) before now → AreThere files q → now ≡ before
+counts_none : (q : Question) (files : FileMap) (before now : ℕ) → MissedInTurn files (question_inputs q) before now → AreThere files q → now ≡ before
 counts_none q files before now counts there = elim counts [
   | inl same ↦ same
   | inr missing ↦ elim missing [
@@ -206,10 +206,29 @@ known_append : (sent : Option (List ℕ)) (a b : List ℕ) → append_known (app
 known_append None a b = refl
 known_append (Some x) a b = ap Some (append_assoc x a b)
 
+-- ---- the calls of one question
+
+pub made_calls : (q : Question) (status : ℕ) (held : Option FileMap) (calls calls' : Calls)
+    → IfSome held (λ files. BegunInTurn files (question_inputs q) calls.begins calls'.begins) → (status ≤ 2 → AllBegun (question_inputs q) calls.begins calls'.begins)
+    → (status ≡ 6 → Rose calls.read_faults calls'.read_faults) → (status ≢ 6 → calls'.read_faults ≡ calls.read_faults)
+    → (status ≡ 6 → IfSome held (λ files. BlamesInTurn files (question_inputs q) calls'.blamed))
+    → (status ≡ 7 → Rose calls.put_faults calls'.put_faults) → (status ≢ 7 → calls'.put_faults ≡ calls.put_faults)
+    → IfSome held (λ files. MadeCalls q status files calls calls')
+made_calls q status None calls calls' turn all read no_read blames put no_put = tt
+made_calls q status (Some files) calls calls' turn all read no_read blames put no_put = record {
+  begun_in_turn = turn;
+  all_begun = all;
+  read_fault = read;
+  no_read_fault = no_read;
+  blames = blames;
+  write_fault = put;
+  no_write_fault = no_put;
+}
+
 -- ---- one question more
 
-pub each_none : (number : ℕ) (held held' : Option FileMap) (sent : Option (List ℕ)) (give read put missed begins : ℕ) → held' ≡ held → IsCarriedEach number [] held held' 0 sent sent give give read read put put missed missed begins begins
-each_none number held held' sent give read put missed begins stays = record {
+pub each_none : (number : ℕ) (held held' : Option FileMap) (sent : Option (List ℕ)) (give read put missed : ℕ) (calls : Calls) → held' ≡ held → IsCarriedEach number [] held held' 0 sent sent give give read read put put missed missed calls calls
+each_none number held held' sent give read put missed calls stays = record {
   statuses = [];
   within = omega arith;
   known = All-nil IsQuestionStatus;
@@ -226,7 +245,7 @@ each_none number held held' sent give read put missed begins stays = record {
     known_nil None = refl
     known_nil (Some x) = ap Some (sym (append_nil x))
 
-    same : (h : Option FileMap) → held' ≡ h → OfBoth h held' (λ files files'. LeaveInTurn [] [] files files' begins begins)
+    same : (h : Option FileMap) → held' ≡ h → OfBoth h held' (λ files files'. LeaveInTurn [] [] files files' calls calls)
     same None e = e
     same (Some files) e = (files, e, (refl, refl))
 
@@ -234,8 +253,8 @@ each_none number held held' sent give read put missed begins stays = record {
     none None = tt
     none (Some files) = λ there. refl
 
-module _ (q : Question) (number : ℕ) (held between : Option FileMap) (read read1 put put1 missed missed1 begins begins1 : ℕ) (e : Ending) (ends : EndsSo (MeansQuestion q) (question_inputs q) e held between read read1 put put1)
-    (counts : IfSome held (λ files. CountsInTurn files (question_inputs q) missed missed1)) (begun : IfSome held (λ files. BegunInTurn files (question_inputs q) begins begins1)) (all_begun : status_of e ≤ 2 → AllBegun (question_inputs q) begins begins1) where
+module _ (q : Question) (number : ℕ) (held between : Option FileMap) (read read1 put put1 missed missed1 : ℕ) (calls calls1 : Calls) (e : Ending) (ends : EndsSo (MeansQuestion q) (question_inputs q) e held between read read1 put put1)
+    (counts : IfSome held (λ files. MissedInTurn files (question_inputs q) missed missed1)) (made : IfSome held (λ files. MadeCalls q (status_of e) files calls calls1)) where
   read_more : (statuses : List ℕ) (read' : ℕ) → RoseBy (times 6 statuses) read1 read' → RoseBy (times 6 (status_of e ∷ statuses)) read read'
   read_more statuses read' rest = rose_by 6 (status_of e) statuses read read1 read' (λ is. ends.read_fault (ends_unread e is)) (λ other. ends.no_read_fault (λ is. other (ap status_of is))) rest
 
@@ -248,31 +267,31 @@ module _ (q : Question) (number : ℕ) (held between : Option FileMap) (read rea
   put_stay : (statuses : List ℕ) (put' : ℕ) → (times 7 statuses ≡ 0 → put' ≡ put1) → times 7 (status_of e ∷ statuses) ≡ 0 → put' ≡ put
   put_stay statuses put' rest = stay_by 7 (status_of e) statuses put put1 put' (λ other. ends.no_write_fault (λ is. other (ap status_of is))) rest
 
-  turn_more : (questions : List Question) (statuses : List ℕ) (held' : Option FileMap) (begins' : ℕ) → OfBoth between held' (λ files files'. LeaveInTurn questions statuses files files' begins1 begins') → OfBoth held held' (λ files files'. LeaveInTurn (q ∷ questions) (status_of e ∷ statuses) files files' begins begins')
-  turn_more questions statuses held' begins' rest = go held ends.leaves begun
+  turn_more : (questions : List Question) (statuses : List ℕ) (held' : Option FileMap) (calls' : Calls) → OfBoth between held' (λ files files'. LeaveInTurn questions statuses files files' calls1 calls') → OfBoth held held' (λ files files'. LeaveInTurn (q ∷ questions) (status_of e ∷ statuses) files files' calls calls')
+  turn_more questions statuses held' calls' rest = go held ends.leaves made
     where
-      go : (h : Option FileMap) → OfBoth h between (λ files files'. Leaves (MeansQuestion q) (question_inputs q) e files files') → IfSome h (λ files. BegunInTurn files (question_inputs q) begins begins1)
-          → OfBoth h held' (λ files files'. LeaveInTurn (q ∷ questions) (status_of e ∷ statuses) files files' begins begins')
-      go None none b = subst (λ (m : Option FileMap). OfBoth m held' (λ files files'. LeaveInTurn questions statuses files files' begins1 begins')) none rest
+      go : (h : Option FileMap) → OfBoth h between (λ files files'. Leaves (MeansQuestion q) (question_inputs q) e files files') → IfSome h (λ files. MadeCalls q (status_of e) files calls calls1)
+          → OfBoth h held' (λ files files'. LeaveInTurn (q ∷ questions) (status_of e ∷ statuses) files files' calls calls')
+      go None none b = subst (λ (m : Option FileMap). OfBoth m held' (λ files files'. LeaveInTurn questions statuses files files' calls1 calls')) none rest
       go (Some files) (mid, is, left) b =
-          let (files', is', later) = subst (λ (m : Option FileMap). OfBoth m held' (λ files files'. LeaveInTurn questions statuses files files' begins1 begins')) is rest in
-          (files', is', (mid, begins1, (e, left, refl), b, all_begun, later))
+          let (files', is', later) = subst (λ (m : Option FileMap). OfBoth m held' (λ files files'. LeaveInTurn questions statuses files files' calls1 calls')) is rest in
+          (files', is', (mid, calls1, (e, left, refl), b, later))
 
   missed_more : (questions : List Question) (missed' : ℕ) → IfSome between (λ files. All (AreThere files) questions → missed' ≡ missed1) → IfSome held (λ files. All (AreThere files) (q ∷ questions) → missed' ≡ missed)
   missed_more questions missed' rest = go held ends.leaves counts
     where
-      go : (h : Option FileMap) → OfBoth h between (λ files files'. Leaves (MeansQuestion q) (question_inputs q) e files files') → IfSome h (λ files. CountsInTurn files (question_inputs q) missed missed1) → IfSome h (λ files. All (AreThere files) (q ∷ questions) → missed' ≡ missed)
+      go : (h : Option FileMap) → OfBoth h between (λ files files'. Leaves (MeansQuestion q) (question_inputs q) e files files') → IfSome h (λ files. MissedInTurn files (question_inputs q) missed missed1) → IfSome h (λ files. All (AreThere files) (q ∷ questions) → missed' ≡ missed)
       go None none c = tt
       go (Some files) (mid, is, left) c = λ there.
           let later = subst (λ (m : Option FileMap). IfSome m (λ files. All (AreThere files) questions → missed' ≡ missed1)) is rest in
           later (all_keep (MeansQuestion q) (question_inputs q) files mid e questions left (All-tail (AreThere files) q questions there))
           ∙ counts_none q files missed missed1 c (All-head (AreThere files) q questions there)
 
-  pub each_more : (questions : List Question) (held' : Option FileMap) (status : ℕ) (sent sent1 sent' : Option (List ℕ)) (give give1 give' read' put' missed' begins' : ℕ)
+  pub each_more : (questions : List Question) (held' : Option FileMap) (status : ℕ) (sent sent1 sent' : Option (List ℕ)) (give give1 give' read' put' missed' : ℕ) (calls' : Calls)
       → sent1 ≡ append_known sent (question_line number (status_of e)) → give1 ≡ give
-      → IsCarriedEach (number + 1) questions between held' status sent1 sent' give1 give' read1 read' put1 put' missed1 missed' begins1 begins'
-      → IsCarriedEach number (q ∷ questions) held held' status sent sent' give give' read read' put put' missed missed' begins begins'
-  each_more questions held' status sent sent1 sent' give give1 give' read' put' missed' begins' sends stays rest = record {
+      → IsCarriedEach (number + 1) questions between held' status sent1 sent' give1 give' read1 read' put1 put' missed1 missed' calls1 calls'
+      → IsCarriedEach number (q ∷ questions) held held' status sent sent' give give' read read' put put' missed missed' calls calls'
+  each_more questions held' status sent sent1 sent' give give1 give' read' put' missed' calls' sends stays rest = record {
     statuses = status_of e ∷ rest.statuses;
     within = (let few = rest.within in omega arith);
     known = All-cons IsQuestionStatus (status_of e) rest.statuses (question_status q e ends.may) rest.known;
@@ -281,7 +300,7 @@ module _ (q : Question) (number : ℕ) (held between : Option FileMap) (read rea
       | inr (seven, rose, (before, last, is, (n, sends'))) ↦
           inr (seven, subst (λ g. Rose g give') stays rose, (status_of e ∷ before, last, ap (λ ss. status_of e ∷ ss) is, (n, front before last n sends')))
     ];
-    in_turn = turn_more questions rest.statuses held' begins' rest.in_turn;
+    in_turn = turn_more questions rest.statuses held' calls' rest.in_turn;
     read_faults_rose = read_more rest.statuses read' rest.read_faults_rose;
     put_faults_rose = put_more rest.statuses put' rest.put_faults_rose;
     read_faults_stay = read_stay rest.statuses read' rest.read_faults_stay;
@@ -299,13 +318,13 @@ module _ (q : Question) (number : ℕ) (held between : Option FileMap) (read rea
           ∙ ap (λ m. append_known sent (question_lines number (status_of e ∷ before) ++ take n (question_line m last))) place
 
   pub each_refused : (questions : List Question) (sent sent' : Option (List ℕ)) (give give' n : ℕ) → sent' ≡ append_known sent (take n (question_line number (status_of e))) → Rose give give'
-      → IsCarriedEach number (q ∷ questions) held between 7 sent sent' give give' read read1 put put1 missed missed1 begins begins1
+      → IsCarriedEach number (q ∷ questions) held between 7 sent sent' give give' read read1 put put1 missed missed1 calls calls1
   each_refused questions sent sent' give give' n sends rose = record {
     statuses = status_of e ∷ [];
     within = omega arith;
     known = All-cons IsQuestionStatus (status_of e) [] (question_status q e ends.may) (All-nil IsQuestionStatus);
     said = inr (refl, rose, ([], status_of e, refl, (n, sends ∙ ap (λ m. append_known sent (take n (question_line m (status_of e)))) place)));
-    in_turn = turn_more questions [] between begins1 (stay between);
+    in_turn = turn_more questions [] between calls1 (stay between);
     read_faults_rose = read_more [] read1 (rose_none read1);
     put_faults_rose = put_more [] put1 (rose_none put1);
     read_faults_stay = read_stay [] read1 (λ zero. refl);
@@ -319,7 +338,7 @@ module _ (q : Question) (number : ℕ) (held between : Option FileMap) (read rea
       place : number ≡ number + length none_more
       place = omega arith
 
-      stay : (h : Option FileMap) → OfBoth h h (λ files files'. LeaveInTurn questions [] files files' begins1 begins1)
+      stay : (h : Option FileMap) → OfBoth h h (λ files files'. LeaveInTurn questions [] files files' calls1 calls1)
       stay None = refl
       stay (Some files) = (files, refl, (refl, refl))
 
@@ -329,18 +348,34 @@ module _ (q : Question) (number : ℕ) (held between : Option FileMap) (read rea
 
 -- ---- the list
 
+-- a list that is not read has status 11
+stops_eleven : (r : Reply) → MayStopAt (kind.Questions) r → (status_number r.status ≡ 11) × (status_unsent (ending.Reached r) ≡ 11)
+stops_eleven r p = elim p [
+  | inl long ↦ (ap (λ z. status_number z.status) long, ap (λ z. status_unsent (ending.Reached z)) long)
+  | inr (bytes, (line, is, e)) ↦ (ap (λ z. status_number z.status) e, ap (λ z. status_unsent (ending.Reached z)) e)
+]
+
+-- and status 6 is that of a failed read
+six_is_unread : (list : List ℕ) (status : ℕ) (sent sent' : Option (List ℕ)) (give give' : ℕ) (e : Ending) → MayEnd NoReply (batch_inputs list) e → WasSaid e status sent sent' give give' → status ≡ 6 → e ≡ ending.ReadFault
+six_is_unread list status sent sent' give give' (ending.Reached r) may said six = elim may [
+  | inl stop ↦ elim stop [
+    | inl here ↦
+        let is : status ≡ 11 = elim said [ inl whole ↦ whole.0 ∙ (stops_eleven r here).0 | inr front ↦ front.0 ∙ (stops_eleven r here).1 ] in
+        absurd (omega arith)
+    | inr none ↦ absurd none
+  ]
+  | inr (values, kinds, none) ↦ absurd none
+]
+six_is_unread list status sent sent' give give' (ending.ReadFault) may said six = refl
+six_is_unread list status sent sent' give give' (ending.OutOfMemory) may said six = (let is : status ≡ 8 = elim said [ inl whole ↦ whole.0 | inr front ↦ front.0 ] in absurd (omega arith))
+six_is_unread list status sent sent' give give' (ending.WriteFault) may said six = (let is : status ≡ 7 = elim said [ inl whole ↦ whole.0 | inr front ↦ front.0 ] in absurd (omega arith))
+
 pub unread_status : (list : List ℕ) (held held' : Option FileMap) (status : ℕ) (sent sent' : Option (List ℕ)) (give give' read read' put put' : ℕ)
     → IsCarriedOut NoReply (batch_inputs list) held held' status sent sent' give give' read read' put put' → IsUnreadStatus status
 unread_status list held held' status sent sent' give give' read read' put put' c = go c.end c.ends.may c.said
   where
-    stops : (r : Reply) → MayStopAt (kind.Questions) r → (status_number r.status ≡ 11) × (status_unsent (ending.Reached r) ≡ 11)
-    stops r p = elim p [
-      | inl long ↦ (ap (λ z. status_number z.status) long, ap (λ z. status_unsent (ending.Reached z)) long)
-      | inr (bytes, (line, is, e)) ↦ (ap (λ z. status_number z.status) e, ap (λ z. status_unsent (ending.Reached z)) e)
-    ]
-
     reached : (r : Reply) → MayStopAt (kind.Questions) r → WasSaid (ending.Reached r) status sent sent' give give' → IsUnreadStatus status
-    reached r may said = elim said [ inl whole ↦ inr (inr (whole.0 ∙ (stops r may).0)) | inr front ↦ inr (inr (front.0 ∙ (stops r may).1)) ]
+    reached r may said = elim said [ inl whole ↦ inr (inr (whole.0 ∙ (stops_eleven r may).0)) | inr front ↦ inr (inr (front.0 ∙ (stops_eleven r may).1)) ]
 
     go : (e : Ending) → MayEnd NoReply (batch_inputs list) e → WasSaid e status sent sent' give give' → IsUnreadStatus status
     go (ending.Reached r) may said = elim may [
@@ -356,10 +391,10 @@ unread_status list held held' status sent sent' give give' read read' put put' c
 
 -- ---- what the status of a batch says
 
-module _ (list : List ℕ) (held held' : Option FileMap) (status : ℕ) (sent sent' : Option (List ℕ)) (give give' read read' put put' missed missed' begins begins' : ℕ)
-    (is : IsBatch list held held' status sent sent' give give' read read' put put' missed missed' begins begins') where
+module _ (list : List ℕ) (held held' : Option FileMap) (status : ℕ) (sent sent' : Option (List ℕ)) (give give' read read' put put' missed missed' : ℕ) (calls calls' : Calls)
+    (is : IsBatch list held held' status sent sent' give give' read read' put put' missed missed' calls calls') where
   -- unless no question was asked it is 0 or 7
-  others : (P : Type 0) → (IsUnread list held held' status sent sent' give give' read read' put put' missed missed' begins begins' → P) → (status ≡ 0 → P) → (status ≡ 7 → Rose give give' → P) → P
+  others : (P : Type 0) → (IsUnread list held held' status sent sent' give give' read read' put put' missed missed' calls calls' → P) → (status ≡ 0 → P) → (status ≡ 7 → Rose give give' → P) → P
   others P unread all refused = elim is [
     | inl u ↦ unread u
     | inr asked ↦ elim asked.each.said [ inl said ↦ all said.0 | inr last ↦ refused last.0 last.1 ]
@@ -435,18 +470,24 @@ list_is_of_questions questions (bytes, is) = (is.words, is.few)
 -- ---- the whole batch
 
 -- the list is not read
-pub batch_unread : (list : List ℕ) (slot : Input) (held held' : Option FileMap) (status : ℕ) (sent sent' : Option (List ℕ)) (give give' read read' put put' missed missed' begins begins' : ℕ) (e : Ending)
-    → slot ≡ list_file list → EndsSo NoReply (slot ∷ []) e held held' read read' put put' → WasSaid e status sent sent' give give' → CountsMissing held slot.name missed missed' → begins' ≡ counted begins
-    → IsBatch list held held' status sent sent' give give' read read' put put' missed missed' begins begins'
-batch_unread list slot held held' status sent sent' give give' read read' put put' missed missed' begins begins' e is ends said counts begun =
+pub batch_unread : (list : List ℕ) (slot : Input) (held held' : Option FileMap) (status : ℕ) (sent sent' : Option (List ℕ)) (give give' read read' put put' missed missed' : ℕ) (calls calls' : Calls) (e : Ending)
+    → slot ≡ list_file list → EndsSo NoReply (slot ∷ []) e held held' read read' put put' → WasSaid e status sent sent' give give' → CountsMissing held slot.name missed missed' → calls'.begins ≡ counted calls.begins
+    → (e ≡ ending.ReadFault → IfSome held (λ files. IsBlamed files slot.name calls'.blamed))
+    → IsBatch list held held' status sent sent' give give' read read' put put' missed missed' calls calls'
+batch_unread list slot held held' status sent sent' give give' read read' put put' missed missed' calls calls' e is ends said counts begun blames =
     let carried : IsCarriedOut NoReply (batch_inputs list) held held' status sent sent' give give' read read' put put' =
     record { end = e; ends = subst (λ (i : Input). EndsSo NoReply (i ∷ []) e held held' read read' put put') is ends; said = said } in
     inl (record {
       carried = carried;
       known = unread_status list held held' status sent sent' give give' read read' put put' carried;
       missing = counts_here held (list_file list) [] missed missed' (subst (λ (i : Input). CountsMissing held i.name missed missed') is counts);
-      begun_in_turn = begun_here held (list_file list) [] begins begins' begun;
+      begun_in_turn = begun_here held (list_file list) [] calls.begins calls'.begins begun;
+      blames = λ six. here held (subst (λ (i : Input). IfSome held (λ files. IsBlamed files i.name calls'.blamed)) is (blames (six_is_unread list status sent sent' give give' e carried.ends.may said six)));
     })
+  where
+    here : (h : Option FileMap) → IfSome h (λ files. IsBlamed files list calls'.blamed) → IfSome h (λ files. BlamesInTurn files (batch_inputs list) calls'.blamed)
+    here None blamed = tt
+    here (Some files) blamed = inl blamed
 
 -- the list was read, so its name was not missed
 read_is_held : (files : FileMap) (i : Input) (v : Value) (before now : ℕ) → FileReads files i v → CountsMissing (Some files) i.name before now → now ≡ before
@@ -457,26 +498,29 @@ read_is_held files i v before now (bytes, has, few, reads) counts = counts ∙ g
     go false is = absurd (false≢true is)
 
 -- the list is read, and its questions are carried out
-pub batch_asked : (list : List ℕ) (slot : Input) (held held1 held' : Option FileMap) (status : ℕ) (sent sent' : Option (List ℕ)) (give give' read read1 read' put put1 put' missed missed1 missed' begins begins1 begins' : ℕ) (questions : List Question)
+pub batch_asked : (list : List ℕ) (slot : Input) (held held1 held' : Option FileMap) (status : ℕ) (sent sent' : Option (List ℕ)) (give give' read read1 read' put put1 put' missed missed1 missed' : ℕ) (calls calls1 calls' : Calls) (questions : List Question)
     → slot ≡ list_file list → IsOfKind slot.kind (value.Questions questions) → IfSome held (λ files. FileReads files slot (value.Questions questions)) → CountsMissing held slot.name missed missed1
-    → held1 ≡ held → read1 ≡ read → put1 ≡ put → begins1 ≡ counted begins
-    → IsCarriedEach 1 questions held1 held' status sent sent' give give' read1 read' put1 put' missed1 missed' begins1 begins'
-    → IsBatch list held held' status sent sent' give give' read read' put put' missed missed' begins begins'
-batch_asked list slot held held1 held' status sent sent' give give' read read1 read' put put1 put' missed missed1 missed' begins begins1 begins' questions is kind reads counts held_stays read_stays put_stays begun each =
+    → held1 ≡ held → read1 ≡ read → put1 ≡ put → calls1.begins ≡ counted calls.begins → calls1.read_faults ≡ calls.read_faults → calls1.put_faults ≡ calls.put_faults
+    → IsCarriedEach 1 questions held1 held' status sent sent' give give' read1 read' put1 put' missed1 missed' calls1 calls'
+    → IsBatch list held held' status sent sent' give give' read read' put put' missed missed' calls calls'
+batch_asked list slot held held1 held' status sent sent' give give' read read1 read' put put1 put' missed missed1 missed' calls calls1 calls' questions is kind reads counts held_stays read_stays put_stays begun no_read no_put each =
     let of = list_is_of_questions questions (subst (λ (i : Input). IsOfKind i.kind (value.Questions questions)) is kind) in
     inr (record {
       questions = questions;
       words = of.0;
       few = of.1;
       read = subst (λ (i : Input). IfSome held (λ files. FileReads files i (value.Questions questions))) is reads;
+      blamed = calls1.blamed;
       each = record {
         statuses = each.statuses;
         within = each.within;
         known = each.known;
         said = each.said;
         in_turn =
-            subst (λ n. OfBoth held held' (λ files files'. LeaveInTurn questions each.statuses files files' n begins')) begun
-            (subst (λ (h : Option FileMap). OfBoth h held' (λ files files'. LeaveInTurn questions each.statuses files files' begins1 begins')) held_stays each.in_turn);
+            subst (λ n. OfBoth held held' (λ files files'. LeaveInTurn questions each.statuses files files' (calls_of n calls.read_faults calls.put_faults calls1.blamed) calls')) begun
+            (subst (λ n. OfBoth held held' (λ files files'. LeaveInTurn questions each.statuses files files' (calls_of calls1.begins n calls.put_faults calls1.blamed) calls')) no_read
+            (subst (λ n. OfBoth held held' (λ files files'. LeaveInTurn questions each.statuses files files' (calls_of calls1.begins calls1.read_faults n calls1.blamed) calls')) no_put
+            (subst (λ (h : Option FileMap). OfBoth h held' (λ files files'. LeaveInTurn questions each.statuses files files' calls1 calls')) held_stays each.in_turn)));
         read_faults_rose = subst (λ n. RoseBy (times 6 each.statuses) n read') read_stays each.read_faults_rose;
         put_faults_rose = subst (λ n. RoseBy (times 7 each.statuses) n put') put_stays each.put_faults_rose;
         read_faults_stay = λ none. each.read_faults_stay none ∙ read_stays;

@@ -6,7 +6,7 @@ use Rattle.rabit_frame.specs.declared.parts.Reply.{Reply}
 use Rattle.rabit_frame.specs.declared.parts.Ending.{Ending}
 use Rattle.rabit_frame.specs.declared.parts.Ending.TheVariants as ending
 use Rattle.rabit_frame.specs.Statuses.{status_number}
-use Rattle.rabit_frame.specs.Reading.{AreOfKinds, CountsInTurn, BegunInTurn}
+use Rattle.rabit_frame.specs.Reading.{AreOfKinds, MissedInTurn, BegunInTurn, BlamesInTurn}
 use Rattle.rabit_frame.specs.Ending.{OfBoth, WasSaid}
 use Rattle.rabit_frame.specs.Carrying.{EndsSo, IsCarriedOut, ShowsResult}
 use Rattle.rabit_frame.proofs.EndLemmas.{may_plain, same_status, own_status, both_same, no_inputs, no_puts, no_puts_stay}
@@ -15,10 +15,11 @@ use Rattle.rabit_words.specs.declared.parts.Question.{Question as Held}
 use Rattle.rabit_words.specs.Question.{Question, Include, Check, Reduce, Drill, Upgrade, Cross, CrossCheck, Equal, Batch, Union, Intersect, Shrink, Empty, Universal, IsProper, told, question_of}
 use Rattle.drawing.specs.declared.parts.Drill.{Drill as Drawing}
 use Rattle.drawing.specs.Drawn.{IsInBounds}
+use Rattle.rabit_cli.specs.Batch.{Calls}
 use Rattle.rabit_cli.specs.Commands.{Batches, inputs_of, outputs_of, Means, Shows, Drills, LeavesFiles, SaysUsage}
 use Rattle.auto_core.specs.declared.parts.Mode.{Mode}
 use Rattle.decide.specs.Terms.{AreBounded}
-use Rattle.rabit_cli.specs.Include.{asked_terms}
+use Rattle.rabit_cli.specs.Include.{terms_by}
 use Rattle.rabit_cli.specs.Reduce.{asked_sight}
 use Rattle.rabit_cli.proofs.CrossLemmas.{one_cross, cross_number, shows_cross, leaves_cross, one_cross_check, cross_check_puts, cross_check_number, shows_cross_check}
 use Rattle.rabit_cli.proofs.BatchLemmas.{unread_status, answers_batch}
@@ -45,7 +46,7 @@ in_bounds : (seed states labels : ℕ) → IsProper (Drill seed states labels) �
 in_bounds seed states labels (few, from, upto, some, most) = record { states_from = from; states_upto = upto; labels_from = some; labels_upto = most }
 
 -- what is asked of a decision is bounded
-asked_bounded : (m : Mode) (look limit : ℕ) (letters : Option ℕ) → (1 ≤ look) × (look ≤ 6) × (1 ≤ limit) × (limit ≤ 100000) × IfSome letters (λ n. (1 ≤ n) × (n ≤ 4)) → AreBounded (asked_terms m look limit letters)
+asked_bounded : (m : Mode) (look limit : ℕ) (letters : Option ℕ) → (1 ≤ look) × (look ≤ 6) × (1 ≤ limit) × (limit ≤ 100000) × IfSome letters (λ n. (1 ≤ n) × (n ≤ 4)) → AreBounded (terms_by m look limit letters)
 asked_bounded m look limit None (from, upto, some, few, named) = record { look_from = from; look_upto = upto; letters_from = omega arith; letters_upto = omega arith; versioned = inl (refl, refl); few = few }
 asked_bounded m look limit (Some n) (from, upto, some, few, named) = record { look_from = from; look_upto = upto; letters_from = named.0; letters_upto = named.1; versioned = inr refl; few = few }
 
@@ -61,7 +62,7 @@ batch_found (Err e) question list words is batch found = absurd (let f = is in c
 pub one_meaning : (q : Option Question) → IfSome q IsProper → (values : List Value) (r s : Reply) → AreOfKinds (inputs_of q) values → Means q values r → Means q values s → r ≡ s
 one_meaning None range values r s kinds p q = p ∙ sym q
 one_meaning (Some (Check a b c)) range values r s kinds p q = one_check values r s p q
-one_meaning (Some (Include a b c m look limit letters)) range values r s kinds p q = one_include c (asked_terms m look limit letters) (asked_bounded m look limit letters range).look_from values r s p q
+one_meaning (Some (Include a b c m look limit letters)) range values r s kinds p q = one_include c (terms_by m look limit letters) (asked_bounded m look limit letters range).look_from values r s p q
 one_meaning (Some (Reduce a m look letters)) range values r s kinds p q = one_reduce a m (asked_sight look letters) range.0 values r s kinds p q
 one_meaning (Some (Drill seed states labels)) range values r s kinds p q = one_drill (drawing seed states labels) values r s p q
 one_meaning (Some (Upgrade c out)) range values r s kinds p q = one_upgrade out values r s p q
@@ -95,7 +96,7 @@ no_outputs (Some (Universal a u c m)) none values r p = absurd (let f = none in 
 usage_alone : (q : Option Question) (values : List Value) (r : Reply) → Means q values r → status_number r.status ≡ 3 → q ≡ None
 usage_alone None values r p three = refl
 usage_alone (Some (Check a b c)) values r p three = absurd (check_asked values r p three)
-usage_alone (Some (Include a b c m look limit letters)) values r p three = absurd (include_asked c (asked_terms m look limit letters) values r p three)
+usage_alone (Some (Include a b c m look limit letters)) values r p three = absurd (include_asked c (terms_by m look limit letters) values r p three)
 usage_alone (Some (Reduce a m look letters)) values r p three = absurd (reduce_asked m (asked_sight look letters) values r p three)
 usage_alone (Some (Drill seed states labels)) values r p three = absurd (drill_asked (drawing seed states labels) values r p three)
 usage_alone (Some (Upgrade c out)) values r p three = absurd (let zero = upgrade_number out values r p in omega arith)
@@ -114,7 +115,7 @@ module _ (status : ℕ) (sent sent' : Option (List ℕ)) where
   shows None range low files files' (r, values, reads, p, number, left, sends) = (let e = ap (λ z. status_number z.status) p in absurd (omega arith))
   shows (Some (Check a b c)) range low files files' (r, values, reads, p, number, left, sends) = shows_check files a b c status sent sent' r number sends values reads p
   shows (Some (Include a b c m look limit letters)) range low files files' (r, values, reads, p, number, left, sends) =
-      shows_include files a b c (asked_terms m look limit letters) (asked_bounded m look limit letters range) status files' sent sent' r number left sends values reads p
+      shows_include files a b c (terms_by m look limit letters) (asked_bounded m look limit letters range) status files' sent sent' r number left sends values reads p
   shows (Some (Reduce a m look letters)) range low files files' (r, values, reads, p, number, left, sends) = shows_reduce files a m (asked_sight look letters) status sent sent' r range.0 number sends values reads p
   shows (Some (Drill seed states labels)) range low files files' (r, values, reads, p, number, left, sends) =
       shows_drill (drawing seed states labels) status sent sent' r (in_bounds seed states labels range) number sends values p
@@ -201,7 +202,7 @@ module _ (held held' : Option FileMap) (status : ℕ) (sent sent' : Option (List
   leaves None range c = stays_with None c refl
   leaves (Some (Check a b d)) range c = stays_with (Some (Check a b d)) c refl
   leaves (Some (Include a b d m look limit letters)) range c =
-      leaves_include held held' status sent sent' sink sink' faults faults' puts puts' a b d (asked_terms m look limit letters) (asked_bounded m look limit letters range) c.end c.ends c.said
+      leaves_include held held' status sent sent' sink sink' faults faults' puts puts' a b d (terms_by m look limit letters) (asked_bounded m look limit letters range) c.end c.ends c.said
   leaves (Some (Reduce a m look letters)) range c = stays_with (Some (Reduce a m look letters)) c refl
   leaves (Some (Drill seed states labels)) range c = stays_with (Some (Drill seed states labels)) c refl
   leaves (Some (Upgrade d out)) range c = leaves_upgrade held held' status sent sent' sink sink' faults faults' puts puts' d out c.end c.ends c.said
@@ -216,39 +217,39 @@ module _ (held held' : Option FileMap) (status : ℕ) (sent sent' : Option (List
   leaves (Some (Universal a u d m)) range c = leaves_property universality universality_decidable u d m held held' status sent sent' sink sink' faults faults' puts puts' a c.end c.ends c.said
 
   -- a batch that was carried out as if it had a reply of its own has no question asked
-  pub batches : (q : Option Question) → Carried q → (missed missed' begins begins' : ℕ) → IfSome held (λ files. CountsInTurn files (inputs_of q) missed missed') → IfSome held (λ files. BegunInTurn files (inputs_of q) begins begins')
-      → IfSome q (λ asked. Batches asked held held' status sent sent' sink sink' faults faults' puts puts' missed missed' begins begins')
-  batches (Some (Batch l)) c missed missed' begins begins' missing begun =
-      inl (record { carried = c; known = unread_status l held held' status sent sent' sink sink' faults faults' puts puts' c; missing = missing; begun_in_turn = begun })
-  batches None c missed missed' begins begins' missing begun = tt
-  batches (Some (Check a b d)) c missed missed' begins begins' missing begun = tt
-  batches (Some (Include a b d m look limit letters)) c missed missed' begins begins' missing begun = tt
-  batches (Some (Reduce a m look letters)) c missed missed' begins begins' missing begun = tt
-  batches (Some (Drill seed states labels)) c missed missed' begins begins' missing begun = tt
-  batches (Some (Upgrade d out)) c missed missed' begins begins' missing begun = tt
-  batches (Some (Cross a b out look)) c missed missed' begins begins' missing begun = tt
-  batches (Some (CrossCheck a b f)) c missed missed' begins begins' missing begun = tt
-  batches (Some (Equal a b d out)) c missed missed' begins begins' missing begun = tt
-  batches (Some (Union a b m)) c missed missed' begins begins' missing begun = tt
-  batches (Some (Intersect a b m)) c missed missed' begins begins' missing begun = tt
-  batches (Some (Shrink a b d out)) c missed missed' begins begins' missing begun = tt
-  batches (Some (Empty a e d m)) c missed missed' begins begins' missing begun = tt
-  batches (Some (Universal a u d m)) c missed missed' begins begins' missing begun = tt
+  pub batches : (q : Option Question) → Carried q → (missed missed' : ℕ) (calls calls' : Calls) → IfSome held (λ files. MissedInTurn files (inputs_of q) missed missed') → IfSome held (λ files. BegunInTurn files (inputs_of q) calls.begins calls'.begins) → (status ≡ 6 → IfSome held (λ files. BlamesInTurn files (inputs_of q) calls'.blamed))
+      → IfSome q (λ asked. Batches asked held held' status sent sent' sink sink' faults faults' puts puts' missed missed' calls calls')
+  batches (Some (Batch l)) c missed missed' calls calls' missing begun blames =
+      inl (record { carried = c; known = unread_status l held held' status sent sent' sink sink' faults faults' puts puts' c; missing = missing; begun_in_turn = begun; blames = blames })
+  batches None c missed missed' calls calls' missing begun blames = tt
+  batches (Some (Check a b d)) c missed missed' calls calls' missing begun blames = tt
+  batches (Some (Include a b d m look limit letters)) c missed missed' calls calls' missing begun blames = tt
+  batches (Some (Reduce a m look letters)) c missed missed' calls calls' missing begun blames = tt
+  batches (Some (Drill seed states labels)) c missed missed' calls calls' missing begun blames = tt
+  batches (Some (Upgrade d out)) c missed missed' calls calls' missing begun blames = tt
+  batches (Some (Cross a b out look)) c missed missed' calls calls' missing begun blames = tt
+  batches (Some (CrossCheck a b f)) c missed missed' calls calls' missing begun blames = tt
+  batches (Some (Equal a b d out)) c missed missed' calls calls' missing begun blames = tt
+  batches (Some (Union a b m)) c missed missed' calls calls' missing begun blames = tt
+  batches (Some (Intersect a b m)) c missed missed' calls calls' missing begun blames = tt
+  batches (Some (Shrink a b d out)) c missed missed' calls calls' missing begun blames = tt
+  batches (Some (Empty a e d m)) c missed missed' calls calls' missing begun blames = tt
+  batches (Some (Universal a u d m)) c missed missed' calls calls' missing begun blames = tt
 
   -- and its status
-  pub answers_batches : (q : Option Question) → Carried q → (missed missed' begins begins' : ℕ) → IfSome held (λ files. CountsInTurn files (inputs_of q) missed missed') → IfSome held (λ files. BegunInTurn files (inputs_of q) begins begins') → IfSome q (λ asked. AnswersBatch asked status sink sink' faults faults')
-  answers_batches (Some (Batch l)) c missed missed' begins begins' missing begun = answers_batch l held held' status sent sent' sink sink' faults faults' puts puts' missed missed' begins begins' (batches (Some (Batch l)) c missed missed' begins begins' missing begun)
-  answers_batches None c missed missed' begins begins' missing begun = tt
-  answers_batches (Some (Check a b d)) c missed missed' begins begins' missing begun = tt
-  answers_batches (Some (Include a b d m look limit letters)) c missed missed' begins begins' missing begun = tt
-  answers_batches (Some (Reduce a m look letters)) c missed missed' begins begins' missing begun = tt
-  answers_batches (Some (Drill seed states labels)) c missed missed' begins begins' missing begun = tt
-  answers_batches (Some (Upgrade d out)) c missed missed' begins begins' missing begun = tt
-  answers_batches (Some (Cross a b out look)) c missed missed' begins begins' missing begun = tt
-  answers_batches (Some (CrossCheck a b f)) c missed missed' begins begins' missing begun = tt
-  answers_batches (Some (Equal a b d out)) c missed missed' begins begins' missing begun = tt
-  answers_batches (Some (Union a b m)) c missed missed' begins begins' missing begun = tt
-  answers_batches (Some (Intersect a b m)) c missed missed' begins begins' missing begun = tt
-  answers_batches (Some (Shrink a b d out)) c missed missed' begins begins' missing begun = tt
-  answers_batches (Some (Empty a e d m)) c missed missed' begins begins' missing begun = tt
-  answers_batches (Some (Universal a u d m)) c missed missed' begins begins' missing begun = tt
+  pub answers_batches : (q : Option Question) → Carried q → (missed missed' : ℕ) (calls calls' : Calls) → IfSome held (λ files. MissedInTurn files (inputs_of q) missed missed') → IfSome held (λ files. BegunInTurn files (inputs_of q) calls.begins calls'.begins) → (status ≡ 6 → IfSome held (λ files. BlamesInTurn files (inputs_of q) calls'.blamed)) → IfSome q (λ asked. AnswersBatch asked status sink sink' faults faults')
+  answers_batches (Some (Batch l)) c missed missed' calls calls' missing begun blames = answers_batch l held held' status sent sent' sink sink' faults faults' puts puts' missed missed' calls calls' (batches (Some (Batch l)) c missed missed' calls calls' missing begun blames)
+  answers_batches None c missed missed' calls calls' missing begun blames = tt
+  answers_batches (Some (Check a b d)) c missed missed' calls calls' missing begun blames = tt
+  answers_batches (Some (Include a b d m look limit letters)) c missed missed' calls calls' missing begun blames = tt
+  answers_batches (Some (Reduce a m look letters)) c missed missed' calls calls' missing begun blames = tt
+  answers_batches (Some (Drill seed states labels)) c missed missed' calls calls' missing begun blames = tt
+  answers_batches (Some (Upgrade d out)) c missed missed' calls calls' missing begun blames = tt
+  answers_batches (Some (Cross a b out look)) c missed missed' calls calls' missing begun blames = tt
+  answers_batches (Some (CrossCheck a b f)) c missed missed' calls calls' missing begun blames = tt
+  answers_batches (Some (Equal a b d out)) c missed missed' calls calls' missing begun blames = tt
+  answers_batches (Some (Union a b m)) c missed missed' calls calls' missing begun blames = tt
+  answers_batches (Some (Intersect a b m)) c missed missed' calls calls' missing begun blames = tt
+  answers_batches (Some (Shrink a b d out)) c missed missed' calls calls' missing begun blames = tt
+  answers_batches (Some (Empty a e d m)) c missed missed' calls calls' missing begun blames = tt
+  answers_batches (Some (Universal a u d m)) c missed missed' calls calls' missing begun blames = tt

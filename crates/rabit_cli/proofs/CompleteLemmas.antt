@@ -13,7 +13,7 @@ use Rattle.rabit_frame.specs.Carrying.{EndsSo, IsCarriedOut}
 use Rattle.rabit_frame.proofs.OneLemmas.{stop_or_read_in_turn}
 use Rattle.rabit_words.specs.Question.{Question, Include, Check, Reduce, Drill, Upgrade, Cross, CrossCheck, Equal, Batch, Union, Intersect, Shrink, Empty, Universal}
 use Rattle.rabit_cli.specs.Files.{second_limits, first_limits, automaton_file, certificate_file}
-use Rattle.rabit_cli.specs.Include.{pair_inputs, asked_terms}
+use Rattle.rabit_cli.specs.Include.{pair_inputs, terms_by}
 use Rattle.rabit_cli.specs.Reduce.{reduce_inputs}
 use Rattle.rabit_cli.specs.Cross.{cross_file}
 use Rattle.rabit_cli.proofs.CrossLemmas.{cross_status, cross_check_status}
@@ -68,7 +68,7 @@ answers (Check a b c) single files values reads r right n is = elim right [
 ]
 answers (Include a b c m look limit letters) single files values reads r right n is = elim right [
   | inl stop ↦ absurd (stop_or_read_in_turn files (pair_inputs a b) r values stop reads)
-  | inr (vs, in_turn, means) ↦ (let low = include_low c (asked_terms m look limit letters) vs r means in inl (omega arith))
+  | inr (vs, in_turn, means) ↦ (let low = include_low c (terms_by m look limit letters) vs r means in inl (omega arith))
 ]
 answers (Reduce a m look letters) single files values reads r right n is = elim right [
   | inl stop ↦ absurd (stop_or_read_in_turn files (reduce_inputs a) r values stop reads)

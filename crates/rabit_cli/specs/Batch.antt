@@ -1,10 +1,10 @@
 -- `batch LIST`: the questions of a list are carried out one after the other, and a line is said of each.
-use Rattle.std.specs.Prelude.{◌≡◌, ℕ, ◌+◌, ◌-◌, ◌^◌, ◌≤◌, ◌==◌, ◌⊎◌, min, List, [], ◌∷◌, ◌++◌, length, take, map, All, Option, Some, None, IfSome, true, decimal, if◌then◌else◌}
+use Rattle.std.specs.Prelude.{◌≡◌, ◌≢◌, ℕ, ◌+◌, ◌-◌, ◌^◌, ◌≤◌, ◌==◌, ◌⊎◌, min, List, [], ◌∷◌, ◌++◌, length, take, map, All, Option, Some, None, IfSome, true, decimal, if◌then◌else◌}
 use Rattle.std.specs.FinMap as files
 use Rattle.std.specs.List.{list_all}
 use Rattle.std.specs.Io.KnownBytes.{append_known}
 use Rattle.shelf_io.specs.Counts.{Rose, counted}
-use Rattle.shelf_io.specs.Shelf.{FileMap}
+use Rattle.shelf_io.specs.Shelf.{FileMap, WhichFile}
 use Rattle.auto_core.specs.declared.parts.Mode.TheVariants.{Buchi}
 use Rattle.equal_batch.specs.declared.questions.Question.{Question}
 use Rattle.equal_batch.specs.Questions.{is_question, line_of}
@@ -16,7 +16,7 @@ use Rattle.rabit_frame.specs.declared.parts.Ending.{Ending}
 use Rattle.rabit_frame.specs.Files.{Input}
 use Rattle.rabit_frame.specs.Lines.{line_end}
 use Rattle.rabit_frame.specs.Statuses.{status_number}
-use Rattle.rabit_frame.specs.Reading.{FileReads, CountsInTurn, BegunInTurn, AllBegun}
+use Rattle.rabit_frame.specs.Reading.{FileReads, MissedInTurn, BegunInTurn, AllBegun, BlamesInTurn}
 use Rattle.rabit_frame.specs.Ending.{IsReplyFor, OfBoth, Leaves, filed, status_of}
 use Rattle.rabit_frame.specs.Carrying.{NoReply, IsCarriedOut}
 use Rattle.rabit_cli.specs.Include.{usual_terms, pair_inputs, MeansInclude, ShowsInclude}
@@ -63,18 +63,39 @@ AreQuestions questions = list_all is_question (map line_of questions) ≡ true
 
 -- ---- one after the other
 
--- The first questions, one for each status, ended with these, each asked of the files that the one before it left. By the count of begins, each
--- began its files in turn, all of them where its status is up to 2, and none of a later question was begun.
-abbrev pub LeaveInTurn : List Question → List ℕ → FileMap → FileMap → ℕ → ℕ → Type 0
-LeaveInTurn questions [] files files' begins begins' = (files' ≡ files) × (begins' ≡ begins)
-LeaveInTurn [] (status ∷ statuses) files files' begins begins' = ⊥
-LeaveInTurn (q ∷ questions) (status ∷ statuses) files files' begins begins' =
+-- What a shelf tells of its calls: how many files were begun, how many reads and how many puts failed, and of which file a read was refused last.
+pub record Calls : Type 0 where
+  pub begins : ℕ
+  pub read_faults : ℕ
+  pub put_faults : ℕ
+  pub blamed : WhichFile
+
+-- These counts, and this file.
+abbrev pub calls_of : ℕ → ℕ → ℕ → WhichFile → Calls
+calls_of begins read_faults put_faults blamed = record { begins = begins; read_faults = read_faults; put_faults = put_faults; blamed = blamed }
+
+-- The calls that a question made, which ended with this status: it began its files in turn, all of them where its status is up to 2. A read failed just
+-- where that is 6, of the first file that was not read to its end, and a put just where it is 7.
+pub record MadeCalls (q : Question) (status : ℕ) (files : FileMap) (calls calls' : Calls) : Type 0 where
+  pub begun_in_turn : BegunInTurn files (question_inputs q) calls.begins calls'.begins
+  pub all_begun : status ≤ 2 → AllBegun (question_inputs q) calls.begins calls'.begins
+  pub read_fault : status ≡ 6 → Rose calls.read_faults calls'.read_faults
+  pub no_read_fault : status ≢ 6 → calls'.read_faults ≡ calls.read_faults
+  pub blames : status ≡ 6 → BlamesInTurn files (question_inputs q) calls'.blamed
+  pub write_fault : status ≡ 7 → Rose calls.put_faults calls'.put_faults
+  pub no_write_fault : status ≢ 7 → calls'.put_faults ≡ calls.put_faults
+
+-- The first questions, one for each status, ended with these, each asked of the files that the one before it left, and made the calls that show it. No
+-- call was made for a later question.
+abbrev pub LeaveInTurn : List Question → List ℕ → FileMap → FileMap → Calls → Calls → Type 0
+LeaveInTurn questions [] files files' calls calls' = (files' ≡ files) × (calls' ≡ calls)
+LeaveInTurn [] (status ∷ statuses) files files' calls calls' = ⊥
+LeaveInTurn (q ∷ questions) (status ∷ statuses) files files' calls calls' =
     (between : FileMap)
-    × (begins_between : ℕ)
+    × (middle : Calls)
     × LeavesQuestion q status files between
-    × BegunInTurn files (question_inputs q) begins begins_between
-    × (status ≤ 2 → AllBegun (question_inputs q) begins begins_between)
-    × LeaveInTurn questions statuses between files' begins_between begins'
+    × MadeCalls q status files calls middle
+    × LeaveInTurn questions statuses between files' middle calls'
 
 -- The first questions, one for each status, were asked so, each of the files that the one before it left, and each status up to 2 shows what that of
 -- `include` does, of the files as they were when its question was asked and as that left them.
@@ -125,12 +146,12 @@ RoseBy n before now = min (before + n) (2 ^ 64 - 1) ≤ now
 
 -- The questions were carried out one after the other, the first with this number, until all were or the sink refused a line.
 -- The count of failed reads rose once at least for each status 6, and did not change where there is none; so did that of failed puts for 7.
-pub record IsCarriedEach (number : ℕ) (questions : List Question) (held held' : Option FileMap) (status : ℕ) (sent sent' : Option (List ℕ)) (give_faults give_faults' read_faults read_faults' put_faults put_faults' missed missed' begins begins' : ℕ) : Type 0 where
+pub record IsCarriedEach (number : ℕ) (questions : List Question) (held held' : Option FileMap) (status : ℕ) (sent sent' : Option (List ℕ)) (give_faults give_faults' read_faults read_faults' put_faults put_faults' missed missed' : ℕ) (calls calls' : Calls) : Type 0 where
   pub statuses : List ℕ
   pub within : length statuses ≤ length questions
   pub known : All IsQuestionStatus statuses
   pub said : AllSaid number questions statuses status sent sent' give_faults give_faults' ⊎ LastRefused number statuses status sent sent' give_faults give_faults'
-  pub in_turn : OfBoth held held' (λ files files'. LeaveInTurn questions statuses files files' begins begins')
+  pub in_turn : OfBoth held held' (λ files files'. LeaveInTurn questions statuses files files' calls calls')
   pub read_faults_rose : RoseBy (times 6 statuses) read_faults read_faults'
   pub put_faults_rose : RoseBy (times 7 statuses) put_faults put_faults'
   pub read_faults_stay : times 6 statuses ≡ 0 → read_faults' ≡ read_faults
@@ -152,22 +173,28 @@ abbrev pub IsUnreadStatus : ℕ → Type 0
 IsUnreadStatus status = (status ≡ 6) ⊎ (status ≡ 8) ⊎ (status ≡ 11)
 
 -- No question was carried out, and why was said.
-pub record IsUnread (list : List ℕ) (held held' : Option FileMap) (status : ℕ) (sent sent' : Option (List ℕ)) (give_faults give_faults' read_faults read_faults' put_faults put_faults' missed missed' begins begins' : ℕ) : Type 0 where
+pub record IsUnread (list : List ℕ) (held held' : Option FileMap) (status : ℕ) (sent sent' : Option (List ℕ)) (give_faults give_faults' read_faults read_faults' put_faults put_faults' missed missed' : ℕ) (calls calls' : Calls) : Type 0 where
   pub carried : IsCarriedOut NoReply (batch_inputs list) held held' status sent sent' give_faults give_faults' read_faults read_faults' put_faults put_faults'
   pub known : IsUnreadStatus status
-  pub missing : IfSome held (λ files. CountsInTurn files (batch_inputs list) missed missed')
-  pub begun_in_turn : IfSome held (λ files. BegunInTurn files (batch_inputs list) begins begins')
+  pub missing : IfSome held (λ files. MissedInTurn files (batch_inputs list) missed missed')
+  pub begun_in_turn : IfSome held (λ files. BegunInTurn files (batch_inputs list) calls.begins calls'.begins)
+  pub blames : status ≡ 6 → IfSome held (λ files. BlamesInTurn files (batch_inputs list) calls'.blamed)
+
+-- The calls once one more file was begun and read; which file a read was refused of before is not told.
+abbrev pub after_reading : Calls → WhichFile → Calls
+after_reading calls blamed = calls_of (counted calls.begins) calls.read_faults calls.put_faults blamed
 
 -- The list, the first file begun, was read, and its questions were carried out from the first on.
-pub record AreAsked (list : List ℕ) (held held' : Option FileMap) (status : ℕ) (sent sent' : Option (List ℕ)) (give_faults give_faults' read_faults read_faults' put_faults put_faults' missed missed' begins begins' : ℕ) : Type 0 where
+pub record AreAsked (list : List ℕ) (held held' : Option FileMap) (status : ℕ) (sent sent' : Option (List ℕ)) (give_faults give_faults' read_faults read_faults' put_faults put_faults' missed missed' : ℕ) (calls calls' : Calls) : Type 0 where
   pub questions : List Question
   pub words : AreQuestions questions
   pub few : length questions ≤ 1000
   pub read : IfSome held (λ files. FileReads files (list_file list) (value.Questions questions))
-  pub each : IsCarriedEach 1 questions held held' status sent sent' give_faults give_faults' read_faults read_faults' put_faults put_faults' missed missed' (counted begins) begins'
+  pub blamed : WhichFile
+  pub each : IsCarriedEach 1 questions held held' status sent sent' give_faults give_faults' read_faults read_faults' put_faults put_faults' missed missed' (after_reading calls blamed) calls'
 
 -- How a batch goes.
-abbrev pub IsBatch : List ℕ → Option FileMap → Option FileMap → ℕ → Option (List ℕ) → Option (List ℕ) → ℕ → ℕ → ℕ → ℕ → ℕ → ℕ → ℕ → ℕ → ℕ → ℕ → Type 0
-IsBatch list held held' status sent sent' give_faults give_faults' read_faults read_faults' put_faults put_faults' missed missed' begins begins' =
-    IsUnread list held held' status sent sent' give_faults give_faults' read_faults read_faults' put_faults put_faults' missed missed' begins begins'
-    ⊎ AreAsked list held held' status sent sent' give_faults give_faults' read_faults read_faults' put_faults put_faults' missed missed' begins begins'
+abbrev pub IsBatch : List ℕ → Option FileMap → Option FileMap → ℕ → Option (List ℕ) → Option (List ℕ) → ℕ → ℕ → ℕ → ℕ → ℕ → ℕ → ℕ → ℕ → Calls → Calls → Type 0
+IsBatch list held held' status sent sent' give_faults give_faults' read_faults read_faults' put_faults put_faults' missed missed' calls calls' =
+    IsUnread list held held' status sent sent' give_faults give_faults' read_faults read_faults' put_faults put_faults' missed missed' calls calls'
+    ⊎ AreAsked list held held' status sent sent' give_faults give_faults' read_faults read_faults' put_faults put_faults' missed missed' calls calls'

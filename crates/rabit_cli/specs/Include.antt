@@ -46,8 +46,8 @@ version_by None = 1
 version_by (Some letters) = 2
 
 -- The terms of a decision with this mode, lookahead and limit, where these announced letters are named.
-abbrev pub asked_terms : Mode → ℕ → ℕ → Option ℕ → Terms
-asked_terms mode look limit letters = record { mode = mode; look = look; letters = letters_by letters; version = version_by letters; limit = limit }
+abbrev pub terms_by : Mode → ℕ → ℕ → Option ℕ → Terms
+terms_by mode look limit letters = record { mode = mode; look = look; letters = letters_by letters; version = version_by letters; limit = limit }
 
 -- The files that it reads: the two automata.
 abbrev pub pair_inputs : List ℕ → List ℕ → List Input

@@ -34,7 +34,7 @@ use Rattle.rabit_cli.specs.Check.{check_inputs, MeansCheck}
 use Rattle.rabit_cli.specs.Include.{pair_inputs, MeansInclude}
 use Rattle.rabit_cli.specs.Upgrade.{upgrade_inputs, MeansUpgrade}
 use Rattle.rabit_cli.specs.Cross.{MeansCross, IsCrossFor, ReadsCross, cross_check_inputs, MeansCrossCheck}
-use Rattle.rabit_cli.specs.Batch.{LeaveInTurn, ShowInTurn}
+use Rattle.rabit_cli.specs.Batch.{Calls, LeaveInTurn, ShowInTurn}
 use Rattle.rabit_cli.specs.Property.{Property, IsPropertyCertFor, IsPropertyReply, property_puts}
 use Rattle.rabit_cli.specs.Empty.{empty_text, AcceptsNothing, emptiness}
 use Rattle.rabit_cli.specs.Universal.{all_loops, AcceptsAll, universality}
@@ -125,8 +125,8 @@ CrossRelationsAreAccepted =
 -- Questions that were carried out in turn show in turn what `include` shows.
 abbrev pub QuestionsShowInTurn : Type 0
 QuestionsShowInTurn =
-    (questions : List Question) (statuses : List ℕ) (files files' : FileMap) (begins begins' : ℕ)
-    → LeaveInTurn questions statuses files files' begins begins'
+    (questions : List Question) (statuses : List ℕ) (files files' : FileMap) (calls calls' : Calls)
+    → LeaveInTurn questions statuses files files' calls calls'
     → ShowInTurn questions statuses files files'
 
 -- Whatever the text that `empty` makes reads as accepts nothing.

@@ -6,11 +6,11 @@ ghost use Rattle.auto_core.specs.declared.parts.Mode.TheVariants.{Buchi};
 ghost use Rattle.equal_batch.specs.Questions.{is_word, is_question, line_of};
 ghost use Rattle.rabit_frame.specs.declared.parts.Value.TheVariants as value;
 ghost use Rattle.rabit_frame.specs.declared.parts.Ending.{Ending as AnEnding};
-ghost use Rattle.rabit_frame.specs.Reading.{FileReads, IsOfKind, CountsInTurn, BegunInTurn, AllBegun, BlamesInTurn};
+ghost use Rattle.rabit_frame.specs.Reading.{FileReads, IsOfKind, MissedInTurn, BegunInTurn, AllBegun, BlamesInTurn};
 ghost use Rattle.rabit_frame.specs.Ending.{OfBoth, status_of};
 ghost use Rattle.rabit_frame.specs.Carrying.{EndsSo};
 ghost use Rattle.rabit_cli.specs.Include.{usual_terms, LeavesDecided};
-ghost use Rattle.rabit_cli.specs.Batch.{question_inputs, MeansQuestion, IsQuestionStatus, ShowsQuestion, AnswersQuestion, question_line, AreQuestions, IsCarriedEach, list_file, IsBatch};
+ghost use Rattle.rabit_cli.specs.Batch.{question_inputs, MeansQuestion, IsQuestionStatus, ShowsQuestion, AnswersQuestion, question_line, AreQuestions, calls_of, IsCarriedEach, list_file, IsBatch};
 
 use crate::including;
 use crate::including::Asked;
@@ -89,8 +89,8 @@ pub fn answer_one<H: Shelf>(alloc: Global, question: &Question, shelf: &mut H) -
     ensures no_write_fault { result ≢ 7 → H.put_faults shelf.new ≡ H.put_faults shelf.old }
 
     // Where the shelf tells its files, each is begun only when those before it read as values, and a missing one is counted only in its turn.
-    // Up to 2 all were begun; at 6 the file of which a read was refused is the first that did not read.
-    ensures missing { IfSome (H.held shelf.old) (λ files. CountsInTurn files (question_inputs question.now) (H.missed shelf.old) (H.missed shelf.new)) }
+    // Up to 2 all were begun; at 6 a read was refused of one of them, and those before it read as values.
+    ensures missing { IfSome (H.held shelf.old) (λ files. MissedInTurn files (question_inputs question.now) (H.missed shelf.old) (H.missed shelf.new)) }
     ensures begun_in_turn { IfSome (H.held shelf.old) (λ files. BegunInTurn files (question_inputs question.now) (H.begins shelf.old) (H.begins shelf.new)) }
     ensures all_begun { result ≤ 2 → AllBegun (question_inputs question.now) (H.begins shelf.old) (H.begins shelf.new) }
     ensures blames { result ≡ 6 → IfSome (H.held shelf.old) (λ files. BlamesInTurn files (question_inputs question.now) (H.blamed shelf.new)) }
@@ -131,7 +131,9 @@ fn carry_each<H: Shelf, K: Sink>(
     requires few { number + length questions.now ≤ 1001 }
     requires room { 15 ≤ vec_capacity line.old }
     ensures { IsCarriedEach number questions.now (H.held shelf.old) (H.held shelf.new) result (K.sent out.old) (K.sent out.new) (K.faults out.old) (K.faults out.new)
-        (H.faults shelf.old) (H.faults shelf.new) (H.put_faults shelf.old) (H.put_faults shelf.new) (H.missed shelf.old) (H.missed shelf.new) (H.begins shelf.old) (H.begins shelf.new) }
+        (H.faults shelf.old) (H.faults shelf.new) (H.put_faults shelf.old) (H.put_faults shelf.new) (H.missed shelf.old) (H.missed shelf.new)
+        (calls_of (H.begins shelf.old) (H.faults shelf.old) (H.put_faults shelf.old) (H.blamed shelf.old))
+        (calls_of (H.begins shelf.new) (H.faults shelf.new) (H.put_faults shelf.new) (H.blamed shelf.new)) }
 {
     match questions {
         [] => 0,
@@ -159,7 +161,9 @@ fn list_slot<'a>(name: &'a str) -> Slot<'a>
 /// Reads the list, and carries out its questions one after the other.
 pub fn batch<H: Shelf, K: Sink>(alloc: Global, list: &str, shelf: &mut H, out: &mut K) -> u8
     ensures { IsBatch list.now (H.held shelf.old) (H.held shelf.new) result (K.sent out.old) (K.sent out.new) (K.faults out.old) (K.faults out.new)
-        (H.faults shelf.old) (H.faults shelf.new) (H.put_faults shelf.old) (H.put_faults shelf.new) (H.missed shelf.old) (H.missed shelf.new) (H.begins shelf.old) (H.begins shelf.new) }
+        (H.faults shelf.old) (H.faults shelf.new) (H.put_faults shelf.old) (H.put_faults shelf.new) (H.missed shelf.old) (H.missed shelf.new)
+        (calls_of (H.begins shelf.old) (H.faults shelf.old) (H.put_faults shelf.old) (H.blamed shelf.old))
+        (calls_of (H.begins shelf.new) (H.faults shelf.new) (H.put_faults shelf.new) (H.blamed shelf.new)) }
 {
     match read_alone(alloc, shelf, &list_slot(list)) {
         Ok(Value::Questions(questions)) => match Vec::with_capacity(alloc, 15) {

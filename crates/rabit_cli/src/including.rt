@@ -12,7 +12,7 @@ ghost use Rattle.decide.specs.Terms.{AreBounded};
 ghost use Rattle.rabit_frame.specs.Reading.{AreOfKinds};
 ghost use Rattle.rabit_cli.specs.Files.{first_limits, second_limits};
 ghost use Rattle.rabit_cli.specs.Include.{pair_inputs, IsDecided, MeansInclude};
-ghost use Rattle.rabit_cli.specs.Asked.{terms_asked};
+ghost use Rattle.rabit_cli.specs.Asked.{terms_of_asked};
 
 use crate::files::{first_slot, joined, second_slot};
 use crate::replies;
@@ -48,9 +48,9 @@ pub struct Asked {
 /// The answer for the joined automata, in the version that is asked for.
 fn answered(alloc: Global, asked: Asked, pair: &Joined) -> Result<Cert, Memory>
     requires can { CanDecide pair.now }
-    requires bounded { AreBounded (terms_asked asked) }
+    requires bounded { AreBounded (terms_of_asked asked) }
     requires limit_from { 1 ≤ asked.limit }
-    ensures answer { IfOk result (IsAnswer pair.now (terms_asked asked)) }
+    ensures answer { IfOk result (IsAnswer pair.now (terms_of_asked asked)) }
     ensures letters { IfOk result (λ cert. (lasso : ALasso) → cert.body ≡ form.NoLasso lasso → All (λ a. a < length pair.now.labels) lasso.prefix × All (λ a. a < length pair.now.labels) lasso.turn) }
     ensures word { IfOk result (λ cert. (word : Items ℕ) → cert.body ≡ form.NoWord word → All (λ a. a < length pair.now.labels) word) }
 {
@@ -70,9 +70,9 @@ fn decided<'a>(
     pair: &Joined,
 ) -> Result<Reply<'a>, Memory>
     requires can { CanDecide pair.now }
-    requires bounded { AreBounded (terms_asked asked) }
+    requires bounded { AreBounded (terms_of_asked asked) }
     requires limit_from { 1 ≤ asked.limit }
-    ensures { IfOk result (IsDecided name.entry.now (terms_asked asked) pair.now) }
+    ensures { IfOk result (IsDecided name.entry.now (terms_of_asked asked) pair.now) }
 {
     let cert = answered(alloc, asked, pair)?;
     let bytes = write_cert(alloc, &cert)?;
@@ -91,9 +91,9 @@ fn included<'a>(
 ) -> Result<Reply<'a>, Memory>
     requires one { IsWithinLimits first_limits one.now }
     requires two { IsWithinLimits second_limits two.now }
-    requires bounded { AreBounded (terms_asked asked) }
+    requires bounded { AreBounded (terms_of_asked asked) }
     requires limit_from { 1 ≤ asked.limit }
-    ensures { IfOk result (λ reply. (pair : AJoined) × IsJoined one.now two.now pair × IsDecided name.entry.now (terms_asked asked) pair reply) }
+    ensures { IfOk result (λ reply. (pair : AJoined) × IsJoined one.now two.now pair × IsDecided name.entry.now (terms_of_asked asked) pair reply) }
 {
     let pair = joined(alloc, one, two)?;
     decided(alloc, name, asked, &pair)
@@ -107,9 +107,9 @@ pub fn reply<'a>(
     values: &[Value],
 ) -> Result<Reply<'a>, Memory>
     requires kinds { (a b : Items ℕ) × AreOfKinds (pair_inputs a b) values.now }
-    requires bounded { AreBounded (terms_asked asked) }
+    requires bounded { AreBounded (terms_of_asked asked) }
     requires limit_from { 1 ≤ asked.limit }
-    ensures { IfOk result (MeansInclude name.entry.now (terms_asked asked) values.now) }
+    ensures { IfOk result (MeansInclude name.entry.now (terms_of_asked asked) values.now) }
 {
     match values {
         [Value::Automaton(one), Value::Automaton(two)] => included(alloc, name, asked, one, two),

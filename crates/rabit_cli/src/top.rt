@@ -5,10 +5,11 @@ ghost use Rattle.std.specs.String.{string_bytes};
 ghost use Rattle.shelf_io.specs.Counts.{Rose};
 ghost use Rattle.rabit_frame.specs.Lines.{read_line, memory_line};
 ghost use Rattle.rabit_frame.specs.Statuses.{IsOwn};
-ghost use Rattle.rabit_frame.specs.Reading.{CountsInTurn, BegunInTurn, AllBegun, BlamesInTurn};
+ghost use Rattle.rabit_frame.specs.Reading.{MissedInTurn, BegunInTurn, AllBegun, BlamesInTurn};
 ghost use Rattle.rabit_frame.specs.Ending.{OfBoth, SaysOnly};
 ghost use Rattle.rabit_frame.specs.Carrying.{IsCarriedOut, SaysEach, ShowsReply, LeavesUnwritten};
 ghost use Rattle.rabit_words.specs.Question.{question_of};
+ghost use Rattle.rabit_cli.specs.Batch.{calls_of};
 ghost use Rattle.rabit_cli.specs.Complete.{AnswersWhatReads, AnswersBatch};
 ghost use Rattle.rabit_cli.specs.Commands.{IsSingle, inputs_of, outputs_of, Means, Shows, Batches, Drills, LeavesFiles, SaysUsage};
 
@@ -48,7 +49,9 @@ pub fn run<H: Shelf, K: Sink>(alloc: Global, words: &[String], shelf: &mut H, ou
     // status up to 2 of a line shows.
     ensures batch { IfSome (question_of (map string_bytes words.now)) (λ asked.
         Batches asked (H.held shelf.old) (H.held shelf.new) result (K.sent out.old) (K.sent out.new) (K.faults out.old) (K.faults out.new)
-        (H.faults shelf.old) (H.faults shelf.new) (H.put_faults shelf.old) (H.put_faults shelf.new) (H.missed shelf.old) (H.missed shelf.new) (H.begins shelf.old) (H.begins shelf.new)) }
+        (H.faults shelf.old) (H.faults shelf.new) (H.put_faults shelf.old) (H.put_faults shelf.new) (H.missed shelf.old) (H.missed shelf.new)
+        (calls_of (H.begins shelf.old) (H.faults shelf.old) (H.put_faults shelf.old) (H.blamed shelf.old))
+        (calls_of (H.begins shelf.new) (H.faults shelf.new) (H.put_faults shelf.new) (H.blamed shelf.new))) }
 
     // What a status up to 2 shows, command by command: an inclusion, a lasso that separates, a list past the limit, a reduced automaton, what a drill found,
     // a certificate in version 2, a cross relation, two automata that accept the same, a union, an intersection, what is left of a no, an automaton that accepts nothing or everything, or what shows that it does not.
@@ -95,7 +98,7 @@ pub fn run<H: Shelf, K: Sink>(alloc: Global, words: &[String], shelf: &mut H, ou
     ensures writes_none { IsSingle (question_of (map string_bytes words.now)) → outputs_of (question_of (map string_bytes words.now)) ≡ [] → H.put_faults shelf.new ≡ H.put_faults shelf.old }
 
     // The first fault decides: where the shelf tells its files, each that the command reads is begun only when those before it read as values, and
-    // a missing one is counted only in its turn. Up to 2 all were begun; at 6 the file of which a read was refused is the first that did not read.
+    // a missing one is counted only in its turn. Up to 2 all were begun; at 6 a read was refused of one of them, and those before it read as values.
     ensures begun_in_turn { IsSingle (question_of (map string_bytes words.now)) → IfSome (H.held shelf.old) (λ files.
         BegunInTurn files (inputs_of (question_of (map string_bytes words.now))) (H.begins shelf.old) (H.begins shelf.new)) }
     ensures all_begun { IsSingle (question_of (map string_bytes words.now)) → result ≤ 2 →
@@ -103,7 +106,7 @@ pub fn run<H: Shelf, K: Sink>(alloc: Global, words: &[String], shelf: &mut H, ou
     ensures blames { IsSingle (question_of (map string_bytes words.now)) → result ≡ 6 → IfSome (H.held shelf.old) (λ files.
         BlamesInTurn files (inputs_of (question_of (map string_bytes words.now))) (H.blamed shelf.new)) }
     ensures missing { IsSingle (question_of (map string_bytes words.now)) → IfSome (H.held shelf.old) (λ files.
-        CountsInTurn files (inputs_of (question_of (map string_bytes words.now))) (H.missed shelf.old) (H.missed shelf.new)) }
+        MissedInTurn files (inputs_of (question_of (map string_bytes words.now))) (H.missed shelf.old) (H.missed shelf.new)) }
 {
     let command = Command {
         words,

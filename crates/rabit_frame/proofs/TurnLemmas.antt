@@ -3,13 +3,13 @@ use Rattle.std.proofs.Common.{◌≡◌, ◌⊎◌, ℕ, ◌-◌, ◌≤◌, Lis
 use Rattle.std.proofs.lemmas.List.{take_all}
 use Rattle.std.specs.FinMap as map
 use Rattle.shelf_io.specs.Counts.{counted}
-use Rattle.shelf_io.specs.Shelf.{FileMap, Begun, CountsMissing, IsBlamed}
+use Rattle.shelf_io.specs.Shelf.{FileMap, WhichFile, CountsMissing, IsBlamed}
 use Rattle.rabit_frame.specs.declared.parts.Value.{Value}
 use Rattle.rabit_frame.specs.declared.parts.Reply.{Reply}
 use Rattle.rabit_frame.specs.declared.parts.Halt.{Halt}
 use Rattle.rabit_frame.specs.declared.parts.Halt.TheVariants as halt
 use Rattle.rabit_frame.specs.Files.{Input}
-use Rattle.rabit_frame.specs.Reading.{FileReads, FileStops, IsOfKind, StopInTurn, CountsInTurn, BegunInTurn, AllBegun, BlamesInTurn, MayStopAt, MayStop, HaltsBy, AddsRead, TellsRead}
+use Rattle.rabit_frame.specs.Reading.{FileReads, FileStops, IsOfKind, StopInTurn, MissedInTurn, BegunInTurn, AllBegun, BlamesInTurn, MayStopAt, MayStop, HaltsBy, AddsRead, TellsRead}
 
 pub halts_weaker : (P Q : Reply → Type 0) (h : Halt) → ((r : Reply) → P r → Q r) → HaltsBy P h → HaltsBy Q h
 halts_weaker P Q (halt.Stopped r) f p = f r p
@@ -59,16 +59,16 @@ counts : (found : Bool) (before now : ℕ) → now ≡ (if found then before els
 counts true before now h = inl h
 counts false before now h = inr refl
 
-pub counts_none : (held : Option FileMap) (before now : ℕ) → now ≡ before → IfSome held (λ files. CountsInTurn files [] before now)
+pub counts_none : (held : Option FileMap) (before now : ℕ) → now ≡ before → IfSome held (λ files. MissedInTurn files [] before now)
 counts_none None before now h = tt
 counts_none (Some files) before now h = inl h
 
-pub counts_here : (held : Option FileMap) (i : Input) (is : List Input) (before now : ℕ) → CountsMissing held i.name before now → IfSome held (λ files. CountsInTurn files (i ∷ is) before now)
+pub counts_here : (held : Option FileMap) (i : Input) (is : List Input) (before now : ℕ) → CountsMissing held i.name before now → IfSome held (λ files. MissedInTurn files (i ∷ is) before now)
 counts_here None i is before now h = tt
 counts_here (Some files) i is before now h = elim (counts (map.contains_key files i.name) before now h) [ inl same ↦ inl same | inr lacks ↦ inr (inl lacks) ]
 
 pub counts_later : (held : Option FileMap) (i : Input) (is : List Input) (v : Value) (before between now : ℕ) → CountsMissing held i.name before between → IfSome held (λ files. FileReads files i v) →
-    IfSome held (λ files. CountsInTurn files is between now) → IfSome held (λ files. CountsInTurn files (i ∷ is) before now)
+    IfSome held (λ files. MissedInTurn files is between now) → IfSome held (λ files. MissedInTurn files (i ∷ is) before now)
 counts_later None i is v before between now h reads k = tt
 counts_later (Some files) i is v before between now h reads k =
     elim (counts (map.contains_key files i.name) before between h) [
@@ -93,11 +93,11 @@ begun_later (Some files) i is v before between now h reads later = inr (inr (v, 
 pub all_later : (i : Input) (is : List Input) (before between now : ℕ) → between ≡ counted before → AllBegun is between now → AllBegun (i ∷ is) before now
 all_later i is before between now h later = subst (λ n. AllBegun is n now) h later
 
-pub blames_here : (held : Option FileMap) (i : Input) (is : List Input) (blamed : Begun) → IfSome held (λ files. IsBlamed files i.name blamed) → IfSome held (λ files. BlamesInTurn files (i ∷ is) blamed)
+pub blames_here : (held : Option FileMap) (i : Input) (is : List Input) (blamed : WhichFile) → IfSome held (λ files. IsBlamed files i.name blamed) → IfSome held (λ files. BlamesInTurn files (i ∷ is) blamed)
 blames_here None i is blamed h = tt
 blames_here (Some files) i is blamed h = inl h
 
-pub blames_later : (held : Option FileMap) (i : Input) (is : List Input) (v : Value) (blamed : Begun) → IfSome held (λ files. FileReads files i v) → IfSome held (λ files. BlamesInTurn files is blamed) → IfSome held (λ files. BlamesInTurn files (i ∷ is) blamed)
+pub blames_later : (held : Option FileMap) (i : Input) (is : List Input) (v : Value) (blamed : WhichFile) → IfSome held (λ files. FileReads files i v) → IfSome held (λ files. BlamesInTurn files is blamed) → IfSome held (λ files. BlamesInTurn files (i ∷ is) blamed)
 blames_later None i is v blamed reads later = tt
 blames_later (Some files) i is v blamed reads later = inr (v, reads, later)
 

@@ -2,7 +2,7 @@
 use Rattle.std.specs.Prelude.{◌≡◌, ℕ, ◌<◌, ◌≤◌, ◌^◌, ◌⊎◌, List, [], ◌∷◌, ◌++◌, length, All, codes, Option, Some, IfSome, false}
 use Rattle.std.specs.FinMap as map
 use Rattle.shelf_io.specs.Counts.{counted}
-use Rattle.shelf_io.specs.Shelf.{FileMap, Begun, IsBlamed}
+use Rattle.shelf_io.specs.Shelf.{FileMap, WhichFile, IsBlamed}
 use Rattle.auto_core.specs.Automaton.{IsAutomaton}
 use Rattle.ba_format.specs.declared.parts.BaFault.{BaFault}
 use Rattle.ba_format.specs.declared.parts.Named.{Named}
@@ -125,8 +125,8 @@ MissInTurn files [] = ⊥
 MissInTurn files (i ∷ is) = IsMissing files i.name ⊎ ((read : Value) × FileReads files i read × MissInTurn files is)
 
 -- The count of missing names stays, or a name was missing in its turn.
-abbrev pub CountsInTurn : FileMap → List Input → ℕ → ℕ → Type 0
-CountsInTurn files inputs before now = (now ≡ before) ⊎ MissInTurn files inputs
+abbrev pub MissedInTurn : FileMap → List Input → ℕ → ℕ → Type 0
+MissedInTurn files inputs before now = (now ≡ before) ⊎ MissInTurn files inputs
 
 -- By the count of begins: none of the files was begun, or the first alone, or, since it reads as a value, the others in turn too.
 -- So no file is begun before what those before it hold is known.
@@ -143,7 +143,7 @@ AllBegun [] before now = now ≡ before
 AllBegun (i ∷ is) before now = AllBegun is (counted before) now
 
 -- The file that a read was refused of is one of these, and those before it read as values.
-abbrev pub BlamesInTurn : FileMap → List Input → Begun → Type 0
+abbrev pub BlamesInTurn : FileMap → List Input → WhichFile → Type 0
 BlamesInTurn files [] blamed = ⊥
 BlamesInTurn files (i ∷ is) blamed = IsBlamed files i.name blamed ⊎ ((read : Value) × FileReads files i read × BlamesInTurn files is blamed)
 

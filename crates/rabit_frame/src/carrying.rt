@@ -9,7 +9,7 @@ ghost use Rattle.rabit_frame.specs.declared.parts.Reply.{Reply as AReply};
 ghost use Rattle.rabit_frame.specs.declared.parts.Ending.{Ending as AnEnding};
 ghost use Rattle.rabit_frame.specs.Lines.{read_line, memory_line};
 ghost use Rattle.rabit_frame.specs.Statuses.{IsOwn};
-ghost use Rattle.rabit_frame.specs.Reading.{AreOfKinds, IsOfKind, FileReads, MayStop, CountsInTurn, BegunInTurn, AllBegun, BlamesInTurn};
+ghost use Rattle.rabit_frame.specs.Reading.{AreOfKinds, IsOfKind, FileReads, MayStop, MissedInTurn, BegunInTurn, AllBegun, BlamesInTurn};
 ghost use Rattle.rabit_frame.specs.Ending.{IsReplyFor, MayReply, OfBoth, WasGiven, WasSaid, SaysOnly, status_of};
 ghost use Rattle.rabit_frame.specs.Carrying.{EndsSo, NoReply, IsCarriedOut, SaysEach, ShowsReply, ShowsResult, LeavesUnwritten};
 
@@ -34,7 +34,7 @@ fn reply_of<'w, W: Work, H: Shelf>(
     ensures no_read_fault { ¬ (result ≡ Err Lack.ReadFault) → H.faults shelf.new ≡ H.faults shelf.old }
     ensures files_stay { H.held shelf.new ≡ H.held shelf.old }
     ensures puts_stay { H.put_faults shelf.new ≡ H.put_faults shelf.old }
-    ensures missing { IfSome (H.held shelf.old) (λ files. CountsInTurn files (W.inputs work.now) (H.missed shelf.old) (H.missed shelf.new)) }
+    ensures missing { IfSome (H.held shelf.old) (λ files. MissedInTurn files (W.inputs work.now) (H.missed shelf.old) (H.missed shelf.new)) }
     ensures begun_in_turn { IfSome (H.held shelf.old) (λ files. BegunInTurn files (W.inputs work.now) (H.begins shelf.old) (H.begins shelf.new)) }
     ensures all_begun { IfOk result (λ reply. MayStop (W.inputs work.now) reply ⊎ AllBegun (W.inputs work.now) (H.begins shelf.old) (H.begins shelf.new)) }
     ensures blames { result ≡ Err Lack.ReadFault → IfSome (H.held shelf.old) (λ files. BlamesInTurn files (W.inputs work.now) (H.blamed shelf.new)) }
@@ -58,7 +58,7 @@ fn reply_of<'w, W: Work, H: Shelf>(
 fn ending_of<'w, W: Work, H: Shelf>(alloc: Global, work: &'w W, shelf: &mut H) -> Ending<'w>
     requires fit { W.is_fit work.now }
     ensures ends { EndsSo (W.means work.now) (W.inputs work.now) result (H.held shelf.old) (H.held shelf.new) (H.faults shelf.old) (H.faults shelf.new) (H.put_faults shelf.old) (H.put_faults shelf.new) }
-    ensures missing { IfSome (H.held shelf.old) (λ files. CountsInTurn files (W.inputs work.now) (H.missed shelf.old) (H.missed shelf.new)) }
+    ensures missing { IfSome (H.held shelf.old) (λ files. MissedInTurn files (W.inputs work.now) (H.missed shelf.old) (H.missed shelf.new)) }
     ensures begun_in_turn { IfSome (H.held shelf.old) (λ files. BegunInTurn files (W.inputs work.now) (H.begins shelf.old) (H.begins shelf.new)) }
     ensures all_begun { status_of result ≤ 2 → AllBegun (W.inputs work.now) (H.begins shelf.old) (H.begins shelf.new) }
     ensures blames { status_of result ≡ 6 → IfSome (H.held shelf.old) (λ files. BlamesInTurn files (W.inputs work.now) (H.blamed shelf.new)) }
@@ -128,7 +128,7 @@ pub fn read_alone<H: Shelf>(
 pub fn carry_out_unsaid<W: Work, H: Shelf>(alloc: Global, work: &W, shelf: &mut H) -> u8
     requires fit { W.is_fit work.now }
     ensures ends { (end : AnEnding) × EndsSo (W.means work.now) (W.inputs work.now) end (H.held shelf.old) (H.held shelf.new) (H.faults shelf.old) (H.faults shelf.new) (H.put_faults shelf.old) (H.put_faults shelf.new) × (result ≡ status_of end) }
-    ensures missing { IfSome (H.held shelf.old) (λ files. CountsInTurn files (W.inputs work.now) (H.missed shelf.old) (H.missed shelf.new)) }
+    ensures missing { IfSome (H.held shelf.old) (λ files. MissedInTurn files (W.inputs work.now) (H.missed shelf.old) (H.missed shelf.new)) }
     ensures begun_in_turn { IfSome (H.held shelf.old) (λ files. BegunInTurn files (W.inputs work.now) (H.begins shelf.old) (H.begins shelf.new)) }
     ensures all_begun { result ≤ 2 → AllBegun (W.inputs work.now) (H.begins shelf.old) (H.begins shelf.new) }
     ensures blames { result ≡ 6 → IfSome (H.held shelf.old) (λ files. BlamesInTurn files (W.inputs work.now) (H.blamed shelf.new)) }
@@ -182,8 +182,8 @@ pub fn carry_out<W: Work, H: Shelf, K: Sink>(
         LeavesUnwritten (W.means work.now) (W.inputs work.now) (K.sent out.old) (K.sent out.new) (K.faults out.old) (K.faults out.new) (H.put_faults shelf.old) (H.put_faults shelf.new) files files') }
 
     // Where the shelf tells its files, each is begun only when those before it read as values, and a missing one is counted only in its turn.
-    // Up to 2 all were begun; at 6 the file of which a read was refused is the first that did not read.
-    ensures missing { IfSome (H.held shelf.old) (λ files. CountsInTurn files (W.inputs work.now) (H.missed shelf.old) (H.missed shelf.new)) }
+    // Up to 2 all were begun; at 6 a read was refused of one of them, and those before it read as values.
+    ensures missing { IfSome (H.held shelf.old) (λ files. MissedInTurn files (W.inputs work.now) (H.missed shelf.old) (H.missed shelf.new)) }
     ensures begun_in_turn { IfSome (H.held shelf.old) (λ files. BegunInTurn files (W.inputs work.now) (H.begins shelf.old) (H.begins shelf.new)) }
     ensures all_begun { result ≤ 2 → AllBegun (W.inputs work.now) (H.begins shelf.old) (H.begins shelf.new) }
     ensures blames { result ≡ 6 → IfSome (H.held shelf.old) (λ files. BlamesInTurn files (W.inputs work.now) (H.blamed shelf.new)) }

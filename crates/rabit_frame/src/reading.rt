@@ -4,7 +4,7 @@ ghost use Rattle.std.specs.Prelude.{◌≡◌, ◌≤◌, List as Items, length,
 ghost use Rattle.shelf_io.specs.Counts.{Rose, counted};
 ghost use Rattle.shelf_io.specs.Shelf.{CountsMissing, IsBlamed};
 ghost use Rattle.rabit_frame.specs.Lines.{kind_name, text_kind_name, file_line, certificate_line, list_line};
-ghost use Rattle.rabit_frame.specs.Reading.{most_bytes, long_reply, only_said, ReadsAs, HasFault, IsOfKind, FileReads, FileStops, StopInTurn, CountsInTurn, BegunInTurn, AllBegun, BlamesInTurn, MayStopAt, MayStop, HaltsBy, AddsRead};
+ghost use Rattle.rabit_frame.specs.Reading.{most_bytes, long_reply, only_said, ReadsAs, HasFault, IsOfKind, FileReads, FileStops, StopInTurn, MissedInTurn, BegunInTurn, AllBegun, BlamesInTurn, MayStopAt, MayStop, HaltsBy, AddsRead};
 
 use crate::lines;
 use crate::parts::{FileKind, Halt, Reply, Slot, Status, Value};
@@ -153,7 +153,7 @@ pub fn read_all<H: Shelf>(
     ensures no_read_fault { ¬ (result ≡ Err Halt.ReadFault) → H.faults shelf.new ≡ H.faults shelf.old }
     ensures files_stay { H.held shelf.new ≡ H.held shelf.old }
     ensures puts_stay { H.put_faults shelf.new ≡ H.put_faults shelf.old }
-    ensures missing { IfSome (H.held shelf.old) (λ files. CountsInTurn files slots.now (H.missed shelf.old) (H.missed shelf.new)) }
+    ensures missing { IfSome (H.held shelf.old) (λ files. MissedInTurn files slots.now (H.missed shelf.old) (H.missed shelf.new)) }
     ensures begun_in_turn { IfSome (H.held shelf.old) (λ files. BegunInTurn files slots.now (H.begins shelf.old) (H.begins shelf.new)) }
     ensures all_begun { IfOk result (λ all. AllBegun slots.now (H.begins shelf.old) (H.begins shelf.new)) }
     ensures blames { result ≡ Err Halt.ReadFault → IfSome (H.held shelf.old) (λ files. BlamesInTurn files slots.now (H.blamed shelf.new)) }

@@ -11,13 +11,13 @@ abbrev pub FileMap : Type 0
 FileMap = map.FinMap (slice_cmp nat_cmp) (List ℕ)
 
 -- Which file is being read: none, one that the shelf does not name, or the one with this name.
-pub data Begun : Type 0 where
-  Nothing : Begun
-  Unnamed : Begun
-  Named : List ℕ → Begun
+pub data WhichFile : Type 0 where
+  Nothing : WhichFile
+  Unnamed : WhichFile
+  Named : List ℕ → WhichFile
 
 -- After a `begin` of the name that file is begun, or, where the call is refused, nothing is.
-abbrev pub IsBegunBy : {T E : Type 0} → Result T E → List ℕ → Begun → Type 0
+abbrev pub IsBegunBy : {T E : Type 0} → Result T E → List ℕ → WhichFile → Type 0
 IsBegunBy (Ok x) name now = (now ≡ Named name) ⊎ (now ≡ Unnamed)
 IsBegunBy (Err e) name now = now ≡ Nothing
 
@@ -36,16 +36,16 @@ CountsMissing (Some files) name before now =
     now ≡ (if map.contains_key files name then before else counted before)
 
 -- The file that a read was refused of has this name, where the name is held.
-abbrev pub IsBlamed : FileMap → List ℕ → Begun → Type 0
+abbrev pub IsBlamed : FileMap → List ℕ → WhichFile → Type 0
 IsBlamed files name now = (map.contains_key files name ≡ false) ⊎ (now ≡ Named name)
 
 -- A shelf that tells its files tells of which one a `begin` was refused; where it was not, nothing is said anew.
-abbrev pub BlamesBegun : {T E : Type 0} → Option FileMap → List ℕ → Result T E → Begun → Begun → Type 0
+abbrev pub BlamesBegun : {T E : Type 0} → Option FileMap → List ℕ → Result T E → WhichFile → WhichFile → Type 0
 BlamesBegun None name result before now = Unit {0}
 BlamesBegun (Some files) name result before now = MatchResult result (λ _. now ≡ before) (λ _. IsBlamed files name now)
 
 -- The same of a `take`: it was refused of the begun file.
-abbrev pub BlamesTaken : {T E : Type 0} → Option FileMap → Begun → Result T E → Begun → Begun → Type 0
+abbrev pub BlamesTaken : {T E : Type 0} → Option FileMap → WhichFile → Result T E → WhichFile → WhichFile → Type 0
 BlamesTaken None begun result before now = Unit {0}
 BlamesTaken (Some files) begun result before now = MatchResult result (λ _. now ≡ before) (λ _. now ≡ begun)
 
@@ -64,13 +64,13 @@ Puts (Some files) name bytes (Err e) new =
 
 -- A `put` of the name leaves the begun file alone, unless it is the named one: then nothing is begun
 -- afterwards. Where the shelf doesn't name the begun file, either may be.
-abbrev pub LeavesBegun : Begun → List ℕ → Begun → Type 0
+abbrev pub LeavesBegun : WhichFile → List ℕ → WhichFile → Type 0
 LeavesBegun Nothing name new = new ≡ Nothing
 LeavesBegun Unnamed name new = (new ≡ Unnamed) ⊎ (new ≡ Nothing)
 LeavesBegun (Named begun) name new =
     ((begun ≡ name) × (new ≡ Nothing)) ⊎ ((begun ≢ name) × (new ≡ Named begun))
 
 -- What remains of the begun file stays, unless nothing is begun any more: then nothing remains.
-pub record LeavesLeft (begun : Begun) (left : Option (List ℕ)) (begun' : Begun) (left' : Option (List ℕ)) : Type 0 where
+pub record LeavesLeft (begun : WhichFile) (left : Option (List ℕ)) (begun' : WhichFile) (left' : Option (List ℕ)) : Type 0 where
   pub stays : begun' ≡ begun → left' ≡ left
   pub ends : begun' ≡ Nothing → IsAtEnd left'

@@ -4,7 +4,7 @@ ghost use Rattle.std.specs.Prelude.{◌≡◌, ◌≢◌, ℕ, List, IsSome, IfO
 ghost use Rattle.std.specs.Io.{ReadsAtMost};
 ghost use Rattle.std.specs.Io.KnownBytes.{ReadConsumes};
 ghost use Rattle.shelf_io.specs.Counts.{HasCause, counted};
-ghost use Rattle.shelf_io.specs.Shelf.{FileMap, Begun, Nothing, Unnamed, IsBegunBy, LeavesToTake, CountsMissing, BlamesBegun, BlamesTaken, CountsTaken, Puts, LeavesBegun, LeavesLeft};
+ghost use Rattle.shelf_io.specs.Shelf.{FileMap, WhichFile, Nothing, Unnamed, IsBegunBy, LeavesToTake, CountsMissing, BlamesBegun, BlamesTaken, CountsTaken, Puts, LeavesBegun, LeavesLeft};
 ghost use Rattle.shelf_io.specs.Sink.{Gives};
 
 use crate::parts::Failed;
@@ -16,7 +16,7 @@ pub trait Shelf {
     ghost held: { Self → Option FileMap };
 
     /// The file that is read, if any; a shelf that tells its files names it.
-    ghost begun: { Self → Begun };
+    ghost begun: { Self → WhichFile };
 
     /// What remains of that file, where the shelf tells it.
     ghost left: { Self → Option (List ℕ) };
@@ -36,8 +36,8 @@ pub trait Shelf {
     /// The count of begins, refused ones among them.
     ghost begins: { Self → ℕ };
 
-    /// The file of which a read was refused last, where the shelf tells its files: nothing, if its name was not held.
-    ghost blamed: { Self → Begun };
+    /// The file of which a read was refused last, where the shelf tells its files and that file was one of them.
+    ghost blamed: { Self → WhichFile };
 
     /// Begins to read the named file. A name that is not there is refused; refused, nothing is begun.
     fn begin(&mut self, name: &str) -> Result<(), Failed>
