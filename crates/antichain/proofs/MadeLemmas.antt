@@ -4,7 +4,7 @@ use Rattle.auto_core.specs.Automaton.{Automaton}
 use Rattle.auto_core.specs.Outcome.{At}
 use Rattle.search_laws.proofs.PlaceLemmas.{at_cases, at_within}
 use Rattle.antichain.specs.declared.sets.Made.{Made}
-use Rattle.antichain.specs.Made.{IsMade, AreMade, IsKnown, HasRemembered}
+use Rattle.antichain.specs.Made.{IsMade, AreMade, IsRemembered, HasRemembered}
 
 -- Of none there is nothing to show.
 pub none_made : (B : Automaton) (S : List (ℕ × ℕ)) (made : List Made) → made ≡ [] → AreMade B S made
@@ -23,5 +23,5 @@ made_more B S m old now number all one is k x x_is = elim is.others [
 ]
 
 -- The set that was remembered is known for its letter and its set.
-pub remembered_known : (m : Made) (old now : List Made) (number label : ℕ) (from : List ℕ) → HasRemembered m old now number → m.label ≡ label → m.from.items ≡ from → IsKnown now label from number
+pub remembered_known : (m : Made) (old now : List Made) (number label : ℕ) (from : List ℕ) → HasRemembered m old now number → m.label ≡ label → m.from.items ≡ from → IsRemembered now label from number
 remembered_known m old now number label from is label_is from_is = record { element = m; is = is.is; label_is = label_is; from_is = from_is }

@@ -20,7 +20,7 @@ abbrev pub AreMade : Automaton → List (ℕ × ℕ) → List Made → Type 0
 AreMade B S made = (k : ℕ) (m : Made) → At made k m → IsMade B S m
 
 -- What is remembered with this number is for this letter and this set.
-pub record IsKnown (made : List Made) (label : ℕ) (from : List ℕ) (number : ℕ) : Type 0 where
+pub record IsRemembered (made : List Made) (label : ℕ) (from : List ℕ) (number : ℕ) : Type 0 where
   pub element : Made
   pub is : At made number element
   pub label_is : element.label ≡ label

@@ -3,7 +3,7 @@
 ghost use Rattle.std.specs.Prelude.{◌≡◌, ◌<◌, ◌^◌, ◌⊎◌, ◌↔◌, ℕ, List, [], length, IsTrue, IfOk, IfSome};
 ghost use Rattle.auto_core.specs.Automaton.{Automaton};
 ghost use Rattle.set_rows.specs.Sets.{IsRow};
-ghost use Rattle.antichain.specs.Made.{IsMade, AreMade, IsKnown, HasRemembered};
+ghost use Rattle.antichain.specs.Made.{IsMade, AreMade, IsRemembered, HasRemembered};
 
 use crate::candidates::below;
 use auto_core::{Auto, Memory, rows};
@@ -82,7 +82,7 @@ impl Sets {
 
     /// The number of what the letter leads to from the set, if the place has it.
     fn known(&self, place: usize, label: u32, from: &[u64]) -> Option<u32>
-        ensures { IfSome result (IsKnown self.now.made.items label from.now) }
+        ensures { IfSome result (IsRemembered self.now.made.items label from.now) }
     {
         if place >= self.numbers.len() {
             return None;
@@ -134,7 +134,7 @@ impl Sets {
         requires row { IsRow second.now.states from.now }
         requires made { AreMade second.now order.now.pairs self.old.made.items }
         ensures made { IfOk result (λ _. AreMade second.now order.now.pairs self.new.made.items) }
-        ensures known { IfOk result (IsKnown self.new.made.items label from.now) }
+        ensures known { IfOk result (IsRemembered self.new.made.items label from.now) }
     {
         let place = place_of(label, from);
         match self.known(place, label, from) {

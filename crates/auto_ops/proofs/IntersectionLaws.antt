@@ -12,7 +12,7 @@ use Rattle.auto_core.proofs.PathLemmas.{accepting_from_test, test_from_accepting
 use Rattle.path_laws.specs.Pumping.{RunsPast}
 use Rattle.path_laws.proofs.PumpingLemmas.{pumping, reblock, repeated-add}
 use Rattle.auto_ops.specs.declared.product_states.ProductState.{ProductState}
-use Rattle.auto_ops.specs.Intersection.{product_state, start_of, awaits_after, GoesBeside, AcceptsBoth, JointMove, IsIntersection, same_product_state, moves_from}
+use Rattle.auto_ops.specs.Intersection.{product_state, start_of, awaits_after, GoesBeside, IsAcceptingProductState, ProductMove, IsIntersection, same_product_state, moves_from}
 use Rattle.auto_ops.specs.Laws.{IntersectionOfLassos, IntersectionOfWords}
 use Rattle.auto_ops.proofs.CycleLemmas.{Loops, loops_of, turns_before, more_turns}
 use Rattle.auto_ops.proofs.SightLemmas.{at_member, place_of, at_one, seen_start}
@@ -21,7 +21,7 @@ module _ (mode : Mode) (A B C : Automaton) (k : IsIntersection mode A B C) where
   start_named : At k.product_states C.initial (start_of A B)
   start_named =
       let P : List ProductState → Type 0 = λ l. At l 0 (start_of A B) in
-      let here : At k.product_states 0 (start_of A B) = subst P (sym k.numbered.in_order) (seen_start same_product_state (start_of A B) (map (λ (m : JointMove). m.target) (moves_from mode A B k.product_states))) in
+      let here : At k.product_states 0 (start_of A B) = subst P (sym k.numbered.in_order) (seen_start same_product_state (start_of A B) (map (λ (m : ProductMove). m.target) (moves_from mode A B k.product_states))) in
       subst (λ i. At k.product_states i (start_of A B)) (sym k.initial) here
 
   -- each move of both is one of the intersection
@@ -38,13 +38,13 @@ module _ (mode : Mode) (A B C : Automaton) (k : IsIntersection mode A B C) where
       let P : ProductState → Type 0 = λ x. GoesBeside mode A B x a u in
       (u, at_u, subst P (at_one k.product_states p s t at_s at_t) goes)
 
-  accepts_at : (p : ℕ) (t : ProductState) → At k.product_states p t → IsAccepting C p → AcceptsBoth mode A B t
+  accepts_at : (p : ℕ) (t : ProductState) → At k.product_states p t → IsAccepting C p → IsAcceptingProductState mode A B t
   accepts_at p t at_t acc =
       let (s, at_s, both) = (k.accepting p).0 acc in
-      let P : ProductState → Type 0 = λ x. AcceptsBoth mode A B x in
+      let P : ProductState → Type 0 = λ x. IsAcceptingProductState mode A B x in
       subst P (at_one k.product_states p s t at_s at_t) both
 
-  is_accepting_at : (p : ℕ) (t : ProductState) → At k.product_states p t → AcceptsBoth mode A B t → IsAccepting C p
+  is_accepting_at : (p : ℕ) (t : ProductState) → At k.product_states p t → IsAcceptingProductState mode A B t → IsAccepting C p
   is_accepting_at p t at_t both = (k.accepting p).1 (t, at_t, both)
 
 -- ---- lassos

@@ -17,8 +17,8 @@ use Rattle.ba_format.specs.Sight.{first_seen}
 use Rattle.auto_ops.specs.declared.product_states.ProductState.{ProductState}
 use Rattle.auto_ops.specs.Union.{second_offset, UnionMoves}
 use Rattle.auto_ops.specs.UnionParts.{union_transitions, union_accepting}
-use Rattle.auto_ops.specs.Intersection.{start_of, GoesBeside, IsReachedBy, IsReached, JointMove, moves_of, moves_from, same_product_state, seen_by, AreNumbered}
-use Rattle.auto_ops.specs.Laws.{UnionIsOne, UnionKeepsLimits, UnionIsThere, IntersectionIsOne, IntersectionKeepsLimits}
+use Rattle.auto_ops.specs.Intersection.{start_of, GoesBeside, IsReachedBy, IsProductReached, ProductMove, moves_of, moves_from, same_product_state, seen_by, AreNumberedBySight}
+use Rattle.auto_ops.specs.Laws.{UnionIsOne, TooLargeUnionIsNotSmall, UnionIsThere, IntersectionIsOne, TooLargeIntersectionIsNotSmall}
 use Rattle.auto_ops.proofs.SightLemmas.{Differ, all_from, place_of, at_one, at_place, at_front, flat_has, first_apart, first_has}
 use Rattle.auto_ops.proofs.UnionLemmas.{same_parts, union_has, union_from, union_many, in_states, in_labels, accepted_has, accepted_from, accepted_below}
 use Rattle.auto_ops.proofs.ProductLemmas.{same_equal, same_itself, move_has, seen_grows, front_of}
@@ -32,7 +32,7 @@ union_one mode A B U V k l =
     (λ p a q. (λ h. (l.moves p a q).1 ((k.moves p a q).0 h), λ h. (k.moves p a q).1 ((l.moves p a q).0 h)))
     (λ p. (λ h. (l.accepting p).1 ((k.accepting p).0 h), λ h. (k.accepting p).1 ((l.accepting p).0 h)))
 
-pub union_limits : UnionKeepsLimits
+pub union_limits : TooLargeUnionIsNotSmall
 union_limits mode A B U k (inl many) within = let few = within.labels in omega (arith, k.labels)
 union_limits mode A B U k (inr (inl many)) within = let few = within.states in omega (arith, k.states)
 union_limits mode A B U k (inr (inr many)) within =
@@ -106,7 +106,7 @@ module _ (mode : Mode) (A B : Automaton) where
   abbrev seen_from_all : List ProductState → List ProductState
   seen_from_all front = first_seen same_product_state (seen_by A B (moves_from mode A B front))
 
-  module _ (product_states : List ProductState) (n : AreNumbered mode A B product_states) where
+  module _ (product_states : List ProductState) (n : AreNumberedBySight mode A B product_states) where
     apart : Rises Differ product_states
     apart =
         let P : List ProductState → Type 0 = λ l. Rises Differ l in
@@ -124,7 +124,7 @@ module _ (mode : Mode) (A B : Automaton) where
     closed : (k : ℕ) → length (seen_from_all (take k product_states)) ≤ k → (i : ℕ) (u : ProductState) → IsReachedBy mode A B i u → Contains (seen_from_all (take k product_states)) u
     closed k short zero u h =
         first_has same_product_state same_equal same_itself (seen_by A B (moves_from mode A B (take k product_states))) u
-        (Contains-here (start_of A B) u (map (λ (m : JointMove). m.target) (moves_from mode A B (take k product_states))) (sym h))
+        (Contains-here (start_of A B) u (map (λ (m : ProductMove). m.target) (moves_from mode A B (take k product_states))) (sym h))
     closed k short (suc i) u (t, a, by, goes) =
         let front = take k product_states in
         let j = length (seen_from_all front) in
@@ -133,10 +133,10 @@ module _ (mode : Mode) (A B : Automaton) where
         let P : List ProductState → Type 0 = λ l. Contains l t in
         let near : take j product_states ≡ seen_from_all front = ap (take j) e ∙ take_at (seen_from_all front) rest j refl in
         let t_in : Contains front t = subst P (sym f) (Contains-append_left (take j product_states) more t (subst P (sym near) (closed k short i t by))) in
-        let m : JointMove = record { source = t; label = a; target = u } in
+        let m : ProductMove = record { source = t; label = a; target = u } in
         let m_in : Contains (moves_from mode A B front) m = flat_has (moves_of mode A B) front t m t_in (move_has mode A B t a u goes) in
         first_has same_product_state same_equal same_itself (seen_by A B (moves_from mode A B front)) u
-        (Contains-later (start_of A B) u (map (λ (x : JointMove). x.target) (moves_from mode A B front)) (map_has (λ (x : JointMove). x.target) (moves_from mode A B front) m m_in))
+        (Contains-later (start_of A B) u (map (λ (x : ProductMove). x.target) (moves_from mode A B front)) (map_has (λ (x : ProductMove). x.target) (moves_from mode A B front) m m_in))
 
     -- from the first k at least one more is seen, if there is one
     one_more : (k : ℕ) → k < length product_states → k < length (seen_from_all (take k product_states))
@@ -162,12 +162,12 @@ module _ (mode : Mode) (A B : Automaton) where
         let enough : suc k ≤ length (seen_from_all (take k product_states)) = let m = one_more k lt in omega arith in
         ap (take (suc k)) e ∙ take-append-le (suc k) (seen_from_all (take k product_states)) rest enough
 
-  fronts : (one two : List ProductState) → AreNumbered mode A B one → AreNumbered mode A B two → (k : ℕ) → k ≤ length one → k ≤ length two → take k one ≡ take k two
+  fronts : (one two : List ProductState) → AreNumberedBySight mode A B one → AreNumberedBySight mode A B two → (k : ℕ) → k ≤ length one → k ≤ length two → take k one ≡ take k two
   fronts one two n m zero h g = refl
   fronts one two n m (suc k) h g =
       next one n k (omega arith) ∙ ap (λ l. take (suc k) (seen_from_all l)) (fronts one two n m k (omega arith) (omega arith)) ∙ sym (next two m k (omega arith))
 
-  not_shorter : (one two : List ProductState) → AreNumbered mode A B one → AreNumbered mode A B two → length one < length two → ⊥
+  not_shorter : (one two : List ProductState) → AreNumberedBySight mode A B one → AreNumberedBySight mode A B two → length one < length two → ⊥
   not_shorter one two n m lt =
       let k = length one in
       let same : take k two ≡ one = sym (fronts one two n m k (omega arith) (omega arith)) ∙ take_all k one (omega arith) in
@@ -175,7 +175,7 @@ module _ (mode : Mode) (A B : Automaton) where
       let size : length (seen_from_all (take k two)) ≡ k = ap (λ (l : List ProductState). length (seen_from_all l)) same ∙ ap (λ (l : List ProductState). length l) (sym n.in_order) in
       omega arith
 
-  pub numbered_one : (one two : List ProductState) → AreNumbered mode A B one → AreNumbered mode A B two → one ≡ two
+  pub numbered_one : (one two : List ProductState) → AreNumberedBySight mode A B one → AreNumberedBySight mode A B two → one ≡ two
   numbered_one one two n m =
       let size : length one ≡ length two = elim (cases_order (length one) (length two)) [
         | inl e ↦ e
@@ -200,18 +200,18 @@ intersection_one mode A B C D k l =
       λ h. let (t, at_p, both) = (l.accepting p).0 h in (k.accepting p).1 (t, back p t at_p, both),
     ))
 
-pub intersection_limits : IntersectionKeepsLimits
+pub intersection_limits : TooLargeIntersectionIsNotSmall
 intersection_limits mode A B C k (inl many) within = let few = within.labels in omega (arith, k.labels)
 intersection_limits mode A B C k (inr (inl many)) within =
     let few = within.states in
     let le : length many.things ≤ length k.product_states =
     no_more (λ (x y : ProductState). x ≡ y) k.product_states (λ x z y e f. e ∙ sym f) many.things many.different
-    (λ t h. (t, (k.numbered.reached t).1 (All-contains (IsReached mode A B) many.things t many.each h), refl)) in
+    (λ t h. (t, (k.numbered.reached t).1 (All-contains (IsProductReached mode A B) many.things t many.each h), refl)) in
     omega (arith, many.many, k.states)
 intersection_limits mode A B C k (inr (inr many)) within =
     let few = within.transitions in
-    let P : JointMove → Type 0 = λ m. IsReached mode A B m.source × GoesBeside mode A B m.source m.label m.target in
-    let R : JointMove → Trans → Type 0 = λ m t. At k.product_states t.source m.source × (t.label ≡ m.label) × At k.product_states t.target m.target in
+    let P : ProductMove → Type 0 = λ m. IsProductReached mode A B m.source × GoesBeside mode A B m.source m.label m.target in
+    let R : ProductMove → Trans → Type 0 = λ m t. At k.product_states t.source m.source × (t.label ≡ m.label) × At k.product_states t.target m.target in
     let le : length many.things ≤ length C.transitions =
     no_more R C.transitions (one_move k.product_states) many.things many.different
     (λ m h.
@@ -222,7 +222,7 @@ intersection_limits mode A B C k (inr (inr many)) within =
     (trans p m.label q, (k.moves p m.label q).1 (m.source, m.target, at_p, at_q, goes), (at_p, refl, at_q))) in
     omega (arith, many.many)
   where
-    one_move : (product_states : List ProductState) (m n : JointMove) (t : Trans)
+    one_move : (product_states : List ProductState) (m n : ProductMove) (t : Trans)
         → (At product_states t.source m.source × (t.label ≡ m.label) × At product_states t.target m.target)
         → (At product_states t.source n.source × (t.label ≡ n.label) × At product_states t.target n.target)
         → m ≡ n

@@ -16,7 +16,7 @@ use Rattle.auto_core.proofs.MemberLemmas.{Rises, map_has}
 use Rattle.ba_format.specs.Sight.{first_seen, noted}
 use Rattle.auto_ops.specs.declared.product_states.ProductState.{ProductState}
 use Rattle.auto_ops.specs.Limits.{IsSmallResult}
-use Rattle.auto_ops.specs.Intersection.{JointMove, start_of, AcceptsBoth, moves_of, moves_from, same_product_state, seen_by, IsIntersection, IsIntersectionTooLarge}
+use Rattle.auto_ops.specs.Intersection.{ProductMove, start_of, IsAcceptingProductState, moves_of, moves_from, same_product_state, seen_by, IsIntersection, IsIntersectionTooLarge}
 use Rattle.auto_ops.specs.UnderWay.{IsInside, IsUnderWay, AreTooMany, IsRoomy, IsExplored, IsExploredUpto}
 use Rattle.auto_ops.specs.Laws.{IntersectionIsThere}
 use Rattle.auto_ops.proofs.SightLemmas.{Differ, all_from, apart_once, place_of, first_has}
@@ -27,32 +27,32 @@ use Rattle.auto_ops.proofs.OneLaws.{before_cases, number_cases}
 -- ---- the moves from one product state
 
 -- after a move its target is among what is seen
-target_seen : (A B : Automaton) (ms : List JointMove) (m : JointMove) → Contains (first_seen same_product_state (seen_by A B (ms ++ m ∷ []))) m.target
+target_seen : (A B : Automaton) (ms : List ProductMove) (m : ProductMove) → Contains (first_seen same_product_state (seen_by A B (ms ++ m ∷ []))) m.target
 target_seen A B ms m =
     let all = ms ++ m ∷ [] in
     let m_in : Contains all m = Contains-append_right ms (m ∷ []) m (Contains-here m m [] refl) in
     first_has same_product_state same_equal same_itself (seen_by A B all) m.target
-    (Contains-later (start_of A B) m.target (map (λ (n : JointMove). n.target) all) (map_has (λ (n : JointMove). n.target) all m m_in))
+    (Contains-later (start_of A B) m.target (map (λ (n : ProductMove). n.target) all) (map_has (λ (n : ProductMove). n.target) all m m_in))
 
 -- the moves from a product state with this number are gone through, or are too many
-abbrev AreThrough : Automaton → Automaton → List JointMove → Type 0
+abbrev AreThrough : Automaton → Automaton → List ProductMove → Type 0
 AreThrough A B ms = AreTooMany A B ms ⊎ ((new : List ProductState) × (next : List Trans) × IsUnderWay A B ms new next × IsRoomy A B new next)
 
-through : (A B : Automaton) (t : ProductState) (number : ℕ) (ms more : List JointMove) (product_states : List ProductState) (ts : List Trans)
+through : (A B : Automaton) (t : ProductState) (number : ℕ) (ms more : List ProductMove) (product_states : List ProductState) (ts : List Trans)
     → IsUnderWay A B ms product_states ts
     → IsRoomy A B product_states ts
     → At product_states number t
-    → ((m : JointMove) → Contains more m → (m.source ≡ t) × IsInside A B m.target)
+    → ((m : ProductMove) → Contains more m → (m.source ≡ t) × IsInside A B m.target)
     → AreThrough A B (ms ++ more)
 through A B t number ms [] product_states ts under roomy at all =
-    let P : List JointMove → Type 0 = λ l. IsUnderWay A B l product_states ts in
+    let P : List ProductMove → Type 0 = λ l. IsUnderWay A B l product_states ts in
     inr (product_states, ts, subst P (sym (append-nil ms)) under, roomy)
 through A B t number ms (m ∷ more) product_states ts under roomy at all =
     let (from, inside) = all m (Contains-here m m more refl) in
     let new = noted same_product_state product_states m.target in
     let next = ts ++ trans number m.label target.0 ∷ [] in
     let whole : (ms ++ m ∷ []) ++ more ≡ ms ++ m ∷ more = append_assoc ms (m ∷ []) more in
-    let Q : List JointMove → Type 0 = λ l. AreTooMany A B l in
+    let Q : List ProductMove → Type 0 = λ l. AreTooMany A B l in
     elim (cases_lt 2048 (length new)) [
       | inl many ↦ inl (subst Q whole (more_too_many A B (ms ++ m ∷ []) more (step_too_many A B ms m product_states ts under (inl many))))
       | inr few ↦ elim (cases_lt 65536 (length ts + 1)) [
@@ -79,7 +79,7 @@ through A B t number ms (m ∷ more) product_states ts under roomy at all =
 -- ---- all product states
 
 module _ (mode : Mode) (A B : Automaton) (a_valid : IsAutomaton A) (b_valid : IsAutomaton B) where
-  from_inside : (t : ProductState) (m : JointMove) → Contains (moves_of mode A B t) m → (m.source ≡ t) × IsInside A B m.target
+  from_inside : (t : ProductState) (m : ProductMove) → Contains (moves_of mode A B t) m → (m.source ≡ t) × IsInside A B m.target
   from_inside t m h =
       let (is, goes) = move_from mode A B t m h in
       (is, ((move_in_range A a_valid t.first m.label m.target.first goes.first).1, (move_in_range B b_valid t.second m.label m.target.second goes.second).1))
@@ -110,7 +110,7 @@ accepts_or_not A p = elim (cases_Bool (is_accepting A p)) [
   | inr not ↦ inr (λ h. true≢false (sym (test_from_accepting A p h) ∙ not))
 ]
 
-both_or_not : (mode : Mode) (A B : Automaton) (t : ProductState) → AcceptsBoth mode A B t ⊎ (AcceptsBoth mode A B t → ⊥)
+both_or_not : (mode : Mode) (A B : Automaton) (t : ProductState) → IsAcceptingProductState mode A B t ⊎ (IsAcceptingProductState mode A B t → ⊥)
 both_or_not Buchi A B t = elim (accepts_or_not A t.first) [
   | inr not ↦ inr (λ h. not h.0)
   | inl is ↦ elim (cases_Bool t.awaits_second) [ inl on ↦ inr (λ h. true≢false (sym on ∙ h.1)) | inr off ↦ inl (is, off) ]

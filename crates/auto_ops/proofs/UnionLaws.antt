@@ -17,7 +17,7 @@ use Rattle.auto_ops.proofs.CycleLemmas.{loops_of, accepts_by, turn_before, loop_
 accepting_below : (A : Automaton) → IsAutomaton A → (q : ℕ) → IsAccepting A q → q < A.states
 accepting_below A valid q h = All-contains (λ x. x < A.states) A.accepting q valid.accepting_in_range h
 
--- A with its states moved by the offset is a part of U, and U's state 0 moves as A's initial state does.
+-- A with its states shifted by the offset is a part of U, and U's state 0 moves as A's initial state does.
 pub record IsPart (A U : Automaton) (offset : ℕ) : Type 0 where
   pub some : 1 ≤ offset
   pub forward : (r a s : ℕ) → Moves A r a s → Moves U (offset + r) a (offset + s)

@@ -15,8 +15,8 @@ use Rattle.auto_core.proofs.PathLemmas.{Contains-here, Contains-cons_cases, none
 use Rattle.auto_core.proofs.MoveLemmas.{move_in_range}
 use Rattle.auto_core.proofs.MemberLemmas.{Rises, rises_from_pairs, filter_has, filter_from, map_has, map_from, range_has, range_rises}
 use Rattle.auto_ops.specs.Limits.{IsSmallResult, AreMoreThan}
-use Rattle.auto_ops.specs.Union.{IsCopied, second_offset, UnionMoves, IsMovedAccepting, AcceptsAtOnce, IsUnion}
-use Rattle.auto_ops.specs.UnionParts.{moved, copied, leaves, first_moves, transitions_of_one, union_transitions, accepting_of_one, accepts_at_once, start_if, union_accepting, IsSmallUnion}
+use Rattle.auto_ops.specs.Union.{IsMoveOfOne, second_offset, UnionMoves, IsShiftedAccepting, AcceptsAtOnce, IsUnion}
+use Rattle.auto_ops.specs.UnionParts.{shifted, copied, leaves, first_moves, transitions_of_one, union_transitions, accepting_of_one, accepts_at_once, start_if, union_accepting, IsSmallUnion}
 use Rattle.auto_ops.proofs.SightLemmas.{Differ, apart_append, apart_map, apart_filter, apart_once, increasing_apart, all_from}
 
 -- ---- transitions
@@ -38,22 +38,22 @@ transitions_apart A valid = rises_from_pairs Differ A.transitions (λ i j d lt j
     (get_or_default A.transitions i (trans 0 0 0) d i_in ∙ e ∙ get_or_default A.transitions j d (trans 0 0 0) j_in))
 
 module _ (A : Automaton) (offset : ℕ) where
-  pub one_has : (p a q : ℕ) → IsCopied A offset p a q → Contains (transitions_of_one A offset) (trans p a q)
+  pub one_has : (p a q : ℕ) → IsMoveOfOne A offset p a q → Contains (transitions_of_one A offset) (trans p a q)
   one_has p a q (r, s, m, inl e, is) =
-      let there = Contains-append_left (map (moved offset) A.transitions) (map (copied offset) (first_moves A)) (trans (offset + r) a (offset + s)) (map_has (moved offset) A.transitions (trans r a s) m) in
+      let there = Contains-append_left (map (shifted offset) A.transitions) (map (copied offset) (first_moves A)) (trans (offset + r) a (offset + s)) (map_has (shifted offset) A.transitions (trans r a s) m) in
       subst (λ x. Contains (transitions_of_one A offset) (trans x a q)) (sym e) (subst (λ x. Contains (transitions_of_one A offset) (trans (offset + r) a x)) (sym is) there)
   one_has p a q (r, s, m, inr z, is) =
       let first = filter_has (leaves A.initial) A.transitions (trans r a s) m (eq-eqb r A.initial z.1) in
-      let there = Contains-append_right (map (moved offset) A.transitions) (map (copied offset) (first_moves A)) (trans 0 a (offset + s)) (map_has (copied offset) (first_moves A) (trans r a s) first) in
+      let there = Contains-append_right (map (shifted offset) A.transitions) (map (copied offset) (first_moves A)) (trans 0 a (offset + s)) (map_has (copied offset) (first_moves A) (trans r a s) first) in
       subst (λ x. Contains (transitions_of_one A offset) (trans x a q)) (sym z.0) (subst (λ x. Contains (transitions_of_one A offset) (trans 0 a x)) (sym is) there)
 
   with_label : (u : Trans) (p a q : ℕ) → u.label ≡ a → Contains A.transitions u → Moves A u.source a u.target
   with_label u p a q e h = subst (λ x. Moves A u.source x u.target) e h
 
-  pub one_from : (p a q : ℕ) → Contains (transitions_of_one A offset) (trans p a q) → IsCopied A offset p a q
-  one_from p a q h = elim (Contains-append_cases (map (moved offset) A.transitions) (map (copied offset) (first_moves A)) (trans p a q) h) [
+  pub one_from : (p a q : ℕ) → Contains (transitions_of_one A offset) (trans p a q) → IsMoveOfOne A offset p a q
+  one_from p a q h = elim (Contains-append_cases (map (shifted offset) A.transitions) (map (copied offset) (first_moves A)) (trans p a q) h) [
     | inl near ↦
-        let (u, there, is) = map_from (moved offset) A.transitions (trans p a q) near in
+        let (u, there, is) = map_from (shifted offset) A.transitions (trans p a q) near in
         (u.source, u.target, with_label u p a q (ap (λ (t : Trans). t.label) is) there, inl (sym (ap (λ (t : Trans). t.source) is)), sym (ap (λ (t : Trans). t.target) is))
     | inr far ↦
         let (u, first, is) = map_from (copied offset) (first_moves A) (trans p a q) far in
@@ -64,8 +64,8 @@ module _ (A : Automaton) (offset : ℕ) where
   pub one_apart : 1 ≤ offset → IsAutomaton A → Rises Differ (transitions_of_one A offset)
   one_apart some valid =
       let apart = transitions_apart A valid in
-      apart_append (map (moved offset) A.transitions) (map (copied offset) (first_moves A))
-      (apart_map (moved offset) A.transitions (λ t u t_in u_in e.
+      apart_append (map (shifted offset) A.transitions) (map (copied offset) (first_moves A))
+      (apart_map (shifted offset) A.transitions (λ t u t_in u_in e.
       let s : offset + t.source ≡ offset + u.source = ap (λ (x : Trans). x.source) e in
       let g : offset + t.target ≡ offset + u.target = ap (λ (x : Trans). x.target) e in
       same_parts t u (omega arith) (ap (λ (x : Trans). x.label) e) (omega arith)) apart)
@@ -75,7 +75,7 @@ module _ (A : Automaton) (offset : ℕ) where
       let r = eqb-true u.source A.initial (filter_from (leaves A.initial) A.transitions u u_in).1 in
       same_parts t u (s ∙ sym r) (ap (λ (x : Trans). x.label) e) (omega arith)) (apart_filter (leaves A.initial) A.transitions apart))
       (λ t near far.
-      let (u, _, is) = map_from (moved offset) A.transitions t near in
+      let (u, _, is) = map_from (shifted offset) A.transitions t near in
       let (x, _, is') = map_from (copied offset) (first_moves A) t far in
       let s : offset + u.source ≡ t.source = ap (λ (y : Trans). y.source) is in
       let z : 0 ≡ t.source = ap (λ (y : Trans). y.source) is' in
@@ -86,7 +86,7 @@ module _ (A : Automaton) (offset : ℕ) where
       let there = filter_has (is_accepting A) (range_with_len 0 n) r (range_has n r r_in) (test_from_accepting A r acc) in
       subst (Contains (accepting_of_one A offset n)) (sym is) (map_has (λ q. offset + q) (filter (is_accepting A) (range_with_len 0 n)) r there)
 
-  pub accepting_from : (n p : ℕ) → Contains (accepting_of_one A offset n) p → IsMovedAccepting A offset p
+  pub accepting_from : (n p : ℕ) → Contains (accepting_of_one A offset n) p → IsShiftedAccepting A offset p
   accepting_from n p h =
       let (r, there, is) = map_from (λ q. offset + q) (filter (is_accepting A) (range_with_len 0 n)) p h in
       (r, accepting_from_test A r (filter_from (is_accepting A) (range_with_len 0 n) r there).1, sym is)
@@ -177,7 +177,7 @@ module _ (A B : Automaton) (a_valid : IsAutomaton A) (b_valid : IsAutomaton B) w
   in_labels same p a q (inr (r, s, m, from, is)) = let lt = (move_in_range B b_valid r a s m).2 in omega arith
 
   module _ (mode : Mode) where
-    pub accepted_has : (p : ℕ) → (IsMovedAccepting A 1 p ⊎ IsMovedAccepting B (second_offset A) p ⊎ ((p ≡ 0) × AcceptsAtOnce mode A B)) → Contains (union_accepting mode A B) p
+    pub accepted_has : (p : ℕ) → (IsShiftedAccepting A 1 p ⊎ IsShiftedAccepting B (second_offset A) p ⊎ ((p ≡ 0) × AcceptsAtOnce mode A B)) → Contains (union_accepting mode A B) p
     accepted_has p (inl (r, acc, is)) =
         Contains-append_left (start_if (accepts_at_once mode A B) ++ accepting_of_one A 1 A.states) (accepting_of_one B (second_offset A) B.states) p
         (Contains-append_right (start_if (accepts_at_once mode A B)) (accepting_of_one A 1 A.states) p (accepting_has A 1 A.states p (r, accepting_below A a_valid r acc, acc, is)))
@@ -188,7 +188,7 @@ module _ (A B : Automaton) (a_valid : IsAutomaton A) (b_valid : IsAutomaton B) w
         Contains-append_left (start_if (accepts_at_once mode A B) ++ accepting_of_one A 1 A.states) (accepting_of_one B (second_offset A) B.states) p
         (Contains-append_left (start_if (accepts_at_once mode A B)) (accepting_of_one A 1 A.states) p (start_has (accepts_at_once mode A B) p e ((at_once mode A B).1 once)))
 
-    pub accepted_from : (p : ℕ) → Contains (union_accepting mode A B) p → (IsMovedAccepting A 1 p ⊎ IsMovedAccepting B (second_offset A) p ⊎ ((p ≡ 0) × AcceptsAtOnce mode A B))
+    pub accepted_from : (p : ℕ) → Contains (union_accepting mode A B) p → (IsShiftedAccepting A 1 p ⊎ IsShiftedAccepting B (second_offset A) p ⊎ ((p ≡ 0) × AcceptsAtOnce mode A B))
     accepted_from p h = elim (Contains-append_cases (start_if (accepts_at_once mode A B) ++ accepting_of_one A 1 A.states) (accepting_of_one B (second_offset A) B.states) p h) [
       | inl front ↦ elim (Contains-append_cases (start_if (accepts_at_once mode A B)) (accepting_of_one A 1 A.states) p front) [
         | inl zero_there ↦ let (e, b) = start_from (accepts_at_once mode A B) p zero_there in inr (inr (e, (at_once mode A B).0 b))
@@ -215,7 +215,7 @@ module _ (A B : Automaton) (a_valid : IsAutomaton A) (b_valid : IsAutomaton B) w
               omega arith
         ])
 
-    pub accepted_below : (p : ℕ) → (IsMovedAccepting A 1 p ⊎ IsMovedAccepting B (second_offset A) p ⊎ ((p ≡ 0) × AcceptsAtOnce mode A B)) → p < second_offset A + B.states
+    pub accepted_below : (p : ℕ) → (IsShiftedAccepting A 1 p ⊎ IsShiftedAccepting B (second_offset A) p ⊎ ((p ≡ 0) × AcceptsAtOnce mode A B)) → p < second_offset A + B.states
     accepted_below p (inl (r, acc, is)) = let r_in = accepting_below A a_valid r acc in omega arith
     accepted_below p (inr (inl (r, acc, is))) = let r_in = accepting_below B b_valid r acc in omega arith
     accepted_below p (inr (inr (e, once))) = omega arith

@@ -33,8 +33,8 @@ abbrev pub UnionIsOne : Type 0
 UnionIsOne = (mode : Mode) (A B U V : Automaton) → IsUnion mode A B U → IsUnion mode A B V → U ≡ V
 
 -- It is not within the limits of a result if it is too large.
-abbrev pub UnionKeepsLimits : Type 0
-UnionKeepsLimits = (mode : Mode) (A B U : Automaton) → IsUnion mode A B U → IsUnionTooLarge A B → IsSmallResult U → ⊥
+abbrev pub TooLargeUnionIsNotSmall : Type 0
+TooLargeUnionIsNotSmall = (mode : Mode) (A B U : Automaton) → IsUnion mode A B U → IsUnionTooLarge A B → IsSmallResult U → ⊥
 
 -- If it is not too large, there is one, and it is within the limits.
 abbrev pub UnionIsThere : Type 0
@@ -51,5 +51,5 @@ IntersectionIsThere = (mode : Mode) (A B : Automaton) → IsAutomaton A → IsAu
     (C : Automaton) × IsIntersection mode A B C × IsSmallResult C
 
 -- It is not within the limits of a result if it is too large.
-abbrev pub IntersectionKeepsLimits : Type 0
-IntersectionKeepsLimits = (mode : Mode) (A B C : Automaton) → IsIntersection mode A B C → IsIntersectionTooLarge mode A B → IsSmallResult C → ⊥
+abbrev pub TooLargeIntersectionIsNotSmall : Type 0
+TooLargeIntersectionIsNotSmall = (mode : Mode) (A B C : Automaton) → IsIntersection mode A B C → IsIntersectionTooLarge mode A B → IsSmallResult C → ⊥

@@ -8,8 +8,8 @@ use Rattle.auto_ops.specs.Limits.{most_states, most_transitions, most_labels, Ar
 
 -- Where the state r of A has the number offset + r: a move of A under these numbers, or a copy that leaves the new state 0 of a move
 -- that leaves A's initial state.
-abbrev pub IsCopied : Automaton → ℕ → ℕ → ℕ → ℕ → Type 0
-IsCopied A offset p a q = (r s : ℕ) × Moves A r a s × ((p ≡ offset + r) ⊎ ((p ≡ 0) × (r ≡ A.initial))) × (q ≡ offset + s)
+abbrev pub IsMoveOfOne : Automaton → ℕ → ℕ → ℕ → ℕ → Type 0
+IsMoveOfOne A offset p a q = (r s : ℕ) × Moves A r a s × ((p ≡ offset + r) ⊎ ((p ≡ 0) × (r ≡ A.initial))) × (q ≡ offset + s)
 
 -- The number in the union of the second automaton's state 0, where the first is A.
 abbrev pub second_offset : Automaton → ℕ
@@ -17,11 +17,11 @@ second_offset A = 1 + A.states
 
 -- The moves of the union of A and B.
 abbrev pub UnionMoves : Automaton → Automaton → ℕ → ℕ → ℕ → Type 0
-UnionMoves A B p a q = IsCopied A 1 p a q ⊎ IsCopied B (second_offset A) p a q
+UnionMoves A B p a q = IsMoveOfOne A 1 p a q ⊎ IsMoveOfOne B (second_offset A) p a q
 
 -- An accepting state of A, where its state r has the number offset + r.
-abbrev pub IsMovedAccepting : Automaton → ℕ → ℕ → Type 0
-IsMovedAccepting A offset p = (r : ℕ) × IsAccepting A r × (p ≡ offset + r)
+abbrev pub IsShiftedAccepting : Automaton → ℕ → ℕ → Type 0
+IsShiftedAccepting A offset p = (r : ℕ) × IsAccepting A r × (p ≡ offset + r)
 
 -- Over finite words one of the two initial states is accepting.
 abbrev pub AcceptsAtOnce : Mode → Automaton → Automaton → Type 0
@@ -37,7 +37,7 @@ pub record IsUnion (mode : Mode) (A B U : Automaton) : Type 0 where
   pub accepting :
       (p : ℕ)
       → IsAccepting U p
-      ↔ (IsMovedAccepting A 1 p ⊎ IsMovedAccepting B (second_offset A) p ⊎ ((p ≡ 0) × AcceptsAtOnce mode A B))
+      ↔ (IsShiftedAccepting A 1 p ⊎ IsShiftedAccepting B (second_offset A) p ⊎ ((p ≡ 0) × AcceptsAtOnce mode A B))
 
 -- The union has more states, transitions or labels than a result may have.
 abbrev pub IsUnionTooLarge : Automaton → Automaton → Type 0

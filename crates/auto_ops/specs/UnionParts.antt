@@ -8,9 +8,9 @@ use Rattle.auto_core.specs.declared.parts.Trans.{Trans}
 use Rattle.auto_ops.specs.Union.{second_offset}
 use Rattle.auto_ops.specs.Limits.{most_states, most_transitions, most_labels}
 
--- The transition with both of its states moved by the offset.
-abbrev pub moved : ℕ → Trans → Trans
-moved offset t = trans (offset + t.source) t.label (offset + t.target)
+-- The transition with both of its states shifted by the offset.
+abbrev pub shifted : ℕ → Trans → Trans
+shifted offset t = trans (offset + t.source) t.label (offset + t.target)
 
 -- Its copy that leaves the new state.
 abbrev pub copied : ℕ → Trans → Trans
@@ -24,15 +24,15 @@ leaves p t = t.source == p
 abbrev pub first_moves : Automaton → List Trans
 first_moves A = filter (leaves A.initial) A.transitions
 
--- All that the union has of one automaton: its transitions, moved, and the copies.
+-- All that the union has of one automaton: its transitions, shifted, and the copies.
 abbrev pub transitions_of_one : Automaton → ℕ → List Trans
-transitions_of_one A offset = map (moved offset) A.transitions ++ map (copied offset) (first_moves A)
+transitions_of_one A offset = map (shifted offset) A.transitions ++ map (copied offset) (first_moves A)
 
 -- All transitions of the union.
 abbrev pub union_transitions : Automaton → Automaton → List Trans
 union_transitions A B = transitions_of_one A 1 ++ transitions_of_one B (second_offset A)
 
--- The accepting states below n, moved.
+-- The accepting states below n, shifted.
 abbrev pub accepting_of_one : Automaton → ℕ → ℕ → List ℕ
 accepting_of_one A offset n = map (λ q. offset + q) (filter (is_accepting A) (range_with_len 0 n))
 

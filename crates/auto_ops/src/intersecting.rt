@@ -5,7 +5,7 @@ ghost use Rattle.auto_core.specs.Automaton.{IsAutomaton, HasRepeat};
 ghost use Rattle.auto_core.specs.Outcome.{At};
 ghost use Rattle.auto_ops.specs.declared.fault.OpFault.{OpFault};
 ghost use Rattle.auto_ops.specs.Limits.{IsSmallResult};
-ghost use Rattle.auto_ops.specs.Intersection.{AcceptsBoth, IsIntersection, IsIntersectionTooLarge};
+ghost use Rattle.auto_ops.specs.Intersection.{IsAcceptingProductState, IsIntersection, IsIntersectionTooLarge};
 ghost use Rattle.auto_ops.specs.UnderWay.{IsInside, IsExplored};
 
 use crate::fault::OpFault;
@@ -42,7 +42,7 @@ fn accepting_numbers(
 ) -> Result<Vec<u32>, Memory>
     requires inside { All (IsInside first.now second.now) product_states.now }
     requires few { length product_states.now < 2 ^ 32 }
-    ensures members { IfOk result (λ v. (n : ℕ) → Contains v.items n ↔ ((t : ProductState) × At product_states.now n t × AcceptsBoth mode first.now second.now t)) }
+    ensures members { IfOk result (λ v. (n : ℕ) → Contains v.items n ↔ ((t : ProductState) × At product_states.now n t × IsAcceptingProductState mode first.now second.now t)) }
     ensures once { IfOk result (λ v. HasRepeat v.items → ⊥) }
 {
     let mut made = Vec::new(alloc);

@@ -1,6 +1,6 @@
 //! The laws of unions and intersections: each is the contract of a function that does nothing.
 
-ghost use Rattle.auto_ops.specs.Laws.{UnionOfLassos, UnionOfWords, IntersectionOfLassos, IntersectionOfWords, UnionIsOne, UnionKeepsLimits, UnionIsThere, IntersectionIsOne, IntersectionIsThere, IntersectionKeepsLimits};
+ghost use Rattle.auto_ops.specs.Laws.{UnionOfLassos, UnionOfWords, IntersectionOfLassos, IntersectionOfWords, UnionIsOne, TooLargeUnionIsNotSmall, UnionIsThere, IntersectionIsOne, IntersectionIsThere, TooLargeIntersectionIsNotSmall};
 
 /// The union accepts a lasso just where one of the two does.
 pub fn union_of_lassos()
@@ -28,8 +28,8 @@ pub fn union_is_one()
 {}
 
 /// A union that is too large is not within the limits of a result.
-pub fn union_keeps_limits()
-    ensures { UnionKeepsLimits }
+pub fn a_too_large_union_is_not_small()
+    ensures { TooLargeUnionIsNotSmall }
 {}
 
 /// A union that is not too large is there, and within the limits.
@@ -43,8 +43,8 @@ pub fn intersection_is_one()
 {}
 
 /// An intersection that is too large is not within the limits of a result.
-pub fn intersection_keeps_limits()
-    ensures { IntersectionKeepsLimits }
+pub fn a_too_large_intersection_is_not_small()
+    ensures { TooLargeIntersectionIsNotSmall }
 {}
 
 /// An intersection that is not too large is there, and within the limits.

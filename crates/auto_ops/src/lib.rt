@@ -11,4 +11,4 @@ mod uniting;
 
 pub use fault::OpFault;
 pub use intersecting::intersect;
-pub use uniting::{add_accepting, add_moved, union};
+pub use uniting::{add_accepting, add_shifted, union};

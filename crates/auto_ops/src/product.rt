@@ -7,7 +7,7 @@ ghost use Rattle.auto_core.specs.Outcome.{At};
 ghost use Rattle.auto_core.specs.declared.parts.Trans.{Trans as Step};
 ghost use Rattle.ba_format.specs.Sight.{noted};
 ghost use Rattle.auto_ops.specs.Limits.{most_states, most_transitions};
-ghost use Rattle.auto_ops.specs.Intersection.{JointMove, same_product_state, awaits_after, moves_beside, moves_of, moves_from, start_of, AreNumbered, IsReached};
+ghost use Rattle.auto_ops.specs.Intersection.{ProductMove, same_product_state, awaits_after, moves_beside, moves_of, moves_from, start_of, AreNumberedBySight, IsProductReached};
 ghost use Rattle.auto_ops.specs.UnderWay.{AreMoves, IsInside, IsUnderWay, AreTooMany, IsRoomy, IsBegun};
 
 use crate::fault::OpFault;
@@ -105,10 +105,10 @@ impl Product {
         requires step { step.target < first.now.states }
         ensures roomy { OnOk result (IsRoomy first.now second.now self.new.product_states.items self.new.transitions.items) }
         ensures at { OnOk result (At self.new.product_states.items number product_state) }
-        ensures added { (ms : List JointMove)
+        ensures added { (ms : List ProductMove)
             → IsUnderWay first.now second.now ms self.old.product_states.items self.old.transitions.items
             → OnOk result (IsUnderWay first.now second.now (ms ++ moves_beside mode first.now second.now product_state step) self.new.product_states.items self.new.transitions.items) }
-        ensures too_large { (ms : List JointMove)
+        ensures too_large { (ms : List ProductMove)
             → IsUnderWay first.now second.now ms self.old.product_states.items self.old.transitions.items
             → result ≡ Err OpFault.TooLarge
             → AreTooMany first.now second.now (ms ++ moves_beside mode first.now second.now product_state step) }
@@ -139,10 +139,10 @@ impl Product {
         requires at { At self.old.product_states.items number product_state }
         requires roomy { IsRoomy first.now second.now self.old.product_states.items self.old.transitions.items }
         ensures roomy { OnOk result (IsRoomy first.now second.now self.new.product_states.items self.new.transitions.items) }
-        ensures added { (ms : List JointMove)
+        ensures added { (ms : List ProductMove)
             → IsUnderWay first.now second.now ms self.old.product_states.items self.old.transitions.items
             → OnOk result (IsUnderWay first.now second.now (ms ++ moves_of mode first.now second.now product_state) self.new.product_states.items self.new.transitions.items) }
-        ensures too_large { (ms : List JointMove)
+        ensures too_large { (ms : List ProductMove)
             → IsUnderWay first.now second.now ms self.old.product_states.items self.old.transitions.items
             → result ≡ Err OpFault.TooLarge
             → AreTooMany first.now second.now (ms ++ moves_of mode first.now second.now product_state) }

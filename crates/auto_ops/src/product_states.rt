@@ -3,7 +3,7 @@
 ghost use Rattle.std.specs.Prelude.{◌≡◌, ◌<◌, ◌≤◌, ◌↔◌, length, IsTrue, false};
 ghost use Rattle.std.specs.List.{list_any};
 ghost use Rattle.auto_core.specs.Outcome.{At};
-ghost use Rattle.auto_ops.specs.Intersection.{same_product_state, awaits_after, AcceptsBoth};
+ghost use Rattle.auto_ops.specs.Intersection.{same_product_state, awaits_after, IsAcceptingProductState};
 
 use auto_core::{Auto, Mode};
 
@@ -67,7 +67,7 @@ pub fn next_awaits(first: &Auto, second: &Auto, mode: Mode, product_state: Produ
 pub fn accepts(first: &Auto, second: &Auto, mode: Mode, product_state: ProductState) -> bool
     requires first { product_state.first < first.now.states }
     requires second { product_state.second < second.now.states }
-    ensures { IsTrue result ↔ AcceptsBoth mode first.now second.now product_state }
+    ensures { IsTrue result ↔ IsAcceptingProductState mode first.now second.now product_state }
 {
     if !first.accepting(product_state.first) {
         return false;

@@ -4,7 +4,7 @@ ghost use Rattle.std.specs.Prelude.{◌≡◌, ◌+◌, ◌^◌, ◌<◌, ◌≤
 ghost use Rattle.auto_ops.specs.declared.fault.OpFault.{OpFault};
 ghost use Rattle.auto_ops.specs.Limits.{IsSmallResult};
 ghost use Rattle.auto_ops.specs.Union.{IsUnion, IsUnionTooLarge, second_offset};
-ghost use Rattle.auto_ops.specs.UnionParts.{moved, copied, first_moves, transitions_of_one, union_transitions, accepting_of_one, accepts_at_once, start_if, union_accepting, IsSmallUnion};
+ghost use Rattle.auto_ops.specs.UnionParts.{shifted, copied, first_moves, transitions_of_one, union_transitions, accepting_of_one, accepts_at_once, start_if, union_accepting, IsSmallUnion};
 
 use crate::fault::OpFault;
 use crate::limits::{MOST_LABELS, MOST_STATES, MOST_TRANSITIONS};
@@ -28,10 +28,10 @@ fn count_first(automaton: &Auto) -> usize
     count
 }
 
-/// Appends the transitions, with both of their states moved by the offset.
-pub fn add_moved(made: &mut Vec<Trans>, automaton: &Auto, offset: u32) -> Result<(), Memory>
+/// Appends the transitions, with both of their states shifted by the offset.
+pub fn add_shifted(made: &mut Vec<Trans>, automaton: &Auto, offset: u32) -> Result<(), Memory>
     requires { offset + automaton.now.states < 2 ^ 32 }
-    ensures { OnOk result (made.new.items ≡ made.old.items ++ map (moved offset) automaton.now.transitions) }
+    ensures { OnOk result (made.new.items ≡ made.old.items ++ map (shifted offset) automaton.now.transitions) }
 {
     let transitions = automaton.transitions();
     for at in 0..transitions.len() {
@@ -65,7 +65,7 @@ fn add_copied(made: &mut Vec<Trans>, automaton: &Auto, offset: u32) -> Result<()
     Ok(())
 }
 
-/// Appends the accepting states, moved by the offset.
+/// Appends the accepting states, shifted by the offset.
 pub fn add_accepting(made: &mut Vec<u32>, automaton: &Auto, offset: u32) -> Result<(), Memory>
     requires { offset + automaton.now.states < 2 ^ 32 }
     ensures { OnOk result (made.new.items ≡ made.old.items ++ accepting_of_one automaton.now offset automaton.now.states) }
@@ -78,16 +78,16 @@ pub fn add_accepting(made: &mut Vec<u32>, automaton: &Auto, offset: u32) -> Resu
     Ok(())
 }
 
-/// All transitions of the union: the first's, moved, with its copies, and then the second's.
+/// All transitions of the union: the first's, shifted, with its copies, and then the second's.
 fn all_transitions(alloc: Global, first: &Auto, second: &Auto) -> Result<Vec<Trans>, Memory>
     requires { second_offset first.now + second.now.states < 2 ^ 32 }
     ensures { IfOk result (λ v. v.items ≡ union_transitions first.now second.now) }
 {
     let offset = 1 + first.states();
     let mut made = Vec::new(alloc);
-    add_moved(&mut made, first, 1)?;
+    add_shifted(&mut made, first, 1)?;
     add_copied(&mut made, first, 1)?;
-    add_moved(&mut made, second, offset)?;
+    add_shifted(&mut made, second, offset)?;
     add_copied(&mut made, second, offset)?;
     Ok(made)
 }

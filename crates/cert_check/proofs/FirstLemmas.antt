@@ -9,7 +9,7 @@ use Rattle.search_laws.proofs.ListLemmas.{read_map}
 use Rattle.search_laws.proofs.PlaceLemmas.{read_at}
 use Rattle.shared_graphs.specs.declared.graphs.Graph.{Graph}
 use Rattle.shared_graphs.specs.Graphs.{block_at}
-use Rattle.cert_check.specs.Firsts.{known_by, IsKnown, AreFirsts}
+use Rattle.cert_check.specs.Firsts.{known_by, IsBlockKnown, AreFirsts}
 
 some_is : {X : Type 0} (x y : X) → Some x ≡ Some y → x ≡ y
 some_is x y e = cc
@@ -18,11 +18,11 @@ none_is_some : {X : Type 0} (x : X) → None ≡ Some x → ⊥
 none_is_some x e = cc
 
 -- The block was known, or it becomes known.
-pub known_already : (known : BTreeMap (Bor (List ℕ)) ℕ) (block : List ℕ) (number first : ℕ) → known_by known block ≡ Some first → IsKnown known known block number first
+pub known_already : (known : BTreeMap (Bor (List ℕ)) ℕ) (block : List ℕ) (number first : ℕ) → known_by known block ≡ Some first → IsBlockKnown known known block number first
 known_already known block number first is = record { here = is; stay = λ b k was. was; only = λ b k was. inl was }
 
 pub known_now : (old new : BTreeMap (Bor (List ℕ)) ℕ) (block : List ℕ) (number : ℕ) → known_by old block ≡ None →
-    ((b : List ℕ) → known_by new b ≡ cond (bytes_eq block b) (Some number) (known_by old b)) → IsKnown old new block number number
+    ((b : List ℕ) → known_by new b ≡ cond (bytes_eq block b) (Some number) (known_by old b)) → IsBlockKnown old new block number number
 known_now old new block number none updates = record {
   here = elim (cases block) [ inl (same, is) ↦ is | inr (differs, is) ↦ absurd (differs refl) ];
   stay = λ b k was. elim (cases b) [
@@ -49,14 +49,14 @@ block_is graphs k g lt is = read_map (λ (x : Graph). x.block.items) graphs k g 
 
 -- One graph more.
 pub held_more : (graphs : List Graph) (old new : BTreeMap (Bor (List ℕ)) ℕ) (k first : ℕ) → ((b : List ℕ) (m : ℕ) → known_by old b ≡ Some m → block_at graphs m ≡ b) →
-    IsKnown old new (block_at graphs k) k first → (b : List ℕ) (m : ℕ) → known_by new b ≡ Some m → block_at graphs m ≡ b
+    IsBlockKnown old new (block_at graphs k) k first → (b : List ℕ) (m : ℕ) → known_by new b ≡ Some m → block_at graphs m ≡ b
 held_more graphs old new k first held known b m is = elim (known.only b m is) [
   | inl was ↦ held b m was
   | inr (same, last) ↦ ap (block_at graphs) last ∙ sym same
 ]
 
 pub told_more : (graphs : List Graph) (old new : BTreeMap (Bor (List ℕ)) ℕ) (firsts next : List ℕ) (k first : ℕ) → length firsts ≡ k →
-    ((j : ℕ) → j < k → known_by old (block_at graphs j) ≡ Some (slice_index_or firsts j 0)) → IsKnown old new (block_at graphs k) k first → next ≡ firsts ++ first ∷ [] →
+    ((j : ℕ) → j < k → known_by old (block_at graphs j) ≡ Some (slice_index_or firsts j 0)) → IsBlockKnown old new (block_at graphs k) k first → next ≡ firsts ++ first ∷ [] →
     (j : ℕ) → j < k + 1 → known_by new (block_at graphs j) ≡ Some (slice_index_or next j 0)
 told_more graphs old new firsts next k first size told known next_is j lt = elim (cases_lt j k) [
   | inl before ↦

@@ -24,8 +24,8 @@ use Rattle.cert_check.specs.Inclusion.{element_arcs, element_checks, no_element,
 use Rattle.cert_check.specs.Laws.{ValidListShows}
 use Rattle.graph_laws.proofs.OriginLemmas.{placed_arcs_are_real}
 use Rattle.search_laws.proofs.PairEntryLemmas.{placed_pairs_are_reached}
-use Rattle.cert_check.specs.Listing.{AreListedIn, AreListedRuns, as_elements, SameIn, count_checks, difference_checks, listing_checks}
-use Rattle.cert_check.specs.Rules.{BodyHolds, KeepsRules, ListHolds, ListsRuns}
+use Rattle.cert_check.specs.Listing.{AreListedIn, AreDifferentListed, as_elements, SameIn, count_checks, difference_checks, listing_checks}
+use Rattle.cert_check.specs.Rules.{BodyHolds, KeepsRules, ListHolds, ListsDifferent}
 use Rattle.cert_check.proofs.ClosedLemmas.{list_parts, list_formed}
 use Rattle.cert_check.proofs.PlaceLemmas.{IsPlacedIn, placed_one}
 
@@ -107,13 +107,13 @@ module _ (m : Mode) (n : ℕ) (A B : Automaton) (list : ListBody) (elements : Li
       (tells_after (Unit {0}) (held elements) (count_checks list n ++ new elements) r h (tells_after (Unit {0}) (count_checks list n) (new elements) r (count, tt) told))
 
 -- The arcs of different origins are those of runs.
-pub listed_in : (m : Mode) (A B : Automaton) (count : ℕ) (origins : List Origin) → AreListedIn m A B count origins → AreListedRuns m A B count origins
+pub listed_in : (m : Mode) (A B : Automaton) (count : ℕ) (origins : List Origin) → AreListedIn m A B count origins → AreDifferentListed m A B count origins
 listed_in Buchi A B count origins d = record { listed = d; real = placed_arcs_are_real A origins d.placed }
 listed_in Finite A B count origins d = record { listed = d; real = placed_pairs_are_reached A origins d.placed }
 
 -- What the elements of a list show of the automata that the logs lead to.
 pub listed : (m : Mode) (n : ℕ) (A B : Automaton) (list : ListBody) → list_all (is_origin m) list.elements ≡ true → AllHold (listing_checks m list n A B) →
-    AreListedRuns m A B (list.limit + 1) list.elements
+    AreDifferentListed m A B (list.limit + 1) list.elements
 listed Buchi n A B list fits hold =
     listed_in Buchi A B (list.limit + 1) list.elements
     (record { size = size Buchi n A B list fits hold; placed = placed Buchi n A B list fits hold; differ = differ Buchi n A B list fits hold })
@@ -122,14 +122,14 @@ listed Finite n A B list fits hold =
     (record { size = size Finite n A B list fits hold; placed = placed Finite n A B list fits hold; differ = differ Finite n A B list fits hold })
 
 -- What a list shows that keeps its rules.
-pub list_shows : (v : ℕ) (m : Mode) (pair : Joined) (list : ListBody) → is_listing v m list ≡ true → ListHolds m pair list → ListsRuns m pair (list.limit + 1) list
+pub list_shows : (v : ℕ) (m : Mode) (pair : Joined) (list : ListBody) → is_listing v m list ≡ true → ListHolds m pair list → ListsDifferent m pair (list.limit + 1) list
 list_shows v m pair list formed h = record {
   ends = h.ends;
   logs = h.logs;
   listed = listed m (item_after list.first list.second) h.ends.first h.ends.second list (list_parts v m list formed).origins h.hold;
 }
 
-pub kept_list_shows : (pair : Joined) (cert : Cert) (list : ListBody) → cert.body ≡ Listing list → WellFormed cert → KeepsRules pair cert → ListsRuns cert.mode pair (list.limit + 1) list
+pub kept_list_shows : (pair : Joined) (cert : Cert) (list : ListBody) → cert.body ≡ Listing list → WellFormed cert → KeepsRules pair cert → ListsDifferent cert.mode pair (list.limit + 1) list
 kept_list_shows pair cert list is formed hold = list_shows cert.version cert.mode pair list (list_formed cert list is formed) (subst (λ b. BodyHolds cert.mode pair b) is hold.1)
 
 pub valid_list : ValidListShows

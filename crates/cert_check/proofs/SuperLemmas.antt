@@ -34,7 +34,7 @@ use Rattle.shared_graphs.specs.Memo.{AllTold}
 use Rattle.shared_graphs.specs.Graphs.{block_at, HasGrown, HasNumber, IsGraphOf, IsStock, FitsLetter, FitsStep}
 use Rattle.shared_graphs.specs.GraphPairs.{FitsCovering}
 use Rattle.shared_graphs.proofs.GraphsLemmas.{letters_stay, steps_stay, coverings_stay}
-use Rattle.cert_check.specs.Supers.{held_arc, held_number, held_block, no_arc, IsBlock, IsArcIn, HasWord, StandFor, IsNumbered, IsLonger, AreSupers, IsOrder}
+use Rattle.cert_check.specs.Supers.{held_arc, held_number, held_block, no_arc, IsBlock, IsArcIn, HasWord, StandFor, IsGraphNumbered, IsLonger, AreSupers, IsEvidenceOrder}
 use Rattle.cert_check.specs.declared.blocks.Numbered.{Numbered}
 use Rattle.cert_check.specs.declared.elements.Supers.{Supers}
 use Rattle.cert_check.specs.declared.orders.Order.{Order}
@@ -66,7 +66,7 @@ module _ (m : Mode) (A B : Automaton) (elements : List Element) (n : ℕ) (old n
 -- One more arc and number.
 module _ (m : Mode) (A B : Automaton) (elements : List Element) (n : ℕ) (old new : Supers) (it : Numbered)
     (arcs : new.arcs.items ≡ old.arcs.items ++ it.arc ∷ []) (numbers : new.numbers.items ≡ old.numbers.items ++ it.number ∷ [])
-    (are : AreSupers m A B elements n old) (is : IsNumbered m A B old.graphs new.graphs (arc_at A (element_arcs A elements) n) it) where
+    (are : AreSupers m A B elements n old) (is : IsGraphNumbered m A B old.graphs new.graphs (arc_at A (element_arcs A elements) n) it) where
   number_before : (e : ℕ) → e < n → held_number new e ≡ held_number old e
   number_before e lt = ap (λ xs. slice_index_or xs e 0) numbers ∙ get_or_append_left old.numbers.items (it.number ∷ []) 0 e (omega (arith, are.size))
 
@@ -175,7 +175,7 @@ stock_stays B old new block k stock has = record {
 }
 
 pub start_numbered : (A B : Automaton) (old new : Graphs) (arc : Arc) (row : List ℕ) (k : ℕ) → IsStock B old → HasNumber row old new k → StandFor Finite A B arc row (start_arc A) →
-    IsNumbered Finite A B old new (start_arc A) (record { arc = arc; number = k })
+    IsGraphNumbered Finite A B old new (start_arc A) (record { arc = arc; number = k })
 start_numbered A B old new arc row k stock has stands = record {
   stock = stock_stays B old new row k stock has;
   grown = has.grown;
@@ -186,7 +186,7 @@ start_numbered A B old new arc row k stock has stands = record {
 pub base_numbered : (A B : Automaton) (old new : Graphs) (arc : Arc) (t k : ℕ) →
     with_word arc ((trans_at A t).label ∷ []) ≡ base_arc A (trans_at A t) → IsReal A (with_word arc ((trans_at A t).label ∷ [])) →
     IsStock B new → HasGrown old.graphs.items new.graphs.items → IsGraphOf B (letter_graph B (trans_at A t).label) new.graphs.items k →
-    IsNumbered Buchi A B old new (base_arc A (trans_at A t)) (record { arc = arc; number = k })
+    IsGraphNumbered Buchi A B old new (base_arc A (trans_at A t)) (record { arc = arc; number = k })
 base_numbered A B old new arc t k is real stock grown graph = record {
   stock = stock;
   grown = grown;
@@ -223,7 +223,7 @@ pub longer_numbered : (m : Mode) (A B : Automaton) (old new : Graphs) (from : Nu
     ((w : List ℕ) → with_word arc (w ++ (trans_at A t).label ∷ []) ≡ extended_arc A (with_word from.arc w) (trans_at A t)) →
     ((w : List ℕ) → IsReal A (with_word from.arc w) → IsReal A (with_word arc (w ++ (trans_at A t).label ∷ []))) →
     IsLonger m B old new from.number (trans_at A t).label k → StandFor m A B from.arc (block_at old.graphs.items from.number) x →
-    IsNumbered m A B old new (extended_arc A x (trans_at A t)) (record { arc = arc; number = k })
+    IsGraphNumbered m A B old new (extended_arc A x (trans_at A t)) (record { arc = arc; number = k })
 longer_numbered m A B old new from arc k x t valid lt is keeps longer stands = record {
   stock = longer.stock;
   grown = longer.grown;
@@ -342,14 +342,14 @@ any_ok (Err e) P p = tt
 
 -- The certificate's relation, and what is remembered of the graphs by it: with a list of the graphs under another name, after an answer
 -- was noted, and with more graphs.
-pub order_told : (B : Automaton) (evidence : YesBody) (graphs known : List Graph) (order : Order) → known ≡ graphs → IsOrder B evidence graphs order →
+pub order_told : (B : Automaton) (evidence : YesBody) (graphs known : List Graph) (order : Order) → known ≡ graphs → IsEvidenceOrder B evidence graphs order →
     AllTold (FitsCovering order.rel.size order.rel.pairs known) order.covers.told.items
 order_told B evidence graphs known order same is =
     subst (λ l. AllTold (FitsCovering order.rel.size order.rel.pairs l) order.covers.told.items) (sym same)
     (subst (λ n. AllTold (FitsCovering n order.rel.pairs graphs) order.covers.told.items) (sym is.relation.size) is.covers)
 
-pub order_kept : (B : Automaton) (evidence : YesBody) (graphs known : List Graph) (old new : Order) → known ≡ graphs → new.rel ≡ old.rel → IsOrder B evidence graphs old →
-    AllTold (FitsCovering old.rel.size old.rel.pairs known) new.covers.told.items → IsOrder B evidence graphs new
+pub order_kept : (B : Automaton) (evidence : YesBody) (graphs known : List Graph) (old new : Order) → known ≡ graphs → new.rel ≡ old.rel → IsEvidenceOrder B evidence graphs old →
+    AllTold (FitsCovering old.rel.size old.rel.pairs known) new.covers.told.items → IsEvidenceOrder B evidence graphs new
 order_kept B evidence graphs known old new same rel is told = record {
   relation = subst (IsBlockRelation B.states evidence.order) (sym rel) is.relation;
   covers = subst (λ r. AllTold (FitsCovering B.states r.pairs graphs) new.covers.told.items) (sym rel)
@@ -357,7 +357,7 @@ order_kept B evidence graphs known old new same rel is told = record {
       (subst (λ l. AllTold (FitsCovering old.rel.size old.rel.pairs l) new.covers.told.items) same told));
 }
 
-pub order_grown : (B : Automaton) (evidence : YesBody) (old now : List Graph) (order : Order) → HasGrown old now → IsOrder B evidence old order → IsOrder B evidence now order
+pub order_grown : (B : Automaton) (evidence : YesBody) (old now : List Graph) (order : Order) → HasGrown old now → IsEvidenceOrder B evidence old order → IsEvidenceOrder B evidence now order
 order_grown B evidence old now order grown is = record {
   relation = is.relation;
   covers = coverings_stay old now grown B.states order.rel.pairs order.covers.told.items is.covers;

@@ -12,7 +12,7 @@ abbrev pub known_by : BTreeMap (Bor (List ℕ)) ℕ → List ℕ → Option ℕ
 known_by known block = get_by (λ key. slice_cmp nat_cmp block key.now) known
 
 -- The block is known by the first number, and others as before; if it was not known, that is the new number.
-pub record IsKnown (old new : BTreeMap (Bor (List ℕ)) ℕ) (block : List ℕ) (number first : ℕ) : Type 0 where
+pub record IsBlockKnown (old new : BTreeMap (Bor (List ℕ)) ℕ) (block : List ℕ) (number first : ℕ) : Type 0 where
   pub here : known_by new block ≡ Some first
   pub stay : (b : List ℕ) (k : ℕ) → known_by old b ≡ Some k → known_by new b ≡ Some k
   pub only : (b : List ℕ) (k : ℕ) → known_by new b ≡ Some k → (known_by old b ≡ Some k) ⊎ ((b ≡ block) × (k ≡ number))

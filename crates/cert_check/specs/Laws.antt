@@ -11,7 +11,7 @@ use Rattle.cert_value.specs.declared.types.Body.TheVariants.{Yes, NoLasso, NoWor
 use Rattle.cert_value.specs.WellFormed.{WellFormed, upgraded}
 use Rattle.log_check.specs.declared.faults.Refusal.{Refusal}
 use Rattle.cert_check.specs.declared.faults.Verdict.{Verdict}
-use Rattle.cert_check.specs.Rules.{KeepsRules, BreaksRule, IsVerdictOf, SaysTruly, ListsRuns}
+use Rattle.cert_check.specs.Rules.{KeepsRules, BreaksRule, IsVerdictOf, SaysTruly, ListsDifferent}
 
 -- The certificate is valid for the two automata: it is well-formed and keeps all rules.
 pub record IsValid (pair : Joined) (cert : Cert) : Type 0 where
@@ -33,7 +33,7 @@ ValidNoSeparatesByWord = (pair : Joined) (cert : Cert) (word : List ℕ) → cer
 -- A valid list has, of the automata that its logs lead to, one more than its limit of pairwise different supergraphs, in finite mode pairs of
 -- a state and a set.
 abbrev pub ValidListShows : Type 0
-ValidListShows = (pair : Joined) (cert : Cert) (list : ListBody) → cert.body ≡ Listing list → IsValid pair cert → ListsRuns cert.mode pair (list.limit + 1) list
+ValidListShows = (pair : Joined) (cert : Cert) (list : ListBody) → cert.body ≡ Listing list → IsValid pair cert → ListsDifferent cert.mode pair (list.limit + 1) list
 
 -- A certificate breaks one rule first, at most.
 abbrev pub OneRuleBreaks : Type 0

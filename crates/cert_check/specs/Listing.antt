@@ -26,7 +26,7 @@ IsRunIn Finite A x = IsReached A x
 
 -- The origins are so many, fit, and stand for pairwise different supergraphs, in finite mode pairs of a state and a set; the arc of each is
 -- that of a run of the first automaton.
-pub record AreListedRuns (mode : Mode) (A B : Automaton) (count : ℕ) (origins : List Origin) : Type 0 where
+pub record AreDifferentListed (mode : Mode) (A B : Automaton) (count : ℕ) (origins : List Origin) : Type 0 where
   pub listed : AreListedIn mode A B count origins
   pub real : (e : ℕ) → e < length origins → IsRunIn mode A (arc_at A (arcs_of A origins) e)
 

@@ -21,7 +21,7 @@ use Rattle.log_check.specs.declared.ends.Ends.{Ends}
 use Rattle.log_check.specs.Checks.{RuleCheck, AllHold, FirstBroken, rule_at}
 use Rattle.log_check.specs.Ends.{AreEnds, LogsBreak, item_after}
 use Rattle.cert_check.specs.Inclusion.{inclusion_checks}
-use Rattle.cert_check.specs.Listing.{AreListedRuns, listing_checks}
+use Rattle.cert_check.specs.Listing.{AreDifferentListed, listing_checks}
 
 -- Each letter of the word is a label.
 abbrev pub AreLabels : ℕ → List ℕ → Type 0
@@ -111,14 +111,14 @@ IsVerdictOf (Listing body) verdict = verdict ≡ Listed body.limit
 
 -- What a list shows: both logs lead to two automata, and it has so many pairwise different supergraphs of these, in finite mode pairs of a
 -- state and a set.
-pub record ListsRuns (mode : Mode) (pair : Joined) (count : ℕ) (list : ListBody) : Type 0 where
+pub record ListsDifferent (mode : Mode) (pair : Joined) (count : ℕ) (list : ListBody) : Type 0 where
   pub ends : Ends
   pub logs : AreEnds mode pair.first pair.second list.first list.second ends
-  pub listed : AreListedRuns mode ends.first ends.second count list.elements
+  pub listed : AreDifferentListed mode ends.first ends.second count list.elements
 
 -- The certificate is a list, and shows limit + 1 different ones.
 abbrev pub ListsPastLimit : Joined → Cert → ℕ → Type 0
-ListsPastLimit pair cert limit = (list : ListBody) × (cert.body ≡ Listing list) × ListsRuns cert.mode pair (limit + 1) list
+ListsPastLimit pair cert limit = (list : ListBody) × (cert.body ≡ Listing list) × ListsDifferent cert.mode pair (limit + 1) list
 
 -- What a verdict on the certificate says: of the lassos of the two automata, in finite mode of their words, and where the certificate is a
 -- list, of the supergraphs of the automata that its logs lead to.

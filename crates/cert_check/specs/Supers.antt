@@ -58,7 +58,7 @@ pub record StandFor (mode : Mode) (A B : Automaton) (held : Arc) (block : List �
   pub word : HasWord mode B block x.word
 
 -- The graph with this number, in finite mode the set, stands with the arc for x. The graphs that were there are there still.
-pub record IsNumbered (mode : Mode) (A B : Automaton) (old now : Graphs) (x : WordArc) (numbered : Numbered) : Type 0 where
+pub record IsGraphNumbered (mode : Mode) (A B : Automaton) (old now : Graphs) (x : WordArc) (numbered : Numbered) : Type 0 where
   pub stock : IsStock B now
   pub grown : HasGrown old.graphs.items now.graphs.items
   pub within : numbered.number < length now.graphs.items
@@ -128,6 +128,6 @@ abbrev pub HasKey : BTreeSet Key → Key → Type 0
 HasKey seen key = has_key seen key ≡ true
 
 -- The relation is the certificate's, and what is remembered of graphs that cover others by it is so.
-pub record IsOrder (B : Automaton) (evidence : YesBody) (graphs : List Graph) (order : Order) : Type 0 where
+pub record IsEvidenceOrder (B : Automaton) (evidence : YesBody) (graphs : List Graph) (order : Order) : Type 0 where
   pub relation : IsBlockRelation B.states evidence.order order.rel
   pub covers : AllTold (FitsCovering B.states order.rel.pairs graphs) order.covers.told.items

@@ -43,8 +43,8 @@ pub record HasAddedAt (old new : List (Vec ℕ Global)) (place number : ℕ) : T
   pub others : (k : ℕ) → (k ≡ place → ⊥) → numbers_at new k ≡ numbers_at old k
 
 -- Each key that was seen is that of a state and a graph that is listed at it.
-abbrev pub AreListed : BTreeSet Key → List (Vec ℕ Global) → Type 0
-AreListed seen turns = (key : Key) (p g : ℕ) → HasKey seen key → key ≡ p ∷ g ∷ [] → Contains (numbers_at turns p) g
+abbrev pub AreListedAtStates : BTreeSet Key → List (Vec ℕ Global) → Type 0
+AreListedAtStates seen turns = (key : Key) (p g : ℕ) → HasKey seen key → key ≡ p ∷ g ∷ [] → Contains (numbers_at turns p) g
 
 -- The graph has a lasso with each of the others, from the second automaton's initial state.
 abbrev pub HasLassos : Automaton → List Graph → ℕ → List ℕ → Type 0

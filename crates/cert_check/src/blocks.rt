@@ -13,7 +13,7 @@ ghost use Rattle.auto_core.specs.Rows.{HasBit};
 ghost use Rattle.auto_core.specs.Pairs.{set_after};
 ghost use Rattle.set_rows.specs.Sets.{IsRow};
 ghost use Rattle.supergraph.specs.Stands.{with_word};
-ghost use Rattle.cert_check.specs.Supers.{block_len, IsBlock, StandFor, IsLonger, IsNumbered};
+ghost use Rattle.cert_check.specs.Supers.{block_len, IsBlock, StandFor, IsLonger, IsGraphNumbered};
 
 use crate::orders::Order;
 use auto_core::{Auto, Memory, Mode, rows};
@@ -66,7 +66,7 @@ pub fn start(
     graphs: &mut Graphs,
 ) -> Result<Numbered, Memory>
     requires { IsStock second.now graphs.old }
-    ensures { IfOk result (IsNumbered Finite first.now second.now graphs.old graphs.new (start_arc first.now)) }
+    ensures { IfOk result (IsGraphNumbered Finite first.now second.now graphs.old graphs.new (start_arc first.now)) }
 {
     let set = start_set(alloc, second)?;
     let number = graphs.number_of(set)?;
@@ -84,7 +84,7 @@ pub fn base(
 ) -> Result<Numbered, Memory>
     requires number { t < length first.now.transitions }
     requires stock { IsStock second.now graphs.old }
-    ensures { IfOk result (IsNumbered Buchi first.now second.now graphs.old graphs.new (base_arc first.now (trans_at first.now t))) }
+    ensures { IfOk result (IsGraphNumbered Buchi first.now second.now graphs.old graphs.new (base_arc first.now (trans_at first.now t))) }
 {
     let label = first.transitions()[t as usize].label;
     let number = graphs.letter(alloc, second, label)?;
@@ -153,7 +153,7 @@ pub fn extend(
     requires stock { IsStock second.now graphs.old }
     requires formed { IsBlock mode second.now.states (block_at graphs.old.graphs.items from.number) }
     ensures { IfOk result (λ longer. (x : WordArc) → StandFor mode first.now second.now from.arc (block_at graphs.old.graphs.items from.number) x
-        → IsNumbered mode first.now second.now graphs.old graphs.new (extended_arc first.now x (trans_at first.now t)) longer) }
+        → IsGraphNumbered mode first.now second.now graphs.old graphs.new (extended_arc first.now x (trans_at first.now t)) longer) }
 {
     let label = first.transitions()[t as usize].label;
     let number = longer(alloc, mode, second, from.number, label, graphs)?;

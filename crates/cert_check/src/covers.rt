@@ -7,7 +7,7 @@ ghost use Rattle.auto_core.specs.declared.parts.Mode.TheVariants.{Buchi, Finite}
 ghost use Rattle.log_check.specs.Checks.{Tells, checks_of_each};
 ghost use Rattle.cert_check.specs.Inclusion.{live_in, IsOver, IsUnder, AreOver, AreElements, NamesElement, covered_in, under_checks, cover_checks, no_element};
 ghost use Rattle.shared_graphs.specs.Graphs.{block_at};
-ghost use Rattle.cert_check.specs.Supers.{IsBlock, StandFor, AreSupers, IsOrder};
+ghost use Rattle.cert_check.specs.Supers.{IsBlock, StandFor, AreSupers, IsEvidenceOrder};
 
 use crate::blocks;
 use crate::blocks::Numbered;
@@ -38,12 +38,12 @@ pub fn is_over(
     it: &Numbered,
 ) -> bool
     requires supers { AreSupers mode first.now second.now evidence.now.elements (length evidence.now.elements) supers.now }
-    requires order { IsOrder second.now evidence.now supers.now.graphs.graphs.items order.old }
+    requires order { IsEvidenceOrder second.now evidence.now supers.now.graphs.graphs.items order.old }
     requires element { j < length evidence.now.elements }
     requires formed { IsBlock mode second.now.states (block_at supers.now.graphs.graphs.items it.now.number) }
     ensures told { (x : WordArc) → StandFor mode first.now second.now it.now.arc (block_at supers.now.graphs.graphs.items it.now.number) x
         → IsTrue result ↔ IsOver mode first.now second.now evidence.now j x }
-    ensures order { IsOrder second.now evidence.now supers.now.graphs.graphs.items order.new }
+    ensures order { IsEvidenceOrder second.now evidence.now supers.now.graphs.graphs.items order.new }
 {
     if !is_live(evidence, j) {
         return false;
@@ -72,11 +72,11 @@ fn is_under(
     mark: &Mark,
 ) -> bool
     requires supers { AreSupers mode first.now second.now evidence.now.elements (length evidence.now.elements) supers.now }
-    requires order { IsOrder second.now evidence.now supers.now.graphs.graphs.items order.old }
+    requires order { IsEvidenceOrder second.now evidence.now supers.now.graphs.graphs.items order.old }
     requires number { e < length evidence.now.elements }
     requires names { NamesElement (length evidence.now.elements) mark.now }
     ensures told { IsTrue result ↔ IsUnder mode first.now second.now evidence.now e mark.now }
-    ensures order { IsOrder second.now evidence.now supers.now.graphs.graphs.items order.new }
+    ensures order { IsEvidenceOrder second.now evidence.now supers.now.graphs.graphs.items order.new }
 {
     match mark {
         Mark::Live => true,
@@ -104,12 +104,12 @@ pub fn check_under(
     supers: &Supers,
 ) -> Result<(), CheckFault>
     requires supers { AreSupers mode first.now second.now evidence.now.elements (length evidence.now.elements) supers.now }
-    requires order { IsOrder second.now evidence.now supers.now.graphs.graphs.items order.old }
+    requires order { IsEvidenceOrder second.now evidence.now supers.now.graphs.graphs.items order.old }
     requires few { length evidence.now.elements < 10 ^ 9 }
     requires few_items { item + length evidence.now.elements < 2 ^ 32 }
     requires names { (e : ℕ) → e < length evidence.now.elements → NamesElement (length evidence.now.elements) (slice_index_or evidence.now.elements e no_element).mark }
     ensures tells { Tells (checks_of_each (under_checks mode first.now second.now evidence.now item) 0 evidence.now.elements) result }
-    ensures order { IsOrder second.now evidence.now supers.now.graphs.graphs.items order.new }
+    ensures order { IsEvidenceOrder second.now evidence.now supers.now.graphs.graphs.items order.new }
 {
     let elements = evidence.elements.as_slice();
     for e in 0..elements.len() {
@@ -144,12 +144,12 @@ fn is_over_letter(
     t: u32,
 ) -> Result<bool, Memory>
     requires supers { AreSupers Buchi first.now second.now evidence.now.elements (length evidence.now.elements) supers.old }
-    requires order { IsOrder second.now evidence.now supers.old.graphs.graphs.items order.old }
+    requires order { IsEvidenceOrder second.now evidence.now supers.old.graphs.graphs.items order.old }
     requires element { j < length evidence.now.elements }
     requires number { t < length first.now.transitions }
     ensures told { IfOk result (λ is. IsTrue is ↔ IsOver Buchi first.now second.now evidence.now j (base_arc first.now (trans_at first.now t))) }
     ensures supers { IfOk result (λ _. AreSupers Buchi first.now second.now evidence.now.elements (length evidence.now.elements) supers.new) }
-    ensures order { IfOk result (λ _. IsOrder second.now evidence.now supers.new.graphs.graphs.items order.new) }
+    ensures order { IfOk result (λ _. IsEvidenceOrder second.now evidence.now supers.new.graphs.graphs.items order.new) }
 {
     let base = blocks::base(alloc, first, second, t, &mut supers.graphs)?;
     Ok(is_over(
@@ -174,11 +174,11 @@ fn covers_letters(
     supers: &mut Supers,
 ) -> Result<bool, Memory>
     requires supers { AreSupers Buchi first.now second.now evidence.now.elements (length evidence.now.elements) supers.old }
-    requires order { IsOrder second.now evidence.now supers.old.graphs.graphs.items order.old }
+    requires order { IsEvidenceOrder second.now evidence.now supers.old.graphs.graphs.items order.old }
     requires names { AreElements evidence.now evidence.now.cover }
     ensures told { IfOk result (λ is. IsTrue is ↔ AreOver Buchi first.now second.now evidence.now evidence.now.cover (covered_in Buchi first.now)) }
     ensures supers { IfOk result (λ _. AreSupers Buchi first.now second.now evidence.now.elements (length evidence.now.elements) supers.new) }
-    ensures order { IfOk result (λ _. IsOrder second.now evidence.now supers.new.graphs.graphs.items order.new) }
+    ensures order { IfOk result (λ _. IsEvidenceOrder second.now evidence.now supers.new.graphs.graphs.items order.new) }
 {
     let cover = evidence.cover.as_slice();
     let count = first.transitions().len();
@@ -205,11 +205,11 @@ fn covers_start(
     supers: &mut Supers,
 ) -> Result<bool, Memory>
     requires supers { AreSupers Finite first.now second.now evidence.now.elements (length evidence.now.elements) supers.old }
-    requires order { IsOrder second.now evidence.now supers.old.graphs.graphs.items order.old }
+    requires order { IsEvidenceOrder second.now evidence.now supers.old.graphs.graphs.items order.old }
     requires names { AreElements evidence.now evidence.now.cover }
     ensures told { IfOk result (λ is. IsTrue is ↔ AreOver Finite first.now second.now evidence.now evidence.now.cover (covered_in Finite first.now)) }
     ensures supers { IfOk result (λ _. AreSupers Finite first.now second.now evidence.now.elements (length evidence.now.elements) supers.new) }
-    ensures order { IfOk result (λ _. IsOrder second.now evidence.now supers.new.graphs.graphs.items order.new) }
+    ensures order { IfOk result (λ _. IsEvidenceOrder second.now evidence.now supers.new.graphs.graphs.items order.new) }
 {
     let cover = evidence.cover.as_slice();
     if cover.len() != 1 {
@@ -239,11 +239,11 @@ fn covers_all(
     supers: &mut Supers,
 ) -> Result<bool, Memory>
     requires supers { AreSupers mode first.now second.now evidence.now.elements (length evidence.now.elements) supers.old }
-    requires order { IsOrder second.now evidence.now supers.old.graphs.graphs.items order.old }
+    requires order { IsEvidenceOrder second.now evidence.now supers.old.graphs.graphs.items order.old }
     requires names { AreElements evidence.now evidence.now.cover }
     ensures told { IfOk result (λ is. IsTrue is ↔ AreOver mode first.now second.now evidence.now evidence.now.cover (covered_in mode first.now)) }
     ensures supers { IfOk result (λ _. AreSupers mode first.now second.now evidence.now.elements (length evidence.now.elements) supers.new) }
-    ensures order { IfOk result (λ _. IsOrder second.now evidence.now supers.new.graphs.graphs.items order.new) }
+    ensures order { IfOk result (λ _. IsEvidenceOrder second.now evidence.now supers.new.graphs.graphs.items order.new) }
 {
     match mode {
         Mode::Buchi => covers_letters(alloc, first, second, evidence, order, supers),
@@ -263,10 +263,10 @@ pub fn check_cover(
     supers: &mut Supers,
 ) -> Result<(), CheckFault>
     requires supers { AreSupers mode first.now second.now evidence.now.elements (length evidence.now.elements) supers.old }
-    requires order { IsOrder second.now evidence.now supers.old.graphs.graphs.items order.old }
+    requires order { IsEvidenceOrder second.now evidence.now supers.old.graphs.graphs.items order.old }
     ensures tells { Tells (cover_checks mode first.now second.now evidence.now item) result }
     ensures supers { IfOk result (λ _. AreSupers mode first.now second.now evidence.now.elements (length evidence.now.elements) supers.new) }
-    ensures order { IfOk result (λ _. IsOrder second.now evidence.now supers.new.graphs.graphs.items order.new) }
+    ensures order { IfOk result (λ _. IsEvidenceOrder second.now evidence.now supers.new.graphs.graphs.items order.new) }
 {
     if !are_elements(evidence, evidence.cover.as_slice()) {
         return Err(CheckFault::Refused(Refusal { rule: 1, item }));

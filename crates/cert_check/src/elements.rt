@@ -5,7 +5,7 @@ ghost use Rattle.auto_core.specs.Graph.{arc_of};
 ghost use Rattle.cert_value.specs.WellFormed.{is_origin};
 ghost use Rattle.log_check.specs.Checks.{AllHold, FirstBroken, Tells, checks_of_each};
 ghost use Rattle.cert_check.specs.Inclusion.{element_arcs, NamesOrigin, NamesElement, HasEarlierParent, GoesOn, no_element, element_checks};
-ghost use Rattle.cert_check.specs.Supers.{held, held_block, IsNumbered, AreSupers};
+ghost use Rattle.cert_check.specs.Supers.{held, held_block, IsGraphNumbered, AreSupers};
 
 use crate::blocks;
 use crate::blocks::Numbered;
@@ -150,7 +150,7 @@ fn compute(
     requires leaves { GoesOn first.now (element_arcs first.now elements.now) origin.now }
     ensures arcs { supers.new.arcs ≡ supers.old.arcs }
     ensures numbers { supers.new.numbers ≡ supers.old.numbers }
-    ensures numbered { IfOk result (IsNumbered mode first.now second.now supers.old.graphs supers.new.graphs (arc_of first.now (element_arcs first.now elements.now) origin.now)) }
+    ensures numbered { IfOk result (IsGraphNumbered mode first.now second.now supers.old.graphs supers.new.graphs (arc_of first.now (element_arcs first.now elements.now) origin.now)) }
 {
     match origin {
         Origin::Start => blocks::start(alloc, first, second, &mut supers.graphs),

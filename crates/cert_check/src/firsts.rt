@@ -1,7 +1,7 @@
 //! For each graph the number of the first one with the same block, so that those with equal blocks have one number.
 
 ghost use Rattle.std.specs.Prelude.{◌≡◌, length, IfOk};
-ghost use Rattle.cert_check.specs.Firsts.{IsKnown, AreFirsts};
+ghost use Rattle.cert_check.specs.Firsts.{IsBlockKnown, AreFirsts};
 
 use auto_core::Memory;
 use shared_graphs::Graph;
@@ -14,7 +14,7 @@ fn known_number<'a>(
     block: &'a [u64],
     number: u64,
 ) -> Result<u64, Memory>
-    ensures { IfOk result (IsKnown known.old known.new block.now number) }
+    ensures { IfOk result (IsBlockKnown known.old known.new block.now number) }
 {
     if let Some(first) = known.get(block) {
         return Ok(*first);

@@ -11,7 +11,7 @@ ghost use Rattle.evidence.specs.Tables.{numbers_at};
 ghost use Rattle.log_check.specs.Checks.{Tells, checks_of_each};
 ghost use Rattle.cert_check.specs.Inclusion.{PassesWithAll, pair_checks};
 ghost use Rattle.cert_check.specs.Supers.{Key, HasKey, AreSupers};
-ghost use Rattle.cert_check.specs.Turns.{IsTurn, AreTurns, HasAddedAt, AreListed, HasLassos, AreLoops, AreTests};
+ghost use Rattle.cert_check.specs.Turns.{IsTurn, AreTurns, HasAddedAt, AreListedAtStates, HasLassos, AreLoops, AreTests};
 
 use crate::elements::Supers;
 use crate::{covers, keys};
@@ -96,9 +96,9 @@ fn add_turn(
     requires supers { AreSupers Buchi first.now second.now evidence.now.elements (length evidence.now.elements) supers.now }
     requires element { e < length evidence.now.elements }
     requires turns { AreTurns evidence.now supers.now e first.now.states turns.old.items }
-    requires seen { AreListed seen.old turns.old.items }
+    requires seen { AreListedAtStates seen.old turns.old.items }
     ensures turns { IfOk result (λ _. AreTurns evidence.now supers.now (e + 1) first.now.states turns.new.items) }
-    ensures seen { IfOk result (λ _. AreListed seen.new turns.new.items) }
+    ensures seen { IfOk result (λ _. AreListedAtStates seen.new turns.new.items) }
 {
     if !is_turn(evidence, supers, e) {
         return Ok(());

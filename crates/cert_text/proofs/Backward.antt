@@ -34,7 +34,7 @@ use Rattle.cert_value.specs.Text.{Line, spelled, numbers, letters_tokens, each, 
 use Rattle.cert_value.specs.declared.types.GoneBy.{GoneBy}
 use Rattle.cert_value.specs.WellFormed.{is_version, are_letters, rank_key, blocks_due, is_live, has_some, is_short, are_short, ascend, is_row, are_rows, is_block, is_rank_row, are_rank_rows, is_rank_block, are_gone, are_classes, is_first_step, is_second_step, is_origin, is_element, is_step_of, are_steps, are_logs, is_body, has_text}
 use Rattle.cert_text.specs.Lines.{Said, word_in, number_in, numbers_in, ascending_in, sizes_in, heading_in, row_in, rank_row_in, gone_by_in, first_head_in, second_head_in, origin_in, element_in, step_in}
-use Rattle.cert_text.specs.Grammar.{Outcome, On, Read, Stopped, Then, after, next_line, read_rows, read_block, read_rank_rows, read_rank_block, read_blocks, read_classes, read_first_rest, read_first_steps, read_grounds, read_second_rest, read_second_steps, read_elements, read_steps, read_origins, read_cover, read_all_elements, read_closed, read_all_origins, read_limited, read_first_log, read_second_log, read_turn, read_lasso, read_word, yes_of, list_of, read_evidence, read_after_first, read_logs, read_body, is_bare, finish, cert_of, read_end, read_rest, read_sizes, read_lines}
+use Rattle.cert_text.specs.Grammar.{LinesOutcome, On, Read, Stopped, Then, after, next_line, read_rows, read_block, read_rank_rows, read_rank_block, read_blocks, read_classes, read_first_rest, read_first_steps, read_grounds, read_second_rest, read_second_steps, read_elements, read_steps, read_origins, read_cover, read_all_elements, read_closed, read_all_origins, read_limited, read_first_log, read_second_log, read_turn, read_lasso, read_word, yes_of, list_of, read_evidence, read_after_first, read_logs, read_body, is_bare, finish, cert_of, read_end, read_rest, read_sizes, read_lines}
 use Rattle.std.specs.List.{list_all}
 use Rattle.std.proofs.lemmas.Bool.{and_parts, and_from, cond-true, cond-false, cases_Bool}
 use Rattle.cert_text.proofs.LineFacts.{word_bw, number_bw, numbers_bw, sorted_bw, sizes_bw, row_bw, rank_row_bw, gone_bw, step_bw, numbers_some}

@@ -42,40 +42,40 @@ use Rattle.cert_value.specs.WellFormed.{blocks_due, is_live, rank_key}
 use Rattle.cert_text.specs.Lines.{Said, word_in, number_in, numbers_in, ascending_in, sizes_in, heading_in, row_in, rank_row_in, gone_by_in, first_head_in, second_head_in, origin_in, element_in, step_in}
 
 -- What comes of reading lines: the value that they are the text of, or a fault at the first of these lines.
-pub data Outcome (C : Type 0) : Type 0 where
-  Read : C → Outcome C
-  Stopped : TextKind → List Line → Outcome C
+pub data LinesOutcome (C : Type 0) : Type 0 where
+  Read : C → LinesOutcome C
+  Stopped : TextKind → List Line → LinesOutcome C
 
 -- What follows, given what was read and the lines that are left.
 abbrev pub On : Type 0 → Type 0 → Type 0
-On C A = A → List Line → Outcome C
+On C A = A → List Line → LinesOutcome C
 
 -- The same where the value is a certificate.
 abbrev pub ReadOutcome : Type 0
-ReadOutcome = Outcome Cert
+ReadOutcome = LinesOutcome Cert
 
 abbrev pub Then : Type 0 → Type 0
 Then A = On Cert A
 
 -- On with what the line says, or stop at it.
-abbrev pub after : {C A : Type 0} → Said A → On C A → List Line → List Line → Outcome C
+abbrev pub after : {C A : Type 0} → Said A → On C A → List Line → List Line → LinesOutcome C
 after (Ok a) next here rest = next a rest
 after (Err fault) next here rest = Stopped fault here
 
 -- The next line. The last piece of the bytes is no whole line.
-abbrev pub next_line : {C A : Type 0} → (Line → Said A) → On C A → List Line → Outcome C
+abbrev pub next_line : {C A : Type 0} → (Line → Said A) → On C A → List Line → LinesOutcome C
 next_line said next [] = Stopped Truncated []
 next_line said next (piece ∷ []) = Stopped Truncated (piece ∷ [])
 next_line said next (line ∷ other ∷ rest) = after (said line) next (line ∷ other ∷ rest) (other ∷ rest)
 
 -- That many rows, whose left numbers ascend from the bound, after these.
-abbrev pub read_rows : {C : Type 0} → ℕ → ℕ → ℕ → List Row → On C (List Row) → List Line → Outcome C
+abbrev pub read_rows : {C : Type 0} → ℕ → ℕ → ℕ → List Row → On C (List Row) → List Line → LinesOutcome C
 read_rows v zero bound rows next lines = next rows lines
 read_rows v (suc n) bound rows next lines =
     next_line (row_in v bound) (λ row. read_rows v n (row.left + 1) (rows ++ row ∷ []) next) lines
 
 -- A relation.
-abbrev pub read_block : {C : Type 0} → ℕ → On C RelBlock → List Line → Outcome C
+abbrev pub read_block : {C : Type 0} → ℕ → On C RelBlock → List Line → LinesOutcome C
 read_block v next =
     next_line (number_in keyword.Rel) (λ n. read_rows v n 0 [] (λ rows. next (record { rows = rows })))
 
@@ -279,17 +279,17 @@ abbrev pub lines_of : List ℕ → List Line
 lines_of bytes = map tokens_of (slice_split (λ b. b == 10) bytes)
 
 -- What comes of the bytes, if a fault stands at the line with this number.
-abbrev pub told_at : {C : Type 0} → ℕ → Outcome C → Result C TextFault
+abbrev pub told_at : {C : Type 0} → ℕ → LinesOutcome C → Result C TextFault
 told_at line (Read c) = Ok c
 told_at line (Stopped fault rest) = Err (record { line = line; kind = fault })
 
 -- The number of the first line that is left, of these lines.
-abbrev pub first_left : {C : Type 0} → List Line → Outcome C → ℕ
+abbrev pub first_left : {C : Type 0} → List Line → LinesOutcome C → ℕ
 first_left lines (Read c) = 0
 first_left lines (Stopped fault rest) = (length lines + 1) - length rest
 
 -- What the bytes are, as this grammar reads lines: a value's text, or where they first begin none, and why.
-abbrev pub reading_by : {C : Type 0} → (List Line → Outcome C) → List ℕ → Result C TextFault
+abbrev pub reading_by : {C : Type 0} → (List Line → LinesOutcome C) → List ℕ → Result C TextFault
 reading_by read bytes = told_at (first_left (lines_of bytes) (read (lines_of bytes))) (read (lines_of bytes))
 
 -- What the bytes are: a certificate's text, or where they first begin none, and why.

@@ -18,11 +18,11 @@ use Rattle.cross_sim.specs.declared.faults.CheckCrossFault.{CheckCrossFault}
 use Rattle.cross_sim.specs.declared.faults.CheckCrossFault.TheVariants.{Refused, Memory}
 use Rattle.cross_sim.specs.declared.faults.CrossRefusal.{CrossRefusal}
 use Rattle.cross_text.specs.Text.{CrossFormed}
-use Rattle.cross_sim.specs.Rules.{NoneBreaksWhereKept, CrossBreakIsOne, HasSizes, raised_block, pairs_across, cross_checks, TellsCross, BreaksFirst, KeptRulesInclude}
+use Rattle.cross_sim.specs.Rules.{NoCrossBreaksWhereKept, CrossBreakIsOne, HasCrossSizes, raised_block, pairs_across, cross_checks, TellsCross, BreaksFirst, KeptRulesInclude}
 use Rattle.log_check.specs.declared.faults.Refusal.{Refusal}
 use Rattle.log_check.proofs.LawOneLemmas.{broken_one, broken_or_all}
 use Rattle.cross_sim.specs.Sides.{IsSideBySide, Raises, MatchesAcross}
-use Rattle.cross_sim.proofs.CrossLemmas.{raised_back, stable_in_both, stable_apart}
+use Rattle.cross_sim.proofs.CrossLemmas.{raised_back, raised_lowers, stable_in_both, stable_apart}
 use Rattle.cross_sim.proofs.RaisedLemmas.{block_raised}
 
 pub kept_rules_include : KeptRulesInclude
@@ -39,12 +39,12 @@ module _ (A B U : Automaton) (a_valid : IsAutomaton A) (both : IsSideBySide A B 
 
   pub stable_told : (told : Bool) → (IsTrue told ↔ Stable (Moves U) (Moves U) (MatchesAcross A.states U) k (Holds R)) → IsTrue told ↔ StableAcross A B k S
   stable_told told is = (
-    λ t. stable_apart A B U a_valid both k S R raises (is.0 t),
+    λ t. stable_apart A B U a_valid both k S R (raised_lowers A.states S R raises) (is.0 t),
     λ s. is.1 (stable_in_both A B U a_valid both k S R raises all_below s),
   )
 
 -- What a cross relation that has a text, and has the sizes of the automata, tells of the numbers of states.
-pub few_states : (pair : Joined) (cross : Cross) → CrossFormed cross → HasSizes pair cross → pair.first.states + pair.second.states < 2 ^ 32
+pub few_states : (pair : Joined) (cross : Cross) → CrossFormed cross → HasCrossSizes pair cross → pair.first.states + pair.second.states < 2 ^ 32
 few_states pair cross formed (first, second, _) =
     let a = and_parts (is_short cross.first_states) _ formed in
     let b = and_parts (is_short cross.second_states) _ a.1 in
@@ -104,7 +104,7 @@ included_of pair cross (Ok x) valid t = kept_rules_include pair cross valid t
 included_of pair cross (Err e) valid t = tt
 
 -- The rules decide alone.
-pub none_breaks : NoneBreaksWhereKept
+pub none_breaks : NoCrossBreaksWhereKept
 none_breaks pair cross refusal broken kept = broken_or_all (cross_checks pair cross) (record { rule = refusal.rule; item = refusal.item }) broken kept
 
 pub break_one : CrossBreakIsOne

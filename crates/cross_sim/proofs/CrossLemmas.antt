@@ -1,13 +1,14 @@
 -- A game across two automata is a game on the automaton of both side by side.
-use Rattle.std.proofs.Common.{◌≡◌, ℕ, ◌+◌, ◌-◌, ◌<◌, ◌≤◌, inl, inr, List, [], ◌∷◌, map, refl, sym, ap, subst, arith}
+use Rattle.std.proofs.Common.{◌≡◌, ◌↔◌, ℕ, ◌+◌, ◌-◌, ◌<◌, ◌≤◌, inl, inr, List, [], ◌∷◌, map, refl, sym, ap, subst, arith}
 use Rattle.auto_core.specs.Automaton.{Automaton, IsAutomaton, Moves}
 use Rattle.auto_core.specs.Run.{PathBy, Path, end_of}
 use Rattle.auto_core.specs.Game.{MatchesForward, MayShow, Answers, Round, Stable, Holds, ArePairsBelow, IsWithin, IsGreatest, StableAcross}
 use Rattle.auto_core.proofs.MoveLemmas.{move_in_range}
 use Rattle.auto_core.proofs.MemberLemmas.{map_has, map_from}
 use Rattle.path_laws.proofs.AppliedLemmas.{across_includes}
-use Rattle.cross_sim.specs.Cross.{IsGreatestCross, CrossIncludes}
-use Rattle.cross_sim.specs.Sides.{IsSideBySide, Raises, MatchesAcross}
+use Rattle.cross_sim.specs.Cross.{IsGreatestSideBySide, CrossIncludes}
+use Rattle.bit_rel.specs.Relation.{Relation}
+use Rattle.cross_sim.specs.Sides.{IsSideBySide, Raises, MatchesAcross, LeavesAcross}
 
 -- The pair with its right number raised by n.
 abbrev pub raise : ℕ → ℕ × ℕ → ℕ × ℕ
@@ -42,6 +43,13 @@ raised_back n S R raises p r h =
     let same : s ≡ r = omega arith in
     subst (λ z. Holds S p z) same there
 
+-- The pairs of the one list are those that the other has with right numbers of n or more.
+abbrev pub Lowers : ℕ → List (ℕ × ℕ) → List (ℕ × ℕ) → Type 0
+Lowers n S R = (p r : ℕ) → Holds S p r ↔ Holds R p (n + r)
+
+pub raised_lowers : (n : ℕ) (S R : List (ℕ × ℕ)) → Raises n S R → Lowers n S R
+raised_lowers n S R raises p r = (λ h. (raises p (n + r)).1 (r, refl, h), λ h. raised_back n S R raises p r h)
+
 module _ (A B U : Automaton) (a_valid : IsAutomaton A) (both : IsSideBySide A B U) (k : ℕ) where
   move_in_both : (p a q : ℕ) → Moves A p a q → Moves U p a q
   move_in_both p a q m = (both.first_moves p a q (move_in_range A a_valid p a q m).0).1 m
@@ -75,10 +83,10 @@ module _ (A B U : Automaton) (a_valid : IsAutomaton A) (both : IsSideBySide A B 
   shown_in_first p w ps (inr (some, short, dead)) = inr (some, short, λ a q m. dead a q (move_in_both (end_of p ps) a q m))
 
   matched_in_both : (p r : ℕ) → p < A.states → MatchesForward A B p r → MatchesAcross A.states U p (A.states + r)
-  matched_in_both p r lt ok = (lt, omega arith, λ h. (both.second_accepting r).1 (ok ((both.first_accepting p lt).0 h)))
+  matched_in_both p r lt ok = (lt, λ h. (both.second_accepting r).1 (ok ((both.first_accepting p lt).0 h)))
 
   matched_apart : (p r : ℕ) → MatchesAcross A.states U p (A.states + r) → MatchesForward A B p r
-  matched_apart p r ok h = (both.second_accepting r).0 (ok.2 ((both.first_accepting p ok.0).1 h))
+  matched_apart p r ok h = (both.second_accepting r).0 (ok.1 ((both.first_accepting p ok.0).1 h))
 
   module _ (S R : List (ℕ × ℕ)) (raises : Raises A.states S R) where
     answered_in_both : (p q : ℕ) (w ps : List ℕ) → Path A p w ps → Answers (Moves B) (MatchesForward A B) (Holds S) q w ps → Answers (Moves U) (MatchesAcross A.states U) (Holds R) (A.states + q) w ps
@@ -91,20 +99,6 @@ module _ (A B U : Automaton) (a_valid : IsAutomaton A) (both : IsSideBySide A B 
       elim next [ inl held ↦ inl ((raises s (A.states + r)).1 (r, refl, held)) | inr more ↦ inr (answered_in_both s r w ps path.1 more) ],
     )
 
-    answered_in_second : (q : ℕ) (w ps : List ℕ) → Answers (Moves U) (MatchesAcross A.states U) (Holds R) (A.states + q) w ps → Answers (Moves B) (MatchesForward A B) (Holds S) q w ps
-    answered_in_second q [] ps answer = absurd answer
-    answered_in_second q (a ∷ w) [] answer = absurd answer
-    answered_in_second q (a ∷ w) (s ∷ ps) (x, m, ok, next) =
-        let (r, e, moves) = (both.second_moves q a x).0 m in (
-          r,
-          moves,
-          matched_apart s r (subst (λ z. MatchesAcross A.states U s z) e ok),
-          elim next [
-            | inl held ↦ inl (raised_back A.states S R raises s r (subst (λ z. Holds R s z) e held))
-            | inr more ↦ inr (answered_in_second r w ps (subst (λ z. Answers (Moves U) (MatchesAcross A.states U) (Holds R) z w ps) e more))
-          ],
-        )
-
     pub stable_in_both : ArePairsBelow A.states B.states S → StableAcross A B k S → Stable (Moves U) (Moves U) (MatchesAcross A.states U) k (Holds R)
     stable_in_both below stable p q h =
         let (r, e, there) = (raises p q).0 h in
@@ -116,41 +110,69 @@ module _ (A B U : Automaton) (a_valid : IsAutomaton A) (both : IsSideBySide A B 
           λ w ps path may. let first = path_in_first p w ps lt path in answered_in_both p r w ps first (round w ps first (shown_in_first p w ps may)),
         )
 
+  module _ (S R : List (ℕ × ℕ)) (lowers : Lowers A.states S R) where
+    answered_in_second : (q : ℕ) (w ps : List ℕ) → Answers (Moves U) (MatchesAcross A.states U) (Holds R) (A.states + q) w ps → Answers (Moves B) (MatchesForward A B) (Holds S) q w ps
+    answered_in_second q [] ps answer = absurd answer
+    answered_in_second q (a ∷ w) [] answer = absurd answer
+    answered_in_second q (a ∷ w) (s ∷ ps) (x, m, ok, next) =
+        let (r, e, moves) = (both.second_moves q a x).0 m in (
+          r,
+          moves,
+          matched_apart s r (subst (λ z. MatchesAcross A.states U s z) e ok),
+          elim next [
+            | inl held ↦ inl ((lowers s r).1 (subst (λ z. Holds R s z) e held))
+            | inr more ↦ inr (answered_in_second r w ps (subst (λ z. Answers (Moves U) (MatchesAcross A.states U) (Holds R) z w ps) e more))
+          ],
+        )
+
     pub stable_apart : Stable (Moves U) (Moves U) (MatchesAcross A.states U) k (Holds R) → StableAcross A B k S
     stable_apart stable p r h =
-        let (ok, round) = stable p (A.states + r) ((raises p (A.states + r)).1 (r, refl, h)) in (
+        let (ok, round) = stable p (A.states + r) ((lowers p r).0 h) in (
           matched_apart p r ok,
           λ w ps path may. answered_in_second r w ps (round w ps (path_in_both p w ps path) (shown_in_both p w ps ok.0 path may)),
         )
 
-  pub greatest_cross : (R : List (ℕ × ℕ)) → IsGreatest (Moves U) (Moves U) (MatchesAcross A.states U) k U.states U.states R → IsGreatestCross A B k R
-  greatest_cross R g = record {
+  pub greatest_cross :
+      (R T : Relation)
+      → IsGreatest (Moves U) (Moves U) (MatchesAcross A.states U) k U.states U.states R.pairs
+      → LeavesAcross A.states A.states R T
+      → IsGreatestSideBySide A B k T.pairs
+  greatest_cross R T g leaves = record {
     across = S;
-    is_greatest = record { in_range = in_range; stable = stable_apart S R raises g.stable; has_each = has_each };
+    is_greatest = record { in_range = in_range; stable = stable_apart S R.pairs lowers g.stable; has_each = has_each };
     pairs = raises;
   }
     where
       S : List (ℕ × ℕ)
-      S = map (lower A.states) R
+      S = map (lower A.states) T.pairs
 
-      raises : Raises A.states S R
-      raises = lowered A.states R (λ p q h. (g.stable p q h).0.1)
+      high : (p q : ℕ) → Holds T.pairs p q → A.states ≤ q
+      high p q h = let (held, right) = (leaves.pairs p q).0 h in right (g.stable p q held).0.0
+
+      raises : Raises A.states S T.pairs
+      raises = lowered A.states T.pairs high
+
+      lowers : Lowers A.states S R.pairs
+      lowers p r = (
+        λ h. ((leaves.pairs p (A.states + r)).0 ((raises p (A.states + r)).1 (r, refl, h))).0,
+        λ h. raised_back A.states S T.pairs raises p r ((leaves.pairs p (A.states + r)).1 (h, λ _. omega arith)),
+      )
 
       in_range : ArePairsBelow A.states B.states S
       in_range p r h =
-          let there = (raises p (A.states + r)).1 (r, refl, h) in
+          let there = (lowers p r).0 h in
           let (_, lt) = g.in_range p (A.states + r) there in
           ((g.stable p (A.states + r) there).0.0, omega (arith, lt, both.states))
 
-      has_each : (T : List (ℕ × ℕ)) → ArePairsBelow A.states B.states T → StableAcross A B k T → IsWithin T S
-      has_each T below stable p r h =
-          let up = raised A.states T in
-          let V = map (raise A.states) T in
-          let within : ArePairsBelow U.states U.states V = λ x y v. inside T below x y ((up x y).0 v) in
-          raised_back A.states S R raises p r (g.has_each V within (stable_in_both T V up below stable) p (A.states + r) ((up p (A.states + r)).1 (r, refl, h)))
+      has_each : (V : List (ℕ × ℕ)) → ArePairsBelow A.states B.states V → StableAcross A B k V → IsWithin V S
+      has_each V below stable p r h =
+          let up = raised A.states V in
+          let W = map (raise A.states) V in
+          let within : ArePairsBelow U.states U.states W = λ x y v. inside V below x y ((up x y).0 v) in
+          (lowers p r).1 (g.has_each W within (stable_in_both V W up below stable) p (A.states + r) ((up p (A.states + r)).1 (r, refl, h)))
         where
-          inside : (T : List (ℕ × ℕ)) → ArePairsBelow A.states B.states T → (x y : ℕ) → ((r : ℕ) × (y ≡ A.states + r) × Holds T x r) → (x < U.states) × (y < U.states)
-          inside T below x y (r, e, there) =
+          inside : (V : List (ℕ × ℕ)) → ArePairsBelow A.states B.states V → (x y : ℕ) → ((r : ℕ) × (y ≡ A.states + r) × Holds V x r) → (x < U.states) × (y < U.states)
+          inside V below x y (r, e, there) =
               let (left, right) = below x r there in
               (omega (arith, left, both.states), omega (arith, right, e, both.states))
 

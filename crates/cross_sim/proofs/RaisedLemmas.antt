@@ -13,7 +13,7 @@ use Rattle.cert_value.specs.Text.{run_numbers, numbers_of}
 use Rattle.cert_value.specs.WellFormed.{is_short, is_run, has_some, runs_ascend, is_row, are_rows, runs_ascend_from}
 use Rattle.log_check.specs.Blocks.{pairs_with, pairs_of_row, pairs_of, IsRowBelow, IsBlockBelow}
 use Rattle.cross_sim.specs.Raising.{AreRunsBelow, AreRowsBelow}
-use Rattle.cross_sim.specs.Rules.{IsRowAcross, AreRowsAcross, raised_run, raised_row, raised_block}
+use Rattle.cross_sim.specs.Rules.{IsRowInRange, AreRowsInRange, raised_run, raised_row, raised_block}
 use Rattle.cross_sim.specs.Sides.{Raises}
 use Rattle.cross_sim.proofs.CrossLemmas.{raise, raised}
 
@@ -62,7 +62,7 @@ runs_below n b bound (run ∷ runs) e h few =
     (runs_below n b (run.last + 2) runs q.1 (All-tail (λ (run : Run). run.last < b) run runs h) few)
 
 -- The right numbers of formed rows that name states can be raised past the first automaton's states.
-pub rows_below : (m n bound : ℕ) (rows : List Row) → are_rows bound rows ≡ true → AreRowsAcross m n rows → m + n < 2 ^ 32 → AreRowsBelow m rows
+pub rows_below : (m n bound : ℕ) (rows : List Row) → are_rows bound rows ≡ true → AreRowsInRange m n rows → m + n < 2 ^ 32 → AreRowsBelow m rows
 rows_below m n bound [] e h few = All-nil (λ (row : Row). AreRunsBelow m row.runs)
 rows_below m n bound (row ∷ rows) e h few =
     let p = and_parts (is_row bound row) (are_rows (row.left + 1) rows) e in
@@ -70,11 +70,11 @@ rows_below m n bound (row ∷ rows) e h few =
     let r = and_parts (list_all is_run row.runs) _ q.1 in
     let s = and_parts (has_some row.runs) _ r.1 in
     let t = and_parts (runs_ascend row.runs) _ s.1 in
-    let here = All-head (IsRowAcross m n) row rows h in
+    let here = All-head (IsRowInRange m n) row rows h in
     All-cons (λ (row : Row). AreRunsBelow m row.runs) row rows (runs_below m n 0 row.runs t.0 here.1 few)
-    (rows_below m n (row.left + 1) rows p.1 (All-tail (IsRowAcross m n) row rows h) few)
+    (rows_below m n (row.left + 1) rows p.1 (All-tail (IsRowInRange m n) row rows h) few)
 
-row_in_both : (m n : ℕ) (row : Row) → IsRowAcross m n row → IsRowBelow (m + n) (raised_row m row)
+row_in_both : (m n : ℕ) (row : Row) → IsRowInRange m n row → IsRowBelow (m + n) (raised_row m row)
 row_in_both m n row h = (
   omega (arith, h.0),
   All-map (λ (run : Run). run.last < m + n) (raised_run m) row.runs (all_weaker row.runs h.1),
@@ -87,20 +87,20 @@ row_in_both m n row h = (
         All-cons (λ (run : Run). (raised_run m run).last < m + n) run runs (omega arith) (all_weaker runs (All-tail (λ (run : Run). run.last < n) run runs all))
 
 -- Raised, they name states of both automata side by side.
-pub block_in_both : (m n : ℕ) (rows : List Row) → AreRowsAcross m n rows → IsBlockBelow (m + n) (raised_block m rows)
+pub block_in_both : (m n : ℕ) (rows : List Row) → AreRowsInRange m n rows → IsBlockBelow (m + n) (raised_block m rows)
 block_in_both m n rows h = All-map (IsRowBelow (m + n)) (raised_row m) rows (each rows h) where
-  each : (rows : List Row) → AreRowsAcross m n rows → All (λ (row : Row). IsRowBelow (m + n) (raised_row m row)) rows
+  each : (rows : List Row) → AreRowsInRange m n rows → All (λ (row : Row). IsRowBelow (m + n) (raised_row m row)) rows
   each [] all = All-nil (λ (row : Row). IsRowBelow (m + n) (raised_row m row))
   each (row ∷ rows) all =
-      All-cons (λ (row : Row). IsRowBelow (m + n) (raised_row m row)) row rows (row_in_both m n row (All-head (IsRowAcross m n) row rows all))
-      (each rows (All-tail (IsRowAcross m n) row rows all))
+      All-cons (λ (row : Row). IsRowBelow (m + n) (raised_row m row)) row rows (row_in_both m n row (All-head (IsRowInRange m n) row rows all))
+      (each rows (All-tail (IsRowInRange m n) row rows all))
 
 -- The left numbers of their pairs are those of rows.
-pub lefts_below : (m n : ℕ) (rows : List Row) → AreRowsAcross m n rows → (p q : ℕ) → Holds (pairs_of (record { rows = rows })) p q → p < m
+pub lefts_below : (m n : ℕ) (rows : List Row) → AreRowsInRange m n rows → (p q : ℕ) → Holds (pairs_of (record { rows = rows })) p q → p < m
 lefts_below m n [] h p q there = absurd (none_in_nil (p, q) there)
 lefts_below m n (row ∷ rows) h p q there = elim (Contains-append_cases (pairs_of_row row) (flat_map pairs_of_row rows) (p, q) there) [
   | inl here ↦
       let (x, _, is) = map_from (λ r. (row.left, r)) (numbers_of row.runs) (p, q) here in
-      subst (λ y. y < m) (ap (λ (y : ℕ × ℕ). y.0) is) (All-head (IsRowAcross m n) row rows h).0
-  | inr later ↦ lefts_below m n rows (All-tail (IsRowAcross m n) row rows h) p q later
+      subst (λ y. y < m) (ap (λ (y : ℕ × ℕ). y.0) is) (All-head (IsRowInRange m n) row rows h).0
+  | inr later ↦ lefts_below m n rows (All-tail (IsRowInRange m n) row rows h) p q later
 ]

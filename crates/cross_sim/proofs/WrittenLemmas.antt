@@ -12,9 +12,9 @@ use Rattle.relation_rows.specs.Rows.{HoldsFrom, AreRows}
 use Rattle.relation_rows.proofs.RowBoundLemmas.{rows_below}
 use Rattle.relation_rows.proofs.SameRowsLemmas.{one_rows}
 use Rattle.cross_text.specs.declared.types.Cross.{Cross}
-use Rattle.cross_sim.specs.Cross.{IsGreatestCross}
-use Rattle.cross_sim.specs.Rules.{HasSizes, pairs_across}
-use Rattle.cross_sim.specs.Written.{IsCrossOf, CrossIsOne, WrittenCrossKeepsRules}
+use Rattle.cross_sim.specs.Cross.{IsGreatestSideBySide}
+use Rattle.cross_sim.specs.Rules.{HasCrossSizes, pairs_across}
+use Rattle.cross_sim.specs.Written.{IsGreatestCross, CrossIsOne, GreatestCrossKeepsRules}
 use Rattle.cross_sim.proofs.CrossLemmas.{raised_back}
 use Rattle.cross_sim.proofs.CheckLemmas.{rows_formed}
 
@@ -29,7 +29,7 @@ greatest_alike A B k S T same g = record {
 }
 
 -- The rows of the relation on both automata list the pairs across.
-module _ (A B : Automaton) (k : ℕ) (R : List (ℕ × ℕ)) (g : IsGreatestCross A B k R) (rows : List Row) (are : AreRows (HoldsFrom R A.states B.states) A.states rows) where
+module _ (A B : Automaton) (k : ℕ) (R : List (ℕ × ℕ)) (g : IsGreatestSideBySide A B k R) (rows : List Row) (are : AreRows (HoldsFrom R A.states B.states) A.states rows) where
   rows_list : (p q : ℕ) → Holds g.across p q ↔ Holds (pairs_of (record { rows = rows })) p q
   rows_list p q = (
     λ h. let (left, right) = g.is_greatest.in_range p q h in (are.has p q).1 (left, (right, (g.pairs p (A.states + q)).1 (q, refl, h))),
@@ -49,11 +49,11 @@ pub cross_made :
     → pair.second.states ≤ 512
     → length pair.labels ≤ 512
     → look ≤ 6
-    → HasSizes pair cross
+    → HasCrossSizes pair cross
     → cross.look ≡ look
-    → IsGreatestCross pair.first pair.second look R
+    → IsGreatestSideBySide pair.first pair.second look R
     → AreRows (HoldsFrom R pair.first.states pair.second.states) pair.first.states cross.rows
-    → IsCrossOf pair look cross
+    → IsGreatestCross pair look cross
 cross_made pair look R cross first second labels upto sizes look_is g are = record {
   formed = and_from (is_short cross.first_states) _ (lt-ltb cross.first_states 1000000000 (omega (arith, sizes.0)))
       (and_from (is_short cross.second_states) _ (lt-ltb cross.second_states 1000000000 (omega (arith, sizes.1)))
@@ -80,8 +80,8 @@ cross_is_one pair look c d p q =
       rows = rows i;
     }
 
-pub written_cross_keeps_rules : WrittenCrossKeepsRules
-written_cross_keeps_rules pair look cross from upto is held = (
+pub greatest_cross_keeps_rules : GreatestCrossKeepsRules
+greatest_cross_keeps_rules pair look cross from upto is held = (
   is.sizes,
   (
     (omega (arith, is.look_is), omega (arith, is.look_is)),

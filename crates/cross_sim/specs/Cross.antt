@@ -7,12 +7,12 @@ use Rattle.auto_core.specs.Game.{Holds, IsGreatestAcross}
 use Rattle.cross_sim.specs.Sides.{Raises}
 
 -- The pairs are those of the greatest list that is stable across A and B, with B's states numbered after A's.
-pub record IsGreatestCross (A B : Automaton) (k : ℕ) (R : List (ℕ × ℕ)) : Type 0 where
+pub record IsGreatestSideBySide (A B : Automaton) (k : ℕ) (R : List (ℕ × ℕ)) : Type 0 where
   pub across : List (ℕ × ℕ)
   pub is_greatest : IsGreatestAcross A B k across
   pub pairs : Raises A.states across R
 
 -- If it holds the pair of the initial states, B accepts what A accepts.
 abbrev pub CrossIncludes : Type 0
-CrossIncludes = (A B : Automaton) (k : ℕ) (R : List (ℕ × ℕ)) → IsAutomaton B → 1 ≤ k → IsGreatestCross A B k R → Holds R A.initial (A.states + B.initial) →
+CrossIncludes = (A B : Automaton) (k : ℕ) (R : List (ℕ × ℕ)) → IsAutomaton B → 1 ≤ k → IsGreatestSideBySide A B k R → Holds R A.initial (A.states + B.initial) →
     (mode : Mode) → Includes A B mode

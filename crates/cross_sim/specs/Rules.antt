@@ -18,25 +18,25 @@ use Rattle.cross_sim.specs.declared.faults.CheckCrossFault.TheVariants.{Refused,
 use Rattle.cross_text.specs.Text.{block_of}
 
 -- The sizes are those of the two read automata and of their joined labels.
-abbrev pub HasSizes : Joined → Cross → Type 0
-HasSizes pair cross =
+abbrev pub HasCrossSizes : Joined → Cross → Type 0
+HasCrossSizes pair cross =
     (cross.first_states ≡ pair.first.states) × (cross.second_states ≡ pair.second.states) × (cross.labels ≡ length pair.labels)
 
 -- The left number of the row is below m, and its right ones are below n: of a run the last one tells.
-abbrev pub IsRowAcross : ℕ → ℕ → Row → Type 0
-IsRowAcross m n row = (row.left < m) × All (λ (run : Run). run.last < n) row.runs
+abbrev pub IsRowInRange : ℕ → ℕ → Row → Type 0
+IsRowInRange m n row = (row.left < m) × All (λ (run : Run). run.last < n) row.runs
 
 -- So it is with each of the rows.
-abbrev pub AreRowsAcross : ℕ → ℕ → List Row → Type 0
-AreRowsAcross m n rows = All (IsRowAcross m n) rows
+abbrev pub AreRowsInRange : ℕ → ℕ → List Row → Type 0
+AreRowsInRange m n rows = All (IsRowInRange m n) rows
 
 -- The pairs that the cross relation lists.
 abbrev pub pairs_across : Cross → List (ℕ × ℕ)
 pairs_across cross = pairs_of (block_of cross)
 
 -- The pair of the initial states is there, and each pair matches acceptance and has its round across.
-abbrev pub pair_checks : Joined → Cross → List RuleCheck
-pair_checks pair cross =
+abbrev pub cross_pair_checks : Joined → Cross → List RuleCheck
+cross_pair_checks pair cross =
     rule_at 19 2 (Holds (pairs_across cross) pair.first.initial pair.second.initial)
     ∷ rule_at 20 2 (StableAcross pair.first pair.second cross.look (pairs_across cross))
     ∷ []
@@ -44,10 +44,10 @@ pair_checks pair cross =
 -- The rules in their order: the sizes, the lookahead and the numbers of states fit, and then the pairs are tested.
 abbrev pub cross_checks : Joined → Cross → List RuleCheck
 cross_checks pair cross =
-    rule_at 1 0 (HasSizes pair cross)
+    rule_at 1 0 (HasCrossSizes pair cross)
     ∷ rule_at 1 1 (IsLook cross.look)
-    ∷ rule_at 1 2 (AreRowsAcross pair.first.states pair.second.states cross.rows)
-    ∷ pair_checks pair cross
+    ∷ rule_at 1 2 (AreRowsInRange pair.first.states pair.second.states cross.rows)
+    ∷ cross_pair_checks pair cross
 
 -- The refusal is the first of these checks that does not hold.
 abbrev pub BreaksFirst : List RuleCheck → CrossRefusal → Type 0
@@ -73,8 +73,8 @@ KeptRulesInclude =
     (pair : Joined) (cross : Cross) → IsAutomaton pair.second → KeepsCrossRules pair cross → (mode : Mode) → Includes pair.first pair.second mode
 
 -- Where no rule is broken, none is the first that is.
-abbrev pub NoneBreaksWhereKept : Type 0
-NoneBreaksWhereKept = (pair : Joined) (cross : Cross) (refusal : CrossRefusal) → BreaksCrossRule pair cross refusal → KeepsCrossRules pair cross → ⊥
+abbrev pub NoCrossBreaksWhereKept : Type 0
+NoCrossBreaksWhereKept = (pair : Joined) (cross : Cross) (refusal : CrossRefusal) → BreaksCrossRule pair cross refusal → KeepsCrossRules pair cross → ⊥
 
 -- One rule is the first that is broken, at most.
 abbrev pub CrossBreakIsOne : Type 0

@@ -4,27 +4,27 @@ use Rattle.auto_core.specs.Game.{Holds, IsGreatestAcross}
 use Rattle.ba_format.specs.declared.parts.Joined.{Joined}
 use Rattle.cross_text.specs.declared.types.Cross.{Cross}
 use Rattle.cross_text.specs.Text.{CrossFormed}
-use Rattle.cross_sim.specs.Rules.{HasSizes, pairs_across, KeepsCrossRules}
+use Rattle.cross_sim.specs.Rules.{HasCrossSizes, pairs_across, KeepsCrossRules}
 
 -- The cross relation that is written: it has a text, the sizes of the two automata and this lookahead, and its pairs are the greatest that
 -- are stable across.
-pub record IsCrossOf (pair : Joined) (look : ℕ) (cross : Cross) : Type 0 where
+pub record IsGreatestCross (pair : Joined) (look : ℕ) (cross : Cross) : Type 0 where
   pub formed : CrossFormed cross
-  pub sizes : HasSizes pair cross
+  pub sizes : HasCrossSizes pair cross
   pub look_is : cross.look ≡ look
   pub greatest : IsGreatestAcross pair.first pair.second look (pairs_across cross)
 
 -- There is one at most.
 abbrev pub CrossIsOne : Type 0
-CrossIsOne = (pair : Joined) (look : ℕ) (c d : Cross) → IsCrossOf pair look c → IsCrossOf pair look d → c ≡ d
+CrossIsOne = (pair : Joined) (look : ℕ) (c d : Cross) → IsGreatestCross pair look c → IsGreatestCross pair look d → c ≡ d
 
 -- If it holds the pair of the initial states, it breaks no rule.
-abbrev pub WrittenCrossKeepsRules : Type 0
-WrittenCrossKeepsRules =
+abbrev pub GreatestCrossKeepsRules : Type 0
+GreatestCrossKeepsRules =
     (pair : Joined) (look : ℕ) (cross : Cross)
     → 1 ≤ look
     → look ≤ 6
-    → IsCrossOf pair look cross
+    → IsGreatestCross pair look cross
     → Holds (pairs_across cross) pair.first.initial pair.second.initial
     → KeepsCrossRules pair cross
 
@@ -36,4 +36,4 @@ GreatestCrossIsThere =
     → pair.second.states ≤ 512
     → length pair.labels ≤ 512
     → look ≤ 6
-    → (cross : Cross) × IsCrossOf pair look cross
+    → (cross : Cross) × IsGreatestCross pair look cross

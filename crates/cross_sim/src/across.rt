@@ -9,8 +9,9 @@ ghost use Rattle.cross_sim.specs.Sides.{MatchesAcross, across_joins};
 use auto_core::Auto;
 use look_round::{Forward, Move, Side};
 
-/// The side where Spoiler moves in the first automaton and Duplicator in the second: moves go from source to target, a state of the
-/// first is matched by states of the second alone, and an accepting state asks for an accepting one.
+/// The side where Spoiler moves in the first automaton: moves go from source to target, states of the first alone are matched by any, and an
+/// accepting state asks for an accepting one. Where Duplicator begins in the second automaton he stays there. States of the first match each
+/// other too: so the short words of one tell which states of the second can be above it.
 #[derive(Clone, Copy, Debug)]
 pub struct Across {
     /// The number of the first automaton's states; the second's follow them.
@@ -40,9 +41,6 @@ impl Side for Across {
 
     fn matched(&self, automaton: &Auto, p: u32, q: u32) -> bool {
         if p >= self.first_states {
-            return false;
-        }
-        if q < self.first_states {
             return false;
         }
         Forward.matched(automaton, p, q)

@@ -6,7 +6,7 @@ ghost use Rattle.auto_core.specs.Accept.{Includes};
 ghost use Rattle.auto_core.specs.declared.parts.Mode.{Mode};
 ghost use Rattle.log_check.specs.Parts.{IsLook};
 ghost use Rattle.cross_text.specs.Text.{CrossFormed};
-ghost use Rattle.cross_sim.specs.Rules.{HasSizes, IsRowAcross, AreRowsAcross, pair_checks, TellsCross, KeepsCrossRules, BreaksCrossRule};
+ghost use Rattle.cross_sim.specs.Rules.{HasCrossSizes, IsRowInRange, AreRowsInRange, cross_pair_checks, TellsCross, KeepsCrossRules, BreaksCrossRule};
 ghost use Rattle.cross_sim.specs.Sides.{Raises};
 ghost use Rattle.cross_sim.specs.declared.faults.CrossRefusal.{CrossRefusal};
 ghost use Rattle.log_check.specs.Blocks.{pairs_of};
@@ -26,7 +26,7 @@ use std::alloc::Global;
 
 /// Whether the sizes are those of the two automata and of their joined labels.
 fn has_sizes(pair: &Joined, cross: &Cross) -> bool
-    ensures told { IsTrue result ↔ HasSizes pair.now cross.now }
+    ensures told { IsTrue result ↔ HasCrossSizes pair.now cross.now }
     ensures automata { IsTrue result → IsAutomaton pair.now.first × IsAutomaton pair.now.second }
 {
     cross.first_states == pair.first.states()
@@ -43,14 +43,14 @@ fn is_look(look: u32) -> bool
 
 /// Whether the left number of the row is below `firsts`, and its right ones are below `seconds`.
 fn is_row_across(firsts: u32, seconds: u32, row: &Row) -> bool
-    ensures { IsTrue result ↔ IsRowAcross firsts seconds row.now }
+    ensures { IsTrue result ↔ IsRowInRange firsts seconds row.now }
 {
     row.left < firsts && row.runs.as_slice().iter().all(|run| run.last < seconds)
 }
 
 /// Whether so it is with each of the rows. No run is taken apart for that.
 fn are_rows_across(firsts: u32, seconds: u32, rows: &[Row]) -> bool
-    ensures { IsTrue result ↔ AreRowsAcross firsts seconds rows.now }
+    ensures { IsTrue result ↔ AreRowsInRange firsts seconds rows.now }
 {
     for row in rows {
         if !is_row_across(firsts, seconds, row) {
@@ -63,7 +63,7 @@ fn are_rows_across(firsts: u32, seconds: u32, rows: &[Row]) -> bool
 /// The relation of the rows on the states of both automata, the second's after the first's.
 fn relation_across(alloc: Global, firsts: u32, seconds: u32, rows: &[Row]) -> Result<Rel, Memory>
     requires formed { are_rows 0 rows.now ≡ true }
-    requires below { AreRowsAcross firsts seconds rows.now }
+    requires below { AreRowsInRange firsts seconds rows.now }
     requires few { firsts + seconds < 2 ^ 32 }
     ensures size { IfOk result (λ r. r.size ≡ firsts + seconds) }
     ensures pairs { IfOk result (λ r. Raises firsts (pairs_of (record { rows = rows.now })) r.pairs) }
@@ -81,12 +81,12 @@ fn refused(rule: u32, item: u32) -> Result<(), CheckCrossFault>
 /// Tests the pairs: that of the initial states is there, and all of them match and have their rounds.
 fn check_pairs(alloc: Global, pair: &Joined, cross: &Cross) -> Result<(), CheckCrossFault>
     requires formed { CrossFormed cross.now }
-    requires sizes { HasSizes pair.now cross.now }
+    requires sizes { HasCrossSizes pair.now cross.now }
     requires look { IsLook cross.now.look }
-    requires below { AreRowsAcross pair.now.first.states pair.now.second.states cross.now.rows }
+    requires below { AreRowsInRange pair.now.first.states pair.now.second.states cross.now.rows }
     requires transitions { length pair.now.first.transitions + length pair.now.second.transitions < 2 ^ 32 }
     requires labels { pair.now.first.labels ≡ pair.now.second.labels }
-    ensures { TellsCross (pair_checks pair.now cross.now) result }
+    ensures { TellsCross (cross_pair_checks pair.now cross.now) result }
 {
     let firsts = pair.first.states();
     let both = side_by_side(alloc, &pair.first, &pair.second)?;

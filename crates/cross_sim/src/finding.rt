@@ -4,10 +4,10 @@ ghost use Rattle.std.specs.Prelude.{◌≡◌, ◌+◌, ◌^◌, ◌<◌, ◌≤
 ghost use Rattle.auto_core.specs.Game.{Holds};
 ghost use Rattle.cross_text.specs.declared.types.Cross.{Cross};
 ghost use Rattle.cross_sim.specs.Rules.{pairs_across};
-ghost use Rattle.cross_sim.specs.Written.{IsCrossOf};
+ghost use Rattle.cross_sim.specs.Written.{IsGreatestCross};
 
 use crate::across::Across;
-use crate::simulation::side_by_side;
+use crate::simulation::{leave_across, side_by_side};
 use crate::written::cross_of;
 use auto_core::Memory;
 use ba_format::Joined;
@@ -26,10 +26,10 @@ pub fn find_cross(alloc: Global, pair: &Joined, look: u32) -> Result<Option<Cros
     requires second_labels { pair.now.second.labels ≡ length pair.now.labels }
     requires look_from { 1 ≤ look }
     requires look_upto { look ≤ 6 }
-    ensures of { IfOk result (λ found. IfSome found (IsCrossOf pair.now look)) }
+    ensures of { IfOk result (λ found. IfSome found (IsGreatestCross pair.now look)) }
     ensures has { IfOk result (λ found. IfSome found (λ cross. Holds (pairs_across cross) pair.now.first.initial pair.now.second.initial)) }
     ensures lacks { IfOk result (λ found. found ≡ None → (cross : Cross)
-        → IsCrossOf pair.now look cross
+        → IsGreatestCross pair.now look cross
         → Holds (pairs_across cross) pair.now.first.initial pair.now.second.initial
         → ⊥) }
 {
@@ -41,7 +41,11 @@ pub fn find_cross(alloc: Global, pair: &Joined, look: u32) -> Result<Option<Cros
     let left = pair.first.initial();
     let right = firsts + pair.second.initial();
     match greatest_with(alloc, &side, &both, look, left, right)? {
-        Some(rel) => Ok(Some(cross_of(alloc, pair, look, &rel)?)),
+        Some(found) => {
+            let mut rel = found;
+            leave_across(&mut rel, firsts);
+            Ok(Some(cross_of(alloc, pair, look, &rel)?))
+        }
         None => Ok(None),
     }
 }

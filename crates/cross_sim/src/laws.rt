@@ -1,8 +1,8 @@
 //! The laws of cross relations: contracts of functions that do nothing.
 
 ghost use Rattle.cross_sim.specs.Cross.{CrossIncludes};
-ghost use Rattle.cross_sim.specs.Rules.{KeptRulesInclude, NoneBreaksWhereKept, CrossBreakIsOne};
-ghost use Rattle.cross_sim.specs.Written.{CrossIsOne, WrittenCrossKeepsRules, GreatestCrossIsThere};
+ghost use Rattle.cross_sim.specs.Rules.{KeptRulesInclude, NoCrossBreaksWhereKept, CrossBreakIsOne};
+ghost use Rattle.cross_sim.specs.Written.{CrossIsOne, GreatestCrossKeepsRules, GreatestCrossIsThere};
 
 /// If it holds the pair of the initial states, the second automaton accepts what the first does, in both modes.
 pub fn cross_includes()
@@ -16,7 +16,7 @@ pub fn kept_rules_include()
 
 /// Where no rule is broken, none is the first that is.
 pub fn none_breaks_where_kept()
-    ensures { NoneBreaksWhereKept }
+    ensures { NoCrossBreaksWhereKept }
 {}
 
 /// One rule is the first that is broken, at most.
@@ -30,8 +30,8 @@ pub fn cross_is_one()
 {}
 
 /// If it holds the pair of the initial states, it breaks no rule.
-pub fn written_cross_keeps_rules()
-    ensures { WrittenCrossKeepsRules }
+pub fn greatest_cross_keeps_rules()
+    ensures { GreatestCrossKeepsRules }
 {}
 
 /// There is one of automata that are small enough for a decision.

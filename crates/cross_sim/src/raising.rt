@@ -2,7 +2,7 @@
 
 ghost use Rattle.std.specs.Prelude.{◌≡◌, ◌+◌, ◌<◌, ◌≤◌, ◌^◌, All, IfOk, map};
 ghost use Rattle.cert_value.specs.declared.types.Run.{Run};
-ghost use Rattle.cross_sim.specs.Rules.{AreRowsAcross, raised_run, raised_row, raised_block};
+ghost use Rattle.cross_sim.specs.Rules.{AreRowsInRange, raised_run, raised_row, raised_block};
 ghost use Rattle.cross_sim.specs.Raising.{AreRunsBelow, AreRowsBelow};
 
 use auto_core::{List, Memory};

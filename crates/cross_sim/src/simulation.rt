@@ -1,12 +1,12 @@
 //! The greatest cross relation.
 
 ghost use Rattle.std.specs.Prelude.{◌≡◌, ◌+◌, ◌^◌, ◌<◌, ◌≤◌, length, IfOk};
-ghost use Rattle.cross_sim.specs.Cross.{IsGreatestCross};
-ghost use Rattle.cross_sim.specs.Sides.{IsSideBySide};
+ghost use Rattle.cross_sim.specs.Cross.{IsGreatestSideBySide};
+ghost use Rattle.cross_sim.specs.Sides.{IsSideBySide, LeavesRowAcross, LeavesAcross};
 
 use crate::across::Across;
 use auto_core::{Auto, Memory, of_parts};
-use auto_ops::{add_accepting, add_moved};
+use auto_ops::{add_accepting, add_shifted};
 use ba_format::Joined;
 use bit_rel::Rel;
 use std::alloc::Global;
@@ -21,8 +21,8 @@ pub(crate) fn side_by_side(alloc: Global, first: &Auto, second: &Auto) -> Result
 {
     let offset = first.states();
     let mut transitions = Vec::new(alloc);
-    add_moved(&mut transitions, first, 0)?;
-    add_moved(&mut transitions, second, offset)?;
+    add_shifted(&mut transitions, first, 0)?;
+    add_shifted(&mut transitions, second, offset)?;
     let mut accepting = Vec::new(alloc);
     add_accepting(&mut accepting, first, 0)?;
     add_accepting(&mut accepting, second, offset)?;
@@ -37,6 +37,27 @@ pub(crate) fn side_by_side(alloc: Global, first: &Auto, second: &Auto) -> Result
     )
 }
 
+/// Takes away the pairs of `p` with the first `firsts` states.
+fn leave_row_across(rel: &mut Rel, p: u32, firsts: u32)
+    requires state { p < rel.old.size }
+    requires firsts { firsts ≤ rel.old.size }
+    ensures { LeavesRowAcross p firsts rel.old rel.new }
+{
+    for q in 0..firsts {
+        rel.clear(p, q);
+    }
+}
+
+/// Takes away the pairs of two of the first `firsts` states.
+pub(crate) fn leave_across(rel: &mut Rel, firsts: u32)
+    requires firsts { firsts ≤ rel.old.size }
+    ensures { LeavesAcross firsts firsts rel.old rel.new }
+{
+    for p in 0..firsts {
+        leave_row_across(rel, p, firsts);
+    }
+}
+
 /// The greatest cross relation at this lookahead, on the first automaton's states followed by the second's: the second's state q is the
 /// number a + q where the first has a states. (Clemente and Mayr, lookahead simulation.)
 pub fn relation(alloc: Global, pair: &Joined, look: u32) -> Result<Rel, Memory>
@@ -47,11 +68,13 @@ pub fn relation(alloc: Global, pair: &Joined, look: u32) -> Result<Rel, Memory>
     requires look_from { 1 ≤ look }
     requires look_upto { look ≤ 6 }
     ensures size { IfOk result (λ r. r.size ≡ pair.now.first.states + pair.now.second.states) }
-    ensures greatest { IfOk result (λ r. IsGreatestCross pair.now.first pair.now.second look r.pairs) }
+    ensures greatest { IfOk result (λ r. IsGreatestSideBySide pair.now.first pair.now.second look r.pairs) }
 {
     let both = side_by_side(alloc, &pair.first, &pair.second)?;
     let side = Across {
         first_states: pair.first.states(),
     };
-    look_game::greatest(alloc, &side, &both, look)
+    let mut rel = look_game::greatest(alloc, &side, &both, look)?;
+    leave_across(&mut rel, pair.first.states());
+    Ok(rel)
 }

@@ -2,9 +2,9 @@
 
 ghost use Rattle.std.specs.Prelude.{◌≡◌, ◌+◌, ◌≤◌, ◌↔◌, length, IfOk};
 ghost use Rattle.auto_core.specs.Game.{Holds};
-ghost use Rattle.cross_sim.specs.Cross.{IsGreatestCross};
+ghost use Rattle.cross_sim.specs.Cross.{IsGreatestSideBySide};
 ghost use Rattle.cross_sim.specs.Rules.{pairs_across};
-ghost use Rattle.cross_sim.specs.Written.{IsCrossOf};
+ghost use Rattle.cross_sim.specs.Written.{IsGreatestCross};
 
 use auto_core::Memory;
 use ba_format::Joined;
@@ -16,12 +16,12 @@ use std::alloc::Global;
 /// The cross relation of what `relation` gives at this lookahead, its right numbers the second automaton's own. It has a text.
 pub fn cross_of(alloc: Global, pair: &Joined, look: u32, rel: &Rel) -> Result<Cross, Memory>
     requires size { rel.now.size ≡ pair.now.first.states + pair.now.second.states }
-    requires greatest { IsGreatestCross pair.now.first pair.now.second look rel.now.pairs }
+    requires greatest { IsGreatestSideBySide pair.now.first pair.now.second look rel.now.pairs }
     requires first_few { pair.now.first.states ≤ 2048 }
     requires second_few { pair.now.second.states ≤ 512 }
     requires labels { length pair.now.labels ≤ 512 }
     requires look_upto { look ≤ 6 }
-    ensures of { IfOk result (IsCrossOf pair.now look) }
+    ensures of { IfOk result (IsGreatestCross pair.now look) }
     ensures initial { IfOk result (λ cross.
         Holds rel.now.pairs pair.now.first.initial (pair.now.first.states + pair.now.second.initial)
         ↔ Holds (pairs_across cross) pair.now.first.initial pair.now.second.initial) }

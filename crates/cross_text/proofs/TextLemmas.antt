@@ -24,12 +24,12 @@ use Rattle.cert_text.proofs.Backward.{line_bw, block_bw, finish_bw}
 use Rattle.cert_text.proofs.Reading.{read_by, told_inv}
 use Rattle.cert_text.proofs.Theorem.{some_lines}
 use Rattle.cross_text.specs.declared.types.Cross.{Cross}
-use Rattle.cross_text.specs.Text.{block_of, has_text, heading_line, look_line, cross_lines, cross_text}
-use Rattle.cross_text.specs.Grammar.{heading_places, heading_in, cross_of, read_relation, read_look, read_sizes, read_cross, cross_reading}
+use Rattle.cross_text.specs.Text.{block_of, has_cross_text, heading_line, look_line, cross_lines, cross_text}
+use Rattle.cross_text.specs.Grammar.{cross_heading_places, cross_heading_in, cross_of, read_relation, read_look, read_cross_sizes, read_cross, cross_reading}
 use Rattle.cross_text.specs.Law.{OneCrossText}
 
 -- All lines of a cross relation are plain.
-plain_cross : (c : Cross) → PlainLines (cross_lines c)
+pub plain_cross : (c : Cross) → PlainLines (cross_lines c)
 plain_cross c = (
   two_words keyword.RabitCross keyword.One [] refl,
   (
@@ -47,22 +47,22 @@ plain_cross c = (
 abbrev heading_if : Bool → Said (Unit {0})
 heading_if b = cond b (Ok tt) (Err kind.Header)
 
-heading_fw : heading_in heading_line ≡ Ok tt
+heading_fw : cross_heading_in heading_line ≡ Ok tt
 heading_fw =
     let f : Option TextKind → Said (Unit {0}) = λ o. heading_if (is_none o) in
-    ap f (line_none heading_places [] [] tail.Nothing tt refl refl)
+    ap f (line_none cross_heading_places [] [] tail.Nothing tt refl refl)
 
 heading_if_ok : (b : Bool) (u : Unit {0}) → heading_if b ≡ Ok u → b ≡ true
 heading_if_ok true u e = refl
 heading_if_ok false u e = absurd (cc)
 
-heading_bw : (ts : Line) (u : Unit {0}) → heading_in ts ≡ Ok u → ts ≡ heading_line
+heading_bw : (ts : Line) (u : Unit {0}) → cross_heading_in ts ≡ Ok u → ts ≡ heading_line
 heading_bw ts u e =
-    let o = line_fault heading_places tail.Nothing ts in
-    closed_none heading_places ts (line_back heading_places tail.Nothing ts (none_from o (heading_if_ok (is_none o) u e)))
+    let o = line_fault cross_heading_places tail.Nothing ts in
+    closed_none cross_heading_places ts (line_back cross_heading_places tail.Nothing ts (none_from o (heading_if_ok (is_none o) u e)))
 
 -- The lines of a cross relation are read as it, whatever follows.
-cross_fw : (c : Cross) (rest : List Line) → has_text c ≡ true → has_some rest ≡ true → read_cross (cross_lines c ++ rest) ≡ finish c rest
+cross_fw : (c : Cross) (rest : List Line) → has_cross_text c ≡ true → has_some rest ≡ true → read_cross (cross_lines c ++ rest) ≡ finish c rest
 cross_fw c rest e h =
     let a = and_parts (is_short c.first_states) _ e in
     let b = and_parts (is_short c.second_states) _ a.1 in
@@ -75,7 +75,7 @@ cross_fw c rest e h =
     let the_end = end_line ∷ rest in
     let more = l ∷ ((B ++ end_line ∷ []) ++ rest) in
     let next : On Cross RelBlock = λ block. read_end (cross_of sizes c.look block) in
-    line_fw heading_in (λ u. read_sizes) heading_line tt (s ∷ more) heading_fw (some_cons s more)
+    line_fw cross_heading_in (λ u. read_cross_sizes) heading_line tt (s ∷ more) heading_fw (some_cons s more)
     ∙ line_fw sizes_in read_look s sizes more (sizes_fw c.first_states c.second_states c.labels a.0 b.0 d.0) (some_cons l ((B ++ end_line ∷ []) ++ rest))
     ∙ ap (λ ls. read_look sizes (l ∷ ls)) (append_assoc B (end_line ∷ []) rest)
     ∙ line_fw (number_in keyword.Look) (read_relation sizes) l c.look (B ++ the_end) (number_fw keyword.Look c.look k.0) (some_append B the_end (some_cons end_line rest))
@@ -83,10 +83,10 @@ cross_fw c rest e h =
     ∙ line_fw (word_in keyword.End) (λ u. finish c) end_line tt rest (word_fw keyword.End) h
 
 -- Lines that are read as a cross relation are its lines, and it has a text.
-cross_bw : (ls : List Line) (c : Cross) → read_cross ls ≡ Read c → (has_text c ≡ true) × (ls ≡ cross_lines c ++ (([] ∷ []) ∷ []))
+cross_bw : (ls : List Line) (c : Cross) → read_cross ls ≡ Read c → (has_cross_text c ≡ true) × (ls ≡ cross_lines c ++ (([] ∷ []) ∷ []))
 cross_bw ls c e =
     let bare : List Line = ([] ∷ []) ∷ [] in
-    let h = line_bw heading_in (λ u. read_sizes) ls c e in
+    let h = line_bw cross_heading_in (λ u. read_cross_sizes) ls c e in
     let hf = heading_bw h.line h.item h.told in
     let s = line_bw sizes_in read_look h.rest c h.on in
     let sf = sizes_bw s.line s.item s.told in
@@ -102,7 +102,7 @@ cross_bw ls c e =
     let last : b.rest ≡ end_line ∷ bare = z.cut ∙ ap (λ x. x ∷ z.rest) zf ∙ ap (λ y. end_line ∷ y) f.1 in
     let after_look : l.rest ≡ (B ++ end_line ∷ []) ++ bare = b.cut ∙ ap (λ y. B ++ y) last ∙ sym (append_assoc B (end_line ∷ []) bare) in
     let sizes = sizes_line s.item.first_states s.item.second_states s.item.labels in
-    let P : Cross → Type 0 = λ c. (has_text c ≡ true) × (ls ≡ cross_lines c ++ bare) in
+    let P : Cross → Type 0 = λ c. (has_cross_text c ≡ true) × (ls ≡ cross_lines c ++ bare) in
     subst P f.0 (
       and_from (is_short s.item.first_states) _ sf.0
           (and_from (is_short s.item.second_states) _ sf.1
@@ -114,16 +114,16 @@ cross_bw ls c e =
     )
 
 -- The text of a cross relation and more is read to its end.
-text_then : (c : Cross) (more : List ℕ) → has_text c ≡ true → read_cross (lines_of (cross_text c ++ more)) ≡ finish c (lines_of more)
+pub text_then : (c : Cross) (more : List ℕ) → has_cross_text c ≡ true → read_cross (lines_of (cross_text c ++ more)) ≡ finish c (lines_of more)
 text_then c more e = ap read_cross (lines_text (cross_lines c) more (plain_cross c)) ∙ cross_fw c (lines_of more) e (some_lines more)
 
 -- The text of a cross relation is read as it.
-pub reading_text : (c : Cross) → has_text c ≡ true → cross_reading (cross_text c) ≡ Ok c
+pub reading_text : (c : Cross) → has_cross_text c ≡ true → cross_reading (cross_text c) ≡ Ok c
 reading_text c e =
     read_by read_cross (cross_text c) c (ap (λ b. read_cross (lines_of b)) (sym (append-nil (cross_text c))) ∙ text_then c [] e)
 
 -- Bytes that are read as a cross relation are its text.
-pub reading_back : (bytes : List ℕ) (c : Cross) → cross_reading bytes ≡ Ok c → (has_text c ≡ true) × (bytes ≡ cross_text c)
+pub reading_back : (bytes : List ℕ) (c : Cross) → cross_reading bytes ≡ Ok c → (has_cross_text c ≡ true) × (bytes ≡ cross_text c)
 reading_back bytes c e =
     let p = cross_bw (lines_of bytes) c (told_inv _ (read_cross (lines_of bytes)) c e) in
     (p.0, text_back bytes (cross_lines c) p.1)

@@ -11,16 +11,16 @@ use Rattle.cert_text.specs.declared.faults.TextFault.{TextFault}
 use Rattle.cert_text.specs.declared.lines.Sizes.{Sizes}
 use Rattle.cert_text.specs.Forms.{line_fault}
 use Rattle.cert_text.specs.Lines.{Said, number_in, sizes_in}
-use Rattle.cert_text.specs.Grammar.{Outcome, next_line, read_block, read_end, reading_by}
+use Rattle.cert_text.specs.Grammar.{LinesOutcome, next_line, read_block, read_end, reading_by}
 use Rattle.cross_text.specs.declared.types.Cross.{Cross}
 
 -- The places of the first line.
-abbrev pub heading_places : List Place
-heading_places = Word keyword.RabitCross ∷ Word keyword.One ∷ []
+abbrev pub cross_heading_places : List Place
+cross_heading_places = Word keyword.RabitCross ∷ Word keyword.One ∷ []
 
 -- The first line; any other is no heading.
-abbrev pub heading_in : Line → Said (Unit {0})
-heading_in tokens = if is_none (line_fault heading_places tail.Nothing tokens) then Ok tt else Err kind.Header
+abbrev pub cross_heading_in : Line → Said (Unit {0})
+cross_heading_in tokens = if is_none (line_fault cross_heading_places tail.Nothing tokens) then Ok tt else Err kind.Header
 
 -- The cross relation of these parts.
 abbrev pub cross_of : Sizes → ℕ → RelBlock → Cross
@@ -33,20 +33,20 @@ cross_of sizes look block = record {
 }
 
 -- What follows the line of the lookahead: the rows, and the last line.
-abbrev pub read_relation : Sizes → ℕ → List Line → Outcome Cross
+abbrev pub read_relation : Sizes → ℕ → List Line → LinesOutcome Cross
 read_relation sizes look = read_block 1 (λ block. read_end (cross_of sizes look block))
 
 -- What follows the line of sizes.
-abbrev pub read_look : Sizes → List Line → Outcome Cross
+abbrev pub read_look : Sizes → List Line → LinesOutcome Cross
 read_look sizes = next_line (number_in keyword.Look) (read_relation sizes)
 
 -- What follows the first line.
-abbrev pub read_sizes : List Line → Outcome Cross
-read_sizes = next_line sizes_in read_look
+abbrev pub read_cross_sizes : List Line → LinesOutcome Cross
+read_cross_sizes = next_line sizes_in read_look
 
 -- A whole text.
-abbrev pub read_cross : List Line → Outcome Cross
-read_cross = next_line heading_in (λ u. read_sizes)
+abbrev pub read_cross : List Line → LinesOutcome Cross
+read_cross = next_line cross_heading_in (λ u. read_cross_sizes)
 
 -- What the bytes are: a cross relation's text, or where they first begin none, and why.
 abbrev pub cross_reading : List ℕ → Result Cross TextFault

@@ -5,7 +5,7 @@ use Rattle.cert_text.specs.declared.faults.CertReadFault.{CertReadFault}
 use Rattle.cert_text.specs.declared.faults.CertReadFault.TheVariants.{Text, Memory}
 use Rattle.cert_text.specs.declared.faults.TextKind.TheVariants.{Truncated}
 use Rattle.cert_value.specs.WellFormed.{has_some}
-use Rattle.cert_text.specs.Grammar.{Outcome, On, Read, Stopped, finish}
+use Rattle.cert_text.specs.Grammar.{LinesOutcome, On, Read, Stopped, finish}
 use Rattle.cross_text.specs.declared.types.Cross.{Cross}
 
 -- The lines that are left, and the number of the first of them.
@@ -17,15 +17,15 @@ abbrev pub past : Left → ℕ
 past left = left.1 + length left.0
 
 -- It goes on where the grammar does, with what the grammar reads, and stops where the grammar stops; or memory was refused.
-abbrev pub Reads : {A : Type 0} → (On Cross A → List Line → Outcome Cross) → Left → Left → Result A CertReadFault → Type 0
-Reads {A} part old new (Ok a) = (past new ≡ past old) × ((next : On Cross A) → part next old.0 ≡ next a new.0)
-Reads {A} part old new (Err (Text fault)) =
+abbrev pub ReadsOn : {A : Type 0} → (On Cross A → List Line → LinesOutcome Cross) → Left → Left → Result A CertReadFault → Type 0
+ReadsOn {A} part old new (Ok a) = (past new ≡ past old) × ((next : On Cross A) → part next old.0 ≡ next a new.0)
+ReadsOn {A} part old new (Err (Text fault)) =
     (here : List Line) × (fault.line + length here ≡ past old) × ((next : On Cross A) → part next old.0 ≡ Stopped fault.kind here)
-Reads {A} part old new (Err Memory) = Unit {0}
+ReadsOn {A} part old new (Err Memory) = Unit {0}
 
 -- This line, which is whole, was taken off.
-abbrev pub TakesLine : Left → Left → Line → Type 0
-TakesLine old new line = (old.0 ≡ line ∷ new.0) × (has_some new.0 ≡ true) × (past new ≡ past old)
+abbrev pub TakesLineOff : Left → Left → Line → Type 0
+TakesLineOff old new line = (old.0 ≡ line ∷ new.0) × (has_some new.0 ≡ true) × (past new ≡ past old)
 
 -- No whole line is left: the last piece of the bytes is none.
 abbrev pub RunsOut : Left → CertReadFault → Type 0

@@ -12,12 +12,12 @@ block_of c = record { rows = c.rows }
 
 -- Whether it has a text: every number and the count of its rows have at most nine digits, left numbers ascend, and each row has runs that
 -- ascend, none of them right after the one before.
-abbrev pub has_text : Cross → Bool
-has_text c = is_short c.first_states && (is_short c.second_states && (is_short c.labels && (is_short c.look && is_block (block_of c))))
+abbrev pub has_cross_text : Cross → Bool
+has_cross_text c = is_short c.first_states && (is_short c.second_states && (is_short c.labels && (is_short c.look && is_block (block_of c))))
 
 -- It has a text.
 abbrev pub CrossFormed : Cross → Type 0
-CrossFormed c = IsTrue (has_text c)
+CrossFormed c = IsTrue (has_cross_text c)
 
 -- The first line.
 abbrev pub heading_line : Line

@@ -8,8 +8,8 @@ ghost use Rattle.cert_value.specs.declared.keywords.Keyword.TheVariants as keywo
 ghost use Rattle.cert_text.specs.Agrees.{Agrees};
 ghost use Rattle.cert_text.specs.Grammar.{lines_of, next_line, read_rows, read_block};
 ghost use Rattle.cert_text.specs.Lines.{word_in, number_in, sizes_in, row_in};
-ghost use Rattle.cross_text.specs.Grammar.{heading_in};
-ghost use Rattle.cross_text.specs.Reads.{Left, past, Reads, TakesLine, RunsOut, Ends};
+ghost use Rattle.cross_text.specs.Grammar.{cross_heading_in};
+ghost use Rattle.cross_text.specs.Reads.{Left, past, ReadsOn, TakesLineOff, RunsOut, Ends};
 
 use auto_core::List;
 use cert_text::{
@@ -38,7 +38,7 @@ impl<'a> Model for Lines<'a> {
 
 /// The first line: the words of a cross relation.
 fn heading_in(line: &[u8]) -> Result<(), LineFault>
-    ensures { Agrees (heading_in (tokens_of line.now)) result }
+    ensures { Agrees (cross_heading_in (tokens_of line.now)) result }
 {
     let places = [Place::Word(Keyword::RabitCross), Place::Word(Keyword::One)];
     match line_fault(&places, Tail::Nothing, line) {
@@ -61,7 +61,7 @@ impl<'a> Lines<'a> {
     /// The next whole line, without its LF.
     fn next(&mut self) -> Result<&'a [u8], CertReadFault>
         requires few { past self.old < 2 ^ 32 }
-        ensures { MatchResult result (λ line. TakesLine self.old self.new (tokens_of line.now)) (RunsOut self.old) }
+        ensures { MatchResult result (λ line. TakesLineOff self.old self.new (tokens_of line.now)) (RunsOut self.old) }
     {
         match first_line(self.rest) {
             None => Err(CertReadFault::Text(TextFault {
@@ -79,7 +79,7 @@ impl<'a> Lines<'a> {
     /// The first line.
     pub(crate) fn heading(&mut self) -> Result<(), CertReadFault>
         requires few { past self.old < 2 ^ 32 }
-        ensures { Reads (next_line heading_in) self.old self.new result }
+        ensures { ReadsOn (next_line cross_heading_in) self.old self.new result }
     {
         let number = self.number;
         let line = self.next()?;
@@ -92,7 +92,7 @@ impl<'a> Lines<'a> {
     /// The line of sizes.
     pub(crate) fn sizes(&mut self) -> Result<Sizes, CertReadFault>
         requires few { past self.old < 2 ^ 32 }
-        ensures { Reads (next_line sizes_in) self.old self.new result }
+        ensures { ReadsOn (next_line sizes_in) self.old self.new result }
     {
         let number = self.number;
         let line = self.next()?;
@@ -105,7 +105,7 @@ impl<'a> Lines<'a> {
     /// A line of this word and a number.
     pub(crate) fn number(&mut self, keyword: Keyword) -> Result<u32, CertReadFault>
         requires few { past self.old < 2 ^ 32 }
-        ensures { Reads (next_line (number_in keyword)) self.old self.new result }
+        ensures { ReadsOn (next_line (number_in keyword)) self.old self.new result }
     {
         let number = self.number;
         let line = self.next()?;
@@ -118,7 +118,7 @@ impl<'a> Lines<'a> {
     /// A row, its left number not below the bound.
     fn row(&mut self, alloc: Global, bound: u64) -> Result<Row, CertReadFault>
         requires few { past self.old < 2 ^ 32 }
-        ensures { Reads (next_line (row_in 1 bound)) self.old self.new result }
+        ensures { ReadsOn (next_line (row_in 1 bound)) self.old self.new result }
     {
         let number = self.number;
         let line = self.next()?;
@@ -131,7 +131,7 @@ impl<'a> Lines<'a> {
     /// So many rows, their left numbers ascending.
     fn rows(&mut self, alloc: Global, count: u32) -> Result<List<Row>, CertReadFault>
         requires few { past self.old < 2 ^ 32 }
-        ensures { Reads (read_rows 1 count 0 []) self.old self.new result }
+        ensures { ReadsOn (read_rows 1 count 0 []) self.old self.new result }
     {
         let mut rows = List::new(alloc);
         let mut bound = 0u64;
@@ -146,7 +146,7 @@ impl<'a> Lines<'a> {
     /// A relation: the number of its rows, and the rows.
     pub(crate) fn relation(&mut self, alloc: Global) -> Result<List<Row>, CertReadFault>
         requires few { past self.old < 2 ^ 32 }
-        ensures { Reads (λ next. read_block 1 (λ block. next block.rows)) self.old self.new result }
+        ensures { ReadsOn (λ next. read_block 1 (λ block. next block.rows)) self.old self.new result }
     {
         let count = self.number(Keyword::Rel)?;
         self.rows(alloc, count)
@@ -155,7 +155,7 @@ impl<'a> Lines<'a> {
     /// The last line.
     pub(crate) fn end(&mut self) -> Result<(), CertReadFault>
         requires few { past self.old < 2 ^ 32 }
-        ensures { Reads (next_line (word_in keyword.End)) self.old self.new result }
+        ensures { ReadsOn (next_line (word_in keyword.End)) self.old self.new result }
     {
         let number = self.number;
         let line = self.next()?;

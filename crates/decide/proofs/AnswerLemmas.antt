@@ -33,14 +33,14 @@ use Rattle.cert_value.specs.WellFormed.{WellFormed, is_version, is_short, are_sh
 use Rattle.log_check.specs.Ends.{item_after}
 use Rattle.cert_check.specs.Rules.{AreLabels, BodyHolds}
 use Rattle.cert_check.specs.Laws.{IsValid}
-use Rattle.cert_check.specs.Listing.{AreListedRuns}
+use Rattle.cert_check.specs.Listing.{AreDifferentListed}
 use Rattle.cert_check.proofs.ListingLemmas.{listed_in}
 use Rattle.decide.specs.declared.terms.Terms.{Terms}
 use Rattle.decide.specs.Terms.{AreBounded, IsVersioned}
 use Rattle.bound_laws.proofs.BoundLemmas.{listed_supergraphs_are_few, listed_pairs_are_few}
 use Rattle.decide.specs.Searches.{rules_in, bound_in, NoneSubsumedBeforeIn}
 use Rattle.decide.specs.Answer.{IsOrder, Reductions, IsYesOf, IsListOf, IsLassoOf, IsWordOf, IsBodyOf, IsAnswer, IsAnswerBy}
-use Rattle.decide.specs.Laws.{CanDecide, AreSettledEnds, StandApart, ListsNew, SaysTruth, AnswersAreFormed, AnswersAreValid, AnswersAreTrue}
+use Rattle.decide.specs.Laws.{CanDecide, AreSettledEnds, StandApart, ListsNew, AnswerIsTrue, AnswersAreFormed, AnswersAreValid, AnswersAreTrue}
 use Rattle.decide.proofs.EndLemmas.{AreGoodEnds, ends_in, good_ends}
 use Rattle.decide.proofs.PlaceLemmas.{all_from_places, pass_from_places}
 use Rattle.relation_rows.proofs.RowLemmas.{all_short}
@@ -74,7 +74,7 @@ labels_of labels w letters = all_from_places (λ a. a < labels) w (λ k a is. le
 
 -- What a list of the search of a mode has.
 record IsListing (m : Mode) (A B : Automaton) (S : List (ℕ × ℕ)) (limit : ℕ) (origins : List Origin) : Type 0 where
-  listed : AreListedRuns m A B (limit + 1) origins
+  listed : AreDifferentListed m A B (limit + 1) origins
   size : length origins ≡ limit + 1
   placed : (e : ℕ) → e < length origins → IsPlacedIn m A (arcs_of A origins) e (slice_index_or origins e Start)
   fresh : NoneSubsumedBeforeIn (rules_in m A B S) A origins
@@ -88,7 +88,7 @@ listing Finite A B S limit es valid greatest ends =
     record { listed = listed_in Finite A B (limit + 1) (origins_in es) lists.0; size = lists.0.size; placed = lists.0.placed; fresh = lists.1 }
 
 -- Different elements are no more than the bound.
-listing_few : (m : Mode) (A B : Automaton) (a b count : ℕ) (origins : List Origin) → IsAutomaton A → IsAutomaton B → A.states ≤ a → B.states ≤ b → AreListedRuns m A B count origins → count ≤ bound_in m a b
+listing_few : (m : Mode) (A B : Automaton) (a b count : ℕ) (origins : List Origin) → IsAutomaton A → IsAutomaton B → A.states ≤ a → B.states ≤ b → AreDifferentListed m A B count origins → count ≤ bound_in m a b
 listing_few Buchi A B a b count origins first second few_first few_second l = listed_supergraphs_are_few A B a b count origins first second few_first few_second l.listed
 listing_few Finite A B a b count origins first second few_first few_second l = listed_pairs_are_few A B a b count origins first second few_first few_second l.listed
 
@@ -171,7 +171,7 @@ module _ (pair : Joined) (terms : Terms) (can : CanDecide pair) (few : terms.lim
   record Shown (body : Body) : Type 0 where
     formed : is_body terms.version m body ≡ true
     checked : BodyHolds m pair body
-    truth : SaysTruth pair terms body
+    truth : AnswerIsTrue pair terms body
 
   logs_formed : (firsts : List FirstStep) (seconds : List SecondStep) → firsts ≡ at.first_log → seconds ≡ at.second_log → are_logs terms.version m firsts seconds ≡ true
   logs_formed firsts seconds a b = logs_are (λ l k. are_logs terms.version m l k ≡ true) at firsts seconds a b good.formed
@@ -306,7 +306,7 @@ module _ (pair : Joined) (terms : Terms) (cert : Cert) (can : CanDecide pair) (b
     keeps = (answer.sizes, subst (λ m. BodyHolds m pair cert.body) (sym answer.mode) body_shown.checked);
   }
 
-  is_true : SaysTruth pair terms cert.body
+  is_true : AnswerIsTrue pair terms cert.body
   is_true = body_shown.truth
 
 pub answers_are_formed : AnswersAreFormed
@@ -320,8 +320,8 @@ answers_are_true pair terms cert can bounds (at, ends, answer) = is_true pair te
 
 -- The same, body by body.
 module _ (pair : Joined) (terms : Terms) (cert : Cert) (can : CanDecide pair) (bounds : AreBounded terms) (answer : IsAnswer pair terms cert) where
-  says : (body : Body) → cert.body ≡ body → SaysTruth pair terms body
-  says body is = subst (SaysTruth pair terms) is (answers_are_true pair terms cert can bounds answer)
+  says : (body : Body) → cert.body ≡ body → AnswerIsTrue pair terms body
+  says body is = subst (AnswerIsTrue pair terms) is (answers_are_true pair terms cert can bounds answer)
 
   pub yes_includes : (y : YesBody) → cert.body ≡ Yes y → Includes pair.first pair.second terms.mode
   yes_includes y is = (says (Yes y) is).0

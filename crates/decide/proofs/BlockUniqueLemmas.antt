@@ -11,19 +11,19 @@ use Rattle.cert_value.specs.declared.types.RankRow.{RankRow}
 use Rattle.cert_value.specs.declared.types.Ranked.{Ranked}
 use Rattle.cert_value.specs.WellFormed.{is_short, are_rows, rank_key, is_less, is_rank_row, are_rank_rows}
 use Rattle.delayed_sim.specs.Rankings.{Triple, row_key}
-use Rattle.log_check.specs.Blocks.{rank_of, triples_of_row}
-use Rattle.decide.specs.Written.{IsBlockOf, IsRankBlockOf}
+use Rattle.log_check.specs.Blocks.{rank_in_code, triples_of_row}
+use Rattle.decide.specs.Written.{IsBlockOfPairs, IsRankBlockOf}
 use Rattle.relation_rows.proofs.SameRowsLemmas.{same_rows}
 use Rattle.decide.proofs.RankRowLemmas.{first_one, rest_one, not_less_itself, later_code, in_triple, some_ranked}
 
-pub one_block : (S : List (ℕ × ℕ)) (b c : RelBlock) → IsBlockOf S b → IsBlockOf S c → b ≡ c
+pub one_block : (S : List (ℕ × ℕ)) (b c : RelBlock) → IsBlockOfPairs S b → IsBlockOfPairs S c → b ≡ c
 one_block S b c p q =
     ap (λ rows. record { rows = rows })
     (same_rows 0 0 b.rows c.rows (and_parts (is_short (length b.rows)) (are_rows 0 b.rows) p.formed).1 (and_parts (is_short (length c.rows)) (are_rows 0 c.rows) q.formed).1 (p.pairs ∙ sym q.pairs))
 
 -- ---- blocks with ranks: of rows behind which the left states and letters are greater, the first triples are the same
 
-same_code : (a b : ℕ) → rank_of a ≡ rank_of b → a ≡ b
+same_code : (a b : ℕ) → rank_in_code a ≡ rank_in_code b → a ≡ b
 same_code zero zero e = refl
 same_code zero (suc b) e = absurd (none-some (suc b - 1) (e ∙ later_code b))
 same_code (suc a) zero e = absurd (none-some (suc a - 1) (sym e ∙ later_code a))

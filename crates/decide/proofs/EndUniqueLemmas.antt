@@ -20,7 +20,7 @@ use Rattle.reduce_loop.proofs.LogLemmas.{log_one}
 use Rattle.reduce_loop.proofs.PassLemmas.{reduced_one, log_of_reduced}
 use Rattle.decide.specs.Terms.{sight_of}
 use Rattle.decide.specs.Laws.{ReductionsAreOne}
-use Rattle.decide.specs.Written.{IsBlockOf, AreWritten, AreBlocksOf, AreGroundsOf, IsFirstWritten, IsSecondWritten, AreFirstWritten, AreSecondWritten, given, gone_by}
+use Rattle.decide.specs.Written.{IsBlockOfPairs, AreWritten, AreBlocksOf, AreGroundsOf, IsFirstWritten, IsSecondWritten, AreFirstWritten, AreSecondWritten, given, gone_and_better}
 use Rattle.decide.proofs.BlockUniqueLemmas.{one_block, one_rank_block}
 
 -- Where each thing is written in one way, so is the list.
@@ -36,13 +36,13 @@ one_written S T W one (s ∷ ss) (t ∷ ts) (u ∷ us) a b =
     λ i. first i ∷ rest i
 
 one_blocks : (relations : List Relation) (blocks others : List RelBlock) → AreBlocksOf relations blocks → AreBlocksOf relations others → blocks ≡ others
-one_blocks relations blocks others a b = one_written Relation RelBlock (λ R block. IsBlockOf R.pairs block) (λ R block other p q. one_block R.pairs block other p q) relations blocks others a b
+one_blocks relations blocks others a b = one_written Relation RelBlock (λ R block. IsBlockOfPairs R.pairs block) (λ R block other p q. one_block R.pairs block other p q) relations blocks others a b
 
 one_first_step : (s : Step) (a b : FirstStep) → IsFirstWritten s a → IsFirstWritten s b → a ≡ b
 one_first_step (step.Trim kept) a b p q = p ∙ sym q
 one_first_step (step.Merge by classes) a b p q = p ∙ sym q
 one_first_step (step.Cut pair look gone back ahead) a b (blocks, are, p) (others, too, q) =
-    p ∙ ap (first.Cut pair look (map gone_by gone)) (one_blocks (given back ahead) blocks others are too) ∙ sym q
+    p ∙ ap (first.Cut pair look (map gone_and_better gone)) (one_blocks (given back ahead) blocks others are too) ∙ sym q
 
 one_grounds : (m : MergeBy) (a b : Grounds) → AreGroundsOf m a → AreGroundsOf m b → a ≡ b
 one_grounds (by.Forward look rel) a b (block, is, p) (other, also, q) = p ∙ ap (grounds.Forward look) (one_block rel.pairs block other is also) ∙ sym q

@@ -10,7 +10,7 @@ use Rattle.auto_core.specs.Pruning.{AtSource, AtTarget, IsCut, look_back, look_a
 use Rattle.auto_core.specs.Quotient.{IsQuotient}
 use Rattle.auto_core.specs.declared.parts.Mode.{Mode}
 use Rattle.bit_rel.specs.Relation.{Relation}
-use Rattle.prune_pairs.specs.Least.{IsLeastBetter, numbers_of}
+use Rattle.prune_pairs.specs.Least.{IsLeastBetter, numbers_of_gone}
 use Rattle.prune_pairs.specs.declared.removing.Gone.{Gone}
 use Rattle.reduce_loop.specs.declared.steps.Foresight.{Foresight}
 use Rattle.reduce_loop.specs.declared.steps.Kind.{Kind}
@@ -28,7 +28,7 @@ use Rattle.log_check.specs.Blocks.{IsBlockBelow}
 use Rattle.log_check.specs.Follows.{StepFollows}
 use Rattle.log_check.specs.FirstLog.{back_of, ahead_of, IsAtMost, IsAsGood, IsNotBack, IsNotRelatedBack, IsGoneIn, AreStable, first_rules, FirstLogFollows}
 use Rattle.log_check.specs.Parts.{IsLook, AreClassesFor}
-use Rattle.decide.specs.Written.{IsBlockOf, given, AreBlocksOf, gone_by, IsFirstWritten, AreFirstWritten}
+use Rattle.decide.specs.Written.{IsBlockOfPairs, given, AreBlocksOf, gone_and_better, IsFirstWritten, AreFirstWritten}
 use Rattle.decide.proofs.FollowLemmas.{all_of_members, log_follows, block_below, trim_leads, greatest_same, merge_leads, delayed_leads, IsPair, pair_listed, back_greatest, ahead_greatest, cut_leads}
 
 -- ---- the blocks of a cut
@@ -41,10 +41,10 @@ pub record AreCutBlocks (m n : ℕ) (back ahead : Option Relation) (blocks : Lis
   pub formed : list_all is_block blocks ≡ true
   pub below : All (IsBlockBelow m) blocks
 
-one_formed : (S : List (ℕ × ℕ)) (b : RelBlock) → IsBlockOf S b → list_all is_block (b ∷ []) ≡ true
+one_formed : (S : List (ℕ × ℕ)) (b : RelBlock) → IsBlockOfPairs S b → list_all is_block (b ∷ []) ≡ true
 one_formed S b is = and_from (is_block b) true is.formed refl
 
-one_below : (m : ℕ) (S : List (ℕ × ℕ)) (b : RelBlock) → IsBlockOf S b → ArePairsBelow m m S → All (IsBlockBelow m) (b ∷ [])
+one_below : (m : ℕ) (S : List (ℕ × ℕ)) (b : RelBlock) → IsBlockOfPairs S b → ArePairsBelow m m S → All (IsBlockBelow m) (b ∷ [])
 one_below m S b is range = All-cons (IsBlockBelow m) b [] (block_below m S b is range) (All-nil (IsBlockBelow m))
 
 -- One of the pairs, and not this one.
@@ -154,7 +154,7 @@ module _ (A : Automaton) (n : ℕ) (back ahead : Option Relation) (blocks : List
   abbrev LeastBetter : Gone → Type 0
   LeastBetter g = IsLeastBetter A n (Close (Holds (relation_pairs back))) (Close (Holds (relation_pairs ahead))) g.trans g.by
 
-  as_good : (g : Gone) → LeastBetter g → IsAsGood A n blocks (gone_by g)
+  as_good : (g : Gone) → LeastBetter g → IsAsGood A n blocks (gone_and_better g)
   as_good g h =
       let source = at_most_source n (relation_pairs back) (trans_at A g.trans).source (trans_at A g.by).source h.better.better.source in
       let target = at_most_target n (relation_pairs ahead) (trans_at A g.trans).target (trans_at A g.by).target h.better.better.target in (
@@ -171,7 +171,7 @@ module _ (A : Automaton) (n : ℕ) (back ahead : Option Relation) (blocks : List
   not_back_target g h at = subst (λ S. IsNotBack S (trans_at A g.trans).target (trans_at A g.by).target) (sym are.ahead_is)
       (strict_target n (relation_pairs ahead) (trans_at A g.trans).target (trans_at A g.by).target h.better.better.target at)
 
-  strictly_better : (g : Gone) → LeastBetter g → IsNotRelatedBack A n blocks (gone_by g)
+  strictly_better : (g : Gone) → LeastBetter g → IsNotRelatedBack A n blocks (gone_and_better g)
   strictly_better g h = (
     λ e. not_back_target g h (inl e),
     λ e. not_back_source g h (inl e),
@@ -179,8 +179,8 @@ module _ (A : Automaton) (n : ℕ) (back ahead : Option Relation) (blocks : List
     λ e. not_back_source g h (inr e),
   )
 
-  all_gone : (P : GoneBy → Type 0) → ((g : Gone) → LeastBetter g → P (gone_by g)) → (gone : List Gone) → All LeastBetter gone → All P (map gone_by gone)
-  all_gone P each gone h = All-map P gone_by gone (All-weaker LeastBetter (λ g. P (gone_by g)) each gone h)
+  all_gone : (P : GoneBy → Type 0) → ((g : Gone) → LeastBetter g → P (gone_and_better g)) → (gone : List Gone) → All LeastBetter gone → All P (map gone_and_better gone)
+  all_gone P each gone h = All-map P gone_and_better gone (All-weaker LeastBetter (λ g. P (gone_and_better g)) each gone h)
 
   cut_stable : (k : ℕ) → IsBackOf A n k back → IsAheadOf A n k ahead → AreStable A n k blocks
   cut_stable k is_back is_ahead = (
@@ -189,7 +189,7 @@ module _ (A : Automaton) (n : ℕ) (back ahead : Option Relation) (blocks : List
   )
 
 -- The numbers of what is gone, as they are written.
-pub gone_numbers : (gone : List Gone) → gone_of (map gone_by gone) ≡ numbers_of gone
+pub gone_numbers : (gone : List Gone) → gone_of (map gone_and_better gone) ≡ numbers_of_gone gone
 gone_numbers [] = refl
 gone_numbers (g ∷ gone) = ap (λ l. g.trans ∷ l) (gone_numbers gone)
 
@@ -202,12 +202,12 @@ module _ (mode : Mode) (A B : Automaton) (item : ℕ) where
   merge_keeps : (classes : List ℕ) → AreClassesFor A classes → IsQuotient A classes B → KeepsAs (first.Merge classes)
   merge_keeps classes are leads = record { holds = (are, tt); leads = leads }
 
-  cut_keeps : (n k : ℕ) (gone : List Gone) (back ahead : Option Relation) (blocks : List RelBlock) → IsPair n → IsLook k → IsCutOf A n k gone back ahead → AreBlocksOf (given back ahead) blocks → IsCut A (numbers_of gone) B → KeepsAs (first.Cut n k (map gone_by gone) blocks)
+  cut_keeps : (n k : ℕ) (gone : List Gone) (back ahead : Option Relation) (blocks : List RelBlock) → IsPair n → IsLook k → IsCutOf A n k gone back ahead → AreBlocksOf (given back ahead) blocks → IsCut A (numbers_of_gone gone) B → KeepsAs (first.Cut n k (map gone_and_better gone) blocks)
   cut_keeps n k gone back ahead blocks pair look is written cut =
       let are = cut_blocks A k n back ahead blocks pair is.is_back is.is_ahead written in
-      let numbers : All (IsGoneIn A) (map gone_by gone) = all_gone A n back ahead blocks are (IsGoneIn A) (λ g h. (h.better.is, h.better.by)) gone is.least.each in
-      let good : All (IsAsGood A n blocks) (map gone_by gone) = all_gone A n back ahead blocks are (IsAsGood A n blocks) (as_good A n back ahead blocks are) gone is.least.each in
-      let strict : All (IsNotRelatedBack A n blocks) (map gone_by gone) = all_gone A n back ahead blocks are (IsNotRelatedBack A n blocks) (strictly_better A n back ahead blocks are) gone is.least.each in
+      let numbers : All (IsGoneIn A) (map gone_and_better gone) = all_gone A n back ahead blocks are (IsGoneIn A) (λ g h. (h.better.is, h.better.by)) gone is.least.each in
+      let good : All (IsAsGood A n blocks) (map gone_and_better gone) = all_gone A n back ahead blocks are (IsAsGood A n blocks) (as_good A n back ahead blocks are) gone is.least.each in
+      let strict : All (IsNotRelatedBack A n blocks) (map gone_and_better gone) = all_gone A n back ahead blocks are (IsNotRelatedBack A n blocks) (strictly_better A n back ahead blocks are) gone is.least.each in
       record {
         holds = (
           record { look_is = look; gone_in = numbers; blocks_in = are.below },

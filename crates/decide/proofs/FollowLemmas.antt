@@ -16,7 +16,7 @@ use Rattle.auto_core.proofs.PathLemmas.{Contains-here, Contains-later}
 use Rattle.auto_core.proofs.MemberLemmas.{map_from, map_has}
 use Rattle.bit_rel.specs.Relation.{Relation}
 use Rattle.delayed_sim.specs.Rankings.{Ranking}
-use Rattle.prune_pairs.specs.Least.{IsLeastBetter, AreLeastBetter, numbers_of}
+use Rattle.prune_pairs.specs.Least.{IsLeastBetter, AreLeastBetter, numbers_of_gone}
 use Rattle.prune_pairs.specs.declared.removing.Gone.{Gone}
 use Rattle.reduce_loop.specs.declared.steps.Foresight.{Foresight}
 use Rattle.reduce_loop.specs.declared.steps.Kind.{Kind}
@@ -33,9 +33,9 @@ use Rattle.cert_value.specs.declared.types.RankBlock.{RankBlock}
 use Rattle.cert_value.specs.declared.types.RankRow.{RankRow}
 use Rattle.cert_value.specs.declared.types.Ranked.{Ranked}
 use Rattle.cert_value.specs.WellFormed.{is_short, are_rows, rank_key, is_rank_row, are_rank_rows}
-use Rattle.log_check.specs.Blocks.{IsBlockBelow, rank_of, triples_of_row, IsRankRowBelow, IsRankBlockBelow}
+use Rattle.log_check.specs.Blocks.{IsBlockBelow, rank_in_code, triples_of_row, IsRankRowBelow, IsRankBlockBelow}
 use Rattle.log_check.specs.Follows.{LogRules, StepFollows, Follows}
-use Rattle.decide.specs.Written.{IsBlockOf, IsRankBlockOf, AreWritten}
+use Rattle.decide.specs.Written.{IsBlockOfPairs, IsRankBlockOf, AreWritten}
 use Rattle.relation_rows.proofs.RowBoundLemmas.{rows_below}
 use Rattle.decide.proofs.RankRowLemmas.{in_triple, some_ranked}
 
@@ -116,7 +116,7 @@ module _
 
 -- ---- blocks whose pairs are below a number
 
-pub block_below : (n : ℕ) (S : List (ℕ × ℕ)) (block : RelBlock) → IsBlockOf S block → ArePairsBelow n n S → IsBlockBelow n block
+pub block_below : (n : ℕ) (S : List (ℕ × ℕ)) (block : RelBlock) → IsBlockOfPairs S block → ArePairsBelow n n S → IsBlockBelow n block
 block_below n S block is range =
     rows_below n n 0 block.rows (and_parts (is_short (length block.rows)) (are_rows 0 block.rows) is.formed).1 (λ p q h. range p q (subst (λ l. Holds l p q) is.pairs h))
 
@@ -140,8 +140,8 @@ rank_rows_below n labels letters key (row ∷ rows) formed below =
     All-cons (IsRankRowBelow n labels) row rows
     (row_below n labels letters row row.rights refl some (λ r has.
     below row.ahead row.left r.right (
-      rank_of r.code,
-      Contains-append_left (triples_of_row row) (flat_map triples_of_row rows) (row.left, row.ahead, r.right, rank_of r.code) (map_has (in_triple row.left row.ahead) row.rights r has),
+      rank_in_code r.code,
+      Contains-append_left (triples_of_row row) (flat_map triples_of_row rows) (row.left, row.ahead, r.right, rank_in_code r.code) (map_has (in_triple row.left row.ahead) row.rights r has),
     )))
     (rank_rows_below n labels letters (rank_key row) rows parts.1 (λ b p q h. below b p q (h.0, Contains-append_right (triples_of_row row) (flat_map triples_of_row rows) (p, b, q, h.0) h.1)))
 
@@ -245,7 +245,7 @@ better_as A n back ahead other_back other_ahead same_back same_ahead t (u, h) = 
   },
 )
 
-pub listed_better : (A : Automaton) (n : ℕ) (back ahead : ℕ → ℕ → Type 0) (gone : List Gone) → AreLeastBetter A n back ahead gone → (t : ℕ) → Contains (numbers_of gone) t → HasBetter A n back ahead t
+pub listed_better : (A : Automaton) (n : ℕ) (back ahead : ℕ → ℕ → Type 0) (gone : List Gone) → AreLeastBetter A n back ahead gone → (t : ℕ) → Contains (numbers_of_gone gone) t → HasBetter A n back ahead t
 listed_better A n back ahead gone are t h =
     let (g, there, is) = map_from (λ (g : Gone). g.trans) gone t h in
     let least = All-contains (λ (g : Gone). IsLeastBetter A n back ahead g.trans g.by) gone g are.each there in
@@ -264,13 +264,13 @@ cut_by_members A B gone other same k = record {
   accepting = k.accepting;
 }
 
-pub cut_leads : (A B : Automaton) (n k : ℕ) (gone : List Gone) (back ahead : Option Relation) → IsPruned A n k B → IsCutOf A n k gone back ahead → IsCut A (numbers_of gone) B
+pub cut_leads : (A B : Automaton) (n k : ℕ) (gone : List Gone) (back ahead : Option Relation) → IsPruned A n k B → IsCutOf A n k gone back ahead → IsCut A (numbers_of_gone gone) B
 cut_leads A B n k gone back ahead p is =
     let mine = relation_pairs back in
     let other = relation_pairs ahead in
     let same_back : ¬ (n ≡ 1) → (q r : ℕ) → Holds p.back q r ↔ Holds mine q r = λ w. greatest_same _ _ (look_back n k) A.states p.back mine (p.greatest_back w) (back_greatest A n k back is.is_back w) in
     let same_ahead : ¬ (n ≡ 2) → (q r : ℕ) → Holds p.ahead q r ↔ Holds other q r = λ w. greatest_same _ _ (look_ahead n k) A.states p.ahead other (p.greatest_ahead w) (ahead_greatest A n k ahead is.is_ahead w) in
-    cut_by_members A B p.gone (numbers_of gone)
+    cut_by_members A B p.gone (numbers_of_gone gone)
     (λ t. (
       λ h. is.least.all t (better_as A n p.back p.ahead mine other same_back same_ahead t ((p.removable t).0 h)),
       λ h. (p.removable t).1 (better_as A n mine other p.back p.ahead

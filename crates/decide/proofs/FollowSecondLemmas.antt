@@ -8,7 +8,7 @@ use Rattle.auto_core.specs.Quotient.{AreClassesOf, IsQuotient, RelatesMembers, R
 use Rattle.auto_core.specs.declared.parts.Mode.{Mode}
 use Rattle.bit_rel.specs.Relation.{Relation}
 use Rattle.delayed_sim.specs.Rankings.{Ranking}
-use Rattle.prune_pairs.specs.Least.{AreLeastBetter, numbers_of}
+use Rattle.prune_pairs.specs.Least.{AreLeastBetter, numbers_of_gone}
 use Rattle.prune_pairs.specs.declared.removing.Gone.{Gone}
 use Rattle.reduce_loop.specs.declared.steps.Foresight.{Foresight}
 use Rattle.reduce_loop.specs.declared.steps.Kind.{Kind}
@@ -26,7 +26,7 @@ use Rattle.log_check.specs.Blocks.{pairs_of, IsBlockBelow, triples_of, IsRankBlo
 use Rattle.log_check.specs.Follows.{StepFollows}
 use Rattle.log_check.specs.Parts.{IsLook, AreTransitions}
 use Rattle.log_check.specs.SecondLog.{second_rules, SecondLogFollows}
-use Rattle.decide.specs.Written.{IsBlockOf, IsRankBlockOf, IsSecondWritten, AreSecondWritten}
+use Rattle.decide.specs.Written.{IsBlockOfPairs, IsRankBlockOf, IsSecondWritten, AreSecondWritten}
 use Rattle.decide.proofs.FollowLemmas.{all_of_members, log_follows, block_below, rank_block_below, trim_leads, greatest_same, merge_leads, delayed_leads, listed_better, cut_leads}
 
 -- ---- the members of a class are related
@@ -40,14 +40,14 @@ module _ (A B : Automaton) (item : ℕ) where
   abbrev KeepsAs : SecondStep → Type 0
   KeepsAs t = StepFollows SecondStep second_rules A item t B
 
-  forward_keeps : (k : ℕ) (rel : Relation) (classes : List ℕ) (block : RelBlock) → IsLook k → IsMergeOf A (IsGreatestForward A k) rel classes → IsBlockOf rel.pairs block → IsQuotient A classes B → KeepsAs (second.Merge (grounds.Forward k block) classes)
+  forward_keeps : (k : ℕ) (rel : Relation) (classes : List ℕ) (block : RelBlock) → IsLook k → IsMergeOf A (IsGreatestForward A k) rel classes → IsBlockOfPairs rel.pairs block → IsQuotient A classes B → KeepsAs (second.Merge (grounds.Forward k block) classes)
   forward_keeps k rel classes block look merge is leads =
       let below : IsBlockBelow A.states block = block_below A.states rel.pairs block is merge.relation.greatest.in_range in
       let stable : StableForward A k (pairs_of block) = subst (StableForward A k) (sym is.pairs) merge.relation.greatest.stable in
       let related : RelatesMembers A classes (pairs_of block) = subst (RelatesMembers A classes) (sym is.pairs) (members_related A (Holds rel.pairs) classes merge.joined) in
       record { holds = ((look, below), ((merge.joined.len, merge.joined.valid), (stable, (related, tt)))); leads = leads }
 
-  backward_keeps : (k : ℕ) (rel : Relation) (classes : List ℕ) (block : RelBlock) → IsLook k → IsMergeOf A (IsGreatestBackward A k) rel classes → IsBlockOf rel.pairs block → IsQuotient A classes B → KeepsAs (second.Merge (grounds.Backward k block) classes)
+  backward_keeps : (k : ℕ) (rel : Relation) (classes : List ℕ) (block : RelBlock) → IsLook k → IsMergeOf A (IsGreatestBackward A k) rel classes → IsBlockOfPairs rel.pairs block → IsQuotient A classes B → KeepsAs (second.Merge (grounds.Backward k block) classes)
   backward_keeps k rel classes block look merge is leads =
       let below : IsBlockBelow A.states block = block_below A.states rel.pairs block is merge.relation.greatest.in_range in
       let stable : StableBackward A k (pairs_of block) = subst (StableBackward A k) (sym is.pairs) merge.relation.greatest.stable in
@@ -68,9 +68,9 @@ module _ (A B : Automaton) (item : ℕ) where
       (subst (λ m. P m ranks.triples) (sym merge.announced) (members_related A (AreRelatedAhead A.labels n ranks.triples) classes merge.joined)) in
       record { holds = (below, ((merge.joined.len, merge.joined.valid), (right, (related, tt)))); leads = leads }
 
-  cut_keeps : (n k : ℕ) (gone : List Gone) (back ahead : ℕ → ℕ → Type 0) → AreLeastBetter A n back ahead gone → IsCut A (numbers_of gone) B → KeepsAs (second.Cut (numbers_of gone))
+  cut_keeps : (n k : ℕ) (gone : List Gone) (back ahead : ℕ → ℕ → Type 0) → AreLeastBetter A n back ahead gone → IsCut A (numbers_of_gone gone) B → KeepsAs (second.Cut (numbers_of_gone gone))
   cut_keeps n k gone back ahead are leads =
-      let numbers : AreTransitions A (numbers_of gone) = all_of_members (λ t. t < length A.transitions) (numbers_of gone) (λ t h. (listed_better A n back ahead gone are t h).1.is) in
+      let numbers : AreTransitions A (numbers_of_gone gone) = all_of_members (λ t. t < length A.transitions) (numbers_of_gone gone) (λ t h. (listed_better A n back ahead gone are t h).1.is) in
       record { holds = (numbers, tt); leads = leads }
 
 second_keeps :
@@ -102,7 +102,7 @@ second_keeps mode sight look A B item Delayed entry t valid listed after (ranks,
     subst (KeepsAs A B item) (sym is) (subst (λ g. KeepsAs A B item (second.Merge g classes)) (sym same)
     (delayed_keeps A B item (letters_for A sight.letters) ranks classes block merge is_block (delayed_leads A B (letters_for A sight.letters) ranks classes after merge)))
 second_keeps mode sight look A B item (Prune n) entry t valid listed after (gone, back, ahead, e, cut) written =
-    let is : t ≡ second.Cut (numbers_of gone) = subst (λ s. IsSecondWritten s t) e written in
+    let is : t ≡ second.Cut (numbers_of_gone gone) = subst (λ s. IsSecondWritten s t) e written in
     subst (KeepsAs A B item) (sym is)
     (cut_keeps A B item n sight.look gone (Close (Holds (relation_pairs back))) (Close (Holds (relation_pairs ahead))) cut.least (cut_leads A B n sight.look gone back ahead after cut))
 

@@ -15,7 +15,7 @@ use Rattle.cert_value.specs.declared.types.Mark.TheVariants.{Live}
 use Rattle.log_check.specs.Checks.{AllHold, checks_of_each}
 use Rattle.log_check.proofs.CheckLemmas.{all_join}
 use Rattle.cert_check.specs.Inclusion.{no_element, element_checks, NamesOrigin}
-use Rattle.cert_check.specs.Listing.{AreListedRuns, as_elements, SameIn, count_checks, difference_checks, listing_checks}
+use Rattle.cert_check.specs.Listing.{AreDifferentListed, as_elements, SameIn, count_checks, difference_checks, listing_checks}
 use Rattle.cert_check.proofs.ListingLemmas.{origins_of_live, live_count, live_at}
 use Rattle.decide.proofs.PlaceLemmas.{checks_from_places}
 use Rattle.decide.proofs.YesLemmas.{parts_of_placed, PlacedParts, IsPlacedIn}
@@ -24,7 +24,7 @@ use Rattle.decide.proofs.YesLemmas.{parts_of_placed, PlacedParts, IsPlacedIn}
 abbrev pub AllDiffer : Mode → Automaton → Automaton → List Origin → Type 0
 AllDiffer m A B origins = (i j : ℕ) → i < j → j < length origins → SameIn m B (arc_at A (arcs_of A origins) i) (arc_at A (arcs_of A origins) j) → ⊥
 
-pub listed_differ : (m : Mode) (A B : Automaton) (count : ℕ) (origins : List Origin) → AreListedRuns m A B count origins → AllDiffer m A B origins
+pub listed_differ : (m : Mode) (A B : Automaton) (count : ℕ) (origins : List Origin) → AreDifferentListed m A B count origins → AllDiffer m A B origins
 listed_differ Buchi A B count origins listed = listed.listed.differ
 listed_differ Finite A B count origins listed = listed.listed.differ
 

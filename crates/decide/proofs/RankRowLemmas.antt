@@ -20,9 +20,9 @@ use Rattle.cert_value.specs.declared.types.RankRow.{RankRow}
 use Rattle.cert_value.specs.declared.types.Ranked.{Ranked}
 use Rattle.cert_value.specs.WellFormed.{is_short, are_short, is_ranked, rights_of, has_some, ascend, ascend_from, rank_key, is_less, is_rank_row, are_rank_rows}
 use Rattle.delayed_sim.specs.Rankings.{Triple, Ranking, IsRanking, IsTripleBefore, row_key, triple_at}
-use Rattle.log_check.specs.Blocks.{rank_of, triples_of_row}
+use Rattle.log_check.specs.Blocks.{rank_in_code, triples_of_row}
 use Rattle.decide.specs.Written.{IsRankBlockOf}
-use Rattle.decide.specs.Rows.{HasFewTriples, IsRankRowOf, AreRankRows, ranked_of, code_for, last_key}
+use Rattle.decide.specs.Rows.{HasFewTriples, IsRankRowOf, AreRankRows, ranked_of_triple, code_for, last_row_key}
 use Rattle.relation_rows.proofs.RowLemmas.{all_short}
 
 -- ---- lists
@@ -73,15 +73,15 @@ rises_taken (suc n) (x ∷ xs) h = (λ y there. h.0 y (in_taken n xs y there), r
 
 -- ---- ranks and their codes
 
-pub later_code : (n : ℕ) → rank_of (suc n) ≡ Some (suc n - 1)
+pub later_code : (n : ℕ) → rank_in_code (suc n) ≡ Some (suc n - 1)
 later_code n = ap (λ t. cond t None (Some (suc n - 1))) (eqb-suc-zero n)
 
-code_back : (o : Option ℕ) → rank_of (code_for o) ≡ o
+code_back : (o : Option ℕ) → rank_in_code (code_for o) ≡ o
 code_back None = refl
 code_back (Some r) =
     let more : r + 1 ≡ suc r = omega arith in
     let less : suc r - 1 ≡ r = omega arith in
-    ap rank_of more ∙ later_code r ∙ ap Some less
+    ap rank_in_code more ∙ later_code r ∙ ap Some less
 
 -- Where the triple stands in the list, its rank has few digits, and so has its code.
 pub rank_few : (R : Ranking) (at : ℕ) (rank : Option ℕ) → HasFewTriples R → at < length R.triples → rank ≡ (triple_at R.triples at).3 → IfSome rank (λ r. r + 1 < 1000000000)
@@ -98,9 +98,9 @@ code_short R few p b q (Some r) h = lt-ltb (r + 1) 1000000000 (few.below b p q r
 
 -- The triple of a left state and letters with a right state and the code of its rank.
 abbrev pub in_triple : ℕ → List ℕ → Ranked → Triple
-in_triple left ahead r = (left, ahead, r.right, rank_of r.code)
+in_triple left ahead r = (left, ahead, r.right, rank_in_code r.code)
 
-triples_back : (left : ℕ) (ahead : List ℕ) (zs : List Triple) → ((z : Triple) → Contains zs z → row_key z ≡ left ∷ ahead) → map (in_triple left ahead) (map ranked_of zs) ≡ zs
+triples_back : (left : ℕ) (ahead : List ℕ) (zs : List Triple) → ((z : Triple) → Contains zs z → row_key z ≡ left ∷ ahead) → map (in_triple left ahead) (map ranked_of_triple zs) ≡ zs
 triples_back left ahead [] keys = refl
 triples_back left ahead (z ∷ zs) keys =
     let key = keys z (Contains-here z z zs refl) in
@@ -122,22 +122,22 @@ taken_at X at n within z (k, lt, e) =
       get_or_default X (at + k) (0, [], 0, None) z (omega arith) ∙ sym (get_or-drop at X k z) ∙ sym (get_or-take n (drop at X) k z k_in) ∙ e,
     )
 
-all_ranked : (R : Ranking) → IsRanking R → HasFewTriples R → (zs : List Triple) → ((z : Triple) → Contains zs z → Contains R.triples z) → list_all is_ranked (map ranked_of zs) ≡ true
+all_ranked : (R : Ranking) → IsRanking R → HasFewTriples R → (zs : List Triple) → ((z : Triple) → Contains zs z → Contains R.triples z) → list_all is_ranked (map ranked_of_triple zs) ≡ true
 all_ranked R valid few [] each = refl
 all_ranked R valid few (z ∷ zs) each =
     let here = each z (Contains-here z z zs refl) in
     let range = valid.in_range z.1 z.0 z.2 (z.3, here) in
     let right = range.2 in
     let states = few.states in
-    and_from (is_ranked (ranked_of z)) (list_all is_ranked (map ranked_of zs))
+    and_from (is_ranked (ranked_of_triple z)) (list_all is_ranked (map ranked_of_triple zs))
     (and_from (is_short z.2) (is_short (code_for z.3)) (lt-ltb z.2 1000000000 (omega arith)) (code_short R few z.0 z.1 z.2 z.3 here))
     (all_ranked R valid few zs (λ y there. each y (Contains-later z y zs there)))
 
-rights_ascend : (bound : ℕ) (key : List ℕ) (zs : List Triple) → Rises IsTripleBefore zs → ((z : Triple) → Contains zs z → (row_key z ≡ key) × (bound ≤ z.2)) → ascend_from bound (rights_of (map ranked_of zs)) ≡ true
+rights_ascend : (bound : ℕ) (key : List ℕ) (zs : List Triple) → Rises IsTripleBefore zs → ((z : Triple) → Contains zs z → (row_key z ≡ key) × (bound ≤ z.2)) → ascend_from bound (rights_of (map ranked_of_triple zs)) ≡ true
 rights_ascend bound key [] order each = refl
 rights_ascend bound key (z ∷ zs) order each =
     let here = each z (Contains-here z z zs refl) in
-    and_from (nat_le bound z.2) (ascend_from (z.2 + 1) (rights_of (map ranked_of zs))) (le-leb bound z.2 here.1)
+    and_from (nat_le bound z.2) (ascend_from (z.2 + 1) (rights_of (map ranked_of_triple zs))) (le-leb bound z.2 here.1)
     (rights_ascend (z.2 + 1) key zs order.1 (λ y there.
     let later = each y (Contains-later z y zs there) in
     let lt = before_right z y (here.0 ∙ sym later.0) (order.0 y there) in
@@ -167,7 +167,7 @@ module _ (R : Ranking) (valid : IsRanking R) (few : HasFewTriples R) (at end : �
       → (left : ℕ) (ahead : List ℕ) (rights : List Ranked)
       → left ≡ (triple_at X at).0
       → ahead ≡ (triple_at X at).1
-      → rights ≡ map ranked_of taken
+      → rights ≡ map ranked_of_triple taken
       → IsRankRowOf R at end (record { left = left; ahead = ahead; rights = rights })
   row_made same left ahead rights left_is ahead_is rights_are = record {
     triples = ap (map (in_triple left ahead)) rights_are ∙ triples_back left ahead taken keys;
@@ -214,7 +214,7 @@ module _ (R : Ranking) (valid : IsRanking R) (few : HasFewTriples R) (at end : �
       rights_len : length rights ≡ end - at
       rights_len =
           let left = length-drop at X in
-          ap length rights_are ∙ length-map taken ranked_of ∙ length-take-le (end - at) (drop at X) (omega arith)
+          ap length rights_are ∙ length-map taken ranked_of_triple ∙ length-take-le (end - at) (drop at X) (omega arith)
 
 -- One more of the right states of a row.
 pub rights_on :
@@ -222,14 +222,14 @@ pub rights_on :
     → at + i < length X
     → right ≡ (triple_at X (at + i)).2
     → code ≡ code_for (triple_at X (at + i)).3
-    → rights ≡ map ranked_of (take i (drop at X))
-    → rights ++ record { right = right; code = code } ∷ [] ≡ map ranked_of (take (i + 1) (drop at X))
+    → rights ≡ map ranked_of_triple (take i (drop at X))
+    → rights ++ record { right = right; code = code } ∷ [] ≡ map ranked_of_triple (take (i + 1) (drop at X))
 rights_on X at i rights right code lt right_is code_is are =
     let left = length-drop at X in
     let next : take (i + 1) (drop at X) ≡ take i (drop at X) ++ triple_at X (at + i) ∷ [] =
     take_more (drop at X) i (0, [], 0, None) (omega arith) ∙ ap (λ x. take i (drop at X) ++ x ∷ []) (get_or-drop at X i (0, [], 0, None)) in
-    let new : ◌≡◌ {A = Ranked} (record { right = right; code = code }) (ranked_of (triple_at X (at + i))) = λ k. record { right = right_is k; code = code_is k } in
-    (λ k. are k ++ new k ∷ []) ∙ sym (map_behind ranked_of (take i (drop at X)) (triple_at X (at + i))) ∙ ap (map ranked_of) (sym next)
+    let new : ◌≡◌ {A = Ranked} (record { right = right; code = code }) (ranked_of_triple (triple_at X (at + i))) = λ k. record { right = right_is k; code = code_is k } in
+    (λ k. are k ++ new k ∷ []) ∙ sym (map_behind ranked_of_triple (take i (drop at X)) (triple_at X (at + i))) ∙ ap (map ranked_of_triple) (sym next)
 
 -- What a row has: some right states, and a left state and letters past the key.
 pub some_ranked : (letters : ℕ) (key : List ℕ) (row : RankRow) → is_rank_row letters key row ≡ true → (0 < length row.rights) × (is_less key (rank_key row) ≡ true)
@@ -242,13 +242,13 @@ some_ranked letters key row is =
 
 -- ---- rows one after another
 
-behind : (letters : ℕ) (key : List ℕ) (rows : List RankRow) (row : RankRow) → are_rank_rows letters key rows ≡ true → is_rank_row letters (last_key key rows) row ≡ true → are_rank_rows letters key (rows ++ row ∷ []) ≡ true
+behind : (letters : ℕ) (key : List ℕ) (rows : List RankRow) (row : RankRow) → are_rank_rows letters key rows ≡ true → is_rank_row letters (last_row_key key rows) row ≡ true → are_rank_rows letters key (rows ++ row ∷ []) ≡ true
 behind letters key [] row h is = and_from (is_rank_row letters key row) true is refl
 behind letters key (first ∷ rows) row h is =
     let parts = and_parts (is_rank_row letters key first) (are_rank_rows letters (rank_key first) rows) h in
     and_from (is_rank_row letters key first) (are_rank_rows letters (rank_key first) (rows ++ row ∷ [])) parts.0 (behind letters (rank_key first) rows row parts.1 is)
 
-last_behind : (key : List ℕ) (rows : List RankRow) (row : RankRow) → last_key key (rows ++ row ∷ []) ≡ rank_key row
+last_behind : (key : List ℕ) (rows : List RankRow) (row : RankRow) → last_row_key key (rows ++ row ∷ []) ≡ rank_key row
 last_behind key [] row = refl
 last_behind key (first ∷ rows) row = last_behind (rank_key first) rows row
 
@@ -265,7 +265,7 @@ pub rank_rows_more :
     → AreRankRows R end (rows ++ row ∷ [])
 rank_rows_more R at end rows row are some within is onward = record {
   within = within;
-  formed = behind R.letters [] rows row are.formed (is.formed (last_key [] rows) (subst (λ k. is_less (last_key [] rows) k ≡ true) (sym is.key) (are.next (omega arith))));
+  formed = behind R.letters [] rows row are.formed (is.formed (last_row_key [] rows) (subst (λ k. is_less (last_row_key [] rows) k ≡ true) (sym is.key) (are.next (omega arith))));
   triples =
       flat_map-append triples_of_row rows (row ∷ [])
       ∙ (λ i. are.triples i ++ append-nil (triples_of_row row) i)

@@ -17,7 +17,7 @@ use Rattle.auto_core.specs.declared.parts.Mode.TheVariants.{Buchi, Finite}
 use Rattle.auto_core.proofs.PathLemmas.{Contains-cons_cases, Contains-here, Contains-later, none_in_nil}
 use Rattle.auto_core.proofs.MemberLemmas.{Rises, rises_from_pairs, map_from}
 use Rattle.bit_rel.specs.Relation.{Relation}
-use Rattle.prune_pairs.specs.Least.{IsLeastBetter, numbers_of}
+use Rattle.prune_pairs.specs.Least.{IsLeastBetter, numbers_of_gone}
 use Rattle.prune_pairs.specs.declared.removing.Gone.{Gone}
 use Rattle.prune_pairs.proofs.OneLaws.{cut_nothing}
 use Rattle.reduce_loop.specs.declared.steps.Foresight.{Foresight}
@@ -41,7 +41,7 @@ use Rattle.cert_value.specs.declared.types.GoneBy.{GoneBy}
 use Rattle.cert_value.specs.declared.types.RelBlock.{RelBlock}
 use Rattle.cert_value.specs.declared.types.RankBlock.{RankBlock}
 use Rattle.cert_value.specs.WellFormed.{is_short, are_short, has_some, ascend, ascend_from, is_block, is_rank_block, gone_of, is_gone, are_gone, are_kept, are_classes, blocks_due, is_first_step, are_letters, are_grounds, is_second_step}
-use Rattle.decide.specs.Written.{given, AreWritten, AreBlocksOf, gone_by, IsFirstWritten, IsSecondWritten, AreFirstWritten, AreSecondWritten}
+use Rattle.decide.specs.Written.{given, AreWritten, AreBlocksOf, gone_and_better, IsFirstWritten, IsSecondWritten, AreFirstWritten, AreSecondWritten}
 use Rattle.relation_rows.proofs.RowLemmas.{all_short}
 use Rattle.decide.proofs.FollowLemmas.{IsPair, pair_listed, listed_better, cut_leads}
 use Rattle.decide.proofs.FollowFirstLemmas.{cut_blocks, gone_numbers}
@@ -251,32 +251,32 @@ classes_formed classes are few =
 -- ---- a cut
 
 -- A cut that changes something has something that goes.
-some_goes : (A B : Automaton) (gone : List Gone) → IsAutomaton A → IsCut A (numbers_of gone) B → (B ≡ A → ⊥) → 0 < length gone
+some_goes : (A B : Automaton) (gone : List Gone) → IsAutomaton A → IsCut A (numbers_of_gone gone) B → (B ≡ A → ⊥) → 0 < length gone
 some_goes A B [] valid cut changed = absurd (changed ((cut_nothing A B valid).0 cut))
 some_goes A B (g ∷ gone) valid cut changed = omega arith
 
-number_formed : (A : Automaton) (n : ℕ) (back ahead : ℕ → ℕ → Type 0) (g : Gone) → length A.transitions ≤ 65536 → IsLeastBetter A n back ahead g.trans g.by → is_gone (gone_by g) ≡ true
+number_formed : (A : Automaton) (n : ℕ) (back ahead : ℕ → ℕ → Type 0) (g : Gone) → length A.transitions ≤ 65536 → IsLeastBetter A n back ahead g.trans g.by → is_gone (gone_and_better g) ≡ true
 number_formed A n back ahead g few h =
     let first = h.better.is in
     let other = h.better.by in
     and_from (is_short g.trans) (is_short g.by) (lt-ltb g.trans 1000000000 (omega arith)) (lt-ltb g.by 1000000000 (omega arith))
 
-gone_formed : (A : Automaton) (n k : ℕ) (gone : List Gone) (back ahead : Option Relation) → length A.transitions ≤ 65536 → IsCutOf A n k gone back ahead → 0 < length gone → are_gone (map gone_by gone) ≡ true
+gone_formed : (A : Automaton) (n k : ℕ) (gone : List Gone) (back ahead : Option Relation) → length A.transitions ≤ 65536 → IsCutOf A n k gone back ahead → 0 < length gone → are_gone (map gone_and_better gone) ≡ true
 gone_formed A n k gone back ahead few is some =
-    and_from (list_all is_gone (map gone_by gone)) (has_some (map gone_by gone) && ascend (gone_of (map gone_by gone)))
-    (all_pass is_gone (map gone_by gone) numbers)
-    (and_from (has_some (map gone_by gone)) (ascend (gone_of (map gone_by gone))) (not_empty gone some)
-    (subst (λ l. ascend l ≡ true) (sym (gone_numbers gone)) (ascend_of_increasing (numbers_of gone) is.least.ascending)))
+    and_from (list_all is_gone (map gone_and_better gone)) (has_some (map gone_and_better gone) && ascend (gone_of (map gone_and_better gone)))
+    (all_pass is_gone (map gone_and_better gone) numbers)
+    (and_from (has_some (map gone_and_better gone)) (ascend (gone_of (map gone_and_better gone))) (not_empty gone some)
+    (subst (λ l. ascend l ≡ true) (sym (gone_numbers gone)) (ascend_of_increasing (numbers_of_gone gone) is.least.ascending)))
   where
-    numbers : (pair : GoneBy) → Contains (map gone_by gone) pair → is_gone pair ≡ true
+    numbers : (pair : GoneBy) → Contains (map gone_and_better gone) pair → is_gone pair ≡ true
     numbers pair h =
-        let (g, there, same) = map_from gone_by gone pair h in
+        let (g, there, same) = map_from gone_and_better gone pair h in
         let least = All-contains (λ (g : Gone). IsLeastBetter A n (Close (Holds (relation_pairs back))) (Close (Holds (relation_pairs ahead))) g.trans g.by) gone g is.least.each there in
         subst (λ x. is_gone x ≡ true) same (number_formed A n (Close (Holds (relation_pairs back))) (Close (Holds (relation_pairs ahead))) g few least)
 
-    not_empty : (gone : List Gone) → 0 < length gone → has_some (map gone_by gone) ≡ true
+    not_empty : (gone : List Gone) → 0 < length gone → has_some (map gone_and_better gone) ≡ true
     not_empty [] lt = absurd (omega arith)
-    not_empty (g ∷ gone) lt = lt-ltb 0 (length (map gone_by (g ∷ gone))) (omega arith)
+    not_empty (g ∷ gone) lt = lt-ltb 0 (length (map gone_and_better (g ∷ gone))) (omega arith)
 
 some_due : (n : ℕ) → IsPair n → nat_lt 0 (blocks_due n) ≡ true
 some_due n (inl e) = subst (λ x. nat_lt 0 (blocks_due x) ≡ true) (sym e) refl
@@ -295,12 +295,12 @@ cut_formed :
     → IsCutOf A n k gone back ahead
     → 0 < length gone
     → AreBlocksOf (given back ahead) blocks
-    → is_first_step (first.Cut n k (map gone_by gone) blocks) ≡ true
+    → is_first_step (first.Cut n k (map gone_and_better gone) blocks) ≡ true
 cut_formed A n k gone back ahead blocks few low pair is some written =
     let are = cut_blocks A k n back ahead blocks pair is.is_back is.is_ahead written in
-    and_from (nat_lt 0 (blocks_due n)) (is_short k && (are_gone (map gone_by gone) && ((length blocks == blocks_due n) && list_all is_block blocks))) (some_due n pair)
-    (and_from (is_short k) (are_gone (map gone_by gone) && ((length blocks == blocks_due n) && list_all is_block blocks)) (look_formed k low)
-    (and_from (are_gone (map gone_by gone)) ((length blocks == blocks_due n) && list_all is_block blocks) (gone_formed A n k gone back ahead few is some)
+    and_from (nat_lt 0 (blocks_due n)) (is_short k && (are_gone (map gone_and_better gone) && ((length blocks == blocks_due n) && list_all is_block blocks))) (some_due n pair)
+    (and_from (is_short k) (are_gone (map gone_and_better gone) && ((length blocks == blocks_due n) && list_all is_block blocks)) (look_formed k low)
+    (and_from (are_gone (map gone_and_better gone)) ((length blocks == blocks_due n) && list_all is_block blocks) (gone_formed A n k gone back ahead few is some)
     (and_from (length blocks == blocks_due n) (list_all is_block blocks) (eq-eqb (length blocks) (blocks_due n) are.count) are.formed)))
 
 -- ---- steps that are written
@@ -408,15 +408,15 @@ second_step_formed v A B mode sight Delayed entry t valid small low fit listed a
     subst (λ x. is_second_step v mode x ≡ true) (sym is) (merge_formed v mode reason classes merge.joined.valid (omega arith)
     (subst (λ g. are_grounds v mode g ≡ true) (sym same) (delayed_formed v mode ranks.letters block listed (subst (λ m. are_letters v m ≡ true) (sym merge.announced) (letters_formed v A sight.letters fit)) is_of.formed)))
 second_step_formed v A B mode sight (Prune n) entry t valid small low fit listed after changed (gone, back, ahead, e, cut) written =
-    let is : t ≡ second.Cut (numbers_of gone) = subst (λ s. IsSecondWritten s t) e written in
+    let is : t ≡ second.Cut (numbers_of_gone gone) = subst (λ s. IsSecondWritten s t) e written in
     let some = some_goes A B gone valid (cut_leads A B n sight.look gone back ahead after cut) changed in
     let len = length-map gone (λ (g : Gone). g.trans) in
     let few = small.1 in
-    let short : are_short (numbers_of gone) ≡ true = all_short (numbers_of gone)
+    let short : are_short (numbers_of_gone gone) ≡ true = all_short (numbers_of_gone gone)
     (λ x h. let lt = (listed_better A n (Close (Holds (relation_pairs back))) (Close (Holds (relation_pairs ahead))) gone cut.least x h).1.is in omega arith) in
     subst (λ x. is_second_step v mode x ≡ true) (sym is)
-    (and_from (are_short (numbers_of gone)) (has_some (numbers_of gone) && ascend (numbers_of gone)) short
-    (and_from (has_some (numbers_of gone)) (ascend (numbers_of gone)) (lt-ltb 0 (length (numbers_of gone)) (omega arith)) (ascend_of_increasing (numbers_of gone) cut.least.ascending)))
+    (and_from (are_short (numbers_of_gone gone)) (has_some (numbers_of_gone gone) && ascend (numbers_of_gone gone)) short
+    (and_from (has_some (numbers_of_gone gone)) (ascend (numbers_of_gone gone)) (lt-ltb 0 (length (numbers_of_gone gone)) (omega arith)) (ascend_of_increasing (numbers_of_gone gone) cut.least.ascending)))
 
 small_on : (A B : Automaton) → IsNoLarger A B → A.states ≤ 2048 → length A.transitions ≤ 65536 → IsSmall B
 small_on A B less states transitions =

@@ -12,7 +12,7 @@ use Rattle.cert_value.specs.WellFormed.{is_short, are_rows}
 use Rattle.log_check.specs.Blocks.{pairs_of_row}
 use Rattle.relation_rows.specs.Rows.{HoldsFrom, AreRows}
 use Rattle.relation_rows.proofs.RowLemmas.{rows_ascend}
-use Rattle.decide.specs.Written.{IsBlockOf, AreWritten, AreBlocksOf, given}
+use Rattle.decide.specs.Written.{IsBlockOfPairs, AreWritten, AreBlocksOf, given}
 use Rattle.decide.specs.Logs.{one_given}
 
 pub written_join : (S T : Type 0) (W : S → T → Type 0) (ss more : List S) (ts others : List T) → AreWritten S T W ss ts → AreWritten S T W more others → AreWritten S T W (ss ++ more) (ts ++ others)
@@ -45,7 +45,7 @@ copied_more f ss k d made new t lt before is e =
     map_behind (y ∷ xs) x = ap (λ l. f y ∷ l) (map_behind xs x)
 
 -- All rows are the block of the relation.
-pub rows_are_block : (S : List (ℕ × ℕ)) (n : ℕ) (rows : List Row) → n ≤ 2048 → ArePairsBelow n n S → ArePairsAscending S → AreRows (HoldsFrom S 0 n) n rows → IsBlockOf S (record { rows = rows })
+pub rows_are_block : (S : List (ℕ × ℕ)) (n : ℕ) (rows : List Row) → n ≤ 2048 → ArePairsBelow n n S → ArePairsAscending S → AreRows (HoldsFrom S 0 n) n rows → IsBlockOfPairs S (record { rows = rows })
 rows_are_block S n rows small range ascending are = record {
   formed = and_from (is_short (length rows)) (are_rows 0 rows) (lt-ltb (length rows) 1000000000 (let few = are.few in omega arith)) are.formed;
   pairs = same_pairs (flat_map pairs_of_row rows) S (rows_ascend 0 rows are.formed) ascending
@@ -54,10 +54,10 @@ rows_are_block S n rows small range ascending are = record {
 }
 
 -- Blocks of relations that may be given.
-pub blocks_more : (blocks new : List RelBlock) (block : RelBlock) (R : Relation) → IsBlockOf R.pairs block → new ≡ blocks ++ block ∷ [] → (before : List Relation) → AreBlocksOf before blocks → AreBlocksOf (before ++ R ∷ []) new
+pub blocks_more : (blocks new : List RelBlock) (block : RelBlock) (R : Relation) → IsBlockOfPairs R.pairs block → new ≡ blocks ++ block ∷ [] → (before : List Relation) → AreBlocksOf before blocks → AreBlocksOf (before ++ R ∷ []) new
 blocks_more blocks new block R is e before are =
     subst (AreBlocksOf (before ++ R ∷ [])) (sym e)
-    (written_join Relation RelBlock (λ (R : Relation) block. IsBlockOf R.pairs block) before (R ∷ []) blocks (block ∷ []) are (is, tt))
+    (written_join Relation RelBlock (λ (R : Relation) block. IsBlockOfPairs R.pairs block) before (R ∷ []) blocks (block ∷ []) are (is, tt))
 
 pub given_are : (back ahead : Option Relation) → ([] ++ one_given back) ++ one_given ahead ≡ given back ahead
 given_are None None = refl

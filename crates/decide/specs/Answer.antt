@@ -23,7 +23,7 @@ use Rattle.reduce_loop.specs.Logs.{IsLog}
 use Rattle.decide.specs.declared.terms.Terms.{Terms}
 use Rattle.decide.specs.Terms.{sight_of}
 use Rattle.decide.specs.Searches.{rules_in}
-use Rattle.decide.specs.Written.{IsBlockOf, AreFirstWritten, AreSecondWritten}
+use Rattle.decide.specs.Written.{IsBlockOfPairs, AreFirstWritten, AreSecondWritten}
 
 -- An automaton with at most so many states, and few transitions.
 pub record HasFewParts (most : ℕ) (A : Automaton) : Type 0 where
@@ -64,7 +64,7 @@ closure_in evidence = record { elements = evidence.elements; cover = evidence.co
 pub record IsYesOf (at : Reductions) (terms : Terms) (S : List (ℕ × ℕ)) (es : List Entry) (evidence : YesBody) : Type 0 where
   pub first_log : evidence.first ≡ at.first_log
   pub second_log : evidence.second ≡ at.second_log
-  pub order : IsBlockOf S evidence.order
+  pub order : IsBlockOfPairs S evidence.order
   pub closure : IsEvidenceOf (rules_in terms.mode at.first at.second S) es (closure_in evidence)
 
 -- The list of these elements, which are one more than the limit: both logs, the limit and the origins.

@@ -12,7 +12,7 @@ use Rattle.decide.specs.declared.logs.Logs.{Logs}
 use Rattle.decide.specs.declared.terms.Terms.{Terms}
 use Rattle.decide.specs.Answer.{Reductions, IsBodyOf}
 use Rattle.decide.specs.Searches.{rules_in}
-use Rattle.decide.specs.Written.{IsBlockOf}
+use Rattle.decide.specs.Written.{IsBlockOfPairs}
 
 -- The evidence of the closure with this block and these logs.
 abbrev pub evidence_of : Logs → Closure → RelBlock → YesBody
@@ -21,7 +21,7 @@ evidence_of logs c block =
 
 -- The yes of the closure, with the rows of the order.
 abbrev pub IsYesWith : Logs → List (ℕ × ℕ) → Closure → Body → Type 0
-IsYesWith logs S c body = (block : RelBlock) × IsBlockOf S block × (body ≡ Yes (evidence_of logs c block))
+IsYesWith logs S c body = (block : RelBlock) × IsBlockOfPairs S block × (body ≡ Yes (evidence_of logs c block))
 
 -- The list of the origins.
 abbrev pub IsListWith : Logs → ℕ → List Origin → Body → Type 0

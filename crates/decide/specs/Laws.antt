@@ -20,7 +20,7 @@ use Rattle.cert_check.specs.Laws.{IsValid}
 use Rattle.evidence.specs.Evidence.{LiveStandApart}
 use Rattle.decide.specs.declared.terms.Terms.{Terms}
 use Rattle.decide.specs.Terms.{AreBounded, sight_of}
-use Rattle.cert_check.specs.Listing.{AreListedRuns}
+use Rattle.cert_check.specs.Listing.{AreDifferentListed}
 use Rattle.decide.specs.Searches.{rules_in, bound_in, NoneSubsumedBeforeIn}
 use Rattle.decide.specs.Answer.{HasFewParts, IsOrder, Decides, IsAnswer, Reductions, AreReductions}
 
@@ -54,18 +54,18 @@ pub record StandApart (pair : Joined) (terms : Terms) (evidence : YesBody) : Typ
 pub record ListsNew (pair : Joined) (terms : Terms) (list : ListBody) : Type 0 where
   pub ends : Ends
   pub settled : AreSettledEnds pair terms list.first list.second ends
-  pub listed : AreListedRuns terms.mode ends.first ends.second (terms.limit + 1) list.elements
+  pub listed : AreDifferentListed terms.mode ends.first ends.second (terms.limit + 1) list.elements
   pub order : List (ℕ × ℕ)
   pub ordered : IsOrder ends.second order
   pub fresh : NoneSubsumedBeforeIn (rules_in terms.mode ends.first ends.second order) ends.first list.elements
   pub below : terms.limit < bound_in terms.mode pair.first.states pair.second.states
 
 -- What the body says is so.
-abbrev pub SaysTruth : Joined → Terms → Body → Type 0
-SaysTruth pair terms (Yes evidence) = Includes pair.first pair.second terms.mode × StandApart pair terms evidence
-SaysTruth pair terms (NoLasso lasso) = SeparatesLasso pair.first pair.second lasso.prefix lasso.turn
-SaysTruth pair terms (NoWord word) = SeparatesWord pair.first pair.second word
-SaysTruth pair terms (Listing list) = ListsNew pair terms list
+abbrev pub AnswerIsTrue : Joined → Terms → Body → Type 0
+AnswerIsTrue pair terms (Yes evidence) = Includes pair.first pair.second terms.mode × StandApart pair terms evidence
+AnswerIsTrue pair terms (NoLasso lasso) = SeparatesLasso pair.first pair.second lasso.prefix lasso.turn
+AnswerIsTrue pair terms (NoWord word) = SeparatesWord pair.first pair.second word
+AnswerIsTrue pair terms (Listing list) = ListsNew pair terms list
 
 -- Two answers for the same automata, by the same terms, are one certificate.
 abbrev pub OneAnswer : Type 0
@@ -103,7 +103,7 @@ AnswersAreTrue =
     → CanDecide pair
     → AreBounded terms
     → IsAnswer pair terms cert
-    → SaysTruth pair terms cert.body
+    → AnswerIsTrue pair terms cert.body
 
 -- Two automata have one pair of reduced ones, with one log each.
 abbrev pub ReductionsAreOne : Type 0

@@ -14,8 +14,8 @@ code_for None = 0
 code_for (Some r) = r + 1
 
 -- The right state of the triple, with the code of its rank.
-abbrev pub ranked_of : Triple → Ranked
-ranked_of x = record { right = x.2; code = code_for x.3 }
+abbrev pub ranked_of_triple : Triple → Ranked
+ranked_of_triple x = record { right = x.2; code = code_for x.3 }
 
 -- The number of the triples, their states and letters and the codes of their ranks have at most nine digits.
 pub record HasFewTriples (ranks : Ranking) : Type 0 where
@@ -31,9 +31,9 @@ pub record IsRankRowOf (ranks : Ranking) (at end : ℕ) (row : RankRow) : Type 0
   pub formed : (key : List ℕ) → is_less key (rank_key row) ≡ true → is_rank_row ranks.letters key row ≡ true
 
 -- The left state and the letters of the last row; of none this key.
-abbrev pub last_key : List ℕ → List RankRow → List ℕ
-last_key key [] = key
-last_key key (row ∷ rows) = last_key (rank_key row) rows
+abbrev pub last_row_key : List ℕ → List RankRow → List ℕ
+last_row_key key [] = key
+last_row_key key (row ∷ rows) = last_row_key (rank_key row) rows
 
 -- The rows have the triples before `at`, and the next triple belongs behind them.
 pub record AreRankRows (ranks : Ranking) (at : ℕ) (rows : List RankRow) : Type 0 where
@@ -41,4 +41,4 @@ pub record AreRankRows (ranks : Ranking) (at : ℕ) (rows : List RankRow) : Type
   pub formed : are_rank_rows ranks.letters [] rows ≡ true
   pub triples : flat_map triples_of_row rows ≡ take at ranks.triples
   pub few : length rows ≤ at
-  pub next : at < length ranks.triples → is_less (last_key [] rows) (row_key (triple_at ranks.triples at)) ≡ true
+  pub next : at < length ranks.triples → is_less (last_row_key [] rows) (row_key (triple_at ranks.triples at)) ≡ true

@@ -6,8 +6,8 @@ use Rattle.reduce_loop.specs.declared.steps.Foresight.{Foresight}
 use Rattle.decide.specs.declared.terms.Terms.{Terms}
 
 -- The terms with this mode, lookahead and limit in version 1, where one letter is announced.
-abbrev pub terms_of : Mode → ℕ → ℕ → Terms
-terms_of mode look limit = record { mode = mode; look = look; letters = 1; version = 1; limit = limit }
+abbrev pub terms_of_version_1 : Mode → ℕ → ℕ → Terms
+terms_of_version_1 mode look limit = record { mode = mode; look = look; letters = 1; version = 1; limit = limit }
 
 -- The terms in version 2, with so many announced letters.
 abbrev pub terms_ahead : Mode → ℕ → ℕ → ℕ → Terms

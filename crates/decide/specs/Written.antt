@@ -3,7 +3,7 @@ use Rattle.std.specs.Prelude.{◌≡◌, ℕ, Option, None, Some, true, List, []
 use Rattle.auto_core.specs.Delayed.{RankedTriples}
 use Rattle.bit_rel.specs.Relation.{Relation}
 use Rattle.prune_pairs.specs.declared.removing.Gone.{Gone}
-use Rattle.prune_pairs.specs.Least.{numbers_of}
+use Rattle.prune_pairs.specs.Least.{numbers_of_gone}
 use Rattle.reduce_loop.specs.declared.steps.Step.{Step}
 use Rattle.reduce_loop.specs.declared.steps.Step.TheVariants as step
 use Rattle.reduce_loop.specs.declared.steps.MergeBy.{MergeBy}
@@ -22,7 +22,7 @@ use Rattle.log_check.specs.Blocks.{pairs_of, triples_of}
 
 -- The block lists just these pairs: its rows are not empty, left and right numbers ascend, and right numbers that follow one another
 -- make one run.
-pub record IsBlockOf (S : List (ℕ × ℕ)) (block : RelBlock) : Type 0 where
+pub record IsBlockOfPairs (S : List (ℕ × ℕ)) (block : RelBlock) : Type 0 where
   pub formed : is_block block ≡ true
   pub pairs : pairs_of block ≡ S
 
@@ -47,23 +47,23 @@ given (Some back) (Some ahead) = back ∷ ahead ∷ []
 
 -- A block for each of them.
 abbrev pub AreBlocksOf : List Relation → List RelBlock → Type 0
-AreBlocksOf relations blocks = AreWritten Relation RelBlock (λ R block. IsBlockOf R.pairs block) relations blocks
+AreBlocksOf relations blocks = AreWritten Relation RelBlock (λ R block. IsBlockOfPairs R.pairs block) relations blocks
 
 -- A transition that goes, and the better one.
-abbrev pub gone_by : Gone → GoneBy
-gone_by gone = record { trans = gone.trans; by = gone.by }
+abbrev pub gone_and_better : Gone → GoneBy
+gone_and_better gone = record { trans = gone.trans; by = gone.by }
 
 -- How a step stands in the first log: a merge with its classes alone, and a cut with the relations that it goes by.
 abbrev pub IsFirstWritten : Step → FirstStep → Type 0
 IsFirstWritten (step.Trim kept) written = written ≡ first.Trim kept
 IsFirstWritten (step.Merge by classes) written = written ≡ first.Merge classes
 IsFirstWritten (step.Cut pair look gone back ahead) written =
-    (blocks : List RelBlock) × AreBlocksOf (given back ahead) blocks × (written ≡ first.Cut pair look (map gone_by gone) blocks)
+    (blocks : List RelBlock) × AreBlocksOf (given back ahead) blocks × (written ≡ first.Cut pair look (map gone_and_better gone) blocks)
 
 -- The grounds of a merge.
 abbrev pub AreGroundsOf : MergeBy → Grounds → Type 0
-AreGroundsOf (by.Forward look rel) written = (block : RelBlock) × IsBlockOf rel.pairs block × (written ≡ grounds.Forward look block)
-AreGroundsOf (by.Backward look rel) written = (block : RelBlock) × IsBlockOf rel.pairs block × (written ≡ grounds.Backward look block)
+AreGroundsOf (by.Forward look rel) written = (block : RelBlock) × IsBlockOfPairs rel.pairs block × (written ≡ grounds.Forward look block)
+AreGroundsOf (by.Backward look rel) written = (block : RelBlock) × IsBlockOfPairs rel.pairs block × (written ≡ grounds.Backward look block)
 AreGroundsOf (by.Delayed ranks) written =
     (block : RankBlock) × IsRankBlockOf ranks.letters ranks.triples block × (written ≡ grounds.Delayed ranks.letters block)
 
@@ -71,7 +71,7 @@ AreGroundsOf (by.Delayed ranks) written =
 abbrev pub IsSecondWritten : Step → SecondStep → Type 0
 IsSecondWritten (step.Trim kept) written = written ≡ second.Trim kept
 IsSecondWritten (step.Merge by classes) written = (grounds : Grounds) × AreGroundsOf by grounds × (written ≡ second.Merge grounds classes)
-IsSecondWritten (step.Cut pair look gone back ahead) written = written ≡ second.Cut (numbers_of gone)
+IsSecondWritten (step.Cut pair look gone back ahead) written = written ≡ second.Cut (numbers_of_gone gone)
 
 -- The log stands so in a certificate, as the first one.
 abbrev pub AreFirstWritten : List Step → List FirstStep → Type 0

@@ -2,9 +2,9 @@
 
 ghost use Rattle.std.specs.Prelude.{◌≡◌, ◌++◌, List as Items, map, IfOk, IfSome};
 ghost use Rattle.bit_rel.specs.Relation.{Relation};
-ghost use Rattle.prune_pairs.specs.Least.{numbers_of};
+ghost use Rattle.prune_pairs.specs.Least.{numbers_of_gone};
 ghost use Rattle.reduce_loop.specs.declared.steps.Step.TheVariants as step;
-ghost use Rattle.decide.specs.Written.{gone_by, given, AreBlocksOf, AreGroundsOf, IsFirstWritten, IsSecondWritten, AreFirstWritten, AreSecondWritten};
+ghost use Rattle.decide.specs.Written.{gone_and_better, given, AreBlocksOf, AreGroundsOf, IsFirstWritten, IsSecondWritten, AreFirstWritten, AreSecondWritten};
 ghost use Rattle.decide.specs.Logs.{IsOnFew, IsMergeOnFew, IsStepOnFew, AreStepsOnFew, one_given, AreLogsOf};
 
 use crate::rows::{block_of, copied, rank_block_of};
@@ -26,7 +26,7 @@ pub(crate) struct Logs {
 
 /// The transitions that go, each with the better one.
 fn gone_pairs(alloc: Global, gone: &[Gone]) -> Result<List<GoneBy>, Memory>
-    ensures { IfOk result (λ made. made ≡ map gone_by gone.now) }
+    ensures { IfOk result (λ made. made ≡ map gone_and_better gone.now) }
 {
     let mut made = List::new(alloc);
     for pair in gone {
@@ -40,7 +40,7 @@ fn gone_pairs(alloc: Global, gone: &[Gone]) -> Result<List<GoneBy>, Memory>
 
 /// The transitions that go.
 fn gone_numbers(alloc: Global, gone: &[Gone]) -> Result<List<u32>, Memory>
-    ensures { IfOk result (λ made. made ≡ numbers_of gone.now) }
+    ensures { IfOk result (λ made. made ≡ numbers_of_gone gone.now) }
 {
     let mut made = List::new(alloc);
     for pair in gone {

@@ -2,8 +2,8 @@
 
 ghost use Rattle.std.specs.Prelude.{◌≡◌, ◌+◌, ◌-◌, ◌≤◌, ◌<◌, ℕ, IfOk, IfSome, drop, length, map, take};
 ghost use Rattle.delayed_sim.specs.Rankings.{row_key, triple_at};
-ghost use Rattle.decide.specs.Written.{IsBlockOf, IsRankBlockOf};
-ghost use Rattle.decide.specs.Rows.{HasFewTriples, IsRankRowOf, ranked_of, code_for};
+ghost use Rattle.decide.specs.Written.{IsBlockOfPairs, IsRankBlockOf};
+ghost use Rattle.decide.specs.Rows.{HasFewTriples, IsRankRowOf, ranked_of_triple, code_for};
 
 use auto_core::{List, Memory};
 use bit_rel::Rel;
@@ -15,7 +15,7 @@ use std::alloc::Global;
 /// A row for each state that the relation holds with some state.
 pub(crate) fn block_of(alloc: Global, rel: &Rel) -> Result<RelBlock, Memory>
     requires { rel.now.size ≤ 2048 }
-    ensures { IfOk result (IsBlockOf rel.now.pairs) }
+    ensures { IfOk result (IsBlockOfPairs rel.now.pairs) }
 {
     let size = rel.size();
     let rows = rows_of(alloc, rel, size, 0, size)?;
@@ -53,7 +53,7 @@ fn ranked_rights(
 ) -> Result<List<Ranked>, Memory>
     requires within { at + count ≤ length ranks.now.triples }
     requires few { HasFewTriples ranks.now }
-    ensures { IfOk result (λ rights. rights ≡ map ranked_of (take count (drop at ranks.now.triples))) }
+    ensures { IfOk result (λ rights. rights ≡ map ranked_of_triple (take count (drop at ranks.now.triples))) }
 {
     let mut rights = List::new(alloc);
     for i in 0..count {

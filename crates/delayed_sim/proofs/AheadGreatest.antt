@@ -6,7 +6,7 @@ use Rattle.auto_core.specs.Delayed.{RankedTriples, HoldsTriple, HasRank, Announc
 use Rattle.auto_core.proofs.MemberLemmas.{map_has, map_from}
 use Rattle.auto_core.proofs.MoveLemmas.{move_in_range}
 use Rattle.delayed_sim.specs.Rankings.{Triple}
-use Rattle.delayed_sim.specs.Across.{RankedPairs, HoldsPair, AreRankedBelow, IsRightAcross}
+use Rattle.delayed_sim.specs.Across.{RankedPlaces, HoldsPair, AreWithin, IsRightAcross}
 use Rattle.delayed_sim.specs.Pairings.{Pairing}
 use Rattle.delayed_sim.specs.Levels.{rank_at, IsLeastRank}
 use Rattle.delayed_sim.specs.Played.{HasEachRight, IsPlayed}
@@ -28,7 +28,7 @@ module _ (A : Automaton) (n : ℕ) (L : Automaton) (valid : IsAutomaton A) (plac
   abbrev at_place : Triple → ℕ × ℕ × Option ℕ
   at_place t = (place_of A.labels t.0 t.1, t.2, t.3)
 
-  abbrev at_places : RankedTriples → RankedPairs
+  abbrev at_places : RankedTriples → RankedPlaces
   at_places Y = map at_place Y
 
   places_have : (Y : RankedTriples) (p : ℕ) (b : List ℕ) (q : ℕ) (o : Option ℕ) → Contains Y (p, b, q, o) → Contains (at_places Y) (place_of A.labels p b, q, o)
@@ -48,7 +48,7 @@ module _ (A : Automaton) (n : ℕ) (L : Automaton) (valid : IsAutomaton A) (plac
       (t.0, t.1, subst P rank (subst Q right there), ap (λ (z : ℕ × ℕ × Option ℕ). z.0) is)
 
   module _ (Y : RankedTriples) (range : AreTriplesOf A.states A.labels n Y) (right : IsRight A Y) where
-    places_below : AreRankedBelow L.states A.states (at_places Y)
+    places_below : AreWithin L.states A.states (at_places Y)
     places_below x q (o, h) =
         let (p, b, has, is) = places_from Y x q o h in
         let (announced, left, right_in) = range b p q (o, has) in

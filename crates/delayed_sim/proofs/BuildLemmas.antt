@@ -11,16 +11,16 @@ use Rattle.auto_core.proofs.PathLemmas.{Contains-here, Contains-later, Contains-
 use Rattle.delayed_sim.specs.declared.entries.Entry.{Entry}
 use Rattle.delayed_sim.specs.declared.delayed.RankedTriple.{RankedTriple}
 use Rattle.delayed_sim.specs.Rankings.{Triple, IsTripleBefore, AreTriplesInOrder, ranked_triple, AreTriplesGiven, DifferInTriples, HasJust}
-use Rattle.delayed_sim.specs.Stored.{triple_of, triples_of, no_entry, IsBetween, IsPutIn}
+use Rattle.delayed_sim.specs.Stored.{triple_of, entry_triples, no_entry, IsBetween, IsPutIn}
 use Rattle.delayed_sim.proofs.OrderLemmas.{triple_total}
 use Rattle.delayed_sim.proofs.EntryLemmas.{entry_triple, entry_count}
 
 -- the triples after an entry is put in
-pub triples_insert : (n : ℕ) (entries : List Entry) (at : ℕ) (e : Entry) → triples_of n (insert entries at e) ≡ insert (triples_of n entries) at (triple_of n e)
+pub triples_insert : (n : ℕ) (entries : List Entry) (at : ℕ) (e : Entry) → entry_triples n (insert entries at e) ≡ insert (entry_triples n entries) at (triple_of n e)
 triples_insert n entries at e =
     map-append (triple_of n) (take at entries) (e ∷ drop at entries)
     ∙ ap (λ xs. xs ++ triple_of n e ∷ map (triple_of n) (drop at entries)) (sym (take-map (triple_of n) at entries))
-    ∙ ap (λ ys. take at (triples_of n entries) ++ triple_of n e ∷ ys) (sym (drop-map (triple_of n) at entries))
+    ∙ ap (λ ys. take at (entry_triples n entries) ++ triple_of n e ∷ ys) (sym (drop-map (triple_of n) at entries))
 
 -- a list in order stays so where the new triple stands between those before it and those behind
 order_insert :
@@ -76,9 +76,9 @@ contains_insert T at t x upto = (
   ]),
 )
 
-pub put_in : (n : ℕ) (entries : List Entry) (at : ℕ) (e : Entry) → AreTriplesInOrder (triples_of n entries) → IsBetween n entries (triple_of n e) at at → IsPutIn n entries (insert entries at e) e
+pub put_in : (n : ℕ) (entries : List Entry) (at : ℕ) (e : Entry) → AreTriplesInOrder (entry_triples n entries) → IsBetween n entries (triple_of n e) at at → IsPutIn n entries (insert entries at e) e
 put_in n entries at e order gap =
-    let T = triples_of n entries in
+    let T = entry_triples n entries in
     let t = triple_of n e in
     let within = gap.within in
     let upto : at ≤ length T = omega (arith, entry_count n entries) in
@@ -115,14 +115,14 @@ filled_none triples = record {
   in_order = λ i j d lt j_in. absurd (omega arith);
 }
 
-pub filled_more : (n : ℕ) (triples : List RankedTriple) (i : ℕ) (old new : List Entry) (e : Entry) → IsFilled triples i (triples_of n old) → triple_of n e ≡ as_triple (given triples i) → IsPutIn n old new e → IsFilled triples (i + 1) (triples_of n new)
+pub filled_more : (n : ℕ) (triples : List RankedTriple) (i : ℕ) (old new : List Entry) (e : Entry) → IsFilled triples i (entry_triples n old) → triple_of n e ≡ as_triple (given triples i) → IsPutIn n old new e → IsFilled triples (i + 1) (entry_triples n new)
 filled_more n triples i old new e h is put = record {
   each = λ t has. elim ((put.triples t).0 has) [
     | inl was ↦ let (k, lt, at) = h.each t was in (k, omega arith, at)
     | inr here ↦ (i, omega arith, sym is ∙ here)
   ];
   all = λ k lt. elim (cases_eq k i) [
-    | inl f ↦ subst (λ j. Contains (triples_of n new) (as_triple (given triples j))) (sym f) ((put.triples (as_triple (given triples i))).1 (inr is))
+    | inl f ↦ subst (λ j. Contains (entry_triples n new) (as_triple (given triples j))) (sym f) ((put.triples (as_triple (given triples i))).1 (inr is))
     | inr apart ↦ (put.triples (as_triple (given triples k))).1 (inl (h.all k (omega arith)))
   ];
   in_order = put.in_order;

@@ -12,7 +12,7 @@ use Rattle.auto_core.specs.Delayed.{HasRank}
 use Rattle.delayed_sim.specs.declared.entries.Entry.{Entry}
 use Rattle.delayed_sim.specs.declared.delayed.Delayed.TheInside.{Inside}
 use Rattle.delayed_sim.specs.Rankings.{Triple, row_key, triple_cmp, triple_at, IsTripleBefore, AreTriplesInOrder, IsTripleFrom, IsRanking}
-use Rattle.delayed_sim.specs.Stored.{triple_of, triples_of, ranking_of, IsStoredRanking, no_entry, IsFound, IsBetween, IsFirstFrom}
+use Rattle.delayed_sim.specs.Stored.{triple_of, entry_triples, ranking_of, IsStoredRanking, no_entry, IsTripleAt, IsBetween, IsFirstFrom}
 use Rattle.delayed_sim.proofs.OrderLemmas.{triple_total, equal_less, once_in_order}
 
 -- ---- what an answer of the comparison says
@@ -51,13 +51,13 @@ with_rank p b q o m x = refl
 -- ---- the triples of entries
 
 -- the triple at a place is that of its entry
-pub entry_triple : (n : ℕ) (entries : List Entry) (i : ℕ) (e : Triple) → i < length entries → get_or (triples_of n entries) i e ≡ triple_of n (get_or entries i no_entry)
+pub entry_triple : (n : ℕ) (entries : List Entry) (i : ℕ) (e : Triple) → i < length entries → get_or (entry_triples n entries) i e ≡ triple_of n (get_or entries i no_entry)
 entry_triple n entries i e i_in = get_or-map (triple_of n) entries i no_entry e i_in
 
-pub entry_count : (n : ℕ) (entries : List Entry) → length (triples_of n entries) ≡ length entries
+pub entry_count : (n : ℕ) (entries : List Entry) → length (entry_triples n entries) ≡ length entries
 entry_count n entries = length-map entries (triple_of n)
 
-pub entry_in : (n : ℕ) (entries : List Entry) (i : ℕ) → i < length entries → Contains (triples_of n entries) (triple_of n (get_or entries i no_entry))
+pub entry_in : (n : ℕ) (entries : List Entry) (i : ℕ) → i < length entries → Contains (entry_triples n entries) (triple_of n (get_or entries i no_entry))
 entry_in n entries i i_in = (
   i,
   omega (arith, entry_count n entries),
@@ -65,7 +65,7 @@ entry_in n entries i i_in = (
 )
 
 -- the entry of a triple that is there
-pub entry_of : (n : ℕ) (entries : List Entry) (x : Triple) → Contains (triples_of n entries) x → (i : ℕ) × (i < length entries) × (triple_of n (get_or entries i no_entry) ≡ x)
+pub entry_of : (n : ℕ) (entries : List Entry) (x : Triple) → Contains (entry_triples n entries) x → (i : ℕ) × (i < length entries) × (triple_of n (get_or entries i no_entry) ≡ x)
 entry_of n entries x (i, i_in, is) =
     let lt : i < length entries = omega (arith, entry_count n entries) in
     (i, lt, sym (entry_triple n entries i x lt) ∙ is)
@@ -73,7 +73,7 @@ entry_of n entries x (i, i_in, is) =
 -- an earlier entry's triple stands before a later one's
 pub entry_before :
     (n : ℕ) (entries : List Entry) (i j : ℕ)
-    → AreTriplesInOrder (triples_of n entries)
+    → AreTriplesInOrder (entry_triples n entries)
     → i < j
     → j < length entries
     → IsTripleBefore (triple_of n (get_or entries i no_entry)) (triple_of n (get_or entries j no_entry))
@@ -81,7 +81,7 @@ entry_before n entries i j order lt j_in =
     let d : Triple = triple_of n no_entry in
     let here = order i j d lt (omega (arith, entry_count n entries)) in
     subst (λ z. IsTripleBefore z (triple_of n (get_or entries j no_entry))) (entry_triple n entries i d (omega arith))
-    (subst (λ z. IsTripleBefore (get_or (triples_of n entries) i d) z) (entry_triple n entries j d j_in) here)
+    (subst (λ z. IsTripleBefore (get_or (entry_triples n entries) i d) z) (entry_triple n entries j d j_in) here)
 
 -- ---- the search
 
@@ -93,7 +93,7 @@ between_all n entries key = record {
   above = λ i from lt. absurd (omega arith);
 }
 
-module _ (n : ℕ) (entries : List Entry) (key : Triple) (low high middle : ℕ) (order : AreTriplesInOrder (triples_of n entries)) (h : IsBetween n entries key low high) (from : low ≤ middle) (lt : middle < high) where
+module _ (n : ℕ) (entries : List Entry) (key : Triple) (low high middle : ℕ) (order : AreTriplesInOrder (entry_triples n entries)) (h : IsBetween n entries key low high) (from : low ≤ middle) (lt : middle < high) where
   pub between_upper : triple_cmp (triple_of n (get_or entries middle no_entry)) key ≡ Less → IsBetween n entries key (middle + 1) high
   between_upper less =
       let within = h.within in
@@ -128,15 +128,15 @@ module _ (n : ℕ) (entries : List Entry) (key : Triple) (low high middle : ℕ)
       }
 
 -- the entry that compares as equal has the triple
-pub found_equal : (n : ℕ) (entries : List Entry) (p : ℕ) (b : List ℕ) (q i : ℕ) → i < length entries → triple_cmp (triple_of n (get_or entries i no_entry)) (p, b, q, None) ≡ Equal → IsFound n entries p b q i
+pub found_equal : (n : ℕ) (entries : List Entry) (p : ℕ) (b : List ℕ) (q i : ℕ) → i < length entries → triple_cmp (triple_of n (get_or entries i no_entry)) (p, b, q, None) ≡ Equal → IsTripleAt n entries p b q i
 found_equal n entries p b q i i_in equal =
     let x = triple_of n (get_or entries i no_entry) in
     let same = same_triple x (p, b, q, None) equal in
     let is : x ≡ (p, b, q, (get_or entries i no_entry).rank) = cc in
-    (i_in, subst (λ z. Contains (triples_of n entries) z) is (entry_in n entries i i_in))
+    (i_in, subst (λ z. Contains (entry_triples n entries) z) is (entry_in n entries i i_in))
 
 -- no entry between is left
-pub found_none : (n : ℕ) (entries : List Entry) (p : ℕ) (b : List ℕ) (q low high : ℕ) → IsBetween n entries (p, b, q, None) low high → high ≤ low → (rank : Option ℕ) → Contains (triples_of n entries) (p, b, q, rank) → ⊥
+pub found_none : (n : ℕ) (entries : List Entry) (p : ℕ) (b : List ℕ) (q low high : ℕ) → IsBetween n entries (p, b, q, None) low high → high ≤ low → (rank : Option ℕ) → Contains (entry_triples n entries) (p, b, q, rank) → ⊥
 found_none n entries p b q low high h none rank has =
     let (i, i_in, is) = entry_of n entries (p, b, q, rank) has in
     let x = triple_of n (get_or entries i no_entry) in
@@ -155,7 +155,7 @@ pub record IsFirstWithin (n : ℕ) (entries : List Entry) (key : Triple) (low hi
   pub below : (i : ℕ) → i < low → triple_cmp (triple_of n (get_or entries i no_entry)) key ≡ Less
   pub from : (i : ℕ) → high ≤ i → i < length entries → triple_cmp (triple_of n (get_or entries i no_entry)) key ≡ Less → ⊥
 
-module _ (n : ℕ) (entries : List Entry) (key : Triple) (low high middle : ℕ) (order : AreTriplesInOrder (triples_of n entries)) (h : IsFirstWithin n entries key low high) (from : low ≤ middle) (lt : middle < high) where
+module _ (n : ℕ) (entries : List Entry) (key : Triple) (low high middle : ℕ) (order : AreTriplesInOrder (entry_triples n entries)) (h : IsFirstWithin n entries key low high) (from : low ≤ middle) (lt : middle < high) where
   pub first_upper : triple_cmp (triple_of n (get_or entries middle no_entry)) key ≡ Less → IsFirstWithin n entries key (middle + 1) high
   first_upper less =
       let within = h.within in
@@ -197,7 +197,7 @@ first_found n entries key low high h met =
     }
 
 -- of the triples as of the entries
-pub first_triple : (n : ℕ) (entries : List Entry) (key : Triple) (at : ℕ) → IsFirstFrom n entries key at → IsTripleFrom (triples_of n entries) key at
+pub first_triple : (n : ℕ) (entries : List Entry) (key : Triple) (at : ℕ) → IsFirstFrom n entries key at → IsTripleFrom (entry_triples n entries) key at
 first_triple n entries key at h =
     let upto = h.upto in
     let count = entry_count n entries in
@@ -212,7 +212,7 @@ first_triple n entries key at h =
 
 -- ---- rows
 
-pub row_at_entry : (n : ℕ) (entries : List Entry) (i : ℕ) (d : Triple) → i < length entries → row_key (triple_of n (get_or entries i no_entry)) ≡ row_key (get_or (triples_of n entries) i d)
+pub row_at_entry : (n : ℕ) (entries : List Entry) (i : ℕ) (d : Triple) → i < length entries → row_key (triple_of n (get_or entries i no_entry)) ≡ row_key (get_or (entry_triples n entries) i d)
 row_at_entry n entries i d i_in = ap row_key (sym (entry_triple n entries i d i_in))
 
 -- the row past the end stands behind
@@ -231,7 +231,7 @@ pub record IsRowEnd (n : ℕ) (entries : List Entry) (at end : ℕ) : Type 0 whe
   pub same : (i : ℕ) → at ≤ i → i < end → row_key (triple_of n (get_or entries i no_entry)) ≡ row_key (triple_of n (get_or entries at no_entry))
   pub other : end < length entries → row_key (triple_of n (get_or entries end no_entry)) ≡ row_key (triple_of n (get_or entries at no_entry)) → ⊥
 
-pub row_same : (n : ℕ) (entries : List Entry) (at end : ℕ) → IsRowEnd n entries at end → (i : ℕ) → at ≤ i → i < end → row_key (triple_at (triples_of n entries) i) ≡ row_key (triple_at (triples_of n entries) at)
+pub row_same : (n : ℕ) (entries : List Entry) (at end : ℕ) → IsRowEnd n entries at end → (i : ℕ) → at ≤ i → i < end → row_key (triple_at (entry_triples n entries) i) ≡ row_key (triple_at (entry_triples n entries) at)
 row_same n entries at end h i from lt =
     let onward = h.onward in
     let within = h.within in
@@ -239,15 +239,15 @@ row_same n entries at end h i from lt =
 
 pub row_next :
     (n : ℕ) (entries : List Entry) (at end : ℕ)
-    → AreTriplesInOrder (triples_of n entries)
+    → AreTriplesInOrder (entry_triples n entries)
     → IsRowEnd n entries at end
-    → end < length (triples_of n entries)
-    → slice_cmp nat_cmp (row_key (triple_at (triples_of n entries) at)) (row_key (triple_at (triples_of n entries) end)) ≡ Less
+    → end < length (entry_triples n entries)
+    → slice_cmp nat_cmp (row_key (triple_at (entry_triples n entries) at)) (row_key (triple_at (entry_triples n entries) end)) ≡ Less
 row_next n entries at end order h below =
     let onward = h.onward in
     let end_in : end < length entries = omega (arith, entry_count n entries) in
     let at_in : at < length entries = omega arith in
-    subst (λ k. slice_cmp nat_cmp k (row_key (triple_at (triples_of n entries) end)) ≡ Less) (row_at_entry n entries at (0, [], 0, None) at_in)
+    subst (λ k. slice_cmp nat_cmp k (row_key (triple_at (entry_triples n entries) end)) ≡ Less) (row_at_entry n entries at (0, [], 0, None) at_in)
     (subst (λ k. slice_cmp nat_cmp (row_key (triple_of n (get_or entries at no_entry))) k ≡ Less) (row_at_entry n entries end (0, [], 0, None) end_in)
     (row_behind (triple_of n (get_or entries at no_entry)) (triple_of n (get_or entries end no_entry)) (entry_before n entries at end order onward end_in) (h.other end_in)))
 
@@ -258,7 +258,7 @@ valid_stored d h = record {
   letters_from = h.letters_from;
   letters_upto = h.letters_upto;
   in_range = h.in_range;
-  once = once_in_order (triples_of d.letters d.entries.items) h.in_order;
+  once = once_in_order (entry_triples d.letters d.entries.items) h.in_order;
   in_order = h.in_order;
 }
 
@@ -268,12 +268,12 @@ found_default entries i e i_in is = ap (λ (x : Entry). x.rank) (is ∙ get_or_d
 -- the entry that was found has the triple's rank
 pub found_rank :
     (n : ℕ) (entries : List Entry) (p : ℕ) (b : List ℕ) (q i : ℕ) (o : Option ℕ)
-    → AreTriplesInOrder (triples_of n entries)
-    → IsFound n entries p b q i
+    → AreTriplesInOrder (entry_triples n entries)
+    → IsTripleAt n entries p b q i
     → o ≡ (get_or entries i no_entry).rank
-    → IfNone o ((r : ℕ) → HasRank (triples_of n entries) b p q r → ⊥)
+    → IfNone o ((r : ℕ) → HasRank (entry_triples n entries) b p q r → ⊥)
 found_rank n entries p b q i (Some r) order found is = tt
-found_rank n entries p b q i None order found is = λ r h. none_some r (is ∙ once_in_order (triples_of n entries) order b p q (get_or entries i no_entry).rank (Some r) found.1 h)
+found_rank n entries p b q i None order found is = λ r h. none_some r (is ∙ once_in_order (entry_triples n entries) order b p q (get_or entries i no_entry).rank (Some r) found.1 h)
   where
     none_some : (r : ℕ) → None ≡ Some r → ⊥
     none_some r e = cc

@@ -5,7 +5,7 @@ use Rattle.std.proofs.lemmas.Nat.{div-add-mod', div-mul-add, mod-mul-add, mod_be
 use Rattle.std.proofs.lemmas.List.{get_or_push, get_or_append_left, map_push}
 use Rattle.auto_core.specs.Delayed.{RankedTriples, AreAnnounced, HoldsTriple, AreTriplesOf}
 use Rattle.delayed_sim.specs.declared.entries.Entry.{Entry}
-use Rattle.delayed_sim.specs.Stored.{triple_of, triples_of}
+use Rattle.delayed_sim.specs.Stored.{triple_of, entry_triples}
 use Rattle.delayed_sim.specs.Rankings.{Triple, IsTripleBefore, AreTriplesInOrder}
 use Rattle.delayed_sim.specs.Words.{digits, place_of, triple_here}
 use Rattle.delayed_sim.proofs.FewLemmas.{place_rises}
@@ -35,16 +35,16 @@ full_more labels n states i T t h is = (
 -- an entry more has a triple more
 pub full_push :
     (labels n states i words : ℕ) (entries : List Entry) (e : Entry)
-    → IsFull labels n states i (triples_of n entries)
+    → IsFull labels n states i (entry_triples n entries)
     → words ≡ labels ^ (n - 1)
     → e.left ≡ i / states / words
     → take (n - 1) e.ahead ≡ digits labels (n - 1) (i / states % words)
     → e.right ≡ i % states
     → e.rank ≡ None
-    → IsFull labels n states (i + 1) (triples_of n (entries ++ e ∷ []))
+    → IsFull labels n states (i + 1) (entry_triples n (entries ++ e ∷ []))
 full_push labels n states i words entries e h is left word right rank =
     subst (IsFull labels n states (i + 1)) (sym (map_push (triple_of n) entries e))
-    (full_more labels n states i (triples_of n entries) (triple_of n e) h
+    (full_more labels n states i (entry_triples n entries) (triple_of n e) h
     (entry_here labels n states [] (i / states) (i % states) e (left ∙ ap (λ w. i / states / w) is) (word ∙ ap (λ w. digits labels (n - 1) (i / states % w)) is) right rank))
 
 module _ (labels n states upto : ℕ) (T : RankedTriples) (some : 1 ≤ n) (positive : 0 < states) (all : upto ≡ states * labels ^ (n - 1) * states) (h : IsFull labels n states upto T) where

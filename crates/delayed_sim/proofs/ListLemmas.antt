@@ -15,16 +15,16 @@ use Rattle.auto_core.proofs.PathLemmas.{none_in_nil}
 use Rattle.bit_rel.specs.Relation.{IsPairBefore}
 use Rattle.row_steps.specs.Walks.{IsNextBit}
 use Rattle.delayed_sim.specs.declared.entries.Entry.{Entry}
-use Rattle.delayed_sim.specs.Stored.{triple_of, triples_of}
+use Rattle.delayed_sim.specs.Stored.{triple_of, entry_triples}
 use Rattle.delayed_sim.specs.Rankings.{Triple, row_key, IsTripleBefore}
 use Rattle.delayed_sim.specs.Pairings.{Pairing, IsPairing}
 use Rattle.delayed_sim.specs.Levels.{rank_at}
-use Rattle.delayed_sim.specs.Words.{digits, place_of, triple_here, AreListed}
+use Rattle.delayed_sim.specs.Words.{digits, place_of, triple_here, ListsTriplesBefore}
 use Rattle.delayed_sim.proofs.WordLemmas.{number_order, lt_less, length-digits}
 use Rattle.delayed_sim.proofs.PlaceLemmas.{letters_of_place, number_of_place, state_of_place, place_state, place_letters, place_below}
 use Rattle.delayed_sim.proofs.AheadGreatest.{AreTriplesOfPairs}
 
-pub listed_none : (labels n : ℕ) (R : Pairing) (ranks : List ℕ) → AreListed labels n R ranks 0 0 []
+pub listed_none : (labels n : ℕ) (R : Pairing) (ranks : List ℕ) → ListsTriplesBefore labels n R ranks 0 0 []
 listed_none labels n R ranks = record {
   each = λ t h. absurd (none_in_nil t h);
   all = λ y s held before. absurd (nothing y s before);
@@ -65,10 +65,10 @@ module _ (labels n : ℕ) (R : Pairing) (ranks : List ℕ) (some : 1 ≤ n) (wor
   -- The next pair of the row is listed.
   pub listed_more :
       (x at q : ℕ) (row : List ℕ) (T : RankedTriples)
-      → AreListed labels n R ranks x at T
+      → ListsTriplesBefore labels n R ranks x at T
       → ((s : ℕ) → HasBit row s ↔ Holds R.pairs x s)
       → IsNextBit row at q
-      → AreListed labels n R ranks x (q + 1) (T ++ triple_here labels n R.states ranks x q ∷ [])
+      → ListsTriplesBefore labels n R ranks x (q + 1) (T ++ triple_here labels n R.states ranks x q ∷ [])
   listed_more x at q row T h bits next = record {
     each = λ t has. elim (Contains-push_cases T (triple_here labels n R.states ranks x q) t has) [
       | inl old ↦ let (y, s, held, before, is) = h.each t old in (y, s, held, further y s before, is)
@@ -111,10 +111,10 @@ module _ (labels n : ℕ) (R : Pairing) (ranks : List ℕ) (some : 1 ≤ n) (wor
   -- The row has no more pairs.
   pub listed_row :
       (x at : ℕ) (row : List ℕ) (T : RankedTriples)
-      → AreListed labels n R ranks x at T
+      → ListsTriplesBefore labels n R ranks x at T
       → ((s : ℕ) → HasBit row s ↔ Holds R.pairs x s)
       → ((s : ℕ) → at ≤ s → bit_of row s ≡ false)
-      → AreListed labels n R ranks (x + 1) 0 T
+      → ListsTriplesBefore labels n R ranks (x + 1) 0 T
   listed_row x at row T h bits none = record {
     each = λ t has. let (y, s, held, before, is) = h.each t has in (y, s, held, further y s before, is);
     all = λ y s held before. elim (cases_eq y x) [
@@ -142,7 +142,7 @@ pub listed_pairs :
     → S.states ≡ A.states
     → S.places ≡ A.states * A.labels ^ (n - 1)
     → IsPairing S
-    → AreListed A.labels n S ranks S.places 0 T
+    → ListsTriplesBefore A.labels n S ranks S.places 0 T
     → AreTriplesOfPairs A n S ranks T
 listed_pairs A n S ranks T some size words valid h p b q o = (
   λ has.
@@ -198,12 +198,12 @@ pub listed_push :
     → 1 ≤ n
     → R.places ≡ R.states * labels ^ (n - 1)
     → IsPairing R
-    → AreListed labels n R ranks x at (triples_of n entries)
+    → ListsTriplesBefore labels n R ranks x at (entry_triples n entries)
     → ((s : ℕ) → HasBit row s ↔ Holds R.pairs x s)
     → IsNextBit row at q
     → triple_of n e ≡ triple_here labels n R.states ranks x q
-    → AreListed labels n R ranks x (q + 1) (triples_of n (entries ++ e ∷ []))
+    → ListsTriplesBefore labels n R ranks x (q + 1) (entry_triples n (entries ++ e ∷ []))
 listed_push labels n R ranks x at q row entries e some words valid h bits next is =
-    let made : triples_of n (entries ++ e ∷ []) ≡ triples_of n entries ++ triple_here labels n R.states ranks x q ∷ [] =
-    map_push (triple_of n) entries e ∙ ap (λ t. triples_of n entries ++ t ∷ []) is in
-    subst (λ T. AreListed labels n R ranks x (q + 1) T) (sym made) (listed_more labels n R ranks some words valid x at q row (triples_of n entries) h bits next)
+    let made : entry_triples n (entries ++ e ∷ []) ≡ entry_triples n entries ++ triple_here labels n R.states ranks x q ∷ [] =
+    map_push (triple_of n) entries e ∙ ap (λ t. entry_triples n entries ++ t ∷ []) is in
+    subst (λ T. ListsTriplesBefore labels n R ranks x (q + 1) T) (sym made) (listed_more labels n R ranks some words valid x at q row (entry_triples n entries) h bits next)

@@ -11,7 +11,7 @@ use Rattle.std.proofs.lemmas.Grind.{get_or-set_at}
 use Rattle.auto_core.specs.Automaton.{Automaton, IsAccepting}
 use Rattle.auto_core.specs.Delayed.{RankedTriples, HoldsTriple, HasTriplesOnce, AreTriplesOf}
 use Rattle.delayed_sim.specs.declared.entries.Entry.{Entry}
-use Rattle.delayed_sim.specs.Stored.{triple_of, triples_of, no_entry}
+use Rattle.delayed_sim.specs.Stored.{triple_of, entry_triples, no_entry}
 use Rattle.delayed_sim.specs.Rankings.{Triple, Ranking, IsRanking, IsTripleBefore, AreTriplesInOrder, triple_at}
 use Rattle.delayed_sim.specs.Right.{HasAnswers, IsTripleAnswered}
 use Rattle.delayed_sim.specs.Rounds.{without, ranked_as, reranked, HasEachTriple, HasRanksUpto, IsShortened, Thins, IsReranked, HasSameTriples, unranked}
@@ -55,11 +55,11 @@ remove_has xs i x i_in other (k, k_in, is) =
           (k - 1, omega arith, get_or-remove_above xs i x (k - 1) (omega arith) i_in ∙ ap (λ j. get_or xs j x) next ∙ is)
     ]
 
-pub triples_remove : (n : ℕ) (entries : List Entry) (at : ℕ) → triples_of n (remove entries at) ≡ remove (triples_of n entries) at
+pub triples_remove : (n : ℕ) (entries : List Entry) (at : ℕ) → entry_triples n (remove entries at) ≡ remove (entry_triples n entries) at
 triples_remove n entries at =
     map-append (triple_of n) (take at entries) (drop (suc at) entries)
     ∙ ap (λ xs. xs ++ map (triple_of n) (drop (suc at) entries)) (sym (take-map (triple_of n) at entries))
-    ∙ ap (λ ys. take at (triples_of n entries) ++ ys) (sym (drop-map (triple_of n) (suc at) entries))
+    ∙ ap (λ ys. take at (entry_triples n entries) ++ ys) (sym (drop-map (triple_of n) (suc at) entries))
 
 pub range_without : (states labels n : ℕ) (T : RankedTriples) (at : ℕ) → at < length T → AreTriplesOf states labels n T → AreTriplesOf states labels n (remove T at)
 range_without states labels n T at at_in range b p q (o, h) = range b p q (o, remove_from T at (p, b, q, o) at_in h)
@@ -198,10 +198,10 @@ range_set states labels n T at o at_in range = same_range T (set T at (ranked_as
 pub order_set : (T : RankedTriples) (at : ℕ) (o : Option ℕ) → at < length T → AreTriplesInOrder T → AreTriplesInOrder (set T at (ranked_as (triple_at T at) o))
 order_set T at o at_in order = same_order T (set T at (ranked_as (triple_at T at) o)) (set_places T at o at_in) order
 
-pub triples_set : (n : ℕ) (entries : List Entry) (at : ℕ) (e : Entry) (o : Option ℕ) → at < length entries → triple_of n e ≡ ranked_as (triple_of n (get_or entries at no_entry)) o → triples_of n (set entries at e) ≡ set (triples_of n entries) at (ranked_as (triple_at (triples_of n entries) at) o)
+pub triples_set : (n : ℕ) (entries : List Entry) (at : ℕ) (e : Entry) (o : Option ℕ) → at < length entries → triple_of n e ≡ ranked_as (triple_of n (get_or entries at no_entry)) o → entry_triples n (set entries at e) ≡ set (entry_triples n entries) at (ranked_as (triple_at (entry_triples n entries) at) o)
 triples_set n entries at e o at_in is =
     map-set (triple_of n) entries at e
-    ∙ ap (λ t. set (triples_of n entries) at t) (is ∙ ap (λ (t : Triple). ranked_as t o) (sym (entry_triple n entries at no_triple at_in)))
+    ∙ ap (λ t. set (entry_triples n entries) at t) (is ∙ ap (λ (t : Triple). ranked_as t o) (sym (entry_triple n entries at no_triple at_in)))
 
 module _ (S : Triple → Option ℕ → Type 0) (old : Ranking) where
   pub rerank_none : IsRanking old → IsReranked S 0 old old

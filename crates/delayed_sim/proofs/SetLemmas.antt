@@ -1,5 +1,5 @@
 -- Sets of four neighbouring states, and the states before them.
-use Rattle.std.proofs.Common.{◌≡◌, ℕ, ◌+◌, ◌-◌, ◌*◌, ◌/◌, ◌%◌, ◌^◌, ◌<◌, ◌≤◌, ◌⊎◌, ◌↔◌, ◌||◌, ◌==◌, inl, inr, true, false, List, length, get_or, sym, ap, ◌∙◌, subst, arith}
+use Rattle.std.proofs.Common.{◌≡◌, ℕ, ◌+◌, ◌-◌, ◌*◌, ◌/◌, ◌%◌, ◌^◌, ◌<◌, ◌≤◌, ◌⊎◌, ◌↔◌, ◌||◌, ◌==◌, inl, inr, Bool, true, false, List, length, get_or, bit_or, refl, sym, ap, ◌∙◌, subst, arith}
 use Rattle.std.specs.Int.{bit_at}
 use Rattle.std.proofs.lemmas.Bool.{cases_eq, cases_lt, or_cases, or_left, or_right, eqb-true, eq-eqb, false≢true}
 use Rattle.std.proofs.lemmas.Nat.{and_mask, shr-shr, row_fits, mul-le}
@@ -7,9 +7,10 @@ use Rattle.std.proofs.Math.Nat.{mul_assoc}
 use Rattle.std.proofs.lemmas.Nat.Bits.{bit_at_and, bit_at_ones, bit_at_cat_low, bit_at-lt}
 use Rattle.auto_core.specs.Automaton.{Automaton, IsAutomaton, Moves}
 use Rattle.auto_core.specs.Rows.{bit_of, cell_of, HasBit, HasCell}
+use Rattle.auto_core.proofs.BitLemmas.{bit_or_tests, bit_past}
 use Rattle.auto_core.proofs.MoveLemmas.{move_in_range}
 use Rattle.row_steps.specs.Walks.{IsNextBit}
-use Rattle.delayed_sim.specs.Before.{LeadsTo, LeadsToSet, IsSetTable}
+use Rattle.delayed_sim.specs.Before.{LeadsTo, LeadsToSet, LeadsToFour, IsSetTable}
 
 -- ---- marks of rows
 
@@ -243,10 +244,10 @@ set_digits ends four i i_in =
 set_number : (four set i : ℕ) → set < 16 → i < 4 → (bit_at (four * 16 + set) i ≡ bit_at set i) × ((four * 16 + set) / 16 ≡ four)
 set_number four set i below i_in = (bit_at_cat_low four 4 set i i_in, omega arith)
 
-module _ (A : Automaton) (valid : IsAutomaton A) (w four set : ℕ) (ends old now : List ℕ) (below : set < 16) (digits : (i : ℕ) → i < 4 → bit_at set i ≡ 1 ↔ HasBit ends (four * 4 + i)) (h : EndsMarked A ends old now w (four * 4)) where
+module _ (A : Automaton) (valid : IsAutomaton A) (w four set : ℕ) (ends : List ℕ) (below : set < 16) (digits : (i : ℕ) → i < 4 → bit_at set i ≡ 1 ↔ HasBit ends (four * 4 + i)) where
   -- a state of the four that the row has
-  at_four : (a q q' : ℕ) → Moves A q a q' → q' < (four + 1) * 4 → four * 4 ≤ q' → HasBit ends q' → LeadsToSet A (four * 16 + set) a q
-  at_four a q q' move lt from bit =
+  at_four : (a q : ℕ) → LeadsToFour A a ends four q → LeadsToSet A (four * 16 + set) a q
+  at_four a q (q', move, bit, from, lt) =
       let i = q' - four * 4 in
       let is : q' ≡ four * 4 + i = omega arith in
       let i_in : i < 4 = omega arith in
@@ -257,53 +258,115 @@ module _ (A : Automaton) (valid : IsAutomaton A) (w four set : ℕ) (ends old no
         subst (λ x. Moves A q a (x * 4 + i)) (sym number.1) (subst (λ x. Moves A q a x) is move),
       )
 
-  from_set : (a q : ℕ) → LeadsToSet A (four * 16 + set) a q → (q' : ℕ) × Moves A q a q' × (q' < (four + 1) * 4) × HasBit ends q'
+  from_set : (a q : ℕ) → LeadsToSet A (four * 16 + set) a q → LeadsToFour A a ends four q
   from_set a q (i, i_in, one, move) =
       let number = set_number four set i below i_in in (
         four * 4 + i,
         subst (λ x. Moves A q a (x * 4 + i)) number.1 move,
-        omega arith,
         (digits i i_in).0 (sym number.0 ∙ one),
+        omega arith,
+        omega arith,
       )
 
-  pub four_more :
-      (sets row new : List ℕ)
+  -- the row of the table for the set
+  pub set_leads :
+      (sets row : List ℕ)
       → IsSetTable A w (w * 256) sets
       → four < w * 16
       → ((c : ℕ) → c < A.labels * w * 64 → bit_of row c ≡ cell_of sets (A.labels * w) (four * 16 + set) c)
       → ((c : ℕ) → A.labels * w * 64 ≤ c → bit_of row c ≡ false)
-      → ((c : ℕ) → bit_of new c ≡ (bit_of now c || bit_of row c))
-      → A.states ≤ w * 64
-      → EndsMarked A ends old new w ((four + 1) * 4)
-  four_more sets row new table four_in bits outside ored room a q near =
-      let k = four * 16 + set in
-      let c = a * w * 64 + q in
-      let either = ored c in
-      let leads : bit_of row c ≡ true ↔ LeadsToSet A k a q = row_leads in (
-        λ cell. elim (or_cases (bit_of now c) (bit_of row c) (sym either ∙ cell)) [
-          | inl was ↦ elim ((h a q near).0 was) [
-            | inl first ↦ inl first
-            | inr is ↦ let lt = is.2 in inr (is.0, is.1, omega arith, is.3)
-          ]
-          | inr bit ↦ inr (from_set a q (leads.0 bit))
-        ],
-        λ both. either ∙ elim both [
-          | inl first ↦ or_left (bit_of now c) (bit_of row c) ((h a q near).1 (inl first))
-          | inr is ↦ elim (cases_lt is.0 (four * 4)) [
-            | inl before ↦ or_left (bit_of now c) (bit_of row c) ((h a q near).1 (inr (is.0, is.1, before, is.3)))
-            | inr from ↦ or_right (bit_of now c) (bit_of row c) (leads.1 (at_four a q is.0 is.1 is.2 from is.3))
-          ]
-        ],
-      )
-    where
-      row_leads : bit_of row (a * w * 64 + q) ≡ true ↔ LeadsToSet A (four * 16 + set) a q
-      row_leads = elim (cases_lt a A.labels) [
-        | inl a_in ↦
-            let c_in = column_in a q A.labels w a_in near in
-            let cells = table.cells (four * 16 + set) a q (omega arith) a_in near in
-            (λ bit. cells.0 (sym (bits (a * w * 64 + q) c_in) ∙ bit), λ leads. bits (a * w * 64 + q) c_in ∙ cells.1 leads)
-        | inr past ↦ (
-          λ bit. absurd (false≢true (sym (outside (a * w * 64 + q) (column_past a q A.labels w past)) ∙ bit)),
-          λ leads. absurd (no_label A valid q a ((four * 16 + set) / 16 * 4 + leads.0) leads.3 past),
+      → (a q : ℕ)
+      → q < w * 64
+      → HasCell row w a q ↔ LeadsToFour A a ends four q
+  set_leads sets row table four_in bits outside a q near = elim (cases_lt a A.labels) [
+    | inl a_in ↦
+        let c_in = column_in a q A.labels w a_in near in
+        let cells = table.cells (four * 16 + set) a q (omega arith) a_in near in (
+          λ bit. from_set a q (cells.0 (sym (bits (a * w * 64 + q) c_in) ∙ bit)),
+          λ leads. bits (a * w * 64 + q) c_in ∙ cells.1 (at_four a q leads),
         )
-      ]
+    | inr past ↦ (
+      λ bit. absurd (false≢true (sym (outside (a * w * 64 + q) (column_past a q A.labels w past)) ∙ bit)),
+      λ leads. absurd (no_label A valid q a leads.0 leads.1 past),
+    )
+  ]
+
+-- ---- sixteen states at once
+
+-- The same of marks that are bits.
+abbrev pub BitsMarked : Automaton → List ℕ → List ℕ → (ℕ → Bool) → ℕ → ℕ → Type 0
+BitsMarked A ends old bits w at =
+    (a q : ℕ) → q < w * 64 → (bits (a * w * 64 + q) ≡ true) ↔ (HasCell old w a q ⊎ ((q' : ℕ) × Moves A q a q' × (q' < at) × HasBit ends q'))
+
+pub four_more :
+    (A : Automaton) (ends old : List ℕ) (now new : ℕ → Bool) (row : List ℕ) (w four at upto : ℕ)
+    → at ≡ four * 4
+    → upto ≡ (four + 1) * 4
+    → BitsMarked A ends old now w at
+    → ((a q : ℕ) → q < w * 64 → HasCell row w a q ↔ LeadsToFour A a ends four q)
+    → ((c : ℕ) → new c ≡ (now c || bit_of row c))
+    → BitsMarked A ends old new w upto
+four_more A ends old now new row w four at upto begins stops h leads ored a q near =
+    let c = a * w * 64 + q in (
+      λ marked. elim (or_cases (now c) (bit_of row c) (sym (ored c) ∙ marked)) [
+        | inl was ↦ elim ((h a q near).0 was) [
+          | inl first ↦ inl first
+          | inr is ↦ let lt = is.2 in inr (is.0, is.1, omega arith, is.3)
+        ]
+        | inr here ↦ let (q', move, bit, from, lt) = (leads a q near).0 here in inr (q', move, omega arith, bit)
+      ],
+      λ both. ored c ∙ elim both [
+        | inl first ↦ or_left (now c) (bit_of row c) ((h a q near).1 (inl first))
+        | inr is ↦ elim (cases_lt is.0 at) [
+          | inl before ↦ or_left (now c) (bit_of row c) ((h a q near).1 (inr (is.0, is.1, before, is.3)))
+          | inr past ↦ let lt = is.2 in or_right (now c) (bit_of row c) ((leads a q near).1 (is.0, is.1, is.3, omega arith, omega arith))
+        ]
+      ],
+    )
+
+pub sixteen_more :
+    (A : Automaton) (ends old now new first second third fourth : List ℕ) (w four : ℕ)
+    → EndsMarked A ends old now w (four * 4)
+    → ((a q : ℕ) → q < w * 64 → HasCell first w a q ↔ LeadsToFour A a ends four q)
+    → ((a q : ℕ) → q < w * 64 → HasCell second w a q ↔ LeadsToFour A a ends (four + 1) q)
+    → ((a q : ℕ) → q < w * 64 → HasCell third w a q ↔ LeadsToFour A a ends (four + 2) q)
+    → ((a q : ℕ) → q < w * 64 → HasCell fourth w a q ↔ LeadsToFour A a ends (four + 3) q)
+    → ((c : ℕ) → bit_of new c ≡ ((((bit_of now c || bit_of first c) || bit_of second c) || bit_of third c) || bit_of fourth c))
+    → EndsMarked A ends old new w (four * 4 + 16)
+sixteen_more A ends old now new first second third fourth w four h one two three four' ored =
+    let once : ℕ → Bool = λ c. bit_of now c || bit_of first c in
+    let twice : ℕ → Bool = λ c. once c || bit_of second c in
+    let thrice : ℕ → Bool = λ c. twice c || bit_of third c in
+    four_more A ends old thrice (bit_of new) fourth w (four + 3) (four * 4 + 12) (four * 4 + 16) (omega arith) (omega arith)
+    (four_more A ends old twice thrice third w (four + 2) (four * 4 + 8) (four * 4 + 12) (omega arith) (omega arith)
+    (four_more A ends old once twice second w (four + 1) (four * 4 + 4) (four * 4 + 8) (omega arith) (omega arith)
+    (four_more A ends old (bit_of now) once first w four (four * 4) (four * 4 + 4) refl (omega arith) h one (λ c. refl)) two (λ c. refl)) three (λ c. refl)) four' ored
+
+or_of_five :
+    (v a b c d i : ℕ)
+    → (bit_at (bit_or (bit_or (bit_or (bit_or v a) b) c) d) i == 1)
+    ≡ (((((bit_at v i == 1) || (bit_at a i == 1)) || (bit_at b i == 1)) || (bit_at c i == 1)) || (bit_at d i == 1))
+or_of_five v a b c d i =
+    bit_or_tests (bit_or (bit_or (bit_or v a) b) c) d i
+    ∙ ap (λ x. x || (bit_at d i == 1)) (bit_or_tests (bit_or (bit_or v a) b) c i
+    ∙ ap (λ x. x || (bit_at c i == 1)) (bit_or_tests (bit_or v a) b i
+    ∙ ap (λ x. x || (bit_at b i == 1)) (bit_or_tests v a i)))
+
+-- words that are the 'or' of five rows' words, place by place
+pub or_each :
+    (old first second third fourth new : List ℕ)
+    → length new ≡ length old
+    → length old ≡ length first
+    → length old ≡ length second
+    → length old ≡ length third
+    → length old ≡ length fourth
+    → ((k : ℕ) → k < length old → get_or new k 0 ≡ bit_or (bit_or (bit_or (bit_or (get_or old k 0) (get_or first k 0)) (get_or second k 0)) (get_or third k 0)) (get_or fourth k 0))
+    → (i : ℕ)
+    → bit_of new i ≡ ((((bit_of old i || bit_of first i) || bit_of second i) || bit_of third i) || bit_of fourth i)
+or_each old first second third fourth new same one two three four each i = elim (cases_lt (i / 64) (length old)) [
+  | inl h ↦
+      ap (λ w. bit_at w (i % 64) == 1) (each (i / 64) h)
+      ∙ or_of_five (get_or old (i / 64) 0) (get_or first (i / 64) 0) (get_or second (i / 64) 0) (get_or third (i / 64) 0) (get_or fourth (i / 64) 0) (i % 64)
+  | inr past ↦
+      rw (bit_past old i past, bit_past first i (omega arith), bit_past second i (omega arith), bit_past third i (omega arith), bit_past fourth i (omega arith), bit_past new i (omega arith)) refl
+]

@@ -9,7 +9,7 @@ use Rattle.delayed_sim.specs.Pairings.{Pairing, IsPairing, IsNarrowed, Loses}
 use Rattle.delayed_sim.proofs.BoardLemmas.{fewer_pairs}
 use Rattle.row_steps.specs.Walks.{IsNextBit}
 use Rattle.delayed_sim.specs.Before.{LeadsTo}
-use Rattle.delayed_sim.specs.Settling.{AnswersAll, Shrinks, IsFiltered, IsAnsweredIn, IsAnsweredInto, IsAnsweredBesides, IsUnderWay, Tries}
+use Rattle.delayed_sim.specs.Settling.{AnswersAll, Shrinks, IsFiltered, IsAnsweredIn, IsAnsweredInto, IsAnsweredBesides, IsPlaceUnderWay, Tries}
 
 -- what a bit of the row of p says of a pair
 pub pair_below : (R : Pairing) (row : List ℕ) (n p q : ℕ) → R.states ≡ n → IsPairing R → HasBit row q → HasBit row q ↔ Holds R.pairs p q → q < n
@@ -255,10 +255,10 @@ module _ (L A : Automaton) where
   -- Rows that lost pairs are marked: moves to the others stay answered.
   pub under_way_stays :
       (to : ℕ) (ends : List ℕ) (R S : Pairing) (marks marks' : List ℕ)
-      → IsUnderWay L A to ends R marks
+      → IsPlaceUnderWay L A to ends R marks
       → ((p q : ℕ) → Holds S.pairs p q → Holds R.pairs p q)
       → ((x : ℕ) → bit_of marks' x ≡ false → (bit_of marks x ≡ false) × ((q : ℕ) → Holds R.pairs x q → Holds S.pairs x q))
-      → IsUnderWay L A to ends S marks'
+      → IsPlaceUnderWay L A to ends S marks'
   under_way_stays to ends R S marks marks' h within marked = record {
     others = λ x x_in apart clear. let m = marked x clear in into_stays R S x within m.1 (h.others x x_in apart m.0);
     inside = λ q held. h.inside q (within to q held);
@@ -274,7 +274,7 @@ HasAnswered L A to ns R marks n =
 pub answered_more :
     (L A : Automaton) (to : ℕ) (ns ends row : List ℕ) (R S : Pairing) (marks marks' : List ℕ) (i : ℕ) (b : Bool)
     → HasAnswered L A to ns R marks i
-    → IsUnderWay L A to ends R marks
+    → IsPlaceUnderWay L A to ends R marks
     → IsFiltered R S (trans_at L (get_or ns i 0)).source (λ q. HasBit row q) b
     → ((q : ℕ) → HasBit row q ↔ LeadsTo A (trans_at L (get_or ns i 0)).label ends q)
     → ((x : ℕ) → bit_of marks' x ≡ false → (bit_of marks x ≡ false) × ((q : ℕ) → Holds R.pairs x q → Holds S.pairs x q))

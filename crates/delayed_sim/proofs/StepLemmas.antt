@@ -16,7 +16,7 @@ use Rattle.auto_core.proofs.MemberLemmas.{no_repeat}
 use Rattle.auto_core.proofs.PathLemmas.{none_in_nil}
 use Rattle.auto_core.proofs.MoveLemmas.{number_of, move_at, move_in_range}
 use Rattle.delayed_sim.specs.Words.{word_number, digits, place_of, ArePlaces}
-use Rattle.delayed_sim.specs.Steps.{step_of, step_at, AreSteps, AreAcceptingPlaces}
+use Rattle.delayed_sim.specs.Steps.{step_announcing, step_at, AreSteps, AreAcceptingPlaces}
 use Rattle.delayed_sim.proofs.AheadLemmas.{announced_after}
 use Rattle.delayed_sim.proofs.FewLemmas.{IsSmall, place_rises}
 use Rattle.delayed_sim.proofs.WordLemmas.{number_push, number_one, number-digits, length-digits, digits_below, power_zero}
@@ -36,12 +36,12 @@ module _ (A : Automaton) (n : ℕ) (valid : IsAutomaton A) (some : 1 ≤ n) (sma
   ahead_below : (a c : ℕ) → a < A.labels → c < A.labels ^ (n - 1) → (a * A.labels ^ (n - 1) + c) / A.labels < A.labels ^ (n - 1)
   ahead_below a c a_in c_in = div_below (a * A.labels ^ (n - 1) + c) A.labels (A.labels ^ (n - 1)) small.labels (mul-add-lt a (A.labels ^ (n - 1)) c A.labels a_in c_in)
 
-  source_below : (t : Trans) (c : ℕ) → IsInRange A.states A.labels t → c < A.labels ^ (n - 1) → (step_of A.labels (A.labels ^ (n - 1)) t c).source < A.states * A.labels ^ (n - 1)
+  source_below : (t : Trans) (c : ℕ) → IsInRange A.states A.labels t → c < A.labels ^ (n - 1) → (step_announcing A.labels (A.labels ^ (n - 1)) t c).source < A.states * A.labels ^ (n - 1)
   source_below t c range c_in =
       let below = mul-add-lt t.source (A.labels ^ (n - 1)) ((t.label * A.labels ^ (n - 1) + c) / A.labels) A.states range.0 (ahead_below t.label c range.2 c_in) in
       omega (arith, mul_comm (A.labels ^ (n - 1)) A.states)
 
-  target_below : (t : Trans) (c : ℕ) → IsInRange A.states A.labels t → c < A.labels ^ (n - 1) → (step_of A.labels (A.labels ^ (n - 1)) t c).target < A.states * A.labels ^ (n - 1)
+  target_below : (t : Trans) (c : ℕ) → IsInRange A.states A.labels t → c < A.labels ^ (n - 1) → (step_announcing A.labels (A.labels ^ (n - 1)) t c).target < A.states * A.labels ^ (n - 1)
   target_below t c range c_in =
       let below = mul-add-lt t.target (A.labels ^ (n - 1)) c A.states range.1 c_in in
       omega (arith, mul_comm (A.labels ^ (n - 1)) A.states)
@@ -117,14 +117,14 @@ module _ (A : Automaton) (n : ℕ) (valid : IsAutomaton A) (some : 1 ≤ n) (sma
         let k_in : k < length steps = let below = mul-add-lt t v m (length A.transitions) t_in m_in in omega (arith, moves.0, mul_comm v (length A.transitions)) in
         let to = trans (place_of A.labels p b) a (place_of A.labels p' c) in
         let ahead : (a * v + m) / A.labels ≡ word_number A.labels b = ap (λ x. x / A.labels) (sym (ends_meet b more a c next e)) ∙ div-mul-add (word_number A.labels b) A.labels more lt in
-        let made : step_of A.labels v (trans p a p') m ≡ to =
+        let made : step_announcing A.labels v (trans p a p') m ≡ to =
         ap (λ x. trans (p * v + x) a (p' * v + m)) ahead
         ∙ ap (λ x. trans x a (p' * v + m)) (sym (place_is A.labels n p b announced))
         ∙ ap (λ y. trans (place_of A.labels p b) a y) (sym (place_is A.labels n p' c next)) in
         let here : step_at A v k ≡ to =
-        ap (λ i. step_of A.labels v (trans_at A i) (k % v)) (div-mul-add t v m m_in)
-        ∙ ap (λ i. step_of A.labels v (trans_at A t) i) (mod-mul-add t v m m_in)
-        ∙ ap (λ u. step_of A.labels v u m) is
+        ap (λ i. step_announcing A.labels v (trans_at A i) (k % v)) (div-mul-add t v m m_in)
+        ∙ ap (λ i. step_announcing A.labels v (trans_at A t) i) (mod-mul-add t v m m_in)
+        ∙ ap (λ u. step_announcing A.labels v u m) is
         ∙ made in
         move_of_step (place_of A.labels p b) a (place_of A.labels p' c) (k, k_in, moves.1 k to (omega (arith, moves.0)) ∙ here)
 

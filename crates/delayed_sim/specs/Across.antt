@@ -4,24 +4,24 @@ use Rattle.std.specs.Prelude.{ℕ, ◌<◌, Option, Some, List, Contains}
 use Rattle.auto_core.specs.Automaton.{Automaton, Moves, IsAccepting}
 
 -- Pairs of a place and a state, each with a rank or without one.
-abbrev pub RankedPairs : Type 0
-RankedPairs = List (ℕ × ℕ × Option ℕ)
+abbrev pub RankedPlaces : Type 0
+RankedPlaces = List (ℕ × ℕ × Option ℕ)
 
 -- The list holds the pair, with a rank or without one.
-abbrev pub HoldsPair : RankedPairs → ℕ → ℕ → Type 0
+abbrev pub HoldsPair : RankedPlaces → ℕ → ℕ → Type 0
 HoldsPair X x q = (rank : Option ℕ) × Contains X (x, q, rank)
 
 -- The list holds the pair with this rank.
-abbrev pub HasPairRank : RankedPairs → ℕ → ℕ → ℕ → Type 0
+abbrev pub HasPairRank : RankedPlaces → ℕ → ℕ → ℕ → Type 0
 HasPairRank X x q r = Contains X (x, q, Some r)
 
 -- Each place is below m and each state below n.
-abbrev pub AreRankedBelow : ℕ → ℕ → RankedPairs → Type 0
-AreRankedBelow m n X = (x q : ℕ) → HoldsPair X x q → (x < m) × (q < n)
+abbrev pub AreWithin : ℕ → ℕ → RankedPlaces → Type 0
+AreWithin m n X = (x q : ℕ) → HoldsPair X x q → (x < m) × (q < n)
 
 -- The pairs and ranks are right: each move of a place is answered; a pair has a rank if its place is accepting; at rank 0 the right state
 -- is accepting; and at a greater rank each move is answered with a lesser one.
-pub record IsRightAcross (L A : Automaton) (X : RankedPairs) : Type 0 where
+pub record IsRightAcross (L A : Automaton) (X : RankedPlaces) : Type 0 where
   pub answers : (x q a y : ℕ) → HoldsPair X x q → Moves L x a y → (q' : ℕ) × Moves A q a q' × HoldsPair X y q'
   pub ranked : (x q : ℕ) → HoldsPair X x q → IsAccepting L x → (r : ℕ) × HasPairRank X x q r
   pub at_zero : (x q : ℕ) → HasPairRank X x q 0 → IsAccepting A q

@@ -1,5 +1,5 @@
 -- Moves into a row of states.
-use Rattle.std.specs.Prelude.{◌≡◌, ℕ, ◌+◌, ◌*◌, ◌/◌, ◌<◌, ◌↔◌, List, length}
+use Rattle.std.specs.Prelude.{◌≡◌, ℕ, ◌+◌, ◌*◌, ◌/◌, ◌<◌, ◌≤◌, ◌↔◌, List, length}
 use Rattle.std.specs.Int.{bit_at}
 use Rattle.auto_core.specs.Automaton.{Automaton, Moves}
 use Rattle.auto_core.specs.Rows.{HasBit, HasCell}
@@ -12,6 +12,10 @@ LeadsTo A a ends q = (q' : ℕ) × Moves A q a q' × HasBit ends q'
 -- another: of the lowest four digits each tells whether one of the four is in the set.
 abbrev pub LeadsToSet : Automaton → ℕ → ℕ → ℕ → Type 0
 LeadsToSet A k a q = (i : ℕ) × (i < 4) × (bit_at k i ≡ 1) × Moves A q a (k / 16 * 4 + i)
+
+-- A move from q by the letter a leads to a state of the row among four neighbouring states: fours are numbered from the first states on.
+abbrev pub LeadsToFour : Automaton → ℕ → List ℕ → ℕ → ℕ → Type 0
+LeadsToFour A a ends four q = (q' : ℕ) × Moves A q a q' × HasBit ends q' × (four * 4 ≤ q') × (q' < (four + 1) * 4)
 
 -- The table has a row for each set, with w words for each letter: they mark the states from which a move by the letter leads to a state of
 -- the set.

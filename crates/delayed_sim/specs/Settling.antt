@@ -3,7 +3,7 @@ use Rattle.std.specs.Prelude.{◌≡◌, ℕ, ◌<◌, ◌≤◌, ◌↔◌, Boo
 use Rattle.auto_core.specs.Automaton.{Automaton, Moves, IsAccepting}
 use Rattle.auto_core.specs.Game.{Holds, IsWithin}
 use Rattle.auto_core.specs.Rows.{bit_of, HasBit}
-use Rattle.delayed_sim.specs.Across.{RankedPairs, HoldsPair, IsRightAcross}
+use Rattle.delayed_sim.specs.Across.{RankedPlaces, HoldsPair, IsRightAcross}
 use Rattle.delayed_sim.specs.Pairings.{Pairing, IsPairing}
 use Rattle.delayed_sim.specs.Levels.{rank_at}
 
@@ -18,7 +18,7 @@ AnswersAll L A R x q = (a y : ℕ) → Moves L x a y → IsAnsweredIn A R q a y
 -- The pairs of the list of each right relation that were in the old one are in the new one.
 abbrev pub LeavesRight : Automaton → Automaton → Pairing → Pairing → Type 0
 LeavesRight L A old new =
-    (X : RankedPairs) → IsRightAcross L A X
+    (X : RankedPlaces) → IsRightAcross L A X
     → ((x q : ℕ) → HoldsPair X x q → Holds old.pairs x q)
     → (x q : ℕ) → HoldsPair X x q → Holds new.pairs x q
 
@@ -49,7 +49,7 @@ IsAnsweredBesides L A R marks = (y : ℕ) → y < L.states → bit_of marks y �
 
 -- While the moves to one place are tried: moves to the other places are answered, if they are not marked, and the row `ends` has the pairs of this place,
 -- and no more as long as it is not marked.
-pub record IsUnderWay (L A : Automaton) (to : ℕ) (ends : List ℕ) (R : Pairing) (marks : List ℕ) : Type 0 where
+pub record IsPlaceUnderWay (L A : Automaton) (to : ℕ) (ends : List ℕ) (R : Pairing) (marks : List ℕ) : Type 0 where
   pub others : (x : ℕ) → x < L.states → ¬ (x ≡ to) → bit_of marks x ≡ false → IsAnsweredInto L A (Holds R.pairs) x
   pub inside : (q : ℕ) → Holds R.pairs to q → HasBit ends q
   pub still : bit_of marks to ≡ false → (q : ℕ) → HasBit ends q → Holds R.pairs to q

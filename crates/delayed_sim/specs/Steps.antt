@@ -5,12 +5,12 @@ use Rattle.auto_core.specs.declared.parts.Trans.{Trans}
 use Rattle.auto_core.specs.Automaton.{Automaton, IsAccepting, trans, trans_at}
 
 -- The move of places by the transition, after which the word with the number c is announced.
-abbrev pub step_of : ℕ → ℕ → Trans → ℕ → Trans
-step_of labels words t c = trans (t.source * words + (t.label * words + c) / labels) t.label (t.target * words + c)
+abbrev pub step_announcing : ℕ → ℕ → Trans → ℕ → Trans
+step_announcing labels words t c = trans (t.source * words + (t.label * words + c) / labels) t.label (t.target * words + c)
 
 -- The move with this number: those of a transition stand together.
 abbrev pub step_at : Automaton → ℕ → ℕ → Trans
-step_at A words k = step_of A.labels words (trans_at A (k / words)) (k % words)
+step_at A words k = step_announcing A.labels words (trans_at A (k / words)) (k % words)
 
 -- The first moves.
 abbrev pub AreSteps : Automaton → ℕ → List Trans → ℕ → Type 0

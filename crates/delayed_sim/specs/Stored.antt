@@ -11,27 +11,27 @@ abbrev pub triple_of : ℕ → Entry → Triple
 triple_of n e = (e.left, take (n - 1) e.ahead, e.right, e.rank)
 
 -- Those of all entries.
-abbrev pub triples_of : ℕ → List Entry → RankedTriples
-triples_of n entries = map (triple_of n) entries
+abbrev pub entry_triples : ℕ → List Entry → RankedTriples
+entry_triples n entries = map (triple_of n) entries
 
 -- What the fields stand for.
 abbrev pub ranking_of : Inside → Ranking
-ranking_of d = record { size = d.states; labels = d.labels; letters = d.letters; triples = triples_of d.letters d.entries.items }
+ranking_of d = record { size = d.states; labels = d.labels; letters = d.letters; triples = entry_triples d.letters d.entries.items }
 
 -- They stand for a valid ranking.
 pub record IsStoredRanking (d : Inside) : Type 0 where
   pub letters_from : 1 ≤ d.letters
   pub letters_upto : d.letters ≤ 4
-  pub in_range : AreTriplesOf d.states d.labels d.letters (triples_of d.letters d.entries.items)
-  pub in_order : AreTriplesInOrder (triples_of d.letters d.entries.items)
+  pub in_range : AreTriplesOf d.states d.labels d.letters (entry_triples d.letters d.entries.items)
+  pub in_order : AreTriplesInOrder (entry_triples d.letters d.entries.items)
 
 -- Some entry, where there is none at a place.
 abbrev pub no_entry : Entry
 no_entry = record { left = 0; ahead = []; right = 0; rank = None }
 
 -- The entry at the place has the triple of p, the letters b and q.
-abbrev pub IsFound : ℕ → List Entry → ℕ → List ℕ → ℕ → ℕ → Type 0
-IsFound n entries p b q i = (i < length entries) × Contains (triples_of n entries) (p, b, q, (slice_index_or entries i no_entry).rank)
+abbrev pub IsTripleAt : ℕ → List Entry → ℕ → List ℕ → ℕ → ℕ → Type 0
+IsTripleAt n entries p b q i = (i < length entries) × Contains (entry_triples n entries) (p, b, q, (slice_index_or entries i no_entry).rank)
 
 -- The entries below `low` stand before the triple, those from `high` on behind it.
 pub record IsBetween (n : ℕ) (entries : List Entry) (key : Triple) (low high : ℕ) : Type 0 where
@@ -48,5 +48,5 @@ pub record IsFirstFrom (n : ℕ) (entries : List Entry) (key : Triple) (at : ℕ
 
 -- What holds after the entry was put in.
 pub record IsPutIn (n : ℕ) (old new : List Entry) (e : Entry) : Type 0 where
-  pub in_order : AreTriplesInOrder (triples_of n new)
-  pub triples : (t : Triple) → Contains (triples_of n new) t ↔ (Contains (triples_of n old) t ⊎ (triple_of n e ≡ t))
+  pub in_order : AreTriplesInOrder (entry_triples n new)
+  pub triples : (t : Triple) → Contains (entry_triples n new) t ↔ (Contains (entry_triples n old) t ⊎ (triple_of n e ≡ t))

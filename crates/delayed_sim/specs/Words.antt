@@ -47,7 +47,7 @@ abbrev pub triple_here : ℕ → ℕ → ℕ → List ℕ → ℕ → ℕ → Tr
 triple_here labels n m ranks x q = (x / labels ^ (n - 1), digits labels (n - 1) (x % labels ^ (n - 1)), q, rank_at ranks m x q)
 
 -- The list has just the triples of the pairs that stand before this one, in order.
-pub record AreListed (labels n : ℕ) (R : Pairing) (ranks : List ℕ) (x at : ℕ) (T : RankedTriples) : Type 0 where
+pub record ListsTriplesBefore (labels n : ℕ) (R : Pairing) (ranks : List ℕ) (x at : ℕ) (T : RankedTriples) : Type 0 where
   pub each :
       (t : Triple)
       → Contains T t

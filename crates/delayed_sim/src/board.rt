@@ -12,6 +12,15 @@ use row_steps::{and_row, write_row};
 use std::alloc::Global;
 use std::marker::Model;
 
+/// The number of bits of the row.
+pub(crate) fn bits_in(row: &[u64]) -> usize {
+    let mut count: usize = 0;
+    for at in 0..row.len() {
+        count = count.saturating_add(row[at].count_ones() as usize);
+    }
+    count
+}
+
 /// A relation from the places below a number to the states below another. Contracts see it as a `Pairing`: these numbers and the list of
 /// the pairs, ascending.
 #[derive(Debug, Drop)]
@@ -100,11 +109,7 @@ impl Board {
 
     /// The number of pairs, as room for their list.
     pub fn room(&self) -> usize {
-        let mut count: usize = 0;
-        for at in 0..self.table.len() {
-            count = count.saturating_add(self.table[at].count_ones() as usize);
-        }
-        count
+        bits_in(&self.table)
     }
 
     /// Takes the pair away, and changes nothing else.

@@ -3,7 +3,7 @@
 ghost use Rattle.std.specs.Prelude.{◌≡◌, ◌-◌, ◌<◌, ◌≤◌, ◌↔◌, ℕ, Option, None, length, slice_index_or, take, Contains, IsTrue, IfOk, IfErr, IfSome, IfNone};
 ghost use Rattle.std.specs.declared.cmp.Ordering.TheVariants.{Less};
 ghost use Rattle.delayed_sim.specs.Rankings.{triple_cmp, row_key, AreTriplesInOrder};
-ghost use Rattle.delayed_sim.specs.Stored.{triple_of, triples_of, no_entry, IsFound, IsBetween, IsFirstFrom, IsPutIn};
+ghost use Rattle.delayed_sim.specs.Stored.{triple_of, entry_triples, no_entry, IsTripleAt, IsBetween, IsFirstFrom, IsPutIn};
 
 use auto_core::Memory;
 use std::cmp::Ordering;
@@ -57,8 +57,8 @@ fn search(
 ) -> Result<usize, usize>
     requires from { 1 ≤ letters }
     requires upto { letters ≤ 4 }
-    requires in_order { AreTriplesInOrder (triples_of letters entries.now) }
-    ensures found { IfOk result (IsFound letters entries.now left ahead.now right) }
+    requires in_order { AreTriplesInOrder (entry_triples letters entries.now) }
+    ensures found { IfOk result (IsTripleAt letters entries.now left ahead.now right) }
     ensures gap { IfErr result (λ i. IsBetween letters entries.now (left, ahead.now, right, None) i i) }
 {
     let mut low = 0;
@@ -97,7 +97,7 @@ pub(crate) fn first_from(
 ) -> usize
     requires from { 1 ≤ letters }
     requires upto { letters ≤ 4 }
-    requires in_order { AreTriplesInOrder (triples_of letters entries.now) }
+    requires in_order { AreTriplesInOrder (entry_triples letters entries.now) }
     ensures { IsFirstFrom letters entries.now (left, ahead.now, right, None) result }
 {
     let mut low = 0;
@@ -123,9 +123,9 @@ pub(crate) fn find(
 ) -> Option<usize>
     requires from { 1 ≤ letters }
     requires upto { letters ≤ 4 }
-    requires in_order { AreTriplesInOrder (triples_of letters entries.now) }
-    ensures found { IfSome result (IsFound letters entries.now left ahead.now right) }
-    ensures none { IfNone result ((rank : Option ℕ) → Contains (triples_of letters entries.now) (left, ahead.now, right, rank) → ⊥) }
+    requires in_order { AreTriplesInOrder (entry_triples letters entries.now) }
+    ensures found { IfSome result (IsTripleAt letters entries.now left ahead.now right) }
+    ensures none { IfNone result ((rank : Option ℕ) → Contains (entry_triples letters entries.now) (left, ahead.now, right, rank) → ⊥) }
 {
     match search(entries, letters, left, ahead, right) {
         Ok(at) => Some(at),
@@ -137,8 +137,8 @@ pub(crate) fn find(
 pub(crate) fn put_in(entries: &mut Vec<Entry>, letters: u32, entry: Entry) -> Result<(), Memory>
     requires from { 1 ≤ letters }
     requires upto { letters ≤ 4 }
-    requires in_order { AreTriplesInOrder (triples_of letters entries.old.items) }
-    requires lacks { (rank : Option ℕ) → Contains (triples_of letters entries.old.items) (entry.left, (triple_of letters entry).1, entry.right, rank) → ⊥ }
+    requires in_order { AreTriplesInOrder (entry_triples letters entries.old.items) }
+    requires lacks { (rank : Option ℕ) → Contains (entry_triples letters entries.old.items) (entry.left, (triple_of letters entry).1, entry.right, rank) → ⊥ }
     ensures { IfOk result (λ _. IsPutIn letters entries.old.items entries.new.items entry) }
 {
     match search(

@@ -3,8 +3,8 @@
 ghost use Rattle.std.specs.Prelude.{◌≡◌, ◌+◌, ◌-◌, ◌*◌, ◌/◌, ◌%◌, ◌^◌, ◌<◌, ◌≤◌, ℕ, length, take, IfOk};
 ghost use Rattle.delayed_sim.specs.Pairings.{IsPairing};
 ghost use Rattle.delayed_sim.specs.Levels.{rank_of};
-ghost use Rattle.delayed_sim.specs.Stored.{triples_of};
-ghost use Rattle.delayed_sim.specs.Words.{digits, AreListed};
+ghost use Rattle.delayed_sim.specs.Stored.{entry_triples};
+ghost use Rattle.delayed_sim.specs.Words.{digits, ListsTriplesBefore};
 
 use crate::board::Board;
 use crate::entries::Entry;
@@ -44,8 +44,8 @@ fn push_row(
     requires words { board.now.places ≡ board.now.states * labels ^ (letters - 1) }
     requires state { left ≡ x / labels ^ (letters - 1) }
     requires word { take (letters - 1) ahead ≡ digits labels (letters - 1) (x % labels ^ (letters - 1)) }
-    requires listed { AreListed labels letters board.now ranks.now x 0 (triples_of letters entries.old.items) }
-    ensures { IfOk result (λ _. AreListed labels letters board.now ranks.now (x + 1) 0 (triples_of letters entries.new.items)) }
+    requires listed { ListsTriplesBefore labels letters board.now ranks.now x 0 (entry_triples letters entries.old.items) }
+    ensures { IfOk result (λ _. ListsTriplesBefore labels letters board.now ranks.now (x + 1) 0 (entry_triples letters entries.new.items)) }
 {
     let mut at = 0;
     while let Some(q) = next_bit(board.row(x), at) {
@@ -76,7 +76,7 @@ pub(crate) fn entries_of(
     requires valid { IsPairing board.now }
     requires fits { labels ^ (letters - 1) < 2 ^ 32 }
     requires words { board.now.places ≡ board.now.states * labels ^ (letters - 1) }
-    ensures { IfOk result (λ v. AreListed labels letters board.now ranks.now board.now.places 0 (triples_of letters v.items)) }
+    ensures { IfOk result (λ v. ListsTriplesBefore labels letters board.now ranks.now board.now.places 0 (entry_triples letters v.items)) }
 {
     let words = word_count(labels, letters - 1);
     let mut entries = Vec::with_capacity(alloc, board.room())?;

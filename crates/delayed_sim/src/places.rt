@@ -4,7 +4,7 @@ ghost use Rattle.std.specs.Prelude.{◌≡◌, ◌+◌, ◌-◌, ◌*◌, ◌/�
 ghost use Rattle.auto_core.specs.Automaton.{IsAutomaton};
 ghost use Rattle.auto_core.specs.Delayed.{letters_for};
 ghost use Rattle.delayed_sim.specs.Words.{ArePlaces};
-ghost use Rattle.delayed_sim.specs.Steps.{step_of, AreSteps, AreAcceptingPlaces};
+ghost use Rattle.delayed_sim.specs.Steps.{step_announcing, AreSteps, AreAcceptingPlaces};
 
 use crate::words::word_count;
 use auto_core::{Auto, Memory, Trans, of_parts};
@@ -17,7 +17,7 @@ fn step_of(step: Trans, labels: u32, words: u32, next: u32) -> Trans
     requires source { step.source * words + words < 2 ^ 32 }
     requires target { step.target * words + words < 2 ^ 32 }
     requires letters { labels * words < 2 ^ 32 }
-    ensures { result ≡ step_of labels words step next }
+    ensures { result ≡ step_announcing labels words step next }
 {
     let ahead = step.label * words + next;
     Trans {

@@ -17,7 +17,7 @@ use Rattle.cert_text.proofs.ReadLemmas.{split_cons, bare_false, line_off, last_o
 use Rattle.equal_batch.specs.declared.fault.ListFault.{ListFault}
 use Rattle.equal_batch.specs.declared.fault.ListFault.TheVariants as fault
 use Rattle.equal_batch.specs.declared.questions.Question.{Question}
-use Rattle.equal_batch.specs.Questions.{is_character, is_word, is_question, line_of, IsList, lines_among, list_lines, bad_from, first_bad, TellsLine}
+use Rattle.equal_batch.specs.Questions.{is_character, is_word, is_question, line_of, IsList, lines_among, cut_lines, bad_from, first_bad, TellsLine}
 use Rattle.equal_batch.specs.Laws.{ListIsOne, ListHasNoBadLine, TextWithoutABadLineIsALists}
 
 -- ---- the first line
@@ -35,14 +35,14 @@ not_zero : (n : ℕ) → 0 < n → (n == 0) ≡ false
 not_zero n h = grind (arith, nat_tests)
 
 -- without an LF the bytes are the one line
-pub line_last : (bytes : List ℕ) → 0 < length bytes → position (λ b. b == 10) bytes ≡ None → list_lines bytes ≡ tokens_of bytes ∷ list_lines []
+pub line_last : (bytes : List ℕ) → 0 < length bytes → position (λ b. b == 10) bytes ≡ None → cut_lines bytes ≡ tokens_of bytes ∷ cut_lines []
 line_last bytes h e =
     ap lines_among (last_off bytes e)
     ∙ ap (λ b. if b then [] else tokens_of bytes ∷ []) (bare_false bytes (not_zero (length bytes) h))
 
 -- with one the first line stands before it
 pub line_next : (bytes : List ℕ) (at : ℕ) → position (λ b. b == 10) bytes ≡ Some at
-    → list_lines bytes ≡ tokens_of (take at bytes) ∷ list_lines (take (length bytes - (at + 1)) (drop (at + 1) bytes))
+    → cut_lines bytes ≡ tokens_of (take at bytes) ∷ cut_lines (take (length bytes - (at + 1)) (drop (at + 1) bytes))
 line_next bytes at e =
     ap lines_among (line_off bytes at e)
     ∙ full_cons (tokens_of (take at bytes)) _ (some_line (take (length bytes - (at + 1)) (drop (at + 1) bytes)))
@@ -71,7 +71,7 @@ text_more lines line = text_append lines (line ∷ []) ∙ ap (λ xs. text_of li
 
 -- The questions are those of the lines before this one, and the rest holds the others.
 pub record Underway (bytes rest : List ℕ) (number : ℕ) (questions : List Question) : Type 0 where
-  pub due : bad_from number (list_lines rest) ≡ first_bad bytes
+  pub due : bad_from number (cut_lines rest) ≡ first_bad bytes
   pub words : list_all is_question (map line_of questions) ≡ true
   pub count : length questions + 1 ≡ number
   pub few : length questions ≤ 1000
@@ -81,11 +81,11 @@ pub Underway-start : (bytes : List ℕ) → Underway bytes bytes 1 []
 Underway-start bytes = record { due = refl; words = refl; count = refl; few = omega arith; text = inl refl }
 
 module _ (bytes rest line after : List ℕ) (number : ℕ) (questions : List Question) (u : Underway bytes rest number questions)
-    (some : 0 < length rest) (lines : list_lines rest ≡ tokens_of line ∷ list_lines after) where
+    (some : 0 < length rest) (lines : cut_lines rest ≡ tokens_of line ∷ cut_lines after) where
   step : (t : Bool) → (is_question (tokens_of line) && nat_le number 1000) ≡ t
-      → (if t then bad_from (number + 1) (list_lines after) else Some number) ≡ first_bad bytes
+      → (if t then bad_from (number + 1) (cut_lines after) else Some number) ≡ first_bad bytes
   step t e =
-      sym (ap (λ t. if t then bad_from (number + 1) (list_lines after) else Some number) e)
+      sym (ap (λ t. if t then bad_from (number + 1) (cut_lines after) else Some number) e)
       ∙ sym (ap (bad_from number) lines) ∙ u.due
 
   pub bad_number : 1000 < number → first_bad bytes ≡ Some number
@@ -213,13 +213,13 @@ lines_of_text : (lines : List Line) → list_all is_question lines ≡ true → 
 lines_of_text lines e = ap lines_of (sym (append-nil (text_of lines))) ∙ lines_text lines [] (plain_lines lines e)
 
 -- the lines of a list's text ask its questions
-pub lines_asked : (questions : List Question) (bytes : List ℕ) → IsList questions bytes → list_lines bytes ≡ map line_of questions
+pub lines_asked : (questions : List Question) (bytes : List ℕ) → IsList questions bytes → cut_lines bytes ≡ map line_of questions
 lines_asked questions bytes is = by is.text where
   lines : List Line
   lines = map line_of questions
 
-  by : (text_of (map line_of questions) ≡ bytes) ⊎ (text_of (map line_of questions) ≡ bytes ++ 10 ∷ []) → list_lines bytes ≡ map line_of questions
-  by (inl e) = ap list_lines (sym e) ∙ ap lines_among (lines_of_text (map line_of questions) is.words) ∙ full_bare (map line_of questions)
+  by : (text_of (map line_of questions) ≡ bytes) ⊎ (text_of (map line_of questions) ≡ bytes ++ 10 ∷ []) → cut_lines bytes ≡ map line_of questions
+  by (inl e) = ap cut_lines (sym e) ∙ ap lines_among (lines_of_text (map line_of questions) is.words) ∙ full_bare (map line_of questions)
   by (inr e) =
       let same : lines_of bytes ≡ map line_of questions =
       sym (full_bare (lines_of bytes)) ∙ ap lines_among (sym (lines_ended bytes)) ∙ ap (λ b. lines_among (lines_of b)) (sym e)
@@ -307,17 +307,17 @@ questions_in (l ∷ ls) e =
     let later = questions_in ls a.1 in
     (here.0 ∷ later.0, λ i. here.1 i ∷ later.1 i)
 
-whole_or_cut : (bytes : List ℕ) → (text_of (list_lines bytes) ≡ bytes) ⊎ (text_of (list_lines bytes) ≡ bytes ++ 10 ∷ [])
+whole_or_cut : (bytes : List ℕ) → (text_of (cut_lines bytes) ≡ bytes) ⊎ (text_of (cut_lines bytes) ≡ bytes ++ 10 ∷ [])
 whole_or_cut bytes = by (bare_or_line (lines_of bytes) (some_line bytes)) where
-  by : (lines_of bytes ≡ list_lines bytes ++ bare) ⊎ (lines_of bytes ≡ list_lines bytes)
-      → (text_of (list_lines bytes) ≡ bytes) ⊎ (text_of (list_lines bytes) ≡ bytes ++ 10 ∷ [])
-  by (inl e) = inl (sym (text_back bytes (list_lines bytes) e))
-  by (inr e) = inr (sym (text_back (bytes ++ 10 ∷ []) (list_lines bytes) (lines_ended bytes ∙ ap (λ xs. xs ++ bare) e)))
+  by : (lines_of bytes ≡ cut_lines bytes ++ bare) ⊎ (lines_of bytes ≡ cut_lines bytes)
+      → (text_of (cut_lines bytes) ≡ bytes) ⊎ (text_of (cut_lines bytes) ≡ bytes ++ 10 ∷ [])
+  by (inl e) = inl (sym (text_back bytes (cut_lines bytes) e))
+  by (inr e) = inr (sym (text_back (bytes ++ 10 ∷ []) (cut_lines bytes) (lines_ended bytes ∙ ap (λ xs. xs ++ bare) e)))
 
 pub text_without_a_bad_line_is_a_lists : TextWithoutABadLineIsALists
 text_without_a_bad_line_is_a_lists bytes e =
-    let all = all_asked 1 (list_lines bytes) (omega arith) e in
-    let qs = questions_in (list_lines bytes) all.0 in (
+    let all = all_asked 1 (cut_lines bytes) (omega arith) e in
+    let qs = questions_in (cut_lines bytes) all.0 in (
       qs.0,
       record {
         words = ap (list_all is_question) (sym qs.1) ∙ all.0;

@@ -37,8 +37,8 @@ lines_among (line ∷ []) = if is_bare line then [] else line ∷ []
 lines_among (line ∷ next ∷ lines) = line ∷ lines_among (next ∷ lines)
 
 -- The lines of the bytes, each cut at its spaces.
-abbrev pub list_lines : List ℕ → List Line
-list_lines bytes = lines_among (lines_of bytes)
+abbrev pub cut_lines : List ℕ → List Line
+cut_lines bytes = lines_among (lines_of bytes)
 
 -- The number of the first line that is no question or stands after the 1,000th, where the first line has this number.
 abbrev pub bad_from : ℕ → List Line → Option ℕ
@@ -47,7 +47,7 @@ bad_from number (line ∷ lines) = if is_question line && nat_le number 1000 the
 
 -- The first bad line of the bytes, numbered from 1.
 abbrev pub first_bad : List ℕ → Option ℕ
-first_bad bytes = bad_from 1 (list_lines bytes)
+first_bad bytes = bad_from 1 (cut_lines bytes)
 
 -- The fault tells this line, or want of memory.
 abbrev pub TellsLine : Option ℕ → ListFault → Type 0

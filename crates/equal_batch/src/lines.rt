@@ -3,7 +3,7 @@
 ghost use Rattle.std.specs.Prelude.{◌≡◌, ◌+◌, ◌<◌, ◌==◌, ◌⊎◌, ◌++◌, ◌∷◌, [], length, position, true, false, nat_lt, MatchOption};
 ghost use Rattle.std.specs.List.{list_all};
 ghost use Rattle.cert_value.specs.Tokens.{tokens_of};
-ghost use Rattle.equal_batch.specs.Questions.{is_character, is_word, is_question, list_lines};
+ghost use Rattle.equal_batch.specs.Questions.{is_character, is_word, is_question, cut_lines};
 
 use cert_value::Tokens;
 
@@ -17,7 +17,7 @@ fn newline_at(bytes: &[u8]) -> Option<usize>
 /// The first line, without its LF, and what follows it.
 pub(crate) fn first_line(bytes: &[u8]) -> (&[u8], &[u8])
     requires { 0 < length bytes.now }
-    ensures lines { list_lines bytes.now ≡ tokens_of result.0.now ∷ list_lines result.1.now }
+    ensures lines { cut_lines bytes.now ≡ tokens_of result.0.now ∷ cut_lines result.1.now }
     ensures whole { (bytes.now ≡ result.0.now ++ 10 ∷ result.1.now) ⊎ ((bytes.now ≡ result.0.now) × (result.1.now ≡ [])) }
     ensures shorter { length result.1.now < length bytes.now }
 {

@@ -5,7 +5,6 @@ use Rattle.auto_core.specs.declared.parts.Mode.TheVariants as mode
 use Rattle.auto_core.specs.declared.parts.Origin.{Origin}
 use Rattle.cert_value.specs.declared.types.Answer.{Answer}
 use Rattle.cert_value.specs.declared.types.Answer.TheVariants as answer
-use Rattle.cert_value.specs.declared.types.Cert.{Cert}
 use Rattle.cert_value.specs.declared.types.Body.{Body}
 use Rattle.cert_value.specs.declared.types.FirstStep.{FirstStep}
 use Rattle.cert_value.specs.declared.types.FirstStep.TheVariants as first
@@ -21,24 +20,24 @@ use Rattle.cert_value.specs.declared.types.StepLine.{StepLine}
 use Rattle.cert_value.specs.WellFormed.{blocks_due, is_live, rank_key}
 use Rattle.cert_value.specs.Text.{Line}
 use Rattle.cert_text.specs.Lines.{Said, word_in, number_in, numbers_in, ascending_in, sizes_in, heading_in, row_in, rank_row_in, gone_by_in, first_head_in, plain_delayed_in, announced_delayed_in, delayed_in, delayed_or_cut_in, merge_or_cut_in, second_head_in, origin_in, element_in, step_in}
-use Rattle.cert_text.specs.Grammar.{ReadOutcome, Then, read_rows, read_block, read_rank_rows, read_rank_block, read_blocks, read_classes, read_first_rest, read_first_steps, read_second_rest, read_second_steps, read_elements, read_steps, read_origins, read_cover, read_all_elements, read_closed, read_all_origins, read_limited, read_turn, read_lasso, read_word, yes_of, list_of, read_evidence, read_after_first, read_logs, read_body, finish, cert_of, read_end, read_rest, read_sizes, read_lines, next_line}
+use Rattle.cert_text.specs.Grammar.{ReadOutcome, On, Then, read_rows, read_block, read_rank_rows, read_rank_block, read_blocks, read_classes, read_first_rest, read_first_steps, read_second_rest, read_second_steps, read_elements, read_steps, read_origins, read_cover, read_all_elements, read_closed, read_all_origins, read_limited, read_turn, read_lasso, read_word, yes_of, list_of, read_evidence, read_after_first, read_logs, read_body, finish, cert_of, read_end, read_rest, read_sizes, read_lines, next_line}
 use Rattle.fault_laws.proofs.ReaderLemmas.{Reader, TellsOwn, line_reads, finish_reads}
 use Rattle.fault_laws.proofs.SaidLemmas.{Tells, of_if, plain_tells, tested_tells, either_tells, word_own, number_in_own, numbers_own, ascending_own, sizes_own, heading_own, row_own, rank_row_own, gone_by_own, first_head_own, second_head_own, origin_own, element_own, step_own}
 
 -- Whatever is read, a reader goes on with it.
-abbrev Goes : {A : Type 0} → Then A → Type 0
-Goes {A} next = (a : A) → Reader false (next a)
+abbrev Goes : {C A : Type 0} → On C A → Type 0
+Goes {A = A} next = (a : A) → Reader false (next a)
 
-any_line : {A : Type 0} (said : Line → Said A) (next : Then A) → TellsOwn false said → Goes next → Reader false (next_line said next)
+pub any_line : {C A : Type 0} (said : Line → Said A) (next : On C A) → TellsOwn false said → Goes next → Reader false (next_line said next)
 any_line said next own all = line_reads false said next own (λ line a told. all a)
 
-rows_read : (v : ℕ) (n bound : ℕ) (rows : List Row) (next : Then (List Row)) → Goes next → Reader false (read_rows v n bound rows next)
+rows_read : {C : Type 0} (v : ℕ) (n bound : ℕ) (rows : List Row) (next : On C (List Row)) → Goes next → Reader false (read_rows v n bound rows next)
 rows_read v zero bound rows next all = all rows
 rows_read v (suc n) bound rows next all =
     any_line (row_in v bound) (λ row. read_rows v n (row.left + 1) (rows ++ row ∷ []) next) (row_own v bound)
     (λ row. rows_read v n (row.left + 1) (rows ++ row ∷ []) next all)
 
-block_reads : (v : ℕ) (next : Then RelBlock) → Goes next → Reader false (read_block v next)
+pub block_reads : {C : Type 0} (v : ℕ) (next : On C RelBlock) → Goes next → Reader false (read_block v next)
 block_reads v next all =
     any_line (number_in _) (λ n. read_rows v n 0 [] (λ rows. next (record { rows = rows }))) (number_in_own _)
     (λ n. rows_read v n 0 [] (λ rows. next (record { rows = rows })) (λ rows. all (record { rows = rows })))
@@ -199,7 +198,7 @@ lasso_reads next all =
 word_reads : (next : Then Body) → Goes next → Reader false (read_word next)
 word_reads next all = search (numbers_read, all)
 
-end_reads : (c : Cert) → Reader false (read_end c)
+pub end_reads : {C : Type 0} (c : C) → Reader false (read_end c)
 end_reads c = any_line (word_in _) (λ u. finish c) (word_own _) (λ u. finish_reads c)
 
 -- The body of each answer.

@@ -7,23 +7,23 @@ use Rattle.cert_value.specs.Tokens.{tokens_of}
 use Rattle.cert_text.specs.Grammar.{lines_of}
 use Rattle.cert_text.proofs.ReadLemmas.{split_cons}
 use Rattle.fault_laws.specs.FirstFaults.{pieces, whole_lines}
-use Rattle.fault_laws.specs.Admitted.{ended, first_part}
+use Rattle.fault_laws.specs.Admitted.{with_ends, first_part}
 use Rattle.fault_laws.proofs.LineLemmas.{pieces_count, lines_count}
 use Rattle.fault_laws.proofs.ReaderLemmas.{bare}
 
 -- The first pieces, each with its LF, are cut into themselves and an empty piece.
 abbrev CutAgain : ℕ → List (List ℕ) → Type 0
-CutAgain n ps = n < length ps → pieces (ended (take n ps)) ≡ take n ps ++ [] ∷ []
+CutAgain n ps = n < length ps → pieces (with_ends (take n ps)) ≡ take n ps ++ [] ∷ []
 
 cut_newline : (ps : List (List ℕ)) → ((n : ℕ) → CutAgain n ps) → (n : ℕ) → CutAgain n ([] ∷ ps)
 cut_newline ps again zero h = refl
 cut_newline ps again (suc n) h =
-    slice_split-cons_yes (λ b. b == 10) 10 (ended (take n ps)) refl ∙ ap (λ xs. [] ∷ xs) (again n (omega arith))
+    slice_split-cons_yes (λ b. b == 10) 10 (with_ends (take n ps)) refl ∙ ap (λ xs. [] ∷ xs) (again n (omega arith))
 
 cut_byte : (b : ℕ) (p : List ℕ) (ps : List (List ℕ)) → (b == 10) ≡ false → ((n : ℕ) → CutAgain n (p ∷ ps)) → (n : ℕ) → CutAgain n ((b ∷ p) ∷ ps)
 cut_byte b p ps plain again zero h = refl
 cut_byte b p ps plain again (suc n) h =
-    slice_split-cons_no (λ b. b == 10) b (p ++ 10 ∷ ended (take n ps)) plain ∙ ap (λ xs. onto_first b xs) (again (suc n) (omega arith))
+    slice_split-cons_no (λ b. b == 10) b (p ++ 10 ∷ with_ends (take n ps)) plain ∙ ap (λ xs. onto_first b xs) (again (suc n) (omega arith))
 
 cut_on : (b : ℕ) (bs : List ℕ) (is : Bool) → (b == 10) ≡ is → ((n : ℕ) → CutAgain n (pieces bs)) → (n : ℕ) → CutAgain n (pieces (b ∷ bs))
 cut_on b bs true e again n = subst (CutAgain n) (sym (slice_split-cons_yes (λ b. b == 10) b bs e)) (cut_newline (pieces bs) again n)
@@ -46,7 +46,7 @@ pub part_pieces : (n : ℕ) (bytes : List ℕ) → n ≤ length (whole_lines byt
 part_pieces n bytes h =
     let count = pieces_count bytes in
     let same = first_pieces n bytes h in
-    ap (λ ps. pieces (ended ps)) same ∙ cut_again bytes n (omega (arith, count, h)) ∙ ap (λ ps. ps ++ [] ∷ []) (sym same)
+    ap (λ ps. pieces (with_ends ps)) same ∙ cut_again bytes n (omega (arith, count, h)) ∙ ap (λ ps. ps ++ [] ∷ []) (sym same)
 
 -- The lines of the first part are the first lines, and nothing after them.
 pub part_lines : (n : ℕ) (bytes : List ℕ) → n ≤ length (whole_lines bytes) → lines_of (first_part n bytes) ≡ take n (lines_of bytes) ++ bare
@@ -83,13 +83,13 @@ part_whole n bytes h =
     ∙ take-append-le (length front) front ([] ∷ []) (omega arith)
     ∙ take_all (length front) front (omega arith)
 
-join_part : (n : ℕ) (ps : List (List ℕ)) → n < length ps → join_with_byte 10 ps ≡ ended (take n ps) ++ join_with_byte 10 (drop n ps)
+join_part : (n : ℕ) (ps : List (List ℕ)) → n < length ps → join_with_byte 10 ps ≡ with_ends (take n ps) ++ join_with_byte 10 (drop n ps)
 join_part zero ps h = refl
 join_part (suc n) [] h = absurd (omega arith)
 join_part (suc n) (p ∷ []) h = absurd (omega arith)
 join_part (suc n) (p ∷ q ∷ qs) h =
     ap (λ xs. p ++ 10 ∷ xs) (join_part n (q ∷ qs) (omega arith))
-    ∙ sym (append_assoc p (10 ∷ ended (take n (q ∷ qs))) (join_with_byte 10 (drop n (q ∷ qs))))
+    ∙ sym (append_assoc p (10 ∷ with_ends (take n (q ∷ qs))) (join_with_byte 10 (drop n (q ∷ qs))))
 
 -- The bytes are their first part and more.
 pub part_of : (n : ℕ) (bytes : List ℕ) → n ≤ length (whole_lines bytes) → (more : List ℕ) × (bytes ≡ first_part n bytes ++ more)
@@ -99,5 +99,5 @@ part_of n bytes h =
       more,
       sym (join_with_byte-slice_split 10 bytes)
           ∙ join_part n (pieces bytes) (omega (arith, count, h))
-          ∙ ap (λ ps. ended ps ++ more) (sym (first_pieces n bytes h)),
+          ∙ ap (λ ps. with_ends ps ++ more) (sym (first_pieces n bytes h)),
     )

@@ -7,34 +7,14 @@ use Rattle.cert_text.specs.declared.faults.TextKind.TheVariants as kind
 use Rattle.cert_value.specs.Text.{Line}
 use Rattle.cert_text.specs.Forms.{fits, has_empty, has_numbers, has_count, line_fault}
 use Rattle.cert_text.specs.Lines.{Said, unless, as_form, in_order, either, word_in, number_in, numbers_in, ascending_in, sizes_in, row_in, rank_row_in, gone_by_in, trim_in, first_head_in, plain_delayed_in, announced_delayed_in, delayed_in, delayed_or_cut_in, second_head_in, origin_in, element_in, step_in, heading_in, heading_said, or_else, version_heading_in}
-use Rattle.fault_laws.proofs.ReaderLemmas.{SaysOwn, TellsOwn}
+use Rattle.fault_laws.proofs.ReaderLemmas.{IsLineKind, SaysOwn, TellsOwn}
 
 pub ok_own : {A : Type 0} (head : Bool) (a : A) → SaysOwn head (Ok a)
 ok_own head a kind e = absurd (cc)
 
-shape_own : {A : Type 0} (head : Bool) → SaysOwn {A = A} head (Err kind.Shape)
-shape_own head (kind.Header) e = absurd (cc)
-shape_own head (kind.Number) e = tt
-shape_own head (kind.Shape) e = tt
-shape_own head (kind.Order) e = tt
-shape_own head (kind.Truncated) e = absurd (cc)
-shape_own head (kind.Trailing) e = absurd (cc)
-
-order_own : {A : Type 0} (head : Bool) → SaysOwn {A = A} head (Err kind.Order)
-order_own head (kind.Header) e = absurd (cc)
-order_own head (kind.Number) e = tt
-order_own head (kind.Shape) e = tt
-order_own head (kind.Order) e = tt
-order_own head (kind.Truncated) e = absurd (cc)
-order_own head (kind.Trailing) e = absurd (cc)
-
-number_own : {A : Type 0} (head : Bool) → SaysOwn {A = A} head (Err kind.Number)
-number_own head (kind.Header) e = absurd (cc)
-number_own head (kind.Number) e = tt
-number_own head (kind.Shape) e = tt
-number_own head (kind.Order) e = tt
-number_own head (kind.Truncated) e = absurd (cc)
-number_own head (kind.Trailing) e = absurd (cc)
+-- a fault of a line's own kind
+pub err_own : {A : Type 0} (head : Bool) (fault : TextKind) → IsLineKind head fault → SaysOwn {A = A} head (Err fault)
+err_own head fault own kind e = let same : fault ≡ kind = cc in subst (IsLineKind head) same own
 
 pub if_own : {A : Type 0} (head : Bool) (b : Bool) (x y : Said A) → SaysOwn head x → SaysOwn head y → SaysOwn head (if b then x else y)
 if_own head true x y p q = p
@@ -49,13 +29,13 @@ unless_if head false kind o said p q = q
 form_own : {A : Type 0} (head : Bool) (places : _) (tail : _) (told : Line → Said A)
     → TellsOwn head told → TellsOwn head (as_form places tail told)
 form_own head places tail told own line =
-    unless_if head (has_empty line) kind.Shape _ (told line) (shape_own head)
-    (unless_if head (not (fits places line)) kind.Shape _ (told line) (shape_own head)
-    (unless_if head (not (has_numbers places tail line)) kind.Number _ (told line) (number_own head)
-    (unless_if head (not (has_count places tail line)) kind.Shape None (told line) (shape_own head) (own line))))
+    unless_if head (has_empty line) kind.Shape _ (told line) (err_own head kind.Shape tt)
+    (unless_if head (not (fits places line)) kind.Shape _ (told line) (err_own head kind.Shape tt)
+    (unless_if head (not (has_numbers places tail line)) kind.Number _ (told line) (err_own head kind.Number tt)
+    (unless_if head (not (has_count places tail line)) kind.Shape None (told line) (err_own head kind.Shape tt) (own line))))
 
 in_order_own : {A : Type 0} (head : Bool) (right : Bool) (a : A) → SaysOwn head (in_order right a)
-in_order_own head right a = if_own head right (Ok a) (Err kind.Order) (ok_own head a) (order_own head)
+in_order_own head right a = if_own head right (Ok a) (Err kind.Order) (ok_own head a) (err_own head kind.Order tt)
 
 either_own : {A : Type 0} (head : Bool) (places : _) (told other : Line → Said A)
     → TellsOwn head told → TellsOwn head other → TellsOwn head (either places told other)
@@ -103,7 +83,7 @@ tested_own : {A : Type 0} (head : Bool) (places : _) (tail : _) (right : Line �
     → TellsOwn head (as_form places tail (λ tokens. if right tokens then Ok (value tokens) else Err kind.Shape))
 tested_own head places tail right value =
     form_own head places tail (λ tokens. if right tokens then Ok (value tokens) else Err kind.Shape)
-    (λ tokens. if_own head (right tokens) (Ok (value tokens)) (Err kind.Shape) (ok_own head (value tokens)) (shape_own head))
+    (λ tokens. if_own head (right tokens) (Ok (value tokens)) (Err kind.Shape) (ok_own head (value tokens)) (err_own head kind.Shape tt))
 
 pub first_head_own : TellsOwn false first_head_in
 first_head_own = search (either_own, plain_own, sorted_own, tested_own)
@@ -137,17 +117,9 @@ pub step_own : (n : ℕ) → TellsOwn false (step_in n)
 step_own n = search sorted_own
 
 -- the first line
-header_own : {A : Type 0} → SaysOwn {A = A} true (Err kind.Header)
-header_own (kind.Header) e = refl
-header_own (kind.Number) e = tt
-header_own (kind.Shape) e = tt
-header_own (kind.Order) e = tt
-header_own (kind.Truncated) e = absurd (cc)
-header_own (kind.Trailing) e = absurd (cc)
-
 said_own : (o : Option _) → SaysOwn true (heading_said o)
 said_own (Some h) = ok_own true h
-said_own None = header_own
+said_own None = err_own true kind.Header refl
 
 pub heading_own : TellsOwn true heading_in
 heading_own line = said_own (or_else (version_heading_in 1 line) (version_heading_in 2 line))

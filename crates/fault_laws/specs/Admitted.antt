@@ -9,18 +9,22 @@ use Rattle.cert_text.specs.Law.{FirstFault}
 use Rattle.fault_laws.specs.FirstFaults.{whole_lines, BeginCert}
 
 -- The lines, each with its LF.
-abbrev pub ended : List (List ℕ) → List ℕ
-ended [] = []
-ended (line ∷ lines) = line ++ 10 ∷ ended lines
+abbrev pub with_ends : List (List ℕ) → List ℕ
+with_ends [] = []
+with_ends (line ∷ lines) = line ++ 10 ∷ with_ends lines
 
 -- The bytes of the first n whole lines, and nothing after them.
 abbrev pub first_part : ℕ → List ℕ → List ℕ
-first_part n bytes = ended (take n (whole_lines bytes))
+first_part n bytes = with_ends (take n (whole_lines bytes))
 
--- The first n lines are whole and admitted: a text that ended after them would have no fault at one of them.
-pub record AreAdmitted (n : ℕ) (bytes : List ℕ) : Type 0 where
+-- The first n lines are whole and admitted: a text that ends after them would have no fault at one of them.
+pub record AreAdmittedBy (IsFirst : List ℕ → TextFault → Type 0) (n : ℕ) (bytes : List ℕ) : Type 0 where
   pub whole : n ≤ length (whole_lines bytes)
-  pub sound : (fault : TextFault) → FirstFault (first_part n bytes) fault → n < fault.line
+  pub sound : (fault : TextFault) → IsFirst (first_part n bytes) fault → n < fault.line
+
+-- They are admitted in a certificate's text.
+abbrev pub AreAdmitted : ℕ → List ℕ → Type 0
+AreAdmitted = AreAdmittedBy FirstFault
 
 -- The first fault stands at the first line with which the lines up to it are not admitted: none is refused for what follows it.
 abbrev pub FaultEndsAdmitted : Type 0
@@ -62,7 +66,7 @@ HeaderJustWhere =
 -- After these lines a second row is due, whose number would have to exceed the greatest one that a text can write.
 abbrev pub endless : List ℕ
 endless =
-    ended
+    with_ends
     (codes "rabit-cert 1 buchi yes"
     ∷ codes "sizes 1 1 1"
     ∷ codes "log1 0"

@@ -1,5 +1,5 @@
 -- The first fault of bytes that are no cross relation's text, told by the texts of cross relations.
-use Rattle.std.specs.Prelude.{◌≡◌, ◌≢◌, ◌↔◌, ◌⊎◌, ℕ, ◌<◌, ◌≤◌, List, length, Ok}
+use Rattle.std.specs.Prelude.{◌≡◌, ◌≢◌, ◌↔◌, ◌⊎◌, ℕ, ◌+◌, ◌<◌, ◌≤◌, List, [], ◌++◌, length, Ok}
 use Rattle.cert_text.specs.declared.faults.TextFault.{TextFault}
 use Rattle.cert_text.specs.declared.faults.TextKind.TheVariants.{Truncated, Trailing}
 use Rattle.cross_text.specs.declared.types.Cross.{Cross}
@@ -40,3 +40,19 @@ CrossLinesBeginNone =
     → fault.kind ≢ Truncated
     → fault.kind ≢ Trailing
     → (fault.line ≤ length (whole_lines bytes)) × (BeginCross fault.line bytes → ⊥)
+
+-- What follows a cross relation's text is trailing, in the line after the text's lines.
+abbrev pub CrossMoreIsTrailing : Type 0
+CrossMoreIsTrailing =
+    (c : Cross) (more : List ℕ)
+    → CrossFormed c
+    → more ≢ []
+    → FirstCrossFault (cross_text c ++ more) (record { line = length (whole_lines (cross_text c)) + 1; kind = Trailing })
+
+-- What is told to be trailing follows a cross relation's text.
+abbrev pub CrossTrailingFollowsText : Type 0
+CrossTrailingFollowsText =
+    (bytes : List ℕ) (fault : TextFault)
+    → FirstCrossFault bytes fault
+    → fault.kind ≡ Trailing
+    → (c : Cross) × (more : List ℕ) × CrossFormed c × (more ≢ []) × (bytes ≡ cross_text c ++ more)

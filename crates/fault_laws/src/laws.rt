@@ -3,7 +3,8 @@
 ghost use Rattle.fault_laws.specs.FirstFaults.{FaultStandsLater, LinesBeginNone, MoreIsTrailing};
 ghost use Rattle.fault_laws.specs.Admitted.{EndlessIsAdmitted, FaultEndsAdmitted, CertLinesAreAdmitted, TruncatedAtTheEnd, TruncatedJustWhere, HeaderInLineOne, HeaderJustWhere};
 ghost use Rattle.fault_laws.specs.Texts.{TextsAreRead, TextOrFault, NoTextHasFault, OneFirstFault, TrailingFollowsText};
-ghost use Rattle.fault_laws.specs.Crosses.{CrossTextsAreRead, CrossTextOrFault, NoCrossTextHasFault, OneFirstCrossFault, CrossFaultStandsLater, CrossLinesBeginNone};
+ghost use Rattle.fault_laws.specs.Crosses.{CrossTextsAreRead, CrossTextOrFault, NoCrossTextHasFault, OneFirstCrossFault, CrossFaultStandsLater, CrossLinesBeginNone, CrossMoreIsTrailing, CrossTrailingFollowsText};
+ghost use Rattle.fault_laws.specs.CrossAdmitted.{CrossEndlessIsAdmitted, CrossFaultEndsAdmitted, CrossLinesAreAdmitted, CrossTruncatedAtTheEnd, CrossTruncatedJustWhere, CrossHeaderInLineOne, CrossHeaderJustWhere};
 
 /// After so many lines as a certificate's text begins with, a first fault stands in a later line.
 pub fn fault_stands_after_a_certificates_lines()
@@ -110,4 +111,49 @@ pub fn fault_stands_after_a_cross_relations_lines()
 /// cross relation's text begins.
 pub fn lines_up_to_the_fault_begin_no_cross_text()
     ensures { CrossLinesBeginNone }
+{}
+
+/// What follows a cross relation's text is trailing, in the line after the text's last.
+pub fn more_after_the_cross_text_is_trailing()
+    ensures { CrossMoreIsTrailing }
+{}
+
+/// What is told to be trailing follows a cross relation's text.
+pub fn trailing_follows_a_cross_text()
+    ensures { CrossTrailingFollowsText }
+{}
+
+/// The first fault of a cross relation's text stands at the first line with which the lines up to it are not admitted.
+pub fn the_cross_fault_ends_the_admitted_lines()
+    ensures { CrossFaultEndsAdmitted }
+{}
+
+/// Lines with which a cross relation's text begins are admitted.
+pub fn a_cross_relations_lines_are_admitted()
+    ensures { CrossLinesAreAdmitted }
+{}
+
+/// There are lines that are admitted although no cross relation's text begins with them.
+pub fn admitted_lines_may_begin_no_cross_text()
+    ensures { CrossEndlessIsAdmitted }
+{}
+
+/// That a cross relation's text ends too soon is told in the line after all whole ones.
+pub fn cross_truncated_stands_at_the_end()
+    ensures { CrossTruncatedAtTheEnd }
+{}
+
+/// The text ends too soon just where all whole lines are admitted and no cross relation's text stands at its beginning.
+pub fn cross_truncated_where_no_line_is_refused()
+    ensures { CrossTruncatedJustWhere }
+{}
+
+/// A wrong heading is told in the first line, which is no cross relation's first line.
+pub fn cross_header_stands_in_line_one()
+    ensures { CrossHeaderInLineOne }
+{}
+
+/// The heading is wrong just where the first line is whole and is no cross relation's first line.
+pub fn a_header_fault_is_no_cross_relations_line()
+    ensures { CrossHeaderJustWhere }
 {}

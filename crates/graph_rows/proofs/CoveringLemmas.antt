@@ -1,76 +1,14 @@
--- Rows with a bit in common, and covering row by row.
-use Rattle.std.proofs.Common.{◌≡◌, ℕ, ◌+◌, ◌<◌, ◌≤◌, ◌↔◌, inl, inr, Bool, true, false, List, sym, ◌∙◌, subst, arith}
-use Rattle.std.proofs.lemmas.Bool.{cases_eq, cases_lt, cases_Bool, false≢true}
-use Rattle.auto_core.specs.Rows.{HasBit}
-use Rattle.auto_core.specs.Graph.{Graph, IsGraph, Covers}
-use Rattle.graph_rows.specs.Covering.{CoversRow}
-
--- Each arc of g out of s to a state below `upto` has its answer.
-pub record CoversUpto (S : ℕ → ℕ → Type 0) (g h : Graph) (s upto : ℕ) : Type 0 where
-  pub joined : (t : ℕ) → t < upto → g.joined s t → (u : ℕ) × h.joined s u × S t u
-  pub past : (t : ℕ) → t < upto → g.past s t → (u : ℕ) × h.past s u × S t u
-
-pub covers_none : (S : ℕ → ℕ → Type 0) (g h : Graph) (s : ℕ) → CoversUpto S g h s 0
-covers_none S g h s = record { joined = λ t below. absurd (omega arith); past = λ t below. absurd (omega arith) }
-
-pub covers_more :
-    (S : ℕ → ℕ → Type 0) (g h : Graph) (s at target : ℕ) (flag : Bool)
-    → IsGraph g
-    → IsGraph h
-    → ((k : ℕ) → at ≤ k → k < target → g.joined s k → ⊥)
-    → (g.past s target → flag ≡ true)
-    → (flag ≡ true → (u : ℕ) × h.past s u × S target u)
-    → (flag ≡ false → (u : ℕ) × h.joined s u × S target u)
-    → CoversUpto S g h s at
-    → CoversUpto S g h s (target + 1)
-covers_more S g h s at target flag is also free flagged marked any c =
-    record {
-      joined = λ t below arc.
-          elim (cases_eq t target) [
-            | inl e ↦
-                let found : (u : ℕ) × h.joined s u × S target u =
-                elim (cases_Bool flag) [
-                  | inl f ↦ let (u, past, rel) = marked f in (u, also s u past, rel)
-                  | inr f ↦ any f
-                ] in
-                subst (λ x. (u : ℕ) × h.joined s u × S x u) (sym e) found
-            | inr n ↦ elim (cases_lt t at) [ inl h ↦ c.joined t h arc | inr k ↦ absurd (free t k (omega arith) arc) ]
-          ];
-      past = λ t below arc.
-          elim (cases_eq t target) [
-            | inl e ↦
-                subst (λ x. (u : ℕ) × h.past s u × S x u) (sym e) (marked (flagged (subst (λ x. g.past s x) e arc)))
-            | inr n ↦ elim (cases_lt t at) [ inl h ↦ c.past t h arc | inr k ↦ absurd (free t k (omega arith) (is s t arc)) ]
-          ];
-    }
-
-pub covers_all :
-    (S : ℕ → ℕ → Type 0) (g h : Graph) (s at : ℕ)
-    → IsGraph g
-    → ((k : ℕ) → at ≤ k → g.joined s k → ⊥)
-    → CoversUpto S g h s at
-    → CoversRow S g h s
-covers_all S g h s at is free c =
-    record {
-      joined = λ t arc. elim (cases_lt t at) [ inl h ↦ c.joined t h arc | inr k ↦ absurd (free t k arc) ];
-      past = λ t arc. elim (cases_lt t at) [ inl h ↦ c.past t h arc | inr k ↦ absurd (free t k (is s t arc)) ];
-    }
-
--- row after row
-pub covers_rows :
-    (S : ℕ → ℕ → Type 0) (g h : Graph) (n : ℕ)
-    → ((s t : ℕ) → g.joined s t → s < n)
-    → ((s t : ℕ) → g.past s t → s < n)
-    → ((s : ℕ) → s < n → CoversRow S g h s)
-    → Covers S g h
-covers_rows S g h n in_joined in_past rows =
-    record {
-      joined = λ s t arc. (rows s (in_joined s t arc)).joined t arc;
-      past = λ s t arc. (rows s (in_past s t arc)).past t arc;
-    }
-
-pub row_of_covers : (S : ℕ → ℕ → Type 0) (g h : Graph) (s : ℕ) → Covers S g h → CoversRow S g h s
-row_of_covers S g h s c = record { joined = c.joined s; past = c.past s }
+-- Rows with a bit in common, and covering word by word.
+use Rattle.std.proofs.Common.{◌≡◌, ℕ, ◌+◌, ◌-◌, ◌*◌, ◌^◌, ◌/◌, ◌%◌, ◌==◌, ◌&&◌, ◌<◌, ◌↔◌, ◌⊎◌, inl, inr, Bool, true, false, List, [], ◌∷◌, get_or, bit_and, min, refl, sym, ap, ◌∙◌, subst, arith, w64}
+use Rattle.std.specs.Int.{bit_at, bit_not}
+use Rattle.std.proofs.lemmas.Bool.{cases_lt, cases_Bool, false≢true}
+use Rattle.std.proofs.lemmas.Bool.Decides.{nat_tests}
+use Rattle.std.proofs.lemmas.Nat.Bits.{bit_at_and, bit_at_not, bit_at-lt}
+use Rattle.std.specs.Int.Bits.{and_lt}
+use Rattle.auto_core.specs.Rows.{HasBit, bit_of}
+use Rattle.auto_core.proofs.BitLemmas.{bit_past}
+use Rattle.row_steps.proofs.WordLemmas.{bit_and_tests}
+use Rattle.graph_rows.specs.Covering.{IsAnswered, AreOwnAnswers}
 
 -- rows that meet, as an arc to a related state
 pub meeting_arcs :
@@ -84,32 +22,94 @@ meeting_arcs P S row other told arcs rels meet = (
   λ (q, arc, rel). meet.1 (q, (arcs q).1 arc, (rels q).1 rel),
 )
 
--- an arc without an answer
-pub row_refused :
-    (S : ℕ → ℕ → Type 0) (g h : Graph) (s target : ℕ) (flag told : Bool)
-    → told ≡ false
-    → (flag ≡ false → (told ≡ true) ↔ ((u : ℕ) × h.joined s u × S target u))
-    → (flag ≡ true → (told ≡ true) ↔ ((u : ℕ) × h.past s u × S target u))
-    → g.joined s target
-    → (flag ≡ true → g.past s target)
-    → CoversRow S g h s
-    → ⊥
-row_refused S g h s target flag told refused any marked arc flagged c =
-    elim (cases_Bool flag) [
-      | inl f ↦ false≢true (sym refused ∙ (marked f).1 (c.past target (flagged f)))
-      | inr f ↦ false≢true (sym refused ∙ (any f).1 (c.joined target arc))
+left_of : (a b : Bool) → (a && b) ≡ true → a ≡ true
+left_of true b e = refl
+left_of false b e = e
+
+right_of : (a b : Bool) → (a && b) ≡ true → b ≡ true
+right_of true b e = e
+right_of false b e = absurd (false≢true e)
+
+-- A bit of a row of one word is one of that word.
+single : (x j : ℕ) → j / 64 ≡ 0 → bit_of (x ∷ []) j ≡ (bit_at x (j % 64) == 1)
+single x j e = ap (λ k. bit_at (get_or (x ∷ []) k 0) (j % 64) == 1) e
+
+pub bit_below : (x j : ℕ) → HasBit (x ∷ []) j → j < 64
+bit_below x j bit = elim (cases_lt j 64) [
+  | inl below ↦ below
+  | inr past ↦ absurd (false≢true (sym (bit_past (x ∷ []) j (omega arith)) ∙ bit))
+]
+
+place_of : (row : List ℕ) (word j : ℕ) → j < 64 → bit_of row (word * 64 + j) ≡ (bit_at (get_or row word 0) (j % 64) == 1)
+place_of row word j below =
+    let at : (word * 64 + j) / 64 ≡ word = omega arith in
+    let bit_is : (word * 64 + j) % 64 ≡ j % 64 = omega arith in
+    ap (λ k. bit_at (get_or row k 0) ((word * 64 + j) % 64) == 1) at ∙ ap (λ k. bit_at (get_or row word 0) k == 1) bit_is
+
+-- The bits of a word of a row, as bits of the row.
+pub bit_in_row : (row : List ℕ) (word j : ℕ) → HasBit (get_or row word 0 ∷ []) j → HasBit row (word * 64 + j)
+bit_in_row row word j bit =
+    let below : j < 64 = bit_below (get_or row word 0) j bit in
+    place_of row word j below ∙ (sym (single (get_or row word 0) j (omega arith)) ∙ bit)
+
+word_has : (row : List ℕ) (word j : ℕ) → j < 64 → HasBit row (word * 64 + j) → HasBit (get_or row word 0 ∷ []) j
+word_has row word j below bit = single (get_or row word 0) j (omega arith) ∙ (sym (place_of row word j below) ∙ bit)
+
+-- Some bits of a word are bits of it.
+pub kept_bit : (x kept j : ℕ) → HasBit (bit_and x kept ∷ []) j → HasBit (x ∷ []) j
+kept_bit x kept j bit =
+    let below : j < 64 = bit_below (bit_and x kept) j bit in
+    let e : j / 64 ≡ 0 = omega arith in
+    single x j e ∙ left_of (bit_at x (j % 64) == 1) (bit_at kept (j % 64) == 1) (sym (bit_and_tests x kept (j % 64)) ∙ (sym (single (bit_and x kept) j e) ∙ bit))
+
+one_of_min : (a b : ℕ) → a < 2 → b < 2 → (a == 1) ≡ true → (b == 1) ≡ false → (min a (1 - b) == 1) ≡ true
+one_of_min a b a_bit b_bit one none = grind (arith, nat_tests)
+
+-- A bit of x is left where those of both y and z are taken away, or it is one of these.
+left_or_taken :
+    (x y z j : ℕ)
+    → y < 2 ^ 64
+    → z < 2 ^ 64
+    → j < 64
+    → HasBit (x ∷ []) j
+    → HasBit (bit_and x (bit_not w64 (bit_and y z)) ∷ []) j ⊎ (HasBit (y ∷ []) j × HasBit (z ∷ []) j)
+left_or_taken x y z j y_fits z_fits below bit =
+    let e : j / 64 ≡ 0 = omega arith in
+    let k : ℕ = j % 64 in
+    let near : k < 64 = omega arith in
+    let taken : ℕ = bit_and y z in
+    let fits : taken < 2 ^ 64 = and_lt 64 y z y_fits z_fits in
+    let own : (bit_at x k == 1) ≡ true = sym (single x j e) ∙ bit in
+    elim (cases_Bool (bit_at taken k == 1)) [
+      | inl gone ↦
+          let both : ((bit_at y k == 1) && (bit_at z k == 1)) ≡ true = sym (bit_and_tests y z k) ∙ gone in
+          inr (single y j e ∙ left_of (bit_at y k == 1) (bit_at z k == 1) both, single z j e ∙ right_of (bit_at y k == 1) (bit_at z k == 1) both)
+      | inr stays ↦
+          inl
+          (single (bit_and x (bit_not w64 taken)) j e
+          ∙ ap (λ v. v == 1) (bit_at_and x (bit_not w64 taken) k ∙ ap (λ v. min (bit_at x k) v) (bit_at_not w64 taken k fits near))
+          ∙ one_of_min (bit_at x k) (bit_at taken k) (bit_at-lt x k) (bit_at-lt taken k) own stays)
     ]
 
--- one row more
-pub covers_row_more :
-    (S : ℕ → ℕ → Type 0) (g h : Graph) (row : ℕ)
-    → ((s : ℕ) → s < row → CoversRow S g h s)
-    → CoversRow S g h row
-    → (s : ℕ)
-    → s < row + 1
-    → CoversRow S g h s
-covers_row_more S g h row before here s below =
-    elim (cases_eq s row) [
-      | inl e ↦ subst (λ x. CoversRow S g h x) (sym e) here
-      | inr n ↦ before s (omega arith)
-    ]
+-- Each bit of the word of a row has an answer, if those have one that are not both among the others and answers of themselves.
+pub word_answered :
+    (S : ℕ → ℕ → Type 0) (targets others : List ℕ) (word themselves : ℕ)
+    → get_or others word 0 < 2 ^ 64
+    → themselves < 2 ^ 64
+    → AreOwnAnswers S word themselves
+    → ((j : ℕ) → HasBit (bit_and (get_or targets word 0) (bit_not w64 (bit_and (get_or others word 0) themselves)) ∷ []) j → IsAnswered S (HasBit others) (word * 64 + j))
+    → (t : ℕ)
+    → t / 64 ≡ word
+    → HasBit targets t
+    → IsAnswered S (HasBit others) t
+word_answered S targets others word themselves fits own_fits own rest t in_word bit =
+    let j : ℕ = t % 64 in
+    let below : j < 64 = omega arith in
+    let is : t ≡ word * 64 + j = omega (arith, in_word) in
+    let here : HasBit (get_or targets word 0 ∷ []) j = word_has targets word j below (subst (λ k. HasBit targets k) is bit) in
+    let answer : IsAnswered S (HasBit others) (word * 64 + j) =
+    elim (left_or_taken (get_or targets word 0) (get_or others word 0) themselves j fits own_fits below here) [
+      | inl left ↦ rest j left
+      | inr (other, itself) ↦ (word * 64 + j, bit_in_row others word j other, own j itself)
+    ] in
+    subst (λ k. IsAnswered S (HasBit others) k) (sym is) answer

@@ -35,6 +35,17 @@ through_more From at middle C D from here none q is = (
       ],
 )
 
+pub through_skip :
+    (From : ℕ → Type 0) (at upto : ℕ) (C : ℕ → ℕ → Type 0)
+    → at ≤ upto
+    → ((k : ℕ) → at ≤ k → k < upto → From k → ⊥)
+    → (q : ℕ)
+    → Through From at C q ↔ Through From upto C q
+through_skip From at upto C from none q = (
+  λ (m, below, j, c). (m, omega arith, j, c),
+  λ (m, below, j, c). elim (cases_lt m at) [ inl h ↦ (m, h, j, c) | inr h ↦ absurd (none m h below j) ],
+)
+
 pub through_all :
     (From : ℕ → Type 0) (at : ℕ) (C : ℕ → ℕ → Type 0)
     → ((k : ℕ) → at ≤ k → From k → ⊥)

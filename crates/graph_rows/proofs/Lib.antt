@@ -6,3 +6,5 @@ pub mod SameLemmas
 pub mod ArcLemmas
 pub mod CoveringLemmas
 pub mod PrintLemmas
+pub mod UnionLemmas
+pub mod StepLemmas

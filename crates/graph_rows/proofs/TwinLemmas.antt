@@ -1,10 +1,10 @@
 -- Rows of a table that are the same, and what extends them.
-use Rattle.std.proofs.Common.{◌≡◌, ℕ, ◌+◌, ◌*◌, ◌/◌, ◌%◌, ◌<◌, ◌≤◌, ◌↔◌, ◌⊎◌, ◌==◌, inl, inr, List, length, get_or, sym, ap, ◌∙◌, subst, arith}
+use Rattle.std.proofs.Common.{◌≡◌, ℕ, ◌+◌, ◌*◌, ◌/◌, ◌%◌, ◌<◌, ◌≤◌, ◌↔◌, ◌==◌, inl, inr, List, get_or, sym, ap, ◌∙◌, arith}
 use Rattle.std.specs.Int.{bit_at}
 use Rattle.std.proofs.lemmas.Bool.{false≢true}
 use Rattle.std.proofs.lemmas.Nat.{row_fits}
 use Rattle.auto_core.specs.Automaton.{Automaton}
-use Rattle.auto_core.specs.Rows.{HasCell, cell_of}
+use Rattle.auto_core.specs.Rows.{cell_of}
 use Rattle.auto_core.specs.Reach.{Arc}
 use Rattle.auto_core.specs.Graph.{extended, graph_of_tables}
 use Rattle.auto_core.proofs.CellLemmas.{cell_at}

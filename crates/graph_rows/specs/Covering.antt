@@ -1,11 +1,22 @@
--- Covering, row by row.
-use Rattle.std.specs.Prelude.{ℕ}
-use Rattle.auto_core.specs.Graph.{Graph}
+-- Covering, arc by arc.
+use Rattle.std.specs.Prelude.{◌≡◌, ℕ, ◌+◌, ◌*◌, ◌/◌, [], ◌∷◌}
+use Rattle.auto_core.specs.Rows.{HasBit}
 
--- Each arc of g out of s has in h an arc out of s, of at least its value, to some state that S relates its end to.
-pub record CoversRow (S : ℕ → ℕ → Type 0) (g h : Graph) (s : ℕ) : Type 0 where
-  pub joined : (t : ℕ) → g.joined s t → (u : ℕ) × h.joined s u × S t u
-  pub past : (t : ℕ) → g.past s t → (u : ℕ) × h.past s u × S t u
+-- An arc to t has an answer among the states of Q: one that S relates t to.
+abbrev pub IsAnswered : (ℕ → ℕ → Type 0) → (ℕ → Type 0) → ℕ → Type 0
+IsAnswered S Q t = (u : ℕ) × Q u × S t u
+
+-- Each arc of R has an answer in Q, from the same state.
+abbrev pub AnswersArcs : (ℕ → ℕ → Type 0) → (ℕ → ℕ → Type 0) → (ℕ → ℕ → Type 0) → Type 0
+AnswersArcs S R Q = (s t : ℕ) → R s t → IsAnswered S (Q s) t
+
+-- Each arc of R to a state of the word with this number, 64 states to a word, has an answer in Q.
+abbrev pub AnswersWord : (ℕ → ℕ → Type 0) → (ℕ → ℕ → Type 0) → (ℕ → ℕ → Type 0) → ℕ → Type 0
+AnswersWord S R Q word = (s t : ℕ) → t / 64 ≡ word → R s t → IsAnswered S (Q s) t
+
+-- The bits are of states of the word that S relates to themselves.
+abbrev pub AreOwnAnswers : (ℕ → ℕ → Type 0) → ℕ → ℕ → Type 0
+AreOwnAnswers S word bits = (j : ℕ) → HasBit (bits ∷ []) j → S (word * 64 + j) (word * 64 + j)
 
 -- An arc of R out of s has no answer in Q: no arc of Q out of s leads to a state that S relates its end to.
 pub record LacksAnswer (S R Q : ℕ → ℕ → Type 0) (s : ℕ) : Type 0 where

@@ -16,17 +16,17 @@ abbrev pub is_past : ℕ → Bool
 is_past j = j % 2 == 1
 
 -- The pairs of the graph that are joined, or those joined past an accepting state.
-abbrev pub pairs_of : Graph → Bool → ℕ → ℕ → Type 0
-pairs_of g false s t = g.joined s t
-pairs_of g true s t = g.past s t
+abbrev pub joined_pairs : Graph → Bool → ℕ → ℕ → Type 0
+joined_pairs g false s t = g.joined s t
+joined_pairs g true s t = g.past s t
 
 -- The bits of `own` are of pairs that the graph has, and the bits that `answered` has not are of pairs that it has no answer to: none
 -- from the same state to a state that S relates the target to.
 abbrev pub HasOwn : ℕ → Graph → ℕ → Type 0
-HasOwn n g own = (j : ℕ) → HasBit (own ∷ []) j → pairs_of g (is_past j) (picked_source n j) (picked_target n j)
+HasOwn n g own = (j : ℕ) → HasBit (own ∷ []) j → joined_pairs g (is_past j) (picked_source n j) (picked_target n j)
 
 abbrev pub HasAnswered : ℕ → (ℕ → ℕ → Type 0) → Graph → ℕ → Type 0
-HasAnswered n S g answered = (j u : ℕ) → j < 64 → bit_of (answered ∷ []) j ≡ false → pairs_of g (is_past j) (picked_source n j) u → S (picked_target n j) u → ⊥
+HasAnswered n S g answered = (j u : ℕ) → j < 64 → bit_of (answered ∷ []) j ≡ false → joined_pairs g (is_past j) (picked_source n j) u → S (picked_target n j) u → ⊥
 
 pub record IsPrint (n : ℕ) (S : ℕ → ℕ → Type 0) (block : List ℕ) (print : Print) : Type 0 where
   pub own : HasOwn n (block_graph n block) print.own

@@ -1,12 +1,12 @@
 //! When one graph covers another.
 
-ghost use Rattle.std.specs.Prelude.{◌≡◌, ◌*◌, ◌+◌, ◌/◌, ◌^◌, ◌<◌, ◌≤◌, ◌↔◌, ℕ, true, false, length, IsTrue};
-ghost use Rattle.auto_core.specs.Rows.{HasBit, HasCell};
+ghost use Rattle.std.specs.Prelude.{◌≡◌, ◌*◌, ◌+◌, ◌/◌, ◌^◌, ◌<◌, ◌≤◌, ◌↔◌, ℕ, [], ◌∷◌, true, false, length, IsTrue};
+ghost use Rattle.auto_core.specs.Rows.{HasBit};
 ghost use Rattle.auto_core.specs.Reach.{IsTable, Arc};
 ghost use Rattle.auto_core.specs.Game.{Holds};
-ghost use Rattle.auto_core.specs.Graph.{Covers, IsGraph, graph_of_tables};
+ghost use Rattle.auto_core.specs.Graph.{Covers};
 ghost use Rattle.graph_rows.specs.Block.{width_of, block_graph, IsFormed};
-ghost use Rattle.graph_rows.specs.Covering.{CoversRow, LacksAnswer};
+ghost use Rattle.graph_rows.specs.Covering.{AnswersArcs, AnswersWord, AreOwnAnswers, IsAnswered, LacksAnswer};
 
 use crate::block;
 use auto_core::rows;
@@ -38,48 +38,6 @@ pub(crate) fn answers(
     } else {
         meets(rows::row_at(joined, width, row as usize), wanted)
     }
-}
-
-/// Tells whether each arc out of the state of the row in the first graph has one of at least its value in the second, to some state
-/// that the order relates its target to.
-fn covers_row(
-    order: &Rel,
-    width: usize,
-    row: u32,
-    joined: &[u64],
-    past: &[u64],
-    other_joined: &[u64],
-    other_past: &[u64],
-) -> bool
-    requires width { width ≡ width_of order.now.size }
-    requires states_fit { order.now.size < 2 ^ 32 }
-    requires is_row { row < order.now.size }
-    requires joined { IsTable joined.now order.now.size width }
-    requires past { IsTable past.now order.now.size width }
-    requires other_joined { IsTable other_joined.now order.now.size width }
-    requires other_past { IsTable other_past.now order.now.size width }
-    requires within { IsGraph (graph_of_tables joined.now past.now order.now.size width) }
-    requires other_within { IsGraph (graph_of_tables other_joined.now other_past.now order.now.size width) }
-    ensures { IsTrue result ↔ CoversRow (Holds order.now.pairs) (graph_of_tables joined.now past.now order.now.size width) (graph_of_tables other_joined.now other_past.now order.now.size width) row }
-{
-    let targets = rows::row_at(joined, width, row as usize);
-    let mut at = 0;
-    while let Some(target) = next_bit(targets, at) {
-        let flagged = rows::has_cell(past, width, row as usize, target);
-        if !answers(
-            order,
-            width,
-            row,
-            target as u32,
-            flagged,
-            other_joined,
-            other_past,
-        ) {
-            return false;
-        }
-        at = target + 1;
-    }
-    true
 }
 
 /// Tells whether the first arc out of the state of the row that the second graph has not, has no answer in it either.
@@ -138,6 +96,94 @@ fn is_refused(order: &Rel, g: &[u64], h: &[u64]) -> bool
     false
 }
 
+/// Tells whether each of these targets, the bits of a word, has an answer among the others.
+fn are_answered(order: &Rel, word: usize, targets: u64, others: &[u64]) -> bool
+    requires states_fit { order.now.size < 2 ^ 32 }
+    requires width { length others.now ≡ width_of order.now.size }
+    requires states { (j : ℕ) → HasBit (targets ∷ []) j → word * 64 + j < order.now.size }
+    ensures { IsTrue result ↔ ((j : ℕ) → HasBit (targets ∷ []) j → IsAnswered (Holds order.now.pairs) (HasBit others.now) (word * 64 + j)) }
+{
+    let row = [targets];
+    let mut at = 0;
+    while let Some(bit) = next_bit(&row, at) {
+        if !meets(others, order.row((word * 64 + bit) as u32)) {
+            return false;
+        }
+        at = bit + 1;
+    }
+    true
+}
+
+/// Tells whether the number is of a state that the order relates to itself.
+fn answers_itself(order: &Rel, state: u64) -> bool
+    requires states_fit { order.now.size < 2 ^ 32 }
+    ensures { result ≡ true → Holds order.now.pairs state state }
+{
+    state < order.size() as u64 && order.get(state as u32, state as u32)
+}
+
+/// Sets the bits of the states of the word that the order relates to themselves.
+fn mark_own_answers(order: &Rel, word: usize, row: &mut [u64])
+    requires word { word < 2 ^ 32 }
+    requires states_fit { order.now.size < 2 ^ 32 }
+    requires none { row.old ≡ 0 ∷ [] }
+    ensures { (x : ℕ) → row.new ≡ x ∷ [] → AreOwnAnswers (Holds order.now.pairs) word x }
+{
+    for j in 0..64 {
+        if answers_itself(order, word as u64 * 64 + j as u64) {
+            rows::set_bit(row, j);
+        }
+    }
+}
+
+/// The states of the word that the order relates to themselves: an arc to one of them answers itself.
+fn own_answers(order: &Rel, word: usize) -> u64
+    requires word { word < 2 ^ 32 }
+    requires states_fit { order.now.size < 2 ^ 32 }
+    ensures { AreOwnAnswers (Holds order.now.pairs) word result }
+{
+    let mut row = [0];
+    mark_own_answers(order, word, &mut row);
+    row[0]
+}
+
+/// Tells whether each arc of the one table to a target of the word has an answer in the other table.
+fn is_word_answered(order: &Rel, width: usize, word: usize, own: &[u64], others: &[u64]) -> bool
+    requires width { width ≡ width_of order.now.size }
+    requires states_fit { order.now.size < 2 ^ 32 }
+    requires word { word < width }
+    requires own { IsTable own.now order.now.size width }
+    requires others { IsTable others.now order.now.size width }
+    ensures { IsTrue result ↔ AnswersWord (Holds order.now.pairs) (Arc own.now order.now.size width) (Arc others.now order.now.size width) word }
+{
+    let themselves = own_answers(order, word);
+    for row in 0..order.size() {
+        let targets = rows::row_at(own, width, row as usize)[word];
+        let other_targets = rows::row_at(others, width, row as usize);
+        let unsure = targets & !(other_targets[word] & themselves);
+        if !are_answered(order, word, unsure, other_targets) {
+            return false;
+        }
+    }
+    true
+}
+
+/// Tells whether each arc of the one table has an answer in the other table.
+fn is_table_answered(order: &Rel, own: &[u64], others: &[u64]) -> bool
+    requires states_fit { order.now.size < 2 ^ 32 }
+    requires own { IsTable own.now order.now.size (width_of order.now.size) }
+    requires others { IsTable others.now order.now.size (width_of order.now.size) }
+    ensures { IsTrue result ↔ AnswersArcs (Holds order.now.pairs) (Arc own.now order.now.size (width_of order.now.size)) (Arc others.now order.now.size (width_of order.now.size)) }
+{
+    let width = rows::words_for(order.size());
+    for word in 0..width {
+        if !is_word_answered(order, width, word, own, others) {
+            return false;
+        }
+    }
+    true
+}
+
 /// Tells whether each arc of `g` has in `h` an arc from the same state, of at least its value, to some state that the order relates
 /// its target to.
 pub fn covers(order: &Rel, g: &[u64], h: &[u64]) -> bool
@@ -149,19 +195,6 @@ pub fn covers(order: &Rel, g: &[u64], h: &[u64]) -> bool
         return false;
     }
     let states = order.size();
-    let width = rows::words_for(states);
-    for row in 0..states {
-        if !covers_row(
-            order,
-            width,
-            row,
-            block::joined(states, g),
-            block::past(states, g),
-            block::joined(states, h),
-            block::past(states, h),
-        ) {
-            return false;
-        }
-    }
-    true
+    is_table_answered(order, block::joined(states, g), block::joined(states, h))
+        && is_table_answered(order, block::past(states, g), block::past(states, h))
 }

@@ -3,12 +3,13 @@
 ghost use Rattle.std.specs.Prelude.{◌≡◌, ◌+◌, ◌*◌, ◌^◌, ◌<◌, ◌≤◌, ◌⊎◌, ◌↔◌, ℕ, true, length};
 ghost use Rattle.auto_core.specs.Automaton.{Moves, IsAccepting};
 ghost use Rattle.auto_core.specs.Rows.{HasBit, cell_of};
-ghost use Rattle.auto_core.specs.Reach.{IsTable};
+ghost use Rattle.auto_core.specs.Reach.{IsTable, Arc};
 ghost use Rattle.auto_core.specs.Graph.{IsGraph, SameGraph, graph_of_tables, letter_graph, extended};
 ghost use Rattle.graph_rows.specs.Block.{width_of, block_graph, IsFormed};
-ghost use Rattle.graph_rows.specs.Added.{HasAdded};
+ghost use Rattle.graph_rows.specs.Added.{HasAdded, FollowsFrom, IsUnmarked};
 
 use crate::block;
+use crate::unions::add_union;
 use auto_core::{Auto, rows};
 use row_steps::next_bit;
 
@@ -64,38 +65,12 @@ fn add_moves(
     }
 }
 
-/// The states that a move with the label leads to from `from`, as a row: all of them if the way to there passes an accepting state, as
-/// `flagged` tells, else the accepting ones.
-fn marked_moves<'a>(
-    automaton: &Auto,
-    label: u32,
-    from: u32,
-    flagged: bool,
-    width: usize,
-    letter_joined: &'a [u64],
-    letter_past: &'a [u64],
-) -> &'a [u64]
-    requires is_state { from < automaton.now.states }
-    requires letter_joined { IsTable letter_joined.now automaton.now.states width }
-    requires letter_past { IsTable letter_past.now automaton.now.states width }
-    requires letter { SameGraph (graph_of_tables letter_joined.now letter_past.now automaton.now.states width) (letter_graph automaton.now label) }
-    ensures len { length result.now ≡ width }
-    ensures bits { (q : ℕ) → HasBit result.now q ↔ (Moves automaton.now from label q × ((flagged ≡ true) ⊎ IsAccepting automaton.now q)) }
-{
-    if flagged {
-        rows::row_at(letter_joined, width, from as usize)
-    } else {
-        rows::row_at(letter_past, width, from as usize)
-    }
-}
-
-/// Joins the state of the row to each state that a move with the label leads to from `from`, by the graph of the letter; `flagged`
-/// tells whether the way to there passes an accepting state.
+/// Joins the state of the row to each state that a move with the label leads to from `from`, by the graph of the letter; past an
+/// accepting state if the target is one.
 fn add_step(
     automaton: &Auto,
     label: u32,
     from: u32,
-    flagged: bool,
     width: usize,
     row: u32,
     letter_joined: &[u64],
@@ -111,23 +86,77 @@ fn add_step(
     requires joined_len { length joined.old ≡ automaton.now.states * width }
     requires past_len { length past.old ≡ automaton.now.states * width }
     ensures joined { HasAdded width row (λ q. Moves automaton.now from label q) joined.old joined.new }
-    ensures past { HasAdded width row (λ q. Moves automaton.now from label q × ((flagged ≡ true) ⊎ IsAccepting automaton.now q)) past.old past.new }
+    ensures past { HasAdded width row (λ q. Moves automaton.now from label q × IsAccepting automaton.now q) past.old past.new }
 {
     let moves = rows::row_at(letter_joined, width, from as usize);
     rows::or_row(joined, width, row as usize, moves);
-    let marked = marked_moves(
-        automaton,
-        label,
-        from,
-        flagged,
-        width,
-        letter_joined,
-        letter_past,
-    );
+    let marked = rows::row_at(letter_past, width, from as usize);
     rows::or_row(past, width, row as usize, marked);
 }
 
-/// Extends the arcs out of the state of the row by the moves with the label.
+/// Tells whether the second row, of the same length, has all bits of the first.
+fn are_within(row: &[u64], other: &[u64]) -> bool
+    requires equal { length row.now ≡ length other.now }
+    requires few { length row.now < 2 ^ 32 }
+    ensures { result ≡ true → (q : ℕ) → HasBit row.now q → HasBit other.now q }
+{
+    match rows::first_missing(row, other) {
+        Some(_) => false,
+        None => true,
+    }
+}
+
+/// Extends by the moves with the label those arcs out of the state of the row that do not pass an accepting state.
+fn add_unmarked(
+    automaton: &Auto,
+    label: u32,
+    width: usize,
+    row: u32,
+    from_joined: &[u64],
+    from_past: &[u64],
+    letter_joined: &[u64],
+    letter_past: &[u64],
+    joined: &mut [u64],
+    past: &mut [u64],
+)
+    requires few { width < 2 ^ 32 }
+    requires states_fit { automaton.now.states < 2 ^ 32 }
+    requires is_row { row < automaton.now.states }
+    requires from_joined { IsTable from_joined.now automaton.now.states width }
+    requires from_past { IsTable from_past.now automaton.now.states width }
+    requires letter_joined { IsTable letter_joined.now automaton.now.states width }
+    requires letter_past { IsTable letter_past.now automaton.now.states width }
+    requires letter { SameGraph (graph_of_tables letter_joined.now letter_past.now automaton.now.states width) (letter_graph automaton.now label) }
+    requires joined_len { length joined.old ≡ automaton.now.states * width }
+    requires past_len { length past.old ≡ automaton.now.states * width }
+    ensures joined { HasAdded width row
+        (FollowsFrom (IsUnmarked (Arc from_joined.now automaton.now.states width row) (cell_of from_past.now width row)) (λ m q. Moves automaton.now m label q))
+        joined.old joined.new }
+    ensures past { HasAdded width row
+        (FollowsFrom (IsUnmarked (Arc from_joined.now automaton.now.states width row) (cell_of from_past.now width row)) (λ m q. Moves automaton.now m label q × IsAccepting automaton.now q))
+        past.old past.new }
+{
+    let reached = rows::row_at(from_joined, width, row as usize);
+    let mut at = 0;
+    while let Some(middle) = next_bit(reached, at) {
+        if !rows::has_cell(from_past, width, row as usize, middle) {
+            add_step(
+                automaton,
+                label,
+                middle as u32,
+                width,
+                row,
+                letter_joined,
+                letter_past,
+                joined,
+                past,
+            );
+        }
+        at = middle + 1;
+    }
+}
+
+/// Extends the arcs out of the state of the row by the moves with the label: first those past an accepting state, then the others.
 fn add_row(
     automaton: &Auto,
     label: u32,
@@ -154,24 +183,24 @@ fn add_row(
     ensures joined { HasAdded width row ((extended automaton.now (graph_of_tables from_joined.now from_past.now automaton.now.states width) label).joined row) joined.old joined.new }
     ensures past { HasAdded width row ((extended automaton.now (graph_of_tables from_joined.now from_past.now automaton.now.states width) label).past row) past.old past.new }
 {
-    let reached = rows::row_at(from_joined, width, row as usize);
-    let mut at = 0;
-    while let Some(middle) = next_bit(reached, at) {
-        let flagged = rows::has_cell(from_past, width, row as usize, middle);
-        add_step(
-            automaton,
-            label,
-            middle as u32,
-            flagged,
-            width,
-            row,
-            letter_joined,
-            letter_past,
-            joined,
-            past,
-        );
-        at = middle + 1;
+    let states = automaton.states();
+    let marked = rows::row_at(from_past, width, row as usize);
+    add_union(letter_joined, states, width, marked, row, joined, past);
+    if are_within(rows::row_at(from_joined, width, row as usize), marked) {
+        return;
     }
+    add_unmarked(
+        automaton,
+        label,
+        width,
+        row,
+        from_joined,
+        from_past,
+        letter_joined,
+        letter_past,
+        joined,
+        past,
+    );
 }
 
 fn write_letter(automaton: &Auto, label: u32, width: usize, joined: &mut [u64], past: &mut [u64])

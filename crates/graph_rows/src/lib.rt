@@ -6,6 +6,7 @@ mod block;
 mod covering;
 mod letters;
 mod prints;
+mod unions;
 
 pub use block::{arc, joined, past, same, words_of};
 pub use covering::covers;

@@ -3,7 +3,7 @@
 ghost use Rattle.std.specs.Prelude.{◌≡◌, ◌<◌, ◌≤◌, ℕ, [], ◌∷◌, true, false};
 ghost use Rattle.auto_core.specs.Game.{Holds};
 ghost use Rattle.graph_rows.specs.Block.{block_graph, IsFormed};
-ghost use Rattle.graph_rows.specs.Prints.{HasAnswered, HasOwn, IsPrint, Misses, is_past, pairs_of, picked_source, picked_target};
+ghost use Rattle.graph_rows.specs.Prints.{HasAnswered, HasOwn, IsPrint, Misses, is_past, joined_pairs, picked_source, picked_target};
 
 use crate::block;
 use crate::covering::answers;
@@ -40,7 +40,7 @@ fn has_picked(order: &Rel, g: &[u64], j: u32) -> bool
     requires formed { IsFormed order.now.size g.now }
     requires some { 1 ≤ order.now.size }
     requires few { j < 64 }
-    ensures { result ≡ true → pairs_of (block_graph order.now.size g.now) (is_past j) (picked_source order.now.size j) (picked_target order.now.size j) }
+    ensures { result ≡ true → joined_pairs (block_graph order.now.size g.now) (is_past j) (picked_source order.now.size j) (picked_target order.now.size j) }
 {
     let n = order.size();
     let value = block::arc(n, g, source_of(n, j), target_of(n, j));
@@ -52,7 +52,7 @@ fn answers_picked(order: &Rel, g: &[u64], j: u32) -> bool
     requires formed { IsFormed order.now.size g.now }
     requires some { 1 ≤ order.now.size }
     requires few { j < 64 }
-    ensures { result ≡ false → (u : ℕ) → pairs_of (block_graph order.now.size g.now) (is_past j) (picked_source order.now.size j) u → Holds order.now.pairs (picked_target order.now.size j) u → ⊥ }
+    ensures { result ≡ false → (u : ℕ) → joined_pairs (block_graph order.now.size g.now) (is_past j) (picked_source order.now.size j) u → Holds order.now.pairs (picked_target order.now.size j) u → ⊥ }
 {
     let n = order.size();
     answers(

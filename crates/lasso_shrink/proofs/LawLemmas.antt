@@ -6,7 +6,7 @@ use Rattle.std.proofs.lemmas.List.Elements.{Contains-append_left, Contains-appen
 use Rattle.auto_core.specs.Accept.{SeparatesWord}
 use Rattle.auto_core.specs.declared.parts.Lasso.{Lasso}
 use Rattle.lasso_shrink.specs.Shrinking.{word_without, letters_of, lasso_without, LassoSeparates}
-use Rattle.lasso_shrink.specs.Laws.{ShrunkLassoIsOne, ShrunkWordIsOne, ShrunkLassoHasItsLetters, ShrunkWordHasItsLetters}
+use Rattle.lasso_shrink.specs.Laws.{ShrunkLassoIsOne, ShrunkWordIsOne, ShrinkingALassoAddsNoLetter, ShrinkingAWordAddsNoLetter}
 use Rattle.lasso_shrink.proofs.LeavingLemmas.{shrunk_one, shrunk_keeps}
 
 pub shrunk_lasso_is_one : ShrunkLassoIsOne
@@ -31,12 +31,12 @@ from_lasso lasso now k a has = go (nat_lt k (length now.prefix))
     go true = (λ h. has.0 (from_word now.prefix k a h), has.1)
     go false = (has.0, λ h. has.1 (from_word now.turn (k - length now.prefix) a h))
 
-pub shrunk_lasso_has_its_letters : ShrunkLassoHasItsLetters
-shrunk_lasso_has_its_letters A B lasso left a is =
+pub shrinking_a_lasso_adds_no_letter : ShrinkingALassoAddsNoLetter
+shrinking_a_lasso_adds_no_letter A B lasso left a is =
     shrunk_keeps (LassoSeparates A B) letters_of lasso_without (HasItsLetters lasso a)
     (λ now next one has. subst (HasItsLetters lasso a) (sym one.is) (from_lasso lasso now one.place a has)) lasso left is (λ h. h, λ h. h)
 
-pub shrunk_word_has_its_letters : ShrunkWordHasItsLetters
-shrunk_word_has_its_letters A B word left a is =
+pub shrinking_a_word_adds_no_letter : ShrinkingAWordAddsNoLetter
+shrinking_a_word_adds_no_letter A B word left a is =
     shrunk_keeps (SeparatesWord A B) length word_without (λ now. Contains now a → Contains word a)
     (λ now next one has. subst (λ l. Contains l a → Contains word a) (sym one.is) (λ h. has (from_word now one.place a h))) word left is (λ h. h)

@@ -12,7 +12,7 @@ use Rattle.auto_core.proofs.MoveLemmas.{move_in_range}
 use Rattle.lasso_accept.specs.Looping.{AcceptsLassoFrom}
 use Rattle.lasso_accept.proofs.LoopingLemmas.{accepts_after_move}
 use Rattle.set_rows.specs.Sets.{IsRow}
-use Rattle.lasso_shrink.specs.Leaving.{LeavesOne, LeavesOut}
+use Rattle.lasso_shrink.specs.Leaving.{LeavesOutFirst, LeavesOut}
 use Rattle.lasso_shrink.specs.Shrinking.{word_without, letters_of, lasso_without, LassoSeparates}
 use Rattle.lasso_shrink.specs.Prefixes.{IsFront, IsFirstPlace, AreRestsFrom}
 
@@ -85,14 +85,14 @@ lasso_shorter l k h = go (nat_lt k (length l.prefix)) (cases_lt k (length l.pref
       let s = word_shorter l.turn (k - length l.prefix) (omega arith) in
       omega (arith, e, s)
 
-pub leaves_fewer : (P : Lasso → Type 0) (x y : Lasso) → LeavesOne P letters_of lasso_without x y → letters_of y + 1 ≡ letters_of x
+pub leaves_fewer : (P : Lasso → Type 0) (x y : Lasso) → LeavesOutFirst P letters_of lasso_without x y → letters_of y + 1 ≡ letters_of x
 leaves_fewer P x y one =
     let e = ap letters_of one.is in
     let s = lasso_shorter x one.place one.within in
     omega (arith, e, s)
 
 -- The first place of the prefix that can go is the first of all.
-pub place_leaves : (A B : Automaton) (l : Lasso) (k : ℕ) → IsFirstPlace A B l k → LeavesOne (LassoSeparates A B) letters_of lasso_without l (lasso_without l k)
+pub place_leaves : (A B : Automaton) (l : Lasso) (k : ℕ) → IsFirstPlace A B l k → LeavesOutFirst (LassoSeparates A B) letters_of lasso_without l (lasso_without l k)
 place_leaves A B l k p = record {
   place = k;
   within = let h = p.within in omega (arith, h);

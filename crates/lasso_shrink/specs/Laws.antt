@@ -13,12 +13,12 @@ abbrev pub ShrunkWordIsOne : Type 0
 ShrunkWordIsOne = (A B : Automaton) (word one two : List ℕ) → IsShrunkWord A B word one → IsShrunkWord A B word two → one ≡ two
 
 -- The letters that are left of a lasso are its own, in the prefix and in the loop.
-abbrev pub ShrunkLassoHasItsLetters : Type 0
-ShrunkLassoHasItsLetters =
+abbrev pub ShrinkingALassoAddsNoLetter : Type 0
+ShrinkingALassoAddsNoLetter =
     (A B : Automaton) (lasso left : Lasso) (a : ℕ)
     → IsShrunkLasso A B lasso left
     → (Contains left.prefix a → Contains lasso.prefix a) × (Contains left.turn a → Contains lasso.turn a)
 
 -- The letters that are left of a word are its own.
-abbrev pub ShrunkWordHasItsLetters : Type 0
-ShrunkWordHasItsLetters = (A B : Automaton) (word left : List ℕ) (a : ℕ) → IsShrunkWord A B word left → Contains left a → Contains word a
+abbrev pub ShrinkingAWordAddsNoLetter : Type 0
+ShrinkingAWordAddsNoLetter = (A B : Automaton) (word left : List ℕ) (a : ℕ) → IsShrunkWord A B word left → Contains left a → Contains word a

@@ -3,7 +3,7 @@
 use Rattle.std.specs.Prelude.{◌≡◌, ℕ, zero, suc, ◌<◌}
 
 -- Without some letter x still has the property: y is what is left without the first such letter.
-pub record LeavesOne {X : Type 0} (P : X → Type 0) (size : X → ℕ) (without : X → ℕ → X) (x y : X) : Type 0 where
+pub record LeavesOutFirst {X : Type 0} (P : X → Type 0) (size : X → ℕ) (without : X → ℕ → X) (x y : X) : Type 0 where
   pub place : ℕ
   pub within : place < size x
   pub is : y ≡ without x place
@@ -13,7 +13,7 @@ pub record LeavesOne {X : Type 0} (P : X → Type 0) (size : X → ℕ) (without
 -- n letters are left out so, one after the other.
 abbrev pub LeavesOut : {X : Type 0} → (X → Type 0) → (X → ℕ) → (X → ℕ → X) → ℕ → X → X → Type 0
 LeavesOut P size without zero x y = x ≡ y
-LeavesOut {X} P size without (suc n) x y = (z : X) × LeavesOut P size without n x z × LeavesOne P size without z y
+LeavesOut {X} P size without (suc n) x y = (z : X) × LeavesOut P size without n x z × LeavesOutFirst P size without z y
 
 -- Without any single letter x has the property no more.
 abbrev pub NeedsEach : {X : Type 0} → (X → Type 0) → (X → ℕ) → (X → ℕ → X) → X → Type 0

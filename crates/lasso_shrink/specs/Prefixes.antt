@@ -38,7 +38,7 @@ pub record IsFirstPlace (A B : Automaton) (l : Lasso) (place : ℕ) : Type 0 whe
   pub first : (k : ℕ) → k < place → LassoSeparates A B (lasso_without l k) → ⊥
 
 -- Letters of the prefix are left out, each the first that can go, until none can go.
-pub record HasLeftOut (A B : Automaton) (l left : Lasso) : Type 0 where
+pub record PrefixIsShrunk (A B : Automaton) (l left : Lasso) : Type 0 where
   pub letters : ℕ
   pub left_out : LeavesOut (LassoSeparates A B) letters_of lasso_without letters l left
   pub separates : LassoSeparates A B left

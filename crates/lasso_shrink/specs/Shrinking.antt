@@ -3,7 +3,7 @@ use Rattle.std.specs.Prelude.{ℕ, ◌+◌, ◌-◌, nat_lt, if◌then◌else◌
 use Rattle.auto_core.specs.Automaton.{Automaton}
 use Rattle.auto_core.specs.Accept.{SeparatesLasso, SeparatesWord}
 use Rattle.auto_core.specs.declared.parts.Lasso.{Lasso}
-use Rattle.lasso_shrink.specs.Leaving.{LeavesOne, NeedsEach, IsShrunk}
+use Rattle.lasso_shrink.specs.Leaving.{LeavesOutFirst, NeedsEach, IsShrunk}
 
 -- The word without its letter at the place.
 abbrev pub word_without : List ℕ → ℕ → List ℕ
@@ -26,7 +26,7 @@ LassoSeparates A B l = SeparatesLasso A B l.prefix l.turn
 
 -- The first letter that can go is left out of the word, so that it still separates the automata.
 abbrev pub WordLeavesOne : Automaton → Automaton → List ℕ → List ℕ → Type 0
-WordLeavesOne A B = LeavesOne (SeparatesWord A B) length word_without
+WordLeavesOne A B = LeavesOutFirst (SeparatesWord A B) length word_without
 
 -- Without any single letter the word does not separate them.
 abbrev pub WordNeedsEach : Automaton → Automaton → List ℕ → Type 0
@@ -38,7 +38,7 @@ IsShrunkWord A B = IsShrunk (SeparatesWord A B) length word_without
 
 -- The same of lassos.
 abbrev pub LassoLeavesOne : Automaton → Automaton → Lasso → Lasso → Type 0
-LassoLeavesOne A B = LeavesOne (LassoSeparates A B) letters_of lasso_without
+LassoLeavesOne A B = LeavesOutFirst (LassoSeparates A B) letters_of lasso_without
 
 abbrev pub LassoNeedsEach : Automaton → Automaton → Lasso → Type 0
 LassoNeedsEach A B = NeedsEach (LassoSeparates A B) letters_of lasso_without

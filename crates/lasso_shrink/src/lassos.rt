@@ -4,7 +4,7 @@ ghost use Rattle.std.specs.Prelude.{◌≡◌, ◌<◌, ◌↔◌, IfOk, IsTrue,
 ghost use Rattle.auto_core.specs.Accept.{SeparatesLasso};
 ghost use Rattle.lasso_accept.specs.Tails.{HasTails};
 ghost use Rattle.lasso_shrink.specs.Shrinking.{letters_of, lasso_without, LassoSeparates, LassoLeavesOne, LassoNeedsEach, IsShrunkLasso};
-ghost use Rattle.lasso_shrink.specs.Prefixes.{PrefixNeedsEach, HasLeftOut};
+ghost use Rattle.lasso_shrink.specs.Prefixes.{PrefixNeedsEach, PrefixIsShrunk};
 
 use crate::copying::{copied, without};
 use crate::places::first_place;
@@ -56,7 +56,7 @@ fn left_without(alloc: Global, lasso: &Lasso, place: usize) -> Result<Lasso, Mem
 /// from is found once.
 fn shrink_prefix(alloc: Global, first: &Auto, second: &Auto, lasso: Lasso) -> Result<Lasso, Memory>
     requires { LassoSeparates first.now second.now lasso }
-    ensures { IfOk result (HasLeftOut first.now second.now lasso) }
+    ensures { IfOk result (PrefixIsShrunk first.now second.now lasso) }
 {
     if lasso.prefix.as_slice().len() == 0 {
         return Ok(lasso);

@@ -1,6 +1,6 @@
 //! The laws of shorter lassos and words: each is the contract of a function that does nothing.
 
-ghost use Rattle.lasso_shrink.specs.Laws.{ShrunkLassoIsOne, ShrunkWordIsOne, ShrunkLassoHasItsLetters, ShrunkWordHasItsLetters};
+ghost use Rattle.lasso_shrink.specs.Laws.{ShrunkLassoIsOne, ShrunkWordIsOne, ShrinkingALassoAddsNoLetter, ShrinkingAWordAddsNoLetter};
 
 /// One lasso at most is left of a lasso.
 pub fn shrunk_lasso_is_one()
@@ -13,11 +13,11 @@ pub fn shrunk_word_is_one()
 {}
 
 /// The letters that are left of a lasso are its own.
-pub fn shrunk_lasso_has_its_letters()
-    ensures { ShrunkLassoHasItsLetters }
+pub fn shrinking_a_lasso_adds_no_letter()
+    ensures { ShrinkingALassoAddsNoLetter }
 {}
 
 /// The letters that are left of a word are its own.
-pub fn shrunk_word_has_its_letters()
-    ensures { ShrunkWordHasItsLetters }
+pub fn shrinking_a_word_adds_no_letter()
+    ensures { ShrinkingAWordAddsNoLetter }
 {}

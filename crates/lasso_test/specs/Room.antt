@@ -8,7 +8,7 @@ abbrev pub states_of : Inside → ℕ
 states_of s = s.states
 
 -- Each of the three rows has the words for so many bits, and the room for the marks of loops is for so many states.
-pub record HasRoom (s : Inside) : Type 0 where
+pub record HasRoomForMarks (s : Inside) : Type 0 where
   pub marks : length s.marks.items ≡ width_of s.states
   pub back : length s.back.items ≡ width_of s.states
   pub done : length s.done.items ≡ width_of s.states

@@ -26,11 +26,11 @@ impl Model for Scratch {
 
     ghost Value = { ℕ };
 
-    ghost use Rattle.lasso_test.specs.Room.{states_of, HasRoom};
+    ghost use Rattle.lasso_test.specs.Room.{states_of, HasRoomForMarks};
 
     ghost view = { states_of };
 
-    ghost invariant = { HasRoom };
+    ghost invariant = { HasRoomForMarks };
 }
 
 fn row(alloc: Global, states: u32) -> Result<Vec<u64>, Memory>

@@ -18,7 +18,7 @@ use Rattle.cert_value.specs.declared.types.RankBlock.{RankBlock}
 use Rattle.cert_value.specs.declared.types.RankRow.{RankRow}
 use Rattle.cert_value.specs.declared.types.Ranked.{Ranked}
 use Rattle.cert_value.specs.WellFormed.{is_short, are_short, has_some, ascend_from, ascend, rights_of, is_ranked, rank_key, is_less, are_rank_rows, is_rank_row, is_rank_block}
-use Rattle.log_check.specs.Blocks.{rank_of, triples_of_row, triples_of, IsRankRowBelow, IsRankBlockBelow, IsRankingOf}
+use Rattle.log_check.specs.Blocks.{rank_in_code, triples_of_row, triples_of, IsRankRowBelow, IsRankBlockBelow, IsRankingOf}
 use Rattle.log_check.specs.RankedLists.{row_list, block_list}
 
 -- ---- joined lists
@@ -75,7 +75,7 @@ parts_of x = (x.left, x.ahead, x.right, x.rank)
 
 -- The triple of a row with this right number.
 abbrev triple_in : RankRow → Ranked → RankedTriple
-triple_in row r = ranked_triple row.left row.ahead r.right (rank_of r.code)
+triple_in row r = ranked_triple row.left row.ahead r.right (rank_in_code r.code)
 
 pub triples_given : (n labels letters : ℕ) (block : RankBlock) → 1 ≤ letters → is_rank_block letters block ≡ true → IsRankBlockBelow n labels block → AreTriplesGiven n labels letters (block_list block)
 triples_given n labels letters block from formed below p b q rank h =

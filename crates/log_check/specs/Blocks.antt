@@ -40,12 +40,12 @@ pub record IsBlockRelation (n : ℕ) (block : RelBlock) (rel : Relation) : Type 
   pub pairs : (p q : ℕ) → Holds rel.pairs p q ↔ Holds (pairs_of block) p q
 
 -- What a code says of the rank: 0 that there is none, and a greater code that it is one less.
-abbrev pub rank_of : ℕ → Option ℕ
-rank_of code = if code == 0 then None else Some (code - 1)
+abbrev pub rank_in_code : ℕ → Option ℕ
+rank_in_code code = if code == 0 then None else Some (code - 1)
 
 -- The triples of a row with ranks.
 abbrev pub triples_of_row : RankRow → RankedTriples
-triples_of_row row = map (λ (r : Ranked). (row.left, row.ahead, r.right, rank_of r.code)) row.rights
+triples_of_row row = map (λ (r : Ranked). (row.left, row.ahead, r.right, rank_in_code r.code)) row.rights
 
 -- The triples that the block lists, with their ranks.
 abbrev pub triples_of : RankBlock → RankedTriples

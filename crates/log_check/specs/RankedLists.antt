@@ -6,11 +6,11 @@ use Rattle.delayed_sim.specs.Rankings.{ranked_triple}
 use Rattle.cert_value.specs.declared.types.RankBlock.{RankBlock}
 use Rattle.cert_value.specs.declared.types.RankRow.{RankRow}
 use Rattle.cert_value.specs.declared.types.Ranked.{Ranked}
-use Rattle.log_check.specs.Blocks.{rank_of}
+use Rattle.log_check.specs.Blocks.{rank_in_code}
 
 -- The triples of a row.
 abbrev pub row_list : RankRow → List RankedTriple
-row_list row = map (λ (r : Ranked). ranked_triple row.left row.ahead r.right (rank_of r.code)) row.rights
+row_list row = map (λ (r : Ranked). ranked_triple row.left row.ahead r.right (rank_in_code r.code)) row.rights
 
 -- The triples of the block.
 abbrev pub block_list : RankBlock → List RankedTriple

@@ -2,7 +2,7 @@
 
 ghost use Rattle.std.specs.Prelude.{◌≡◌, ◌≤◌, ◌↔◌, ◌++◌, true, IfOk, IsTrue};
 ghost use Rattle.cert_value.specs.WellFormed.{is_rank_block};
-ghost use Rattle.log_check.specs.Blocks.{rank_of, IsRankRowBelow, IsRankBlockBelow, IsRankingOf};
+ghost use Rattle.log_check.specs.Blocks.{rank_in_code, IsRankRowBelow, IsRankBlockBelow, IsRankingOf};
 ghost use Rattle.log_check.specs.RankedLists.{row_list, block_list};
 
 use crate::copying::copied_numbers;
@@ -39,7 +39,7 @@ pub(crate) fn is_rank_block_below(automaton: &Auto, block: &RankBlock) -> bool
 
 /// The rank that the code stands for, if it stands for one.
 fn rank(code: u32) -> Option<u32>
-    ensures { result ≡ rank_of code }
+    ensures { result ≡ rank_in_code code }
 {
     if code == 0 { None } else { Some(code - 1) }
 }

@@ -3,3 +3,4 @@ pub mod RowLemmas
 pub mod NearLemmas
 pub mod FirstLemmas
 pub mod AskedLemmas
+pub mod PlayLemmas

@@ -4,11 +4,11 @@ ghost use Rattle.std.specs.Prelude.{◌≡◌, ◌<◌, ◌≤◌, ◌↔◌, �
 ghost use Rattle.auto_core.specs.Game.{ArePairsBelow, Holds, Stable};
 ghost use Rattle.look_game.specs.Asked.{IsLost};
 
-use crate::losing::{none_tried, play_on};
+use crate::losing::played_on;
 use crate::rounds::matching;
 use auto_core::{Auto, Memory};
 use bit_rel::Rel;
-use look_round::{Scratch, Side};
+use look_round::Side;
 use std::alloc::Global;
 
 /// A pair of states.
@@ -49,18 +49,7 @@ pub fn may_stay<S: Side>(
         → Holds T pair.left pair.right
         → ⊥) }
 {
-    let mut rel = matching(alloc, side, automaton)?;
-    let mut scratch = Scratch::new(alloc, automaton, look)?;
-    let mut tried = none_tried(alloc)?;
-    play_on(
-        alloc,
-        side,
-        automaton,
-        look,
-        pair,
-        &mut rel,
-        &mut scratch,
-        &mut tried,
-    )?;
+    let all = matching(alloc, side, automaton)?;
+    let rel = played_on(alloc, side, automaton, look, pair, all)?;
     Ok(rel.get(pair.left, pair.right))
 }

@@ -13,8 +13,8 @@ abbrev pub IsHeld : List ℕ → List ℕ → ℕ → ℕ → ℕ → List ℕ �
 IsHeld letters held width left a row = (slice_index letters left ≡ a) × ((q : ℕ) → q < width * 64 → cell_of held width left q ≡ bit_of row q)
 
 -- The row has the move by the letter a to p from the states of `row`.
-abbrev pub IsKnown : List ℕ → List ℕ → List ℕ → ℕ → ℕ → ℕ → ℕ → List ℕ → Type 0
-IsKnown letters held known width left a p row = HasCell known width left p × IsHeld letters held width left a row
+abbrev pub IsMoveKnown : List ℕ → List ℕ → List ℕ → ℕ → ℕ → ℕ → ℕ → List ℕ → Type 0
+IsMoveKnown letters held known width left a p row = HasCell known width left p × IsHeld letters held width left a row
 
 -- A row still stands for the same letter and the same states.
 abbrev pub IsAsBefore : List ℕ → List ℕ → List ℕ → List ℕ → ℕ → ℕ → Type 0

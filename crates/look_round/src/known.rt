@@ -4,7 +4,7 @@
 
 ghost use Rattle.std.specs.Prelude.{◌≡◌, ◌+◌, ◌*◌, ◌<◌, ◌≤◌, ◌↔◌, ℕ, true, length, slice_index, IsTrue};
 ghost use Rattle.auto_core.specs.Rows.{bit_of, cell_of};
-ghost use Rattle.look_round.specs.Known.{IsHeld, IsKnown, Starts, Notes};
+ghost use Rattle.look_round.specs.Known.{IsHeld, IsMoveKnown, Starts, Notes};
 
 use crate::moves::Move;
 use crate::replies::clear_table_row;
@@ -44,7 +44,7 @@ pub fn is_known(
     requires held { left * width + width ≤ length held.now }
     requires known { left * width + width ≤ length known.now }
     requires to { step.to < width * 64 }
-    ensures { result ≡ true → IsKnown letters.now held.now known.now width left step.label step.to row.now }
+    ensures { result ≡ true → IsMoveKnown letters.now held.now known.now width left step.label step.to row.now }
 {
     if !rows::has_cell(known, width, left as usize, step.to as usize) {
         return false;

@@ -14,7 +14,7 @@ use Rattle.auto_core.proofs.MoveLemmas.{number_of, move_at}
 use Rattle.auto_core.proofs.MemberLemmas.{Rises, rises_from_pairs, same_members, map_from}
 use Rattle.auto_core.proofs.SetLemmas.{same_automaton, transitions_rise}
 use Rattle.path_laws.proofs.PumpingLemmas.{chain_weaker}
-use Rattle.prune_pairs.specs.Least.{IsLeastBetter, AreLeastBetter, numbers_of}
+use Rattle.prune_pairs.specs.Least.{IsLeastBetter, AreLeastBetter, numbers_of_gone}
 use Rattle.prune_pairs.specs.Laws.{CutIsOne, PrunedIsOne, CutOfNothing, CutIsShorter, PrunedIsShorter, PrunedIsItself, AgreeOnStates, BetterGoesByStates, RemovableArePruned, RemovableIsOne}
 use Rattle.prune_pairs.specs.declared.removing.Gone.{Gone}
 
@@ -214,7 +214,7 @@ pruned_itself A n k back ahead valid greatest_back greatest_ahead = (
 
 -- ---- removable transitions
 
-has_better : (A : Automaton) (n : ℕ) (back ahead : List (ℕ × ℕ)) (gone : List Gone) → AreLeastBetter A n (Holds back) (Holds ahead) gone → (t : ℕ) → Contains (numbers_of gone) t → HasBetter A n (Holds back) (Holds ahead) t
+has_better : (A : Automaton) (n : ℕ) (back ahead : List (ℕ × ℕ)) (gone : List Gone) → AreLeastBetter A n (Holds back) (Holds ahead) gone → (t : ℕ) → Contains (numbers_of_gone gone) t → HasBetter A n (Holds back) (Holds ahead) t
 has_better A n back ahead gone are t h =
     let (g, there, is) = map_from (λ (g : Gone). g.trans) gone t h in
     let least = All-contains (λ (g : Gone). IsLeastBetter A n (Holds back) (Holds ahead) g.trans g.by) gone g are.each there in
@@ -224,7 +224,7 @@ pub removable_pruned : RemovableArePruned
 removable_pruned A B n k back ahead closed_back closed_ahead gone valid greatest_back greatest_ahead same_back same_ahead are cut = record {
   back = back;
   ahead = ahead;
-  gone = numbers_of gone;
+  gone = numbers_of_gone gone;
   greatest_back = greatest_back;
   greatest_ahead = greatest_ahead;
   removable = λ t. (
@@ -248,7 +248,7 @@ gone_within A n back ahead gone other are ares g there =
     let high = moved.least g.by mine.better in
     subst (Contains other) (same_gone h g is (omega arith)) h_there
 
-gone_rises : (gone : List Gone) → AllPairs (λ x y. x < y) (numbers_of gone) → AllPairs (λ (g h : Gone). g.trans < h.trans) gone
+gone_rises : (gone : List Gone) → AllPairs (λ x y. x < y) (numbers_of_gone gone) → AllPairs (λ (g h : Gone). g.trans < h.trans) gone
 gone_rises gone up i j d lt j_in =
     let i_in : i < length gone = omega arith in
     let len = length-map gone (λ (g : Gone). g.trans) in
@@ -260,6 +260,6 @@ gone_rises gone up i j d lt j_in =
 pub removable_one : RemovableIsOne
 removable_one A n back ahead gone other are ares =
     same_members (λ (g h : Gone). g.trans < h.trans) (λ g h a b. omega arith) gone other
-    (rises_from_pairs _ gone (gone_rises gone (AllPairs-from_increasing (numbers_of gone) are.ascending)))
-    (rises_from_pairs _ other (gone_rises other (AllPairs-from_increasing (numbers_of other) ares.ascending)))
+    (rises_from_pairs _ gone (gone_rises gone (AllPairs-from_increasing (numbers_of_gone gone) are.ascending)))
+    (rises_from_pairs _ other (gone_rises other (AllPairs-from_increasing (numbers_of_gone other) ares.ascending)))
     (gone_within A n back ahead gone other are ares) (gone_within A n back ahead other gone ares are)

@@ -5,7 +5,7 @@ use Rattle.auto_core.specs.Accept.{Same}
 use Rattle.auto_core.specs.Game.{Close, Holds}
 use Rattle.auto_core.specs.Pruning.{IsBetterAt, HasBetter, IsCut, IsPruned, IsStableBack, IsStableAhead, IsGreatestBack, IsGreatestAhead}
 use Rattle.auto_core.specs.declared.parts.Mode.{Mode}
-use Rattle.prune_pairs.specs.Least.{AreLeastBetter, numbers_of}
+use Rattle.prune_pairs.specs.Least.{AreLeastBetter, numbers_of_gone}
 use Rattle.prune_pairs.specs.declared.removing.Gone.{Gone}
 
 -- Cutting any transitions that each have a better one, by one approved pair over the closures of one stable list for each of its
@@ -61,7 +61,7 @@ RemovableArePruned = (A B : Automaton) (n k : ℕ) (back ahead closed_back close
     IsGreatestBack A n k back → IsGreatestAhead A n k ahead →
     (¬ (n ≡ 1) → AgreeOnStates A (Holds closed_back) (Close (Holds back))) →
     (¬ (n ≡ 2) → AgreeOnStates A (Holds closed_ahead) (Close (Holds ahead))) →
-    AreLeastBetter A n (Holds closed_back) (Holds closed_ahead) gone → IsCut A (numbers_of gone) B → IsPruned A n k B
+    AreLeastBetter A n (Holds closed_back) (Holds closed_ahead) gone → IsCut A (numbers_of_gone gone) B → IsPruned A n k B
 
 -- There is one list of the removable transitions with their least better ones at most.
 abbrev pub RemovableIsOne : Type 0

@@ -39,11 +39,11 @@ pub record IsLeastBetter (A : Automaton) (n : ℕ) (back ahead : ℕ → ℕ →
   pub least : (v : ℕ) → IsBetterAt A n back ahead t v → u ≤ v
 
 -- The numbers of the transitions that are gone.
-abbrev pub numbers_of : List Gone → List ℕ
-numbers_of gone = map (λ (g : Gone). g.trans) gone
+abbrev pub numbers_of_gone : List Gone → List ℕ
+numbers_of_gone gone = map (λ (g : Gone). g.trans) gone
 
 -- The list has, ascending, just the transitions that have a better one, each with the least better one.
 pub record AreLeastBetter (A : Automaton) (n : ℕ) (back ahead : ℕ → ℕ → Type 0) (gone : List Gone) : Type 0 where
-  pub ascending : IsStrictlyIncreasing (numbers_of gone)
+  pub ascending : IsStrictlyIncreasing (numbers_of_gone gone)
   pub each : All (λ (g : Gone). IsLeastBetter A n back ahead g.trans g.by) gone
-  pub all : (t : ℕ) → HasBetter A n back ahead t → Contains (numbers_of gone) t
+  pub all : (t : ℕ) → HasBetter A n back ahead t → Contains (numbers_of_gone gone) t

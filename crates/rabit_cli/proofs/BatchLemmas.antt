@@ -33,7 +33,7 @@ use Rattle.rabit_frame.specs.Carrying.{EndsSo, NoReply, IsCarriedOut, SaysEach}
 use Rattle.rabit_frame.proofs.EndLemmas.{own_number, may_plain, stop_plain, says_each, read_fault_of, read_line_of, memory_of}
 use Rattle.rabit_frame.proofs.TurnLemmas.{counts_here, begun_here}
 use Rattle.rabit_cli.specs.Include.{usual_terms, LeavesDecided}
-use Rattle.rabit_cli.specs.Batch.{AreQuestions, AnswersQuestion, ShowsQuestion, question_inputs, MeansQuestion, IsQuestionStatus, AreThere, LeavesQuestion, LeaveInTurn, question_line, question_lines, times, RoseBy, IsCarriedEach, list_file, batch_inputs, IsUnreadStatus, IsUnread, IsBatch, Calls, calls_of, MadeCalls}
+use Rattle.rabit_cli.specs.Batch.{AreQuestions, AnswersQuestion, ShowsQuestion, question_inputs, MeansQuestion, IsQuestionStatus, AutomataAreThere, LeavesQuestion, LeaveInTurn, question_line, question_lines, times, RoseBy, IsCarriedEach, list_file, batch_inputs, IsStatusOfNoneAsked, NoneAsked, IsBatch, ShelfCounts, shelf_counts, MadeCalls}
 use Rattle.rabit_words.specs.Question.{Batch}
 use Rattle.rabit_cli.specs.Complete.{AnswersBatch}
 use Rattle.rabit_cli.specs.Laws.{QuestionsShowInTurn}
@@ -69,11 +69,11 @@ ends_unread (ending.ReadFault) is = refl
 ends_unread (ending.WriteFault) is = absurd (omega arith)
 ends_unread (ending.OutOfMemory) is = absurd (omega arith)
 
-pub ends_unwritten : (e : Ending) → status_of e ≡ 7 → e ≡ ending.WriteFault
-ends_unwritten (ending.Reached r) is = absurd ((own_number r.status).1 is)
-ends_unwritten (ending.ReadFault) is = absurd (omega arith)
-ends_unwritten (ending.WriteFault) is = refl
-ends_unwritten (ending.OutOfMemory) is = absurd (omega arith)
+pub ends_at_write_fault : (e : Ending) → status_of e ≡ 7 → e ≡ ending.WriteFault
+ends_at_write_fault (ending.Reached r) is = absurd ((own_number r.status).1 is)
+ends_at_write_fault (ending.ReadFault) is = absurd (omega arith)
+ends_at_write_fault (ending.WriteFault) is = refl
+ends_at_write_fault (ending.OutOfMemory) is = absurd (omega arith)
 
 pub ends_refused : (e : Ending) → status_of e ≡ 8 → e ≡ ending.OutOfMemory
 ends_refused (ending.Reached r) is = absurd ((own_number r.status).2 is)
@@ -155,14 +155,14 @@ module _ (means : List Value → Reply → Type 0) (inputs : List Input) (files 
   leaves_keep (ending.ReadFault) n left there = ap (λ (m : FileMap). map.contains_key m n) left ∙ there
   leaves_keep (ending.OutOfMemory) n left there = ap (λ (m : FileMap). map.contains_key m n) left ∙ there
 
-  all_keep : (e : Ending) (questions : List Question) → Leaves means inputs e files files' → All (AreThere files) questions → All (AreThere files') questions
-  all_keep e [] left there = All-nil (AreThere files')
+  all_keep : (e : Ending) (questions : List Question) → Leaves means inputs e files files' → All (AutomataAreThere files) questions → All (AutomataAreThere files') questions
+  all_keep e [] left there = All-nil (AutomataAreThere files')
   all_keep e (q ∷ qs) left there =
-      let here = All-head (AreThere files) q qs there in
-      All-cons (AreThere files') q qs (leaves_keep e q.first left here.0, leaves_keep e q.second left here.1) (all_keep e qs left (All-tail (AreThere files) q qs there))
+      let here = All-head (AutomataAreThere files) q qs there in
+      All-cons (AutomataAreThere files') q qs (leaves_keep e q.first left here.0, leaves_keep e q.second left here.1) (all_keep e qs left (All-tail (AutomataAreThere files) q qs there))
 
 -- no name that is there is missed
-counts_none : (q : Question) (files : FileMap) (before now : ℕ) → MissedInTurn files (question_inputs q) before now → AreThere files q → now ≡ before
+counts_none : (q : Question) (files : FileMap) (before now : ℕ) → MissedInTurn files (question_inputs q) before now → AutomataAreThere files q → now ≡ before
 counts_none q files before now counts there = elim counts [
   | inl same ↦ same
   | inr missing ↦ elim missing [
@@ -208,7 +208,7 @@ known_append (Some x) a b = ap Some (append_assoc x a b)
 
 -- ---- the calls of one question
 
-pub made_calls : (q : Question) (status : ℕ) (held : Option FileMap) (calls calls' : Calls)
+pub made_calls : (q : Question) (status : ℕ) (held : Option FileMap) (calls calls' : ShelfCounts)
     → IfSome held (λ files. BegunInTurn files (question_inputs q) calls.begins calls'.begins) → (status ≤ 2 → AllBegun (question_inputs q) calls.begins calls'.begins)
     → (status ≡ 6 → Rose calls.read_faults calls'.read_faults) → (status ≢ 6 → calls'.read_faults ≡ calls.read_faults)
     → (status ≡ 6 → IfSome held (λ files. BlamesInTurn files (question_inputs q) calls'.blamed))
@@ -227,7 +227,7 @@ made_calls q status (Some files) calls calls' turn all read no_read blames put n
 
 -- ---- one question more
 
-pub each_none : (number : ℕ) (held held' : Option FileMap) (sent : Option (List ℕ)) (give read put missed : ℕ) (calls : Calls) → held' ≡ held → IsCarriedEach number [] held held' 0 sent sent give give read read put put missed missed calls calls
+pub each_none : (number : ℕ) (held held' : Option FileMap) (sent : Option (List ℕ)) (give read put missed : ℕ) (calls : ShelfCounts) → held' ≡ held → IsCarriedEach number [] held held' 0 sent sent give give read read put put missed missed calls calls
 each_none number held held' sent give read put missed calls stays = record {
   statuses = [];
   within = omega arith;
@@ -249,17 +249,17 @@ each_none number held held' sent give read put missed calls stays = record {
     same None e = e
     same (Some files) e = (files, e, (refl, refl))
 
-    none : (h : Option FileMap) → IfSome h (λ files. All (AreThere files) [] → missed ≡ missed)
+    none : (h : Option FileMap) → IfSome h (λ files. All (AutomataAreThere files) [] → missed ≡ missed)
     none None = tt
     none (Some files) = λ there. refl
 
-module _ (q : Question) (number : ℕ) (held between : Option FileMap) (read read1 put put1 missed missed1 : ℕ) (calls calls1 : Calls) (e : Ending) (ends : EndsSo (MeansQuestion q) (question_inputs q) e held between read read1 put put1)
+module _ (q : Question) (number : ℕ) (held between : Option FileMap) (read read1 put put1 missed missed1 : ℕ) (calls calls1 : ShelfCounts) (e : Ending) (ends : EndsSo (MeansQuestion q) (question_inputs q) e held between read read1 put put1)
     (counts : IfSome held (λ files. MissedInTurn files (question_inputs q) missed missed1)) (made : IfSome held (λ files. MadeCalls q (status_of e) files calls calls1)) where
   read_more : (statuses : List ℕ) (read' : ℕ) → RoseBy (times 6 statuses) read1 read' → RoseBy (times 6 (status_of e ∷ statuses)) read read'
   read_more statuses read' rest = rose_by 6 (status_of e) statuses read read1 read' (λ is. ends.read_fault (ends_unread e is)) (λ other. ends.no_read_fault (λ is. other (ap status_of is))) rest
 
   put_more : (statuses : List ℕ) (put' : ℕ) → RoseBy (times 7 statuses) put1 put' → RoseBy (times 7 (status_of e ∷ statuses)) put put'
-  put_more statuses put' rest = rose_by 7 (status_of e) statuses put put1 put' (λ is. ends.write_fault (ends_unwritten e is)) (λ other. ends.no_write_fault (λ is. other (ap status_of is))) rest
+  put_more statuses put' rest = rose_by 7 (status_of e) statuses put put1 put' (λ is. ends.write_fault (ends_at_write_fault e is)) (λ other. ends.no_write_fault (λ is. other (ap status_of is))) rest
 
   read_stay : (statuses : List ℕ) (read' : ℕ) → (times 6 statuses ≡ 0 → read' ≡ read1) → times 6 (status_of e ∷ statuses) ≡ 0 → read' ≡ read
   read_stay statuses read' rest = stay_by 6 (status_of e) statuses read read1 read' (λ other. ends.no_read_fault (λ is. other (ap status_of is))) rest
@@ -267,7 +267,7 @@ module _ (q : Question) (number : ℕ) (held between : Option FileMap) (read rea
   put_stay : (statuses : List ℕ) (put' : ℕ) → (times 7 statuses ≡ 0 → put' ≡ put1) → times 7 (status_of e ∷ statuses) ≡ 0 → put' ≡ put
   put_stay statuses put' rest = stay_by 7 (status_of e) statuses put put1 put' (λ other. ends.no_write_fault (λ is. other (ap status_of is))) rest
 
-  turn_more : (questions : List Question) (statuses : List ℕ) (held' : Option FileMap) (calls' : Calls) → OfBoth between held' (λ files files'. LeaveInTurn questions statuses files files' calls1 calls') → OfBoth held held' (λ files files'. LeaveInTurn (q ∷ questions) (status_of e ∷ statuses) files files' calls calls')
+  turn_more : (questions : List Question) (statuses : List ℕ) (held' : Option FileMap) (calls' : ShelfCounts) → OfBoth between held' (λ files files'. LeaveInTurn questions statuses files files' calls1 calls') → OfBoth held held' (λ files files'. LeaveInTurn (q ∷ questions) (status_of e ∷ statuses) files files' calls calls')
   turn_more questions statuses held' calls' rest = go held ends.leaves made
     where
       go : (h : Option FileMap) → OfBoth h between (λ files files'. Leaves (MeansQuestion q) (question_inputs q) e files files') → IfSome h (λ files. MadeCalls q (status_of e) files calls calls1)
@@ -277,17 +277,17 @@ module _ (q : Question) (number : ℕ) (held between : Option FileMap) (read rea
           let (files', is', later) = subst (λ (m : Option FileMap). OfBoth m held' (λ files files'. LeaveInTurn questions statuses files files' calls1 calls')) is rest in
           (files', is', (mid, calls1, (e, left, refl), b, later))
 
-  missed_more : (questions : List Question) (missed' : ℕ) → IfSome between (λ files. All (AreThere files) questions → missed' ≡ missed1) → IfSome held (λ files. All (AreThere files) (q ∷ questions) → missed' ≡ missed)
+  missed_more : (questions : List Question) (missed' : ℕ) → IfSome between (λ files. All (AutomataAreThere files) questions → missed' ≡ missed1) → IfSome held (λ files. All (AutomataAreThere files) (q ∷ questions) → missed' ≡ missed)
   missed_more questions missed' rest = go held ends.leaves counts
     where
-      go : (h : Option FileMap) → OfBoth h between (λ files files'. Leaves (MeansQuestion q) (question_inputs q) e files files') → IfSome h (λ files. MissedInTurn files (question_inputs q) missed missed1) → IfSome h (λ files. All (AreThere files) (q ∷ questions) → missed' ≡ missed)
+      go : (h : Option FileMap) → OfBoth h between (λ files files'. Leaves (MeansQuestion q) (question_inputs q) e files files') → IfSome h (λ files. MissedInTurn files (question_inputs q) missed missed1) → IfSome h (λ files. All (AutomataAreThere files) (q ∷ questions) → missed' ≡ missed)
       go None none c = tt
       go (Some files) (mid, is, left) c = λ there.
-          let later = subst (λ (m : Option FileMap). IfSome m (λ files. All (AreThere files) questions → missed' ≡ missed1)) is rest in
-          later (all_keep (MeansQuestion q) (question_inputs q) files mid e questions left (All-tail (AreThere files) q questions there))
-          ∙ counts_none q files missed missed1 c (All-head (AreThere files) q questions there)
+          let later = subst (λ (m : Option FileMap). IfSome m (λ files. All (AutomataAreThere files) questions → missed' ≡ missed1)) is rest in
+          later (all_keep (MeansQuestion q) (question_inputs q) files mid e questions left (All-tail (AutomataAreThere files) q questions there))
+          ∙ counts_none q files missed missed1 c (All-head (AutomataAreThere files) q questions there)
 
-  pub each_more : (questions : List Question) (held' : Option FileMap) (status : ℕ) (sent sent1 sent' : Option (List ℕ)) (give give1 give' read' put' missed' : ℕ) (calls' : Calls)
+  pub each_more : (questions : List Question) (held' : Option FileMap) (status : ℕ) (sent sent1 sent' : Option (List ℕ)) (give give1 give' read' put' missed' : ℕ) (calls' : ShelfCounts)
       → sent1 ≡ append_known sent (question_line number (status_of e)) → give1 ≡ give
       → IsCarriedEach (number + 1) questions between held' status sent1 sent' give1 give' read1 read' put1 put' missed1 missed' calls1 calls'
       → IsCarriedEach number (q ∷ questions) held held' status sent sent' give give' read read' put put' missed missed' calls calls'
@@ -342,7 +342,7 @@ module _ (q : Question) (number : ℕ) (held between : Option FileMap) (read rea
       stay None = refl
       stay (Some files) = (files, refl, (refl, refl))
 
-      none : (h : Option FileMap) → IfSome h (λ files. All (AreThere files) questions → missed1 ≡ missed1)
+      none : (h : Option FileMap) → IfSome h (λ files. All (AutomataAreThere files) questions → missed1 ≡ missed1)
       none None = tt
       none (Some files) = λ there. refl
 
@@ -371,13 +371,13 @@ six_is_unread list status sent sent' give give' (ending.OutOfMemory) may said si
 six_is_unread list status sent sent' give give' (ending.WriteFault) may said six = (let is : status ≡ 7 = elim said [ inl whole ↦ whole.0 | inr front ↦ front.0 ] in absurd (omega arith))
 
 pub unread_status : (list : List ℕ) (held held' : Option FileMap) (status : ℕ) (sent sent' : Option (List ℕ)) (give give' read read' put put' : ℕ)
-    → IsCarriedOut NoReply (batch_inputs list) held held' status sent sent' give give' read read' put put' → IsUnreadStatus status
+    → IsCarriedOut NoReply (batch_inputs list) held held' status sent sent' give give' read read' put put' → IsStatusOfNoneAsked status
 unread_status list held held' status sent sent' give give' read read' put put' c = go c.end c.ends.may c.said
   where
-    reached : (r : Reply) → MayStopAt (kind.Questions) r → WasSaid (ending.Reached r) status sent sent' give give' → IsUnreadStatus status
+    reached : (r : Reply) → MayStopAt (kind.Questions) r → WasSaid (ending.Reached r) status sent sent' give give' → IsStatusOfNoneAsked status
     reached r may said = elim said [ inl whole ↦ inr (inr (whole.0 ∙ (stops_eleven r may).0)) | inr front ↦ inr (inr (front.0 ∙ (stops_eleven r may).1)) ]
 
-    go : (e : Ending) → MayEnd NoReply (batch_inputs list) e → WasSaid e status sent sent' give give' → IsUnreadStatus status
+    go : (e : Ending) → MayEnd NoReply (batch_inputs list) e → WasSaid e status sent sent' give give' → IsStatusOfNoneAsked status
     go (ending.Reached r) may said = elim may [
       | inl stop ↦ elim stop [ inl here ↦ reached r here said | inr none ↦ absurd none ]
       | inr (values, kinds, none) ↦ absurd none
@@ -391,10 +391,10 @@ unread_status list held held' status sent sent' give give' read read' put put' c
 
 -- ---- what the status of a batch says
 
-module _ (list : List ℕ) (held held' : Option FileMap) (status : ℕ) (sent sent' : Option (List ℕ)) (give give' read read' put put' missed missed' : ℕ) (calls calls' : Calls)
+module _ (list : List ℕ) (held held' : Option FileMap) (status : ℕ) (sent sent' : Option (List ℕ)) (give give' read read' put put' missed missed' : ℕ) (calls calls' : ShelfCounts)
     (is : IsBatch list held held' status sent sent' give give' read read' put put' missed missed' calls calls') where
   -- unless no question was asked it is 0 or 7
-  others : (P : Type 0) → (IsUnread list held held' status sent sent' give give' read read' put put' missed missed' calls calls' → P) → (status ≡ 0 → P) → (status ≡ 7 → Rose give give' → P) → P
+  others : (P : Type 0) → (NoneAsked list held held' status sent sent' give give' read read' put put' missed missed' calls calls' → P) → (status ≡ 0 → P) → (status ≡ 7 → Rose give give' → P) → P
   others P unread all refused = elim is [
     | inl u ↦ unread u
     | inr asked ↦ elim asked.each.said [ inl said ↦ all said.0 | inr last ↦ refused last.0 last.1 ]
@@ -470,7 +470,7 @@ list_is_of_questions questions (bytes, is) = (is.words, is.few)
 -- ---- the whole batch
 
 -- the list is not read
-pub batch_unread : (list : List ℕ) (slot : Input) (held held' : Option FileMap) (status : ℕ) (sent sent' : Option (List ℕ)) (give give' read read' put put' missed missed' : ℕ) (calls calls' : Calls) (e : Ending)
+pub batch_unread : (list : List ℕ) (slot : Input) (held held' : Option FileMap) (status : ℕ) (sent sent' : Option (List ℕ)) (give give' read read' put put' missed missed' : ℕ) (calls calls' : ShelfCounts) (e : Ending)
     → slot ≡ list_file list → EndsSo NoReply (slot ∷ []) e held held' read read' put put' → WasSaid e status sent sent' give give' → CountsMissing held slot.name missed missed' → calls'.begins ≡ counted calls.begins
     → (e ≡ ending.ReadFault → IfSome held (λ files. IsBlamed files slot.name calls'.blamed))
     → IsBatch list held held' status sent sent' give give' read read' put put' missed missed' calls calls'
@@ -498,7 +498,7 @@ read_is_held files i v before now (bytes, has, few, reads) counts = counts ∙ g
     go false is = absurd (false≢true is)
 
 -- the list is read, and its questions are carried out
-pub batch_asked : (list : List ℕ) (slot : Input) (held held1 held' : Option FileMap) (status : ℕ) (sent sent' : Option (List ℕ)) (give give' read read1 read' put put1 put' missed missed1 missed' : ℕ) (calls calls1 calls' : Calls) (questions : List Question)
+pub batch_asked : (list : List ℕ) (slot : Input) (held held1 held' : Option FileMap) (status : ℕ) (sent sent' : Option (List ℕ)) (give give' read read1 read' put put1 put' missed missed1 missed' : ℕ) (calls calls1 calls' : ShelfCounts) (questions : List Question)
     → slot ≡ list_file list → IsOfKind slot.kind (value.Questions questions) → IfSome held (λ files. FileReads files slot (value.Questions questions)) → CountsMissing held slot.name missed missed1
     → held1 ≡ held → read1 ≡ read → put1 ≡ put → calls1.begins ≡ counted calls.begins → calls1.read_faults ≡ calls.read_faults → calls1.put_faults ≡ calls.put_faults
     → IsCarriedEach 1 questions held1 held' status sent sent' give give' read1 read' put1 put' missed1 missed' calls1 calls'
@@ -517,18 +517,18 @@ batch_asked list slot held held1 held' status sent sent' give give' read read1 r
         known = each.known;
         said = each.said;
         in_turn =
-            subst (λ n. OfBoth held held' (λ files files'. LeaveInTurn questions each.statuses files files' (calls_of n calls.read_faults calls.put_faults calls1.blamed) calls')) begun
-            (subst (λ n. OfBoth held held' (λ files files'. LeaveInTurn questions each.statuses files files' (calls_of calls1.begins n calls.put_faults calls1.blamed) calls')) no_read
-            (subst (λ n. OfBoth held held' (λ files files'. LeaveInTurn questions each.statuses files files' (calls_of calls1.begins calls1.read_faults n calls1.blamed) calls')) no_put
+            subst (λ n. OfBoth held held' (λ files files'. LeaveInTurn questions each.statuses files files' (shelf_counts n calls.read_faults calls.put_faults calls1.blamed) calls')) begun
+            (subst (λ n. OfBoth held held' (λ files files'. LeaveInTurn questions each.statuses files files' (shelf_counts calls1.begins n calls.put_faults calls1.blamed) calls')) no_read
+            (subst (λ n. OfBoth held held' (λ files files'. LeaveInTurn questions each.statuses files files' (shelf_counts calls1.begins calls1.read_faults n calls1.blamed) calls')) no_put
             (subst (λ (h : Option FileMap). OfBoth h held' (λ files files'. LeaveInTurn questions each.statuses files files' calls1 calls')) held_stays each.in_turn)));
         read_faults_rose = subst (λ n. RoseBy (times 6 each.statuses) n read') read_stays each.read_faults_rose;
         put_faults_rose = subst (λ n. RoseBy (times 7 each.statuses) n put') put_stays each.put_faults_rose;
         read_faults_stay = λ none. each.read_faults_stay none ∙ read_stays;
         put_faults_stay = λ none. each.put_faults_stay none ∙ put_stays;
-        missed_stays = stays held reads counts (subst (λ (h : Option FileMap). IfSome h (λ files. All (AreThere files) questions → missed' ≡ missed1)) held_stays each.missed_stays);
+        missed_stays = stays held reads counts (subst (λ (h : Option FileMap). IfSome h (λ files. All (AutomataAreThere files) questions → missed' ≡ missed1)) held_stays each.missed_stays);
       };
     })
   where
-    stays : (h : Option FileMap) → IfSome h (λ files. FileReads files slot (value.Questions questions)) → CountsMissing h slot.name missed missed1 → IfSome h (λ files. All (AreThere files) questions → missed' ≡ missed1) → IfSome h (λ files. All (AreThere files) questions → missed' ≡ missed)
+    stays : (h : Option FileMap) → IfSome h (λ files. FileReads files slot (value.Questions questions)) → CountsMissing h slot.name missed missed1 → IfSome h (λ files. All (AutomataAreThere files) questions → missed' ≡ missed1) → IfSome h (λ files. All (AutomataAreThere files) questions → missed' ≡ missed)
     stays None reads counts later = tt
     stays (Some files) reads counts later = λ there. later there ∙ read_is_held files slot (value.Questions questions) missed missed1 reads counts

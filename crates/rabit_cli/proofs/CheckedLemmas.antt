@@ -19,7 +19,7 @@ use Rattle.cert_value.specs.WellFormed.{upgraded}
 use Rattle.cert_value.proofs.UpgradeLemmas.{text_up}
 use Rattle.cert_check.specs.Laws.{IsValid}
 use Rattle.cross_text.specs.Text.{cross_text}
-use Rattle.cross_sim.proofs.WrittenLemmas.{written_cross_keeps_rules}
+use Rattle.cross_sim.proofs.WrittenLemmas.{greatest_cross_keeps_rules}
 use Rattle.rabit_frame.specs.declared.parts.Value.TheVariants as value
 use Rattle.rabit_frame.specs.declared.parts.Status.TheVariants as status
 use Rattle.rabit_frame.specs.declared.parts.Reply.{Reply}
@@ -84,7 +84,7 @@ empty_checked files a e c mode one other pair cert r apart is short says =
       answer.checked,
       inr (
         value.Automaton one ∷ value.Automaton other ∷ value.Certificate cert ∷ [],
-        (read_one files a e c empty_text cert apart first_limits one 1 is.read, (read_made files a e c empty_text cert apart second_limits other 2 empty_is_short is.made, (read_cert files a e c empty_text cert apart pair is.valid short, tt))),
+        (read_one files a e c empty_text cert apart first_limits one 1 is.read, (read_made files a e c empty_text cert apart second_limits other 2 empty_is_short is.other_reads, (read_cert files a e c empty_text cert apart pair is.valid short, tt))),
         (one, other, cert, refl, (pair, is.joined, inr (is.valid.keeps, answer.says))),
       ),
       answer.same,
@@ -98,7 +98,7 @@ universal_checked files a u c mode one other pair cert r apart is short says =
     let fit = labels_fit bytes second_limits one read in
     let few_labels : length one.labels ≤ 256 = omega (arith, within.labels, within.labels_named) in
     let made_short = universal_is_short one.labels few_labels fit.0 in
-    let made_reads : Reads made first_limits other = record { no_fault = universal_has_no_fault one.labels few_labels fit first_limits (omega arith) (omega arith) (omega arith); reading = is.made.reading } in
+    let made_reads : Reads made first_limits other = record { no_fault = universal_has_no_fault one.labels few_labels fit first_limits (omega arith) (omega arith) (omega arith); reading = is.other_reads.reading } in
     let answer = agrees cert.mode universality.name pair cert.body (property_puts u made c cert) r says in (
       answer.checked,
       inr (
@@ -171,7 +171,7 @@ cross_checked files a b out look r not_a not_b from upto right zero short = elim
               ((cross_text cross, put_there files out (cross_text cross), few, (of.formed, refl)), tt),
             ),
           ),
-          (one, two, cross, refl, (pair, joined, inr (written_cross_keeps_rules pair look cross from upto of has, refl))),
+          (one, two, cross, refl, (pair, joined, inr (greatest_cross_keeps_rules pair look cross from upto of has, refl))),
         ))
   ]
 ]
@@ -182,5 +182,5 @@ cross_relations_accepted files a b f look pair cross from upto (read, of, has) h
     inr (
       value.Automaton one ∷ value.Automaton two ∷ value.Cross cross ∷ [],
       (first, (second, (held, tt))),
-      (one, two, cross, refl, (pair, joined, inr (written_cross_keeps_rules pair look cross from upto of has, refl))),
+      (one, two, cross, refl, (pair, joined, inr (greatest_cross_keeps_rules pair look cross from upto of has, refl))),
     )

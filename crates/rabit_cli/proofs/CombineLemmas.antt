@@ -34,7 +34,7 @@ use Rattle.rabit_frame.specs.Reading.{only_said, ReadInTurn}
 use Rattle.rabit_cli.specs.Files.{second_limits, first_limits}
 use Rattle.rabit_cli.specs.Include.{pair_inputs}
 use Rattle.rabit_cli.specs.Combine.{MeansCombined, IsCombinedReply, ShowsCombined}
-use Rattle.rabit_cli.specs.Union.{IsUnionOf, IsUnionReply, IsUnionStatus, MeansUnion, AcceptsWhatOneDoes, ShowsUnion}
+use Rattle.rabit_cli.specs.Union.{IsUnionOf, IsUnionReply, IsUnionStatus, MeansUnion, AcceptsWhatEitherDoes, ShowsUnion}
 use Rattle.rabit_cli.specs.Intersect.{IsIntersectionOf, IsIntersectionReply, IsIntersectionStatus, MeansIntersect, AcceptsWhatBothDo, ShowsIntersect}
 use Rattle.rabit_cli.proofs.BackLemmas.{written_same, reads_with_room}
 
@@ -141,9 +141,9 @@ module _ (mode : Mode) (is_result accepts : Joined → Automaton → Type 0) (is
         record {
           shown = λ f. record {
             pair = pair;
-            made = C;
+            combined = C;
             read = (one, two, (bytes, has, few, first), (bytes', has', few', second), joined);
-            is_made = made;
+            is_result_of = made;
             within = within;
             accepts_so = so;
             reads_back = record {
@@ -158,7 +158,7 @@ module _ (mode : Mode) (is_result accepts : Joined → Automaton → Type 0) (is
         }
 
 -- automata that accept the same accept what one of two does, or what both do, alike
-one_does : (m : Mode) (A B C D : Automaton) → Same C D m → AcceptsWhatOneDoes m A B C → AcceptsWhatOneDoes m A B D
+one_does : (m : Mode) (A B C D : Automaton) → Same C D m → AcceptsWhatEitherDoes m A B C → AcceptsWhatEitherDoes m A B D
 one_does Buchi A B C D same h = λ u v. (λ d. (h u v).0 (same.1 u v d), λ x. same.0 u v ((h u v).1 x))
 one_does Finite A B C D same h = λ w. (λ d. (h w).0 (same.1 w d), λ x. same.0 w ((h w).1 x))
 
@@ -166,7 +166,7 @@ both_do : (m : Mode) (A B C D : Automaton) → Same C D m → AcceptsWhatBothDo 
 both_do Buchi A B C D same h = λ u v. (λ d. (h u v).0 (same.1 u v d), λ x. same.0 u v ((h u v).1 x))
 both_do Finite A B C D same h = λ w. (λ d. (h w).0 (same.1 w d), λ x. same.0 w ((h w).1 x))
 
-union_right : (m : Mode) (pair : Joined) (C : Automaton) → IsAutomaton pair.first → IsAutomaton pair.second → IsUnionOf m pair C → AcceptsWhatOneDoes m pair.first pair.second C
+union_right : (m : Mode) (pair : Joined) (C : Automaton) → IsAutomaton pair.first → IsAutomaton pair.second → IsUnionOf m pair C → AcceptsWhatEitherDoes m pair.first pair.second C
 union_right Buchi pair C first second is = union_lassos pair.first pair.second C first second is
 union_right Finite pair C first second is = union_words pair.first pair.second C first second is
 
@@ -177,7 +177,7 @@ intersection_right Finite pair C first second is = intersection_words pair.first
 module _ (files : FileMap) (a b : List ℕ) (m : Mode) (status : ℕ) (sent sent' : Option (List ℕ)) (r : Reply) (number : status_number r.status ≡ status) (sends : sent' ≡ append_known sent r.text) where
   pub shows_union : (values : List Value) → ReadInTurn files (pair_inputs a b) values → MeansUnion m values r → ShowsUnion files a b m status sent sent'
   shows_union =
-      shows_combined m (IsUnionOf m) (λ pair. AcceptsWhatOneDoes m pair.first pair.second) (λ pair. IsUnionTooLarge pair.first pair.second)
+      shows_combined m (IsUnionOf m) (λ pair. AcceptsWhatEitherDoes m pair.first pair.second) (λ pair. IsUnionTooLarge pair.first pair.second)
       (λ pair C is. is.valid) (λ pair C is. is.labels) (union_right m) (λ pair. one_does m pair.first pair.second) files a b status sent sent' r number sends
 
   pub shows_intersection : (values : List Value) → ReadInTurn files (pair_inputs a b) values → MeansIntersect m values r → ShowsIntersect files a b m status sent sent'

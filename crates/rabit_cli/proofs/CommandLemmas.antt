@@ -15,12 +15,12 @@ use Rattle.rabit_words.specs.declared.parts.Question.{Question as Held}
 use Rattle.rabit_words.specs.Question.{Question, Include, Check, Reduce, Drill, Upgrade, Cross, CrossCheck, Equal, Batch, Union, Intersect, Shrink, Empty, Universal, IsProper, told, question_of}
 use Rattle.drawing.specs.declared.parts.Drill.{Drill as Drawing}
 use Rattle.drawing.specs.Drawn.{IsInBounds}
-use Rattle.rabit_cli.specs.Batch.{Calls}
+use Rattle.rabit_cli.specs.Batch.{ShelfCounts}
 use Rattle.rabit_cli.specs.Commands.{Batches, inputs_of, outputs_of, Means, Shows, Drills, LeavesFiles, SaysUsage}
 use Rattle.auto_core.specs.declared.parts.Mode.{Mode}
 use Rattle.decide.specs.Terms.{AreBounded}
 use Rattle.rabit_cli.specs.Include.{terms_by}
-use Rattle.rabit_cli.specs.Reduce.{asked_sight}
+use Rattle.rabit_cli.specs.Reduce.{sight_by}
 use Rattle.rabit_cli.proofs.CrossLemmas.{one_cross, cross_number, shows_cross, leaves_cross, one_cross_check, cross_check_puts, cross_check_number, shows_cross_check}
 use Rattle.rabit_cli.proofs.BatchLemmas.{unread_status, answers_batch}
 use Rattle.rabit_cli.specs.Complete.{AnswersBatch}
@@ -63,7 +63,7 @@ pub one_meaning : (q : Option Question) → IfSome q IsProper → (values : List
 one_meaning None range values r s kinds p q = p ∙ sym q
 one_meaning (Some (Check a b c)) range values r s kinds p q = one_check values r s p q
 one_meaning (Some (Include a b c m look limit letters)) range values r s kinds p q = one_include c (terms_by m look limit letters) (asked_bounded m look limit letters range).look_from values r s p q
-one_meaning (Some (Reduce a m look letters)) range values r s kinds p q = one_reduce a m (asked_sight look letters) range.0 values r s kinds p q
+one_meaning (Some (Reduce a m look letters)) range values r s kinds p q = one_reduce a m (sight_by look letters) range.0 values r s kinds p q
 one_meaning (Some (Drill seed states labels)) range values r s kinds p q = one_drill (drawing seed states labels) values r s p q
 one_meaning (Some (Upgrade c out)) range values r s kinds p q = one_upgrade out values r s p q
 one_meaning (Some (Cross a b out look)) range values r s kinds p q = one_cross out look values r s p q
@@ -80,7 +80,7 @@ pub no_outputs : (q : Option Question) → outputs_of q ≡ [] → (values : Lis
 no_outputs None none values r p = ap (λ z. z.puts) p
 no_outputs (Some (Check a b c)) none values r p = check_puts values r p
 no_outputs (Some (Include a b c m look limit letters)) none values r p = absurd (let f = none in cc)
-no_outputs (Some (Reduce a m look letters)) none values r p = reduce_puts m (asked_sight look letters) values r p
+no_outputs (Some (Reduce a m look letters)) none values r p = reduce_puts m (sight_by look letters) values r p
 no_outputs (Some (Drill seed states labels)) none values r p = drill_puts (drawing seed states labels) values r p
 no_outputs (Some (Upgrade c out)) none values r p = absurd (let f = none in cc)
 no_outputs (Some (Cross a b out look)) none values r p = absurd (let f = none in cc)
@@ -97,7 +97,7 @@ usage_alone : (q : Option Question) (values : List Value) (r : Reply) → Means 
 usage_alone None values r p three = refl
 usage_alone (Some (Check a b c)) values r p three = absurd (check_asked values r p three)
 usage_alone (Some (Include a b c m look limit letters)) values r p three = absurd (include_asked c (terms_by m look limit letters) values r p three)
-usage_alone (Some (Reduce a m look letters)) values r p three = absurd (reduce_asked m (asked_sight look letters) values r p three)
+usage_alone (Some (Reduce a m look letters)) values r p three = absurd (reduce_asked m (sight_by look letters) values r p three)
 usage_alone (Some (Drill seed states labels)) values r p three = absurd (drill_asked (drawing seed states labels) values r p three)
 usage_alone (Some (Upgrade c out)) values r p three = absurd (let zero = upgrade_number out values r p in omega arith)
 usage_alone (Some (Cross a b out look)) values r p three = absurd (elim (cross_number out look values r p) [ inl zero ↦ omega arith | inr ten ↦ omega arith ])
@@ -116,7 +116,7 @@ module _ (status : ℕ) (sent sent' : Option (List ℕ)) where
   shows (Some (Check a b c)) range low files files' (r, values, reads, p, number, left, sends) = shows_check files a b c status sent sent' r number sends values reads p
   shows (Some (Include a b c m look limit letters)) range low files files' (r, values, reads, p, number, left, sends) =
       shows_include files a b c (terms_by m look limit letters) (asked_bounded m look limit letters range) status files' sent sent' r number left sends values reads p
-  shows (Some (Reduce a m look letters)) range low files files' (r, values, reads, p, number, left, sends) = shows_reduce files a m (asked_sight look letters) status sent sent' r range.0 number sends values reads p
+  shows (Some (Reduce a m look letters)) range low files files' (r, values, reads, p, number, left, sends) = shows_reduce files a m (sight_by look letters) status sent sent' r range.0 number sends values reads p
   shows (Some (Drill seed states labels)) range low files files' (r, values, reads, p, number, left, sends) =
       shows_drill (drawing seed states labels) status sent sent' r (in_bounds seed states labels range) number sends values p
   shows (Some (Upgrade c out)) range low files files' (r, values, reads, p, number, left, sends) = shows_upgrade files c out status files' sent sent' r number left sends values reads p
@@ -130,32 +130,32 @@ module _ (status : ℕ) (sent sent' : Option (List ℕ)) where
   shows (Some (Empty a e c m)) range low files files' (r, values, reads, p, number, left, sends) = shows_property emptiness emptiness_decidable e c m files a status files' sent sent' r number left sends values reads p
   shows (Some (Universal a u c m)) range low files files' (r, values, reads, p, number, left, sends) = shows_property universality universality_decidable u c m files a status files' sent sent' r number left sends values reads p
 
-module _ (held held' : Option FileMap) (status : ℕ) (sent sent' : Option (List ℕ)) (sink sink' faults faults' puts puts' : ℕ) where
+module _ (held held' : Option FileMap) (status : ℕ) (sent sent' : Option (List ℕ)) (give_faults give_faults' faults faults' put_faults put_faults' : ℕ) where
   abbrev pub Carried : Option Question → Type 0
-  Carried q = IsCarriedOut (Means q) (inputs_of q) held held' status sent sent' sink sink' faults faults' puts puts'
+  Carried q = IsCarriedOut (Means q) (inputs_of q) held held' status sent sent' give_faults give_faults' faults faults' put_faults put_faults'
 
   -- status 3 comes of words that ask nothing
-  asked_at : (q : Option Question) (e : Ending) → EndsSo (Means q) (inputs_of q) e held held' faults faults' puts puts' → WasSaid e status sent sent' sink sink' → status ≡ 3 → q ≡ None
+  asked_at : (q : Option Question) (e : Ending) → EndsSo (Means q) (inputs_of q) e held held' faults faults' put_faults put_faults' → WasSaid e status sent sent' give_faults give_faults' → status ≡ 3 → q ≡ None
   asked_at q (ending.Reached r) ends said three =
-      let number = own_status (Means q) (inputs_of q) held held' status sent sent' sink sink' faults faults' puts puts' r said (λ e. omega arith, λ e. omega arith, λ e. omega arith) in
+      let number = own_status (Means q) (inputs_of q) held held' status sent sent' give_faults give_faults' faults faults' put_faults put_faults' r said (λ e. omega arith, λ e. omega arith, λ e. omega arith) in
       elim ends.may [
         | inl stop ↦ (let high = (may_plain (inputs_of q) r stop).0 in absurd (omega arith))
         | inr (values, kinds, m) ↦ usage_alone q values r m (number ∙ three)
       ]
-  asked_at q (ending.ReadFault) ends said three = (let e = same_status (Means q) (inputs_of q) held held' status sent sent' sink sink' faults faults' puts puts' 6 ending.ReadFault refl refl said in absurd (omega arith))
-  asked_at q (ending.WriteFault) ends said three = (let e = same_status (Means q) (inputs_of q) held held' status sent sent' sink sink' faults faults' puts puts' 7 ending.WriteFault refl refl said in absurd (omega arith))
-  asked_at q (ending.OutOfMemory) ends said three = (let e = same_status (Means q) (inputs_of q) held held' status sent sent' sink sink' faults faults' puts puts' 8 ending.OutOfMemory refl refl said in absurd (omega arith))
+  asked_at q (ending.ReadFault) ends said three = (let e = same_status (Means q) (inputs_of q) held held' status sent sent' give_faults give_faults' faults faults' put_faults put_faults' 6 ending.ReadFault refl refl said in absurd (omega arith))
+  asked_at q (ending.WriteFault) ends said three = (let e = same_status (Means q) (inputs_of q) held held' status sent sent' give_faults give_faults' faults faults' put_faults put_faults' 7 ending.WriteFault refl refl said in absurd (omega arith))
+  asked_at q (ending.OutOfMemory) ends said three = (let e = same_status (Means q) (inputs_of q) held held' status sent sent' give_faults give_faults' faults faults' put_faults put_faults' 8 ending.OutOfMemory refl refl said in absurd (omega arith))
 
   pub asked_nothing : (q : Option Question) → Carried q → status ≡ 3 → q ≡ None
   asked_nothing q c three = asked_at q c.end c.ends c.said three
 
   -- and then that is said
-  usage_at : (e : Ending) → EndsSo (Means None) [] e held held' faults faults' puts puts' → WasSaid e status sent sent' sink sink' → SaysUsage status sent sent' sink sink'
+  usage_at : (e : Ending) → EndsSo (Means None) [] e held held' faults faults' put_faults put_faults' → WasSaid e status sent sent' give_faults give_faults' → SaysUsage status sent sent' give_faults give_faults'
   usage_at (ending.Reached r) ends said =
       elim ends.may [
         | inl stop ↦ absurd stop
         | inr (values, kinds, is) ↦
-            let said' = subst (λ z. WasSaid (ending.Reached z) status sent sent' sink sink') is said in
+            let said' = subst (λ z. WasSaid (ending.Reached z) status sent sent' give_faults give_faults') is said in
             elim said' [ inl whole ↦ inl (whole.0, inl (refl, whole.1, whole.2)) | inr front ↦ inl (front.0, inr (refl, front.1, front.2)) ]
       ]
   usage_at (ending.ReadFault) ends said = (let some = ends.may in absurd (omega arith))
@@ -164,12 +164,12 @@ module _ (held held' : Option FileMap) (status : ℕ) (sent sent' : Option (List
       elim may [ inl stop ↦ absurd stop | inr (values, kinds, is) ↦ (let none = ap (λ z. length z.puts) is in absurd (omega arith)) ]
   usage_at (ending.OutOfMemory) ends said = elim said [ inl whole ↦ inr (whole.0, inl (refl, whole.1, whole.2)) | inr front ↦ inr (front.0, inr (refl, front.1, front.2)) ]
 
-  pub says_usage : (q : Option Question) → Carried q → q ≡ None → SaysUsage status sent sent' sink sink'
+  pub says_usage : (q : Option Question) → Carried q → q ≡ None → SaysUsage status sent sent' give_faults give_faults'
   says_usage q c none =
       let c' : Carried None = subst Carried none c in
       usage_at c'.end c'.ends c'.said
 
-  pub drills : (q : Option Question) → IfSome q IsProper → Carried q → IfSome q (λ asked. Drills asked status sent sent' sink sink')
+  pub drills : (q : Option Question) → IfSome q IsProper → Carried q → IfSome q (λ asked. Drills asked status sent sent' give_faults give_faults')
   drills None range c = tt
   drills (Some (Check a b d)) range c = tt
   drills (Some (Include a b d m look limit letters)) range c = tt
@@ -185,42 +185,42 @@ module _ (held held' : Option FileMap) (status : ℕ) (sent sent' : Option (List
   drills (Some (Empty a e d m)) range c = tt
   drills (Some (Universal a u d m)) range c = tt
   drills (Some (Drill seed states labels)) range c =
-      says_drill held held' status sent sent' sink sink' faults faults' puts puts' (drawing seed states labels) (in_bounds seed states labels range) c.end c.ends c.said
+      says_drill held held' status sent sent' give_faults give_faults' faults faults' put_faults put_faults' (drawing seed states labels) (in_bounds seed states labels range) c.end c.ends c.said
 
   pub reads_none : (q : Option Question) → Carried q → inputs_of q ≡ [] → faults' ≡ faults
-  reads_none q c none = no_inputs (Means q) (inputs_of q) held held' status sent sent' sink sink' faults faults' puts puts' c.end c.ends none
+  reads_none q c none = no_inputs (Means q) (inputs_of q) held held' status sent sent' give_faults give_faults' faults faults' put_faults put_faults' c.end c.ends none
 
-  pub writes_none : (q : Option Question) → Carried q → outputs_of q ≡ [] → puts' ≡ puts
-  writes_none q c none = no_puts (Means q) (inputs_of q) held held' status sent sent' sink sink' faults faults' puts puts' c.end c.ends (no_outputs q none)
+  pub writes_none : (q : Option Question) → Carried q → outputs_of q ≡ [] → put_faults' ≡ put_faults
+  writes_none q c none = no_puts (Means q) (inputs_of q) held held' status sent sent' give_faults give_faults' faults faults' put_faults put_faults' c.end c.ends (no_outputs q none)
 
   stays_with : (q : Option Question) → Carried q → outputs_of q ≡ [] → OfBoth held held' (λ files files'. files' ≡ files)
   stays_with q c none =
       both_same held held' (λ files files'. files' ≡ files) (λ files. refl)
-      (no_puts_stay (Means q) (inputs_of q) held held' status sent sent' sink sink' faults faults' puts puts' c.end c.ends (no_outputs q none))
+      (no_puts_stay (Means q) (inputs_of q) held held' status sent sent' give_faults give_faults' faults faults' put_faults put_faults' c.end c.ends (no_outputs q none))
 
-  pub leaves : (q : Option Question) → IfSome q IsProper → Carried q → OfBoth held held' (λ files files'. LeavesFiles q status puts puts' files files')
+  pub leaves : (q : Option Question) → IfSome q IsProper → Carried q → OfBoth held held' (λ files files'. LeavesFiles q status put_faults put_faults' files files')
   leaves None range c = stays_with None c refl
   leaves (Some (Check a b d)) range c = stays_with (Some (Check a b d)) c refl
   leaves (Some (Include a b d m look limit letters)) range c =
-      leaves_include held held' status sent sent' sink sink' faults faults' puts puts' a b d (terms_by m look limit letters) (asked_bounded m look limit letters range) c.end c.ends c.said
+      leaves_include held held' status sent sent' give_faults give_faults' faults faults' put_faults put_faults' a b d (terms_by m look limit letters) (asked_bounded m look limit letters range) c.end c.ends c.said
   leaves (Some (Reduce a m look letters)) range c = stays_with (Some (Reduce a m look letters)) c refl
   leaves (Some (Drill seed states labels)) range c = stays_with (Some (Drill seed states labels)) c refl
-  leaves (Some (Upgrade d out)) range c = leaves_upgrade held held' status sent sent' sink sink' faults faults' puts puts' d out c.end c.ends c.said
-  leaves (Some (Cross a b out look)) range c = leaves_cross held held' status sent sent' sink sink' faults faults' puts puts' a b out look c.end c.ends c.said
+  leaves (Some (Upgrade d out)) range c = leaves_upgrade held held' status sent sent' give_faults give_faults' faults faults' put_faults put_faults' d out c.end c.ends c.said
+  leaves (Some (Cross a b out look)) range c = leaves_cross held held' status sent sent' give_faults give_faults' faults faults' put_faults put_faults' a b out look c.end c.ends c.said
   leaves (Some (CrossCheck a b f)) range c = stays_with (Some (CrossCheck a b f)) c refl
-  leaves (Some (Equal a b d out)) range c = leaves_equal held held' status sent sent' sink sink' faults faults' puts puts' a b d out c.end c.ends c.said
+  leaves (Some (Equal a b d out)) range c = leaves_equal held held' status sent sent' give_faults give_faults' faults faults' put_faults put_faults' a b d out c.end c.ends c.said
   leaves (Some (Batch l)) range c = stays_with (Some (Batch l)) c refl
   leaves (Some (Union a b m)) range c = stays_with (Some (Union a b m)) c refl
   leaves (Some (Intersect a b m)) range c = stays_with (Some (Intersect a b m)) c refl
-  leaves (Some (Shrink a b d out)) range c = leaves_shrink held held' status sent sent' sink sink' faults faults' puts puts' a b d out c.end c.ends c.said
-  leaves (Some (Empty a e d m)) range c = leaves_property emptiness emptiness_decidable e d m held held' status sent sent' sink sink' faults faults' puts puts' a c.end c.ends c.said
-  leaves (Some (Universal a u d m)) range c = leaves_property universality universality_decidable u d m held held' status sent sent' sink sink' faults faults' puts puts' a c.end c.ends c.said
+  leaves (Some (Shrink a b d out)) range c = leaves_shrink held held' status sent sent' give_faults give_faults' faults faults' put_faults put_faults' a b d out c.end c.ends c.said
+  leaves (Some (Empty a e d m)) range c = leaves_property emptiness emptiness_decidable e d m held held' status sent sent' give_faults give_faults' faults faults' put_faults put_faults' a c.end c.ends c.said
+  leaves (Some (Universal a u d m)) range c = leaves_property universality universality_decidable u d m held held' status sent sent' give_faults give_faults' faults faults' put_faults put_faults' a c.end c.ends c.said
 
   -- a batch that was carried out as if it had a reply of its own has no question asked
-  pub batches : (q : Option Question) → Carried q → (missed missed' : ℕ) (calls calls' : Calls) → IfSome held (λ files. MissedInTurn files (inputs_of q) missed missed') → IfSome held (λ files. BegunInTurn files (inputs_of q) calls.begins calls'.begins) → (status ≡ 6 → IfSome held (λ files. BlamesInTurn files (inputs_of q) calls'.blamed))
-      → IfSome q (λ asked. Batches asked held held' status sent sent' sink sink' faults faults' puts puts' missed missed' calls calls')
+  pub batches : (q : Option Question) → Carried q → (missed missed' : ℕ) (calls calls' : ShelfCounts) → IfSome held (λ files. MissedInTurn files (inputs_of q) missed missed') → IfSome held (λ files. BegunInTurn files (inputs_of q) calls.begins calls'.begins) → (status ≡ 6 → IfSome held (λ files. BlamesInTurn files (inputs_of q) calls'.blamed))
+      → IfSome q (λ asked. Batches asked held held' status sent sent' give_faults give_faults' faults faults' put_faults put_faults' missed missed' calls calls')
   batches (Some (Batch l)) c missed missed' calls calls' missing begun blames =
-      inl (record { carried = c; known = unread_status l held held' status sent sent' sink sink' faults faults' puts puts' c; missing = missing; begun_in_turn = begun; blames = blames })
+      inl (record { carried = c; known = unread_status l held held' status sent sent' give_faults give_faults' faults faults' put_faults put_faults' c; missing = missing; begun_in_turn = begun; blames = blames })
   batches None c missed missed' calls calls' missing begun blames = tt
   batches (Some (Check a b d)) c missed missed' calls calls' missing begun blames = tt
   batches (Some (Include a b d m look limit letters)) c missed missed' calls calls' missing begun blames = tt
@@ -237,8 +237,8 @@ module _ (held held' : Option FileMap) (status : ℕ) (sent sent' : Option (List
   batches (Some (Universal a u d m)) c missed missed' calls calls' missing begun blames = tt
 
   -- and its status
-  pub answers_batches : (q : Option Question) → Carried q → (missed missed' : ℕ) (calls calls' : Calls) → IfSome held (λ files. MissedInTurn files (inputs_of q) missed missed') → IfSome held (λ files. BegunInTurn files (inputs_of q) calls.begins calls'.begins) → (status ≡ 6 → IfSome held (λ files. BlamesInTurn files (inputs_of q) calls'.blamed)) → IfSome q (λ asked. AnswersBatch asked status sink sink' faults faults')
-  answers_batches (Some (Batch l)) c missed missed' calls calls' missing begun blames = answers_batch l held held' status sent sent' sink sink' faults faults' puts puts' missed missed' calls calls' (batches (Some (Batch l)) c missed missed' calls calls' missing begun blames)
+  pub answers_batches : (q : Option Question) → Carried q → (missed missed' : ℕ) (calls calls' : ShelfCounts) → IfSome held (λ files. MissedInTurn files (inputs_of q) missed missed') → IfSome held (λ files. BegunInTurn files (inputs_of q) calls.begins calls'.begins) → (status ≡ 6 → IfSome held (λ files. BlamesInTurn files (inputs_of q) calls'.blamed)) → IfSome q (λ asked. AnswersBatch asked status give_faults give_faults' faults faults')
+  answers_batches (Some (Batch l)) c missed missed' calls calls' missing begun blames = answers_batch l held held' status sent sent' give_faults give_faults' faults faults' put_faults put_faults' missed missed' calls calls' (batches (Some (Batch l)) c missed missed' calls calls' missing begun blames)
   answers_batches None c missed missed' calls calls' missing begun blames = tt
   answers_batches (Some (Check a b d)) c missed missed' calls calls' missing begun blames = tt
   answers_batches (Some (Include a b d m look limit letters)) c missed missed' calls calls' missing begun blames = tt

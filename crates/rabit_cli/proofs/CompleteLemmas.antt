@@ -126,10 +126,10 @@ wants (Shrink a b c out) single files n e = inr e
 wants (Empty a e' c m) single files n e = inr e
 wants (Universal a u c m) single files n e = inr e
 
-module _ (held held' : Option FileMap) (status : ℕ) (sent sent' : Option (List ℕ)) (sink sink' faults faults' puts puts' : ℕ) where
+module _ (held held' : Option FileMap) (status : ℕ) (sent sent' : Option (List ℕ)) (give_faults give_faults' faults faults' put_faults put_faults' : ℕ) where
   answers_on : (q : Question) → IsSingle (Some q) → (h : Option FileMap) (e : Ending) → OfBoth h held' (λ files files'. Leaves (Means (Some q)) (inputs_of (Some q)) e files files')
-      → EndsSo (Means (Some q)) (inputs_of (Some q)) e held held' faults faults' puts puts' → WasSaid e status sent sent' sink sink'
-      → IfSome h (λ files. AnswersWhatReads q files status sink sink' faults faults' puts puts')
+      → EndsSo (Means (Some q)) (inputs_of (Some q)) e held held' faults faults' put_faults put_faults' → WasSaid e status sent sent' give_faults give_faults'
+      → IfSome h (λ files. AnswersWhatReads q files status give_faults give_faults' faults faults' put_faults put_faults')
   answers_on q single None e leaves ends said = tt
   answers_on q single (Some files) (ending.Reached s) (files', is, (right, left)) ends said = λ values reads.
       elim said [ inl whole ↦ inl (answers q single files values reads s right status whole.0) | inr front ↦ inr (inr (inl front.1)) ]
@@ -137,7 +137,7 @@ module _ (held held' : Option FileMap) (status : ℕ) (sent sent' : Option (List
   answers_on q single (Some files) (ending.WriteFault) leaves ends said = λ values reads. inr (inr (inr (ends.write_fault refl)))
   answers_on q single (Some files) (ending.OutOfMemory) leaves ends said = λ values reads. inl (wants q single files status (elim said [ inl whole ↦ whole.0 | inr front ↦ front.0 ]))
 
-  pub answers_what_reads : (q : Option Question) → IsSingle q → IsCarriedOut (Means q) (inputs_of q) held held' status sent sent' sink sink' faults faults' puts puts'
-      → IfSome q (λ asked. IfSome held (λ files. AnswersWhatReads asked files status sink sink' faults faults' puts puts'))
+  pub answers_what_reads : (q : Option Question) → IsSingle q → IsCarriedOut (Means q) (inputs_of q) held held' status sent sent' give_faults give_faults' faults faults' put_faults put_faults'
+      → IfSome q (λ asked. IfSome held (λ files. AnswersWhatReads asked files status give_faults give_faults' faults faults' put_faults put_faults'))
   answers_what_reads None single c = tt
   answers_what_reads (Some q) single c = answers_on q single held c.end c.ends.leaves c.ends c.said

@@ -10,7 +10,7 @@ use Rattle.cross_text.specs.declared.types.Cross.{Cross}
 use Rattle.cross_sim.specs.declared.faults.CrossRefusal.{CrossRefusal}
 use Rattle.cross_sim.specs.Rules.{KeepsCrossRules}
 use Rattle.cross_sim.proofs.CheckLemmas.{kept_rules_include, none_breaks, break_one}
-use Rattle.cross_sim.proofs.WrittenLemmas.{cross_is_one, written_cross_keeps_rules}
+use Rattle.cross_sim.proofs.WrittenLemmas.{cross_is_one, greatest_cross_keeps_rules}
 use Rattle.rabit_frame.specs.declared.parts.Value.{Value}
 use Rattle.rabit_frame.specs.declared.parts.Value.TheVariants as value
 use Rattle.rabit_frame.specs.declared.parts.Status.TheVariants as status
@@ -88,7 +88,7 @@ module _ (files : FileMap) (a b out : List ℕ) (look : ℕ) where
             pair = pair;
             cross = cross;
             for = (read_pair values one two pair reads is joined, of, has);
-            includes = kept_rules_include pair cross joined.second.valid (written_cross_keeps_rules pair look cross from upto of has);
+            includes = kept_rules_include pair cross joined.second.valid (greatest_cross_keeps_rules pair look cross from upto of has);
             held = left ∙ ap (λ z. filed files z.puts) e;
             printed = sends ∙ ap (λ z. append_known sent z.text) e;
           };
@@ -108,10 +108,10 @@ module _ (files : FileMap) (a b out : List ℕ) (look : ℕ) where
         | inr (lacks, e) ↦ (pair, cross, read, of, inr (lacks, same ∙ ap (λ z. status_number z.status) e))
       ]
 
-module _ (held held' : Option FileMap) (status : ℕ) (sent sent' : Option (List ℕ)) (sink sink' faults faults' puts puts' : ℕ) (a b out : List ℕ) (look : ℕ) where
-  pub leaves_cross : (e : Ending) → EndsSo (MeansCross out look) (pair_inputs a b) e held held' faults faults' puts puts' → WasSaid e status sent sent' sink sink' → OfBoth held held' (λ files files'. LeavesCross files a b out look status puts puts' files')
+module _ (held held' : Option FileMap) (status : ℕ) (sent sent' : Option (List ℕ)) (give_faults give_faults' faults faults' put_faults put_faults' : ℕ) (a b out : List ℕ) (look : ℕ) where
+  pub leaves_cross : (e : Ending) → EndsSo (MeansCross out look) (pair_inputs a b) e held held' faults faults' put_faults put_faults' → WasSaid e status sent sent' give_faults give_faults' → OfBoth held held' (λ files files'. LeavesCross files a b out look status put_faults put_faults' files')
   leaves_cross e ends said =
-      leaves_by_status (MeansCross out look) (pair_inputs a b) held held' status sent sent' sink sink' faults faults' puts puts' _ _ (cross_writes out look)
+      leaves_by_status (MeansCross out look) (pair_inputs a b) held held' status sent sent' give_faults give_faults' faults faults' put_faults put_faults' _ _ (cross_writes out look)
       (λ files files' values r reads means low left. holds_cross files a b out look files' values r reads means low left)
       (λ files files' values r reads means cut. holds_cross_front files a b out look files' values r reads means cut) e ends said
 

@@ -70,52 +70,52 @@ text_by_pieces a b c d e f =
     append_assoc (((a ++ b) ++ c) ++ d) e f ∙ ap (λ l. l ++ (e ++ f)) (append_assoc (a ++ b) c d) ∙ append_assoc (a ++ b) (c ++ d) (e ++ f) ∙ append_assoc a b ((c ++ d) ++ (e ++ f))
 
 pub one_drill : (d : Drill) (values : List Value) (r s : Reply) → MeansDrill d values r → MeansDrill d values s → r ≡ s
-one_drill d values r s (pair, forth, back, a, e) (pair', forth', back', a', e') =
+one_drill d values r s (pair, forth, converse, a, e) (pair', forth', converse', a', e') =
     let same : pair ≡ pair' = drawn_one d pair pair' a.drawn a'.drawn in
     let F : Joined → Type 0 = λ z. IsAnswer z drill_terms forth in
-    let B : Joined → Type 0 = λ z. IsAnswer (exchanged z) drill_terms back in
+    let B : Joined → Type 0 = λ z. IsAnswer (exchanged z) drill_terms converse in
     let one : forth ≡ forth' = one_answer pair' drill_terms forth forth' a'.drawn.first.valid a'.drawn.second.valid (omega arith) (subst F same a.first_in_second) a'.first_in_second in
-    let two : back ≡ back' = one_answer (exchanged pair') drill_terms back back' a'.drawn.second.valid a'.drawn.first.valid (omega arith) (subst B same a.second_in_first) a'.second_in_first in
-    e ∙ ap (λ z. only_said status.Done (drill_text z forth.body back.body)) same
-    ∙ ap (λ (z : Cert). only_said status.Done (drill_text pair' z.body back.body)) one
+    let two : converse ≡ converse' = one_answer (exchanged pair') drill_terms converse converse' a'.drawn.second.valid a'.drawn.first.valid (omega arith) (subst B same a.second_in_first) a'.second_in_first in
+    e ∙ ap (λ z. only_said status.Done (drill_text z forth.body converse.body)) same
+    ∙ ap (λ (z : Cert). only_said status.Done (drill_text pair' z.body converse.body)) one
     ∙ ap (λ (z : Cert). only_said status.Done (drill_text pair' forth'.body z.body)) two ∙ sym e'
 
 pub drill_puts : (d : Drill) (values : List Value) (r : Reply) → MeansDrill d values r → r.puts ≡ []
-drill_puts d values r (pair, forth, back, a, e) = ap (λ z. z.puts) e
+drill_puts d values r (pair, forth, converse, a, e) = ap (λ z. z.puts) e
 
 pub drill_asked : (d : Drill) (values : List Value) (r : Reply) → MeansDrill d values r → status_number r.status ≡ 3 → ⊥
-drill_asked d values r (pair, forth, back, a, e) three = (let f = ap (λ z. status_number z.status) e in omega arith)
+drill_asked d values r (pair, forth, converse, a, e) three = (let f = ap (λ z. status_number z.status) e in omega arith)
 
 -- the text of the answers
-text_of : (d : Drill) (pair : Joined) (forth back : Cert) → IsInBounds d → AreDecided d pair forth back → IsDrillText d (drill_text pair forth.body back.body)
-text_of d pair forth back bounds a =
+text_of : (d : Drill) (pair : Joined) (forth converse : Cert) → IsInBounds d → AreDecided d pair forth converse → IsDrillText d (drill_text pair forth.body converse.body)
+text_of d pair forth converse bounds a =
     let can = can_draw d pair bounds a.drawn in
     record {
       pair = pair;
       forth = forth;
-      back = back;
+      converse = converse;
       decided = a;
       first_in_second = answers_are_true pair drill_terms forth can (usual_bounded Buchi) a.first_in_second;
-      second_in_first = answers_are_true (exchanged pair) drill_terms back (can_exchange d pair bounds a.drawn) (usual_bounded Buchi) a.second_in_first;
+      second_in_first = answers_are_true (exchanged pair) drill_terms converse (can_exchange d pair bounds a.drawn) (usual_bounded Buchi) a.second_in_first;
       is = refl;
     }
 
 pub shows_drill : (d : Drill) (status : ℕ) (sent sent' : Option (List ℕ)) (r : Reply) → IsInBounds d → status_number r.status ≡ status → sent' ≡ append_known sent r.text →
     (values : List Value) → MeansDrill d values r → ShowsDrill d status sent sent'
-shows_drill d status sent sent' r bounds number sends values (pair, forth, back, a, e) =
+shows_drill d status sent sent' r bounds number sends values (pair, forth, converse, a, e) =
     let zero : status ≡ 0 = sym number ∙ ap (λ z. status_number z.status) e in
     record {
-      drilled = λ e'. (drill_text pair forth.body back.body, text_of d pair forth back bounds a, sends ∙ ap (λ z. append_known sent z.text) e);
+      drilled = λ e'. (drill_text pair forth.body converse.body, text_of d pair forth converse bounds a, sends ∙ ap (λ z. append_known sent z.text) e);
       no_other = (λ f. omega arith, λ f. omega arith);
     }
 
-module _ (held held' : Option FileMap) (status : ℕ) (sent sent' : Option (List ℕ)) (sink sink' faults faults' puts puts' : ℕ) (d : Drill) (bounds : IsInBounds d) where
+module _ (held held' : Option FileMap) (status : ℕ) (sent sent' : Option (List ℕ)) (give_faults give_faults' faults faults' put_faults put_faults' : ℕ) (d : Drill) (bounds : IsInBounds d) where
   -- what was said at the end
-  pub says_drill : (e : Ending) → EndsSo (MeansDrill d) [] e held held' faults faults' puts puts' → WasSaid e status sent sent' sink sink' → SaysDrill d status sent sent' sink sink'
+  pub says_drill : (e : Ending) → EndsSo (MeansDrill d) [] e held held' faults faults' put_faults put_faults' → WasSaid e status sent sent' give_faults give_faults' → SaysDrill d status sent sent' give_faults give_faults'
   says_drill (ending.Reached r) ends said = elim ends.may [
     | inl stop ↦ absurd stop
-    | inr (values, kinds, (pair, forth, back, a, is)) ↦
-        inl (drill_text pair forth.body back.body, text_of d pair forth back bounds a, subst (λ z. WasSaid (ending.Reached z) status sent sent' sink sink') is said)
+    | inr (values, kinds, (pair, forth, converse, a, is)) ↦
+        inl (drill_text pair forth.body converse.body, text_of d pair forth converse bounds a, subst (λ z. WasSaid (ending.Reached z) status sent sent' give_faults give_faults') is said)
   ]
   says_drill (ending.ReadFault) ends said = (let some = ends.may in absurd (omega arith))
   says_drill (ending.WriteFault) ends said =

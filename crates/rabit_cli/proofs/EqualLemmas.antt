@@ -14,7 +14,7 @@ use Rattle.cert_value.specs.declared.types.Body.TheVariants.{Yes, NoLasso, NoWor
 use Rattle.cert_value.specs.declared.types.Answer.TheVariants as an_answer
 use Rattle.cert_value.specs.Text.{answer_of}
 use Rattle.decide.specs.Answer.{IsAnswer}
-use Rattle.decide.specs.Laws.{SaysTruth}
+use Rattle.decide.specs.Laws.{AnswerIsTrue}
 use Rattle.decide.proofs.UniqueLemmas.{one_answer}
 use Rattle.equal_batch.specs.declared.outcome.Both.{Both}
 use Rattle.equal_batch.specs.declared.outcome.Both.TheVariants as both
@@ -33,7 +33,7 @@ use Rattle.rabit_frame.proofs.EndLemmas.{leaves_by_status}
 use Rattle.rabit_cli.specs.Files.{second_limits, automaton_file}
 use Rattle.rabit_cli.specs.Include.{usual_terms, IsCertForWithin}
 use Rattle.rabit_cli.specs.Shrink.{IsNo}
-use Rattle.rabit_cli.specs.Equal.{equal_inputs, first_apart_reply, both_reply, both_puts, IsEqualReply, MeansEqual, AreCertsFor, AreEqualPuts, HoldsEqual, HoldsEqualPart, LeavesEqual, Separates, IsListBody, ShowsEqual}
+use Rattle.rabit_cli.specs.Equal.{equal_inputs, first_apart_reply, both_reply, both_puts, IsEqualReply, MeansEqual, AreCertsBothWays, AreEqualPuts, HoldsEqual, HoldsEqualPart, LeavesEqual, Separates, IsListBody, ShowsEqual}
 use Rattle.rabit_cli.proofs.IncludeLemmas.{usual_bounded, cert_for_within}
 use Rattle.rabit_cli.proofs.PairLemmas.{within_first}
 
@@ -107,7 +107,7 @@ equal_writes c d values r means high = absurd (let low = equal_low c d values r 
 -- ---- what it shows
 
 -- what the answer says of a no
-separated : (pair : Joined) (body : Body) → IsNo body → SaysTruth pair (usual_terms Buchi) body → Separates pair body
+separated : (pair : Joined) (body : Body) → IsNo body → AnswerIsTrue pair (usual_terms Buchi) body → Separates pair body
 separated pair (Yes evidence) is truth = absurd is
 separated pair (NoLasso lasso) is truth = truth
 separated pair (NoWord word) is truth = truth
@@ -166,7 +166,7 @@ module _ (files : FileMap) (a b c d : List ℕ) where
           }
 
       module _ (cert : Cert) (answer : IsAnswer pair (usual_terms Buchi) cert) (not : ¬ IsNo cert.body) (converse : Joined) (other : Cert) (turned : IsJoined two one converse) (answer' : IsAnswer converse (usual_terms Buchi) other) where
-        certs : AreCertsFor files a b pair converse cert other
+        certs : AreCertsBothWays files a b pair converse cert other
         certs = record { first = first_for cert answer; second = second_for converse other turned answer' }
 
         abbrev reply_by : Both → Reply
@@ -238,7 +238,7 @@ module _ (files : FileMap) (a b c d : List ℕ) where
         by_bodies (NoLasso l) y is_x is_y e = absurd (not (subst IsNo (sym is_x) tt))
         by_bodies (NoWord w) y is_x is_y e = absurd (not (subst IsNo (sym is_x) tt))
         by_bodies (Yes p) (Yes q) is_x is_y e =
-            shows_equal_now e (ap answer_of is_x) (ap answer_of is_y) (subst (SaysTruth pair (usual_terms Buchi)) is_x certs.first.truth).0 (subst (SaysTruth converse (usual_terms Buchi)) is_y certs.second.truth).0
+            shows_equal_now e (ap answer_of is_x) (ap answer_of is_y) (subst (AnswerIsTrue pair (usual_terms Buchi)) is_x certs.first.truth).0 (subst (AnswerIsTrue converse (usual_terms Buchi)) is_y certs.second.truth).0
         by_bodies (Yes p) (NoLasso l) is_x is_y e = shows_second e (subst IsNo (sym is_y) tt)
         by_bodies (Yes p) (NoWord w) is_x is_y e = shows_second e (subst IsNo (sym is_y) tt)
         by_bodies (Yes p) (Listing l) is_x is_y e = shows_limit e (λ h. subst IsNo is_y h) (inr (subst IsListBody (sym is_y) tt))
@@ -270,9 +270,9 @@ module _ (files : FileMap) (a b c d : List ℕ) where
   pub holds_equal_part : (files' : FileMap) (values : List Value) (r : Reply) → ReadInTurn files (equal_inputs a b) values → MeansEqual c d values r → IsCutShort files r.puts files' → HoldsEqualPart files a b c d files'
   holds_equal_part files' values r reads means cut = (r.puts, puts_of values r reads means, cut)
 
-module _ (held held' : Option FileMap) (status : ℕ) (sent sent' : Option (List ℕ)) (sink sink' faults faults' puts puts' : ℕ) (a b c d : List ℕ) where
-  pub leaves_equal : (e : Ending) → EndsSo (MeansEqual c d) (equal_inputs a b) e held held' faults faults' puts puts' → WasSaid e status sent sent' sink sink' → OfBoth held held' (λ files files'. LeavesEqual files a b c d status puts puts' files')
+module _ (held held' : Option FileMap) (status : ℕ) (sent sent' : Option (List ℕ)) (give_faults give_faults' faults faults' put_faults put_faults' : ℕ) (a b c d : List ℕ) where
+  pub leaves_equal : (e : Ending) → EndsSo (MeansEqual c d) (equal_inputs a b) e held held' faults faults' put_faults put_faults' → WasSaid e status sent sent' give_faults give_faults' → OfBoth held held' (λ files files'. LeavesEqual files a b c d status put_faults put_faults' files')
   leaves_equal e ends said =
-      leaves_by_status (MeansEqual c d) (equal_inputs a b) held held' status sent sent' sink sink' faults faults' puts puts' _ _ (equal_writes c d)
+      leaves_by_status (MeansEqual c d) (equal_inputs a b) held held' status sent sent' give_faults give_faults' faults faults' put_faults put_faults' _ _ (equal_writes c d)
       (λ files files' values r reads means low left. holds_equal files a b c d files' values r reads means left)
       (λ files files' values r reads means cut. holds_equal_part files a b c d files' values r reads means cut) e ends said

@@ -21,7 +21,7 @@ use Rattle.cert_value.specs.Text.{text}
 use Rattle.decide.specs.Answer.{Reductions, IsAnswer, IsBodyOf}
 use Rattle.decide.specs.declared.terms.Terms.{Terms}
 use Rattle.decide.specs.Terms.{AreBounded}
-use Rattle.decide.specs.Laws.{SaysTruth}
+use Rattle.decide.specs.Laws.{AnswerIsTrue}
 use Rattle.decide.proofs.AnswerLemmas.{answers_are_formed, answers_are_true, answers_are_valid}
 use Rattle.decide.proofs.UniqueLemmas.{one_answer}
 use Rattle.rabit_frame.specs.declared.parts.Value.{Value}
@@ -36,7 +36,7 @@ use Rattle.rabit_frame.proofs.EndLemmas.{leaves_by_status}
 use Rattle.rabit_cli.specs.Printed.{limit_text}
 use Rattle.rabit_cli.specs.Files.{first_limits, second_limits, ReadsPairWithin, ReadsPair}
 use Rattle.rabit_cli.specs.Replies.{IsVerdictReply, SaysApart}
-use Rattle.rabit_cli.specs.Include.{usual_terms, pair_inputs, certificate_put, MeansInclude, IsCertForWithin, IsCertFor, HoldsAnswer, HoldsFront, LeavesDecided, ShowsInclude}
+use Rattle.rabit_cli.specs.Include.{usual_terms, pair_inputs, certificate_put, MeansInclude, IsCertForWithin, IsCertFor, HoldsAnswer, HoldsAnswerFront, LeavesDecided, ShowsInclude}
 use Rattle.rabit_cli.proofs.PairLemmas.{can_decide}
 use Rattle.rabit_cli.proofs.VerdictLemmas.{one_verdict, puts_of_verdict, low_verdict}
 
@@ -114,8 +114,8 @@ module _ (files : FileMap) (a b c : List ℕ) (terms : Terms) (bounds : AreBound
             answer = is.answer;
             says_yes = body;
             valid = is.valid;
-            includes = (subst (SaysTruth pair terms) body is.truth).0;
-            apart_live = (subst (SaysTruth pair terms) body is.truth).1;
+            includes = (subst (AnswerIsTrue pair terms) body is.truth).0;
+            apart_live = (subst (AnswerIsTrue pair terms) body is.truth).1;
             held = held;
             printed = sends ∙ ap (λ z. append_known sent z.text) says;
           };
@@ -132,7 +132,7 @@ module _ (files : FileMap) (a b c : List ℕ) (terms : Terms) (bounds : AreBound
             read = is.read;
             answer = is.answer;
             valid = is.valid;
-            apart = subst (λ b. SaysApart pair b sent sent') (sym body) (subst (SaysTruth pair terms) body is.truth, sends ∙ ap (λ z. append_known sent z.text) says);
+            apart = subst (λ b. SaysApart pair b sent sent') (sym body) (subst (AnswerIsTrue pair terms) body is.truth, sends ∙ ap (λ z. append_known sent z.text) says);
             held = held;
           };
           limit_met = λ e. absurd (omega arith);
@@ -147,7 +147,7 @@ module _ (files : FileMap) (a b c : List ℕ) (terms : Terms) (bounds : AreBound
             read = is.read;
             answer = is.answer;
             valid = is.valid;
-            apart = subst (λ b. SaysApart pair b sent sent') (sym body) (subst (SaysTruth pair terms) body is.truth, sends ∙ ap (λ z. append_known sent z.text) says);
+            apart = subst (λ b. SaysApart pair b sent sent') (sym body) (subst (AnswerIsTrue pair terms) body is.truth, sends ∙ ap (λ z. append_known sent z.text) says);
             held = held;
           };
           limit_met = λ e. absurd (omega arith);
@@ -165,7 +165,7 @@ module _ (files : FileMap) (a b c : List ℕ) (terms : Terms) (bounds : AreBound
             answer = is.answer;
             lists = body;
             valid = is.valid;
-            listed = subst (SaysTruth pair terms) body is.truth;
+            listed = subst (AnswerIsTrue pair terms) body is.truth;
             held = held;
             printed = sends ∙ ap (λ z. append_known sent z.text) says ∙ ap (λ n. append_known sent (limit_text n)) (limit_in pair terms cert is.answer list body);
           };
@@ -183,16 +183,16 @@ module _ (files : FileMap) (a b c : List ℕ) (terms : Terms) (bounds : AreBound
       let (pair, cert, is, says) = reads_cert values r reads means in
       (pair, cert, is, left ∙ ap (filed files) (puts_of_verdict terms.mode pair cert.body (certificate_put c cert ∷ []) r says))
 
-  pub holds_front : (files' : FileMap) (values : List Value) (r : Reply) → ReadInTurn files (pair_inputs a b) values → MeansInclude c terms values r → IsCutShort files r.puts files' → HoldsFront files a b c terms files'
+  pub holds_front : (files' : FileMap) (values : List Value) (r : Reply) → ReadInTurn files (pair_inputs a b) values → MeansInclude c terms values r → IsCutShort files r.puts files' → HoldsAnswerFront files a b c terms files'
   holds_front files' values r reads means cut =
       let (pair, cert, is, says) = reads_cert values r reads means in
       let cut' = subst (λ ps. IsCutShort files ps files') (puts_of_verdict terms.mode pair cert.body (certificate_put c cert ∷ []) r says) cut in
       (pair, cert, is, cut')
 
 -- what it leaves
-module _ (held held' : Option FileMap) (status : ℕ) (sent sent' : Option (List ℕ)) (sink sink' faults faults' puts puts' : ℕ) (a b c : List ℕ) (terms : Terms) (bounds : AreBounded terms) where
-  pub leaves_include : (e : Ending) → EndsSo (MeansInclude c terms) (pair_inputs a b) e held held' faults faults' puts puts' → WasSaid e status sent sent' sink sink' → OfBoth held held' (λ files files'. LeavesDecided files a b c terms status puts puts' files')
+module _ (held held' : Option FileMap) (status : ℕ) (sent sent' : Option (List ℕ)) (give_faults give_faults' faults faults' put_faults put_faults' : ℕ) (a b c : List ℕ) (terms : Terms) (bounds : AreBounded terms) where
+  pub leaves_include : (e : Ending) → EndsSo (MeansInclude c terms) (pair_inputs a b) e held held' faults faults' put_faults put_faults' → WasSaid e status sent sent' give_faults give_faults' → OfBoth held held' (λ files files'. LeavesDecided files a b c terms status put_faults put_faults' files')
   leaves_include e ends said =
-      leaves_by_status (MeansInclude c terms) (pair_inputs a b) held held' status sent sent' sink sink' faults faults' puts puts' _ _ (include_writes c terms)
+      leaves_by_status (MeansInclude c terms) (pair_inputs a b) held held' status sent sent' give_faults give_faults' faults faults' put_faults put_faults' _ _ (include_writes c terms)
       (λ files files' values r reads means low left. holds_answer files a b c terms bounds files' values r reads means left)
       (λ files files' values r reads means cut. holds_front files a b c terms bounds files' values r reads means cut) e ends said

@@ -15,7 +15,7 @@ use Rattle.cert_value.specs.declared.types.Cert.{Cert}
 use Rattle.cert_value.specs.declared.types.Body.{Body}
 use Rattle.cert_value.specs.declared.types.Body.TheVariants.{Yes, NoLasso, NoWord, Listing}
 use Rattle.decide.specs.Answer.{IsAnswer}
-use Rattle.decide.specs.Laws.{CanDecide, SaysTruth}
+use Rattle.decide.specs.Laws.{CanDecide, AnswerIsTrue}
 use Rattle.decide.proofs.AnswerLemmas.{answers_are_true, answers_are_valid}
 use Rattle.decide.proofs.UniqueLemmas.{one_answer}
 use Rattle.rabit_frame.specs.declared.parts.Value.{Value}
@@ -30,7 +30,7 @@ use Rattle.rabit_frame.proofs.EndLemmas.{leaves_by_status}
 use Rattle.rabit_cli.specs.Printed.{lasso_against_text, word_against_text, limit_text}
 use Rattle.rabit_cli.specs.Files.{second_limits}
 use Rattle.rabit_cli.specs.Include.{usual_terms}
-use Rattle.rabit_cli.specs.Property.{property_inputs, Property, property_puts, IsPropertyReply, MeansProperty, IsPropertyCertFor, HoldsBoth, HoldsPart, LeavesBoth, IsRefuted, ShowsProperty}
+use Rattle.rabit_cli.specs.Property.{property_inputs, Property, property_puts, IsPropertyReply, MeansProperty, IsPropertyCertFor, HoldsProperty, HoldsPropertyPart, LeavesProperty, IsRefuted, ShowsProperty}
 use Rattle.rabit_cli.proofs.IncludeLemmas.{usual_bounded, limit_in}
 
 -- ---- the reply by the answer's body
@@ -120,7 +120,7 @@ module _ (p : Property) (known : IsDecidable p) (m c : List ℕ) (mode : Mode) w
           cert = cert;
           is_for = record {
             read = first;
-            made = made;
+            other_reads = made;
             joined = joined;
             answer = answer;
             valid = answers_are_valid pair (usual_terms mode) cert can (usual_bounded mode) answer;
@@ -130,7 +130,7 @@ module _ (p : Property) (known : IsDecidable p) (m c : List ℕ) (mode : Mode) w
         }
 
     module _ (status : ℕ) (files' : FileMap) (sent sent' : Option (List ℕ)) (r : Reply) (number : status_number r.status ≡ status) (left : files' ≡ filed files r.puts) (sends : sent' ≡ append_known sent r.text) where
-      abbrev written_by : (f : Decided r) → files' ≡ filed files (property_puts m (p.made f.one) c f.cert) → HoldsBoth p files a m c mode files'
+      abbrev written_by : (f : Decided r) → files' ≡ filed files (property_puts m (p.made f.one) c f.cert) → HoldsProperty p files a m c mode files'
       written_by f held = record { one = f.one; other = f.other; pair = f.pair; cert = f.cert; is_for = f.is_for; held = held }
 
       shows_body : (f : Decided r) → files' ≡ filed files (property_puts m (p.made f.one) c f.cert) → (puts : List Output) → (body : Body) → f.cert.body ≡ body → IsPropertyReply p.name f.pair body puts r → ShowsProperty p files a m c mode status files' sent sent'
@@ -142,7 +142,7 @@ module _ (p : Property) (known : IsDecidable p) (m c : List ℕ) (mode : Mode) w
               written = written_by f held;
               evidence = evidence;
               says_yes = body;
-              holds = known.holds bytes f.one f.other f.pair read f.is_for.made f.is_for.joined mode (subst (SaysTruth f.pair (usual_terms mode)) body f.is_for.truth).0;
+              holds = known.holds bytes f.one f.other f.pair read f.is_for.other_reads f.is_for.joined mode (subst (AnswerIsTrue f.pair (usual_terms mode)) body f.is_for.truth).0;
               printed = sends ∙ ap (λ z. append_known sent z.text) says;
             };
             fails = λ e. absurd (omega arith);
@@ -151,13 +151,13 @@ module _ (p : Property) (known : IsDecidable p) (m c : List ℕ) (mode : Mode) w
       shows_body f held puts (NoLasso lasso) body says =
           let one : status ≡ 1 = sym number ∙ ap (λ z. status_number z.status) says in
           let (bytes, has, few, read) = f.is_for.read in
-          let labels = known.labels bytes f.one f.other f.pair read f.is_for.made f.is_for.joined in
+          let labels = known.labels bytes f.one f.other f.pair read f.is_for.other_reads f.is_for.joined in
           record {
             holds = λ e. absurd (omega arith);
             fails = λ e. record {
               written = written_by f held;
               refuted = subst (λ b. IsRefuted p f.one b sent sent') (sym body) (
-                known.lasso bytes f.one f.other f.pair read f.is_for.made f.is_for.joined lasso (subst (SaysTruth f.pair (usual_terms mode)) body f.is_for.truth),
+                known.lasso bytes f.one f.other f.pair read f.is_for.other_reads f.is_for.joined lasso (subst (AnswerIsTrue f.pair (usual_terms mode)) body f.is_for.truth),
                 sends ∙ ap (λ z. append_known sent z.text) says ∙ ap (λ ls. append_known sent (lasso_against_text p.name ls lasso)) labels,
               );
             };
@@ -166,13 +166,13 @@ module _ (p : Property) (known : IsDecidable p) (m c : List ℕ) (mode : Mode) w
       shows_body f held puts (NoWord word) body says =
           let one : status ≡ 1 = sym number ∙ ap (λ z. status_number z.status) says in
           let (bytes, has, few, read) = f.is_for.read in
-          let labels = known.labels bytes f.one f.other f.pair read f.is_for.made f.is_for.joined in
+          let labels = known.labels bytes f.one f.other f.pair read f.is_for.other_reads f.is_for.joined in
           record {
             holds = λ e. absurd (omega arith);
             fails = λ e. record {
               written = written_by f held;
               refuted = subst (λ b. IsRefuted p f.one b sent sent') (sym body) (
-                known.word bytes f.one f.other f.pair read f.is_for.made f.is_for.joined word (subst (SaysTruth f.pair (usual_terms mode)) body f.is_for.truth),
+                known.word bytes f.one f.other f.pair read f.is_for.other_reads f.is_for.joined word (subst (AnswerIsTrue f.pair (usual_terms mode)) body f.is_for.truth),
                 sends ∙ ap (λ z. append_known sent z.text) says ∙ ap (λ ls. append_known sent (word_against_text p.name ls word)) labels,
               );
             };
@@ -187,7 +187,7 @@ module _ (p : Property) (known : IsDecidable p) (m c : List ℕ) (mode : Mode) w
               written = written_by f held;
               list = list;
               lists = body;
-              listed = subst (SaysTruth f.pair (usual_terms mode)) body f.is_for.truth;
+              listed = subst (AnswerIsTrue f.pair (usual_terms mode)) body f.is_for.truth;
               printed = sends ∙ ap (λ z. append_known sent z.text) says ∙ ap (λ n. append_known sent (limit_text n)) (limit_in f.pair (usual_terms mode) f.cert f.is_for.answer list body);
             };
           }
@@ -200,7 +200,7 @@ module _ (p : Property) (known : IsDecidable p) (m c : List ℕ) (mode : Mode) w
 
     -- ---- what it leaves
 
-    holds_both : (files' : FileMap) (values : List Value) (r : Reply) → ReadInTurn files (property_inputs p a) values → MeansProperty p m c mode values r → files' ≡ filed files r.puts → HoldsBoth p files a m c mode files'
+    holds_both : (files' : FileMap) (values : List Value) (r : Reply) → ReadInTurn files (property_inputs p a) values → MeansProperty p m c mode values r → files' ≡ filed files r.puts → HoldsProperty p files a m c mode files'
     holds_both files' values r reads means left =
         let f = decided_reads values r reads means in
         record {
@@ -212,15 +212,15 @@ module _ (p : Property) (known : IsDecidable p) (m c : List ℕ) (mode : Mode) w
           held = left ∙ ap (filed files) (puts_of_reply p.name f.pair f.cert.body (property_puts m (p.made f.one) c f.cert) r f.says);
         }
 
-    holds_part : (files' : FileMap) (values : List Value) (r : Reply) → ReadInTurn files (property_inputs p a) values → MeansProperty p m c mode values r → IsCutShort files r.puts files' → HoldsPart p files a m c mode files'
+    holds_part : (files' : FileMap) (values : List Value) (r : Reply) → ReadInTurn files (property_inputs p a) values → MeansProperty p m c mode values r → IsCutShort files r.puts files' → HoldsPropertyPart p files a m c mode files'
     holds_part files' values r reads means cut =
         let f = decided_reads values r reads means in
         let cut' = subst (λ ps. IsCutShort files ps files') (puts_of_reply p.name f.pair f.cert.body (property_puts m (p.made f.one) c f.cert) r f.says) cut in
         (f.one, f.other, f.pair, f.cert, f.is_for, cut')
 
-  module _ (held held' : Option FileMap) (status : ℕ) (sent sent' : Option (List ℕ)) (sink sink' faults faults' puts puts' : ℕ) (a : List ℕ) where
-    pub leaves_property : (e : Ending) → EndsSo (MeansProperty p m c mode) (property_inputs p a) e held held' faults faults' puts puts' → WasSaid e status sent sent' sink sink' → OfBoth held held' (λ files files'. LeavesBoth p files a m c mode status puts puts' files')
+  module _ (held held' : Option FileMap) (status : ℕ) (sent sent' : Option (List ℕ)) (give_faults give_faults' faults faults' put_faults put_faults' : ℕ) (a : List ℕ) where
+    pub leaves_property : (e : Ending) → EndsSo (MeansProperty p m c mode) (property_inputs p a) e held held' faults faults' put_faults put_faults' → WasSaid e status sent sent' give_faults give_faults' → OfBoth held held' (λ files files'. LeavesProperty p files a m c mode status put_faults put_faults' files')
     leaves_property e ends said =
-        leaves_by_status (MeansProperty p m c mode) (property_inputs p a) held held' status sent sent' sink sink' faults faults' puts puts' _ _ decided_writes
+        leaves_by_status (MeansProperty p m c mode) (property_inputs p a) held held' status sent sent' give_faults give_faults' faults faults' put_faults put_faults' _ _ decided_writes
         (λ files files' values r reads means low left. holds_both files a files' values r reads means left)
         (λ files files' values r reads means cut. holds_part files a files' values r reads means cut) e ends said

@@ -24,7 +24,7 @@ use Rattle.cert_check.proofs.RuleLemmas.{one_rule, none_kept}
 use Rattle.relation_rows.proofs.RowLemmas.{all_short}
 use Rattle.lasso_shrink.specs.Shrinking.{word_without, letters_of, lasso_without, IsShrunkLasso, IsShrunkWord}
 use Rattle.lasso_shrink.specs.Shrinking as shrinking
-use Rattle.lasso_shrink.proofs.LawLemmas.{shrunk_lasso_is_one, shrunk_word_is_one, shrunk_lasso_has_its_letters, shrunk_word_has_its_letters}
+use Rattle.lasso_shrink.proofs.LawLemmas.{shrunk_lasso_is_one, shrunk_word_is_one, shrinking_a_lasso_adds_no_letter, shrinking_a_word_adds_no_letter}
 use Rattle.lasso_shrink.proofs.LeavingLemmas.{shrunk_keeps}
 use Rattle.rabit_frame.specs.declared.parts.Value.{Value}
 use Rattle.rabit_frame.specs.declared.parts.Value.TheVariants as value
@@ -92,7 +92,7 @@ module _ (pair : Joined) where
       let labels_are = keeps.0.2 in
       let few = ltb-true labels 1000000000 three.0 in
       let apart = lasso_apart lasso l is (accepts, rejects) in
-      let has : (a : ℕ) → _ = λ a. shrunk_lasso_has_its_letters pair.first pair.second lasso l a is in
+      let has : (a : ℕ) → _ = λ a. shrinking_a_lasso_adds_no_letter pair.first pair.second lasso l a is in
       let prefix_left = all_left (length pair.labels) lasso.prefix l.prefix (λ a. (has a).0) prefix in
       let turn_left = all_left (length pair.labels) lasso.turn l.turn (λ a. (has a).1) turn in
       let some = loop_has_letters pair.first l.prefix l.turn apart.0 in
@@ -118,7 +118,7 @@ module _ (pair : Joined) where
       let labels_are = keeps.0.2 in
       let few = ltb-true labels 1000000000 three.0 in
       let apart = word_apart word w is (accepts, rejects) in
-      let letters_left = all_left (length pair.labels) word w (λ a. shrunk_word_has_its_letters pair.first pair.second word w a is) letters in
+      let letters_left = all_left (length pair.labels) word w (λ a. shrinking_a_word_adds_no_letter pair.first pair.second word w a is) letters in
       subst (λ b. IsValid pair (made 1 m first second labels b)) (sym e) (record {
         formed =
             and_from (is_version 1) (is_short first && (is_short second && (is_short labels && is_body 1 m (NoWord w)))) refl
@@ -143,7 +143,7 @@ module _ (pair : Joined) where
       let (prefix, (turn, rest)) = holds in
       let body_same : NoLasso l ≡ NoLasso lasso = sym e ∙ same in
       let one : l ≡ lasso = cc in
-      let has : (a : ℕ) → _ = λ a. shrunk_lasso_has_its_letters pair.first pair.second given l a is in
+      let has : (a : ℕ) → _ = λ a. shrinking_a_lasso_adds_no_letter pair.first pair.second given l a is in
       subst (HaveTexts pair) one (all_left (length pair.labels) given.prefix l.prefix (λ a. (has a).0) prefix, all_left (length pair.labels) given.turn l.turn (λ a. (has a).1) turn)
   letters_in m (NoWord word) left holds (w, is, e) lasso same = absurd (let body_same : NoWord w ≡ NoLasso lasso = sym e ∙ same in cc)
 
@@ -154,7 +154,7 @@ module _ (pair : Joined) where
   letters_in_word m (NoWord given) left holds (w, is, e) word same =
       let body_same : NoWord w ≡ NoWord word = sym e ∙ same in
       let one : w ≡ word = cc in
-      subst (All (λ a. a < length pair.labels)) one (all_left (length pair.labels) given w (λ a. shrunk_word_has_its_letters pair.first pair.second given w a is) holds.0)
+      subst (All (λ a. a < length pair.labels)) one (all_left (length pair.labels) given w (λ a. shrinking_a_word_adds_no_letter pair.first pair.second given w a is) holds.0)
 
   pub letters_of_left : (cert : Cert) (left : Body) → KeepsRules pair cert → IsShrunkBody pair cert.body left → (lasso : Lasso) → left ≡ NoLasso lasso → HaveTexts pair lasso
   letters_of_left cert left keeps shrunk = letters_in cert.mode cert.body left keeps.1 shrunk
@@ -354,9 +354,9 @@ module _ (files : FileMap) (a b c out : List ℕ) where
     | inr read ↦ (let (values, reads, means) = read in status_reads values r reads means n same)
   ]
 
-module _ (held held' : Option FileMap) (status : ℕ) (sent sent' : Option (List ℕ)) (sink sink' faults faults' puts puts' : ℕ) (a b c out : List ℕ) where
-  pub leaves_shrink : (e : Ending) → EndsSo (MeansShrink out) (check_inputs a b c) e held held' faults faults' puts puts' → WasSaid e status sent sent' sink sink' → OfBoth held held' (λ files files'. LeavesShrunk files a b c out status puts puts' files')
+module _ (held held' : Option FileMap) (status : ℕ) (sent sent' : Option (List ℕ)) (give_faults give_faults' faults faults' put_faults put_faults' : ℕ) (a b c out : List ℕ) where
+  pub leaves_shrink : (e : Ending) → EndsSo (MeansShrink out) (check_inputs a b c) e held held' faults faults' put_faults put_faults' → WasSaid e status sent sent' give_faults give_faults' → OfBoth held held' (λ files files'. LeavesShrunk files a b c out status put_faults put_faults' files')
   leaves_shrink e ends said =
-      leaves_by_status (MeansShrink out) (check_inputs a b c) held held' status sent sent' sink sink' faults faults' puts puts' _ _ (shrink_writes out)
+      leaves_by_status (MeansShrink out) (check_inputs a b c) held held' status sent sent' give_faults give_faults' faults faults' put_faults put_faults' _ _ (shrink_writes out)
       (λ files files' values r reads means low left. holds_shrunk files a b c out files' values r reads means low left)
       (λ files files' values r reads means cut. holds_shrunk_front files a b c out files' values r reads means cut) e ends said

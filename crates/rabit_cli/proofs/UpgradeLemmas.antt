@@ -68,10 +68,10 @@ module _ (files : FileMap) (c out : List ℕ) where
         inl ((cert, read_one values cert reads is), same ∙ upgrade_number out values r means))
   ]
 
-module _ (held held' : Option FileMap) (status : ℕ) (sent sent' : Option (List ℕ)) (sink sink' faults faults' puts puts' : ℕ) (c out : List ℕ) where
-  pub leaves_upgrade : (e : Ending) → EndsSo (MeansUpgrade out) (upgrade_inputs c) e held held' faults faults' puts puts' → WasSaid e status sent sent' sink sink' → OfBoth held held' (λ files files'. LeavesUpgraded files c out status puts puts' files')
+module _ (held held' : Option FileMap) (status : ℕ) (sent sent' : Option (List ℕ)) (give_faults give_faults' faults faults' put_faults put_faults' : ℕ) (c out : List ℕ) where
+  pub leaves_upgrade : (e : Ending) → EndsSo (MeansUpgrade out) (upgrade_inputs c) e held held' faults faults' put_faults put_faults' → WasSaid e status sent sent' give_faults give_faults' → OfBoth held held' (λ files files'. LeavesUpgraded files c out status put_faults put_faults' files')
   leaves_upgrade e ends said =
-      leaves_by_status (MeansUpgrade out) (upgrade_inputs c) held held' status sent sent' sink sink' faults faults' puts puts' _ _ (upgrade_writes out)
+      leaves_by_status (MeansUpgrade out) (upgrade_inputs c) held held' status sent sent' give_faults give_faults' faults faults' put_faults put_faults' _ _ (upgrade_writes out)
       (λ files files' values r reads means low left. holds_upgraded files c out files' values r reads means left)
       (λ files files' values r reads means cut. holds_upgraded_front files c out files' values r reads means cut) e ends said
 

@@ -54,8 +54,8 @@ abbrev pub ShowsQuestion : Question → ℕ → FileMap → FileMap → Type 0
 ShowsQuestion q status files files' = ShowsInclude files q.first q.second q.cert (usual_terms Buchi) status files' None None
 
 -- The files of its automata are there.
-abbrev pub AreThere : FileMap → Question → Type 0
-AreThere held q = (files.contains_key held q.first ≡ true) × (files.contains_key held q.second ≡ true)
+abbrev pub AutomataAreThere : FileMap → Question → Type 0
+AutomataAreThere held q = (files.contains_key held q.first ≡ true) × (files.contains_key held q.second ≡ true)
 
 -- The three names of each question are words.
 abbrev pub AreQuestions : List Question → Type 0
@@ -64,19 +64,19 @@ AreQuestions questions = list_all is_question (map line_of questions) ≡ true
 -- ---- one after the other
 
 -- What a shelf tells of its calls: how many files were begun, how many reads and how many puts failed, and of which file a read was refused last.
-pub record Calls : Type 0 where
+pub record ShelfCounts : Type 0 where
   pub begins : ℕ
   pub read_faults : ℕ
   pub put_faults : ℕ
   pub blamed : WhichFile
 
 -- These counts, and this file.
-abbrev pub calls_of : ℕ → ℕ → ℕ → WhichFile → Calls
-calls_of begins read_faults put_faults blamed = record { begins = begins; read_faults = read_faults; put_faults = put_faults; blamed = blamed }
+abbrev pub shelf_counts : ℕ → ℕ → ℕ → WhichFile → ShelfCounts
+shelf_counts begins read_faults put_faults blamed = record { begins = begins; read_faults = read_faults; put_faults = put_faults; blamed = blamed }
 
 -- The calls that a question made, which ended with this status: it began its files in turn, all of them where its status is up to 2. A read failed just
 -- where that is 6, of the first file that was not read to its end, and a put just where it is 7.
-pub record MadeCalls (q : Question) (status : ℕ) (files : FileMap) (calls calls' : Calls) : Type 0 where
+pub record MadeCalls (q : Question) (status : ℕ) (files : FileMap) (calls calls' : ShelfCounts) : Type 0 where
   pub begun_in_turn : BegunInTurn files (question_inputs q) calls.begins calls'.begins
   pub all_begun : status ≤ 2 → AllBegun (question_inputs q) calls.begins calls'.begins
   pub read_fault : status ≡ 6 → Rose calls.read_faults calls'.read_faults
@@ -87,12 +87,12 @@ pub record MadeCalls (q : Question) (status : ℕ) (files : FileMap) (calls call
 
 -- The first questions, one for each status, ended with these, each asked of the files that the one before it left, and made the calls that show it. No
 -- call was made for a later question.
-abbrev pub LeaveInTurn : List Question → List ℕ → FileMap → FileMap → Calls → Calls → Type 0
+abbrev pub LeaveInTurn : List Question → List ℕ → FileMap → FileMap → ShelfCounts → ShelfCounts → Type 0
 LeaveInTurn questions [] files files' calls calls' = (files' ≡ files) × (calls' ≡ calls)
 LeaveInTurn [] (status ∷ statuses) files files' calls calls' = ⊥
 LeaveInTurn (q ∷ questions) (status ∷ statuses) files files' calls calls' =
     (between : FileMap)
-    × (middle : Calls)
+    × (middle : ShelfCounts)
     × LeavesQuestion q status files between
     × MadeCalls q status files calls middle
     × LeaveInTurn questions statuses between files' middle calls'
@@ -146,7 +146,7 @@ RoseBy n before now = min (before + n) (2 ^ 64 - 1) ≤ now
 
 -- The questions were carried out one after the other, the first with this number, until all were or the sink refused a line.
 -- The count of failed reads rose once at least for each status 6, and did not change where there is none; so did that of failed puts for 7.
-pub record IsCarriedEach (number : ℕ) (questions : List Question) (held held' : Option FileMap) (status : ℕ) (sent sent' : Option (List ℕ)) (give_faults give_faults' read_faults read_faults' put_faults put_faults' missed missed' : ℕ) (calls calls' : Calls) : Type 0 where
+pub record IsCarriedEach (number : ℕ) (questions : List Question) (held held' : Option FileMap) (status : ℕ) (sent sent' : Option (List ℕ)) (give_faults give_faults' read_faults read_faults' put_faults put_faults' missed missed' : ℕ) (calls calls' : ShelfCounts) : Type 0 where
   pub statuses : List ℕ
   pub within : length statuses ≤ length questions
   pub known : All IsQuestionStatus statuses
@@ -156,7 +156,7 @@ pub record IsCarriedEach (number : ℕ) (questions : List Question) (held held' 
   pub put_faults_rose : RoseBy (times 7 statuses) put_faults put_faults'
   pub read_faults_stay : times 6 statuses ≡ 0 → read_faults' ≡ read_faults
   pub put_faults_stay : times 7 statuses ≡ 0 → put_faults' ≡ put_faults
-  pub missed_stays : IfSome held (λ files. All (AreThere files) questions → missed' ≡ missed)
+  pub missed_stays : IfSome held (λ files. All (AutomataAreThere files) questions → missed' ≡ missed)
 
 -- ---- the whole batch
 
@@ -169,23 +169,23 @@ abbrev pub batch_inputs : List ℕ → List Input
 batch_inputs list = list_file list ∷ []
 
 -- A batch ends without a question: the list could not be read, has a fault, or memory was refused.
-abbrev pub IsUnreadStatus : ℕ → Type 0
-IsUnreadStatus status = (status ≡ 6) ⊎ (status ≡ 8) ⊎ (status ≡ 11)
+abbrev pub IsStatusOfNoneAsked : ℕ → Type 0
+IsStatusOfNoneAsked status = (status ≡ 6) ⊎ (status ≡ 8) ⊎ (status ≡ 11)
 
 -- No question was carried out, and why was said.
-pub record IsUnread (list : List ℕ) (held held' : Option FileMap) (status : ℕ) (sent sent' : Option (List ℕ)) (give_faults give_faults' read_faults read_faults' put_faults put_faults' missed missed' : ℕ) (calls calls' : Calls) : Type 0 where
+pub record NoneAsked (list : List ℕ) (held held' : Option FileMap) (status : ℕ) (sent sent' : Option (List ℕ)) (give_faults give_faults' read_faults read_faults' put_faults put_faults' missed missed' : ℕ) (calls calls' : ShelfCounts) : Type 0 where
   pub carried : IsCarriedOut NoReply (batch_inputs list) held held' status sent sent' give_faults give_faults' read_faults read_faults' put_faults put_faults'
-  pub known : IsUnreadStatus status
+  pub known : IsStatusOfNoneAsked status
   pub missing : IfSome held (λ files. MissedInTurn files (batch_inputs list) missed missed')
   pub begun_in_turn : IfSome held (λ files. BegunInTurn files (batch_inputs list) calls.begins calls'.begins)
   pub blames : status ≡ 6 → IfSome held (λ files. BlamesInTurn files (batch_inputs list) calls'.blamed)
 
 -- The calls once one more file was begun and read; which file a read was refused of before is not told.
-abbrev pub after_reading : Calls → WhichFile → Calls
-after_reading calls blamed = calls_of (counted calls.begins) calls.read_faults calls.put_faults blamed
+abbrev pub after_reading : ShelfCounts → WhichFile → ShelfCounts
+after_reading calls blamed = shelf_counts (counted calls.begins) calls.read_faults calls.put_faults blamed
 
 -- The list, the first file begun, was read, and its questions were carried out from the first on.
-pub record AreAsked (list : List ℕ) (held held' : Option FileMap) (status : ℕ) (sent sent' : Option (List ℕ)) (give_faults give_faults' read_faults read_faults' put_faults put_faults' missed missed' : ℕ) (calls calls' : Calls) : Type 0 where
+pub record AreAsked (list : List ℕ) (held held' : Option FileMap) (status : ℕ) (sent sent' : Option (List ℕ)) (give_faults give_faults' read_faults read_faults' put_faults put_faults' missed missed' : ℕ) (calls calls' : ShelfCounts) : Type 0 where
   pub questions : List Question
   pub words : AreQuestions questions
   pub few : length questions ≤ 1000
@@ -194,7 +194,7 @@ pub record AreAsked (list : List ℕ) (held held' : Option FileMap) (status : �
   pub each : IsCarriedEach 1 questions held held' status sent sent' give_faults give_faults' read_faults read_faults' put_faults put_faults' missed missed' (after_reading calls blamed) calls'
 
 -- How a batch goes.
-abbrev pub IsBatch : List ℕ → Option FileMap → Option FileMap → ℕ → Option (List ℕ) → Option (List ℕ) → ℕ → ℕ → ℕ → ℕ → ℕ → ℕ → ℕ → ℕ → Calls → Calls → Type 0
+abbrev pub IsBatch : List ℕ → Option FileMap → Option FileMap → ℕ → Option (List ℕ) → Option (List ℕ) → ℕ → ℕ → ℕ → ℕ → ℕ → ℕ → ℕ → ℕ → ShelfCounts → ShelfCounts → Type 0
 IsBatch list held held' status sent sent' give_faults give_faults' read_faults read_faults' put_faults put_faults' missed missed' calls calls' =
-    IsUnread list held held' status sent sent' give_faults give_faults' read_faults read_faults' put_faults put_faults' missed missed' calls calls'
+    NoneAsked list held held' status sent sent' give_faults give_faults' read_faults read_faults' put_faults put_faults' missed missed' calls calls'
     ⊎ AreAsked list held held' status sent sent' give_faults give_faults' read_faults read_faults' put_faults put_faults' missed missed' calls calls'

@@ -10,7 +10,7 @@ use Rattle.cert_value.specs.declared.types.Cert.{Cert}
 use Rattle.cert_value.specs.declared.types.YesBody.{YesBody}
 use Rattle.cert_value.specs.declared.types.ListBody.{ListBody}
 use Rattle.cert_value.specs.declared.types.Body.TheVariants.{Yes, Listing}
-use Rattle.cert_check.specs.Rules.{KeepsRules, ListsRuns}
+use Rattle.cert_check.specs.Rules.{KeepsRules, ListsDifferent}
 use Rattle.cert_check.specs.Laws.{IsValid}
 use Rattle.rabit_frame.specs.declared.parts.Value.{Value}
 use Rattle.rabit_frame.specs.declared.parts.Value.TheVariants as value
@@ -70,7 +70,7 @@ pub record IsListed (files : FileMap) (a b c : List ℕ) (sent sent' : Option (L
   pub certificate : ReadsCertificate files c cert
   pub lists : cert.body ≡ Listing list
   pub valid : IsValid pair cert
-  pub different : ListsRuns cert.mode pair (list.limit + 1) list
+  pub different : ListsDifferent cert.mode pair (list.limit + 1) list
   pub printed : sent' ≡ append_known sent (limit_text list.limit)
 
 -- What a status up to 2 shows: 0 an inclusion, 1 a lasso or a word that separates, 2 a list of more elements than its limit.

@@ -51,13 +51,13 @@ pub record ReadsBackFor (pair : Joined) (accepts : Automaton → Type 0) (text :
 -- does what its text reads as.
 pub record IsCombinedShown (files : FileMap) (a b : List ℕ) (is_result accepts : Joined → Automaton → Type 0) (sent sent' : Option (List ℕ)) : Type 0 where
   pub pair : Joined
-  pub made : Automaton
+  pub combined : Automaton
   pub read : ReadsPair files a b pair
-  pub is_made : is_result pair made
-  pub within : IsSmallResult made
-  pub accepts_so : accepts pair made
-  pub reads_back : ReadsBackFor pair (accepts pair) (written made pair.labels)
-  pub printed : sent' ≡ append_known sent (written made pair.labels)
+  pub is_result_of : is_result pair combined
+  pub within : IsSmallResult combined
+  pub accepts_so : accepts pair combined
+  pub reads_back : ReadsBackFor pair (accepts pair) (written combined pair.labels)
+  pub printed : sent' ≡ append_known sent (written combined pair.labels)
 
 -- What a status up to 2 shows: 0 a result, and 1 and 2 do not come.
 pub record ShowsCombined (files : FileMap) (a b : List ℕ) (is_result accepts : Joined → Automaton → Type 0) (status : ℕ) (sent sent' : Option (List ℕ)) : Type 0 where

@@ -12,16 +12,16 @@ use Rattle.rabit_cli.specs.Printed.{usage_text}
 use Rattle.rabit_cli.specs.Replies.{usage_reply}
 use Rattle.rabit_cli.specs.Check.{check_inputs, MeansCheck, ShowsCheck}
 use Rattle.rabit_cli.specs.Include.{pair_inputs, terms_by, MeansInclude, ShowsInclude, LeavesDecided}
-use Rattle.rabit_cli.specs.Reduce.{reduce_inputs, asked_sight, MeansReduce, ShowsReduce}
+use Rattle.rabit_cli.specs.Reduce.{reduce_inputs, sight_by, MeansReduce, ShowsReduce}
 use Rattle.rabit_cli.specs.Drill.{MeansDrill, ShowsDrill, SaysDrill}
 use Rattle.rabit_cli.specs.Upgrade.{upgrade_inputs, MeansUpgrade, ShowsUpgrade, LeavesUpgraded}
 use Rattle.rabit_cli.specs.Equal.{equal_inputs, MeansEqual, ShowsEqual, LeavesEqual}
 use Rattle.rabit_cli.specs.Cross.{MeansCross, ShowsCross, LeavesCross, cross_check_inputs, MeansCrossCheck, ShowsCrossCheck}
-use Rattle.rabit_cli.specs.Batch.{batch_inputs, Calls, IsBatch}
+use Rattle.rabit_cli.specs.Batch.{batch_inputs, ShelfCounts, IsBatch}
 use Rattle.rabit_cli.specs.Union.{MeansUnion, ShowsUnion}
 use Rattle.rabit_cli.specs.Intersect.{MeansIntersect, ShowsIntersect}
 use Rattle.rabit_cli.specs.Shrink.{MeansShrink, ShowsShrink, LeavesShrunk}
-use Rattle.rabit_cli.specs.Property.{property_inputs, MeansProperty, ShowsProperty, LeavesBoth}
+use Rattle.rabit_cli.specs.Property.{property_inputs, MeansProperty, ShowsProperty, LeavesProperty}
 use Rattle.rabit_cli.specs.Empty.{emptiness}
 use Rattle.rabit_cli.specs.Universal.{universality}
 
@@ -64,7 +64,7 @@ abbrev pub Means : Option Question → List Value → Reply → Type 0
 Means None values r = r ≡ usage_reply
 Means (Some (Check a b c)) values r = MeansCheck values r
 Means (Some (Include a b c mode look limit letters)) values r = MeansInclude c (terms_by mode look limit letters) values r
-Means (Some (Reduce a mode look letters)) values r = MeansReduce mode (asked_sight look letters) values r
+Means (Some (Reduce a mode look letters)) values r = MeansReduce mode (sight_by look letters) values r
 Means (Some (Drill seed states labels)) values r = MeansDrill (record { seed = seed; states = states; labels = labels }) values r
 Means (Some (Upgrade c out)) values r = MeansUpgrade out values r
 Means (Some (Cross a b out look)) values r = MeansCross out look values r
@@ -81,7 +81,7 @@ Means (Some (Universal a u c mode)) values r = MeansProperty universality u c mo
 abbrev pub Shows : Option Question → ℕ → FileMap → FileMap → Option (List ℕ) → Option (List ℕ) → Type 0
 Shows (Some (Check a b c)) status files files' sent sent' = ShowsCheck files a b c status sent sent'
 Shows (Some (Include a b c mode look limit letters)) status files files' sent sent' = ShowsInclude files a b c (terms_by mode look limit letters) status files' sent sent'
-Shows (Some (Reduce a mode look letters)) status files files' sent sent' = ShowsReduce files a mode (asked_sight look letters) status sent sent'
+Shows (Some (Reduce a mode look letters)) status files files' sent sent' = ShowsReduce files a mode (sight_by look letters) status sent sent'
 Shows (Some (Drill seed states labels)) status files files' sent sent' = ShowsDrill (record { seed = seed; states = states; labels = labels }) status sent sent'
 Shows (Some (Upgrade c out)) status files files' sent sent' = ShowsUpgrade files c out status files' sent sent'
 Shows (Some (Cross a b out look)) status files files' sent sent' = ShowsCross files a b out look status files' sent sent'
@@ -96,29 +96,29 @@ Shows (Some (Universal a u c mode)) status files files' sent sent' = ShowsProper
 Shows None status files files' sent sent' = ⊥
 
 -- How a batch goes.
-abbrev pub Batches : Question → Option FileMap → Option FileMap → ℕ → Option (List ℕ) → Option (List ℕ) → ℕ → ℕ → ℕ → ℕ → ℕ → ℕ → ℕ → ℕ → Calls → Calls → Type 0
+abbrev pub Batches : Question → Option FileMap → Option FileMap → ℕ → Option (List ℕ) → Option (List ℕ) → ℕ → ℕ → ℕ → ℕ → ℕ → ℕ → ℕ → ℕ → ShelfCounts → ShelfCounts → Type 0
 Batches (Batch list) held held' status sent sent' give_faults give_faults' read_faults read_faults' put_faults put_faults' missed missed' calls calls' =
     IsBatch list held held' status sent sent' give_faults give_faults' read_faults read_faults' put_faults put_faults' missed missed' calls calls'
 Batches question held held' status sent sent' give_faults give_faults' read_faults read_faults' put_faults put_faults' missed missed' calls calls' = Unit {0}
 
 -- What a drill says, whatever the shelf tells.
 abbrev pub Drills : Question → ℕ → Option (List ℕ) → Option (List ℕ) → ℕ → ℕ → Type 0
-Drills (Drill seed states labels) status sent sent' sink sink' = SaysDrill (record { seed = seed; states = states; labels = labels }) status sent sent' sink sink'
-Drills question status sent sent' sink sink' = Unit {0}
+Drills (Drill seed states labels) status sent sent' give_faults give_faults' = SaysDrill (record { seed = seed; states = states; labels = labels }) status sent sent' give_faults give_faults'
+Drills question status sent sent' give_faults give_faults' = Unit {0}
 
 -- What the files are afterwards: only a decision, an upgrade, a cross relation's search, a comparison and a shrinking write, and only the files of certificates or of the relation, and `empty` and `universal` the
 -- made automaton's too.
 abbrev pub LeavesFiles : Option Question → ℕ → ℕ → ℕ → FileMap → FileMap → Type 0
-LeavesFiles (Some (Include a b c mode look limit letters)) status puts puts' files files' = LeavesDecided files a b c (terms_by mode look limit letters) status puts puts' files'
-LeavesFiles (Some (Upgrade c out)) status puts puts' files files' = LeavesUpgraded files c out status puts puts' files'
-LeavesFiles (Some (Cross a b out look)) status puts puts' files files' = LeavesCross files a b out look status puts puts' files'
-LeavesFiles (Some (Equal a b c d)) status puts puts' files files' = LeavesEqual files a b c d status puts puts' files'
-LeavesFiles (Some (Shrink a b c out)) status puts puts' files files' = LeavesShrunk files a b c out status puts puts' files'
-LeavesFiles (Some (Empty a e c mode)) status puts puts' files files' = LeavesBoth emptiness files a e c mode status puts puts' files'
-LeavesFiles (Some (Universal a u c mode)) status puts puts' files files' = LeavesBoth universality files a u c mode status puts puts' files'
-LeavesFiles question status puts puts' files files' = files' ≡ files
+LeavesFiles (Some (Include a b c mode look limit letters)) status put_faults put_faults' files files' = LeavesDecided files a b c (terms_by mode look limit letters) status put_faults put_faults' files'
+LeavesFiles (Some (Upgrade c out)) status put_faults put_faults' files files' = LeavesUpgraded files c out status put_faults put_faults' files'
+LeavesFiles (Some (Cross a b out look)) status put_faults put_faults' files files' = LeavesCross files a b out look status put_faults put_faults' files'
+LeavesFiles (Some (Equal a b c d)) status put_faults put_faults' files files' = LeavesEqual files a b c d status put_faults put_faults' files'
+LeavesFiles (Some (Shrink a b c out)) status put_faults put_faults' files files' = LeavesShrunk files a b c out status put_faults put_faults' files'
+LeavesFiles (Some (Empty a e c mode)) status put_faults put_faults' files files' = LeavesProperty emptiness files a e c mode status put_faults put_faults' files'
+LeavesFiles (Some (Universal a u c mode)) status put_faults put_faults' files files' = LeavesProperty universality files a u c mode status put_faults put_faults' files'
+LeavesFiles question status put_faults put_faults' files files' = files' ≡ files
 
 -- The words ask nothing, and how the program is used was said, with status 3; or want of memory was.
 abbrev pub SaysUsage : ℕ → Option (List ℕ) → Option (List ℕ) → ℕ → ℕ → Type 0
-SaysUsage status sent sent' sink sink' =
-    ((status ≡ 3) × SaysOnly usage_text status sent sent' sink sink') ⊎ ((status ≡ 8) × SaysOnly memory_line status sent sent' sink sink')
+SaysUsage status sent sent' give_faults give_faults' =
+    ((status ≡ 3) × SaysOnly usage_text status sent sent' give_faults give_faults') ⊎ ((status ≡ 8) × SaysOnly memory_line status sent sent' give_faults give_faults')

@@ -36,7 +36,7 @@ automata_of (Empty a e c mode) = property_inputs emptiness a
 automata_of (Universal a u c mode) = property_inputs universality a
 
 -- The statuses of the command's results for these files, and that of want of memory. A check may also refuse the certificate; of an upgrade, a
--- union, an intersection and a shrinking the files tell which status it is. A batch is no single question: what it answers is told by `AnswersBatch`.
+-- cross relation and its check, a union, an intersection and a shrinking the files tell which status it is. A batch is no single question: what it answers is told by `AnswersBatch`.
 abbrev pub MayAnswer : Question → FileMap → ℕ → Type 0
 MayAnswer (Check a b c) files status = (status ≤ 2) ⊎ (status ≡ 5) ⊎ (status ≡ 8)
 MayAnswer (Include a b c mode look limit letters) files status = (status ≤ 2) ⊎ (status ≡ 8)

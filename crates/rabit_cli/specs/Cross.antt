@@ -13,7 +13,7 @@ use Rattle.cross_text.specs.declared.types.Cross.{Cross}
 use Rattle.cross_text.specs.Text.{cross_text}
 use Rattle.cross_sim.specs.declared.faults.CrossRefusal.{CrossRefusal}
 use Rattle.cross_sim.specs.Rules.{pairs_across, KeepsCrossRules, BreaksCrossRule}
-use Rattle.cross_sim.specs.Written.{IsCrossOf}
+use Rattle.cross_sim.specs.Written.{IsGreatestCross}
 use Rattle.rabit_frame.specs.declared.parts.FileKind.TheVariants as kind
 use Rattle.rabit_frame.specs.declared.parts.Value.{Value}
 use Rattle.rabit_frame.specs.declared.parts.Value.TheVariants as value
@@ -40,7 +40,7 @@ HasInitialPair pair cross = Holds (pairs_across cross) pair.first.initial pair.s
 abbrev pub IsCrossReply : List ℕ → ℕ → Joined → Reply → Type 0
 IsCrossReply name look pair r =
     (cross : Cross)
-    × IsCrossOf pair look cross
+    × IsGreatestCross pair look cross
     × ((HasInitialPair pair cross × (r ≡ reply_with status.Done by_simulation_text (cross_put name cross ∷ [])))
     ⊎ ((HasInitialPair pair cross → ⊥) × (r ≡ only_said status.NoRelation no_relation_text)))
 
@@ -52,30 +52,30 @@ MeansCross name look values r =
     × ((pair : Joined) × IsJoined one two pair × IsCrossReply name look pair r)
 
 -- The two files read as this pair of automata, and this is their greatest cross relation, which has the pair of the initial states.
-abbrev pub IsCrossFor : FileMap → List ℕ → List ℕ → ℕ → Joined → Cross → Type 0
-IsCrossFor files a b look pair cross = ReadsPair files a b pair × IsCrossOf pair look cross × HasInitialPair pair cross
+abbrev pub IsCrossOfFiles : FileMap → List ℕ → List ℕ → ℕ → Joined → Cross → Type 0
+IsCrossOfFiles files a b look pair cross = ReadsPair files a b pair × IsGreatestCross pair look cross × HasInitialPair pair cross
 
 -- The name holds the whole text of it, and all other files are as before.
 abbrev pub HoldsCross : FileMap → List ℕ → List ℕ → List ℕ → ℕ → FileMap → Type 0
 HoldsCross files a b out look files' =
-    (pair : Joined) × (cross : Cross) × IsCrossFor files a b look pair cross × (files' ≡ map.insert files out (cross_text cross))
+    (pair : Joined) × (cross : Cross) × IsCrossOfFiles files a b look pair cross × (files' ≡ map.insert files out (cross_text cross))
 
 -- The name holds a front of that text, or what it held before, and all other files are as before.
 abbrev pub HoldsCrossFront : FileMap → List ℕ → List ℕ → List ℕ → ℕ → FileMap → Type 0
 HoldsCrossFront files a b out look files' =
-    (pair : Joined) × (cross : Cross) × IsCrossFor files a b look pair cross × IsCutShort files (cross_put out cross ∷ []) files'
+    (pair : Joined) × (cross : Cross) × IsCrossOfFiles files a b look pair cross × IsCutShort files (cross_put out cross ∷ []) files'
 
 -- What it leaves, by its status.
 abbrev pub LeavesCross : FileMap → List ℕ → List ℕ → List ℕ → ℕ → ℕ → ℕ → ℕ → FileMap → Type 0
-LeavesCross files a b out look status puts puts' files' =
-    LeavesByStatus (λ before. HoldsCross before a b out look) (λ before. HoldsCrossFront before a b out look) status puts puts' files files'
+LeavesCross files a b out look status put_faults put_faults' files' =
+    LeavesByStatus (λ before. HoldsCross before a b out look) (λ before. HoldsCrossFront before a b out look) status put_faults put_faults' files files'
 
 -- It said that the inclusion holds by simulation: the named files read as two automata, their greatest cross relation has the pair of the initial
 -- states, so the second accepts all that the first does, in both modes, and the name holds its text; all other files are as before.
 pub record IsCrossShown (files : FileMap) (a b out : List ℕ) (look : ℕ) (files' : FileMap) (sent sent' : Option (List ℕ)) : Type 0 where
   pub pair : Joined
   pub cross : Cross
-  pub for : IsCrossFor files a b look pair cross
+  pub for : IsCrossOfFiles files a b look pair cross
   pub includes : (mode : Mode) → Includes pair.first pair.second mode
   pub held : files' ≡ map.insert files out (cross_text cross)
   pub printed : sent' ≡ append_known sent by_simulation_text
@@ -91,7 +91,7 @@ IsCrossStatus files a b look status =
     (pair : Joined)
     × (cross : Cross)
     × ReadsPair files a b pair
-    × IsCrossOf pair look cross
+    × IsGreatestCross pair look cross
     × ((HasInitialPair pair cross × (status ≡ 0)) ⊎ ((HasInitialPair pair cross → ⊥) × (status ≡ 10)))
 
 -- ---- `cross-check`

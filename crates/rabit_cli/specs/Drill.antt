@@ -9,7 +9,7 @@ use Rattle.cert_value.specs.declared.types.Body.{Body}
 use Rattle.cert_value.specs.declared.types.Body.TheVariants.{Yes, NoLasso, NoWord, Listing}
 use Rattle.decide.specs.declared.terms.Terms.{Terms}
 use Rattle.decide.specs.Answer.{IsAnswer}
-use Rattle.decide.specs.Laws.{SaysTruth}
+use Rattle.decide.specs.Laws.{AnswerIsTrue}
 use Rattle.drawing.specs.declared.parts.Drill.{Drill}
 use Rattle.drawing.specs.Drawn.{AreDrawn}
 use Rattle.rabit_frame.specs.declared.parts.Value.{Value}
@@ -42,31 +42,31 @@ finding (Listing list) = codes "limit " ++ (decimal list.limit ++ line_end)
 
 -- The four lines: the sizes of both, and what was found of the first in the second and of the second in the first.
 abbrev pub drill_text : Joined → Body → Body → List ℕ
-drill_text pair forth back =
+drill_text pair forth converse =
     size_line (codes "first") pair.first
     ++ (size_line (codes "second") pair.second
-    ++ ((codes "first in second: " ++ finding forth) ++ (codes "second in first: " ++ finding back)))
+    ++ ((codes "first in second: " ++ finding forth) ++ (codes "second in first: " ++ finding converse)))
 
 -- The drill's two automata, and the answers for both inclusions between them.
-pub record AreDecided (d : Drill) (pair : Joined) (forth back : Cert) : Type 0 where
+pub record AreDecided (d : Drill) (pair : Joined) (forth converse : Cert) : Type 0 where
   pub drawn : AreDrawn d pair
   pub first_in_second : IsAnswer pair drill_terms forth
-  pub second_in_first : IsAnswer (exchanged pair) drill_terms back
+  pub second_in_first : IsAnswer (exchanged pair) drill_terms converse
 
 -- The reply; there is nothing to read.
 abbrev pub MeansDrill : Drill → List Value → Reply → Type 0
 MeansDrill d values r =
-    (pair : Joined) × (forth back : Cert) × AreDecided d pair forth back × (r ≡ only_said status.Done (drill_text pair forth.body back.body))
+    (pair : Joined) × (forth converse : Cert) × AreDecided d pair forth converse × (r ≡ only_said status.Done (drill_text pair forth.body converse.body))
 
 -- The text is that of the drill's two answers, which are true.
 pub record IsDrillText (d : Drill) (text : List ℕ) : Type 0 where
   pub pair : Joined
   pub forth : Cert
-  pub back : Cert
-  pub decided : AreDecided d pair forth back
-  pub first_in_second : SaysTruth pair drill_terms forth.body
-  pub second_in_first : SaysTruth (exchanged pair) drill_terms back.body
-  pub is : text ≡ drill_text pair forth.body back.body
+  pub converse : Cert
+  pub decided : AreDecided d pair forth converse
+  pub first_in_second : AnswerIsTrue pair drill_terms forth.body
+  pub second_in_first : AnswerIsTrue (exchanged pair) drill_terms converse.body
+  pub is : text ≡ drill_text pair forth.body converse.body
 
 -- What a status up to 2 shows: 0 that a drill's text was sent, and 1 and 2 do not come.
 pub record ShowsDrill (d : Drill) (status : ℕ) (sent sent' : Option (List ℕ)) : Type 0 where
@@ -76,5 +76,5 @@ pub record ShowsDrill (d : Drill) (status : ℕ) (sent sent' : Option (List ℕ)
 -- What a drill says, whatever the shelf tells: its text was given, or where the sink's count rose a front of it at status 7, or want of memory
 -- was said.
 abbrev pub SaysDrill : Drill → ℕ → Option (List ℕ) → Option (List ℕ) → ℕ → ℕ → Type 0
-SaysDrill d status sent sent' sink sink' =
-    ((text : List ℕ) × IsDrillText d text × WasGiven text 0 7 status sent sent' sink sink') ⊎ ((status ≡ 8) × SaysOnly memory_line status sent sent' sink sink')
+SaysDrill d status sent sent' give_faults give_faults' =
+    ((text : List ℕ) × IsDrillText d text × WasGiven text 0 7 status sent sent' give_faults give_faults') ⊎ ((status ≡ 8) × SaysOnly memory_line status sent sent' give_faults give_faults')

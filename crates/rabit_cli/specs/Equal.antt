@@ -74,7 +74,7 @@ MeansEqual c d values r =
     × ((pair : Joined) × IsJoined one two pair × IsEqualReply c d one two pair r)
 
 -- The files read as two automata, and the certificates are the answers for the first in the second and for the second in the first.
-pub record AreCertsFor (files : FileMap) (a b : List ℕ) (pair converse : Joined) (cert other : Cert) : Type 0 where
+pub record AreCertsBothWays (files : FileMap) (a b : List ℕ) (pair converse : Joined) (cert other : Cert) : Type 0 where
   pub first : IsCertForWithin second_limits files a b (usual_terms Buchi) pair cert
   pub second : IsCertForWithin second_limits files b a (usual_terms Buchi) converse other
 
@@ -84,7 +84,7 @@ AreEqualPuts files a b c d puts =
     ((pair : Joined) × (cert : Cert) × IsCertForWithin second_limits files a b (usual_terms Buchi) pair cert × IsNo cert.body × (puts ≡ certificate_put c cert ∷ []))
     ⊎ ((pair converse : Joined)
     × (cert other : Cert)
-    × AreCertsFor files a b pair converse cert other
+    × AreCertsBothWays files a b pair converse cert other
     × ¬ IsNo cert.body
     × (puts ≡ both_puts c d cert other))
 
@@ -98,8 +98,8 @@ HoldsEqualPart files a b c d files' = (puts : List Output) × AreEqualPuts files
 
 -- What it leaves, by its status.
 abbrev pub LeavesEqual : FileMap → List ℕ → List ℕ → List ℕ → List ℕ → ℕ → ℕ → ℕ → FileMap → Type 0
-LeavesEqual files a b c d status puts puts' files' =
-    LeavesByStatus (λ before. HoldsEqual before a b c d) (λ before. HoldsEqualPart before a b c d) status puts puts' files files'
+LeavesEqual files a b c d status put_faults put_faults' files' =
+    LeavesByStatus (λ before. HoldsEqual before a b c d) (λ before. HoldsEqualPart before a b c d) status put_faults put_faults' files files'
 
 -- The body has a lasso, or a word, that the first of the two accepts and the second does not.
 abbrev pub Separates : Joined → Body → Type 0
@@ -121,7 +121,7 @@ pub record AreShownEqual (files : FileMap) (a b c d : List ℕ) (files' : FileMa
   pub converse : Joined
   pub cert : Cert
   pub other : Cert
-  pub certs : AreCertsFor files a b pair converse cert other
+  pub certs : AreCertsBothWays files a b pair converse cert other
   pub says_yes : answer_of cert.body ≡ answer.Yes
   pub other_says_yes : answer_of other.body ≡ answer.Yes
   pub same : Same pair.first pair.second Buchi
@@ -143,7 +143,7 @@ pub record IsSecondApart (files : FileMap) (a b c d : List ℕ) (files' : FileMa
   pub converse : Joined
   pub cert : Cert
   pub other : Cert
-  pub certs : AreCertsFor files a b pair converse cert other
+  pub certs : AreCertsBothWays files a b pair converse cert other
   pub not_first : ¬ IsNo cert.body
   pub apart : Separates converse other.body
   pub held : files' ≡ filed files (both_puts c d cert other)
@@ -155,7 +155,7 @@ pub record IsEqualListed (files : FileMap) (a b c d : List ℕ) (files' : FileMa
   pub converse : Joined
   pub cert : Cert
   pub other : Cert
-  pub certs : AreCertsFor files a b pair converse cert other
+  pub certs : AreCertsBothWays files a b pair converse cert other
   pub not_first : ¬ IsNo cert.body
   pub not_second : ¬ IsNo other.body
   pub lists : IsListBody cert.body ⊎ IsListBody other.body

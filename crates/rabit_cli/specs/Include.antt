@@ -17,9 +17,9 @@ use Rattle.cert_value.specs.Text.{text}
 use Rattle.cert_value.specs.WellFormed.{WellFormed}
 use Rattle.cert_check.specs.Laws.{IsValid}
 use Rattle.decide.specs.declared.terms.Terms.{Terms}
-use Rattle.decide.specs.Terms.{terms_of}
+use Rattle.decide.specs.Terms.{terms_of_version_1}
 use Rattle.decide.specs.Answer.{IsAnswer}
-use Rattle.decide.specs.Laws.{SaysTruth, StandApart, ListsNew}
+use Rattle.decide.specs.Laws.{AnswerIsTrue, StandApart, ListsNew}
 use Rattle.rabit_frame.specs.declared.parts.Value.{Value}
 use Rattle.rabit_frame.specs.declared.parts.Value.TheVariants as value
 use Rattle.rabit_frame.specs.declared.parts.Reply.{Reply}
@@ -33,7 +33,7 @@ use Rattle.rabit_cli.specs.Replies.{IsVerdictReply, SaysApart}
 
 -- The terms of a decision that names neither a lookahead nor a limit.
 abbrev pub usual_terms : Mode → Terms
-usual_terms mode = terms_of mode usual_look usual_limit
+usual_terms mode = terms_of_version_1 mode usual_look usual_limit
 
 -- The announced letters of a decision: one where none are named.
 abbrev pub letters_by : Option ℕ → ℕ
@@ -75,7 +75,7 @@ pub record IsCertForWithin (limits : Limits) (files : FileMap) (a b : List ℕ) 
   pub answer : IsAnswer pair terms cert
   pub formed : WellFormed cert
   pub valid : IsValid pair cert
-  pub truth : SaysTruth pair terms cert.body
+  pub truth : AnswerIsTrue pair terms cert.body
 
 -- The same within the limits of a first file.
 abbrev pub IsCertFor : FileMap → List ℕ → List ℕ → Terms → Joined → Cert → Type 0
@@ -87,15 +87,15 @@ HoldsAnswer files a b c terms files' =
     (pair : Joined) × (cert : Cert) × IsCertFor files a b terms pair cert × (files' ≡ map.insert files c (text cert))
 
 -- The name holds a front of that text, or what it held before, and all other files are as before.
-abbrev pub HoldsFront : FileMap → List ℕ → List ℕ → List ℕ → Terms → FileMap → Type 0
-HoldsFront files a b c terms files' =
+abbrev pub HoldsAnswerFront : FileMap → List ℕ → List ℕ → List ℕ → Terms → FileMap → Type 0
+HoldsAnswerFront files a b c terms files' =
     (pair : Joined) × (cert : Cert) × IsCertFor files a b terms pair cert × IsCutShort files (certificate_put c cert ∷ []) files'
 
 -- What it leaves, by its status: a verdict comes with the certificate's whole text. A write fault leaves that too where the
 -- verdict could not be sent, and where the shelf's count rose a front of it or what was there before. Nothing else writes a file.
 abbrev pub LeavesDecided : FileMap → List ℕ → List ℕ → List ℕ → Terms → ℕ → ℕ → ℕ → FileMap → Type 0
-LeavesDecided files a b c terms status puts puts' files' =
-    LeavesByStatus (λ before. HoldsAnswer before a b c terms) (λ before. HoldsFront before a b c terms) status puts puts' files files'
+LeavesDecided files a b c terms status put_faults put_faults' files' =
+    LeavesByStatus (λ before. HoldsAnswer before a b c terms) (λ before. HoldsAnswerFront before a b c terms) status put_faults put_faults' files files'
 
 -- It said no: the named files read as two automata, the answer is a no and keeps all rules of a check, its lasso, in finite mode its
 -- word, separates the two and was printed, and the certificate's name holds the answer's text; all other files are as before.

@@ -33,8 +33,8 @@ use Rattle.rabit_cli.specs.Replies.{IsVerdictReply}
 use Rattle.rabit_cli.specs.Check.{check_inputs, MeansCheck}
 use Rattle.rabit_cli.specs.Include.{pair_inputs, MeansInclude}
 use Rattle.rabit_cli.specs.Upgrade.{upgrade_inputs, MeansUpgrade}
-use Rattle.rabit_cli.specs.Cross.{MeansCross, IsCrossFor, ReadsCross, cross_check_inputs, MeansCrossCheck}
-use Rattle.rabit_cli.specs.Batch.{Calls, LeaveInTurn, ShowInTurn}
+use Rattle.rabit_cli.specs.Cross.{MeansCross, IsCrossOfFiles, ReadsCross, cross_check_inputs, MeansCrossCheck}
+use Rattle.rabit_cli.specs.Batch.{ShelfCounts, LeaveInTurn, ShowInTurn}
 use Rattle.rabit_cli.specs.Property.{Property, IsPropertyCertFor, IsPropertyReply, property_puts}
 use Rattle.rabit_cli.specs.Empty.{empty_text, AcceptsNothing, emptiness}
 use Rattle.rabit_cli.specs.Universal.{all_loops, AcceptsAll, universality}
@@ -118,14 +118,14 @@ CrossRelationsAreAccepted =
     (files : FileMap) (a b f : List ℕ) (look : ℕ) (pair : Joined) (cross : Cross)
     → 1 ≤ look
     → look ≤ 6
-    → IsCrossFor files a b look pair cross
+    → IsCrossOfFiles files a b look pair cross
     → ReadsCross files f cross
     → IsReplyFor MeansCrossCheck (cross_check_inputs a b f) files (only_said status.Done by_simulation_text)
 
 -- Questions that were carried out in turn show in turn what `include` shows.
 abbrev pub QuestionsShowInTurn : Type 0
 QuestionsShowInTurn =
-    (questions : List Question) (statuses : List ℕ) (files files' : FileMap) (calls calls' : Calls)
+    (questions : List Question) (statuses : List ℕ) (files files' : FileMap) (calls calls' : ShelfCounts)
     → LeaveInTurn questions statuses files files' calls calls'
     → ShowInTurn questions statuses files files'
 

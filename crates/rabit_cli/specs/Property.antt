@@ -17,7 +17,7 @@ use Rattle.cert_value.specs.declared.types.YesBody.{YesBody}
 use Rattle.cert_value.specs.declared.types.ListBody.{ListBody}
 use Rattle.cert_check.specs.Laws.{IsValid}
 use Rattle.decide.specs.Answer.{IsAnswer}
-use Rattle.decide.specs.Laws.{SaysTruth, ListsNew}
+use Rattle.decide.specs.Laws.{AnswerIsTrue, ListsNew}
 use Rattle.rabit_frame.specs.declared.parts.Value.{Value}
 use Rattle.rabit_frame.specs.declared.parts.Value.TheVariants as value
 use Rattle.rabit_frame.specs.declared.parts.Status.TheVariants as status
@@ -75,14 +75,14 @@ MeansProperty p m c mode values r = (one : Named) × (values ≡ value.Automaton
 -- is so.
 pub record IsPropertyCertFor (p : Property) (mode : Mode) (files : FileMap) (a : List ℕ) (one other : Named) (pair : Joined) (cert : Cert) : Type 0 where
   pub read : FileReads files (automaton_file 1 p.limits a) (value.Automaton one)
-  pub made : Reads (p.made one) second_limits other
+  pub other_reads : Reads (p.made one) second_limits other
   pub joined : p.joins one other pair
   pub answer : IsAnswer pair (usual_terms mode) cert
   pub valid : IsValid pair cert
-  pub truth : SaysTruth pair (usual_terms mode) cert.body
+  pub truth : AnswerIsTrue pair (usual_terms mode) cert.body
 
 -- Both names hold their whole texts, and all other files are as before.
-pub record HoldsBoth (p : Property) (files : FileMap) (a m c : List ℕ) (mode : Mode) (files' : FileMap) : Type 0 where
+pub record HoldsProperty (p : Property) (files : FileMap) (a m c : List ℕ) (mode : Mode) (files' : FileMap) : Type 0 where
   pub one : Named
   pub other : Named
   pub pair : Joined
@@ -92,8 +92,8 @@ pub record HoldsBoth (p : Property) (files : FileMap) (a m c : List ℕ) (mode :
 
 -- A put failed. If the first did, the made text's name holds a front of it, or what it held before; if the second did, it holds all of it, and the
 -- certificate's name a front of that text, or what it held before. All other files are as before.
-abbrev pub HoldsPart : Property → FileMap → List ℕ → List ℕ → List ℕ → Mode → FileMap → Type 0
-HoldsPart p files a m c mode files' =
+abbrev pub HoldsPropertyPart : Property → FileMap → List ℕ → List ℕ → List ℕ → Mode → FileMap → Type 0
+HoldsPropertyPart p files a m c mode files' =
     (one other : Named)
     × (pair : Joined)
     × (cert : Cert)
@@ -101,9 +101,9 @@ HoldsPart p files a m c mode files' =
     × IsCutShort files (property_puts m (p.made one) c cert) files'
 
 -- What they leave, by the status.
-abbrev pub LeavesBoth : Property → FileMap → List ℕ → List ℕ → List ℕ → Mode → ℕ → ℕ → ℕ → FileMap → Type 0
-LeavesBoth p files a m c mode status puts puts' files' =
-    LeavesByStatus (λ before. HoldsBoth p before a m c mode) (λ before. HoldsPart p before a m c mode) status puts puts' files files'
+abbrev pub LeavesProperty : Property → FileMap → List ℕ → List ℕ → List ℕ → Mode → ℕ → ℕ → ℕ → FileMap → Type 0
+LeavesProperty p files a m c mode status put_faults put_faults' files' =
+    LeavesByStatus (λ before. HoldsProperty p before a m c mode) (λ before. HoldsPropertyPart p before a m c mode) status put_faults put_faults' files files'
 
 -- The body has a lasso, in finite mode a word, that shows that the read automaton has not the property, and that was printed with its labels.
 abbrev pub IsRefuted : Property → Named → Body → Option (List ℕ) → Option (List ℕ) → Type 0
@@ -114,7 +114,7 @@ IsRefuted p one (Listing list) sent sent' = ⊥
 
 -- The read automaton has the property, which was printed; both files are written.
 pub record IsShownToHold (p : Property) (files : FileMap) (a m c : List ℕ) (mode : Mode) (files' : FileMap) (sent sent' : Option (List ℕ)) : Type 0 where
-  pub written : HoldsBoth p files a m c mode files'
+  pub written : HoldsProperty p files a m c mode files'
   pub evidence : YesBody
   pub says_yes : written.cert.body ≡ Yes evidence
   pub holds : p.holds mode written.one.auto
@@ -122,12 +122,12 @@ pub record IsShownToHold (p : Property) (files : FileMap) (a m c : List ℕ) (mo
 
 -- It has not, and what shows that was printed; both files are written.
 pub record IsShownToFail (p : Property) (files : FileMap) (a m c : List ℕ) (mode : Mode) (files' : FileMap) (sent sent' : Option (List ℕ)) : Type 0 where
-  pub written : HoldsBoth p files a m c mode files'
+  pub written : HoldsProperty p files a m c mode files'
   pub refuted : IsRefuted p written.one written.cert.body sent sent'
 
 -- The search met its limit, which was printed; both files are written.
 pub record IsPropertyListed (p : Property) (files : FileMap) (a m c : List ℕ) (mode : Mode) (files' : FileMap) (sent sent' : Option (List ℕ)) : Type 0 where
-  pub written : HoldsBoth p files a m c mode files'
+  pub written : HoldsProperty p files a m c mode files'
   pub list : ListBody
   pub lists : written.cert.body ≡ Listing list
   pub listed : ListsNew written.pair (usual_terms mode) list

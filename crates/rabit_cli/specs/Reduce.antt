@@ -27,8 +27,8 @@ abbrev pub reduce_inputs : List ℕ → List Input
 reduce_inputs name = automaton_file 1 first_limits name ∷ []
 
 -- How far the games of the reduction look.
-abbrev pub asked_sight : ℕ → ℕ → Foresight
-asked_sight look letters = record { look = look; letters = letters }
+abbrev pub sight_by : ℕ → ℕ → Foresight
+sight_by look letters = record { look = look; letters = letters }
 
 -- The text is that of the reduced automaton of the read one, with its labels.
 abbrev pub IsReducedText : Named → Mode → Foresight → List ℕ → Type 0

@@ -85,8 +85,8 @@ HoldsShrunkFront files a b c out files' =
 
 -- What it leaves, by its status.
 abbrev pub LeavesShrunk : FileMap → List ℕ → List ℕ → List ℕ → List ℕ → ℕ → ℕ → ℕ → FileMap → Type 0
-LeavesShrunk files a b c out status puts puts' files' =
-    LeavesByStatus (λ before. HoldsShrunk before a b c out) (λ before. HoldsShrunkFront before a b c out) status puts puts' files files'
+LeavesShrunk files a b c out status put_faults put_faults' files' =
+    LeavesByStatus (λ before. HoldsShrunk before a b c out) (λ before. HoldsShrunkFront before a b c out) status put_faults put_faults' files files'
 
 -- What is left was printed, and is what the written certificate says.
 pub record IsShrunkShown (files : FileMap) (a b c out : List ℕ) (files' : FileMap) (sent sent' : Option (List ℕ)) : Type 0 where

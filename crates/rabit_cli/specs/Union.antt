@@ -28,10 +28,10 @@ abbrev pub MeansUnion : Mode → List Value → Reply → Type 0
 MeansUnion mode = MeansCombined (IsUnionReply mode)
 
 -- C accepts just the lassos, in finite mode the words, that one of A and B accepts.
-abbrev pub AcceptsWhatOneDoes : Mode → Automaton → Automaton → Automaton → Type 0
-AcceptsWhatOneDoes Buchi A B C = (u v : List ℕ) → AcceptsLasso C u v ↔ (AcceptsLasso A u v ⊎ AcceptsLasso B u v)
-AcceptsWhatOneDoes Finite A B C = (w : List ℕ) → AcceptsWord C w ↔ (AcceptsWord A w ⊎ AcceptsWord B w)
+abbrev pub AcceptsWhatEitherDoes : Mode → Automaton → Automaton → Automaton → Type 0
+AcceptsWhatEitherDoes Buchi A B C = (u v : List ℕ) → AcceptsLasso C u v ↔ (AcceptsLasso A u v ⊎ AcceptsLasso B u v)
+AcceptsWhatEitherDoes Finite A B C = (w : List ℕ) → AcceptsWord C w ↔ (AcceptsWord A w ⊎ AcceptsWord B w)
 
 -- What a status up to 2 shows: 0 the union, and 1 and 2 do not come.
 abbrev pub ShowsUnion : FileMap → List ℕ → List ℕ → Mode → ℕ → Option (List ℕ) → Option (List ℕ) → Type 0
-ShowsUnion files a b mode = ShowsCombined files a b (IsUnionOf mode) (λ pair. AcceptsWhatOneDoes mode pair.first pair.second)
+ShowsUnion files a b mode = ShowsCombined files a b (IsUnionOf mode) (λ pair. AcceptsWhatEitherDoes mode pair.first pair.second)

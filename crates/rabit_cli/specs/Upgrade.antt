@@ -40,8 +40,8 @@ HoldsUpgradedFront files c out files' = (cert : Cert) × ReadsCertificate files 
 
 -- What it leaves, by its status.
 abbrev pub LeavesUpgraded : FileMap → List ℕ → List ℕ → ℕ → ℕ → ℕ → FileMap → Type 0
-LeavesUpgraded files c out status puts puts' files' =
-    LeavesByStatus (λ before. HoldsUpgraded before c out) (λ before. HoldsUpgradedFront before c out) status puts puts' files files'
+LeavesUpgraded files c out status put_faults put_faults' files' =
+    LeavesByStatus (λ before. HoldsUpgraded before c out) (λ before. HoldsUpgradedFront before c out) status put_faults put_faults' files files'
 
 -- The certificate was written in version 2, and that was said.
 pub record IsUpgradedShown (files : FileMap) (c out : List ℕ) (files' : FileMap) (sent sent' : Option (List ℕ)) : Type 0 where

@@ -18,6 +18,8 @@ fn a_question_ends_no_batch_and_a_refused_line_does(rt: HostRuntime) -> Result<(
     // each file is read in three calls, the list first; the puts are the tenth and the seventeenth
     let rows = [
         (&[2][..], &[][..], 6, "read fault\n", OLDER, OLDER),
+        // a second call of the sink would fail
+        (&[2], &[1], 6, "read fault\n", OLDER, OLDER),
         (&[5], &[], 0, "1 6\n2 0\n", OLDER, YES),
         (&[9], &[], 0, "1 7\n2 0\n", OLDER, YES),
         (&[16], &[], 0, "1 0\n2 7\n", YES, OLDER),
@@ -57,5 +59,16 @@ fn no_file_is_begun_after_a_refused_line(rt: HostRuntime) -> Result<(), Fail> {
         assert_eq!(rt; shelf.begin("A"), Ok(()));
         assert_eq!(rt; shelf.take(&mut buf), Err(Failed));
     }
+    Ok(())
+}
+
+#[test]
+fn a_file_with_a_fault_is_begun_by_each_question(rt: HostRuntime) -> Result<(), Fail> {
+    let alloc = rt.alloc();
+    let files = [("A", "[0]\na,[0]\n"), ("L", "A A C\nA A D\n")];
+    // the list and the first question's file are read in three calls each; the second question's begin fails
+    let mut shelf = shelf_of(alloc, &files, &[6])?;
+    let said = says(alloc, &["batch", "L"], &mut shelf, &[], "1 4\n2 6\n")?;
+    assert_eq!(rt; said, (0, true));
     Ok(())
 }

@@ -8,12 +8,12 @@ ghost use Rattle.rabit_frame.specs.declared.parts.Value.TheVariants as value;
 ghost use Rattle.rabit_frame.specs.declared.parts.Ending.{Ending as AnEnding};
 ghost use Rattle.rabit_frame.specs.Reading.{FileReads, IsOfKind, MissedInTurn, BegunInTurn, AllBegun, BlamesInTurn};
 ghost use Rattle.rabit_frame.specs.Ending.{OfBoth, status_of};
-ghost use Rattle.rabit_frame.specs.Carrying.{EndsSo};
+ghost use Rattle.rabit_frame.specs.Carrying.{EndsSo, PutsByStatus};
 ghost use Rattle.rabit_cli.specs.Include.{usual_terms, LeavesDecided};
-ghost use Rattle.rabit_cli.specs.Batch.{question_inputs, MeansQuestion, IsQuestionStatus, ShowsQuestion, AnswersQuestion, question_line, AreQuestions, calls_of, IsCarriedEach, list_file, IsBatch};
+ghost use Rattle.rabit_cli.specs.Batch.{question_inputs, MeansQuestion, IsQuestionStatus, ShowsQuestion, AnswersQuestion, question_line, AreQuestions, shelf_counts, IsCarriedEach, list_file, IsBatch};
 
 use crate::including;
-use crate::including::Asked;
+use crate::including::AskedInclude;
 use auto_core::{List, Memory, Mode};
 use equal_batch::Question;
 use rabit_frame::{Ending, FileKind, Reply, Slot, Value, Work, read_alone, say};
@@ -53,7 +53,7 @@ impl<'a> Work for Asking<'a> {
     }
 
     fn answer(&self, alloc: Global, values: &[Value]) -> Result<Reply<'_>, Memory> {
-        let asked = Asked {
+        let asked = AskedInclude {
             mode: Mode::Buchi,
             look: USUAL_LOOK,
             limit: USUAL_LIMIT,
@@ -81,6 +81,9 @@ pub fn answer_one<H: Shelf>(alloc: Global, question: &Question, shelf: &mut H) -
     // What the files are afterwards.
     ensures files { OfBoth (H.held shelf.old) (H.held shelf.new) (λ files files'. LeavesDecided files question.now.first question.now.second question.now.cert (usual_terms Buchi) result (H.put_faults shelf.old) (H.put_faults shelf.new) files') }
     ensures memory { result ≡ 8 → H.held shelf.new ≡ H.held shelf.old }
+
+    // By the count of puts: each file of the reply was put once, or up to one that was refused.
+    ensures put_once { PutsByStatus (MeansQuestion question.now) (question_inputs question.now) result (H.held shelf.old) (H.put_calls shelf.old) (H.put_calls shelf.new) }
 
     // Faults of the outside, each with its count.
     ensures read_fault { result ≡ 6 → Rose (H.faults shelf.old) (H.faults shelf.new) }
@@ -132,8 +135,8 @@ fn carry_each<H: Shelf, K: Sink>(
     requires room { 15 ≤ vec_capacity line.old }
     ensures { IsCarriedEach number questions.now (H.held shelf.old) (H.held shelf.new) result (K.sent out.old) (K.sent out.new) (K.faults out.old) (K.faults out.new)
         (H.faults shelf.old) (H.faults shelf.new) (H.put_faults shelf.old) (H.put_faults shelf.new) (H.missed shelf.old) (H.missed shelf.new)
-        (calls_of (H.begins shelf.old) (H.faults shelf.old) (H.put_faults shelf.old) (H.blamed shelf.old))
-        (calls_of (H.begins shelf.new) (H.faults shelf.new) (H.put_faults shelf.new) (H.blamed shelf.new)) }
+        (shelf_counts (H.begins shelf.old) (H.faults shelf.old) (H.put_faults shelf.old) (H.blamed shelf.old))
+        (shelf_counts (H.begins shelf.new) (H.faults shelf.new) (H.put_faults shelf.new) (H.blamed shelf.new)) }
 {
     match questions {
         [] => 0,
@@ -162,8 +165,8 @@ fn list_slot<'a>(name: &'a str) -> Slot<'a>
 pub fn batch<H: Shelf, K: Sink>(alloc: Global, list: &str, shelf: &mut H, out: &mut K) -> u8
     ensures { IsBatch list.now (H.held shelf.old) (H.held shelf.new) result (K.sent out.old) (K.sent out.new) (K.faults out.old) (K.faults out.new)
         (H.faults shelf.old) (H.faults shelf.new) (H.put_faults shelf.old) (H.put_faults shelf.new) (H.missed shelf.old) (H.missed shelf.new)
-        (calls_of (H.begins shelf.old) (H.faults shelf.old) (H.put_faults shelf.old) (H.blamed shelf.old))
-        (calls_of (H.begins shelf.new) (H.faults shelf.new) (H.put_faults shelf.new) (H.blamed shelf.new)) }
+        (shelf_counts (H.begins shelf.old) (H.faults shelf.old) (H.put_faults shelf.old) (H.blamed shelf.old))
+        (shelf_counts (H.begins shelf.new) (H.faults shelf.new) (H.put_faults shelf.new) (H.blamed shelf.new)) }
 {
     match read_alone(alloc, shelf, &list_slot(list)) {
         Ok(Value::Questions(questions)) => match Vec::with_capacity(alloc, 15) {

@@ -8,7 +8,7 @@ ghost use Rattle.rabit_words.specs.Question.{Batch, told, question_of, IsProper}
 ghost use Rattle.rabit_cli.specs.Commands.{IsSingle, inputs_of, Means};
 
 use crate::files::{FIRST_LIMITS, SECOND_LIMITS};
-use crate::including::Asked;
+use crate::including::AskedInclude;
 use crate::{
     checking, cross_checking, crossing, drilling, emptiness, equality, including, intersecting,
     properties, reducing, replies, shrinking, uniting, universality, upgrading,
@@ -103,7 +103,7 @@ fn reply_to<'a>(
             letters,
             ..
         } => {
-            let asked = Asked {
+            let asked = AskedInclude {
                 mode: *mode,
                 look: *look,
                 limit: *limit,

@@ -24,34 +24,37 @@ fn empty_text(alloc: Global) -> Result<List<u8>, Memory>
 /// The reply to the automaton: whether it is included in the one that accepts nothing.
 fn of_one<'a>(
     alloc: Global,
-    made: &'a str,
+    made_name: &'a str,
     certificate: &'a str,
     mode: Mode,
     one: &Named,
 ) -> Result<Reply<'a>, Memory>
     requires { IsWithinLimits first_limits one.now }
-    ensures { IfOk result (IsPropertyDecidedFor emptiness made.entry.now certificate.entry.now mode one.now) }
+    ensures { IfOk result (IsPropertyDecidedFor emptiness made_name.entry.now certificate.entry.now mode one.now) }
 {
     let bytes = empty_text(alloc)?;
     let other = read_back(alloc, bytes.as_slice())?;
     let pair = joined(alloc, one, &other)?;
-    let put = Put { name: made, bytes };
+    let put = Put {
+        name: made_name,
+        bytes,
+    };
     decided(alloc, "empty", put, certificate, mode, &pair)
 }
 
 /// The reply to what was read.
 pub fn reply<'a>(
     alloc: Global,
-    made: &'a str,
+    made_name: &'a str,
     certificate: &'a str,
     mode: Mode,
     values: &[Value],
 ) -> Result<Reply<'a>, Memory>
     requires { (a : Items ℕ) × AreOfKinds (property_inputs emptiness a) values.now }
-    ensures { IfOk result (MeansProperty emptiness made.entry.now certificate.entry.now mode values.now) }
+    ensures { IfOk result (MeansProperty emptiness made_name.entry.now certificate.entry.now mode values.now) }
 {
     match values {
-        [Value::Automaton(one)] => of_one(alloc, made, certificate, mode, one),
+        [Value::Automaton(one)] => of_one(alloc, made_name, certificate, mode, one),
         _ => unreachable!(),
     }
 }

@@ -34,7 +34,7 @@ pub fn slots<'a>(alloc: Global, first: &'a str, second: &'a str) -> Result<List<
 
 /// What a decision is asked for beside its files.
 #[derive(Clone, Copy, Debug)]
-pub struct Asked {
+pub struct AskedInclude {
     /// Lassos or finite words.
     pub mode: Mode,
     /// The lookahead of the reductions, from 1 to 6.
@@ -46,7 +46,7 @@ pub struct Asked {
 }
 
 /// The answer for the joined automata, in the version that is asked for.
-fn answered(alloc: Global, asked: Asked, pair: &Joined) -> Result<Cert, Memory>
+fn answered(alloc: Global, asked: AskedInclude, pair: &Joined) -> Result<Cert, Memory>
     requires can { CanDecide pair.now }
     requires bounded { AreBounded (terms_of_asked asked) }
     requires limit_from { 1 ≤ asked.limit }
@@ -66,7 +66,7 @@ fn answered(alloc: Global, asked: Asked, pair: &Joined) -> Result<Cert, Memory>
 fn decided<'a>(
     alloc: Global,
     name: &'a str,
-    asked: Asked,
+    asked: AskedInclude,
     pair: &Joined,
 ) -> Result<Reply<'a>, Memory>
     requires can { CanDecide pair.now }
@@ -85,7 +85,7 @@ fn decided<'a>(
 fn included<'a>(
     alloc: Global,
     name: &'a str,
-    asked: Asked,
+    asked: AskedInclude,
     one: &Named,
     two: &Named,
 ) -> Result<Reply<'a>, Memory>
@@ -103,7 +103,7 @@ fn included<'a>(
 pub fn reply<'a>(
     alloc: Global,
     name: &'a str,
-    asked: Asked,
+    asked: AskedInclude,
     values: &[Value],
 ) -> Result<Reply<'a>, Memory>
     requires kinds { (a b : Items ℕ) × AreOfKinds (pair_inputs a b) values.now }

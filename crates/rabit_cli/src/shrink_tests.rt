@@ -20,6 +20,8 @@ const LONG_WORD: &str = "rabit-cert 1 finite no\nsizes 1 1 2\nword 0 1 0 1\nend\
 
 const SHORT_WORD: &str = "rabit-cert 1 finite no\nsizes 1 1 2\nword 1\nend\n";
 
+const EMPTY_WORD: &str = "rabit-cert 1 finite no\nsizes 1 2 0\nword\nend\n";
+
 const YES: &str =
     "rabit-cert 1 buchi yes\nsizes 1 1 1\nlog1 0\nlog2 0\nrel 1\nrow 0 0\nelements 1\nlive base 0\ncover 0\nstep 0 0\nend\n";
 
@@ -83,6 +85,14 @@ fn letters_that_are_not_needed_go(rt: HostRuntime) -> Result<(), Fail> {
             RING_NO,
             "not included\nprefix:\nloop: a\n",
             RING_NO,
+        ),
+        // there is none
+        (
+            "[0]\n",
+            "[0]\n[1]\n",
+            EMPTY_WORD,
+            "not included, finite\nword:\n",
+            EMPTY_WORD,
         ),
     ];
     for (first, second, certificate, printed, left) in rows {

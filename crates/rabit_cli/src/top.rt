@@ -2,14 +2,14 @@
 
 ghost use Rattle.std.specs.Prelude.{◌≡◌, ◌≢◌, ◌≤◌, ◌⊎◌, [], map, None, IfSome};
 ghost use Rattle.std.specs.String.{string_bytes};
-ghost use Rattle.shelf_io.specs.Counts.{Rose};
+ghost use Rattle.shelf_io.specs.Counts.{Rose, counted};
 ghost use Rattle.rabit_frame.specs.Lines.{read_line, memory_line};
 ghost use Rattle.rabit_frame.specs.Statuses.{IsOwn};
 ghost use Rattle.rabit_frame.specs.Reading.{MissedInTurn, BegunInTurn, AllBegun, BlamesInTurn};
 ghost use Rattle.rabit_frame.specs.Ending.{OfBoth, SaysOnly};
-ghost use Rattle.rabit_frame.specs.Carrying.{IsCarriedOut, SaysEach, ShowsReply, LeavesUnwritten};
+ghost use Rattle.rabit_frame.specs.Carrying.{IsCarriedOut, SaysEach, IsOwnReply, LeavesAtWriteFault, PutsByStatus};
 ghost use Rattle.rabit_words.specs.Question.{question_of};
-ghost use Rattle.rabit_cli.specs.Batch.{calls_of};
+ghost use Rattle.rabit_cli.specs.Batch.{shelf_counts};
 ghost use Rattle.rabit_cli.specs.Complete.{AnswersWhatReads, AnswersBatch};
 ghost use Rattle.rabit_cli.specs.Commands.{IsSingle, inputs_of, outputs_of, Means, Shows, Batches, Drills, LeavesFiles, SaysUsage};
 
@@ -44,14 +44,14 @@ pub fn run<H: Shelf, K: Sink>(alloc: Global, words: &[String], shelf: &mut H, ou
     ensures drills { IfSome (question_of (map string_bytes words.now)) (λ asked.
         Drills asked result (K.sent out.old) (K.sent out.new) (K.faults out.old) (K.faults out.new)) }
 
-    // A batch: its list is not read, and that was said; or its questions were carried out one after the other, each on the files that the one
+    // A batch: none of its questions is carried out, and why was said; or they were carried out one after the other, each on the files that the one
     // before it left, and a line with its number and its status was given before the next began. The law `questions_show_in_turn` tells what a
     // status up to 2 of a line shows.
     ensures batch { IfSome (question_of (map string_bytes words.now)) (λ asked.
         Batches asked (H.held shelf.old) (H.held shelf.new) result (K.sent out.old) (K.sent out.new) (K.faults out.old) (K.faults out.new)
         (H.faults shelf.old) (H.faults shelf.new) (H.put_faults shelf.old) (H.put_faults shelf.new) (H.missed shelf.old) (H.missed shelf.new)
-        (calls_of (H.begins shelf.old) (H.faults shelf.old) (H.put_faults shelf.old) (H.blamed shelf.old))
-        (calls_of (H.begins shelf.new) (H.faults shelf.new) (H.put_faults shelf.new) (H.blamed shelf.new))) }
+        (shelf_counts (H.begins shelf.old) (H.faults shelf.old) (H.put_faults shelf.old) (H.blamed shelf.old))
+        (shelf_counts (H.begins shelf.new) (H.faults shelf.new) (H.put_faults shelf.new) (H.blamed shelf.new))) }
 
     // What a status up to 2 shows, command by command: an inclusion, a lasso that separates, a list past the limit, a reduced automaton, what a drill found,
     // a certificate in version 2, a cross relation, two automata that accept the same, a union, an intersection, what is left of a no, an automaton that accepts nothing or everything, or what shows that it does not.
@@ -59,8 +59,8 @@ pub fn run<H: Shelf, K: Sink>(alloc: Global, words: &[String], shelf: &mut H, ou
         Shows (question_of (map string_bytes words.now)) result files files' (K.sent out.old) (K.sent out.new)) }
 
     // A status of a command's own is that of the right reply: its files are written, and its text was given, or where the sink's count rose a front of it.
-    ensures shown { IsSingle (question_of (map string_bytes words.now)) → IsOwn result → OfBoth (H.held shelf.old) (H.held shelf.new) (λ files files'.
-        ShowsReply (Means (question_of (map string_bytes words.now))) (inputs_of (question_of (map string_bytes words.now)))
+    ensures own_status { IsSingle (question_of (map string_bytes words.now)) → IsOwn result → OfBoth (H.held shelf.old) (H.held shelf.new) (λ files files'.
+        IsOwnReply (Means (question_of (map string_bytes words.now))) (inputs_of (question_of (map string_bytes words.now)))
         result (K.sent out.old) (K.sent out.new) (K.faults out.old) (K.faults out.new) files files') }
 
     // A question whose automata all read is answered: by a result of its command, unless a count of the outside rose or memory was refused.
@@ -89,13 +89,19 @@ pub fn run<H: Shelf, K: Sink>(alloc: Global, words: &[String], shelf: &mut H, ou
     // At 6 and 8 no file changed, and that was said; at 7 the counts tell which call was refused, and so what is left.
     ensures read_line { result ≡ 6 → (H.held shelf.new ≡ H.held shelf.old) × SaysOnly read_line result (K.sent out.old) (K.sent out.new) (K.faults out.old) (K.faults out.new) }
     ensures memory { result ≡ 8 → (H.held shelf.new ≡ H.held shelf.old) × SaysOnly memory_line result (K.sent out.old) (K.sent out.new) (K.faults out.old) (K.faults out.new) }
-    ensures unwritten { IsSingle (question_of (map string_bytes words.now)) → result ≡ 7 → OfBoth (H.held shelf.old) (H.held shelf.new) (λ files files'.
-        LeavesUnwritten (Means (question_of (map string_bytes words.now))) (inputs_of (question_of (map string_bytes words.now)))
+    ensures at_write_fault { IsSingle (question_of (map string_bytes words.now)) → result ≡ 7 → OfBoth (H.held shelf.old) (H.held shelf.new) (λ files files'.
+        LeavesAtWriteFault (Means (question_of (map string_bytes words.now))) (inputs_of (question_of (map string_bytes words.now)))
         (K.sent out.old) (K.sent out.new) (K.faults out.old) (K.faults out.new) (H.put_faults shelf.old) (H.put_faults shelf.new) files files') }
 
     // A question without files to read has no failing read, and one without files to write has no failing put.
     ensures reads_none { inputs_of (question_of (map string_bytes words.now)) ≡ [] → H.faults shelf.new ≡ H.faults shelf.old }
     ensures writes_none { IsSingle (question_of (map string_bytes words.now)) → outputs_of (question_of (map string_bytes words.now)) ≡ [] → H.put_faults shelf.new ≡ H.put_faults shelf.old }
+
+    // By the counts of calls: each file of the reply was put once, or up to one that was refused, and the whole text was one give.
+    ensures put_once { IsSingle (question_of (map string_bytes words.now)) →
+        PutsByStatus (Means (question_of (map string_bytes words.now))) (inputs_of (question_of (map string_bytes words.now)))
+        result (H.held shelf.old) (H.put_calls shelf.old) (H.put_calls shelf.new) }
+    ensures given_once { IsSingle (question_of (map string_bytes words.now)) → K.give_calls out.new ≡ counted (K.give_calls out.old) }
 
     // The first fault decides: where the shelf tells its files, each that the command reads is begun only when those before it read as values, and
     // a missing one is counted only in its turn. Up to 2 all were begun; at 6 a read was refused of one of them, and those before it read as values.

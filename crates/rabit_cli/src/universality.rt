@@ -51,35 +51,38 @@ fn universal_text(alloc: Global, labels: &Texts) -> Result<List<u8>, Memory>
 /// The reply to the automaton: whether the one that accepts everything over its labels is included in it.
 fn of_one<'a>(
     alloc: Global,
-    made: &'a str,
+    made_name: &'a str,
     certificate: &'a str,
     mode: Mode,
     one: &Named,
 ) -> Result<Reply<'a>, Memory>
     requires within { IsWithinLimits second_limits one.now }
     requires writable { HasWritableLabels one.now }
-    ensures { IfOk result (IsPropertyDecidedFor universality made.entry.now certificate.entry.now mode one.now) }
+    ensures { IfOk result (IsPropertyDecidedFor universality made_name.entry.now certificate.entry.now mode one.now) }
 {
     let bytes = universal_text(alloc, &one.labels)?;
     let other = read_back(alloc, bytes.as_slice())?;
     let pair = joined(alloc, &other, one)?;
-    let put = Put { name: made, bytes };
+    let put = Put {
+        name: made_name,
+        bytes,
+    };
     decided(alloc, "universal", put, certificate, mode, &pair)
 }
 
 /// The reply to what was read.
 pub fn reply<'a>(
     alloc: Global,
-    made: &'a str,
+    made_name: &'a str,
     certificate: &'a str,
     mode: Mode,
     values: &[Value],
 ) -> Result<Reply<'a>, Memory>
     requires { (a : Items ℕ) × AreOfKinds (property_inputs universality a) values.now }
-    ensures { IfOk result (MeansProperty universality made.entry.now certificate.entry.now mode values.now) }
+    ensures { IfOk result (MeansProperty universality made_name.entry.now certificate.entry.now mode values.now) }
 {
     match values {
-        [Value::Automaton(one)] => of_one(alloc, made, certificate, mode, one),
+        [Value::Automaton(one)] => of_one(alloc, made_name, certificate, mode, one),
         _ => unreachable!(),
     }
 }

@@ -14,8 +14,8 @@ use Rattle.rabit_frame.specs.Files.{Input}
 use Rattle.rabit_frame.specs.Lines.{read_line, write_line, memory_line}
 use Rattle.rabit_frame.specs.Statuses.{status_number, number_unsent, IsOwn}
 use Rattle.rabit_frame.specs.Reading.{AreOfKinds, ReadInTurn, FileStops, StopInTurn, HasFault, MayStopAt, MayStop, long_reply}
-use Rattle.rabit_frame.specs.Ending.{IsReplyFor, MayReply, MayEnd, Leaves, OfBoth, filed, IsCutShort, status_of, status_unsent, WasGiven, WasSaid, SaysOnly}
-use Rattle.rabit_frame.specs.Carrying.{EndsSo, NoReply, SaysEach, ShowsReply, ShowsResult, LeavesUnwritten, LeavesByStatus}
+use Rattle.rabit_frame.specs.Ending.{IsReplyFor, IsReplyOf, MayReply, MayEnd, Leaves, OfBoth, filed, IsCutShort, PutEach, PutFront, status_of, status_unsent, WasGiven, WasSaid, SaysOnly}
+use Rattle.rabit_frame.specs.Carrying.{EndsSo, NoReply, SaysEach, IsOwnReply, ShowsResult, LeavesAtWriteFault, LeavesByStatus, PutsOnce, PutsByStatus}
 use Rattle.rabit_frame.proofs.OneLemmas.{one_reply}
 
 -- the numbers of a command's own statuses
@@ -149,9 +149,9 @@ module _ (means : List Value → Reply → Type 0) (inputs : List Input) (held h
         | inr front ↦ elim (unsent_number r.status) [ inl seven ↦ absurd (own.1 (front.0 ∙ seven)) | inr stays ↦ sym (front.0 ∙ stays.0) ]
       ]
 
-  pub shows_reply : (e : Ending) → Ends e → Said e → IsOwn status → OfBoth held held' (λ files files'. ShowsReply means inputs status sent sent' sink sink' files files')
+  pub shows_reply : (e : Ending) → Ends e → Said e → IsOwn status → OfBoth held held' (λ files files'. IsOwnReply means inputs status sent sent' sink sink' files files')
   shows_reply (ending.Reached r) ends said own =
-      both_map held held' (λ files files'. Leaves means inputs (ending.Reached r) files files') (λ files files'. ShowsReply means inputs status sent sent' sink sink' files files')
+      both_map held held' (λ files files'. Leaves means inputs (ending.Reached r) files files') (λ files files'. IsOwnReply means inputs status sent sent' sink sink' files files')
       (λ files files' left. (r, left.0, own_status r said own, left.1, said)) ends.leaves
   shows_reply (ending.ReadFault) ends said own = absurd (own.0 (same_status 6 ending.ReadFault refl refl said))
   shows_reply (ending.WriteFault) ends said own = absurd (own.1 (same_status 7 ending.WriteFault refl refl said))
@@ -178,20 +178,20 @@ module _ (means : List Value → Reply → Type 0) (inputs : List Input) (held h
   shows_result (ending.WriteFault) ends said low = (let is = same_status 7 ending.WriteFault refl refl said in absurd (omega arith))
   shows_result (ending.OutOfMemory) ends said low = (let is = same_status 8 ending.OutOfMemory refl refl said in absurd (omega arith))
 
-  pub says_unwritten : (e : Ending) → Ends e → Said e → status ≡ 7 → OfBoth held held' (λ files files'. LeavesUnwritten means inputs sent sent' sink sink' puts puts' files files')
-  says_unwritten (ending.Reached r) ends said is =
+  pub says_at_write_fault : (e : Ending) → Ends e → Said e → status ≡ 7 → OfBoth held held' (λ files files'. LeavesAtWriteFault means inputs sent sent' sink sink' puts puts' files files')
+  says_at_write_fault (ending.Reached r) ends said is =
       elim said [
         | inl whole ↦ absurd ((own_number r.status).1 (sym whole.0 ∙ is))
         | inr front ↦
-            both_map held held' (λ files files'. Leaves means inputs (ending.Reached r) files files') (λ files files'. LeavesUnwritten means inputs sent sent' sink sink' puts puts' files files')
+            both_map held held' (λ files files'. Leaves means inputs (ending.Reached r) files files') (λ files files'. LeavesAtWriteFault means inputs sent sent' sink sink' puts puts' files files')
             (λ files files' left. (r, left.0, inl (front.1, left.1, sym front.0 ∙ is, front.2))) ends.leaves
       ]
-  says_unwritten (ending.WriteFault) ends said is =
+  says_at_write_fault (ending.WriteFault) ends said is =
       let P : ℕ → Type 0 = λ n. WasGiven write_line 7 7 n sent sent' sink sink' in
-      both_map held held' (λ files files'. Leaves means inputs ending.WriteFault files files') (λ files files'. LeavesUnwritten means inputs sent sent' sink sink' puts puts' files files')
+      both_map held held' (λ files files'. Leaves means inputs ending.WriteFault files files') (λ files files'. LeavesAtWriteFault means inputs sent sent' sink sink' puts puts' files files')
       (λ files files' (r, right, cut). (r, right, inr (ends.write_fault refl, cut, subst P is said))) ends.leaves
-  says_unwritten (ending.ReadFault) ends said is = (let e = same_status 6 ending.ReadFault refl refl said in absurd (omega arith))
-  says_unwritten (ending.OutOfMemory) ends said is = (let e = same_status 8 ending.OutOfMemory refl refl said in absurd (omega arith))
+  says_at_write_fault (ending.ReadFault) ends said is = (let e = same_status 6 ending.ReadFault refl refl said in absurd (omega arith))
+  says_at_write_fault (ending.OutOfMemory) ends said is = (let e = same_status 8 ending.OutOfMemory refl refl said in absurd (omega arith))
 
   pub read_fault_of : (e : Ending) → Ends e → Said e → status ≡ 6 → Rose faults faults'
   read_fault_of (ending.Reached r) ends said is = absurd ((reached_not r said).0 is)
@@ -328,6 +328,43 @@ module _ (means : List Value → Reply → Type 0) (inputs : List Input) (held h
       leaves_by_status is_whole is_part (ending.OutOfMemory) ends said =
           let eight = same_status 8 ending.OutOfMemory refl refl said in
           both_map held held' (λ files files'. files' ≡ files) Left (λ files files' left. left_other files files' (omega arith) (λ e. omega arith) left) ends.leaves
+
+-- the puts by the ending are those by its status, be its text sent or not
+module _ (means : List Value → Reply → Type 0) (inputs : List Input) (held : Option FileMap) (before now : ℕ) where
+  none_put : (status n : ℕ) → ¬ IsOwn n → ¬ (n ≡ 7) → status ≡ n → now ≡ before → PutsByStatus means inputs status held before now
+  none_put status n other not is same = record {
+    own = λ own. absurd (other (subst IsOwn is own));
+    write_fault = λ seven. absurd (not (sym is ∙ seven));
+    read_fault = λ six. same;
+    memory = λ eight. same;
+  }
+
+  all_put : (r : Reply) (status : ℕ) → IsReplyOf means inputs held r → PutEach r.puts before now → status ≡ status_number r.status → PutsByStatus means inputs status held before now
+  all_put r status right each is =
+      let own = own_number r.status in record {
+        own = λ mine. (r, right, sym is, each);
+        write_fault = λ seven. absurd (own.1 (sym is ∙ seven));
+        read_fault = λ six. absurd (own.0 (sym is ∙ six));
+        memory = λ eight. absurd (own.2 (sym is ∙ eight));
+      }
+
+  at_seven : (r : Reply) (status : ℕ) → IsReplyOf means inputs held r → PutEach r.puts before now ⊎ PutFront r.puts before now → status ≡ 7 → PutsByStatus means inputs status held before now
+  at_seven r status right put is = record {
+    own = λ own. absurd (own.1 is);
+    write_fault = λ seven. (r, right, put);
+    read_fault = λ six. absurd (omega arith);
+    memory = λ eight. absurd (omega arith);
+  }
+
+  pub puts_by_status : (e : Ending) (status : ℕ) → PutsOnce means inputs e held before now → (status ≡ status_of e) ⊎ (status ≡ status_unsent e) → PutsByStatus means inputs status held before now
+  puts_by_status (ending.Reached r) status (right, each) is =
+      elim is [
+        | inl sent ↦ all_put r status right each sent
+        | inr unsent ↦ elim (unsent_number r.status) [ inl seven ↦ at_seven r status right (inl each) (unsent ∙ seven) | inr stays ↦ all_put r status right each (unsent ∙ stays.0) ]
+      ]
+  puts_by_status (ending.WriteFault) status (r, right, front) is = at_seven r status right (inr front) (elim is [ inl sent ↦ sent | inr unsent ↦ unsent ])
+  puts_by_status (ending.ReadFault) status same is = none_put status 6 (λ own. own.0 refl) (λ e. omega arith) (elim is [ inl sent ↦ sent | inr unsent ↦ unsent ]) same
+  puts_by_status (ending.OutOfMemory) status same is = none_put status 8 (λ own. own.2 refl) (λ e. omega arith) (elim is [ inl sent ↦ sent | inr unsent ↦ unsent ]) same
 
 pub on_error : {T E : Type 0} (P : Type 0) (r : Result T E) (e : E) → r ≡ Err e → OnErr r P → P
 on_error P (Ok x) e is h = absurd (let f = is in cc)

@@ -1,9 +1,10 @@
 -- Files put in order: what one put adds.
-use Rattle.std.proofs.Common.{◌≡◌, List, [], ◌∷◌, take, Option, Some, None, Result, Ok, Err, OnOk, OnErr, inl, inr, refl, sym, subst}
+use Rattle.std.proofs.Common.{◌≡◌, ℕ, List, [], ◌∷◌, take, Option, Some, None, Result, Ok, Err, OnOk, OnErr, inl, inr, refl, sym, subst}
 use Rattle.std.specs.FinMap as map
+use Rattle.shelf_io.specs.Counts.{counted}
 use Rattle.shelf_io.specs.Shelf.{FileMap, Puts}
 use Rattle.rabit_frame.specs.Files.{Output}
-use Rattle.rabit_frame.specs.Ending.{OfBoth, filed, IsCutShort}
+use Rattle.rabit_frame.specs.Ending.{OfBoth, filed, IsCutShort, PutEach, PutFront}
 use Rattle.rabit_frame.proofs.EndLemmas.{both_same}
 
 IsFiled : List Output → FileMap → FileMap → Type 0
@@ -45,3 +46,18 @@ cut_here {T} {E} held mid p rest ps r e is puts split = subst (λ qs. OfBoth hel
     go : (h : Option FileMap) → Puts {T = T} {E = E} h p.name p.bytes (Err e) mid → OfBoth h mid (λ files files'. IsCutShort files (p ∷ rest) files')
     go None puts = puts
     go (Some files) puts = elim puts [ inl stays ↦ (files, stays, inl refl) | inr (n, front) ↦ (map.insert files p.name (take n p.bytes), front, inr (inl (n, refl))) ]
+
+-- what one put adds to their count
+pub none_counted : (ps : List Output) (n : ℕ) → ps ≡ [] → PutEach ps n n
+none_counted ps n is = subst (λ qs. PutEach qs n n) (sym is) refl
+
+pub first_counted : (p : Output) (rest ps : List Output) (before now : ℕ) → ps ≡ p ∷ rest → now ≡ counted before → PutFront ps before now
+first_counted p rest ps before now split is = subst (λ qs. PutFront qs before now) (sym split) (inl is)
+
+pub each_counted : {T E : Type 0} (p : Output) (rest ps : List Output) (s : Result T E) (before between now : ℕ) → ps ≡ p ∷ rest → between ≡ counted before → OnOk s (PutEach rest between now) → OnOk s (PutEach ps before now)
+each_counted p rest ps (Ok x) before between now split is more = subst (λ qs. PutEach qs before now) (sym split) (subst (λ n. PutEach rest n now) is more)
+each_counted p rest ps (Err e) before between now split is more = tt
+
+pub front_counted : {T E : Type 0} (p : Output) (rest ps : List Output) (s : Result T E) (before between now : ℕ) → ps ≡ p ∷ rest → between ≡ counted before → OnErr s (PutFront rest between now) → OnErr s (PutFront ps before now)
+front_counted p rest ps (Ok x) before between now split is more = tt
+front_counted p rest ps (Err e) before between now split is more = subst (λ qs. PutFront qs before now) (sym split) (inr (subst (λ n. PutFront rest n now) is more))

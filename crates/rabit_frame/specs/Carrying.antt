@@ -9,9 +9,9 @@ use Rattle.rabit_frame.specs.declared.parts.Ending.{Ending}
 use Rattle.rabit_frame.specs.declared.parts.Ending.TheVariants as ending
 use Rattle.rabit_frame.specs.Files.{Input}
 use Rattle.rabit_frame.specs.Lines.{write_line}
-use Rattle.rabit_frame.specs.Statuses.{status_number, number_unsent}
+use Rattle.rabit_frame.specs.Statuses.{status_number, number_unsent, IsOwn}
 use Rattle.rabit_frame.specs.Reading.{ReadInTurn}
-use Rattle.rabit_frame.specs.Ending.{IsReplyFor, MayEnd, Leaves, OfBoth, filed, IsCutShort, WasGiven, WasSaid, SaysOnly}
+use Rattle.rabit_frame.specs.Ending.{IsReplyFor, IsReplyOf, MayEnd, Leaves, OfBoth, filed, IsCutShort, PutEach, PutFront, WasGiven, WasSaid, SaysOnly}
 
 -- The command came to this end. Where the shelf tells its files, the reply is the right one and they are what it leaves. It is a read fault exactly
 -- where the shelf's count of failed reads rose, and a write fault exactly where that of failed puts did.
@@ -45,8 +45,8 @@ SaysEach means inputs files held' status sent sent' give_faults give_faults' rea
     ⊎ (status ≡ 8)
 
 -- A status of a command's own is that of the right reply, whose files are written and whose text was given.
-abbrev pub ShowsReply : (List Value → Reply → Type 0) → List Input → ℕ → Option (List ℕ) → Option (List ℕ) → ℕ → ℕ → FileMap → FileMap → Type 0
-ShowsReply means inputs status sent sent' give_faults give_faults' files files' =
+abbrev pub IsOwnReply : (List Value → Reply → Type 0) → List Input → ℕ → Option (List ℕ) → Option (List ℕ) → ℕ → ℕ → FileMap → FileMap → Type 0
+IsOwnReply means inputs status sent sent' give_faults give_faults' files files' =
     (r : Reply)
     × IsReplyFor means inputs files r
     × (status_number r.status ≡ status)
@@ -66,12 +66,26 @@ ShowsResult means inputs status sent sent' files files' =
 
 -- A write fault: the sink refused a result whose files are all written, and took a front of its text; or the shelf refused one of the reply's files, and
 -- that was said.
-abbrev pub LeavesUnwritten : (List Value → Reply → Type 0) → List Input → Option (List ℕ) → Option (List ℕ) → ℕ → ℕ → ℕ → ℕ → FileMap → FileMap → Type 0
-LeavesUnwritten means inputs sent sent' give_faults give_faults' put_faults put_faults' files files' =
+abbrev pub LeavesAtWriteFault : (List Value → Reply → Type 0) → List Input → Option (List ℕ) → Option (List ℕ) → ℕ → ℕ → ℕ → ℕ → FileMap → FileMap → Type 0
+LeavesAtWriteFault means inputs sent sent' give_faults give_faults' put_faults put_faults' files files' =
     (r : Reply)
     × IsReplyFor means inputs files r
     × ((Rose give_faults give_faults' × (files' ≡ filed files r.puts) × (number_unsent r.status ≡ 7) × ((n : ℕ) × (sent' ≡ append_known sent (take n r.text))))
     ⊎ (Rose put_faults put_faults' × IsCutShort files r.puts files' × SaysOnly write_line 7 sent sent' give_faults give_faults'))
+
+-- What a command that ended so has put, by the count of puts: the files of its reply once each, at a write fault up to one of them, and else none.
+abbrev pub PutsOnce : (List Value → Reply → Type 0) → List Input → Ending → Option FileMap → ℕ → ℕ → Type 0
+PutsOnce means inputs (ending.Reached r) held before now = IsReplyOf means inputs held r × PutEach r.puts before now
+PutsOnce means inputs (ending.WriteFault) held before now = (r : Reply) × IsReplyOf means inputs held r × PutFront r.puts before now
+PutsOnce means inputs (ending.ReadFault) held before now = now ≡ before
+PutsOnce means inputs (ending.OutOfMemory) held before now = now ≡ before
+
+-- The same by its status. At a write fault all of the files were put where the sink refused the text.
+pub record PutsByStatus (means : List Value → Reply → Type 0) (inputs : List Input) (status : ℕ) (held : Option FileMap) (before now : ℕ) : Type 0 where
+  pub own : IsOwn status → (r : Reply) × IsReplyOf means inputs held r × (status_number r.status ≡ status) × PutEach r.puts before now
+  pub write_fault : status ≡ 7 → (r : Reply) × IsReplyOf means inputs held r × (PutEach r.puts before now ⊎ PutFront r.puts before now)
+  pub read_fault : status ≡ 6 → now ≡ before
+  pub memory : status ≡ 8 → now ≡ before
 
 -- What a command leaves, by its status, where only its results write: a result comes with all of its files. A write fault leaves
 -- them too where the sink refused the text, and where the shelf's count rose a part of them. Nothing else writes a file.

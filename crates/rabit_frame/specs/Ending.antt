@@ -1,8 +1,8 @@
 -- How a command ends: its reply is right, its files are written in order, and its text is given.
-use Rattle.std.specs.Prelude.{◌≡◌, ℕ, ◌≤◌, ◌⊎◌, List, [], ◌∷◌, length, take, Option, Some, None}
+use Rattle.std.specs.Prelude.{◌≡◌, ℕ, ◌≤◌, ◌⊎◌, List, [], ◌∷◌, length, take, Option, Some, None, IfSome}
 use Rattle.std.specs.FinMap as map
 use Rattle.std.specs.Io.KnownBytes.{append_known}
-use Rattle.shelf_io.specs.Counts.{Rose}
+use Rattle.shelf_io.specs.Counts.{Rose, counted}
 use Rattle.shelf_io.specs.Shelf.{FileMap}
 use Rattle.rabit_frame.specs.declared.parts.Value.{Value}
 use Rattle.rabit_frame.specs.declared.parts.Reply.{Reply}
@@ -21,6 +21,10 @@ IsReplyFor means inputs files r = StopInTurn files inputs r ⊎ ((values : List 
 abbrev pub MayReply : (List Value → Reply → Type 0) → List Input → Reply → Type 0
 MayReply means inputs r = MayStop inputs r ⊎ ((values : List Value) × AreOfKinds inputs values × means values r)
 
+-- A reply that may come, and where the shelf tells its files the right one.
+abbrev pub IsReplyOf : (List Value → Reply → Type 0) → List Input → Option FileMap → Reply → Type 0
+IsReplyOf means inputs held r = MayReply means inputs r × IfSome held (λ files. IsReplyFor means inputs files r)
+
 -- The files after all of these were written, in order.
 abbrev pub filed : FileMap → List Output → FileMap
 filed files [] = files
@@ -33,6 +37,16 @@ IsCutShort files (p ∷ ps) files' =
     (files' ≡ files)
     ⊎ ((n : ℕ) × (files' ≡ map.insert files p.name (take n p.bytes)))
     ⊎ IsCutShort (map.insert files p.name p.bytes) ps files'
+
+-- By the count of puts: each of these files was put once.
+abbrev pub PutEach : List Output → ℕ → ℕ → Type 0
+PutEach [] before now = now ≡ before
+PutEach (p ∷ ps) before now = PutEach ps (counted before) now
+
+-- Each up to one of them was put once, and none after it.
+abbrev pub PutFront : List Output → ℕ → ℕ → Type 0
+PutFront [] before now = ⊥
+PutFront (p ∷ ps) before now = (now ≡ counted before) ⊎ PutFront ps (counted before) now
 
 -- A shelf that tells its files tells them afterwards too, and then this holds of those before and those after.
 abbrev pub OfBoth : Option FileMap → Option FileMap → (FileMap → FileMap → Type 0) → Type 0

@@ -11,7 +11,7 @@ ghost use Rattle.rabit_frame.specs.Lines.{read_line, memory_line};
 ghost use Rattle.rabit_frame.specs.Statuses.{IsOwn};
 ghost use Rattle.rabit_frame.specs.Reading.{AreOfKinds, IsOfKind, FileReads, MayStop, MissedInTurn, BegunInTurn, AllBegun, BlamesInTurn};
 ghost use Rattle.rabit_frame.specs.Ending.{IsReplyFor, MayReply, OfBoth, WasGiven, WasSaid, SaysOnly, status_of};
-ghost use Rattle.rabit_frame.specs.Carrying.{EndsSo, NoReply, IsCarriedOut, SaysEach, ShowsReply, ShowsResult, LeavesUnwritten};
+ghost use Rattle.rabit_frame.specs.Carrying.{EndsSo, NoReply, IsCarriedOut, SaysEach, IsOwnReply, ShowsResult, LeavesAtWriteFault, PutsOnce, PutsByStatus};
 
 use crate::parts::{Ending, Halt, Lack, Reply, Slot, Value};
 use crate::work::Work;
@@ -34,6 +34,7 @@ fn reply_of<'w, W: Work, H: Shelf>(
     ensures no_read_fault { ¬ (result ≡ Err Lack.ReadFault) → H.faults shelf.new ≡ H.faults shelf.old }
     ensures files_stay { H.held shelf.new ≡ H.held shelf.old }
     ensures puts_stay { H.put_faults shelf.new ≡ H.put_faults shelf.old }
+    ensures put_calls_stay { H.put_calls shelf.new ≡ H.put_calls shelf.old }
     ensures missing { IfSome (H.held shelf.old) (λ files. MissedInTurn files (W.inputs work.now) (H.missed shelf.old) (H.missed shelf.new)) }
     ensures begun_in_turn { IfSome (H.held shelf.old) (λ files. BegunInTurn files (W.inputs work.now) (H.begins shelf.old) (H.begins shelf.new)) }
     ensures all_begun { IfOk result (λ reply. MayStop (W.inputs work.now) reply ⊎ AllBegun (W.inputs work.now) (H.begins shelf.old) (H.begins shelf.new)) }
@@ -58,6 +59,7 @@ fn reply_of<'w, W: Work, H: Shelf>(
 fn ending_of<'w, W: Work, H: Shelf>(alloc: Global, work: &'w W, shelf: &mut H) -> Ending<'w>
     requires fit { W.is_fit work.now }
     ensures ends { EndsSo (W.means work.now) (W.inputs work.now) result (H.held shelf.old) (H.held shelf.new) (H.faults shelf.old) (H.faults shelf.new) (H.put_faults shelf.old) (H.put_faults shelf.new) }
+    ensures put_once { PutsOnce (W.means work.now) (W.inputs work.now) result (H.held shelf.old) (H.put_calls shelf.old) (H.put_calls shelf.new) }
     ensures missing { IfSome (H.held shelf.old) (λ files. MissedInTurn files (W.inputs work.now) (H.missed shelf.old) (H.missed shelf.new)) }
     ensures begun_in_turn { IfSome (H.held shelf.old) (λ files. BegunInTurn files (W.inputs work.now) (H.begins shelf.old) (H.begins shelf.new)) }
     ensures all_begun { status_of result ≤ 2 → AllBegun (W.inputs work.now) (H.begins shelf.old) (H.begins shelf.new) }
@@ -76,7 +78,8 @@ fn ending_of<'w, W: Work, H: Shelf>(alloc: Global, work: &'w W, shelf: &mut H) -
 
 /// Gives the whole text at once. The status tells whether the sink took it.
 fn give<K: Sink>(out: &mut K, text: &[u8], number: u8, unsent: u8) -> u8
-    ensures { WasGiven text.now number unsent result (K.sent out.old) (K.sent out.new) (K.faults out.old) (K.faults out.new) }
+    ensures given { WasGiven text.now number unsent result (K.sent out.old) (K.sent out.new) (K.faults out.old) (K.faults out.new) }
+    ensures given_once { K.give_calls out.new ≡ counted (K.give_calls out.old) }
 {
     match out.give(text) {
         Ok(()) => number,
@@ -86,7 +89,8 @@ fn give<K: Sink>(out: &mut K, text: &[u8], number: u8, unsent: u8) -> u8
 
 /// Says how the command ended, and answers its status.
 pub fn say<K: Sink>(ending: &Ending<'_>, out: &mut K) -> u8
-    ensures { WasSaid ending.now result (K.sent out.old) (K.sent out.new) (K.faults out.old) (K.faults out.new) }
+    ensures said { WasSaid ending.now result (K.sent out.old) (K.sent out.new) (K.faults out.old) (K.faults out.new) }
+    ensures given_once { K.give_calls out.new ≡ counted (K.give_calls out.old) }
 {
     match ending {
         Ending::Reached(reply) => {
@@ -112,6 +116,7 @@ pub fn read_alone<H: Shelf>(
     ensures faults_stay { IfOk result (λ value. H.faults shelf.new ≡ H.faults shelf.old) }
     ensures files_stay { H.held shelf.new ≡ H.held shelf.old }
     ensures puts_stay { H.put_faults shelf.new ≡ H.put_faults shelf.old }
+    ensures put_calls_stay { H.put_calls shelf.new ≡ H.put_calls shelf.old }
     ensures counts_missing { CountsMissing (H.held shelf.old) slot.now.name (H.missed shelf.old) (H.missed shelf.new) }
     ensures counts_begin { H.begins shelf.new ≡ counted (H.begins shelf.old) }
     ensures blames { result ≡ Err Ending.ReadFault → IfSome (H.held shelf.old) (λ files. IsBlamed files slot.now.name (H.blamed shelf.new)) }
@@ -128,6 +133,7 @@ pub fn read_alone<H: Shelf>(
 pub fn carry_out_unsaid<W: Work, H: Shelf>(alloc: Global, work: &W, shelf: &mut H) -> u8
     requires fit { W.is_fit work.now }
     ensures ends { (end : AnEnding) × EndsSo (W.means work.now) (W.inputs work.now) end (H.held shelf.old) (H.held shelf.new) (H.faults shelf.old) (H.faults shelf.new) (H.put_faults shelf.old) (H.put_faults shelf.new) × (result ≡ status_of end) }
+    ensures put_once { PutsByStatus (W.means work.now) (W.inputs work.now) result (H.held shelf.old) (H.put_calls shelf.old) (H.put_calls shelf.new) }
     ensures missing { IfSome (H.held shelf.old) (λ files. MissedInTurn files (W.inputs work.now) (H.missed shelf.old) (H.missed shelf.new)) }
     ensures begun_in_turn { IfSome (H.held shelf.old) (λ files. BegunInTurn files (W.inputs work.now) (H.begins shelf.old) (H.begins shelf.new)) }
     ensures all_begun { result ≤ 2 → AllBegun (W.inputs work.now) (H.begins shelf.old) (H.begins shelf.new) }
@@ -164,8 +170,8 @@ pub fn carry_out<W: Work, H: Shelf, K: Sink>(
         (H.faults shelf.old) (H.faults shelf.new) (H.put_faults shelf.old) (H.put_faults shelf.new)) }
 
     // What a status of a command's own shows, and what one up to 2 does.
-    ensures shown { IsOwn result → OfBoth (H.held shelf.old) (H.held shelf.new) (λ files files'.
-        ShowsReply (W.means work.now) (W.inputs work.now) result (K.sent out.old) (K.sent out.new) (K.faults out.old) (K.faults out.new) files files') }
+    ensures own_status { IsOwn result → OfBoth (H.held shelf.old) (H.held shelf.new) (λ files files'.
+        IsOwnReply (W.means work.now) (W.inputs work.now) result (K.sent out.old) (K.sent out.new) (K.faults out.old) (K.faults out.new) files files') }
     ensures shown_whole { result ≤ 2 → OfBoth (H.held shelf.old) (H.held shelf.new) (λ files files'.
         ShowsResult (W.means work.now) (W.inputs work.now) result (K.sent out.old) (K.sent out.new) files files') }
 
@@ -178,8 +184,12 @@ pub fn carry_out<W: Work, H: Shelf, K: Sink>(
     // At 6 and 8 no file changed and that was said; at 7 the counts tell which call was refused, and so what is left.
     ensures read_line { result ≡ 6 → (H.held shelf.new ≡ H.held shelf.old) × SaysOnly read_line result (K.sent out.old) (K.sent out.new) (K.faults out.old) (K.faults out.new) }
     ensures memory { result ≡ 8 → (H.held shelf.new ≡ H.held shelf.old) × SaysOnly memory_line result (K.sent out.old) (K.sent out.new) (K.faults out.old) (K.faults out.new) }
-    ensures unwritten { result ≡ 7 → OfBoth (H.held shelf.old) (H.held shelf.new) (λ files files'.
-        LeavesUnwritten (W.means work.now) (W.inputs work.now) (K.sent out.old) (K.sent out.new) (K.faults out.old) (K.faults out.new) (H.put_faults shelf.old) (H.put_faults shelf.new) files files') }
+    ensures at_write_fault { result ≡ 7 → OfBoth (H.held shelf.old) (H.held shelf.new) (λ files files'.
+        LeavesAtWriteFault (W.means work.now) (W.inputs work.now) (K.sent out.old) (K.sent out.new) (K.faults out.old) (K.faults out.new) (H.put_faults shelf.old) (H.put_faults shelf.new) files files') }
+
+    // By the counts of calls: each file of the reply was put once, or up to one that was refused, and the whole text was one give.
+    ensures put_once { PutsByStatus (W.means work.now) (W.inputs work.now) result (H.held shelf.old) (H.put_calls shelf.old) (H.put_calls shelf.new) }
+    ensures given_once { K.give_calls out.new ≡ counted (K.give_calls out.old) }
 
     // Where the shelf tells its files, each is begun only when those before it read as values, and a missing one is counted only in its turn.
     // Up to 2 all were begun; at 6 a read was refused of one of them, and those before it read as values.

@@ -126,6 +126,7 @@ pub(crate) fn read_one<H: Shelf>(
     ensures no_read_fault { ¬ (result ≡ Err Halt.ReadFault) → H.faults shelf.new ≡ H.faults shelf.old }
     ensures files_stay { H.held shelf.new ≡ H.held shelf.old }
     ensures puts_stay { H.put_faults shelf.new ≡ H.put_faults shelf.old }
+    ensures put_calls_stay { H.put_calls shelf.new ≡ H.put_calls shelf.old }
     ensures counts_missing { CountsMissing (H.held shelf.old) slot.now.name (H.missed shelf.old) (H.missed shelf.new) }
     ensures counts_begin { H.begins shelf.new ≡ counted (H.begins shelf.old) }
     ensures blames { result ≡ Err Halt.ReadFault → IfSome (H.held shelf.old) (λ files. IsBlamed files slot.now.name (H.blamed shelf.new)) }
@@ -153,6 +154,7 @@ pub fn read_all<H: Shelf>(
     ensures no_read_fault { ¬ (result ≡ Err Halt.ReadFault) → H.faults shelf.new ≡ H.faults shelf.old }
     ensures files_stay { H.held shelf.new ≡ H.held shelf.old }
     ensures puts_stay { H.put_faults shelf.new ≡ H.put_faults shelf.old }
+    ensures put_calls_stay { H.put_calls shelf.new ≡ H.put_calls shelf.old }
     ensures missing { IfSome (H.held shelf.old) (λ files. MissedInTurn files slots.now (H.missed shelf.old) (H.missed shelf.new)) }
     ensures begun_in_turn { IfSome (H.held shelf.old) (λ files. BegunInTurn files slots.now (H.begins shelf.old) (H.begins shelf.new)) }
     ensures all_begun { IfOk result (λ all. AllBegun slots.now (H.begins shelf.old) (H.begins shelf.new)) }

@@ -10,7 +10,7 @@ use Rattle.auto_core.specs.Pruning.{IsBetterAt, HasBetter, IsCut, IsPruned}
 use Rattle.auto_core.proofs.MemberLemmas.{rises_from_pairs, same_members, map_from}
 use Rattle.bit_rel.specs.Relation.{Relation, IsClosed}
 use Rattle.prune_pairs.specs.Laws.{AgreeOnStates}
-use Rattle.prune_pairs.specs.Least.{IsLeastBetter, AreLeastBetter, numbers_of}
+use Rattle.prune_pairs.specs.Least.{IsLeastBetter, AreLeastBetter, numbers_of_gone}
 use Rattle.prune_pairs.specs.declared.removing.Gone.{Gone}
 use Rattle.prune_pairs.proofs.OneLaws.{pruned_shorter, better_goes}
 use Rattle.reduce_loop.specs.Logs.{IsRelationOf, IsGivenWhere, pairs_given, IsBackOf, IsAheadOf}
@@ -35,7 +35,7 @@ pruned_smaller A B n k valid p =
 same_gone : (g h : Gone) → g.trans ≡ h.trans → g.by ≡ h.by → g ≡ h
 same_gone g h a b = λ k. record { trans = a k; by = b k }
 
-gone_rises : (gone : List Gone) → AllPairs (λ x y. x < y) (numbers_of gone) → AllPairs (λ (g h : Gone). g.trans < h.trans) gone
+gone_rises : (gone : List Gone) → AllPairs (λ x y. x < y) (numbers_of_gone gone) → AllPairs (λ (g h : Gone). g.trans < h.trans) gone
 gone_rises gone up i j d lt j_in =
     let i_in : i < length gone = omega arith in
     let len = length-map gone (λ (g : Gone). g.trans) in
@@ -61,11 +61,11 @@ module _ (A : Automaton) (n : ℕ) (back ahead : ℕ → ℕ → Type 0) where
   pub least_one : (gone other : List Gone) → AreLeastBetter A n back ahead gone → AreLeastBetter A n back ahead other → gone ≡ other
   least_one gone other are these =
       same_members (λ (g h : Gone). g.trans < h.trans) (λ g h a b. omega arith) gone other
-      (rises_from_pairs _ gone (gone_rises gone (AllPairs-from_increasing (numbers_of gone) are.ascending)))
-      (rises_from_pairs _ other (gone_rises other (AllPairs-from_increasing (numbers_of other) these.ascending)))
+      (rises_from_pairs _ gone (gone_rises gone (AllPairs-from_increasing (numbers_of_gone gone) are.ascending)))
+      (rises_from_pairs _ other (gone_rises other (AllPairs-from_increasing (numbers_of_gone other) these.ascending)))
       (gone_within gone other are these) (gone_within other gone these are)
 
-  has_better : (gone : List Gone) → AreLeastBetter A n back ahead gone → (t : ℕ) → Contains (numbers_of gone) t → HasBetter A n back ahead t
+  has_better : (gone : List Gone) → AreLeastBetter A n back ahead gone → (t : ℕ) → Contains (numbers_of_gone gone) t → HasBetter A n back ahead t
   has_better gone are t h =
       let (g, there, is) = map_from (λ (g : Gone). g.trans) gone t h in
       let least : IsLeastBetter A n back ahead g.trans g.by = All-contains Least gone g are.each there in
@@ -124,11 +124,11 @@ module _ (A : Automaton) (n k : ℕ) (back ahead : Option Relation) (is_back : I
       least_as A n (Holds closed_back.pairs) (Holds closed_ahead.pairs) (Close (Holds (pairs_given back))) (Close (Holds (pairs_given ahead)))
       (λ t u. (goes t u).0) (λ t u. (goes t u).1) gone are
 
-  pub pruned_by : (B : Automaton) (gone : List Gone) → AreLeastBetter A n (Close (Holds (pairs_given back))) (Close (Holds (pairs_given ahead))) gone → IsCut A (numbers_of gone) B → IsPruned A n k B
+  pub pruned_by : (B : Automaton) (gone : List Gone) → AreLeastBetter A n (Close (Holds (pairs_given back))) (Close (Holds (pairs_given ahead))) gone → IsCut A (numbers_of_gone gone) B → IsPruned A n k B
   pruned_by B gone least cut = record {
     back = pairs_given back;
     ahead = pairs_given ahead;
-    gone = numbers_of gone;
+    gone = numbers_of_gone gone;
     greatest_back = given_greatest A _ (¬ (n ≡ 1)) back is_back;
     greatest_ahead = given_greatest A _ (¬ (n ≡ 2)) ahead is_ahead;
     removable = λ t. (has_better A n (Close (Holds (pairs_given back))) (Close (Holds (pairs_given ahead))) gone least t, least.all t);

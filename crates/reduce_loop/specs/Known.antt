@@ -6,7 +6,7 @@ use Rattle.reduce_loop.specs.declared.knowing.Known.{Known}
 use Rattle.reduce_loop.specs.Logs.{IsRelationOf}
 
 -- Each relation that was found is the greatest of its sort on A, at lookahead k or at lookahead 1.
-pub record IsKnown (A : Automaton) (k : ℕ) (known : Known) : Type 0 where
+pub record AreGreatestOn (A : Automaton) (k : ℕ) (known : Known) : Type 0 where
   pub forward : IfSome known.forward (IsRelationOf A (IsGreatestForward A k))
   pub backward : IfSome known.backward (IsRelationOf A (IsGreatestBackward A k))
   pub near_forward : IfSome known.near_forward (IsRelationOf A (IsGreatestForward A 1))

@@ -2,7 +2,7 @@
 
 ghost use Rattle.std.specs.Prelude.{◌≡◌, ◌≤◌, None, IfOk, IfSome};
 ghost use Rattle.auto_core.specs.Game.{IsGreatestForward, IsGreatestBackward};
-ghost use Rattle.reduce_loop.specs.Known.{IsKnown};
+ghost use Rattle.reduce_loop.specs.Known.{AreGreatestOn};
 ghost use Rattle.reduce_loop.specs.Logs.{IsRelationOf, IsBackOf, IsAheadOf};
 
 use auto_core::{Auto, Memory};
@@ -140,9 +140,9 @@ pub(crate) fn back_of(
 ) -> Result<Option<Rel>, Memory>
     requires look_from { 1 ≤ look }
     requires look_upto { look ≤ 6 }
-    requires known { IsKnown automaton.now look known.old }
+    requires known { AreGreatestOn automaton.now look known.old }
     ensures back { IfOk result (IsBackOf automaton.now pair look) }
-    ensures known { IfOk result (λ _. IsKnown automaton.now look known.new) }
+    ensures known { IfOk result (λ _. AreGreatestOn automaton.now look known.new) }
 {
     match pair {
         1 => Ok(None),
@@ -167,9 +167,9 @@ pub(crate) fn ahead_of(
 ) -> Result<Option<Rel>, Memory>
     requires look_from { 1 ≤ look }
     requires look_upto { look ≤ 6 }
-    requires known { IsKnown automaton.now look known.old }
+    requires known { AreGreatestOn automaton.now look known.old }
     ensures ahead { IfOk result (IsAheadOf automaton.now pair look) }
-    ensures known { IfOk result (λ _. IsKnown automaton.now look known.new) }
+    ensures known { IfOk result (λ _. AreGreatestOn automaton.now look known.new) }
 {
     match pair {
         2 => Ok(None),

@@ -5,7 +5,7 @@ ghost use Rattle.std.specs.List.Sorted.{IsStrictlyIncreasing};
 ghost use Rattle.auto_core.specs.Delayed.{IsGreatestDelayed, letters_for};
 ghost use Rattle.delayed_sim.specs.Rankings.{IsRanking};
 ghost use Rattle.reduce_loop.specs.Kinds.{After, kinds_of};
-ghost use Rattle.reduce_loop.specs.Known.{IsKnown};
+ghost use Rattle.reduce_loop.specs.Known.{AreGreatestOn};
 ghost use Rattle.reduce_loop.specs.Logs.{IsStepEntry};
 
 use crate::joining::join_states;
@@ -58,10 +58,10 @@ fn merge_forward(
 ) -> Result<Made, Memory>
     requires look_from { 1 ≤ sight.look }
     requires look_upto { sight.look ≤ 6 }
-    requires known { IsKnown automaton.now sight.look known.old }
+    requires known { AreGreatestOn automaton.now sight.look known.old }
     ensures after { IfOk result (λ made. After automaton.now mode sight Kind.Forward made.automaton) }
     ensures entry { IfOk result (λ made. IsStepEntry automaton.now mode sight Kind.Forward made.entry) }
-    ensures known { IfOk result (λ _. IsKnown automaton.now sight.look known.new) }
+    ensures known { IfOk result (λ _. AreGreatestOn automaton.now sight.look known.new) }
 {
     let rel = forward(alloc, automaton, &mut known.forward, sight.look)?;
     let joined = join_states(alloc, automaton, &rel)?;
@@ -87,10 +87,10 @@ fn merge_backward(
 ) -> Result<Made, Memory>
     requires look_from { 1 ≤ sight.look }
     requires look_upto { sight.look ≤ 6 }
-    requires known { IsKnown automaton.now sight.look known.old }
+    requires known { AreGreatestOn automaton.now sight.look known.old }
     ensures after { IfOk result (λ made. After automaton.now mode sight Kind.Backward made.automaton) }
     ensures entry { IfOk result (λ made. IsStepEntry automaton.now mode sight Kind.Backward made.entry) }
-    ensures known { IfOk result (λ _. IsKnown automaton.now sight.look known.new) }
+    ensures known { IfOk result (λ _. AreGreatestOn automaton.now sight.look known.new) }
 {
     let rel = backward(alloc, automaton, &mut known.backward, sight.look)?;
     let joined = join_states(alloc, automaton, &rel)?;
@@ -165,10 +165,10 @@ pub(crate) fn make(
     requires look_upto { sight.look ≤ 6 }
     requires letters_from { 1 ≤ sight.letters }
     requires letters_upto { sight.letters ≤ 4 }
-    requires known { IsKnown automaton.now sight.look known.old }
+    requires known { AreGreatestOn automaton.now sight.look known.old }
     ensures after { IfOk result (λ made. After automaton.now mode sight kind made.automaton) }
     ensures entry { IfOk result (λ made. IsStepEntry automaton.now mode sight kind made.entry) }
-    ensures known { IfOk result (λ _. IsKnown automaton.now sight.look known.new) }
+    ensures known { IfOk result (λ _. AreGreatestOn automaton.now sight.look known.new) }
 {
     match kind {
         Kind::Trim => trim(alloc, automaton, mode, sight),

@@ -4,9 +4,9 @@ ghost use Rattle.std.specs.Prelude.{◌≡◌, ◌≤◌, IfOk, IfSome};
 ghost use Rattle.auto_core.specs.Game.{Close, Holds};
 ghost use Rattle.auto_core.specs.Pruning.{IsCut};
 ghost use Rattle.bit_rel.specs.Relation.{IsClosed};
-ghost use Rattle.prune_pairs.specs.Least.{AreLeastBetter, numbers_of};
+ghost use Rattle.prune_pairs.specs.Least.{AreLeastBetter, numbers_of_gone};
 ghost use Rattle.reduce_loop.specs.Kinds.{After};
-ghost use Rattle.reduce_loop.specs.Known.{IsKnown};
+ghost use Rattle.reduce_loop.specs.Known.{AreGreatestOn};
 ghost use Rattle.reduce_loop.specs.Logs.{IsBackOf, IsAheadOf, IsStepEntry, pairs_given};
 ghost use Rattle.std.specs.List.Sorted.{IsStrictlyIncreasing};
 
@@ -51,7 +51,7 @@ fn removable_by(
 
 /// The numbers of the transitions.
 fn numbers(alloc: Global, gone: &[Gone]) -> Result<Vec<u32>, Memory>
-    ensures { IfOk result (λ v. v.items ≡ numbers_of gone.now) }
+    ensures { IfOk result (λ v. v.items ≡ numbers_of_gone gone.now) }
 {
     let mut made = Vec::new(alloc);
     for entry in gone {
@@ -62,8 +62,8 @@ fn numbers(alloc: Global, gone: &[Gone]) -> Result<Vec<u32>, Memory>
 
 /// The automaton without the transitions.
 fn without(alloc: Global, automaton: &Auto, gone: &[Gone]) -> Result<Auto, Memory>
-    requires { IsStrictlyIncreasing (numbers_of gone.now) }
-    ensures { IfOk result (IsCut automaton.now (numbers_of gone.now)) }
+    requires { IsStrictlyIncreasing (numbers_of_gone gone.now) }
+    ensures { IfOk result (IsCut automaton.now (numbers_of_gone gone.now)) }
 {
     let numbers = numbers(alloc, gone)?;
     cut(alloc, automaton, &numbers)
@@ -82,10 +82,10 @@ pub(crate) fn prune(
     requires pair_upto { pair ≤ 4 }
     requires look_from { 1 ≤ sight.look }
     requires look_upto { sight.look ≤ 6 }
-    requires known { IsKnown automaton.now sight.look known.old }
+    requires known { AreGreatestOn automaton.now sight.look known.old }
     ensures after { IfOk result (λ made. After automaton.now mode sight (Kind.Prune pair) made.automaton) }
     ensures entry { IfOk result (λ made. IsStepEntry automaton.now mode sight (Kind.Prune pair) made.entry) }
-    ensures known { IfOk result (λ _. IsKnown automaton.now sight.look known.new) }
+    ensures known { IfOk result (λ _. AreGreatestOn automaton.now sight.look known.new) }
 {
     let look = sight.look;
     let back = back_of(alloc, automaton, known, pair, look)?;

@@ -4,7 +4,7 @@ ghost use Rattle.std.specs.Prelude.{◌≡◌, ◌<◌, ◌≤◌, ℕ, List, []
 ghost use Rattle.auto_core.specs.Automaton.{IsAutomaton};
 ghost use Rattle.auto_core.specs.Accept.{Same};
 ghost use Rattle.reduce_loop.specs.Kinds.{After, kinds_of};
-ghost use Rattle.reduce_loop.specs.Known.{IsKnown};
+ghost use Rattle.reduce_loop.specs.Known.{AreGreatestOn};
 ghost use Rattle.reduce_loop.specs.Passes.{AreIdle, IsReduced};
 ghost use Rattle.reduce_loop.specs.Settled.{IsSettled};
 ghost use Rattle.reduce_loop.specs.Logs.{IsLogged, LogsOn, IsLog};
@@ -52,7 +52,7 @@ fn kinds(mode: Mode) -> &'static [Kind]
 fn going(alloc: Global, auto: Auto, log: List<Step>) -> Going
     ensures automaton { result.auto ≡ auto }
     ensures log { result.log ≡ log }
-    ensures known { (k : ℕ) → IsKnown result.auto k result.known }
+    ensures known { (k : ℕ) → AreGreatestOn result.auto k result.known }
     ensures idle { result.idle ≡ [] }
 {
     Going {
@@ -90,11 +90,11 @@ fn take(
     requires look_upto { sight.look ≤ 6 }
     requires letters_from { 1 ≤ sight.letters }
     requires letters_upto { sight.letters ≤ 4 }
-    requires known { IsKnown state.auto sight.look state.known }
+    requires known { AreGreatestOn state.auto sight.look state.known }
     requires idle { AreIdle state.auto mode sight state.idle }
     ensures after { IfOk result (λ new. After state.auto mode sight kind new.auto) }
     ensures logged { IfOk result (λ new. (now : List Step) × IsLogged state.auto mode sight kind new.auto now × (new.log ≡ state.log ++ now)) }
-    ensures known { IfOk result (λ new. IsKnown new.auto sight.look new.known) }
+    ensures known { IfOk result (λ new. AreGreatestOn new.auto sight.look new.known) }
     ensures idle { IfOk result (λ new. AreIdle new.auto mode sight new.idle) }
 {
     if has_kind(state.idle.as_slice(), kind) {
@@ -125,10 +125,10 @@ fn pass(alloc: Global, state: Going, mode: Mode, sight: Foresight) -> Result<Goi
     requires letters_from { 1 ≤ sight.letters }
     requires letters_upto { sight.letters ≤ 4 }
     requires valid { IsAutomaton state.auto }
-    requires known { IsKnown state.auto sight.look state.known }
+    requires known { AreGreatestOn state.auto sight.look state.known }
     requires idle { AreIdle state.auto mode sight state.idle }
     ensures logs { IfOk result (λ new. LogsOn state.auto mode sight (kinds_of mode) state.log new.auto new.log) }
-    ensures known { IfOk result (λ new. IsKnown new.auto sight.look new.known) }
+    ensures known { IfOk result (λ new. AreGreatestOn new.auto sight.look new.known) }
     ensures idle { IfOk result (λ new. AreIdle new.auto mode sight new.idle) }
 {
     let mut state = state;

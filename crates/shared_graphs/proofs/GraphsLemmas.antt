@@ -21,7 +21,7 @@ use Rattle.shared_graphs.specs.declared.graphs.Graphs.{Graphs}
 use Rattle.shared_graphs.specs.declared.coverings.Coverings.{Coverings}
 use Rattle.shared_graphs.specs.declared.graph_pairs.GraphPairs.{GraphPairs}
 use Rattle.shared_graphs.specs.Memo.{AllTold, NothingTold, HasAnswer, HasNoOther, HasNoted}
-use Rattle.shared_graphs.specs.Graphs.{block_at, IsBlockOf, IsThere, HasGrown, IsGraphOf, HasAdded, HasNumber, FitsLetter, FitsStep}
+use Rattle.shared_graphs.specs.Graphs.{block_at, IsBlockOf, IsThere, HasGrown, IsGraphOf, HasAddedGraph, HasNumber, FitsLetter, FitsStep}
 use Rattle.shared_graphs.specs.GraphPairs.{FitsCovering, ArePrints, AreCoverings, AreGraphPairs}
 use Rattle.shared_graphs.specs.declared.glimpses.Glimpse.{Glimpse}
 use Rattle.shared_graphs.specs.Glimpses.{AreGlimpses, IsGlimpse}
@@ -66,7 +66,7 @@ grown_more old mid now first second =
 abbrev words_in : Graph → List ℕ
 words_in g = g.block.items
 
-pub has_number : (block : List ℕ) (old now : Graphs) (number : ℕ) → HasAdded block old now number → HasNumber block old now number
+pub has_number : (block : List ℕ) (old now : Graphs) (number : ℕ) → HasAddedGraph block old now number → HasNumber block old now number
 has_number block old now number added =
     let more = length-append old.graphs.items (added.new ∷ []) in
     let total = ap length added.graphs in

@@ -5,7 +5,7 @@ use Rattle.auto_core.specs.Graph as words
 use Rattle.auto_core.specs.Outcome.{At}
 use Rattle.graph_rows.specs.declared.prints.Print.{Print}
 use Rattle.graph_rows.specs.Block.{block_graph}
-use Rattle.graph_rows.specs.Prints.{IsPrint, Misses, is_past, pairs_of, picked_source, picked_target}
+use Rattle.graph_rows.specs.Prints.{IsPrint, Misses, is_past, joined_pairs, picked_source, picked_target}
 use Rattle.search_laws.proofs.PlaceLemmas.{at_cases}
 use Rattle.shared_graphs.specs.declared.graphs.Graph.{Graph}
 use Rattle.shared_graphs.specs.Graphs.{block_at}
@@ -30,8 +30,8 @@ prints_more n S graphs old now print now_is within is all k p p_is =
 -- A pair without an answer.
 missed :
     (S : ℕ → ℕ → Type 0) (g h : words.Graph) (flag : Bool) (s t : ℕ)
-    → pairs_of g flag s t
-    → ((u : ℕ) → pairs_of h flag s u → S t u → ⊥)
+    → joined_pairs g flag s t
+    → ((u : ℕ) → joined_pairs h flag s u → S t u → ⊥)
     → words.Covers S g h
     → ⊥
 missed S g h false s t has none c = let (u, arc, rel) = c.joined s t has in none u arc rel

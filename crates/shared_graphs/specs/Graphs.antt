@@ -35,7 +35,7 @@ pub record IsGraphOf (B : Automaton) (graph : words.Graph) (graphs : List Graph)
   pub block : IsBlockOf B graph (block_at graphs number)
 
 -- A graph with this block was added behind the others.
-pub record HasAdded (block : List ℕ) (old now : Graphs) (number : ℕ) : Type 0 where
+pub record HasAddedGraph (block : List ℕ) (old now : Graphs) (number : ℕ) : Type 0 where
   pub new : Graph
   pub block_is : new.block.items ≡ block
   pub graphs : now.graphs.items ≡ old.graphs.items ++ new ∷ []

@@ -4,7 +4,7 @@ ghost use Rattle.std.specs.Prelude.{◌≡◌, ◌↔◌, IsTrue, IfOk, IfSome};
 ghost use Rattle.auto_core.specs.Automaton.{Automaton};
 ghost use Rattle.auto_core.specs.Graph.{letter_graph, extended};
 ghost use Rattle.graph_rows.specs.Block.{block_graph, IsFormed};
-ghost use Rattle.shared_graphs.specs.Graphs.{block_at, HasAdded, HasGrown, HasNumber, IsBlockOf, IsGraphOf, IsStock, IsThere};
+ghost use Rattle.shared_graphs.specs.Graphs.{block_at, HasAddedGraph, HasGrown, HasNumber, IsBlockOf, IsGraphOf, IsStock, IsThere};
 ghost use Rattle.shared_graphs.specs.Memo.{HasNoOther};
 
 use crate::memo::{Answer, Memo};
@@ -143,7 +143,7 @@ impl Graphs {
 
     /// Adds the graph with this block, and gives its number.
     fn add(&mut self, place: usize, mixed: u64, block: Vec<u64>) -> Result<u32, Memory>
-        ensures { IfOk result (HasAdded block.items self.old self.new) }
+        ensures { IfOk result (HasAddedGraph block.items self.old self.new) }
     {
         let count = self.graphs.len();
         if count >= u32::MAX as usize {

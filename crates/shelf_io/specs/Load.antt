@@ -14,9 +14,9 @@ HoldsMoreThan held name most =
     IfSome held (λ files. (bytes : List ℕ) × (map.get files name ≡ Some bytes) × (most < length bytes))
 
 -- A shelf that tells its files does not have the name.
-abbrev pub Lacks : Option FileMap → List ℕ → Type 0
-Lacks None name = ⊥
-Lacks (Some files) name = map.get files name ≡ None
+abbrev pub IsToldMissing : Option FileMap → List ℕ → Type 0
+IsToldMissing None name = ⊥
+IsToldMissing (Some files) name = map.get files name ≡ None
 
 -- More than `most` bytes were taken, as far as the shelf tells what remains.
 abbrev pub TakesMoreThan : Option (List ℕ) → Option (List ℕ) → ℕ → Type 0

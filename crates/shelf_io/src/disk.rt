@@ -28,6 +28,8 @@ pub struct DiskShelf<'a, R: Files> {
     put_faults: u64,
     /// The count of begins.
     begins: u64,
+    /// The count of puts.
+    put_calls: u64,
 }
 
 impl<'a, R: Files> DiskShelf<'a, R> {
@@ -37,6 +39,7 @@ impl<'a, R: Files> DiskShelf<'a, R> {
         ensures no_faults { ⟦<DiskShelf<'a, R> as Shelf>⟧.faults result ≡ 0 }
         ensures no_put_faults { ⟦<DiskShelf<'a, R> as Shelf>⟧.put_faults result ≡ 0 }
         ensures no_begins { ⟦<DiskShelf<'a, R> as Shelf>⟧.begins result ≡ 0 }
+        ensures no_puts { ⟦<DiskShelf<'a, R> as Shelf>⟧.put_calls result ≡ 0 }
         ensures nothing_begun { ⟦<DiskShelf<'a, R> as Shelf>⟧.begun result ≡ Nothing }
     {
         DiskShelf {
@@ -46,6 +49,7 @@ impl<'a, R: Files> DiskShelf<'a, R> {
             faults: 0,
             put_faults: 0,
             begins: 0,
+            put_calls: 0,
         }
     }
 
@@ -56,6 +60,7 @@ impl<'a, R: Files> DiskShelf<'a, R> {
         ensures faults { self.new.faults ≡ self.old.faults }
         ensures put_faults { self.new.put_faults ≡ self.old.put_faults }
         ensures begins { self.new.begins ≡ self.old.begins }
+        ensures put_calls { self.new.put_calls ≡ self.old.put_calls }
     {
         if self.may_be_begun(name) {
             self.begun = None;
@@ -108,6 +113,8 @@ impl<R: Files> Shelf for DiskShelf<'_, R> {
 
     ghost begins = { λ s. s.begins };
 
+    ghost put_calls = { λ s. s.put_calls };
+
     ghost blamed = { λ _. Unnamed };
 
     fn begin(&mut self, name: &str) -> Result<(), Failed> {
@@ -140,6 +147,7 @@ impl<R: Files> Shelf for DiskShelf<'_, R> {
     }
 
     fn put(&mut self, name: &str, bytes: &[u8]) -> Result<(), Failed> {
+        self.put_calls = self.put_calls.saturating_add(1);
         match self.write_file(name, bytes) {
             Ok(()) => Ok(()),
             Err(_) => {

@@ -4,7 +4,7 @@ ghost use Rattle.std.specs.Prelude.{◌≡◌, ◌≢◌, ◌<◌, ◌≤◌, �
 ghost use Rattle.std.specs.Io.KnownBytes.{IsAtEnd};
 ghost use Rattle.shelf_io.specs.Counts.{Rose, counted};
 ghost use Rattle.shelf_io.specs.Shelf.{CountsMissing, IsBlamed};
-ghost use Rattle.shelf_io.specs.Load.{HoldsUnder, HoldsMoreThan, Lacks};
+ghost use Rattle.shelf_io.specs.Load.{HoldsUnder, HoldsMoreThan, IsToldMissing};
 
 use crate::outside::Shelf;
 use crate::parts::LoadFault;
@@ -27,14 +27,16 @@ pub fn load<H: Shelf>(
     // Each refusal has its cause.
     ensures failed { IsErrOf result LoadFault.Failed → Rose (H.faults shelf.old) (H.faults shelf.new) }
     ensures only_failed { result ≢ Err LoadFault.Failed → H.faults shelf.new ≡ H.faults shelf.old }
+    ensures failed_within { IsErrOf result LoadFault.Failed → H.taken shelf.new ≤ cap }
     ensures blames { IsErrOf result LoadFault.Failed → IfSome (H.held shelf.old) (λ files. IsBlamed files name.now (H.blamed shelf.new)) }
-    ensures missing { Lacks (H.held shelf.old) name.now → IsErrOf result LoadFault.Failed }
+    ensures missing { IsToldMissing (H.held shelf.old) name.now → IsErrOf result LoadFault.Failed }
     ensures long { IsErrOf result LoadFault.Long ↔ (cap < H.taken shelf.new) }
     ensures long_file { IsErrOf result LoadFault.Long → HoldsMoreThan (H.held shelf.old) name.now cap }
 
     // What stays, whatever the answer.
     ensures files_stay { H.held shelf.new ≡ H.held shelf.old }
     ensures puts_stay { H.put_faults shelf.new ≡ H.put_faults shelf.old }
+    ensures put_calls_stay { H.put_calls shelf.new ≡ H.put_calls shelf.old }
     ensures never_falls { H.faults shelf.old ≤ H.faults shelf.new }
     ensures counts_missing { CountsMissing (H.held shelf.old) name.now (H.missed shelf.old) (H.missed shelf.new) }
     ensures counts_begin { H.begins shelf.new ≡ counted (H.begins shelf.old) }

@@ -6,7 +6,7 @@ ghost use Rattle.std.specs.Io.{ReadsAtMost};
 ghost use Rattle.std.specs.Io.KnownBytes.{ReadConsumes};
 ghost use Rattle.shelf_io.specs.Counts.{counted, HasCause};
 ghost use Rattle.shelf_io.specs.Shelf.{Nothing, IsBegunBy, LeavesToTake, CountsMissing, BlamesBegun, BlamesTaken, CountsTaken, Puts, LeavesBegun, LeavesLeft};
-ghost use Rattle.shelf_io.specs.Load.{Lacks};
+ghost use Rattle.shelf_io.specs.Load.{IsToldMissing};
 ghost use Rattle.shelf_io.specs.Stored.{files_of};
 ghost use Rattle.shelf_io.specs.Reading.{held_in, begun_in, begun_in-told, left_in, rest_in};
 ghost use Rattle.shelf_io.specs.Plan.{IsDue, plan};
@@ -43,6 +43,8 @@ pub struct MemShelf {
     missed: u64,
     /// The count of begins.
     begins: u64,
+    /// The count of puts.
+    put_calls: u64,
     /// The file of which a read was refused last.
     blamed: Option<Reading>,
     ghost in_range: { ForSome reading (λ r. r.index < length drawer.files) },
@@ -70,6 +72,7 @@ impl MemShelf {
         ensures no_put_faults { IfOk result (λ shelf. ⟦<MemShelf as Shelf>⟧.put_faults shelf ≡ 0) }
         ensures none_missed { IfOk result (λ shelf. ⟦<MemShelf as Shelf>⟧.missed shelf ≡ 0) }
         ensures no_begins { IfOk result (λ shelf. ⟦<MemShelf as Shelf>⟧.begins shelf ≡ 0) }
+        ensures no_puts { IfOk result (λ shelf. ⟦<MemShelf as Shelf>⟧.put_calls shelf ≡ 0) }
         ensures room { IfOk result (λ shelf. shelf.room ≡ room) }
         ensures piece { IfOk result (λ shelf. shelf.piece ≡ piece) }
         ensures plan { IfOk result (λ shelf. shelf.plan ≡ plan fails 0) }
@@ -90,6 +93,7 @@ impl MemShelf {
             put_faults: 0,
             missed: 0,
             begins: 0,
+            put_calls: 0,
             blamed: None,
         })
     }
@@ -119,6 +123,8 @@ impl Shelf for MemShelf {
 
     ghost begins = { λ s. s.begins };
 
+    ghost put_calls = { λ s. s.put_calls };
+
     ghost blamed = { λ s. begun_in s.drawer.files s.blamed };
 
     fn begin(&mut self, name: &str) -> Result<(), Failed>
@@ -132,11 +138,12 @@ impl Shelf for MemShelf {
         ensures counts_missing { CountsMissing (held_in self.old.drawer.files) name.now
             self.old.missed self.new.missed }
         ensures counts_begin { self.new.begins ≡ counted self.old.begins }
+        ensures put_calls_stay { self.new.put_calls ≡ self.old.put_calls }
         ensures blames { BlamesBegun (held_in self.old.drawer.files) name.now result
             (begun_in self.old.drawer.files self.old.blamed) (begun_in self.new.drawer.files self.new.blamed) }
 
         // It fails just where it is to fail or the name is missing.
-        ensures fails { IsErr result ↔ (IsDue self.old.plan ⊎ Lacks (held_in self.old.drawer.files) name.now) }
+        ensures fails { IsErr result ↔ (IsDue self.old.plan ⊎ IsToldMissing (held_in self.old.drawer.files) name.now) }
         ensures counts { self.new.faults ≡
             (if is_ok result then self.old.faults else counted self.old.faults) }
         ensures room_stays { self.new.room ≡ self.old.room }
@@ -177,6 +184,7 @@ impl Shelf for MemShelf {
         ensures puts_stay { self.new.put_faults ≡ self.old.put_faults }
         ensures missed_stay { self.new.missed ≡ self.old.missed }
         ensures begins_stay { self.new.begins ≡ self.old.begins }
+        ensures put_calls_stay { self.new.put_calls ≡ self.old.put_calls }
         ensures blames { BlamesTaken (held_in self.old.drawer.files) (begun_in self.old.drawer.files self.old.reading) result
             (begun_in self.old.drawer.files self.old.blamed) (begun_in self.new.drawer.files self.new.blamed) }
 
@@ -213,6 +221,7 @@ impl Shelf for MemShelf {
         ensures faults_stay { self.new.faults ≡ self.old.faults }
         ensures missed_stay { self.new.missed ≡ self.old.missed }
         ensures begins_stay { self.new.begins ≡ self.old.begins }
+        ensures counts_put { self.new.put_calls ≡ counted self.old.put_calls }
 
         // It fails just where it is to fail or the room is too little, and then no file changes.
         ensures fails { IsErr result ↔
@@ -226,6 +235,7 @@ impl Shelf for MemShelf {
         ensures numbered { self.new.plan ≡ plan self.old.plan.fails (counted self.old.plan.calls) }
     {
         let due = self.plan.next();
+        self.put_calls = self.put_calls.saturating_add(1);
         let_go(&self.drawer, &mut self.reading, name.as_bytes());
         if due || !has_room(self.room, name.len(), bytes.len()) {
             self.put_faults = self.put_faults.saturating_add(1);

@@ -23,6 +23,8 @@ pub struct MemSink {
     plan: Plan,
     /// The count of failed gives.
     faults: u64,
+    /// The count of gives.
+    give_calls: u64,
     ghost reserved: { vec_len bytes + room ≤ vec_capacity bytes },
 }
 
@@ -32,6 +34,7 @@ impl MemSink {
     pub fn new(alloc: Global, room: u64, fails: List<u64>) -> Result<MemSink, Memory>
         ensures sent { IfOk result (λ sink. ⟦<MemSink as Sink>⟧.sent sink ≡ Some []) }
         ensures no_faults { IfOk result (λ sink. ⟦<MemSink as Sink>⟧.faults sink ≡ 0) }
+        ensures no_gives { IfOk result (λ sink. ⟦<MemSink as Sink>⟧.give_calls sink ≡ 0) }
         ensures room { IfOk result (λ sink. sink.room ≡ room) }
         ensures plan { IfOk result (λ sink. sink.plan ≡ plan fails 0) }
     {
@@ -41,6 +44,7 @@ impl MemSink {
             room,
             plan: Plan { fails, calls: 0 },
             faults: 0,
+            give_calls: 0,
         })
     }
 
@@ -57,9 +61,12 @@ impl Sink for MemSink {
 
     ghost faults = { λ s. s.faults };
 
+    ghost give_calls = { λ s. s.give_calls };
+
     fn give(&mut self, bytes: &[u8]) -> Result<(), Failed>
         ensures gives { Gives (Some self.old.bytes.items) bytes.now result (Some self.new.bytes.items) }
         ensures cause { HasCause self.old.faults self.new.faults result }
+        ensures counts_give { self.new.give_calls ≡ counted self.old.give_calls }
 
         // It fails just where it is to fail or the bytes pass the room, and then nothing is sent.
         ensures fails { IsErr result ↔ (IsDue self.old.plan ⊎ (self.old.room < length bytes.now)) }
@@ -71,6 +78,7 @@ impl Sink for MemSink {
         ensures numbered { self.new.plan ≡ plan self.old.plan.fails (counted self.old.plan.calls) }
     {
         let due = self.plan.next();
+        self.give_calls = self.give_calls.saturating_add(1);
         if due || self.room < bytes.len() as u64 {
             self.faults = self.faults.saturating_add(1);
             return Err(Failed);

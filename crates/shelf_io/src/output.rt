@@ -14,14 +14,21 @@ pub struct OutSink<'a, R: Print> {
     rt: &'a R,
     /// The count of refused gives.
     faults: u64,
+    /// The count of gives.
+    give_calls: u64,
 }
 
 impl<'a, R: Print> OutSink<'a, R> {
     /// The standard output of the machine, with no fault counted.
     pub fn new(rt: &'a R) -> OutSink<'a, R>
         ensures no_faults { ⟦<OutSink<'a, R> as Sink>⟧.faults result ≡ 0 }
+        ensures no_gives { ⟦<OutSink<'a, R> as Sink>⟧.give_calls result ≡ 0 }
     {
-        OutSink { rt, faults: 0 }
+        OutSink {
+            rt,
+            faults: 0,
+            give_calls: 0,
+        }
     }
 }
 
@@ -30,7 +37,10 @@ impl<R: Print> Sink for OutSink<'_, R> {
 
     ghost faults = { λ s. s.faults };
 
+    ghost give_calls = { λ s. s.give_calls };
+
     fn give(&mut self, bytes: &[u8]) -> Result<(), Failed> {
+        self.give_calls = self.give_calls.saturating_add(1);
         let mut out = io::writer(self.rt);
         match write_all(&mut out, bytes) {
             Ok(()) => Ok(()),

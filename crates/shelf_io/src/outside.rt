@@ -36,6 +36,9 @@ pub trait Shelf {
     /// The count of begins, refused ones among them.
     ghost begins: { Self → ℕ };
 
+    /// The count of puts, refused ones among them.
+    ghost put_calls: { Self → ℕ };
+
     /// The file of which a read was refused last, where the shelf tells its files and that file was one of them.
     ghost blamed: { Self → WhichFile };
 
@@ -49,6 +52,7 @@ pub trait Shelf {
         ensures puts_stay { put_faults self.new ≡ put_faults self.old }
         ensures counts_missing { CountsMissing (held self.old) name.now (missed self.old) (missed self.new) }
         ensures counts_begin { begins self.new ≡ counted (begins self.old) }
+        ensures put_calls_stay { put_calls self.new ≡ put_calls self.old }
         ensures blames { BlamesBegun (held self.old) name.now result (blamed self.old) (blamed self.new) };
 
     /// Moves the next bytes of the begun file to the front of the buffer, and answers how many.
@@ -65,6 +69,7 @@ pub trait Shelf {
         ensures puts_stay { put_faults self.new ≡ put_faults self.old }
         ensures missed_stay { missed self.new ≡ missed self.old }
         ensures begins_stay { begins self.new ≡ begins self.old }
+        ensures put_calls_stay { put_calls self.new ≡ put_calls self.old }
         ensures blames { BlamesTaken (held self.old) (begun self.old) result (blamed self.old) (blamed self.new) };
 
     /// Makes the named file hold just these bytes. Refused, it holds a front of them or what it held
@@ -78,7 +83,8 @@ pub trait Shelf {
         ensures put_cause { HasCause (put_faults self.old) (put_faults self.new) result }
         ensures faults_stay { faults self.new ≡ faults self.old }
         ensures missed_stay { missed self.new ≡ missed self.old }
-        ensures begins_stay { begins self.new ≡ begins self.old };
+        ensures begins_stay { begins self.new ≡ begins self.old }
+        ensures counts_put { put_calls self.new ≡ counted (put_calls self.old) };
 
     /// Law: a shelf that tells its files tells what remains of the begun one.
     ghost tells_left: { (s : Self) → IsSome (held s) → IsSome (left s) };
@@ -95,8 +101,12 @@ pub trait Sink {
     /// The count of failed gives.
     ghost faults: { Self → ℕ };
 
+    /// The count of gives, refused ones among them.
+    ghost give_calls: { Self → ℕ };
+
     /// Appends the bytes to what was given. Refused, it appends a front of them.
     fn give(&mut self, bytes: &[u8]) -> Result<(), Failed>
         ensures gives { Gives (sent self.old) bytes.now result (sent self.new) }
-        ensures cause { HasCause (faults self.old) (faults self.new) result };
+        ensures cause { HasCause (faults self.old) (faults self.new) result }
+        ensures counts_give { give_calls self.new ≡ counted (give_calls self.old) };
 }

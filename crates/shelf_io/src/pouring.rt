@@ -4,7 +4,7 @@ ghost use Rattle.std.specs.Prelude.{◌≡◌, ◌≢◌, ◌-◌, ◌^◌, ◌<
 ghost use Rattle.std.specs.Io.KnownBytes.{IsAtEnd, Consumes};
 ghost use Rattle.shelf_io.specs.Counts.{Rose, counted};
 ghost use Rattle.shelf_io.specs.Shelf.{CountsMissing, IsBlamed};
-ghost use Rattle.shelf_io.specs.Load.{HoldsUnder, HoldsMoreThan, TakesMoreThan, Lacks, HasEaten, HasEatenAll, HasEatenAlmost};
+ghost use Rattle.shelf_io.specs.Load.{HoldsUnder, HoldsMoreThan, TakesMoreThan, IsToldMissing, HasEaten, HasEatenAll, HasEatenAlmost};
 
 use crate::outside::Shelf;
 use crate::parts::LoadFault;
@@ -52,8 +52,9 @@ pub fn pour<H: Shelf, E: Eat>(
     // Each refusal has its cause.
     ensures failed { IsErrOf result LoadFault.Failed → Rose (H.faults shelf.old) (H.faults shelf.new) }
     ensures only_failed { result ≢ Err LoadFault.Failed → H.faults shelf.new ≡ H.faults shelf.old }
+    ensures failed_within { IsErrOf result LoadFault.Failed → H.taken shelf.new ≤ cap }
     ensures blames { IsErrOf result LoadFault.Failed → IfSome (H.held shelf.old) (λ files. IsBlamed files name.now (H.blamed shelf.new)) }
-    ensures missing { Lacks (H.held shelf.old) name.now → IsErrOf result LoadFault.Failed }
+    ensures missing { IsToldMissing (H.held shelf.old) name.now → IsErrOf result LoadFault.Failed }
     ensures long { cap < H.taken shelf.new → IsErrOf result LoadFault.Long }
     ensures only_long { IsErrOf result LoadFault.Long → cap < 2 ^ 64 - 1 → cap < H.taken shelf.new }
     ensures long_file { IsErrOf result LoadFault.Long → HoldsMoreThan (H.held shelf.old) name.now cap }
@@ -61,6 +62,7 @@ pub fn pour<H: Shelf, E: Eat>(
     // What stays, whatever the answer.
     ensures files_stay { H.held shelf.new ≡ H.held shelf.old }
     ensures puts_stay { H.put_faults shelf.new ≡ H.put_faults shelf.old }
+    ensures put_calls_stay { H.put_calls shelf.new ≡ H.put_calls shelf.old }
     ensures never_falls { H.faults shelf.old ≤ H.faults shelf.new }
     ensures counts_missing { CountsMissing (H.held shelf.old) name.now (H.missed shelf.old) (H.missed shelf.new) }
     ensures counts_begin { H.begins shelf.new ≡ counted (H.begins shelf.old) }
@@ -94,12 +96,14 @@ fn pour_rest<H: Shelf, E: Eat>(
     ensures long_fed { IsErrOf result LoadFault.Long → HasEatenAlmost (E.eats eater.old) cap eater.new }
     ensures failed { IsErrOf result LoadFault.Failed → Rose (H.faults shelf.old) (H.faults shelf.new) }
     ensures only_failed { result ≢ Err LoadFault.Failed → H.faults shelf.new ≡ H.faults shelf.old }
+    ensures failed_within { IsErrOf result LoadFault.Failed → H.taken shelf.new ≤ cap }
     ensures blames { IsErrOf result LoadFault.Failed → IfSome (H.held shelf.old) (λ files. H.blamed shelf.new ≡ H.begun shelf.old) }
     ensures long { cap < H.taken shelf.new → IsErrOf result LoadFault.Long }
     ensures only_long { IsErrOf result LoadFault.Long → cap < 2 ^ 64 - 1 → cap < H.taken shelf.new }
     ensures long_left { IsErrOf result LoadFault.Long → TakesMoreThan (H.left shelf.old) (H.left shelf.new) cap }
     ensures files_stay { H.held shelf.new ≡ H.held shelf.old }
     ensures puts_stay { H.put_faults shelf.new ≡ H.put_faults shelf.old }
+    ensures put_calls_stay { H.put_calls shelf.new ≡ H.put_calls shelf.old }
     ensures never_falls { H.faults shelf.old ≤ H.faults shelf.new }
     ensures missed_stay { H.missed shelf.new ≡ H.missed shelf.old }
     ensures begins_stay { H.begins shelf.new ≡ H.begins shelf.old }

@@ -10,7 +10,7 @@ use Rattle.search_laws.proofs.PlaceLemmas.{at_same, at_within, read_at}
 use Rattle.set_rows.specs.Sets.{IsRow, IsSubset, IsCovered}
 use Rattle.antichain.specs.declared.parts.Held.{Held}
 use Rattle.antichain.specs.declared.sets.Made.{Made}
-use Rattle.antichain.specs.Made.{IsMade, IsKnown}
+use Rattle.antichain.specs.Made.{IsMade, IsRemembered}
 use Rattle.antichain.proofs.KeptLemmas.{next_kept}
 use Rattle.antichain.proofs.candidates.next_candidate.Goals as goal
 
@@ -29,7 +29,7 @@ returns-clause-candidate c = λ x kept.
     let step : Trans = slice_index_or c.transitions.result.now t (trans 0 0 0) in
     let is_step : step ≡ trans_at A t = ap (λ (l : List Trans). slice_index_or l t (trans 0 0 0)) c.transitions.ensures.list in
     let h : Held = record { origin = Next c.args.element t; state = step.target; members = c.in_ok-members.members; below = c.in_ok-below.below; head = c.head_of-head.result; below_head = c.head_of-below_head.result } in
-    let known : IsKnown c.after.new.self.made.items step.label c.deref.result.now c.in_ok-number.number = c.in_ok-number.ensures.known in
+    let known : IsRemembered c.after.new.self.made.items step.label c.deref.result.now c.in_ok-number.number = c.in_ok-number.ensures.known in
     let within = at_within c.after.new.self.made.items c.in_ok-number.number known.element known.is in
     let seen : Made = c.index-made.result.now in
     let seen_is : At c.after.new.self.made.items c.in_ok-number.number seen = read_at c.after.new.self.made.items c.in_ok-number.number seen seen within c.index-made.ensures in

@@ -2,13 +2,13 @@ use Rattle.std.proofs.Common.{◌≡◌, ◌+◌, ℕ, length, map, ap, arith, l
 use Rattle.std.proofs.lemmas.List.{length-map}
 use Rattle.auto_core.specs.Automaton.{Automaton}
 use Rattle.auto_ops.specs.Union.{second_offset}
-use Rattle.auto_ops.specs.UnionParts.{moved, copied, first_moves, transitions_of_one, union_transitions}
+use Rattle.auto_ops.specs.UnionParts.{shifted, copied, first_moves, transitions_of_one, union_transitions}
 use Rattle.auto_ops.proofs.uniting.count_transitions.Goals as goal
 
 one_length : (A : Automaton) (offset : ℕ) → length (transitions_of_one A offset) ≡ length A.transitions + length (first_moves A)
 one_length A offset =
-    let e = length-append (map (moved offset) A.transitions) (map (copied offset) (first_moves A)) in
-    let f = length-map A.transitions (moved offset) in
+    let e = length-append (map (shifted offset) A.transitions) (map (copied offset) (first_moves A)) in
+    let f = length-map A.transitions (shifted offset) in
     let g = length-map (first_moves A) (copied offset) in
     omega arith
 

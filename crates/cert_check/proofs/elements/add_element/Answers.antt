@@ -8,7 +8,7 @@ use Rattle.cert_value.specs.declared.types.Element.{Element}
 use Rattle.cert_check.specs.Inclusion.{element_arcs, no_element}
 use Rattle.supergraph.specs.declared.arcs.Arc.{Arc}
 use Rattle.shared_graphs.specs.declared.graphs.Graphs.{Graphs}
-use Rattle.cert_check.specs.Supers.{IsNumbered, AreSupers}
+use Rattle.cert_check.specs.Supers.{IsGraphNumbered, AreSupers}
 use Rattle.cert_check.specs.declared.blocks.Numbered.{Numbered}
 use Rattle.cert_check.specs.declared.elements.Supers.{Supers}
 use Rattle.cert_check.proofs.PlaceLemmas.{IsPlacedIn, placed_one, arc_is_placed}
@@ -31,10 +31,10 @@ returns c =
     let it : Numbered = c.in_ok-numbered.numbered in
     let old : Supers = c.args.supers.now in
     let now : Supers = c.add.new.supers in
-    let made : IsNumbered m A B old.graphs c.compute.new.supers.graphs (arc_at A W e) it =
-    subst (λ (x : WordArc). IsNumbered m A B old.graphs c.compute.new.supers.graphs x it) (sym arc) c.in_ok-numbered.ensures.numbered in
-    let kept : IsNumbered m A B old.graphs now.graphs (arc_at A W e) it =
-    subst (λ (g : Graphs). IsNumbered m A B old.graphs g (arc_at A W e) it) (sym c.add.ensures.graphs) made in
+    let made : IsGraphNumbered m A B old.graphs c.compute.new.supers.graphs (arc_at A W e) it =
+    subst (λ (x : WordArc). IsGraphNumbered m A B old.graphs c.compute.new.supers.graphs x it) (sym arc) c.in_ok-numbered.ensures.numbered in
+    let kept : IsGraphNumbered m A B old.graphs now.graphs (arc_at A W e) it =
+    subst (λ (g : Graphs). IsGraphNumbered m A B old.graphs g (arc_at A W e) it) (sym c.add.ensures.graphs) made in
     if_ok_both c.add.result
     (now.arcs.items ≡ c.compute.new.supers.arcs.items ++ it.arc ∷ [])
     (now.numbers.items ≡ c.compute.new.supers.numbers.items ++ it.number ∷ [])

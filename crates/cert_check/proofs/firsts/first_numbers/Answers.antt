@@ -1,7 +1,7 @@
 use Rattle.std.proofs.Common.{◌≡◌, ℕ, ◌+◌, List, [], ◌∷◌, length, sym, ap, ◌∙◌, subst, arith, length-append}
 use Rattle.shared_graphs.specs.declared.graphs.Graph.{Graph}
 use Rattle.shared_graphs.specs.Graphs.{block_at}
-use Rattle.cert_check.specs.Firsts.{IsKnown}
+use Rattle.cert_check.specs.Firsts.{IsBlockKnown}
 use Rattle.cert_check.proofs.FirstLemmas.{block_is, held_more, told_more, firsts_told}
 use Rattle.cert_check.proofs.firsts.first_numbers.Goals as goal
 
@@ -11,8 +11,8 @@ loop-k-preserved c =
     let k : ℕ = c.loop-k.k in
     let first : ℕ = c.in_ok-first.first in
     let block : c.deref.result.now ≡ block_at G k = c.deref.ensures.value ∙ ap (λ (g : Graph). g.block.items) (sym c.index-graphs-k.is) ∙ sym (block_is G k c.index-graphs-k.result c.loop-k-test.true c.index-graphs-k.is) in
-    let known : IsKnown c.loop-k.known c.known_number.new.known (block_at G k) k first =
-    subst (λ b. IsKnown c.loop-k.known c.known_number.new.known b k first) block c.in_ok-first.ensures in
+    let known : IsBlockKnown c.loop-k.known c.known_number.new.known (block_at G k) k first =
+    subst (λ b. IsBlockKnown c.loop-k.known c.known_number.new.known b k first) block c.in_ok-first.ensures in
     record {
       size = ap length c.in_ok-push.ensures.items ∙ length-append c.loop-k.firsts.items (first ∷ []) ∙ ap (λ n. n + 1) c.loop-k.invariant.size;
       held = held_more G c.loop-k.known c.known_number.new.known k first c.loop-k.invariant.held known;

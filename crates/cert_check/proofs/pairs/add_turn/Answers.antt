@@ -6,7 +6,7 @@ use Rattle.evidence.specs.Tables.{numbers_at}
 use Rattle.cert_value.specs.declared.types.YesBody.{YesBody}
 use Rattle.cert_check.specs.Inclusion.{element_arcs}
 use Rattle.cert_check.specs.Supers.{held_arc, held_block, held_number, has_key}
-use Rattle.cert_check.specs.Turns.{IsTurn, AreTurns, AreListed, HasAddedAt}
+use Rattle.cert_check.specs.Turns.{IsTurn, AreTurns, AreListedAtStates, HasAddedAt}
 use Rattle.cert_check.specs.declared.blocks.Numbered.{Numbered}
 use Rattle.cert_check.specs.declared.elements.Supers.{Supers}
 use Rattle.cert_check.proofs.SuperLemmas.{held_ends, if_ok_as}
@@ -91,7 +91,7 @@ returns-clause-seen c =
     let turn : IsTurn ev su e = c.is_turn.ensures.0 (search rules) in
     let here : HasAddedAt old new c.element-it.result.arc.from c.element-it.result.number → HasAddedAt old new (held_arc su e).from (held_number su e) =
     λ h. subst (λ (m : Numbered). HasAddedAt old new m.arc.from m.number) c.element-it.ensures h in
-    if_ok_as c.add_at.result (λ _. HasAddedAt old new c.element-it.result.arc.from c.element-it.result.number) (λ _. AreListed c.is_new.new.seen new)
+    if_ok_as c.add_at.result (λ _. HasAddedAt old new c.element-it.result.arc.from c.element-it.result.number) (λ _. AreListedAtStates c.is_new.new.seen new)
     (λ _ added. keys_more (λ p h. Contains (numbers_at new p) h) c.args.seen.now c.is_new.new.seen c.pair_key-key.result (held_arc su e).from (held_number su e) key_is
     c.in_ok-is_new.ensures.added (listed_now old new (held_arc su e).from (held_number su e) (here added))
     (λ k q h has is. listed_stay old new (held_arc su e).from (held_number su e) (here added) q h (c.requires.seen k q h has is))) c.add_at.ensures

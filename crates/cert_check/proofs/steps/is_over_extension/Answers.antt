@@ -5,7 +5,7 @@ use Rattle.auto_core.specs.declared.parts.Mode.{Mode}
 use Rattle.shared_graphs.specs.declared.graphs.Graph.{Graph}
 use Rattle.shared_graphs.specs.Graphs.{block_at}
 use Rattle.cert_check.specs.Inclusion.{element_arcs}
-use Rattle.cert_check.specs.Supers.{StandFor, IsNumbered}
+use Rattle.cert_check.specs.Supers.{StandFor, IsGraphNumbered}
 use Rattle.cert_check.specs.declared.blocks.Numbered.{Numbered}
 use Rattle.cert_check.proofs.SuperLemmas.{supers_grown, order_grown}
 use Rattle.cert_check.proofs.steps.is_over_extension.Goals as goal
@@ -41,7 +41,7 @@ is_over-requires-clause-supers c =
     let x : WordArc = arc_at A (element_arcs A c.args.evidence.now.elements) c.args.e in
     let from : StandFor m A B c.element-from.result.arc (block_at G c.element-from.result.number) x =
     subst (λ (n : Numbered). StandFor m A B n.arc (block_at G n.number) x) (sym c.element-from.ensures) (c.requires.supers.each c.args.e c.requires.element) in
-    let new : IsNumbered m A B c.args.supers.now.graphs c.extend.new.graphs (extended_arc A x (trans_at A c.args.t)) c.in_ok-longer.longer = c.in_ok-longer.ensures x from in
+    let new : IsGraphNumbered m A B c.args.supers.now.graphs c.extend.new.graphs (extended_arc A x (trans_at A c.args.t)) c.in_ok-longer.longer = c.in_ok-longer.ensures x from in
     supers_grown m A B c.args.evidence.now.elements (length c.args.evidence.now.elements) c.args.supers.now _ refl refl new.stock new.grown c.requires.supers
 
 pub is_over-requires-clause-formed : goal.is_over-requires-clause-formed
@@ -53,7 +53,7 @@ is_over-requires-clause-formed c =
     let x : WordArc = arc_at A (element_arcs A c.args.evidence.now.elements) c.args.e in
     let from : StandFor m A B c.element-from.result.arc (block_at G c.element-from.result.number) x =
     subst (λ (n : Numbered). StandFor m A B n.arc (block_at G n.number) x) (sym c.element-from.ensures) (c.requires.supers.each c.args.e c.requires.element) in
-    let new : IsNumbered m A B c.args.supers.now.graphs c.extend.new.graphs (extended_arc A x (trans_at A c.args.t)) c.in_ok-longer.longer = c.in_ok-longer.ensures x from in
+    let new : IsGraphNumbered m A B c.args.supers.now.graphs c.extend.new.graphs (extended_arc A x (trans_at A c.args.t)) c.in_ok-longer.longer = c.in_ok-longer.ensures x from in
     new.stands.formed
 
 pub returns-clause-told : goal.returns-clause-told
@@ -65,7 +65,7 @@ returns-clause-told c =
     let x : WordArc = arc_at A (element_arcs A c.args.evidence.now.elements) c.args.e in
     let from : StandFor m A B c.element-from.result.arc (block_at G c.element-from.result.number) x =
     subst (λ (n : Numbered). StandFor m A B n.arc (block_at G n.number) x) (sym c.element-from.ensures) (c.requires.supers.each c.args.e c.requires.element) in
-    let new : IsNumbered m A B c.args.supers.now.graphs c.extend.new.graphs (extended_arc A x (trans_at A c.args.t)) c.in_ok-longer.longer = c.in_ok-longer.ensures x from in
+    let new : IsGraphNumbered m A B c.args.supers.now.graphs c.extend.new.graphs (extended_arc A x (trans_at A c.args.t)) c.in_ok-longer.longer = c.in_ok-longer.ensures x from in
     c.is_over.ensures.told (extended_arc A x (trans_at A c.args.t)) new.stands
 
 pub returns-clause-supers : goal.returns-clause-supers
@@ -77,7 +77,7 @@ returns-clause-supers c =
     let x : WordArc = arc_at A (element_arcs A c.args.evidence.now.elements) c.args.e in
     let from : StandFor m A B c.element-from.result.arc (block_at G c.element-from.result.number) x =
     subst (λ (n : Numbered). StandFor m A B n.arc (block_at G n.number) x) (sym c.element-from.ensures) (c.requires.supers.each c.args.e c.requires.element) in
-    let new : IsNumbered m A B c.args.supers.now.graphs c.extend.new.graphs (extended_arc A x (trans_at A c.args.t)) c.in_ok-longer.longer = c.in_ok-longer.ensures x from in
+    let new : IsGraphNumbered m A B c.args.supers.now.graphs c.extend.new.graphs (extended_arc A x (trans_at A c.args.t)) c.in_ok-longer.longer = c.in_ok-longer.ensures x from in
     supers_grown m A B c.args.evidence.now.elements (length c.args.evidence.now.elements) c.args.supers.now _ refl refl new.stock new.grown c.requires.supers
 
 pub is_over-requires-clause-order : goal.is_over-requires-clause-order
@@ -89,5 +89,5 @@ is_over-requires-clause-order c =
     let x : WordArc = arc_at A (element_arcs A c.args.evidence.now.elements) c.args.e in
     let from : StandFor m A B c.element-from.result.arc (block_at G c.element-from.result.number) x =
     subst (λ (n : Numbered). StandFor m A B n.arc (block_at G n.number) x) (sym c.element-from.ensures) (c.requires.supers.each c.args.e c.requires.element) in
-    let new : IsNumbered m A B c.args.supers.now.graphs c.extend.new.graphs (extended_arc A x (trans_at A c.args.t)) c.in_ok-longer.longer = c.in_ok-longer.ensures x from in
+    let new : IsGraphNumbered m A B c.args.supers.now.graphs c.extend.new.graphs (extended_arc A x (trans_at A c.args.t)) c.in_ok-longer.longer = c.in_ok-longer.ensures x from in
     order_grown B c.args.evidence.now G c.extend.new.graphs.graphs.items c.args.order.now new.grown c.requires.order

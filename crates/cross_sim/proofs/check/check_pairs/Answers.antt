@@ -4,7 +4,7 @@ use Rattle.auto_core.specs.Game.{Holds, Stable, StableAcross}
 use Rattle.cert_value.specs.declared.types.Row.{Row}
 use Rattle.log_check.specs.Blocks.{pairs_of}
 use Rattle.log_check.specs.Checks.{rule_at}
-use Rattle.cross_sim.specs.Rules.{TellsCross, pair_checks, pairs_across}
+use Rattle.cross_sim.specs.Rules.{TellsCross, cross_pair_checks, pairs_across}
 use Rattle.cross_sim.specs.Sides.{Raises, MatchesAcross}
 use Rattle.cross_sim.proofs.CheckLemmas.{pair_told, stable_told, refusal_at, first_is_broken, later_tells, false_not}
 use Rattle.cross_sim.proofs.RaisedLemmas.{lefts_below}
@@ -24,7 +24,7 @@ returns-then-not-get c =
     subst (λ x. IsTrue c.get.result ↔ Holds S x B.initial) c.initial.ensures.state
     (subst (λ y. IsTrue c.get.result ↔ Holds S c.initial.result y) c.initial-2.ensures.state (pair_told n S R c.initial.result c.initial-2.result c.get.result raises c.get.ensures.told)) in
     let lacks : c.get.result ≡ false = search rules in
-    subst (TellsCross (pair_checks pair cross)) (sym c.refused.ensures)
+    subst (TellsCross (cross_pair_checks pair cross)) (sym c.refused.ensures)
     (first_is_broken (Holds S A.initial B.initial) 19 2 (rule_at 20 2 (StableAcross A B cross.look S) ∷ []) (false_not (Holds S A.initial B.initial) c.get.result held lacks))
 
 pub returns-then-not-branch : goal.returns-then-not-branch
@@ -51,7 +51,7 @@ returns-then-not-branch c =
     (lefts_below A.states B.states cross.rows c.requires.below) right b told in
     let has : c.get.result ≡ true = search rules in
     let fails : b ≡ false = search rules in
-    subst (TellsCross (pair_checks pair cross)) (sym c.refused-then-not-branch.ensures)
+    subst (TellsCross (cross_pair_checks pair cross)) (sym c.refused-then-not-branch.ensures)
     (later_tells (Holds S A.initial B.initial) 19 2 (rule_at 20 2 (StableAcross A B cross.look S) ∷ []) (refusal_at 20 2) (held.0 has)
     (first_is_broken (StableAcross A B cross.look S) 20 2 [] (false_not (StableAcross A B cross.look S) b stable fails)))
 

@@ -6,8 +6,8 @@ use Rattle.cert_text.specs.declared.lines.Sizes.{Sizes}
 use Rattle.cert_text.specs.Lines.{word_in, number_in, sizes_in}
 use Rattle.cert_text.specs.Grammar.{On, next_line, read_block, read_end, finish, lines_of}
 use Rattle.cross_text.specs.declared.types.Cross.{Cross}
-use Rattle.cross_text.specs.Grammar.{heading_in, cross_of, read_relation, read_look, read_sizes, read_cross}
-use Rattle.cross_text.specs.Reads.{Left, Reads}
+use Rattle.cross_text.specs.Grammar.{cross_heading_in, cross_of, read_relation, read_look, read_cross_sizes, read_cross}
+use Rattle.cross_text.specs.Reads.{Left, ReadsOn}
 use Rattle.cross_text.proofs.ReadsLemmas.{IsAt, at_start, at_next, at_stop, at_end, at_over, few_left}
 use Rattle.cross_text.proofs.read.read_text.Goals as goal
 
@@ -15,13 +15,13 @@ use Rattle.cross_text.proofs.read.read_text.Goals as goal
 start : (bytes : List ℕ) (l : Left) → l ≡ (lines_of bytes, 1) → IsAt bytes l read_cross
 start bytes l is = subst (λ (m : Left). IsAt bytes m read_cross) (sym is) (at_start bytes)
 
-at_sizes : (bytes : List ℕ) (l m : Left) → l ≡ (lines_of bytes, 1) → Reads (next_line heading_in) l m (Ok tt) → IsAt bytes m read_sizes
-at_sizes bytes l m is r = at_next bytes (next_line heading_in) (λ u. read_sizes) l m tt (start bytes l is) r
+at_sizes : (bytes : List ℕ) (l m : Left) → l ≡ (lines_of bytes, 1) → ReadsOn (next_line cross_heading_in) l m (Ok tt) → IsAt bytes m read_cross_sizes
+at_sizes bytes l m is r = at_next bytes (next_line cross_heading_in) (λ u. read_cross_sizes) l m tt (start bytes l is) r
 
-at_look : (bytes : List ℕ) (l m : Left) (s : Sizes) → IsAt bytes l read_sizes → Reads (next_line sizes_in) l m (Ok s) → IsAt bytes m (read_look s)
+at_look : (bytes : List ℕ) (l m : Left) (s : Sizes) → IsAt bytes l read_cross_sizes → ReadsOn (next_line sizes_in) l m (Ok s) → IsAt bytes m (read_look s)
 at_look bytes l m s h r = at_next bytes (next_line sizes_in) read_look l m s h r
 
-at_relation : (bytes : List ℕ) (l m : Left) (s : Sizes) (k : ℕ) → IsAt bytes l (read_look s) → Reads (next_line (number_in keyword.Look)) l m (Ok k)
+at_relation : (bytes : List ℕ) (l m : Left) (s : Sizes) (k : ℕ) → IsAt bytes l (read_look s) → ReadsOn (next_line (number_in keyword.Look)) l m (Ok k)
     → IsAt bytes m (read_relation s k)
 at_relation bytes l m s k h r = at_next bytes (next_line (number_in keyword.Look)) (read_relation s) l m k h r
 
@@ -33,10 +33,10 @@ abbrev after_rows : Sizes → ℕ → On Cross (List Row)
 after_rows s k rows = read_end (of_rows s k rows)
 
 at_last : (bytes : List ℕ) (l m : Left) (s : Sizes) (k : ℕ) (rows : List Row) → IsAt bytes l (read_relation s k)
-    → Reads (λ next. read_block 1 (λ block. next block.rows)) l m (Ok rows) → IsAt bytes m (read_end (of_rows s k rows))
+    → ReadsOn (λ next. read_block 1 (λ block. next block.rows)) l m (Ok rows) → IsAt bytes m (read_end (of_rows s k rows))
 at_last bytes l m s k rows h r = at_next bytes (λ next. read_block 1 (λ block. next block.rows)) (after_rows s k) l m rows h r
 
-at_finish : (bytes : List ℕ) (l m : Left) (c : Cross) → IsAt bytes l (read_end c) → Reads (next_line (word_in keyword.End)) l m (Ok tt) → IsAt bytes m (finish c)
+at_finish : (bytes : List ℕ) (l m : Left) (c : Cross) → IsAt bytes l (read_end c) → ReadsOn (next_line (word_in keyword.End)) l m (Ok tt) → IsAt bytes m (finish c)
 at_finish bytes l m c h r = at_next bytes (next_line (word_in keyword.End)) (λ u. finish c) l m tt h r
 
 pub heading-requires : goal.heading-requires
@@ -83,7 +83,7 @@ returns-in_err-heading c =
     let p = err_from_is_err_and c.from_residual.result c.from_residual.ensures.1 in
     record {
       reading = rw (p.1, p.2)
-          (at_stop bytes (next_line heading_in) (λ u. read_sizes) c.of-lines.result c.heading.new.self c.in_err-heading.field-0.0 (start bytes c.of-lines.result c.of-lines.ensures) c.in_err-heading.ensures);
+          (at_stop bytes (next_line cross_heading_in) (λ u. read_cross_sizes) c.of-lines.result c.heading.new.self c.in_err-heading.field-0.0 (start bytes c.of-lines.result c.of-lines.ensures) c.in_err-heading.ensures);
     }
 
 pub returns-in_err-sizes : goal.returns-in_err-sizes

@@ -1,6 +1,6 @@
 use Rattle.std.proofs.Common.{ℕ, Option, None, List, get_or, Contains, sym, subst}
 use Rattle.delayed_sim.specs.declared.entries.Entry.{Entry}
-use Rattle.delayed_sim.specs.Stored.{triple_of, triples_of, no_entry, IsBetween, IsPutIn}
+use Rattle.delayed_sim.specs.Stored.{triple_of, entry_triples, no_entry, IsBetween, IsPutIn}
 use Rattle.delayed_sim.proofs.BuildLemmas.{put_in}
 use Rattle.delayed_sim.proofs.entries.put_in.Goals as goal
 
@@ -10,9 +10,9 @@ returns-in-Ok c =
     let e : Entry = c.args.entry in
     let old = c.args.entries.now.items in
     let rank = (get_or c.deref.result.now c.in-Ok._at no_entry).rank in
-    let there : Contains (triples_of n old) (e.left, c.ahead_of.result.now, e.right, rank) =
-    subst (λ (l : List Entry). Contains (triples_of n l) (e.left, c.ahead_of.result.now, e.right, rank)) c.deref.ensures.value c.in-Ok.ensures.found.1 in
-    absurd (c.requires.lacks rank (subst (λ (b : List ℕ). Contains (triples_of n old) (e.left, b, e.right, rank)) c.ahead_of.ensures there))
+    let there : Contains (entry_triples n old) (e.left, c.ahead_of.result.now, e.right, rank) =
+    subst (λ (l : List Entry). Contains (entry_triples n l) (e.left, c.ahead_of.result.now, e.right, rank)) c.deref.ensures.value c.in-Ok.ensures.found.1 in
+    absurd (c.requires.lacks rank (subst (λ (b : List ℕ). Contains (entry_triples n old) (e.left, b, e.right, rank)) c.ahead_of.ensures there))
 
 pub returns-in_ok-insert-in-Err : goal.returns-in_ok-insert-in-Err
 returns-in_ok-insert-in-Err c =

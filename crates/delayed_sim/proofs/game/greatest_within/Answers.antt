@@ -4,8 +4,8 @@ use Rattle.auto_core.specs.Game.{Holds}
 use Rattle.auto_core.specs.Delayed.{RankedTriples, AreTriplesOf, IsGreatestDelayed}
 use Rattle.bit_rel.specs.Relation.{Relation}
 use Rattle.delayed_sim.specs.Pairings.{Pairing}
-use Rattle.delayed_sim.specs.Stored.{triples_of}
-use Rattle.delayed_sim.specs.Words.{ArePlaces, AreListed}
+use Rattle.delayed_sim.specs.Stored.{entry_triples}
+use Rattle.delayed_sim.specs.Words.{ArePlaces, ListsTriplesBefore}
 use Rattle.delayed_sim.specs.Played.{HasEachRight, IsPlayed}
 use Rattle.delayed_sim.proofs.AheadGreatest.{greatest_ahead}
 use Rattle.delayed_sim.proofs.ListLemmas.{listed_pairs}
@@ -24,7 +24,7 @@ left_over :
     → R.states ≡ first.size
     → ((x q : ℕ) → x < first.size * w → Holds first.pairs (x / w) q → Holds R.pairs x q)
     → IsPlayed L A R S ranks
-    → AreListed A.labels n S ranks S.places 0 T
+    → ListsTriplesBefore A.labels n S ranks S.places 0 T
     → IsGreatestDelayed A n T
 left_over A L n w first R S ranks T some valid places is equal each r_places r_states have played listed =
     let all : first.size * w ≡ A.states * A.labels ^ (n - 1) = ap (λ s. s * w) equal ∙ ap (λ v. A.states * v) is in
@@ -40,9 +40,9 @@ left_over A L n w first R S ranks T some valid places is equal each r_places r_s
     (listed_pairs A n S ranks T some s_states s_places played.shrinks.valid listed)
 
 -- The list is of the automaton's labels and of the ranks.
-listed_here : (A : Automaton) (n labels : ℕ) (S : Pairing) (read ranks : List ℕ) (T : RankedTriples) → labels ≡ A.labels → read ≡ ranks → AreListed labels n S read S.places 0 T → AreListed A.labels n S ranks S.places 0 T
+listed_here : (A : Automaton) (n labels : ℕ) (S : Pairing) (read ranks : List ℕ) (T : RankedTriples) → labels ≡ A.labels → read ≡ ranks → ListsTriplesBefore labels n S read S.places 0 T → ListsTriplesBefore A.labels n S ranks S.places 0 T
 listed_here A n labels S read ranks T same is h =
-    subst (λ (l : ℕ). AreListed l n S ranks S.places 0 T) same (subst (λ (rs : List ℕ). AreListed labels n S rs S.places 0 T) is h)
+    subst (λ (l : ℕ). ListsTriplesBefore l n S ranks S.places 0 T) same (subst (λ (rs : List ℕ). ListsTriplesBefore labels n S rs S.places 0 T) is h)
 
 pub word_count-requires : goal.word_count-requires
 word_count-requires c =
@@ -61,8 +61,8 @@ returns-clause-greatest c =
     let is : c.word_count.result ≡ A.labels ^ (n - 1) = c.word_count.ensures ∙ ap (λ (l : ℕ). l ^ (n - 1)) c.labels-labels.ensures.count in
     let S = c.play.new.board in
     let ranks = c.in_ok-ranks.ranks.items in
-    let T : RankedTriples = triples_of n c.in_ok-entries.entries.items in
-    let listed : AreListed A.labels n S ranks S.places 0 T = listed_here A n c.labels-labels.result S c.deref.result.now ranks T c.labels-labels.ensures.count c.deref.ensures.value c.in_ok-entries.ensures in
+    let T : RankedTriples = entry_triples n c.in_ok-entries.entries.items in
+    let listed : ListsTriplesBefore A.labels n S ranks S.places 0 T = listed_here A n c.labels-labels.result S c.deref.result.now ranks T c.labels-labels.ensures.count c.deref.ensures.value c.in_ok-entries.ensures in
     left_over A c.args.places.now n c.word_count.result c.args.first.now c.in_ok-board.board S ranks T c.requires.from c.requires.valid c.requires.places is c.requires.equal c.requires.first c.in_ok-board.ensures.places c.in_ok-board.ensures.states c.in_ok-board.ensures.pairs c.in_ok-ranks.ensures listed
 
 pub invariant_of-result : goal.invariant_of-result
@@ -72,8 +72,8 @@ invariant_of-result c =
     let is : c.word_count.result ≡ A.labels ^ (n - 1) = c.word_count.ensures ∙ ap (λ (l : ℕ). l ^ (n - 1)) c.labels-labels.ensures.count in
     let S = c.play.new.board in
     let ranks = c.in_ok-ranks.ranks.items in
-    let T : RankedTriples = triples_of n c.in_ok-entries.entries.items in
-    let listed : AreListed A.labels n S ranks S.places 0 T = listed_here A n c.labels-labels.result S c.deref.result.now ranks T c.labels-labels.ensures.count c.deref.ensures.value c.in_ok-entries.ensures in
+    let T : RankedTriples = entry_triples n c.in_ok-entries.entries.items in
+    let listed : ListsTriplesBefore A.labels n S ranks S.places 0 T = listed_here A n c.labels-labels.result S c.deref.result.now ranks T c.labels-labels.ensures.count c.deref.ensures.value c.in_ok-entries.ensures in
     let all = left_over A c.args.places.now n c.word_count.result c.args.first.now c.in_ok-board.board S ranks T c.requires.from c.requires.valid c.requires.places is c.requires.equal c.requires.first c.in_ok-board.ensures.places c.in_ok-board.ensures.states c.in_ok-board.ensures.pairs c.in_ok-ranks.ensures listed in
     record {
       letters_from = c.requires.from;
@@ -89,8 +89,8 @@ returns-clause-valid c =
     let is : c.word_count.result ≡ A.labels ^ (n - 1) = c.word_count.ensures ∙ ap (λ (l : ℕ). l ^ (n - 1)) c.labels-labels.ensures.count in
     let S = c.play.new.board in
     let ranks = c.in_ok-ranks.ranks.items in
-    let T : RankedTriples = triples_of n c.in_ok-entries.entries.items in
-    let listed : AreListed A.labels n S ranks S.places 0 T = listed_here A n c.labels-labels.result S c.deref.result.now ranks T c.labels-labels.ensures.count c.deref.ensures.value c.in_ok-entries.ensures in
+    let T : RankedTriples = entry_triples n c.in_ok-entries.entries.items in
+    let listed : ListsTriplesBefore A.labels n S ranks S.places 0 T = listed_here A n c.labels-labels.result S c.deref.result.now ranks T c.labels-labels.ensures.count c.deref.ensures.value c.in_ok-entries.ensures in
     let all = left_over A c.args.places.now n c.word_count.result c.args.first.now c.in_ok-board.board S ranks T c.requires.from c.requires.valid c.requires.places is c.requires.equal c.requires.first c.in_ok-board.ensures.places c.in_ok-board.ensures.states c.in_ok-board.ensures.pairs c.in_ok-ranks.ensures listed in
     record {
       letters_from = c.requires.from;

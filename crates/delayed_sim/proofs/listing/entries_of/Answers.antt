@@ -1,7 +1,7 @@
 use Rattle.std.proofs.Common.{◌≡◌, [], ℕ, ◌-◌, ◌*◌, ◌/◌, ◌%◌, ◌^◌, ◌<◌, sym, ap, ◌∙◌, subst, arith}
 use Rattle.std.proofs.lemmas.Nat.{mod_below}
-use Rattle.delayed_sim.specs.Stored.{triples_of}
-use Rattle.delayed_sim.specs.Words.{digits, AreListed}
+use Rattle.delayed_sim.specs.Stored.{entry_triples}
+use Rattle.delayed_sim.specs.Words.{digits, ListsTriplesBefore}
 use Rattle.delayed_sim.proofs.ListLemmas.{listed_none}
 use Rattle.delayed_sim.proofs.PlaceLemmas.{words_some}
 use Rattle.delayed_sim.proofs.listing.entries_of.Goals as goal
@@ -9,7 +9,7 @@ use Rattle.delayed_sim.proofs.listing.entries_of.Goals as goal
 pub loop-x-init : goal.loop-x-init
 loop-x-init c =
     let none : c.in_ok-entries.entries.items ≡ [] = c.in_ok-entries.ensures.items in
-    subst (λ l. AreListed c.args.labels c.args.letters c.args.board.now c.args.ranks.now 0 0 (triples_of c.args.letters l)) (sym none) (listed_none c.args.labels c.args.letters c.args.board.now c.args.ranks.now)
+    subst (λ l. ListsTriplesBefore c.args.labels c.args.letters c.args.board.now c.args.ranks.now 0 0 (entry_triples c.args.letters l)) (sym none) (listed_none c.args.labels c.args.letters c.args.board.now c.args.ranks.now)
 
 pub letters_of-ahead-requires-clause-below : goal.letters_of-ahead-requires-clause-below
 letters_of-ahead-requires-clause-below c =
@@ -33,4 +33,4 @@ loop-x-preserved c = c.in_ok-push_row.ensures
 pub returns : goal.returns
 returns c =
     let all : c.loop-x.x ≡ c.args.board.now.places = omega (arith, c.loop-x-test.false, c.loop-x.auto.x-end, c.places-x-end.ensures.count) in
-    subst (λ i. AreListed c.args.labels c.args.letters c.args.board.now c.args.ranks.now i 0 (triples_of c.args.letters c.loop-x.entries.items)) all c.loop-x.invariant
+    subst (λ i. ListsTriplesBefore c.args.labels c.args.letters c.args.board.now c.args.ranks.now i 0 (entry_triples c.args.letters c.loop-x.entries.items)) all c.loop-x.invariant

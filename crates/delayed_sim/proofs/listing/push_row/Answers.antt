@@ -1,8 +1,8 @@
 use Rattle.std.proofs.Common.{rules, ◌≡◌, ℕ, ◌+◌, ◌*◌, get_or, refl, sym, ap, ◌∙◌, subst, arith}
 use Rattle.delayed_sim.specs.declared.entries.Entry.{Entry}
 use Rattle.delayed_sim.specs.Levels.{rank_of, rank_at}
-use Rattle.delayed_sim.specs.Stored.{triples_of}
-use Rattle.delayed_sim.specs.Words.{AreListed}
+use Rattle.delayed_sim.specs.Stored.{entry_triples}
+use Rattle.delayed_sim.specs.Words.{ListsTriplesBefore}
 use Rattle.delayed_sim.proofs.ListLemmas.{entry_here, listed_push, listed_row}
 use Rattle.delayed_sim.proofs.SettleLemmas.{pair_below}
 use Rattle.delayed_sim.proofs.listing.push_row.Goals as goal
@@ -39,11 +39,11 @@ loop-q-preserved c =
     let e : Entry = record { left = c.args.left; ahead = c.args.ahead; right = q; rank = c.rank_of-rank.result } in
     let rank : c.rank_of-rank.result ≡ rank_at ranks R.states x q = c.rank_of-rank.ensures ∙ ap (λ i. rank_of (get_or ranks i 0)) at in
     let here = entry_here labels n R.states ranks x q e c.requires.state c.requires.word refl rank in (
-      subst (λ l. AreListed labels n R ranks x (q + 1) (triples_of n l)) (sym c.in_ok-push.ensures.items)
+      subst (λ l. ListsTriplesBefore labels n R ranks x (q + 1) (entry_triples n l)) (sym c.in_ok-push.ensures.items)
           (listed_push labels n R ranks x c.loop-q.at q c.row.result.now c.loop-q.entries.items e c.requires.from c.requires.words c.requires.valid c.loop-q.invariant.0 c.row.ensures.bits c.in-Some.ensures.found here),
       omega arith,
     )
 
 pub returns : goal.returns
 returns c =
-    listed_row c.args.labels c.args.letters c.args.board.now c.args.ranks.now c.requires.from c.requires.words c.requires.valid c.args.x c.loop-q.at c.row.result.now (triples_of c.args.letters c.loop-q.entries.items) c.loop-q.invariant.0 c.row.ensures.bits c.in_default.ensures.none
+    listed_row c.args.labels c.args.letters c.args.board.now c.args.ranks.now c.requires.from c.requires.words c.requires.valid c.args.x c.loop-q.at c.row.result.now (entry_triples c.args.letters c.loop-q.entries.items) c.loop-q.invariant.0 c.row.ensures.bits c.in_default.ensures.none

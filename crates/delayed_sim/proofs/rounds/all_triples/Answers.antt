@@ -1,7 +1,7 @@
 use Rattle.std.proofs.Common.{rules, ◌≡◌, [], ℕ, ◌+◌, ◌-◌, ◌*◌, ◌/◌, ◌%◌, ◌^◌, ◌<◌, None, refl, sym, ap, ◌∙◌, subst, arith}
 use Rattle.auto_core.specs.Delayed.{AreAnnounced}
 use Rattle.delayed_sim.specs.declared.entries.Entry.{Entry}
-use Rattle.delayed_sim.specs.Stored.{triples_of}
+use Rattle.delayed_sim.specs.Stored.{entry_triples}
 use Rattle.delayed_sim.proofs.EntryLemmas.{valid_stored}
 use Rattle.delayed_sim.proofs.FullLemmas.{IsFull, full_none, full_push, full_order, full_range, full_all}
 use Rattle.delayed_sim.proofs.rounds.all_triples.Goals as goal
@@ -9,7 +9,7 @@ use Rattle.delayed_sim.proofs.rounds.all_triples.Goals as goal
 pub loop-number-init : goal.loop-number-init
 loop-number-init c =
     let none : c.new-entries.result.items ≡ [] = search rules in
-    subst (λ l. IsFull c.labels-labels.result c.args.letters c.states-states.result 0 (triples_of c.args.letters l)) (sym none) (full_none c.labels-labels.result c.args.letters c.states-states.result)
+    subst (λ l. IsFull c.labels-labels.result c.args.letters c.states-states.result 0 (entry_triples c.args.letters l)) (sym none) (full_none c.labels-labels.result c.args.letters c.states-states.result)
 
 pub loop-number-preserved : goal.loop-number-preserved
 loop-number-preserved c =
@@ -19,7 +19,7 @@ loop-number-preserved c =
     let i : ℕ = c.loop-number.number in
     let words : ℕ = c.word_count-words.result in
     let e : Entry = record { left = i / states / words; ahead = c.letters_of.result; right = i % states; rank = None } in
-    subst (λ l. IsFull labels n states (i + 1) (triples_of n l)) (sym c.in_ok-push.ensures.items)
+    subst (λ l. IsFull labels n states (i + 1) (entry_triples n l)) (sym c.in_ok-push.ensures.items)
     (full_push labels n states i words c.loop-number.entries.items e c.loop-number.invariant c.word_count-words.ensures refl c.letters_of.ensures refl refl)
 
 pub invariant_of-result : goal.invariant_of-result
@@ -29,7 +29,7 @@ invariant_of-result c =
     let states : ℕ = c.states-states.result in
     let number : ℕ = c.loop-number.number in
     let words : ℕ = c.word_count-words.result in
-    let T = triples_of n c.loop-number.entries.items in
+    let T = entry_triples n c.loop-number.entries.items in
     let end : number ≡ states * words * states = omega (arith, c.loop-number-test.false, c.loop-number.auto.number-end) in
     let all : number ≡ states * labels ^ (n - 1) * states = end ∙ ap (λ w. states * w * states) c.word_count-words.ensures in
     let positive : 0 < states = omega (arith, c.states-states.ensures.valid.initial_is_state, c.states-states.ensures.count) in
@@ -50,7 +50,7 @@ returns-clause-all c = λ b p q announced p_in q_in.
     let states : ℕ = c.states-states.result in
     let number : ℕ = c.loop-number.number in
     let words : ℕ = c.word_count-words.result in
-    let T = triples_of n c.loop-number.entries.items in
+    let T = entry_triples n c.loop-number.entries.items in
     let end : number ≡ states * words * states = omega (arith, c.loop-number-test.false, c.loop-number.auto.number-end) in
     let all : number ≡ states * labels ^ (n - 1) * states = end ∙ ap (λ w. states * w * states) c.word_count-words.ensures in
     let positive : 0 < states = omega (arith, c.states-states.ensures.valid.initial_is_state, c.states-states.ensures.count) in

@@ -8,7 +8,7 @@ use Rattle.auto_core.proofs.MoveLemmas.{moves_in_incoming, incoming_moves, move_
 use Rattle.delayed_sim.specs.Pairings.{Pairing}
 use Rattle.delayed_sim.proofs.BoardLemmas.{no_more_pairs}
 use Rattle.delayed_sim.specs.Before.{LeadsTo}
-use Rattle.delayed_sim.specs.Settling.{IsAnsweredIn, IsAnsweredInto, IsFiltered, IsUnderWay, Tries}
+use Rattle.delayed_sim.specs.Settling.{IsAnsweredIn, IsAnsweredInto, IsFiltered, IsPlaceUnderWay, Tries}
 use Rattle.delayed_sim.proofs.BeforeLemmas.{row_leads}
 use Rattle.delayed_sim.proofs.SettleLemmas.{HasAnswered, answered_more, filter_shrinks, tries_none, tries_more, tries_same, under_way_stays}
 use Rattle.delayed_sim.proofs.settling.try_into.Goals as goal
@@ -90,7 +90,7 @@ loop-i-preserved c =
     let f : IsFiltered R S p (λ q. HasBit row q) b = subst (λ x. IsFiltered R S x (λ q. HasBit row q) b) source c.keep_in_row.ensures in
     let within : (r s : ℕ) → Holds S.pairs r s → Holds R.pairs r s = λ r s k. ((f.pairs r s).0 k).0 in
     let shrinks = filter_shrinks L A R S p a to row ends b move h.1.inside leads f in
-    let All : List ℕ → Bool → Type 0 = λ m any. Tries L A old S c.args.marks.now m any × IsUnderWay L A to ends S m × HasAnswered L A to ns S m (i + 1) in
+    let All : List ℕ → Bool → Type 0 = λ m any. Tries L A old S c.args.marks.now m any × IsPlaceUnderWay L A to ends S m × HasAnswered L A to ns S m (i + 1) in
     elim c.if-keep_in_row.branch [
       | then-keep_in_row w ↦
           let marks' = w.set_bit.new.row in

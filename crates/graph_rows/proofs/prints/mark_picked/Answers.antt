@@ -3,7 +3,7 @@ use Rattle.auto_core.specs.Rows.{HasBit, bit_of}
 use Rattle.auto_core.specs.Game.{Holds}
 use Rattle.auto_core.specs.Graph.{Graph}
 use Rattle.graph_rows.specs.Block.{block_graph}
-use Rattle.graph_rows.specs.Prints.{is_past, pairs_of, picked_source, picked_target}
+use Rattle.graph_rows.specs.Prints.{is_past, joined_pairs, picked_source, picked_target}
 use Rattle.graph_rows.proofs.PrintLemmas.{own_more, rest_kept, rest_set, unmarked}
 use Rattle.graph_rows.proofs.prints.mark_picked.Goals as goal
 use Rattle.graph_rows.proofs.prints.mark_picked.Goals.{then-has_picked, else-has_picked, then-answers_picked, else-answers_picked}
@@ -21,8 +21,8 @@ loop-j-preserved c =
     let n : ℕ = c.args.order.now.size in
     let g : Graph = block_graph n c.args.g.now in
     let j : ℕ = c.loop-j.j in
-    let P : ℕ → Type 0 = λ i. pairs_of g (is_past i) (picked_source n i) (picked_target n i) in
-    let Q : ℕ → Type 0 = λ i. (u : ℕ) → pairs_of g (is_past i) (picked_source n i) u → Holds c.args.order.now.pairs (picked_target n i) u → ⊥ in
+    let P : ℕ → Type 0 = λ i. joined_pairs g (is_past i) (picked_source n i) (picked_target n i) in
+    let Q : ℕ → Type 0 = λ i. (u : ℕ) → joined_pairs g (is_past i) (picked_source n i) u → Holds c.args.order.now.pairs (picked_target n i) u → ⊥ in
     let own : (i : ℕ) → HasBit c.if-has_picked.own i → P i =
     elim c.if-has_picked.branch [
       | then-has_picked w ↦

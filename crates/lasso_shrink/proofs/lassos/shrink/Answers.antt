@@ -2,7 +2,7 @@ use Rattle.std.proofs.Common.{◌≡◌, ◌+◌, ℕ, List, suc, sym, ap₂, �
 use Rattle.std.proofs.lemmas.Option.{MatchOption-at_some}
 use Rattle.lasso_shrink.specs.Shrinking.{LassoLeavesOne, LassoNeedsEach, LassoSeparates, letters_of, lasso_without}
 use Rattle.auto_core.specs.declared.parts.Lasso.{Lasso}
-use Rattle.lasso_shrink.specs.Prefixes.{HasLeftOut}
+use Rattle.lasso_shrink.specs.Prefixes.{PrefixIsShrunk}
 use Rattle.lasso_shrink.proofs.PrefixLemmas.{out_join, leaves_fewer}
 use Rattle.lasso_shrink.proofs.lassos.shrink.Goals as goal
 
@@ -52,7 +52,7 @@ loop-next-init c =
     let B = c.args.second.now in
     let F : List ℕ → List ℕ → Lasso = λ u v. record { prefix = u; turn = v } in
     let same : F c.in_ok-prefix.prefix c.in_ok-turn.turn ≡ c.args.lasso.now = ap₂ F (c.in_ok-prefix.ensures ∙ c.as_slice.ensures) (c.in_ok-turn.ensures ∙ c.as_slice-2.ensures) in
-    let start : HasLeftOut A B c.args.lasso.now c.in_ok-current.current = subst (λ x. HasLeftOut A B x c.in_ok-current.current) same c.in_ok-current.ensures in
+    let start : PrefixIsShrunk A B c.args.lasso.now c.in_ok-current.current = subst (λ x. PrefixIsShrunk A B x c.in_ok-current.current) same c.in_ok-current.ensures in
     record { left_out = (start.letters, start.left_out); separates = start.separates; tails = c.in_ok-next.ensures.tails; other_tails = c.in_ok-next.ensures.other_tails; told = c.in_ok-next.ensures.left }
 
 pub shorter-requires-clause-tails : goal.shorter-requires-clause-tails

@@ -8,6 +8,6 @@ returns g c = λ e T below stable held.
     let ok = g.S.Side.keeps c.args.side.now c.args.automaton.now in
     let k = c.args.look in
     let n = c.args.automaton.now.states in
-    let all = matching_has_stable M ok k n c.in_ok-rel.rel c.in_ok-rel.ensures in
-    let after = has_stable_after M ok k n c.in_ok-rel.rel c.play_on.new.rel all c.in_ok-play_on.ensures in
+    let all = matching_has_stable M ok k n c.in_ok-all.all c.in_ok-all.ensures in
+    let after = has_stable_after M ok k n c.in_ok-all.all c.in_ok-rel.rel all c.in_ok-rel.ensures in
     iff_false c.get.ensures.told e (after.has_each T below stable c.args.pair.left c.args.pair.right held)

@@ -5,7 +5,7 @@ use Rattle.shelf_io.specs.Shelf.{FileMap}
 use Rattle.equal_batch.specs.declared.questions.Question.{Question}
 use Rattle.rabit_frame.specs.Ending.{status_of}
 use Rattle.rabit_frame.proofs.TurnLemmas.{split_at_first}
-use Rattle.rabit_cli.specs.Batch.{question_line, Calls, calls_of, MadeCalls, IsCarriedEach}
+use Rattle.rabit_cli.specs.Batch.{question_line, ShelfCounts, shelf_counts, MadeCalls, IsCarriedEach}
 use Rattle.rabit_cli.proofs.BatchLemmas.{made_calls, each_none, each_more, each_refused}
 use Rattle.rabit_cli.proofs.batching.+carry_each.Goals as goal
 
@@ -19,7 +19,7 @@ returns-in-empty g t c =
     let read : ℕ = g.H.Shelf.faults c.args.shelf.now in
     let put : ℕ = g.H.Shelf.put_faults c.args.shelf.now in
     let missed : ℕ = g.H.Shelf.missed c.args.shelf.now in
-    let calls : Calls = calls_of (g.H.Shelf.begins c.args.shelf.now) read put (g.H.Shelf.blamed c.args.shelf.now) in
+    let calls : ShelfCounts = shelf_counts (g.H.Shelf.begins c.args.shelf.now) read put (g.H.Shelf.blamed c.args.shelf.now) in
     subst (λ (qs : List Question). IsCarriedEach c.args.number qs held held 0 sent sent give give read read put put missed missed calls calls) (sym none)
     (each_none c.args.number held held sent give read put missed calls refl)
 
@@ -37,16 +37,16 @@ returns-in-Ok g t c =
     c.in-Ok.ensures.gives ∙ ap (append_known sent) (c.as_slice.ensures.value ∙ c.set_line.ensures.line ∙ ap (question_line number) (sym is)) in
     let held : Option FileMap = g.H.Shelf.held c.args.shelf.now in
     let held' : Option FileMap = g.H.Shelf.held c.carry_each.new.shelf in
-    let calls : Calls = calls_of (g.H.Shelf.begins c.args.shelf.now) (g.H.Shelf.faults c.args.shelf.now) (g.H.Shelf.put_faults c.args.shelf.now) (g.H.Shelf.blamed c.args.shelf.now) in
-    let calls1 : Calls = calls_of (g.H.Shelf.begins c.answer_one-status.new.shelf) (g.H.Shelf.faults c.answer_one-status.new.shelf) (g.H.Shelf.put_faults c.answer_one-status.new.shelf) (g.H.Shelf.blamed c.answer_one-status.new.shelf) in
+    let calls : ShelfCounts = shelf_counts (g.H.Shelf.begins c.args.shelf.now) (g.H.Shelf.faults c.args.shelf.now) (g.H.Shelf.put_faults c.args.shelf.now) (g.H.Shelf.blamed c.args.shelf.now) in
+    let calls1 : ShelfCounts = shelf_counts (g.H.Shelf.begins c.answer_one-status.new.shelf) (g.H.Shelf.faults c.answer_one-status.new.shelf) (g.H.Shelf.put_faults c.answer_one-status.new.shelf) (g.H.Shelf.blamed c.answer_one-status.new.shelf) in
     let made : IfSome held (λ files. MadeCalls q (status_of e) files calls calls1) =
     subst (λ s. IfSome held (λ files. MadeCalls q s files calls calls1)) (sym is)
     (made_calls q c.answer_one-status.result held calls calls1 c.answer_one-status.ensures.begun_in_turn c.answer_one-status.ensures.all_begun c.answer_one-status.ensures.read_fault c.answer_one-status.ensures.no_read_fault
     c.answer_one-status.ensures.blames c.answer_one-status.ensures.write_fault c.answer_one-status.ensures.no_write_fault) in
     let P : List Question → Type 0 = λ xs. IsCarriedEach number xs held held' c.carry_each.result sent (g.K.Sink.sent c.carry_each.new.out) (g.K.Sink.faults c.args.out.now) (g.K.Sink.faults c.carry_each.new.out) (g.H.Shelf.faults c.args.shelf.now) (g.H.Shelf.faults c.carry_each.new.shelf)
-    (g.H.Shelf.put_faults c.args.shelf.now) (g.H.Shelf.put_faults c.carry_each.new.shelf) (g.H.Shelf.missed c.args.shelf.now) (g.H.Shelf.missed c.carry_each.new.shelf) calls (calls_of (g.H.Shelf.begins c.carry_each.new.shelf) (g.H.Shelf.faults c.carry_each.new.shelf) (g.H.Shelf.put_faults c.carry_each.new.shelf) (g.H.Shelf.blamed c.carry_each.new.shelf)) in
+    (g.H.Shelf.put_faults c.args.shelf.now) (g.H.Shelf.put_faults c.carry_each.new.shelf) (g.H.Shelf.missed c.args.shelf.now) (g.H.Shelf.missed c.carry_each.new.shelf) calls (shelf_counts (g.H.Shelf.begins c.carry_each.new.shelf) (g.H.Shelf.faults c.carry_each.new.shelf) (g.H.Shelf.put_faults c.carry_each.new.shelf) (g.H.Shelf.blamed c.carry_each.new.shelf)) in
     subst P (sym split)
-    (each_more q number held (g.H.Shelf.held c.answer_one-status.new.shelf) _ _ _ _ _ _ calls calls1 e ends c.answer_one-status.ensures.missing made rest held' c.carry_each.result sent sent1 _ _ _ _ _ _ _ (calls_of (g.H.Shelf.begins c.carry_each.new.shelf) (g.H.Shelf.faults c.carry_each.new.shelf) (g.H.Shelf.put_faults c.carry_each.new.shelf) (g.H.Shelf.blamed c.carry_each.new.shelf)) sends c.in-Ok.ensures.cause.done c.carry_each.ensures)
+    (each_more q number held (g.H.Shelf.held c.answer_one-status.new.shelf) _ _ _ _ _ _ calls calls1 e ends c.answer_one-status.ensures.missing made rest held' c.carry_each.result sent sent1 _ _ _ _ _ _ _ (shelf_counts (g.H.Shelf.begins c.carry_each.new.shelf) (g.H.Shelf.faults c.carry_each.new.shelf) (g.H.Shelf.put_faults c.carry_each.new.shelf) (g.H.Shelf.blamed c.carry_each.new.shelf)) sends c.in-Ok.ensures.cause.done c.carry_each.ensures)
 
 pub returns-in-Err : goal.returns-in-Err
 returns-in-Err g t c =
@@ -63,8 +63,8 @@ returns-in-Err g t c =
     front ∙ ap (λ (b : List ℕ). append_known sent (take n b)) (c.as_slice.ensures.value ∙ c.set_line.ensures.line ∙ ap (question_line number) (sym is)) in
     let held : Option FileMap = g.H.Shelf.held c.args.shelf.now in
     let between : Option FileMap = g.H.Shelf.held c.answer_one-status.new.shelf in
-    let calls : Calls = calls_of (g.H.Shelf.begins c.args.shelf.now) (g.H.Shelf.faults c.args.shelf.now) (g.H.Shelf.put_faults c.args.shelf.now) (g.H.Shelf.blamed c.args.shelf.now) in
-    let calls1 : Calls = calls_of (g.H.Shelf.begins c.answer_one-status.new.shelf) (g.H.Shelf.faults c.answer_one-status.new.shelf) (g.H.Shelf.put_faults c.answer_one-status.new.shelf) (g.H.Shelf.blamed c.answer_one-status.new.shelf) in
+    let calls : ShelfCounts = shelf_counts (g.H.Shelf.begins c.args.shelf.now) (g.H.Shelf.faults c.args.shelf.now) (g.H.Shelf.put_faults c.args.shelf.now) (g.H.Shelf.blamed c.args.shelf.now) in
+    let calls1 : ShelfCounts = shelf_counts (g.H.Shelf.begins c.answer_one-status.new.shelf) (g.H.Shelf.faults c.answer_one-status.new.shelf) (g.H.Shelf.put_faults c.answer_one-status.new.shelf) (g.H.Shelf.blamed c.answer_one-status.new.shelf) in
     let made : IfSome held (λ files. MadeCalls q (status_of e) files calls calls1) =
     subst (λ s. IfSome held (λ files. MadeCalls q s files calls calls1)) (sym is)
     (made_calls q c.answer_one-status.result held calls calls1 c.answer_one-status.ensures.begun_in_turn c.answer_one-status.ensures.all_begun c.answer_one-status.ensures.read_fault c.answer_one-status.ensures.no_read_fault

@@ -20,16 +20,16 @@ pub returns : goal.returns
 returns c =
     let pair = c.in_ok-pair.pair in
     let (forth, one, first_text) = c.in_ok-add_finding.ensures in
-    let (back, two, second_text) = c.in_ok-add_finding-2.ensures in
-    let other : IsAnswer (exchanged pair) drill_terms back = subst (λ (p : Joined). IsAnswer p drill_terms back) c.exchanged-pair.ensures two in
+    let (converse, two, second_text) = c.in_ok-add_finding-2.ensures in
+    let other : IsAnswer (exchanged pair) drill_terms converse = subst (λ (p : Joined). IsAnswer p drill_terms converse) c.exchanged-pair.ensures two in
     λ values. (
       pair,
       forth,
-      back,
+      converse,
       record { drawn = c.in_ok-pair.ensures; first_in_second = one; second_in_first = other },
       c.saying.ensures
           ∙ ap (λ t. only_said status.Done t)
           (second_text
-          ∙ ap (λ t. (t ++ codes "second in first: ") ++ finding back.body) (first_text ∙ ap (λ t. (t ++ codes "first in second: ") ++ finding forth.body) c.in_ok-text.ensures)
-          ∙ text_by_pieces (size_line (codes "first") pair.first) (size_line (codes "second") pair.second) (codes "first in second: ") (finding forth.body) (codes "second in first: ") (finding back.body)),
+          ∙ ap (λ t. (t ++ codes "second in first: ") ++ finding converse.body) (first_text ∙ ap (λ t. (t ++ codes "first in second: ") ++ finding forth.body) c.in_ok-text.ensures)
+          ∙ text_by_pieces (size_line (codes "first") pair.first) (size_line (codes "second") pair.second) (codes "first in second: ") (finding forth.body) (codes "second in first: ") (finding converse.body)),
     )

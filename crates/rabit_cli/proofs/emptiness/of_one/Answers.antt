@@ -9,7 +9,7 @@ use Rattle.rabit_cli.proofs.emptiness.of_one.Goals as goal
 
 pub returns : goal.returns
 returns c =
-    let e = c.args.made.now in
+    let e = c.args.made_name.now in
     let cert = c.args.certificate.now in
     let m = c.args.mode in
     let bytes = c.in_ok-bytes.bytes in

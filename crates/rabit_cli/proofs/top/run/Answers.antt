@@ -2,7 +2,7 @@ use Rattle.std.proofs.Common.{◌≡◌, ◌∙◌, map, Global, Option, Some, I
 use Rattle.std.specs.String.{string_bytes}
 use Rattle.rabit_frame.proofs.EndLemmas.{both_map}
 use Rattle.rabit_words.specs.Question.{Question, Batch, question_of}
-use Rattle.rabit_cli.specs.Batch.{calls_of}
+use Rattle.rabit_cli.specs.Batch.{shelf_counts}
 use Rattle.rabit_cli.specs.Commands.{IsSingle, inputs_of, Batches, Drills}
 use Rattle.rabit_words.proofs.RangeLemmas.{question_is_proper}
 use Rattle.rabit_cli.proofs.CommandLemmas.{batch_found, batches, answers_batches, one_meaning, shows, asked_nothing, says_usage, drills, reads_none, writes_none, leaves}
@@ -43,7 +43,7 @@ returns-clause-complete g c single = let words = map (string_bytes {Z = Global})
 pub returns-clause-batch : goal.returns-clause-batch
 returns-clause-batch g c =
     let words = map (string_bytes {Z = Global}) c.args.words.now in
-    batches _ _ _ _ _ _ _ _ _ _ _ (question_of words) c.carry_out.ensures.carried _ _ (calls_of (g.H.Shelf.begins c.args.shelf.now) (g.H.Shelf.faults c.args.shelf.now) (g.H.Shelf.put_faults c.args.shelf.now) (g.H.Shelf.blamed c.args.shelf.now)) (calls_of (g.H.Shelf.begins c.carry_out.new.shelf) (g.H.Shelf.faults c.carry_out.new.shelf) (g.H.Shelf.put_faults c.carry_out.new.shelf) (g.H.Shelf.blamed c.carry_out.new.shelf)) c.carry_out.ensures.missing c.carry_out.ensures.begun_in_turn c.carry_out.ensures.blames
+    batches _ _ _ _ _ _ _ _ _ _ _ (question_of words) c.carry_out.ensures.carried _ _ (shelf_counts (g.H.Shelf.begins c.args.shelf.now) (g.H.Shelf.faults c.args.shelf.now) (g.H.Shelf.put_faults c.args.shelf.now) (g.H.Shelf.blamed c.args.shelf.now)) (shelf_counts (g.H.Shelf.begins c.carry_out.new.shelf) (g.H.Shelf.faults c.carry_out.new.shelf) (g.H.Shelf.put_faults c.carry_out.new.shelf) (g.H.Shelf.blamed c.carry_out.new.shelf)) c.carry_out.ensures.missing c.carry_out.ensures.begun_in_turn c.carry_out.ensures.blames
 
 pub returns-in-Some-clause-carried : goal.returns-in-Some-clause-carried
 returns-in-Some-clause-carried g c single =
@@ -66,8 +66,8 @@ returns-in-Some-clause-shows g c single =
     let is : question_of words ≡ Some (Batch c.in-Some.list.now) = batch_found c.question.result question c.in-Some.list.now words held batch c.question.ensures.asked in
     absurd (subst IsSingle is single)
 
-pub returns-in-Some-clause-shown : goal.returns-in-Some-clause-shown
-returns-in-Some-clause-shown g c single =
+pub returns-in-Some-clause-own_status : goal.returns-in-Some-clause-own_status
+returns-in-Some-clause-own_status g c single =
     let words = map (string_bytes {Z = Global}) c.args.words.now in
     let (question, held, batch) = c.in-Some.ensures in
     let is : question_of words ≡ Some (Batch c.in-Some.list.now) = batch_found c.question.result question c.in-Some.list.now words held batch c.question.ensures.asked in
@@ -101,8 +101,8 @@ returns-in-Some-clause-no_write_fault g c single =
     let is : question_of words ≡ Some (Batch c.in-Some.list.now) = batch_found c.question.result question c.in-Some.list.now words held batch c.question.ensures.asked in
     absurd (subst IsSingle is single)
 
-pub returns-in-Some-clause-unwritten : goal.returns-in-Some-clause-unwritten
-returns-in-Some-clause-unwritten g c single =
+pub returns-in-Some-clause-at_write_fault : goal.returns-in-Some-clause-at_write_fault
+returns-in-Some-clause-at_write_fault g c single =
     let words = map (string_bytes {Z = Global}) c.args.words.now in
     let (question, held, batch) = c.in-Some.ensures in
     let is : question_of words ≡ Some (Batch c.in-Some.list.now) = batch_found c.question.result question c.in-Some.list.now words held batch c.question.ensures.asked in
@@ -117,6 +117,20 @@ returns-in-Some-clause-writes_none g c single =
 
 pub returns-in-Some-clause-missing : goal.returns-in-Some-clause-missing
 returns-in-Some-clause-missing g c single =
+    let words = map (string_bytes {Z = Global}) c.args.words.now in
+    let (question, held, batch) = c.in-Some.ensures in
+    let is : question_of words ≡ Some (Batch c.in-Some.list.now) = batch_found c.question.result question c.in-Some.list.now words held batch c.question.ensures.asked in
+    absurd (subst IsSingle is single)
+
+pub returns-in-Some-clause-put_once : goal.returns-in-Some-clause-put_once
+returns-in-Some-clause-put_once g c single =
+    let words = map (string_bytes {Z = Global}) c.args.words.now in
+    let (question, held, batch) = c.in-Some.ensures in
+    let is : question_of words ≡ Some (Batch c.in-Some.list.now) = batch_found c.question.result question c.in-Some.list.now words held batch c.question.ensures.asked in
+    absurd (subst IsSingle is single)
+
+pub returns-in-Some-clause-given_once : goal.returns-in-Some-clause-given_once
+returns-in-Some-clause-given_once g c single =
     let words = map (string_bytes {Z = Global}) c.args.words.now in
     let (question, held, batch) = c.in-Some.ensures in
     let is : question_of words ≡ Some (Batch c.in-Some.list.now) = batch_found c.question.result question c.in-Some.list.now words held batch c.question.ensures.asked in
@@ -172,13 +186,13 @@ returns-in-Some-clause-batch g c =
     let is : question_of words ≡ Some (Batch c.in-Some.list.now) = batch_found c.question.result question c.in-Some.list.now words held batch c.question.ensures.asked in
     let P : Option Question → Type 0 = λ z. IfSome z (λ asked.
     Batches asked (g.H.Shelf.held c.args.shelf.now) (g.H.Shelf.held c.batch.new.shelf) c.batch.result (g.K.Sink.sent c.args.out.now) (g.K.Sink.sent c.batch.new.out) (g.K.Sink.faults c.args.out.now) (g.K.Sink.faults c.batch.new.out)
-    (g.H.Shelf.faults c.args.shelf.now) (g.H.Shelf.faults c.batch.new.shelf) (g.H.Shelf.put_faults c.args.shelf.now) (g.H.Shelf.put_faults c.batch.new.shelf) (g.H.Shelf.missed c.args.shelf.now) (g.H.Shelf.missed c.batch.new.shelf) (calls_of (g.H.Shelf.begins c.args.shelf.now) (g.H.Shelf.faults c.args.shelf.now) (g.H.Shelf.put_faults c.args.shelf.now) (g.H.Shelf.blamed c.args.shelf.now)) (calls_of (g.H.Shelf.begins c.batch.new.shelf) (g.H.Shelf.faults c.batch.new.shelf) (g.H.Shelf.put_faults c.batch.new.shelf) (g.H.Shelf.blamed c.batch.new.shelf))) in
+    (g.H.Shelf.faults c.args.shelf.now) (g.H.Shelf.faults c.batch.new.shelf) (g.H.Shelf.put_faults c.args.shelf.now) (g.H.Shelf.put_faults c.batch.new.shelf) (g.H.Shelf.missed c.args.shelf.now) (g.H.Shelf.missed c.batch.new.shelf) (shelf_counts (g.H.Shelf.begins c.args.shelf.now) (g.H.Shelf.faults c.args.shelf.now) (g.H.Shelf.put_faults c.args.shelf.now) (g.H.Shelf.blamed c.args.shelf.now)) (shelf_counts (g.H.Shelf.begins c.batch.new.shelf) (g.H.Shelf.faults c.batch.new.shelf) (g.H.Shelf.put_faults c.batch.new.shelf) (g.H.Shelf.blamed c.batch.new.shelf))) in
     subst P (sym is) c.batch.ensures
 
 pub returns-clause-complete_batch : goal.returns-clause-complete_batch
 returns-clause-complete_batch g c =
     let words = map (string_bytes {Z = Global}) c.args.words.now in
-    answers_batches _ _ _ _ _ _ _ _ _ _ _ (question_of words) c.carry_out.ensures.carried _ _ (calls_of (g.H.Shelf.begins c.args.shelf.now) (g.H.Shelf.faults c.args.shelf.now) (g.H.Shelf.put_faults c.args.shelf.now) (g.H.Shelf.blamed c.args.shelf.now)) (calls_of (g.H.Shelf.begins c.carry_out.new.shelf) (g.H.Shelf.faults c.carry_out.new.shelf) (g.H.Shelf.put_faults c.carry_out.new.shelf) (g.H.Shelf.blamed c.carry_out.new.shelf)) c.carry_out.ensures.missing c.carry_out.ensures.begun_in_turn c.carry_out.ensures.blames
+    answers_batches _ _ _ _ _ _ _ _ _ _ _ (question_of words) c.carry_out.ensures.carried _ _ (shelf_counts (g.H.Shelf.begins c.args.shelf.now) (g.H.Shelf.faults c.args.shelf.now) (g.H.Shelf.put_faults c.args.shelf.now) (g.H.Shelf.blamed c.args.shelf.now)) (shelf_counts (g.H.Shelf.begins c.carry_out.new.shelf) (g.H.Shelf.faults c.carry_out.new.shelf) (g.H.Shelf.put_faults c.carry_out.new.shelf) (g.H.Shelf.blamed c.carry_out.new.shelf)) c.carry_out.ensures.missing c.carry_out.ensures.begun_in_turn c.carry_out.ensures.blames
 
 pub returns-in-Some-clause-complete_batch : goal.returns-in-Some-clause-complete_batch
 returns-in-Some-clause-complete_batch g c =

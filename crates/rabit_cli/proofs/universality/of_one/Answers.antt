@@ -23,7 +23,7 @@ read_back-requires-clause-faultless c =
 
 pub returns : goal.returns
 returns c =
-    let u = c.args.made.now in
+    let u = c.args.made_name.now in
     let cert = c.args.certificate.now in
     let m = c.args.mode in
     let bytes = c.in_ok-bytes.bytes in

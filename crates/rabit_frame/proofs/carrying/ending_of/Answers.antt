@@ -3,7 +3,7 @@ use Rattle.rabit_frame.specs.Files.{Output}
 use Rattle.shelf_io.specs.Shelf.{FileMap}
 use Rattle.shelf_io.specs.Counts.{Rose}
 use Rattle.rabit_frame.specs.Reading.{AllBegun}
-use Rattle.rabit_frame.specs.Ending.{OfBoth, filed, IsCutShort}
+use Rattle.rabit_frame.specs.Ending.{OfBoth, filed, IsCutShort, PutEach, PutFront}
 use Rattle.rabit_frame.proofs.EndLemmas.{may_plain, on_error, ends_unread, ends_refused, ends_reached, ends_cut}
 use Rattle.rabit_frame.proofs.carrying.ending_of.Goals as goal
 
@@ -51,3 +51,27 @@ returns-in-Ok-put_all-clause-all_begun g c low =
       | inl stop ↦ absurd (let high = (may_plain _ _ stop).0 in omega arith)
       | inr all ↦ subst (AllBegun (g.W.Work.inputs c.args.work.now) begins) (sym w.begins_stay) all
     ]
+
+pub returns-in-Ok-put_all-clause-put_once : goal.returns-in-Ok-put_all-clause-put_once
+returns-in-Ok-put_all-clause-put_once g c =
+    let e = c.in-Ok.ensures in
+    let w = c.in-Ok-put_all.ensures in
+    let now : ℕ = g.H.Shelf.put_calls c.put_all.new.shelf in
+    let P : List Output → Type 0 = λ ps. PutEach ps (g.H.Shelf.put_calls c.reply_of.new.shelf) now in
+    let Q : ℕ → Type 0 = λ n. PutEach c.in-Ok.reply.puts n now in
+    ((e.may, e.right), subst Q e.put_calls_stay (subst P c.as_slice.ensures w.put_each))
+
+pub returns-clause-put_once : goal.returns-clause-put_once
+returns-clause-put_once g c =
+    let e = c.in-Ok.ensures in
+    let failed = λ (P : Type 0) (h : OnErr c.put_all.result P). on_error P c.put_all.result c.in-Err._failed c.in-Err.is h in
+    let now : ℕ = g.H.Shelf.put_calls c.put_all.new.shelf in
+    let P : List Output → Type 0 = λ ps. PutFront ps (g.H.Shelf.put_calls c.reply_of.new.shelf) now in
+    let Q : ℕ → Type 0 = λ n. PutFront c.in-Ok.reply.puts n now in
+    (c.in-Ok.reply, (e.may, e.right), subst Q e.put_calls_stay (subst P c.as_slice.ensures (failed _ c.put_all.ensures.put_front)))
+
+pub returns-in-Err-ReadFault-clause-put_once : goal.returns-in-Err-ReadFault-clause-put_once
+returns-in-Err-ReadFault-clause-put_once g c = c.in-Err-ReadFault.ensures.put_calls_stay
+
+pub returns-in-Err-OutOfMemory-clause-put_once : goal.returns-in-Err-OutOfMemory-clause-put_once
+returns-in-Err-OutOfMemory-clause-put_once g c = c.in-Err-OutOfMemory.ensures.put_calls_stay

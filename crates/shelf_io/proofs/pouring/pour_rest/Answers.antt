@@ -36,4 +36,5 @@ pieces-preserved g c =
       search rules,
       search rules,
       search rules,
+      search rules,
     )

@@ -15,6 +15,7 @@ invariant-pieces g l =
     × (g.H.Shelf.held l.shelf ≡ g.H.Shelf.held l.initial.shelf)
     × (g.H.Shelf.faults l.shelf ≡ g.H.Shelf.faults l.initial.shelf)
     × (g.H.Shelf.put_faults l.shelf ≡ g.H.Shelf.put_faults l.initial.shelf)
+    × (g.H.Shelf.put_calls l.shelf ≡ g.H.Shelf.put_calls l.initial.shelf)
     × (g.H.Shelf.missed l.shelf ≡ g.H.Shelf.missed l.initial.shelf)
     × (g.H.Shelf.begins l.shelf ≡ g.H.Shelf.begins l.initial.shelf)
     × (g.H.Shelf.begun l.shelf ≡ g.H.Shelf.begun l.initial.shelf)

@@ -5,7 +5,7 @@ use Rattle.auto_core.specs.Outcome.{At}
 use Rattle.auto_core.specs.declared.parts.Trans.{Trans}
 use Rattle.auto_ops.specs.declared.fault.OpFault.{OpFault}
 use Rattle.auto_ops.specs.declared.product_states.ProductState.{ProductState}
-use Rattle.auto_ops.specs.Intersection.{JointMove, joint, product_state}
+use Rattle.auto_ops.specs.Intersection.{ProductMove, product_move, product_state}
 use Rattle.auto_ops.specs.UnderWay.{IsInside, IsUnderWay}
 use Rattle.auto_ops.proofs.ProductLemmas.{beside_more, beside_too_many, inside_noted, at_noted, successors_part}
 use Rattle.auto_ops.proofs.product.Product.add_beside.Goals as goal
@@ -53,8 +53,8 @@ returns-clause-added c = λ ms under.
     let s = c.successors-span.ensures.range in
     let b : ℕ = c.successors-span.result.begin in
     let over : c.loop-at.at ≡ c.successors-span.result.end = omega (arith, s.is_range, c.loop-at.auto.at-end) in
-    let J = joint c.args.mode A B c.args.product_state c.args.step in
-    let P : List JointMove → Type 0 = λ l. IsUnderWay A B (ms ++ l) c.loop-at.self.product_states.items c.loop-at.self.transitions.items in
+    let J = product_move c.args.mode A B c.args.product_state c.args.step in
+    let P : List ProductMove → Type 0 = λ l. IsUnderWay A B (ms ++ l) c.loop-at.self.product_states.items c.loop-at.self.transitions.items in
     subst P (ap (λ n. map J (take (n - b) (drop b B.transitions))) over ∙ ap (map J) (sym (successors_part B c.args.product_state.second c.args.step.label b c.successors-span.result.end s)))
     (c.loop-at.invariant.added ms under)
 

@@ -1,7 +1,7 @@
 use Rattle.std.proofs.Common.{◌-◌, ◌++◌, List, take, drop}
 use Rattle.std.specs.List.{flat_map}
 use Rattle.auto_core.specs.Outcome.{At}
-use Rattle.auto_ops.specs.Intersection.{JointMove, moves_beside}
+use Rattle.auto_ops.specs.Intersection.{ProductMove, moves_beside}
 use Rattle.auto_ops.specs.UnderWay.{IsUnderWay, IsRoomy}
 use Rattle.auto_ops.proofs.product.Product.add_from.Given as goal
 
@@ -10,7 +10,7 @@ invariant-loop-at l = record {
   at : At l.self.product_states.items l.number l.fn.product_state;
   roomy : IsRoomy l.first l.second l.self.product_states.items l.self.transitions.items;
   added :
-      (ms : List JointMove)
+      (ms : List ProductMove)
       → IsUnderWay l.first l.second ms l.initial.self.product_states.items l.initial.self.transitions.items
       → IsUnderWay l.first l.second (ms ++ flat_map (moves_beside l.mode l.first l.second l.product_state) (take (l.at - l.initial.at) (drop l.initial.at l.first.transitions))) l.self.product_states.items l.self.transitions.items;
 }

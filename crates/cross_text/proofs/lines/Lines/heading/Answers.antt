@@ -1,22 +1,22 @@
 use Rattle.std.proofs.Common.{Err, sym, ap, subst}
 use Rattle.std.proofs.lemmas.Result.{err_from_is_err_and}
-use Rattle.cross_text.specs.Grammar.{heading_in}
+use Rattle.cross_text.specs.Grammar.{cross_heading_in}
 use Rattle.cert_value.specs.Tokens.{tokens_of}
 use Rattle.cert_text.specs.declared.faults.CertReadFault.{CertReadFault}
 use Rattle.cert_text.specs.Grammar.{next_line}
-use Rattle.cross_text.specs.Reads.{Left, Reads}
+use Rattle.cross_text.specs.Reads.{Left, ReadsOn}
 use Rattle.cross_text.proofs.ReadsLemmas.{line_ok, line_err, line_none}
 use Rattle.cross_text.proofs.lines.Lines.heading.Goals as goal
 
 pub returns-in_err-line : goal.returns-in_err-line
 returns-in_err-line c =
     let p = err_from_is_err_and c.from_residual.result c.from_residual.ensures.1 in
-    rw (p.1, p.2) (line_none heading_in c.args.self.now c.next.new.self c.in_err-line.field-0.0 c.in_err-line.ensures)
+    rw (p.1, p.2) (line_none cross_heading_in c.args.self.now c.next.new.self c.in_err-line.field-0.0 c.in_err-line.ensures)
 
 pub returns-in-Ok : goal.returns-in-Ok
-returns-in-Ok c = line_ok heading_in c.args.self.now c.next.new.self (tokens_of c.in_ok-line.line.now) tt c.in_ok-line.ensures c.in-Ok.ensures
+returns-in-Ok c = line_ok cross_heading_in c.args.self.now c.next.new.self (tokens_of c.in_ok-line.line.now) tt c.in_ok-line.ensures c.in-Ok.ensures
 
 pub returns-in-Err : goal.returns-in-Err
 returns-in-Err c =
-    let P : CertReadFault → Type 0 = λ e. Reads {A = Unit {0}} (next_line heading_in) c.args.self.now c.next.new.self (Err e) in
-    subst P (sym c.located.ensures) (line_err heading_in c.args.self.now c.next.new.self (tokens_of c.in_ok-line.line.now) c.in-Err.fault c.self.inside.number (ap (λ (l : Left). l.1) c.self.view_is) c.in_ok-line.ensures c.in-Err.ensures)
+    let P : CertReadFault → Type 0 = λ e. ReadsOn {A = Unit {0}} (next_line cross_heading_in) c.args.self.now c.next.new.self (Err e) in
+    subst P (sym c.located.ensures) (line_err cross_heading_in c.args.self.now c.next.new.self (tokens_of c.in_ok-line.line.now) c.in-Err.fault c.self.inside.number (ap (λ (l : Left). l.1) c.self.view_is) c.in_ok-line.ensures c.in-Err.ensures)

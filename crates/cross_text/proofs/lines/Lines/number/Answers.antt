@@ -5,7 +5,7 @@ use Rattle.cert_text.specs.Lines.{number_in}
 use Rattle.cert_value.specs.Tokens.{tokens_of}
 use Rattle.cert_text.specs.declared.faults.CertReadFault.{CertReadFault}
 use Rattle.cert_text.specs.Grammar.{next_line}
-use Rattle.cross_text.specs.Reads.{Left, Reads}
+use Rattle.cross_text.specs.Reads.{Left, ReadsOn}
 use Rattle.cross_text.proofs.ReadsLemmas.{line_ok, line_err, line_none}
 use Rattle.cross_text.proofs.lines.Lines.number.Goals as goal
 
@@ -19,5 +19,5 @@ returns-in-Ok c = line_ok (number_in c.args.keyword) c.args.self.now c.next.new.
 
 pub returns-in-Err : goal.returns-in-Err
 returns-in-Err c =
-    let P : CertReadFault → Type 0 = λ e. Reads {A = ℕ} (next_line (number_in c.args.keyword)) c.args.self.now c.next.new.self (Err e) in
+    let P : CertReadFault → Type 0 = λ e. ReadsOn {A = ℕ} (next_line (number_in c.args.keyword)) c.args.self.now c.next.new.self (Err e) in
     subst P (sym c.located.ensures) (line_err (number_in c.args.keyword) c.args.self.now c.next.new.self (tokens_of c.in_ok-line.line.now) c.in-Err.fault c.self.inside.number (ap (λ (l : Left). l.1) c.self.view_is) c.in_ok-line.ensures c.in-Err.ensures)

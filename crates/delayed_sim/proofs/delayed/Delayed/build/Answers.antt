@@ -4,7 +4,7 @@ use Rattle.auto_core.specs.Delayed.{AreAnnounced}
 use Rattle.delayed_sim.specs.declared.entries.Entry.{Entry}
 use Rattle.delayed_sim.specs.declared.delayed.RankedTriple.{RankedTriple}
 use Rattle.delayed_sim.specs.Rankings.{Triple, ranked_triple, AreTriplesGiven}
-use Rattle.delayed_sim.specs.Stored.{triples_of, IsPutIn}
+use Rattle.delayed_sim.specs.Stored.{entry_triples, IsPutIn}
 use Rattle.delayed_sim.proofs.BuildLemmas.{IsFilled, given, filled_none, filled_more, filled_lacks, filled_all, filled_range}
 use Rattle.delayed_sim.proofs.delayed.Delayed.build.Goals as goal
 
@@ -39,7 +39,7 @@ padded-requires c =
     omega (arith, ap (λ (l : List ℕ). length l) c.as_slice.ensures, ap (λ (x : RankedTriple). length x.ahead) same)
 
 pub loop-i-init : goal.loop-i-init
-loop-i-init c = subst (λ l. IsFilled c.args.triples.now 0 (triples_of c.args.letters l)) (sym c.in_ok-held.ensures.items) (filled_none c.args.triples.now)
+loop-i-init c = subst (λ l. IsFilled c.args.triples.now 0 (entry_triples c.args.letters l)) (sym c.in_ok-held.ensures.items) (filled_none c.args.triples.now)
 
 pub put_in-requires-clause-in_order : goal.put_in-requires-clause-in_order
 put_in-requires-clause-in_order c = c.loop-i.invariant.in_order
@@ -52,7 +52,7 @@ put_in-requires-clause-lacks c = λ rank has.
     let x = given triples i in
     let word = c.padded.result in
     let same : c.index-triples-i.result ≡ x = c.index-triples-i.is ∙ get_or_default c.args.triples.now c.loop-i.i c.index-triples-i.result (ranked_triple 0 [] 0 None) c.loop-i-test.true in
-    let T = triples_of n c.loop-i.held.items in
+    let T = entry_triples n c.loop-i.held.items in
     let announced = given_letters c.args.states c.args.labels n triples i c.requires.in_range c.loop-i-test.true in
     let letters : take (n - 1) word ≡ x.ahead = first_letters c.args.labels n x.ahead word announced (subst (λ (l : List ℕ). take (length l) word ≡ l) (c.as_slice.ensures ∙ ap (λ (y : RankedTriple). y.ahead) same) c.padded.ensures) in
     filled_lacks triples i T rank c.requires.different c.loop-i-test.true c.loop-i.invariant (subst (λ (b : List ℕ). Contains T (x.left, b, x.right, rank)) letters
@@ -75,13 +75,13 @@ loop-i-preserved c =
 pub returns-clause-triples : goal.returns-clause-triples
 returns-clause-triples c =
     let all : c.loop-i.i ≡ length c.args.triples.now = omega (arith, c.loop-i-test.false, c.loop-i.auto.i-end) in
-    filled_all c.args.triples.now c.loop-i.i (triples_of c.args.letters c.loop-i.held.items) all c.loop-i.invariant
+    filled_all c.args.triples.now c.loop-i.i (entry_triples c.args.letters c.loop-i.held.items) all c.loop-i.invariant
 
 pub invariant_of-result : goal.invariant_of-result
 invariant_of-result c =
     let n : ℕ = c.args.letters in
     let triples = c.args.triples.now in
-    let T = triples_of n c.loop-i.held.items in
+    let T = entry_triples n c.loop-i.held.items in
     let upto : c.loop-i.i ≤ length triples = omega (arith, c.loop-i.auto.i-end) in
     record {
       letters_from = c.requires.from;

@@ -3,7 +3,7 @@ use Rattle.std.specs.Prelude.{IsTrue}
 use Rattle.std.proofs.lemmas.Bool.{false≢true}
 use Rattle.auto_core.specs.Delayed.{HoldsTriple}
 use Rattle.delayed_sim.specs.Rankings.{Ranking, IsRanking}
-use Rattle.delayed_sim.specs.Stored.{triples_of}
+use Rattle.delayed_sim.specs.Stored.{entry_triples}
 use Rattle.delayed_sim.proofs.EntryLemmas.{valid_stored}
 use Rattle.delayed_sim.proofs.delayed.Delayed.relates.Goals as goal
 
@@ -16,7 +16,7 @@ returns-in-None-clause-told c =
     let P : Ranking → Type 0 = λ R. IsTrue false ↔ HoldsTriple R.triples c.args.ahead.now c.args.p c.args.q in
     subst P c.self.view_is (
       λ t. absurd (false≢true t),
-      λ h. absurd (c.in-None.ensures.none h.0 (subst (λ es. Contains (triples_of n es) (c.args.p, c.args.ahead.now, c.args.q, h.0)) (sym c.deref.ensures.value) h.1)),
+      λ h. absurd (c.in-None.ensures.none h.0 (subst (λ es. Contains (entry_triples n es) (c.args.p, c.args.ahead.now, c.args.q, h.0)) (sym c.deref.ensures.value) h.1)),
     )
 
 pub returns-in-None-clause-valid : goal.returns-in-None-clause-valid

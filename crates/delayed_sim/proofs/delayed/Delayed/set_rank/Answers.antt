@@ -4,7 +4,7 @@ use Rattle.std.proofs.lemmas.List.{get_or_default}
 use Rattle.auto_core.specs.Delayed.{RankedTriples, AreTriplesOf}
 use Rattle.delayed_sim.specs.Rankings.{Ranking, AreTriplesInOrder, triple_at}
 use Rattle.delayed_sim.specs.Rounds.{ranked_as, reranked}
-use Rattle.delayed_sim.specs.Stored.{triple_of, triples_of, no_entry}
+use Rattle.delayed_sim.specs.Stored.{triple_of, entry_triples, no_entry}
 use Rattle.delayed_sim.specs.declared.entries.Entry.{Entry}
 use Rattle.delayed_sim.proofs.EntryLemmas.{valid_stored, entry_count}
 use Rattle.delayed_sim.proofs.RoundLemmas.{triples_set, range_set, order_set}
@@ -14,7 +14,7 @@ use Rattle.delayed_sim.proofs.delayed.Delayed.set_rank.Goals as goal
 abbrev with_rank : Entry → Option ℕ → Entry
 with_rank e rank = record { left = e.left; ahead = e.ahead; right = e.right; rank = rank }
 
-reranked_entries : (n : ℕ) (entries : List Entry) (at : ℕ) (e : Entry) (o : Option ℕ) → at < length entries → e ≡ get_or entries at e → triples_of n (set entries at (with_rank e o)) ≡ set (triples_of n entries) at (ranked_as (triple_at (triples_of n entries) at) o)
+reranked_entries : (n : ℕ) (entries : List Entry) (at : ℕ) (e : Entry) (o : Option ℕ) → at < length entries → e ≡ get_or entries at e → entry_triples n (set entries at (with_rank e o)) ≡ set (entry_triples n entries) at (ranked_as (triple_at (entry_triples n entries) at) o)
 reranked_entries n entries at e o at_in is =
     triples_set n entries at (with_rank e o) o at_in (ap (λ (x : Entry). ranked_as (triple_of n x) o) (is ∙ get_or_default entries at e no_entry at_in))
 
@@ -25,7 +25,7 @@ invariant_of-self c =
     let o : Option ℕ = c.args.rank in
     let entries : List Entry = c.self.inside.entries.items in
     let e : Entry = c.index-entry.result.now in
-    let T = triples_of n entries in
+    let T = entry_triples n entries in
     let at_in : at < length T = subst (λ (R : Ranking). at < length R.triples) (sym c.self.view_is) c.requires in
     let is = reranked_entries n entries at e o (omega (arith, entry_count n entries)) c.index-entry.ensures in
     record {
@@ -42,7 +42,7 @@ returns-clause-ranked c =
     let o : Option ℕ = c.args.rank in
     let entries : List Entry = c.self.inside.entries.items in
     let e : Entry = c.index-entry.result.now in
-    let T = triples_of n entries in
+    let T = entry_triples n entries in
     let at_in : at < length T = subst (λ (R : Ranking). at < length R.triples) (sym c.self.view_is) c.requires in
     let is = reranked_entries n entries at e o (omega (arith, entry_count n entries)) c.index-entry.ensures in
     let ranking : RankedTriples → Ranking = λ X. record { size = c.self.inside.states; labels = c.self.inside.labels; letters = n; triples = X } in

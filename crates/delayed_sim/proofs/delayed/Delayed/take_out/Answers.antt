@@ -3,7 +3,7 @@ use Rattle.std.specs.List.{remove}
 use Rattle.auto_core.specs.Delayed.{RankedTriples, AreTriplesOf}
 use Rattle.delayed_sim.specs.Rankings.{Ranking, AreTriplesInOrder}
 use Rattle.delayed_sim.specs.Rounds.{without}
-use Rattle.delayed_sim.specs.Stored.{triples_of}
+use Rattle.delayed_sim.specs.Stored.{entry_triples}
 use Rattle.delayed_sim.proofs.EntryLemmas.{valid_stored}
 use Rattle.delayed_sim.proofs.RoundLemmas.{triples_remove, range_without, order_without}
 use Rattle.delayed_sim.proofs.delayed.Delayed.take_out.Goals as goal
@@ -12,9 +12,9 @@ pub invariant_of-self : goal.invariant_of-self
 invariant_of-self c =
     let n : ℕ = c.self.inside.letters in
     let at : ℕ = c.args.at in
-    let T = triples_of n c.self.inside.entries.items in
+    let T = entry_triples n c.self.inside.entries.items in
     let at_in : at < length T = subst (λ (R : Ranking). at < length R.triples) (sym c.self.view_is) c.requires in
-    let is : triples_of n c.remove.new.self.items ≡ remove T at = ap (triples_of n) c.remove.ensures.items ∙ triples_remove n c.self.inside.entries.items at in
+    let is : entry_triples n c.remove.new.self.items ≡ remove T at = ap (entry_triples n) c.remove.ensures.items ∙ triples_remove n c.self.inside.entries.items at in
     record {
       letters_from = c.self.invariant.letters_from;
       letters_upto = c.self.invariant.letters_upto;
@@ -26,8 +26,8 @@ pub returns-clause-left : goal.returns-clause-left
 returns-clause-left c =
     let n : ℕ = c.self.inside.letters in
     let at : ℕ = c.args.at in
-    let T = triples_of n c.self.inside.entries.items in
-    let is : triples_of n c.remove.new.self.items ≡ remove T at = ap (triples_of n) c.remove.ensures.items ∙ triples_remove n c.self.inside.entries.items at in
+    let T = entry_triples n c.self.inside.entries.items in
+    let is : entry_triples n c.remove.new.self.items ≡ remove T at = ap (entry_triples n) c.remove.ensures.items ∙ triples_remove n c.self.inside.entries.items at in
     let ranking : RankedTriples → Ranking = λ X. record { size = c.self.inside.states; labels = c.self.inside.labels; letters = n; triples = X } in
     ap ranking is ∙ ap (λ (R : Ranking). without R at) c.self.view_is
 

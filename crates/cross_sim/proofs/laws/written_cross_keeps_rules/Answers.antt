@@ -1,5 +1,0 @@
-use Rattle.cross_sim.proofs.WrittenLemmas.{written_cross_keeps_rules as law}
-use Rattle.cross_sim.proofs.laws.written_cross_keeps_rules.Goals as goal
-
-pub returns : goal.returns
-returns c = law

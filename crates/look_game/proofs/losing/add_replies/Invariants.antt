@@ -1,5 +1,0 @@
-use Rattle.std.proofs.Common.{◌<◌, All}
-use Rattle.look_game.proofs.losing.add_replies.Given as goal
-
-abbrev pub invariant-loop-at : goal.invariant-loop-at
-invariant-loop-at g l = All (λ r. r < l.automaton.states) l.replies.items

@@ -1,5 +1,0 @@
-use Rattle.std.proofs.Common.{◌<◌, All}
-use Rattle.look_game.proofs.losing.replies_to.Given as goal
-
-abbrev pub invariant-loop-q : goal.invariant-loop-q
-invariant-loop-q g l = All (λ r. r < l.automaton.states) l.replies.items
