@@ -9,3 +9,4 @@ pub mod ColumnLemmas
 pub mod LaneLemmas
 pub mod BoundLemmas
 pub mod KnownLemmas
+pub mod ListedLemmas

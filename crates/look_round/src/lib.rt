@@ -4,6 +4,7 @@
 mod bounding;
 mod kinds;
 mod known;
+mod listed;
 mod moves;
 mod replies;
 mod round;

@@ -21,7 +21,8 @@ pub fn clear_table_row(table: &mut [u64], width: usize, row: usize)
     }
 }
 
-fn is_reply<S: Side>(side: &S, automaton: &Auto, step: Move, reply: Move) -> bool
+/// Tells whether the reply answers the step: it has the step's letter, and its state matches the step's.
+pub fn is_reply<S: Side>(side: &S, automaton: &Auto, step: Move, reply: Move) -> bool
     requires step { step.to < automaton.now.states }
     requires reply { reply.to < automaton.now.states }
     ensures { IsTrue result ↔ ((reply.label ≡ step.label) × S.keeps side.now automaton.now step.to reply.to) }
@@ -34,7 +35,7 @@ fn is_reply<S: Side>(side: &S, automaton: &Auto, step: Move, reply: Move) -> boo
 }
 
 /// Tells whether `from` answers the step by a state of the row.
-fn has_reply_in<S: Side>(side: &S, automaton: &Auto, from: u32, step: Move, row: &[u64]) -> bool
+pub fn has_reply_in<S: Side>(side: &S, automaton: &Auto, from: u32, step: Move, row: &[u64]) -> bool
     requires from { from < automaton.now.states }
     requires step { step.to < automaton.now.states }
     requires row { length row.now ≡ (automaton.now.states + 63) / 64 }

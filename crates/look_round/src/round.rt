@@ -7,6 +7,7 @@ ghost use Rattle.look_round.specs.Known.{AreKnown};
 ghost use Rattle.look_round.specs.Replies.{HasReply, RoundFrom, RoundAfter, HasRows, KeepsRows};
 
 use crate::known::{is_known, note};
+use crate::listed::{Told, told_by_lists};
 use crate::moves::Move;
 use crate::replies;
 use crate::scratch::Scratch;
@@ -204,17 +205,21 @@ pub fn round_holds<S: Side>(
         ↔ Round (S.goes side.now automaton.now) (S.goes side.now automaton.now) (S.keeps side.now automaton.now) look (Holds rel.now.pairs) p q }
     ensures scratch { scratch.new ≡ scratch.old }
 {
-    whole_round(
-        side,
-        automaton,
-        rel,
-        look,
-        p,
-        q,
-        &mut scratch.path,
-        &mut scratch.sets,
-        &mut scratch.letters,
-        &mut scratch.held,
-        &mut scratch.known,
-    )
+    match told_by_lists(scratch.alloc, side, automaton, rel, look, p, q) {
+        Told::Holds => true,
+        Told::Fails => false,
+        Told::Nothing => whole_round(
+            side,
+            automaton,
+            rel,
+            look,
+            p,
+            q,
+            &mut scratch.path,
+            &mut scratch.sets,
+            &mut scratch.letters,
+            &mut scratch.held,
+            &mut scratch.known,
+        ),
+    }
 }

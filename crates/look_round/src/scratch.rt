@@ -13,6 +13,7 @@ use std::marker::Model;
 /// Contracts see the number of states and the lookahead that it was made for.
 #[derive(Drop)]
 pub struct Scratch {
+    pub(crate) alloc: Global,
     pub(crate) states: u32,
     pub(crate) look: u32,
     pub(crate) path: SmallVec<Move, 6>,
@@ -46,6 +47,7 @@ impl Scratch {
         let held = vec![in alloc; 0; room]?;
         let known = vec![in alloc; 0; room]?;
         Ok(Scratch {
+            alloc,
             states,
             look,
             path: SmallVec::new(alloc),
