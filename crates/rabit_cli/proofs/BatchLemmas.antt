@@ -28,12 +28,12 @@ use Rattle.rabit_frame.specs.Files.{Input, Output}
 use Rattle.rabit_frame.specs.Lines.{read_line, memory_line}
 use Rattle.rabit_frame.specs.Statuses.{status_number}
 use Rattle.rabit_frame.specs.Reading.{FileReads, IsOfKind, MayStopAt, MissedInTurn, BegunInTurn, AllBegun, BlamesInTurn}
-use Rattle.rabit_frame.specs.Ending.{OfBoth, IsCutShort, Leaves, MayEnd, filed, status_of, status_unsent, WasSaid, SaysOnly}
-use Rattle.rabit_frame.specs.Carrying.{EndsSo, NoReply, IsCarriedOut, SaysEach}
+use Rattle.rabit_frame.specs.Ending.{OfBoth, IsCutShort, PutEach, Leaves, MayEnd, filed, status_of, status_unsent, WasSaid, SaysOnly}
+use Rattle.rabit_frame.specs.Carrying.{EndsSo, NoReply, IsCarriedOut, SaysEach, PutsByStatus}
 use Rattle.rabit_frame.proofs.EndLemmas.{own_number, may_plain, stop_plain, says_each, read_fault_of, read_line_of, memory_of}
 use Rattle.rabit_frame.proofs.TurnLemmas.{counts_here, begun_here}
 use Rattle.rabit_cli.specs.Include.{usual_terms, LeavesDecided}
-use Rattle.rabit_cli.specs.Batch.{AreQuestions, AnswersQuestion, ShowsQuestion, question_inputs, MeansQuestion, IsQuestionStatus, AutomataAreThere, LeavesQuestion, LeaveInTurn, question_line, question_lines, times, RoseBy, IsCarriedEach, list_file, batch_inputs, IsStatusOfNoneAsked, NoneAsked, IsBatch, ShelfCounts, shelf_counts, MadeCalls}
+use Rattle.rabit_cli.specs.Batch.{AreQuestions, AnswersQuestion, ShowsQuestion, question_inputs, MeansQuestion, IsQuestionStatus, AutomataAreThere, LeavesQuestion, LeaveInTurn, question_line, question_lines, GivenEach, times, RoseBy, IsCarriedEach, list_file, batch_inputs, IsStatusOfNoneAsked, NoneAsked, IsBatch, ShelfCounts, shelf_counts, MadeCalls}
 use Rattle.rabit_words.specs.Question.{Batch}
 use Rattle.rabit_cli.specs.Complete.{AnswersBatch}
 use Rattle.rabit_cli.specs.Laws.{QuestionsShowInTurn}
@@ -210,14 +210,16 @@ known_append (Some x) a b = ap Some (append_assoc x a b)
 
 pub made_calls : (q : Question) (status : ℕ) (held : Option FileMap) (calls calls' : ShelfCounts)
     → IfSome held (λ files. BegunInTurn files (question_inputs q) calls.begins calls'.begins) → (status ≤ 2 → AllBegun (question_inputs q) calls.begins calls'.begins)
+    → PutsByStatus (MeansQuestion q) (question_inputs q) status held calls.puts calls'.puts
     → (status ≡ 6 → Rose calls.read_faults calls'.read_faults) → (status ≢ 6 → calls'.read_faults ≡ calls.read_faults)
     → (status ≡ 6 → IfSome held (λ files. BlamesInTurn files (question_inputs q) calls'.blamed))
     → (status ≡ 7 → Rose calls.put_faults calls'.put_faults) → (status ≢ 7 → calls'.put_faults ≡ calls.put_faults)
     → IfSome held (λ files. MadeCalls q status files calls calls')
-made_calls q status None calls calls' turn all read no_read blames put no_put = tt
-made_calls q status (Some files) calls calls' turn all read no_read blames put no_put = record {
+made_calls q status None calls calls' turn all puts read no_read blames put no_put = tt
+made_calls q status (Some files) calls calls' turn all puts read no_read blames put no_put = record {
   begun_in_turn = turn;
   all_begun = all;
+  put_once = puts;
   read_fault = read;
   no_read_fault = no_read;
   blames = blames;
@@ -227,12 +229,13 @@ made_calls q status (Some files) calls calls' turn all read no_read blames put n
 
 -- ---- one question more
 
-pub each_none : (number : ℕ) (held held' : Option FileMap) (sent : Option (List ℕ)) (give read put missed : ℕ) (calls : ShelfCounts) → held' ≡ held → IsCarriedEach number [] held held' 0 sent sent give give read read put put missed missed calls calls
-each_none number held held' sent give read put missed calls stays = record {
+pub each_none : (number : ℕ) (held held' : Option FileMap) (sent : Option (List ℕ)) (give gives read put missed : ℕ) (calls : ShelfCounts) → held' ≡ held → IsCarriedEach number [] held held' 0 sent sent give give gives gives read read put put missed missed calls calls
+each_none number held held' sent give gives read put missed calls stays = record {
   statuses = [];
   within = omega arith;
   known = All-nil IsQuestionStatus;
   said = inl (refl, refl, known_nil sent, refl);
+  given_each = refl;
   in_turn = same held stays;
   read_faults_rose = rose_none read;
   put_faults_rose = rose_none put;
@@ -287,11 +290,11 @@ module _ (q : Question) (number : ℕ) (held between : Option FileMap) (read rea
           later (all_keep (MeansQuestion q) (question_inputs q) files mid e questions left (All-tail (AutomataAreThere files) q questions there))
           ∙ counts_none q files missed missed1 c (All-head (AutomataAreThere files) q questions there)
 
-  pub each_more : (questions : List Question) (held' : Option FileMap) (status : ℕ) (sent sent1 sent' : Option (List ℕ)) (give give1 give' read' put' missed' : ℕ) (calls' : ShelfCounts)
-      → sent1 ≡ append_known sent (question_line number (status_of e)) → give1 ≡ give
-      → IsCarriedEach (number + 1) questions between held' status sent1 sent' give1 give' read1 read' put1 put' missed1 missed' calls1 calls'
-      → IsCarriedEach number (q ∷ questions) held held' status sent sent' give give' read read' put put' missed missed' calls calls'
-  each_more questions held' status sent sent1 sent' give give1 give' read' put' missed' calls' sends stays rest = record {
+  pub each_more : (questions : List Question) (held' : Option FileMap) (status : ℕ) (sent sent1 sent' : Option (List ℕ)) (give give1 give' gives gives1 gives' read' put' missed' : ℕ) (calls' : ShelfCounts)
+      → sent1 ≡ append_known sent (question_line number (status_of e)) → give1 ≡ give → gives1 ≡ counted gives
+      → IsCarriedEach (number + 1) questions between held' status sent1 sent' give1 give' gives1 gives' read1 read' put1 put' missed1 missed' calls1 calls'
+      → IsCarriedEach number (q ∷ questions) held held' status sent sent' give give' gives gives' read read' put put' missed missed' calls calls'
+  each_more questions held' status sent sent1 sent' give give1 give' gives gives1 gives' read' put' missed' calls' sends stays given rest = record {
     statuses = status_of e ∷ rest.statuses;
     within = (let few = rest.within in omega arith);
     known = All-cons IsQuestionStatus (status_of e) rest.statuses (question_status q e ends.may) rest.known;
@@ -300,6 +303,7 @@ module _ (q : Question) (number : ℕ) (held between : Option FileMap) (read rea
       | inr (seven, rose, (before, last, is, (n, sends'))) ↦
           inr (seven, subst (λ g. Rose g give') stays rose, (status_of e ∷ before, last, ap (λ ss. status_of e ∷ ss) is, (n, front before last n sends')))
     ];
+    given_each = subst (λ n. GivenEach rest.statuses n gives') given rest.given_each;
     in_turn = turn_more questions rest.statuses held' calls' rest.in_turn;
     read_faults_rose = read_more rest.statuses read' rest.read_faults_rose;
     put_faults_rose = put_more rest.statuses put' rest.put_faults_rose;
@@ -317,13 +321,14 @@ module _ (q : Question) (number : ℕ) (held between : Option FileMap) (read rea
           ∙ ap (append_known sent) (sym (append_assoc (question_line number (status_of e)) (question_lines (number + 1) before) (take n (question_line (number + 1 + length before) last))))
           ∙ ap (λ m. append_known sent (question_lines number (status_of e ∷ before) ++ take n (question_line m last))) place
 
-  pub each_refused : (questions : List Question) (sent sent' : Option (List ℕ)) (give give' n : ℕ) → sent' ≡ append_known sent (take n (question_line number (status_of e))) → Rose give give'
-      → IsCarriedEach number (q ∷ questions) held between 7 sent sent' give give' read read1 put put1 missed missed1 calls calls1
-  each_refused questions sent sent' give give' n sends rose = record {
+  pub each_refused : (questions : List Question) (sent sent' : Option (List ℕ)) (give give' gives gives' n : ℕ) → sent' ≡ append_known sent (take n (question_line number (status_of e))) → Rose give give' → gives' ≡ counted gives
+      → IsCarriedEach number (q ∷ questions) held between 7 sent sent' give give' gives gives' read read1 put put1 missed missed1 calls calls1
+  each_refused questions sent sent' give give' gives gives' n sends rose given = record {
     statuses = status_of e ∷ [];
     within = omega arith;
     known = All-cons IsQuestionStatus (status_of e) [] (question_status q e ends.may) (All-nil IsQuestionStatus);
     said = inr (refl, rose, ([], status_of e, refl, (n, sends ∙ ap (λ m. append_known sent (take n (question_line m (status_of e)))) place)));
+    given_each = given;
     in_turn = turn_more questions [] between calls1 (stay between);
     read_faults_rose = read_more [] read1 (rose_none read1);
     put_faults_rose = put_more [] put1 (rose_none put1);
@@ -389,12 +394,27 @@ unread_status list held held' status sent sent' give give' read read' put put' c
       | inr (values, kinds, none) ↦ absurd none
     ]
 
+-- and nothing is put
+pub puts_none : (list : List ℕ) (status : ℕ) (held : Option FileMap) (before now : ℕ) → IsStatusOfNoneAsked status → PutsByStatus NoReply (batch_inputs list) status held before now → now ≡ before
+puts_none list status held before now known puts = elim known [
+  | inl six ↦ puts.read_fault six
+  | inr more ↦ elim more [
+    | inl eight ↦ puts.memory eight
+    | inr eleven ↦
+        let (r, (may, right), is, each) = puts.own (λ z. omega arith, λ z. omega arith, λ z. omega arith) in
+        elim may [
+          | inl stop ↦ subst (λ ps. PutEach ps before now) (may_plain (batch_inputs list) r stop).1 each
+          | inr (values, kinds, none) ↦ absurd none
+        ]
+  ]
+]
+
 -- ---- what the status of a batch says
 
-module _ (list : List ℕ) (held held' : Option FileMap) (status : ℕ) (sent sent' : Option (List ℕ)) (give give' read read' put put' missed missed' : ℕ) (calls calls' : ShelfCounts)
-    (is : IsBatch list held held' status sent sent' give give' read read' put put' missed missed' calls calls') where
+module _ (list : List ℕ) (held held' : Option FileMap) (status : ℕ) (sent sent' : Option (List ℕ)) (give give' gives gives' read read' put put' missed missed' : ℕ) (calls calls' : ShelfCounts)
+    (is : IsBatch list held held' status sent sent' give give' gives gives' read read' put put' missed missed' calls calls') where
   -- unless no question was asked it is 0 or 7
-  others : (P : Type 0) → (NoneAsked list held held' status sent sent' give give' read read' put put' missed missed' calls calls' → P) → (status ≡ 0 → P) → (status ≡ 7 → Rose give give' → P) → P
+  others : (P : Type 0) → (NoneAsked list held held' status sent sent' give give' gives gives' read read' put put' missed missed' calls calls' → P) → (status ≡ 0 → P) → (status ≡ 7 → Rose give give' → P) → P
   others P unread all refused = elim is [
     | inl u ↦ unread u
     | inr asked ↦ elim asked.each.said [ inl said ↦ all said.0 | inr last ↦ refused last.0 last.1 ]
@@ -470,18 +490,20 @@ list_is_of_questions questions (bytes, is) = (is.words, is.few)
 -- ---- the whole batch
 
 -- the list is not read
-pub batch_unread : (list : List ℕ) (slot : Input) (held held' : Option FileMap) (status : ℕ) (sent sent' : Option (List ℕ)) (give give' read read' put put' missed missed' : ℕ) (calls calls' : ShelfCounts) (e : Ending)
-    → slot ≡ list_file list → EndsSo NoReply (slot ∷ []) e held held' read read' put put' → WasSaid e status sent sent' give give' → CountsMissing held slot.name missed missed' → calls'.begins ≡ counted calls.begins
+pub batch_unread : (list : List ℕ) (slot : Input) (held held' : Option FileMap) (status : ℕ) (sent sent' : Option (List ℕ)) (give give' gives gives' read read' put put' missed missed' : ℕ) (calls calls' : ShelfCounts) (e : Ending)
+    → slot ≡ list_file list → EndsSo NoReply (slot ∷ []) e held held' read read' put put' → WasSaid e status sent sent' give give' → gives' ≡ counted gives → CountsMissing held slot.name missed missed' → calls'.begins ≡ counted calls.begins → calls'.puts ≡ calls.puts
     → (e ≡ ending.ReadFault → IfSome held (λ files. IsBlamed files slot.name calls'.blamed))
-    → IsBatch list held held' status sent sent' give give' read read' put put' missed missed' calls calls'
-batch_unread list slot held held' status sent sent' give give' read read' put put' missed missed' calls calls' e is ends said counts begun blames =
+    → IsBatch list held held' status sent sent' give give' gives gives' read read' put put' missed missed' calls calls'
+batch_unread list slot held held' status sent sent' give give' gives gives' read read' put put' missed missed' calls calls' e is ends said given counts begun puts_stay blames =
     let carried : IsCarriedOut NoReply (batch_inputs list) held held' status sent sent' give give' read read' put put' =
     record { end = e; ends = subst (λ (i : Input). EndsSo NoReply (i ∷ []) e held held' read read' put put') is ends; said = said } in
     inl (record {
       carried = carried;
       known = unread_status list held held' status sent sent' give give' read read' put put' carried;
+      given_once = given;
       missing = counts_here held (list_file list) [] missed missed' (subst (λ (i : Input). CountsMissing held i.name missed missed') is counts);
       begun_in_turn = begun_here held (list_file list) [] calls.begins calls'.begins begun;
+      puts_stay = puts_stay;
       blames = λ six. here held (subst (λ (i : Input). IfSome held (λ files. IsBlamed files i.name calls'.blamed)) is (blames (six_is_unread list status sent sent' give give' e carried.ends.may said six)));
     })
   where
@@ -498,12 +520,12 @@ read_is_held files i v before now (bytes, has, few, reads) counts = counts ∙ g
     go false is = absurd (false≢true is)
 
 -- the list is read, and its questions are carried out
-pub batch_asked : (list : List ℕ) (slot : Input) (held held1 held' : Option FileMap) (status : ℕ) (sent sent' : Option (List ℕ)) (give give' read read1 read' put put1 put' missed missed1 missed' : ℕ) (calls calls1 calls' : ShelfCounts) (questions : List Question)
+pub batch_asked : (list : List ℕ) (slot : Input) (held held1 held' : Option FileMap) (status : ℕ) (sent sent' : Option (List ℕ)) (give give' gives gives' read read1 read' put put1 put' missed missed1 missed' : ℕ) (calls calls1 calls' : ShelfCounts) (questions : List Question)
     → slot ≡ list_file list → IsOfKind slot.kind (value.Questions questions) → IfSome held (λ files. FileReads files slot (value.Questions questions)) → CountsMissing held slot.name missed missed1
-    → held1 ≡ held → read1 ≡ read → put1 ≡ put → calls1.begins ≡ counted calls.begins → calls1.read_faults ≡ calls.read_faults → calls1.put_faults ≡ calls.put_faults
-    → IsCarriedEach 1 questions held1 held' status sent sent' give give' read1 read' put1 put' missed1 missed' calls1 calls'
-    → IsBatch list held held' status sent sent' give give' read read' put put' missed missed' calls calls'
-batch_asked list slot held held1 held' status sent sent' give give' read read1 read' put put1 put' missed missed1 missed' calls calls1 calls' questions is kind reads counts held_stays read_stays put_stays begun no_read no_put each =
+    → held1 ≡ held → read1 ≡ read → put1 ≡ put → calls1.begins ≡ counted calls.begins → calls1.puts ≡ calls.puts → calls1.read_faults ≡ calls.read_faults → calls1.put_faults ≡ calls.put_faults
+    → IsCarriedEach 1 questions held1 held' status sent sent' give give' gives gives' read1 read' put1 put' missed1 missed' calls1 calls'
+    → IsBatch list held held' status sent sent' give give' gives gives' read read' put put' missed missed' calls calls'
+batch_asked list slot held held1 held' status sent sent' give give' gives gives' read read1 read' put put1 put' missed missed1 missed' calls calls1 calls' questions is kind reads counts held_stays read_stays put_stays begun puts_stay no_read no_put each =
     let of = list_is_of_questions questions (subst (λ (i : Input). IsOfKind i.kind (value.Questions questions)) is kind) in
     inr (record {
       questions = questions;
@@ -516,11 +538,13 @@ batch_asked list slot held held1 held' status sent sent' give give' read read1 r
         within = each.within;
         known = each.known;
         said = each.said;
+        given_each = each.given_each;
         in_turn =
-            subst (λ n. OfBoth held held' (λ files files'. LeaveInTurn questions each.statuses files files' (shelf_counts n calls.read_faults calls.put_faults calls1.blamed) calls')) begun
-            (subst (λ n. OfBoth held held' (λ files files'. LeaveInTurn questions each.statuses files files' (shelf_counts calls1.begins n calls.put_faults calls1.blamed) calls')) no_read
-            (subst (λ n. OfBoth held held' (λ files files'. LeaveInTurn questions each.statuses files files' (shelf_counts calls1.begins calls1.read_faults n calls1.blamed) calls')) no_put
-            (subst (λ (h : Option FileMap). OfBoth h held' (λ files files'. LeaveInTurn questions each.statuses files files' calls1 calls')) held_stays each.in_turn)));
+            subst (λ n. OfBoth held held' (λ files files'. LeaveInTurn questions each.statuses files files' (shelf_counts n calls.puts calls.read_faults calls.put_faults calls1.blamed) calls')) begun
+            (subst (λ n. OfBoth held held' (λ files files'. LeaveInTurn questions each.statuses files files' (shelf_counts calls1.begins n calls.read_faults calls.put_faults calls1.blamed) calls')) puts_stay
+            (subst (λ n. OfBoth held held' (λ files files'. LeaveInTurn questions each.statuses files files' (shelf_counts calls1.begins calls1.puts n calls.put_faults calls1.blamed) calls')) no_read
+            (subst (λ n. OfBoth held held' (λ files files'. LeaveInTurn questions each.statuses files files' (shelf_counts calls1.begins calls1.puts calls1.read_faults n calls1.blamed) calls')) no_put
+            (subst (λ (h : Option FileMap). OfBoth h held' (λ files files'. LeaveInTurn questions each.statuses files files' calls1 calls')) held_stays each.in_turn))));
         read_faults_rose = subst (λ n. RoseBy (times 6 each.statuses) n read') read_stays each.read_faults_rose;
         put_faults_rose = subst (λ n. RoseBy (times 7 each.statuses) n put') put_stays each.put_faults_rose;
         read_faults_stay = λ none. each.read_faults_stay none ∙ read_stays;

@@ -18,7 +18,7 @@ use Rattle.rabit_frame.specs.Lines.{line_end}
 use Rattle.rabit_frame.specs.Statuses.{status_number}
 use Rattle.rabit_frame.specs.Reading.{FileReads, MissedInTurn, BegunInTurn, AllBegun, BlamesInTurn}
 use Rattle.rabit_frame.specs.Ending.{IsReplyFor, OfBoth, Leaves, filed, status_of}
-use Rattle.rabit_frame.specs.Carrying.{NoReply, IsCarriedOut}
+use Rattle.rabit_frame.specs.Carrying.{NoReply, IsCarriedOut, PutsByStatus}
 use Rattle.rabit_cli.specs.Include.{usual_terms, pair_inputs, MeansInclude, ShowsInclude}
 
 -- ---- one question
@@ -63,22 +63,26 @@ AreQuestions questions = list_all is_question (map line_of questions) ≡ true
 
 -- ---- one after the other
 
--- What a shelf tells of its calls: how many files were begun, how many reads and how many puts failed, and of which file a read was refused last.
+-- What a shelf tells of its calls: how many files were begun and how many put, how many reads and how many puts failed, and of which file a read was
+-- refused last.
 pub record ShelfCounts : Type 0 where
   pub begins : ℕ
+  pub puts : ℕ
   pub read_faults : ℕ
   pub put_faults : ℕ
   pub blamed : WhichFile
 
 -- These counts, and this file.
-abbrev pub shelf_counts : ℕ → ℕ → ℕ → WhichFile → ShelfCounts
-shelf_counts begins read_faults put_faults blamed = record { begins = begins; read_faults = read_faults; put_faults = put_faults; blamed = blamed }
+abbrev pub shelf_counts : ℕ → ℕ → ℕ → ℕ → WhichFile → ShelfCounts
+shelf_counts begins puts read_faults put_faults blamed = record { begins = begins; puts = puts; read_faults = read_faults; put_faults = put_faults; blamed = blamed }
 
--- The calls that a question made, which ended with this status: it began its files in turn, all of them where its status is up to 2. A read failed just
--- where that is 6, of the first file that was not read to its end, and a put just where it is 7.
+-- The calls that a question made, which ended with this status: it began its files in turn, all of them where its status is up to 2, and put those of
+-- its reply once each, up to one that was refused. A read failed just where the status is 6, of the first file that was not read to its end, and a put
+-- just where it is 7.
 pub record MadeCalls (q : Question) (status : ℕ) (files : FileMap) (calls calls' : ShelfCounts) : Type 0 where
   pub begun_in_turn : BegunInTurn files (question_inputs q) calls.begins calls'.begins
   pub all_begun : status ≤ 2 → AllBegun (question_inputs q) calls.begins calls'.begins
+  pub put_once : PutsByStatus (MeansQuestion q) (question_inputs q) status (Some files) calls.puts calls'.puts
   pub read_fault : status ≡ 6 → Rose calls.read_faults calls'.read_faults
   pub no_read_fault : status ≢ 6 → calls'.read_faults ≡ calls.read_faults
   pub blames : status ≡ 6 → BlamesInTurn files (question_inputs q) calls'.blamed
@@ -135,6 +139,11 @@ LastRefused number statuses status sent sent' give_faults give_faults' =
     × (statuses ≡ before ++ last ∷ [])
     × ((n : ℕ) × (sent' ≡ append_known sent (question_lines number before ++ take n (question_line (number + length before) last)))))
 
+-- By the count of gives: each of these statuses was given once, in a line of its own.
+abbrev pub GivenEach : List ℕ → ℕ → ℕ → Type 0
+GivenEach [] before now = now ≡ before
+GivenEach (status ∷ statuses) before now = GivenEach statuses (counted before) now
+
 -- How often the status is among these.
 abbrev pub times : ℕ → List ℕ → ℕ
 times status [] = 0
@@ -144,13 +153,14 @@ times status (one ∷ more) = if one == status then 1 + times status more else t
 abbrev pub RoseBy : ℕ → ℕ → ℕ → Type 0
 RoseBy n before now = min (before + n) (2 ^ 64 - 1) ≤ now
 
--- The questions were carried out one after the other, the first with this number, until all were or the sink refused a line.
+-- The questions were carried out one after the other, the first with this number, until all were or the sink refused a line. Each line was one give.
 -- The count of failed reads rose once at least for each status 6, and did not change where there is none; so did that of failed puts for 7.
-pub record IsCarriedEach (number : ℕ) (questions : List Question) (held held' : Option FileMap) (status : ℕ) (sent sent' : Option (List ℕ)) (give_faults give_faults' read_faults read_faults' put_faults put_faults' missed missed' : ℕ) (calls calls' : ShelfCounts) : Type 0 where
+pub record IsCarriedEach (number : ℕ) (questions : List Question) (held held' : Option FileMap) (status : ℕ) (sent sent' : Option (List ℕ)) (give_faults give_faults' gives gives' read_faults read_faults' put_faults put_faults' missed missed' : ℕ) (calls calls' : ShelfCounts) : Type 0 where
   pub statuses : List ℕ
   pub within : length statuses ≤ length questions
   pub known : All IsQuestionStatus statuses
   pub said : AllSaid number questions statuses status sent sent' give_faults give_faults' ⊎ LastRefused number statuses status sent sent' give_faults give_faults'
+  pub given_each : GivenEach statuses gives gives'
   pub in_turn : OfBoth held held' (λ files files'. LeaveInTurn questions statuses files files' calls calls')
   pub read_faults_rose : RoseBy (times 6 statuses) read_faults read_faults'
   pub put_faults_rose : RoseBy (times 7 statuses) put_faults put_faults'
@@ -172,29 +182,31 @@ batch_inputs list = list_file list ∷ []
 abbrev pub IsStatusOfNoneAsked : ℕ → Type 0
 IsStatusOfNoneAsked status = (status ≡ 6) ⊎ (status ≡ 8) ⊎ (status ≡ 11)
 
--- No question was carried out, and why was said.
-pub record NoneAsked (list : List ℕ) (held held' : Option FileMap) (status : ℕ) (sent sent' : Option (List ℕ)) (give_faults give_faults' read_faults read_faults' put_faults put_faults' missed missed' : ℕ) (calls calls' : ShelfCounts) : Type 0 where
+-- No question was carried out, and why was said, in one give. Nothing was put.
+pub record NoneAsked (list : List ℕ) (held held' : Option FileMap) (status : ℕ) (sent sent' : Option (List ℕ)) (give_faults give_faults' gives gives' read_faults read_faults' put_faults put_faults' missed missed' : ℕ) (calls calls' : ShelfCounts) : Type 0 where
   pub carried : IsCarriedOut NoReply (batch_inputs list) held held' status sent sent' give_faults give_faults' read_faults read_faults' put_faults put_faults'
   pub known : IsStatusOfNoneAsked status
+  pub given_once : gives' ≡ counted gives
   pub missing : IfSome held (λ files. MissedInTurn files (batch_inputs list) missed missed')
   pub begun_in_turn : IfSome held (λ files. BegunInTurn files (batch_inputs list) calls.begins calls'.begins)
+  pub puts_stay : calls'.puts ≡ calls.puts
   pub blames : status ≡ 6 → IfSome held (λ files. BlamesInTurn files (batch_inputs list) calls'.blamed)
 
 -- The calls once one more file was begun and read; which file a read was refused of before is not told.
 abbrev pub after_reading : ShelfCounts → WhichFile → ShelfCounts
-after_reading calls blamed = shelf_counts (counted calls.begins) calls.read_faults calls.put_faults blamed
+after_reading calls blamed = shelf_counts (counted calls.begins) calls.puts calls.read_faults calls.put_faults blamed
 
 -- The list, the first file begun, was read, and its questions were carried out from the first on.
-pub record AreAsked (list : List ℕ) (held held' : Option FileMap) (status : ℕ) (sent sent' : Option (List ℕ)) (give_faults give_faults' read_faults read_faults' put_faults put_faults' missed missed' : ℕ) (calls calls' : ShelfCounts) : Type 0 where
+pub record AreAsked (list : List ℕ) (held held' : Option FileMap) (status : ℕ) (sent sent' : Option (List ℕ)) (give_faults give_faults' gives gives' read_faults read_faults' put_faults put_faults' missed missed' : ℕ) (calls calls' : ShelfCounts) : Type 0 where
   pub questions : List Question
   pub words : AreQuestions questions
   pub few : length questions ≤ 1000
   pub read : IfSome held (λ files. FileReads files (list_file list) (value.Questions questions))
   pub blamed : WhichFile
-  pub each : IsCarriedEach 1 questions held held' status sent sent' give_faults give_faults' read_faults read_faults' put_faults put_faults' missed missed' (after_reading calls blamed) calls'
+  pub each : IsCarriedEach 1 questions held held' status sent sent' give_faults give_faults' gives gives' read_faults read_faults' put_faults put_faults' missed missed' (after_reading calls blamed) calls'
 
 -- How a batch goes.
-abbrev pub IsBatch : List ℕ → Option FileMap → Option FileMap → ℕ → Option (List ℕ) → Option (List ℕ) → ℕ → ℕ → ℕ → ℕ → ℕ → ℕ → ℕ → ℕ → ShelfCounts → ShelfCounts → Type 0
-IsBatch list held held' status sent sent' give_faults give_faults' read_faults read_faults' put_faults put_faults' missed missed' calls calls' =
-    NoneAsked list held held' status sent sent' give_faults give_faults' read_faults read_faults' put_faults put_faults' missed missed' calls calls'
-    ⊎ AreAsked list held held' status sent sent' give_faults give_faults' read_faults read_faults' put_faults put_faults' missed missed' calls calls'
+abbrev pub IsBatch : List ℕ → Option FileMap → Option FileMap → ℕ → Option (List ℕ) → Option (List ℕ) → ℕ → ℕ → ℕ → ℕ → ℕ → ℕ → ℕ → ℕ → ℕ → ℕ → ShelfCounts → ShelfCounts → Type 0
+IsBatch list held held' status sent sent' give_faults give_faults' gives gives' read_faults read_faults' put_faults put_faults' missed missed' calls calls' =
+    NoneAsked list held held' status sent sent' give_faults give_faults' gives gives' read_faults read_faults' put_faults put_faults' missed missed' calls calls'
+    ⊎ AreAsked list held held' status sent sent' give_faults give_faults' gives gives' read_faults read_faults' put_faults put_faults' missed missed' calls calls'

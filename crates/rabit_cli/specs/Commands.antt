@@ -96,10 +96,10 @@ Shows (Some (Universal a u c mode)) status files files' sent sent' = ShowsProper
 Shows None status files files' sent sent' = ⊥
 
 -- How a batch goes.
-abbrev pub Batches : Question → Option FileMap → Option FileMap → ℕ → Option (List ℕ) → Option (List ℕ) → ℕ → ℕ → ℕ → ℕ → ℕ → ℕ → ℕ → ℕ → ShelfCounts → ShelfCounts → Type 0
-Batches (Batch list) held held' status sent sent' give_faults give_faults' read_faults read_faults' put_faults put_faults' missed missed' calls calls' =
-    IsBatch list held held' status sent sent' give_faults give_faults' read_faults read_faults' put_faults put_faults' missed missed' calls calls'
-Batches question held held' status sent sent' give_faults give_faults' read_faults read_faults' put_faults put_faults' missed missed' calls calls' = Unit {0}
+abbrev pub Batches : Question → Option FileMap → Option FileMap → ℕ → Option (List ℕ) → Option (List ℕ) → ℕ → ℕ → ℕ → ℕ → ℕ → ℕ → ℕ → ℕ → ℕ → ℕ → ShelfCounts → ShelfCounts → Type 0
+Batches (Batch list) held held' status sent sent' give_faults give_faults' gives gives' read_faults read_faults' put_faults put_faults' missed missed' calls calls' =
+    IsBatch list held held' status sent sent' give_faults give_faults' gives gives' read_faults read_faults' put_faults put_faults' missed missed' calls calls'
+Batches question held held' status sent sent' give_faults give_faults' gives gives' read_faults read_faults' put_faults put_faults' missed missed' calls calls' = Unit {0}
 
 -- What a drill says, whatever the shelf tells.
 abbrev pub Drills : Question → ℕ → Option (List ℕ) → Option (List ℕ) → ℕ → ℕ → Type 0

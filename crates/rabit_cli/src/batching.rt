@@ -134,9 +134,9 @@ fn carry_each<H: Shelf, K: Sink>(
     requires few { number + length questions.now ≤ 1001 }
     requires room { 15 ≤ vec_capacity line.old }
     ensures { IsCarriedEach number questions.now (H.held shelf.old) (H.held shelf.new) result (K.sent out.old) (K.sent out.new) (K.faults out.old) (K.faults out.new)
-        (H.faults shelf.old) (H.faults shelf.new) (H.put_faults shelf.old) (H.put_faults shelf.new) (H.missed shelf.old) (H.missed shelf.new)
-        (shelf_counts (H.begins shelf.old) (H.faults shelf.old) (H.put_faults shelf.old) (H.blamed shelf.old))
-        (shelf_counts (H.begins shelf.new) (H.faults shelf.new) (H.put_faults shelf.new) (H.blamed shelf.new)) }
+        (K.give_calls out.old) (K.give_calls out.new) (H.faults shelf.old) (H.faults shelf.new) (H.put_faults shelf.old) (H.put_faults shelf.new) (H.missed shelf.old) (H.missed shelf.new)
+        (shelf_counts (H.begins shelf.old) (H.put_calls shelf.old) (H.faults shelf.old) (H.put_faults shelf.old) (H.blamed shelf.old))
+        (shelf_counts (H.begins shelf.new) (H.put_calls shelf.new) (H.faults shelf.new) (H.put_faults shelf.new) (H.blamed shelf.new)) }
 {
     match questions {
         [] => 0,
@@ -164,9 +164,9 @@ fn list_slot<'a>(name: &'a str) -> Slot<'a>
 /// Reads the list, and carries out its questions one after the other.
 pub fn batch<H: Shelf, K: Sink>(alloc: Global, list: &str, shelf: &mut H, out: &mut K) -> u8
     ensures { IsBatch list.now (H.held shelf.old) (H.held shelf.new) result (K.sent out.old) (K.sent out.new) (K.faults out.old) (K.faults out.new)
-        (H.faults shelf.old) (H.faults shelf.new) (H.put_faults shelf.old) (H.put_faults shelf.new) (H.missed shelf.old) (H.missed shelf.new)
-        (shelf_counts (H.begins shelf.old) (H.faults shelf.old) (H.put_faults shelf.old) (H.blamed shelf.old))
-        (shelf_counts (H.begins shelf.new) (H.faults shelf.new) (H.put_faults shelf.new) (H.blamed shelf.new)) }
+        (K.give_calls out.old) (K.give_calls out.new) (H.faults shelf.old) (H.faults shelf.new) (H.put_faults shelf.old) (H.put_faults shelf.new) (H.missed shelf.old) (H.missed shelf.new)
+        (shelf_counts (H.begins shelf.old) (H.put_calls shelf.old) (H.faults shelf.old) (H.put_faults shelf.old) (H.blamed shelf.old))
+        (shelf_counts (H.begins shelf.new) (H.put_calls shelf.new) (H.faults shelf.new) (H.put_faults shelf.new) (H.blamed shelf.new)) }
 {
     match read_alone(alloc, shelf, &list_slot(list)) {
         Ok(Value::Questions(questions)) => match Vec::with_capacity(alloc, 15) {

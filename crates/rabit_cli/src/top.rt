@@ -49,9 +49,9 @@ pub fn run<H: Shelf, K: Sink>(alloc: Global, words: &[String], shelf: &mut H, ou
     // status up to 2 of a line shows.
     ensures batch { IfSome (question_of (map string_bytes words.now)) (λ asked.
         Batches asked (H.held shelf.old) (H.held shelf.new) result (K.sent out.old) (K.sent out.new) (K.faults out.old) (K.faults out.new)
-        (H.faults shelf.old) (H.faults shelf.new) (H.put_faults shelf.old) (H.put_faults shelf.new) (H.missed shelf.old) (H.missed shelf.new)
-        (shelf_counts (H.begins shelf.old) (H.faults shelf.old) (H.put_faults shelf.old) (H.blamed shelf.old))
-        (shelf_counts (H.begins shelf.new) (H.faults shelf.new) (H.put_faults shelf.new) (H.blamed shelf.new))) }
+        (K.give_calls out.old) (K.give_calls out.new) (H.faults shelf.old) (H.faults shelf.new) (H.put_faults shelf.old) (H.put_faults shelf.new) (H.missed shelf.old) (H.missed shelf.new)
+        (shelf_counts (H.begins shelf.old) (H.put_calls shelf.old) (H.faults shelf.old) (H.put_faults shelf.old) (H.blamed shelf.old))
+        (shelf_counts (H.begins shelf.new) (H.put_calls shelf.new) (H.faults shelf.new) (H.put_faults shelf.new) (H.blamed shelf.new))) }
 
     // What a status up to 2 shows, command by command: an inclusion, a lasso that separates, a list past the limit, a reduced automaton, what a drill found,
     // a certificate in version 2, a cross relation, two automata that accept the same, a union, an intersection, what is left of a no, an automaton that accepts nothing or everything, or what shows that it does not.

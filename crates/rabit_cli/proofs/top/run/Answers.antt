@@ -43,7 +43,7 @@ returns-clause-complete g c single = let words = map (string_bytes {Z = Global})
 pub returns-clause-batch : goal.returns-clause-batch
 returns-clause-batch g c =
     let words = map (string_bytes {Z = Global}) c.args.words.now in
-    batches _ _ _ _ _ _ _ _ _ _ _ (question_of words) c.carry_out.ensures.carried _ _ (shelf_counts (g.H.Shelf.begins c.args.shelf.now) (g.H.Shelf.faults c.args.shelf.now) (g.H.Shelf.put_faults c.args.shelf.now) (g.H.Shelf.blamed c.args.shelf.now)) (shelf_counts (g.H.Shelf.begins c.carry_out.new.shelf) (g.H.Shelf.faults c.carry_out.new.shelf) (g.H.Shelf.put_faults c.carry_out.new.shelf) (g.H.Shelf.blamed c.carry_out.new.shelf)) c.carry_out.ensures.missing c.carry_out.ensures.begun_in_turn c.carry_out.ensures.blames
+    batches _ _ _ _ _ _ _ _ _ _ _ (question_of words) c.carry_out.ensures.carried _ _ _ _ (shelf_counts (g.H.Shelf.begins c.args.shelf.now) (g.H.Shelf.put_calls c.args.shelf.now) (g.H.Shelf.faults c.args.shelf.now) (g.H.Shelf.put_faults c.args.shelf.now) (g.H.Shelf.blamed c.args.shelf.now)) (shelf_counts (g.H.Shelf.begins c.carry_out.new.shelf) (g.H.Shelf.put_calls c.carry_out.new.shelf) (g.H.Shelf.faults c.carry_out.new.shelf) (g.H.Shelf.put_faults c.carry_out.new.shelf) (g.H.Shelf.blamed c.carry_out.new.shelf)) c.carry_out.ensures.given_once c.carry_out.ensures.put_once c.carry_out.ensures.missing c.carry_out.ensures.begun_in_turn c.carry_out.ensures.blames
 
 pub returns-in-Some-clause-carried : goal.returns-in-Some-clause-carried
 returns-in-Some-clause-carried g c single =
@@ -186,13 +186,13 @@ returns-in-Some-clause-batch g c =
     let is : question_of words ≡ Some (Batch c.in-Some.list.now) = batch_found c.question.result question c.in-Some.list.now words held batch c.question.ensures.asked in
     let P : Option Question → Type 0 = λ z. IfSome z (λ asked.
     Batches asked (g.H.Shelf.held c.args.shelf.now) (g.H.Shelf.held c.batch.new.shelf) c.batch.result (g.K.Sink.sent c.args.out.now) (g.K.Sink.sent c.batch.new.out) (g.K.Sink.faults c.args.out.now) (g.K.Sink.faults c.batch.new.out)
-    (g.H.Shelf.faults c.args.shelf.now) (g.H.Shelf.faults c.batch.new.shelf) (g.H.Shelf.put_faults c.args.shelf.now) (g.H.Shelf.put_faults c.batch.new.shelf) (g.H.Shelf.missed c.args.shelf.now) (g.H.Shelf.missed c.batch.new.shelf) (shelf_counts (g.H.Shelf.begins c.args.shelf.now) (g.H.Shelf.faults c.args.shelf.now) (g.H.Shelf.put_faults c.args.shelf.now) (g.H.Shelf.blamed c.args.shelf.now)) (shelf_counts (g.H.Shelf.begins c.batch.new.shelf) (g.H.Shelf.faults c.batch.new.shelf) (g.H.Shelf.put_faults c.batch.new.shelf) (g.H.Shelf.blamed c.batch.new.shelf))) in
+    (g.K.Sink.give_calls c.args.out.now) (g.K.Sink.give_calls c.batch.new.out) (g.H.Shelf.faults c.args.shelf.now) (g.H.Shelf.faults c.batch.new.shelf) (g.H.Shelf.put_faults c.args.shelf.now) (g.H.Shelf.put_faults c.batch.new.shelf) (g.H.Shelf.missed c.args.shelf.now) (g.H.Shelf.missed c.batch.new.shelf) (shelf_counts (g.H.Shelf.begins c.args.shelf.now) (g.H.Shelf.put_calls c.args.shelf.now) (g.H.Shelf.faults c.args.shelf.now) (g.H.Shelf.put_faults c.args.shelf.now) (g.H.Shelf.blamed c.args.shelf.now)) (shelf_counts (g.H.Shelf.begins c.batch.new.shelf) (g.H.Shelf.put_calls c.batch.new.shelf) (g.H.Shelf.faults c.batch.new.shelf) (g.H.Shelf.put_faults c.batch.new.shelf) (g.H.Shelf.blamed c.batch.new.shelf))) in
     subst P (sym is) c.batch.ensures
 
 pub returns-clause-complete_batch : goal.returns-clause-complete_batch
 returns-clause-complete_batch g c =
     let words = map (string_bytes {Z = Global}) c.args.words.now in
-    answers_batches _ _ _ _ _ _ _ _ _ _ _ (question_of words) c.carry_out.ensures.carried _ _ (shelf_counts (g.H.Shelf.begins c.args.shelf.now) (g.H.Shelf.faults c.args.shelf.now) (g.H.Shelf.put_faults c.args.shelf.now) (g.H.Shelf.blamed c.args.shelf.now)) (shelf_counts (g.H.Shelf.begins c.carry_out.new.shelf) (g.H.Shelf.faults c.carry_out.new.shelf) (g.H.Shelf.put_faults c.carry_out.new.shelf) (g.H.Shelf.blamed c.carry_out.new.shelf)) c.carry_out.ensures.missing c.carry_out.ensures.begun_in_turn c.carry_out.ensures.blames
+    answers_batches _ _ _ _ _ _ _ _ _ _ _ (question_of words) c.carry_out.ensures.carried _ _ _ _ (shelf_counts (g.H.Shelf.begins c.args.shelf.now) (g.H.Shelf.put_calls c.args.shelf.now) (g.H.Shelf.faults c.args.shelf.now) (g.H.Shelf.put_faults c.args.shelf.now) (g.H.Shelf.blamed c.args.shelf.now)) (shelf_counts (g.H.Shelf.begins c.carry_out.new.shelf) (g.H.Shelf.put_calls c.carry_out.new.shelf) (g.H.Shelf.faults c.carry_out.new.shelf) (g.H.Shelf.put_faults c.carry_out.new.shelf) (g.H.Shelf.blamed c.carry_out.new.shelf)) c.carry_out.ensures.given_once c.carry_out.ensures.put_once c.carry_out.ensures.missing c.carry_out.ensures.begun_in_turn c.carry_out.ensures.blames
 
 pub returns-in-Some-clause-complete_batch : goal.returns-in-Some-clause-complete_batch
 returns-in-Some-clause-complete_batch g c =
@@ -200,4 +200,4 @@ returns-in-Some-clause-complete_batch g c =
     let (question, held, batch) = c.in-Some.ensures in
     let is : question_of words ≡ Some (Batch c.in-Some.list.now) = batch_found c.question.result question c.in-Some.list.now words held batch c.question.ensures.asked in
     let P : Option Question → Type 0 = λ z. IfSome z (λ asked. AnswersBatch asked c.batch.result (g.K.Sink.faults c.args.out.now) (g.K.Sink.faults c.batch.new.out) (g.H.Shelf.faults c.args.shelf.now) (g.H.Shelf.faults c.batch.new.shelf)) in
-    subst P (sym is) (answers_batch c.in-Some.list.now _ _ _ _ _ _ _ _ _ _ _ _ _ _ _ c.batch.ensures)
+    subst P (sym is) (answers_batch c.in-Some.list.now _ _ _ _ _ _ _ _ _ _ _ _ _ _ _ _ _ c.batch.ensures)
