@@ -75,21 +75,21 @@ pub record IsGreatestDelayed (A : Automaton) (n : ℕ) (X : RankedTriples) : Typ
       → (b : List ℕ) (p q s : ℕ) → HasRank Y b p q s → (r : ℕ) × HasRank X b p q r × (r ≤ s)
 
 -- The state relation: q is related to p whatever letters are announced.
-abbrev pub AreRelatedAhead : ℕ → ℕ → RankedTriples → ℕ → ℕ → Type 0
-AreRelatedAhead labels n X p q = (b : List ℕ) → AreAnnounced labels n b → HoldsTriple X b p q
+abbrev pub AreStateRelated : ℕ → ℕ → RankedTriples → ℕ → ℕ → Type 0
+AreStateRelated labels n X p q = (b : List ℕ) → AreAnnounced labels n b → HoldsTriple X b p q
 
--- Four million: the most triples, each with one more letter, of a game that is played.
-abbrev pub most_triples : ℕ
-most_triples = 4000000
+-- Four million: the most triples, each with one more letter, of a game with more than one announced letter.
+abbrev pub most_with_a_letter : ℕ
+most_with_a_letter = 4000000
 
 -- With n announced letters there are at most that many.
-abbrev pub are_few_triples : Automaton → ℕ → Bool
-are_few_triples A n = nat_le (A.states * A.states * A.labels ^ n) most_triples
+abbrev pub are_few_with_a_letter : Automaton → ℕ → Bool
+are_few_with_a_letter A n = nat_le (A.states * A.states * A.labels ^ n) most_with_a_letter
 
 -- The greatest number of announced letters up to n, and at least 1, with at most that many.
 abbrev pub most_letters : Automaton → ℕ → ℕ
 most_letters A zero = 1
-most_letters A (suc n) = if are_few_triples A (suc n) then suc n else most_letters A n
+most_letters A (suc n) = if are_few_with_a_letter A (suc n) then suc n else most_letters A n
 
 -- How many letters are announced where n are asked for: without labels one.
 abbrev pub letters_for : Automaton → ℕ → ℕ

@@ -6,8 +6,8 @@ use Rattle.cert_value.specs.declared.keywords.Keyword.TheVariants as keyword
 use Rattle.cert_text.specs.declared.forms.Tail.TheVariants as tail
 use Rattle.cert_text.specs.declared.faults.TextKind.{TextKind}
 use Rattle.cert_text.specs.declared.faults.TextKind.TheVariants.{Trailing}
-use Rattle.cert_value.specs.declared.types.Answer.{Answer}
-use Rattle.cert_value.specs.declared.types.Answer.TheVariants as answer
+use Rattle.cert_value.specs.declared.types.Form.{Form}
+use Rattle.cert_value.specs.declared.types.Form.TheVariants as form
 use Rattle.cert_value.specs.declared.types.Cert.{Cert}
 use Rattle.cert_value.specs.declared.types.Body.{Body}
 use Rattle.cert_value.specs.declared.types.Body.TheVariants as body
@@ -30,7 +30,7 @@ use Rattle.cert_text.specs.declared.heads.SecondHead.{SecondHead}
 use Rattle.cert_text.specs.declared.heads.SecondHead.TheVariants as second_head
 use Rattle.cert_text.specs.declared.heads.Way.{Way}
 use Rattle.cert_text.specs.declared.heads.Way.TheVariants as way
-use Rattle.cert_value.specs.Text.{Line, spelled, numbers, letters_tokens, each, row_lines, block_lines, rank_row_lines, rank_block_lines, classes_line, first_step_lines, second_step_lines, origin_lines, element_lines, step_lines, first_lines, second_lines, elements_line, closed_lines, limit_lines, body_lines, answer_of, first_line, sizes_line, end_line, cert_lines, gone_numbers}
+use Rattle.cert_value.specs.Text.{Line, spelled, numbers, letters_tokens, each, row_lines, block_lines, rank_row_lines, rank_block_lines, classes_line, first_step_lines, second_step_lines, origin_lines, element_lines, step_lines, first_lines, second_lines, elements_line, closed_lines, limit_lines, body_lines, form_of, first_line, sizes_line, end_line, cert_lines, gone_numbers}
 use Rattle.cert_value.specs.declared.types.GoneBy.{GoneBy}
 use Rattle.cert_value.specs.WellFormed.{is_version, are_letters, rank_key, blocks_due, is_live, has_some, is_short, are_short, ascend, is_row, are_rows, is_block, is_rank_row, are_rank_rows, is_rank_block, are_gone, are_classes, is_first_step, is_second_step, is_origin, is_element, is_step_of, are_steps, are_logs, is_body, has_text}
 use Rattle.cert_text.specs.Lines.{Said, word_in, number_in, numbers_in, ascending_in, sizes_in, heading_in, row_in, rank_row_in, gone_by_in, first_head_in, second_head_in, origin_in, element_in, step_in}
@@ -530,10 +530,10 @@ limited_bw m next ls c e =
     }
 
 -- The body.
-abbrev pub IsBodyOf : ℕ → Mode → Answer → Body → Type 0
-IsBodyOf v m a b = (is_body v m b ≡ true) × (answer_of b ≡ a)
+abbrev pub IsBodyOf : ℕ → Mode → Form → Body → Type 0
+IsBodyOf v m a b = (is_body v m b ≡ true) × (form_of b ≡ a)
 
-abbrev pub TookBody : ℕ → Mode → Answer → Then Body → List Line → Cert → Type 0
+abbrev pub TookBody : ℕ → Mode → Form → Then Body → List Line → Cert → Type 0
 TookBody v m a next ls c = Took (IsBodyOf v m a) (body_lines v) next ls c
 
 logs_fine : (v : ℕ) (m : Mode) (firsts : List FirstStep) (seconds : List SecondStep) → IsFirstLog firsts → IsSecondLog v m seconds → are_logs v m firsts seconds ≡ true
@@ -544,10 +544,10 @@ logs_fine v m firsts seconds f s =
 three : (A B C rest : List Line) → A ++ (B ++ (C ++ rest)) ≡ (A ++ (B ++ C)) ++ rest
 three A B C rest = sym (append_assoc A (B ++ C) rest ∙ ap (λ y. A ++ y) (append_assoc B C rest))
 
-yes_bw : (v : ℕ) (m : Mode) (next : Then Body) (ls : List Line) (c : Cert) → read_logs v m answer.Yes next ls ≡ Read c → TookBody v m answer.Yes next ls c
+yes_bw : (v : ℕ) (m : Mode) (next : Then Body) (ls : List Line) (c : Cert) → read_logs v m form.Yes next ls ≡ Read c → TookBody v m form.Yes next ls c
 yes_bw v m next ls c e =
-    let f = first_log_bw v (λ firsts. read_after_first v m answer.Yes firsts next) ls c e in
-    let s = second_log_bw v m (λ seconds. read_evidence v m answer.Yes f.item seconds next) f.rest c f.on in
+    let f = first_log_bw v (λ firsts. read_after_first v m form.Yes firsts next) ls c e in
+    let s = second_log_bw v m (λ seconds. read_evidence v m form.Yes f.item seconds next) f.rest c f.on in
     let k = closed_bw v m (λ closed. next (yes_of f.item s.item closed)) s.rest c s.on in
     let C = block_lines v k.item.order ++ closed_lines k.item.elements k.item.cover k.item.steps in
     record {
@@ -566,10 +566,10 @@ yes_bw v m next ls c e =
       on = k.on;
     }
 
-list_bw : (v : ℕ) (m : Mode) (next : Then Body) (ls : List Line) (c : Cert) → read_logs v m answer.List next ls ≡ Read c → TookBody v m answer.List next ls c
+list_bw : (v : ℕ) (m : Mode) (next : Then Body) (ls : List Line) (c : Cert) → read_logs v m form.List next ls ≡ Read c → TookBody v m form.List next ls c
 list_bw v m next ls c e =
-    let f = first_log_bw v (λ firsts. read_after_first v m answer.List firsts next) ls c e in
-    let s = second_log_bw v m (λ seconds. read_evidence v m answer.List f.item seconds next) f.rest c f.on in
+    let f = first_log_bw v (λ firsts. read_after_first v m form.List firsts next) ls c e in
+    let s = second_log_bw v m (λ seconds. read_evidence v m form.List f.item seconds next) f.rest c f.on in
     let k = limited_bw m (λ limited. next (list_of f.item s.item limited)) s.rest c s.on in
     let C = limit_lines k.item.limit k.item.elements in
     record {
@@ -586,7 +586,7 @@ list_bw v m next ls c e =
       on = k.on;
     }
 
-lasso_bw : (v : ℕ) (next : Then Body) (ls : List Line) (c : Cert) → read_lasso next ls ≡ Read c → TookBody v mode.Buchi answer.No next ls c
+lasso_bw : (v : ℕ) (next : Then Body) (ls : List Line) (c : Cert) → read_lasso next ls ≡ Read c → TookBody v mode.Buchi form.No next ls c
 lasso_bw v next ls c e =
     let p = line_bw (numbers_in keyword.Prefix tail.Numbers) (λ prefix. read_turn prefix next) ls c e in
     let pf = numbers_bw keyword.Prefix tail.Numbers p.line p.item p.told in
@@ -602,7 +602,7 @@ lasso_bw v next ls c e =
       on = t.on;
     }
 
-word_body_bw : (v : ℕ) (next : Then Body) (ls : List Line) (c : Cert) → read_word next ls ≡ Read c → TookBody v mode.Finite answer.No next ls c
+word_body_bw : (v : ℕ) (next : Then Body) (ls : List Line) (c : Cert) → read_word next ls ≡ Read c → TookBody v mode.Finite form.No next ls c
 word_body_bw v next ls c e =
     let p = line_bw (numbers_in keyword.Word tail.Numbers) (λ word. next (body.NoWord word)) ls c e in
     let pf = numbers_bw keyword.Word tail.Numbers p.line p.item p.told in
@@ -614,11 +614,11 @@ word_body_bw v next ls c e =
       on = p.on;
     }
 
-pub body_bw : (v : ℕ) (m : Mode) (a : Answer) (next : Then Body) (ls : List Line) (c : Cert) → read_body v m a next ls ≡ Read c → TookBody v m a next ls c
-body_bw v m (answer.Yes) next ls c e = yes_bw v m next ls c e
-body_bw v (mode.Buchi) (answer.No) next ls c e = lasso_bw v next ls c e
-body_bw v (mode.Finite) (answer.No) next ls c e = word_body_bw v next ls c e
-body_bw v m (answer.List) next ls c e = list_bw v m next ls c e
+pub body_bw : (v : ℕ) (m : Mode) (a : Form) (next : Then Body) (ls : List Line) (c : Cert) → read_body v m a next ls ≡ Read c → TookBody v m a next ls c
+body_bw v m (form.Yes) next ls c e = yes_bw v m next ls c e
+body_bw v (mode.Buchi) (form.No) next ls c e = lasso_bw v next ls c e
+body_bw v (mode.Finite) (form.No) next ls c e = word_body_bw v next ls c e
+body_bw v m (form.List) next ls c e = list_bw v m next ls c e
 
 bare_is : (piece : Line) → is_bare piece ≡ true → piece ≡ [] ∷ []
 bare_is [] e = absurd (cc)
@@ -647,13 +647,13 @@ cert_bw ls c e =
     let s = line_bw sizes_in (read_rest h.item) h.rest c h.on in
     let sf = sizes_bw s.line s.item s.told in
     let k = λ (b : Body). read_end (cert_of v h.item.mode s.item b) in
-    let b = body_bw v h.item.mode h.item.answer k s.rest c s.on in
+    let b = body_bw v h.item.mode h.item.form k s.rest c s.on in
     let own = cert_of v h.item.mode s.item b.item in
     let z = line_bw (word_in keyword.End) (λ u. finish own) b.rest c b.on in
     let zf = word_bw keyword.End z.line z.item z.told in
     let f = finish_bw own c z.rest z.on in
     let B = body_lines v b.item in
-    let first : h.line ≡ first_line v h.item.mode (answer_of b.item) = hf.1 ∙ ap (λ a. first_line v h.item.mode a) (sym b.fine.1) in
+    let first : h.line ≡ first_line v h.item.mode (form_of b.item) = hf.1 ∙ ap (λ a. first_line v h.item.mode a) (sym b.fine.1) in
     let last : b.rest ≡ end_line ∷ bare = z.cut ∙ ap (λ x. x ∷ z.rest) zf ∙ ap (λ y. end_line ∷ y) f.1 in
     let after_sizes : s.rest ≡ (B ++ end_line ∷ []) ++ bare =
     b.cut ∙ ap (λ y. B ++ y) last ∙ sym (append_assoc B (end_line ∷ []) bare) in
@@ -664,5 +664,5 @@ cert_bw ls c e =
           (and_from (is_short s.item.first_states) _ sf.0
           (and_from (is_short s.item.second_states) _ sf.1 (and_from (is_short s.item.labels) _ sf.2 b.fine.0))),
       h.cut ∙ ap (λ x. x ∷ h.rest) first
-          ∙ ap (λ y. first_line v h.item.mode (answer_of b.item) ∷ y) (s.cut ∙ ap (λ x. x ∷ s.rest) sf.3 ∙ ap (λ y. sizes ∷ y) after_sizes),
+          ∙ ap (λ y. first_line v h.item.mode (form_of b.item) ∷ y) (s.cut ∙ ap (λ x. x ∷ s.rest) sf.3 ∙ ap (λ y. sizes ∷ y) after_sizes),
     )

@@ -4,7 +4,7 @@ use Rattle.auto_core.specs.declared.parts.Mode.TheVariants as mode
 use Rattle.auto_core.specs.declared.parts.Origin.{Origin}
 use Rattle.cert_value.specs.declared.keywords.Keyword.TheVariants as keyword
 use Rattle.cert_text.specs.declared.forms.Tail.TheVariants as tail
-use Rattle.cert_value.specs.declared.types.Answer.TheVariants as answer
+use Rattle.cert_value.specs.declared.types.Form.TheVariants as form
 use Rattle.cert_value.specs.declared.types.Cert.{Cert}
 use Rattle.cert_value.specs.declared.types.Body.{Body}
 use Rattle.cert_value.specs.declared.types.Body.TheVariants as body
@@ -27,7 +27,7 @@ use Rattle.cert_text.specs.declared.heads.FirstHead.TheVariants as first_head
 use Rattle.cert_text.specs.declared.heads.SecondHead.TheVariants as second_head
 use Rattle.cert_text.specs.declared.heads.Way.{Way}
 use Rattle.cert_text.specs.declared.heads.Way.TheVariants as way
-use Rattle.cert_value.specs.Text.{Line, spelled, numbers, row_numbers, each, row_lines, block_lines, rank_row_lines, rank_block_lines, classes_line, first_step_lines, merge_lines, second_step_lines, origin_line, origin_lines, mark_tokens, element_lines, step_lines, first_lines, second_lines, elements_line, closed_lines, limit_lines, body_lines, answer_of, first_line, sizes_line, end_line, cert_lines, gone_numbers, ranked_numbers}
+use Rattle.cert_value.specs.Text.{Line, spelled, numbers, row_numbers, each, row_lines, block_lines, rank_row_lines, rank_block_lines, classes_line, first_step_lines, merge_lines, second_step_lines, origin_line, origin_lines, mark_tokens, element_lines, step_lines, first_lines, second_lines, elements_line, closed_lines, limit_lines, body_lines, form_of, first_line, sizes_line, end_line, cert_lines, gone_numbers, ranked_numbers}
 use Rattle.cert_value.specs.declared.types.Grounds.{Grounds}
 use Rattle.cert_value.specs.WellFormed.{is_version, are_letters, rank_key, blocks_due, is_live, has_some, is_short, are_short, ascend, is_row, are_rows, is_block, is_rank_row, are_rank_rows, is_rank_block, are_gone, are_classes, is_first_step, are_grounds, is_second_step, is_origin, is_element, is_step_of, are_steps, are_logs, is_body, has_text}
 use Rattle.cert_text.specs.Lines.{Said, word_in, number_in, numbers_in, ascending_in, sizes_in, heading_in, row_in, rank_row_in, gone_by_in, first_head_in, second_head_in, origin_in, element_in, step_in}
@@ -314,7 +314,7 @@ limited_fw m limit es next rest a b c h =
 
 -- The body.
 pub body_fw : (v : ℕ) (m : Mode) (b : Body) (next : Then Body) (rest : List Line) → is_body v m b ≡ true → has_some rest ≡ true
-    → read_body v m (answer_of b) next (body_lines v b ++ rest) ≡ next b rest
+    → read_body v m (form_of b) next (body_lines v b ++ rest) ≡ next b rest
 body_fw v m (body.Yes y) next rest e h =
     let a = and_parts (are_logs v m y.first y.second) _ e in
     let l = and_parts (is_short (length y.first)) _ a.0 in
@@ -330,8 +330,8 @@ body_fw v m (body.Yes y) next rest e h =
     let after_second = C ++ (closed ++ rest) in
     let some2 = some_append C (closed ++ rest) (some_append closed rest h) in
     let after_first = B ++ after_second in
-    let k = λ (firsts : List FirstStep). read_after_first v m answer.Yes firsts next in
-    let k2 = λ (seconds : List SecondStep). read_evidence v m answer.Yes y.first seconds next in
+    let k = λ (firsts : List FirstStep). read_after_first v m form.Yes firsts next in
+    let k2 = λ (seconds : List SecondStep). read_evidence v m form.Yes y.first seconds next in
     ap (λ ls. read_first_log v k ls)
     (append_assoc (first_lines v y.first) (B ++ (C ++ closed)) rest
     ∙ ap (λ ls. first_lines v y.first ++ ls) (append_assoc B (C ++ closed) rest ∙ ap (λ ls. B ++ ls) (append_assoc C closed rest)))
@@ -361,8 +361,8 @@ body_fw v m (body.Listing list) next rest e h =
     let B = second_lines v list.second in
     let C = limit_lines list.limit list.elements in
     let some2 = some_append C rest h in
-    let k = λ (firsts : List FirstStep). read_after_first v m answer.List firsts next in
-    let k2 = λ (seconds : List SecondStep). read_evidence v m answer.List list.first seconds next in
+    let k = λ (firsts : List FirstStep). read_after_first v m form.List firsts next in
+    let k2 = λ (seconds : List SecondStep). read_evidence v m form.List list.first seconds next in
     ap (λ ls. read_first_log v k ls)
     (append_assoc (first_lines v list.first) (B ++ C) rest ∙ ap (λ ls. first_lines v list.first ++ ls) (append_assoc B C rest))
     ∙ first_log_fw v list.first k (B ++ (C ++ rest)) l.0 l1.0 (some_append B (C ++ rest) some2)
@@ -377,14 +377,14 @@ cert_fw c rest e h =
     let a = and_parts (is_short c.first_states) _ w.1 in
     let b = and_parts (is_short c.second_states) _ a.1 in
     let d = and_parts (is_short c.labels) _ b.1 in
-    let heading : Heading = record { version = v; mode = c.mode; answer = answer_of c.body } in
+    let heading : Heading = record { version = v; mode = c.mode; form = form_of c.body } in
     let sizes : Sizes = record { first_states = c.first_states; second_states = c.second_states; labels = c.labels } in
     let the_end = end_line ∷ rest in
     let k = λ (b : Body). read_end (cert_of v c.mode sizes b) in
     let B = body_lines v c.body in
     let s = sizes_line c.first_states c.second_states c.labels in
-    line_fw heading_in read_sizes (first_line v c.mode (answer_of c.body)) heading (s ∷ ((B ++ end_line ∷ []) ++ rest))
-    (heading_fw v c.mode (answer_of c.body) w.0) (some_cons s ((B ++ end_line ∷ []) ++ rest))
+    line_fw heading_in read_sizes (first_line v c.mode (form_of c.body)) heading (s ∷ ((B ++ end_line ∷ []) ++ rest))
+    (heading_fw v c.mode (form_of c.body) w.0) (some_cons s ((B ++ end_line ∷ []) ++ rest))
     ∙ ap (λ ls. read_sizes heading (s ∷ ls)) (append_assoc B (end_line ∷ []) rest)
     ∙ line_fw sizes_in (read_rest heading) s sizes (B ++ the_end) (sizes_fw c.first_states c.second_states c.labels a.0 b.0 d.0)
     (some_append B the_end (some_cons end_line rest))

@@ -9,8 +9,8 @@ use Rattle.cert_value.specs.declared.keywords.Keyword.TheVariants as keyword
 use Rattle.cert_text.specs.declared.forms.Place.TheVariants.{Number}
 use Rattle.cert_text.specs.declared.forms.Tail.TheVariants as tail
 use Rattle.cert_text.specs.declared.faults.TextKind.{TextKind}
-use Rattle.cert_value.specs.declared.types.Answer.{Answer}
-use Rattle.cert_value.specs.declared.types.Answer.TheVariants as answer
+use Rattle.cert_value.specs.declared.types.Form.{Form}
+use Rattle.cert_value.specs.declared.types.Form.TheVariants as form
 use Rattle.cert_value.specs.declared.types.Element.{Element}
 use Rattle.cert_value.specs.declared.types.Mark.{Mark}
 use Rattle.cert_value.specs.declared.types.Mark.TheVariants as mark
@@ -239,25 +239,25 @@ element_bw (mode.Finite) ts e h =
     (either_bw (fits live_start ts) _ _ e h)
 
 -- First lines.
-heading_one : (m : Mode) (a : Answer) → heading_in (first_line 1 m a) ≡ Ok (heading 1 m a)
+heading_one : (m : Mode) (a : Form) → heading_in (first_line 1 m a) ≡ Ok (heading 1 m a)
 unfolding spelled
-heading_one (mode.Buchi) (answer.Yes) = refl
-heading_one (mode.Buchi) (answer.No) = refl
-heading_one (mode.Buchi) (answer.List) = refl
-heading_one (mode.Finite) (answer.Yes) = refl
-heading_one (mode.Finite) (answer.No) = refl
-heading_one (mode.Finite) (answer.List) = refl
+heading_one (mode.Buchi) (form.Yes) = refl
+heading_one (mode.Buchi) (form.No) = refl
+heading_one (mode.Buchi) (form.List) = refl
+heading_one (mode.Finite) (form.Yes) = refl
+heading_one (mode.Finite) (form.No) = refl
+heading_one (mode.Finite) (form.List) = refl
 
-heading_two : (m : Mode) (a : Answer) → heading_in (first_line 2 m a) ≡ Ok (heading 2 m a)
+heading_two : (m : Mode) (a : Form) → heading_in (first_line 2 m a) ≡ Ok (heading 2 m a)
 unfolding spelled
-heading_two (mode.Buchi) (answer.Yes) = refl
-heading_two (mode.Buchi) (answer.No) = refl
-heading_two (mode.Buchi) (answer.List) = refl
-heading_two (mode.Finite) (answer.Yes) = refl
-heading_two (mode.Finite) (answer.No) = refl
-heading_two (mode.Finite) (answer.List) = refl
+heading_two (mode.Buchi) (form.Yes) = refl
+heading_two (mode.Buchi) (form.No) = refl
+heading_two (mode.Buchi) (form.List) = refl
+heading_two (mode.Finite) (form.Yes) = refl
+heading_two (mode.Finite) (form.No) = refl
+heading_two (mode.Finite) (form.List) = refl
 
-pub heading_fw : (v : ℕ) (m : Mode) (a : Answer) → is_version v ≡ true → heading_in (first_line v m a) ≡ Ok (heading v m a)
+pub heading_fw : (v : ℕ) (m : Mode) (a : Form) → is_version v ≡ true → heading_in (first_line v m a) ≡ Ok (heading v m a)
 heading_fw v m a e =
     let P : ℕ → Type 0 = λ v. heading_in (first_line v m a) ≡ Ok (heading v m a) in
     ⊎_elim (λ one. subst P (sym (eqb-true v 1 one)) (heading_one m a)) (λ two. subst P (sym (eqb-true v 2 two)) (heading_two m a))
@@ -269,7 +269,7 @@ none_from (Some fault) e = absurd (cc)
 
 -- A heading whose first line the line is.
 abbrev pub IsHeadingOf : Line → Heading → Type 0
-IsHeadingOf ts h = (is_version h.version ≡ true) × (ts ≡ first_line h.version h.mode h.answer)
+IsHeadingOf ts h = (is_version h.version ≡ true) × (ts ≡ first_line h.version h.mode h.form)
 
 if_bw : (b : Bool) (own h : Heading) → cond b (let o : Option Heading = Some own in o) None ≡ Some h → (b ≡ true) × (own ≡ h)
 if_bw true own h e = (refl, cc)
@@ -288,11 +288,11 @@ else_bw None other a e = inr e
 
 mode_heading_bw : (v : ℕ) (m : Mode) (ts : Line) (h : Heading) → is_version v ≡ true → mode_heading_in v m ts ≡ Some h → IsHeadingOf ts h
 mode_heading_bw v m ts h e f =
-    let yes_or = if_heading (heading v m answer.Yes) ts in
-    let no_or = if_heading (heading v m answer.No) ts in
-    let list_or = if_heading (heading v m answer.List) ts in
-    ⊎_elim (if_heading_bw (heading v m answer.Yes) ts h e)
-    (λ more. ⊎_elim (if_heading_bw (heading v m answer.No) ts h e) (if_heading_bw (heading v m answer.List) ts h e) (else_bw no_or list_or h more))
+    let yes_or = if_heading (heading v m form.Yes) ts in
+    let no_or = if_heading (heading v m form.No) ts in
+    let list_or = if_heading (heading v m form.List) ts in
+    ⊎_elim (if_heading_bw (heading v m form.Yes) ts h e)
+    (λ more. ⊎_elim (if_heading_bw (heading v m form.No) ts h e) (if_heading_bw (heading v m form.List) ts h e) (else_bw no_or list_or h more))
     (else_bw yes_or (or_else no_or list_or) h f)
 
 version_heading_bw : (v : ℕ) (ts : Line) (h : Heading) → is_version v ≡ true → version_heading_in v ts ≡ Some h → IsHeadingOf ts h

@@ -21,7 +21,7 @@ use Rattle.cert_value.specs.declared.types.RankRow.{RankRow}
 use Rattle.cert_value.specs.declared.types.Mark.{Mark}
 use Rattle.cert_value.specs.declared.types.Mark.TheVariants as mark
 use Rattle.cert_value.specs.declared.types.StepLine.{StepLine}
-use Rattle.cert_value.specs.Text.{Line, spelled, numbers, row_numbers, letters_tokens, version_word, each, row_lines, block_lines, ranked_numbers, rank_row_lines, rank_block_lines, gone_numbers, first_step_lines, merge_lines, second_step_lines, origin_line, mark_tokens, element_lines, origin_lines, step_lines, first_lines, second_lines, closed_lines, limit_lines, body_lines, mode_word, answer_word, answer_of, end_line, cert_lines}
+use Rattle.cert_value.specs.Text.{Line, spelled, numbers, row_numbers, letters_tokens, version_word, each, row_lines, block_lines, ranked_numbers, rank_row_lines, rank_block_lines, gone_numbers, first_step_lines, merge_lines, second_step_lines, origin_line, mark_tokens, element_lines, origin_lines, step_lines, first_lines, second_lines, closed_lines, limit_lines, body_lines, mode_word, form_word, form_of, end_line, cert_lines}
 use Rattle.cert_text.proofs.BytesLines.{plain, PlainLine, PlainLines, spelled_plain, decimal_plain, numbers_plain}
 
 -- A line of a word and plain tokens.
@@ -131,9 +131,9 @@ plain_body v (body.Listing list) =
 -- all lines of a certificate are plain
 pub plain_cert : (c : Cert) → PlainLines (cert_lines c)
 plain_cert c = (
-  two_words keyword.RabitCert (version_word c.version) (spelled (mode_word c.mode) ∷ spelled (answer_word (answer_of c.body)) ∷ [])
+  two_words keyword.RabitCert (version_word c.version) (spelled (mode_word c.mode) ∷ spelled (form_word (form_of c.body)) ∷ [])
       (and_from (plain (spelled (mode_word c.mode))) _ (spelled_plain (mode_word c.mode))
-      (and_from (plain (spelled (answer_word (answer_of c.body)))) true (spelled_plain (answer_word (answer_of c.body))) refl)),
+      (and_from (plain (spelled (form_word (form_of c.body)))) true (spelled_plain (form_word (form_of c.body))) refl)),
   (
     word_line keyword.Sizes (decimal c.first_states ∷ decimal c.second_states ∷ decimal c.labels ∷ [])
         (number_then c.first_states (decimal c.second_states ∷ decimal c.labels ∷ [])

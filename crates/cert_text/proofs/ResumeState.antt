@@ -9,8 +9,8 @@ use Rattle.cert_text.specs.declared.parts.Step.{Step}
 use Rattle.cert_text.specs.declared.parts.Step.TheVariants.{More, Whole}
 use Rattle.cert_text.specs.declared.parts.Closed.{Closed}
 use Rattle.cert_text.specs.declared.parts.Limited.{Limited}
-use Rattle.cert_value.specs.declared.types.Answer.{Answer}
-use Rattle.cert_value.specs.declared.types.Answer.TheVariants as answer
+use Rattle.cert_value.specs.declared.types.Form.{Form}
+use Rattle.cert_value.specs.declared.types.Form.TheVariants as form
 use Rattle.cert_value.specs.declared.types.Body.{Body}
 use Rattle.cert_value.specs.declared.types.Body.TheVariants as body
 use Rattle.cert_value.specs.declared.types.FirstStep.{FirstStep}
@@ -213,22 +213,22 @@ abbrev pub resume : State → List Line → ReadOutcome
 resume (state.Heading) = next_line heading_in read_sizes
 resume (state.Sizes h) = read_sizes h
 resume (state.No o at) = resume_no at (closing o)
-resume (state.First o at) = resume_first_log o.version at (λ firsts. read_after_first o.version o.mode o.answer firsts (closing o))
+resume (state.First o at) = resume_first_log o.version at (λ firsts. read_after_first o.version o.mode o.form firsts (closing o))
 resume (state.Second o firsts at) =
-    resume_second_log o.version o.mode at (λ seconds. read_evidence o.version o.mode o.answer firsts seconds (closing o))
+    resume_second_log o.version o.mode at (λ seconds. read_evidence o.version o.mode o.form firsts seconds (closing o))
 resume (state.Yes o firsts seconds at) = resume_yes o.version o.mode at (λ closed. closing o (yes_of firsts seconds closed))
 resume (state.List o firsts seconds at) = resume_list o.mode at (λ limited. closing o (list_of firsts seconds limited))
 resume (state.End c) = read_end c
 resume (state.Done c) = finish c
 
-begun_law : (v : ℕ) (m : Mode) (a : Answer) (sizes : Sizes) (lines : List Line)
-    → read_rest (record { version = v; mode = m; answer = a }) sizes lines
-    ≡ resume (begun (record { version = v; mode = m; answer = a }) sizes) lines
+begun_law : (v : ℕ) (m : Mode) (a : Form) (sizes : Sizes) (lines : List Line)
+    → read_rest (record { version = v; mode = m; form = a }) sizes lines
+    ≡ resume (begun (record { version = v; mode = m; form = a }) sizes) lines
 unfolding begun
-begun_law v m (answer.Yes) sizes lines = refl
-begun_law v (mode.Buchi) (answer.No) sizes lines = refl
-begun_law v (mode.Finite) (answer.No) sizes lines = refl
-begun_law v m (answer.List) sizes lines = refl
+begun_law v m (form.Yes) sizes lines = refl
+begun_law v (mode.Buchi) (form.No) sizes lines = refl
+begun_law v (mode.Finite) (form.No) sizes lines = refl
+begun_law v m (form.List) sizes lines = refl
 
 with_no_law : (o : Opening) (s : Step NoState Body) (lines : List Line)
     → on_step resume_no (closing o) s lines ≡ resume (with_no o s) lines
@@ -237,26 +237,26 @@ with_no_law o (More at) lines = refl
 with_no_law o (Whole b) lines = refl
 
 with_first_log_law : (o : Opening) (s : Step FirstLog (List FirstStep)) (lines : List Line)
-    → on_step (resume_first_log o.version) (λ firsts. read_after_first o.version o.mode o.answer firsts (closing o)) s lines
+    → on_step (resume_first_log o.version) (λ firsts. read_after_first o.version o.mode o.form firsts (closing o)) s lines
     ≡ resume (with_first_log o s) lines
 unfolding with_first_log
 with_first_log_law o (More at) lines = refl
 with_first_log_law o (Whole firsts) lines = refl
 
-evidence_law : (v : ℕ) (m : Mode) (a : Answer) (sizes : Sizes) (firsts : List FirstStep) (seconds : List SecondStep) (lines : List Line)
-    → read_evidence v m a firsts seconds (closing (record { version = v; mode = m; answer = a; sizes = sizes })) lines
-    ≡ resume (evidence_due (record { version = v; mode = m; answer = a; sizes = sizes }) firsts seconds) lines
+evidence_law : (v : ℕ) (m : Mode) (a : Form) (sizes : Sizes) (firsts : List FirstStep) (seconds : List SecondStep) (lines : List Line)
+    → read_evidence v m a firsts seconds (closing (record { version = v; mode = m; form = a; sizes = sizes })) lines
+    ≡ resume (evidence_due (record { version = v; mode = m; form = a; sizes = sizes }) firsts seconds) lines
 unfolding evidence_due
-evidence_law v m (answer.Yes) sizes firsts seconds lines = refl
-evidence_law v m (answer.No) sizes firsts seconds lines = refl
-evidence_law v m (answer.List) sizes firsts seconds lines = refl
+evidence_law v m (form.Yes) sizes firsts seconds lines = refl
+evidence_law v m (form.No) sizes firsts seconds lines = refl
+evidence_law v m (form.List) sizes firsts seconds lines = refl
 
 with_second_log_law : (o : Opening) (firsts : List FirstStep) (s : Step SecondLog (List SecondStep)) (lines : List Line)
-    → on_step (resume_second_log o.version o.mode) (λ seconds. read_evidence o.version o.mode o.answer firsts seconds (closing o)) s lines
+    → on_step (resume_second_log o.version o.mode) (λ seconds. read_evidence o.version o.mode o.form firsts seconds (closing o)) s lines
     ≡ resume (with_second_log o firsts s) lines
 unfolding with_second_log
 with_second_log_law o firsts (More at) lines = refl
-with_second_log_law o firsts (Whole seconds) lines = evidence_law o.version o.mode o.answer o.sizes firsts seconds lines
+with_second_log_law o firsts (Whole seconds) lines = evidence_law o.version o.mode o.form o.sizes firsts seconds lines
 
 with_yes_law : (o : Opening) (firsts : List FirstStep) (seconds : List SecondStep) (s : Step YesState Closed) (lines : List Line)
     → on_step (resume_yes o.version o.mode) (λ closed. closing o (yes_of firsts seconds closed)) s lines
@@ -279,19 +279,19 @@ unfolding step
 state_law (state.Heading) line other rest =
     arm (λ h. state.Sizes h) (heading_in line) read_sizes resume (λ h lines. refl) (line ∷ other ∷ rest) (other ∷ rest)
 state_law (state.Sizes h) line other rest =
-    arm (begun h) (sizes_in line) (read_rest h) resume (λ sizes lines. begun_law h.version h.mode h.answer sizes lines)
+    arm (begun h) (sizes_in line) (read_rest h) resume (λ sizes lines. begun_law h.version h.mode h.form sizes lines)
     (line ∷ other ∷ rest) (other ∷ rest)
 state_law (state.No o at) line other rest =
     no_law at (closing o) line other rest
     ∙ arm (with_no o) (step_no at line) (on_step resume_no (closing o)) resume (with_no_law o)
     (line ∷ other ∷ rest) (other ∷ rest)
 state_law (state.First o at) line other rest =
-    let k = λ (firsts : List FirstStep). read_after_first o.version o.mode o.answer firsts (closing o) in
+    let k = λ (firsts : List FirstStep). read_after_first o.version o.mode o.form firsts (closing o) in
     first_log_law o.version at k line other rest
     ∙ arm (with_first_log o) (step_first_log o.version at line) (on_step (resume_first_log o.version) k) resume (with_first_log_law o)
     (line ∷ other ∷ rest) (other ∷ rest)
 state_law (state.Second o firsts at) line other rest =
-    let k = λ (seconds : List SecondStep). read_evidence o.version o.mode o.answer firsts seconds (closing o) in
+    let k = λ (seconds : List SecondStep). read_evidence o.version o.mode o.form firsts seconds (closing o) in
     second_log_law o.version o.mode at k line other rest
     ∙ arm (with_second_log o firsts) (step_second_log o.version o.mode at line) (on_step (resume_second_log o.version o.mode) k) resume
     (with_second_log_law o firsts) (line ∷ other ∷ rest) (other ∷ rest)
@@ -316,9 +316,9 @@ state_last (state.Heading) piece = refl
 state_last (state.Sizes h) piece = refl
 state_last (state.No o at) piece = no_last at (closing o) piece
 state_last (state.First o at) piece =
-    first_log_last o.version at (λ firsts. read_after_first o.version o.mode o.answer firsts (closing o)) piece
+    first_log_last o.version at (λ firsts. read_after_first o.version o.mode o.form firsts (closing o)) piece
 state_last (state.Second o firsts at) piece =
-    second_log_last o.version o.mode at (λ seconds. read_evidence o.version o.mode o.answer firsts seconds (closing o)) piece
+    second_log_last o.version o.mode at (λ seconds. read_evidence o.version o.mode o.form firsts seconds (closing o)) piece
 state_last (state.Yes o firsts seconds at) piece =
     yes_last o.version o.mode at (λ closed. closing o (yes_of firsts seconds closed)) piece
 state_last (state.List o firsts seconds at) piece =

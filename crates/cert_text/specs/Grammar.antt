@@ -10,8 +10,8 @@ use Rattle.cert_text.specs.declared.forms.Tail.TheVariants as tail
 use Rattle.cert_text.specs.declared.faults.TextKind.{TextKind}
 use Rattle.cert_text.specs.declared.faults.TextKind.TheVariants.{Truncated, Trailing}
 use Rattle.cert_text.specs.declared.faults.TextFault.{TextFault}
-use Rattle.cert_value.specs.declared.types.Answer.{Answer}
-use Rattle.cert_value.specs.declared.types.Answer.TheVariants as answer
+use Rattle.cert_value.specs.declared.types.Form.{Form}
+use Rattle.cert_value.specs.declared.types.Form.TheVariants as form
 use Rattle.cert_value.specs.declared.types.Cert.{Cert}
 use Rattle.cert_value.specs.declared.types.Body.{Body}
 use Rattle.cert_value.specs.declared.types.Body.TheVariants as body
@@ -214,24 +214,24 @@ abbrev pub list_of : List FirstStep → List SecondStep → Limited → Body
 list_of firsts seconds limited =
     body.Listing (record { first = firsts; second = seconds; limit = limited.limit; elements = limited.elements })
 
-abbrev pub read_evidence : ℕ → Mode → Answer → List FirstStep → List SecondStep → Then Body → List Line → ReadOutcome
-read_evidence v m (answer.Yes) firsts seconds next = read_closed v m (λ closed. next (yes_of firsts seconds closed))
-read_evidence v m (answer.No) firsts seconds next = read_closed v m (λ closed. next (yes_of firsts seconds closed))
-read_evidence v m (answer.List) firsts seconds next = read_limited m (λ limited. next (list_of firsts seconds limited))
+abbrev pub read_evidence : ℕ → Mode → Form → List FirstStep → List SecondStep → Then Body → List Line → ReadOutcome
+read_evidence v m (form.Yes) firsts seconds next = read_closed v m (λ closed. next (yes_of firsts seconds closed))
+read_evidence v m (form.No) firsts seconds next = read_closed v m (λ closed. next (yes_of firsts seconds closed))
+read_evidence v m (form.List) firsts seconds next = read_limited m (λ limited. next (list_of firsts seconds limited))
 
 -- The logs, and what follows them.
-abbrev pub read_after_first : ℕ → Mode → Answer → List FirstStep → Then Body → List Line → ReadOutcome
+abbrev pub read_after_first : ℕ → Mode → Form → List FirstStep → Then Body → List Line → ReadOutcome
 read_after_first v m a firsts next = read_second_log v m (λ seconds. read_evidence v m a firsts seconds next)
 
-abbrev pub read_logs : ℕ → Mode → Answer → Then Body → List Line → ReadOutcome
+abbrev pub read_logs : ℕ → Mode → Form → Then Body → List Line → ReadOutcome
 read_logs v m a next = read_first_log v (λ firsts. read_after_first v m a firsts next)
 
 -- The lines between the line of sizes and the last line.
-abbrev pub read_body : ℕ → Mode → Answer → Then Body → List Line → ReadOutcome
-read_body v m (answer.Yes) next = read_logs v m answer.Yes next
-read_body v (mode.Buchi) (answer.No) next = read_lasso next
-read_body v (mode.Finite) (answer.No) next = read_word next
-read_body v m (answer.List) next = read_logs v m answer.List next
+abbrev pub read_body : ℕ → Mode → Form → Then Body → List Line → ReadOutcome
+read_body v m (form.Yes) next = read_logs v m form.Yes next
+read_body v (mode.Buchi) (form.No) next = read_lasso next
+read_body v (mode.Finite) (form.No) next = read_word next
+read_body v m (form.List) next = read_logs v m form.List next
 
 -- There is no byte.
 abbrev pub is_bare : Line → Bool
@@ -263,7 +263,7 @@ read_end c = next_line (word_in keyword.End) (λ u. finish c)
 
 -- What follows the line of sizes.
 abbrev pub read_rest : Heading → Sizes → List Line → ReadOutcome
-read_rest h sizes = read_body h.version h.mode h.answer (λ b. read_end (cert_of h.version h.mode sizes b))
+read_rest h sizes = read_body h.version h.mode h.form (λ b. read_end (cert_of h.version h.mode sizes b))
 
 -- What follows the first line.
 abbrev pub read_sizes : Heading → List Line → ReadOutcome

@@ -12,8 +12,8 @@ use Rattle.cert_text.specs.declared.forms.Tail.{Tail}
 use Rattle.cert_text.specs.declared.forms.Tail.TheVariants as tail
 use Rattle.cert_text.specs.declared.faults.TextKind.{TextKind}
 use Rattle.cert_text.specs.declared.faults.TextKind.TheVariants as kind
-use Rattle.cert_value.specs.declared.types.Answer.{Answer}
-use Rattle.cert_value.specs.declared.types.Answer.TheVariants as answer
+use Rattle.cert_value.specs.declared.types.Form.{Form}
+use Rattle.cert_value.specs.declared.types.Form.TheVariants as form
 use Rattle.cert_value.specs.declared.types.GoneBy.{GoneBy}
 use Rattle.cert_value.specs.declared.types.Row.{Row}
 use Rattle.cert_value.specs.declared.types.Run.{Run}
@@ -29,7 +29,7 @@ use Rattle.cert_text.specs.declared.heads.FirstHead.TheVariants as first
 use Rattle.cert_text.specs.declared.heads.SecondHead.{SecondHead}
 use Rattle.cert_text.specs.declared.heads.SecondHead.TheVariants as second
 use Rattle.cert_text.specs.declared.heads.Way.TheVariants as way
-use Rattle.cert_value.specs.Text.{Line, version_word, mode_word, answer_word}
+use Rattle.cert_value.specs.Text.{Line, version_word, mode_word, form_word}
 use Rattle.cert_value.specs.WellFormed.{ascend, runs_ascend, rights_of, gone_of, blocks_due, are_letters, rank_key, is_less}
 use Rattle.cert_text.specs.Forms.{fits, line_fault, value_at, values_from}
 
@@ -308,14 +308,14 @@ step_in n =
 -- The places of the first line.
 abbrev pub heading_places : Heading → List Place
 heading_places h =
-    Word keyword.RabitCert ∷ Word (version_word h.version) ∷ Word (mode_word h.mode) ∷ Word (answer_word h.answer) ∷ []
+    Word keyword.RabitCert ∷ Word (version_word h.version) ∷ Word (mode_word h.mode) ∷ Word (form_word h.form) ∷ []
 
--- Whether the line is the first line of a certificate of this version, mode and answer.
+-- Whether the line is the first line of a certificate of this version, mode and form.
 abbrev pub is_heading : Heading → Line → Bool
 is_heading h tokens = is_none (line_fault (heading_places h) tail.Nothing tokens)
 
-abbrev pub heading : ℕ → Mode → Answer → Heading
-heading v m a = record { version = v; mode = m; answer = a }
+abbrev pub heading : ℕ → Mode → Form → Heading
+heading v m a = record { version = v; mode = m; form = a }
 
 -- The first of two, if there is one, and else the second.
 abbrev pub or_else : {A : Type 0} → Option A → Option A → Option A
@@ -329,8 +329,8 @@ if_heading h tokens = if is_heading h tokens then Some h else None
 -- One of the three headings of this version and mode.
 abbrev pub mode_heading_in : ℕ → Mode → Line → Option Heading
 mode_heading_in v m tokens =
-    or_else (if_heading (heading v m answer.Yes) tokens)
-    (or_else (if_heading (heading v m answer.No) tokens) (if_heading (heading v m answer.List) tokens))
+    or_else (if_heading (heading v m form.Yes) tokens)
+    (or_else (if_heading (heading v m form.No) tokens) (if_heading (heading v m form.List) tokens))
 
 -- One of the six headings of this version.
 abbrev pub version_heading_in : ℕ → Line → Option Heading

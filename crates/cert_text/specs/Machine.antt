@@ -11,7 +11,7 @@ use Rattle.cert_text.specs.declared.parts.Step.{Step}
 use Rattle.cert_text.specs.declared.parts.Step.TheVariants.{More, Whole}
 use Rattle.cert_text.specs.declared.parts.Closed.{Closed}
 use Rattle.cert_text.specs.declared.parts.Limited.{Limited}
-use Rattle.cert_value.specs.declared.types.Answer.TheVariants as answer
+use Rattle.cert_value.specs.declared.types.Form.TheVariants as form
 use Rattle.cert_value.specs.declared.types.Cert.{Cert}
 use Rattle.cert_value.specs.declared.types.Body.{Body}
 use Rattle.cert_value.specs.declared.types.Body.TheVariants as body
@@ -229,13 +229,13 @@ unfoldable pub whole : Opening → Body → State
 whole o b = state.End (cert_of o.version o.mode o.sizes b)
 
 unfoldable pub begun : Heading → Sizes → State
-begun h sizes = elim h.answer [
-  | answer.Yes ↦ state.First (record { version = h.version; mode = h.mode; answer = answer.Yes; sizes = sizes }) first_log.Count
-  | answer.No ↦ elim h.mode [
-    | mode.Buchi ↦ state.No (record { version = h.version; mode = mode.Buchi; answer = answer.No; sizes = sizes }) no_state.Prefix
-    | mode.Finite ↦ state.No (record { version = h.version; mode = mode.Finite; answer = answer.No; sizes = sizes }) no_state.Word
+begun h sizes = elim h.form [
+  | form.Yes ↦ state.First (record { version = h.version; mode = h.mode; form = form.Yes; sizes = sizes }) first_log.Count
+  | form.No ↦ elim h.mode [
+    | mode.Buchi ↦ state.No (record { version = h.version; mode = mode.Buchi; form = form.No; sizes = sizes }) no_state.Prefix
+    | mode.Finite ↦ state.No (record { version = h.version; mode = mode.Finite; form = form.No; sizes = sizes }) no_state.Word
   ]
-  | answer.List ↦ state.First (record { version = h.version; mode = h.mode; answer = answer.List; sizes = sizes }) first_log.Count
+  | form.List ↦ state.First (record { version = h.version; mode = h.mode; form = form.List; sizes = sizes }) first_log.Count
 ]
 
 unfoldable pub with_no : Opening → Step NoState Body → State
@@ -247,10 +247,10 @@ with_first_log o (More at) = state.First o at
 with_first_log o (Whole firsts) = state.Second o firsts second_log.Count
 
 unfoldable pub evidence_due : Opening → List FirstStep → List SecondStep → State
-evidence_due o firsts seconds = elim o.answer [
-  | answer.Yes ↦ state.Yes o firsts seconds (yes_state.Order block.Count)
-  | answer.No ↦ state.Yes o firsts seconds (yes_state.Order block.Count)
-  | answer.List ↦ state.List o firsts seconds list_state.Limit
+evidence_due o firsts seconds = elim o.form [
+  | form.Yes ↦ state.Yes o firsts seconds (yes_state.Order block.Count)
+  | form.No ↦ state.Yes o firsts seconds (yes_state.Order block.Count)
+  | form.List ↦ state.List o firsts seconds list_state.Limit
 ]
 
 unfoldable pub with_second_log : Opening → List FirstStep → Step SecondLog (List SecondStep) → State

@@ -10,11 +10,11 @@ ghost use Rattle.cert_text.specs.Agrees.{Agrees};
 use crate::faults::{LineFault, TextKind};
 use crate::forms::{Place, Tail, line_fault, value_at, values_from, values_in};
 use crate::straight::straight_step;
-use crate::write::{answer_word, mode_word, version_word};
+use crate::write::{form_word, mode_word, version_word};
 use auto_core::{List, Memory, Mode};
 use cert_value::{
-    Answer, GoneBy, Keyword, RankRow, Ranked, Row, Run, StepLine, ascend, exceeds_last,
-    gone_ascend, rights_ascend, runs_ascend,
+    Form, GoneBy, Keyword, RankRow, Ranked, Row, Run, StepLine, ascend, exceeds_last, gone_ascend,
+    rights_ascend, runs_ascend,
 };
 use std::alloc::Global;
 
@@ -36,8 +36,8 @@ pub(crate) struct Heading {
     pub(crate) version: u32,
     /// What the automata were asked.
     pub(crate) mode: Mode,
-    /// Which answer the certificate is for.
-    pub(crate) answer: Answer,
+    /// Which form the certificate has.
+    pub(crate) form: Form,
 }
 
 /// Whether the line is the first line of a certificate with this heading.
@@ -48,19 +48,19 @@ fn is_heading(heading: Heading, line: &[u8]) -> bool
         Place::Word(Keyword::RabitCert),
         Place::Word(version_word(heading.version)),
         Place::Word(mode_word(heading.mode)),
-        Place::Word(answer_word(heading.answer)),
+        Place::Word(form_word(heading.form)),
     ];
     line_fault(&places, Tail::Nothing, line).is_none()
 }
 
 /// The heading of these parts, if the line is the first line with it.
-fn if_heading(version: u32, mode: Mode, answer: Answer, line: &[u8]) -> Option<Heading>
-    ensures { result ≡ if_heading (heading version mode answer) (tokens_of line.now) }
+fn if_heading(version: u32, mode: Mode, form: Form, line: &[u8]) -> Option<Heading>
+    ensures { result ≡ if_heading (heading version mode form) (tokens_of line.now) }
 {
     let heading = Heading {
         version,
         mode,
-        answer,
+        form,
     };
     if is_heading(heading, line) {
         Some(heading)
@@ -73,13 +73,13 @@ fn if_heading(version: u32, mode: Mode, answer: Answer, line: &[u8]) -> Option<H
 fn mode_heading_in(version: u32, mode: Mode, line: &[u8]) -> Option<Heading>
     ensures { result ≡ mode_heading_in version mode (tokens_of line.now) }
 {
-    if let Some(heading) = if_heading(version, mode, Answer::Yes, line) {
+    if let Some(heading) = if_heading(version, mode, Form::Yes, line) {
         return Some(heading);
     }
-    if let Some(heading) = if_heading(version, mode, Answer::No, line) {
+    if let Some(heading) = if_heading(version, mode, Form::No, line) {
         return Some(heading);
     }
-    if_heading(version, mode, Answer::List, line)
+    if_heading(version, mode, Form::List, line)
 }
 
 /// One of the six headings of this version.

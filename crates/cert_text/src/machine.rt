@@ -13,7 +13,7 @@ use crate::lines::{Heading, Sizes, heading_in, sizes_in, word_in};
 use crate::parts::Step;
 use crate::second_log::{SecondLog, step_second_log};
 use auto_core::{List, Mode};
-use cert_value::{Answer, Body, Cert, FirstStep, Keyword, ListBody, SecondStep, YesBody};
+use cert_value::{Body, Cert, FirstStep, Form, Keyword, ListBody, SecondStep, YesBody};
 use std::alloc::Global;
 
 /// What the first two lines say.
@@ -23,8 +23,8 @@ pub(crate) struct Opening {
     pub(crate) version: u32,
     /// What the automata were asked.
     pub(crate) mode: Mode,
-    /// Which answer the certificate is for.
-    pub(crate) answer: Answer,
+    /// Which form the certificate has.
+    pub(crate) form: Form,
     /// The sizes.
     pub(crate) sizes: Sizes,
 }
@@ -75,16 +75,16 @@ fn begun(heading: Heading, sizes: Sizes) -> State
     let opening = Opening {
         version: heading.version,
         mode: heading.mode,
-        answer: heading.answer,
+        form: heading.form,
         sizes,
     };
-    match heading.answer {
-        Answer::Yes => State::First(opening, FirstLog::Count),
-        Answer::No => match heading.mode {
+    match heading.form {
+        Form::Yes => State::First(opening, FirstLog::Count),
+        Form::No => match heading.mode {
             Mode::Buchi => State::No(opening, NoState::Prefix),
             Mode::Finite => State::No(opening, NoState::Word),
         },
-        Answer::List => State::First(opening, FirstLog::Count),
+        Form::List => State::First(opening, FirstLog::Count),
     }
 }
 
@@ -122,14 +122,14 @@ fn next_first(
 fn evidence_due(opening: Opening, first: List<FirstStep>, second: List<SecondStep>) -> State
     ensures { result ≡ evidence_due opening first second }
 {
-    match opening.answer {
-        Answer::Yes | Answer::No => State::Yes(
+    match opening.form {
+        Form::Yes | Form::No => State::Yes(
             opening,
             first,
             second,
             YesState::Order(BlockState::Count),
         ),
-        Answer::List => State::List(opening, first, second, ListState::Limit),
+        Form::List => State::List(opening, first, second, ListState::Limit),
     }
 }
 

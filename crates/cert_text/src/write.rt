@@ -3,12 +3,12 @@
 ghost use Rattle.std.specs.Prelude.{◌≡◌, ◌++◌, ◌∷◌, [], OnOk, IfOk, codes, decimal};
 ghost use Rattle.cert_value.specs.declared.keywords.Keyword.TheVariants as keyword;
 ghost use Rattle.cert_value.specs.WellFormed.{upgraded};
-ghost use Rattle.cert_value.specs.Text.{spelled, text_of, line_text, text, first_lines, second_lines, yes_lines, list_lines, body_lines, first_line, closed_lines, limit_lines, answer_of, version_word, mode_word, answer_word};
+ghost use Rattle.cert_value.specs.Text.{spelled, text_of, line_text, text, first_lines, second_lines, yes_lines, list_lines, body_lines, first_line, closed_lines, limit_lines, form_of, version_word, mode_word, form_word};
 
 use auto_core::{List, Memory, Mode, Origin};
 use cert_value::{
-    Answer, Body, Cert, Element, FirstStep, Keyword, ListBody, Print, SecondStep, StepLine,
-    YesBody, print_all, print_count, print_keyword, print_line,
+    Body, Cert, Element, FirstStep, Form, Keyword, ListBody, Print, SecondStep, StepLine, YesBody,
+    print_all, print_count, print_keyword, print_line,
 };
 use std::alloc::Global;
 
@@ -126,14 +126,14 @@ pub(crate) fn mode_word(mode: Mode) -> Keyword
     }
 }
 
-/// The answer's word in the first line.
-pub(crate) fn answer_word(answer: Answer) -> Keyword
-    ensures { result ≡ answer_word answer }
+/// The form's word in the first line.
+pub(crate) fn form_word(form: Form) -> Keyword
+    ensures { result ≡ form_word form }
 {
-    match answer {
-        Answer::Yes => Keyword::Yes,
-        Answer::No => Keyword::No,
-        Answer::List => Keyword::List,
+    match form {
+        Form::Yes => Keyword::Yes,
+        Form::No => Keyword::No,
+        Form::List => Keyword::List,
     }
 }
 
@@ -150,29 +150,24 @@ fn print_format(out: &mut List<u8>, version: u32) -> Result<(), Memory>
 }
 
 /// Writes the first line.
-fn print_first_line(
-    out: &mut List<u8>,
-    version: u32,
-    mode: Mode,
-    answer: Answer,
-) -> Result<(), Memory>
-    ensures { OnOk result (out.new ≡ out.old ++ line_text (first_line version mode answer)) }
+fn print_first_line(out: &mut List<u8>, version: u32, mode: Mode, form: Form) -> Result<(), Memory>
+    ensures { OnOk result (out.new ≡ out.old ++ line_text (first_line version mode form)) }
 {
     print_format(out, version)?;
     print_keyword(out, mode_word(mode))?;
     out.push(b' ')?;
-    print_line(out, answer_word(answer), &[], &[])?;
+    print_line(out, form_word(form), &[], &[])?;
     Ok(())
 }
 
-/// Which answer the body gives.
-fn answer_of(body: &Body) -> Answer
-    ensures { result ≡ answer_of body.now }
+/// Which form the body has.
+fn form_of(body: &Body) -> Form
+    ensures { result ≡ form_of body.now }
 {
     match body {
-        Body::Yes(_) => Answer::Yes,
-        Body::NoLasso(_) | Body::NoWord(_) => Answer::No,
-        Body::Listing(_) => Answer::List,
+        Body::Yes(_) => Form::Yes,
+        Body::NoLasso(_) | Body::NoWord(_) => Form::No,
+        Body::Listing(_) => Form::List,
     }
 }
 
@@ -180,7 +175,7 @@ fn answer_of(body: &Body) -> Answer
 fn print_cert(out: &mut List<u8>, cert: &Cert, version: u32) -> Result<(), Memory>
     ensures { OnOk result (out.new ≡ out.old ++ text (record cert.now { version = version })) }
 {
-    print_first_line(out, version, cert.mode, answer_of(&cert.body))?;
+    print_first_line(out, version, cert.mode, form_of(&cert.body))?;
     print_line(
         out,
         Keyword::Sizes,

@@ -1,6 +1,6 @@
 use Rattle.std.proofs.Common.{◌≡◌, ℕ, suc, ◌+◌, ◌-◌, ◌==◌, ◌<◌, List, [], ◌∷◌, ◌++◌, decimal, Bool, true, false, cond, ap, sym, refl, ◌∙◌, append_assoc, append-nil, arith}
 use Rattle.std.specs.List.{range_with_len}
-use Rattle.cert_value.specs.Text.{Line, spaced, line_text, text_of, each, numbers, in_pairs, gone_numbers, ranked_numbers, run_numbers, numbers_of, ends_of, row_numbers, text, first_line, sizes_line, end_line, body_lines, answer_of}
+use Rattle.cert_value.specs.Text.{Line, spaced, line_text, text_of, each, numbers, in_pairs, gone_numbers, ranked_numbers, run_numbers, numbers_of, ends_of, row_numbers, text, first_line, sizes_line, end_line, body_lines, form_of}
 use Rattle.cert_value.specs.declared.types.Cert.{Cert}
 use Rattle.cert_value.specs.Printed.{joined, number_text, pair_text, gone_text, ranked_text, run_text}
 use Rattle.cert_value.specs.declared.types.GoneBy.{GoneBy}
@@ -104,10 +104,10 @@ text_four A B C D = text_append A (B ++ (C ++ D)) ∙ ap (λ x. text_of A ++ x) 
 pub text_parts :
     (c : Cert)
     → text c
-    ≡ line_text (first_line c.version c.mode (answer_of c.body))
+    ≡ line_text (first_line c.version c.mode (form_of c.body))
     ++ (line_text (sizes_line c.first_states c.second_states c.labels) ++ (text_of (body_lines c.version c.body) ++ line_text end_line))
 text_parts c =
-    let head = line_text (first_line c.version c.mode (answer_of c.body)) in
+    let head = line_text (first_line c.version c.mode (form_of c.body)) in
     let sizes = line_text (sizes_line c.first_states c.second_states c.labels) in
     ap (λ x. head ++ (sizes ++ x))
     (text_append (body_lines c.version c.body) (end_line ∷ []) ∙ ap (λ x. text_of (body_lines c.version c.body) ++ x) (append-nil (line_text end_line)))

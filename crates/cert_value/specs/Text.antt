@@ -7,8 +7,8 @@ use Rattle.auto_core.specs.declared.parts.Origin.{Origin}
 use Rattle.auto_core.specs.declared.parts.Origin.TheVariants as origin
 use Rattle.cert_value.specs.declared.keywords.Keyword.{Keyword}
 use Rattle.cert_value.specs.declared.keywords.Keyword.TheVariants as keyword
-use Rattle.cert_value.specs.declared.types.Answer.{Answer}
-use Rattle.cert_value.specs.declared.types.Answer.TheVariants as answer
+use Rattle.cert_value.specs.declared.types.Form.{Form}
+use Rattle.cert_value.specs.declared.types.Form.TheVariants as form
 use Rattle.cert_value.specs.declared.types.Cert.{Cert}
 use Rattle.cert_value.specs.declared.types.Body.{Body}
 use Rattle.cert_value.specs.declared.types.Body.TheVariants as body
@@ -249,27 +249,27 @@ abbrev pub mode_word : Mode → Keyword
 mode_word (mode.Buchi) = keyword.Buchi
 mode_word (mode.Finite) = keyword.Finite
 
--- The answer's word in the first line.
-abbrev pub answer_word : Answer → Keyword
-answer_word (answer.Yes) = keyword.Yes
-answer_word (answer.No) = keyword.No
-answer_word (answer.List) = keyword.List
+-- The form's word in the first line.
+abbrev pub form_word : Form → Keyword
+form_word (form.Yes) = keyword.Yes
+form_word (form.No) = keyword.No
+form_word (form.List) = keyword.List
 
--- Which answer the body gives.
-abbrev pub answer_of : Body → Answer
-answer_of (body.Yes y) = answer.Yes
-answer_of (body.NoLasso lasso) = answer.No
-answer_of (body.NoWord word) = answer.No
-answer_of (body.Listing list) = answer.List
+-- Which form the body has.
+abbrev pub form_of : Body → Form
+form_of (body.Yes y) = form.Yes
+form_of (body.NoLasso lasso) = form.No
+form_of (body.NoWord word) = form.No
+form_of (body.Listing list) = form.List
 
 -- The version's word in the first line.
 abbrev pub version_word : ℕ → Keyword
 version_word v = if v == 2 then keyword.Two else keyword.One
 
 -- The first line.
-abbrev pub first_line : ℕ → Mode → Answer → Line
+abbrev pub first_line : ℕ → Mode → Form → Line
 first_line v m a =
-    spelled keyword.RabitCert ∷ spelled (version_word v) ∷ spelled (mode_word m) ∷ spelled (answer_word a) ∷ []
+    spelled keyword.RabitCert ∷ spelled (version_word v) ∷ spelled (mode_word m) ∷ spelled (form_word a) ∷ []
 
 -- The line of sizes: the states of the read first automaton, of the read second one, and the joined labels.
 abbrev pub sizes_line : ℕ → ℕ → ℕ → Line
@@ -283,7 +283,7 @@ end_line = spelled keyword.End ∷ []
 -- All lines of a certificate.
 abbrev pub cert_lines : Cert → List Line
 cert_lines c =
-    first_line c.version c.mode (answer_of c.body)
+    first_line c.version c.mode (form_of c.body)
     ∷ sizes_line c.first_states c.second_states c.labels
     ∷ (body_lines c.version c.body ++ end_line ∷ [])
 

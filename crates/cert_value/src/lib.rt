@@ -17,7 +17,7 @@ pub use keywords::Keyword;
 pub use printing::{Print, print_all, print_count, print_keyword, print_line};
 pub use tokens::Tokens;
 pub use types::{
-    Answer, Body, Cert, Element, FirstStep, GoneBy, Grounds, ListBody, Mark, RankBlock, RankRow,
+    Body, Cert, Element, FirstStep, Form, GoneBy, Grounds, ListBody, Mark, RankBlock, RankRow,
     Ranked, RelBlock, Row, Run, SecondStep, StepLine, YesBody,
 };
 pub use versions::upgrade;

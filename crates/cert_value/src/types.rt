@@ -19,9 +19,9 @@ pub struct Cert {
     pub body: Body,
 }
 
-/// Which answer a certificate is for.
+/// Which form a certificate has.
 #[derive(Clone, Copy, Debug, PartialEq, Eq)]
-pub enum Answer {
+pub enum Form {
     /// Inclusion.
     Yes,
     /// A lasso or word.

@@ -25,7 +25,7 @@ use Rattle.cert_text.proofs.Reading.{read_by, told_inv}
 use Rattle.cert_text.proofs.Theorem.{some_lines}
 use Rattle.cross_text.specs.declared.types.Cross.{Cross}
 use Rattle.cross_text.specs.Text.{block_of, has_cross_text, heading_line, look_line, cross_lines, cross_text}
-use Rattle.cross_text.specs.Grammar.{cross_heading_places, cross_heading_in, cross_of, read_relation, read_look, read_cross_sizes, read_cross, cross_reading}
+use Rattle.cross_text.specs.Grammar.{cross_heading_places, cross_heading_in, cross_of_parts, read_relation, read_look, read_cross_sizes, read_cross, cross_reading}
 use Rattle.cross_text.specs.Law.{OneCrossText}
 
 -- All lines of a cross relation are plain.
@@ -74,7 +74,7 @@ cross_fw c rest e h =
     let B = block_lines 1 (block_of c) in
     let the_end = end_line ∷ rest in
     let more = l ∷ ((B ++ end_line ∷ []) ++ rest) in
-    let next : On Cross RelBlock = λ block. read_end (cross_of sizes c.look block) in
+    let next : On Cross RelBlock = λ block. read_end (cross_of_parts sizes c.look block) in
     line_fw cross_heading_in (λ u. read_cross_sizes) heading_line tt (s ∷ more) heading_fw (some_cons s more)
     ∙ line_fw sizes_in read_look s sizes more (sizes_fw c.first_states c.second_states c.labels a.0 b.0 d.0) (some_cons l ((B ++ end_line ∷ []) ++ rest))
     ∙ ap (λ ls. read_look sizes (l ∷ ls)) (append_assoc B (end_line ∷ []) rest)
@@ -92,9 +92,9 @@ cross_bw ls c e =
     let sf = sizes_bw s.line s.item s.told in
     let l = line_bw (number_in keyword.Look) (read_relation s.item) s.rest c s.on in
     let lf = number_bw keyword.Look l.line l.item l.told in
-    let next : On Cross RelBlock = λ block. read_end (cross_of s.item l.item block) in
+    let next : On Cross RelBlock = λ block. read_end (cross_of_parts s.item l.item block) in
     let b = block_bw 1 next l.rest c l.on in
-    let own = cross_of s.item l.item b.item in
+    let own = cross_of_parts s.item l.item b.item in
     let z = line_bw (word_in keyword.End) (λ u. finish own) b.rest c b.on in
     let zf = word_bw keyword.End z.line z.item z.told in
     let f = finish_bw own c z.rest z.on in

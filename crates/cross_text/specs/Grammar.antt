@@ -23,8 +23,8 @@ abbrev pub cross_heading_in : Line → Said (Unit {0})
 cross_heading_in tokens = if is_none (line_fault cross_heading_places tail.Nothing tokens) then Ok tt else Err kind.Header
 
 -- The cross relation of these parts.
-abbrev pub cross_of : Sizes → ℕ → RelBlock → Cross
-cross_of sizes look block = record {
+abbrev pub cross_of_parts : Sizes → ℕ → RelBlock → Cross
+cross_of_parts sizes look block = record {
   first_states = sizes.first_states;
   second_states = sizes.second_states;
   labels = sizes.labels;
@@ -34,7 +34,7 @@ cross_of sizes look block = record {
 
 -- What follows the line of the lookahead: the rows, and the last line.
 abbrev pub read_relation : Sizes → ℕ → List Line → LinesOutcome Cross
-read_relation sizes look = read_block 1 (λ block. read_end (cross_of sizes look block))
+read_relation sizes look = read_block 1 (λ block. read_end (cross_of_parts sizes look block))
 
 -- What follows the line of sizes.
 abbrev pub read_look : Sizes → List Line → LinesOutcome Cross

@@ -5,7 +5,7 @@ use Rattle.std.proofs.lemmas.Bool.{and_parts}
 use Rattle.std.proofs.lemmas.List.{append-nil}
 use Rattle.std.proofs.lemmas.List.Elements.{All-nil, All-cons, All-contains, All-from_recursion, Contains-get_or, Contains-append_left, Contains-append_right}
 use Rattle.auto_core.specs.Automaton.{Automaton, IsAutomaton, trans_at}
-use Rattle.auto_core.specs.Delayed.{RankedTriples, HoldsTriple, AreAnnounced, AreTriplesOf, AreRelatedAhead}
+use Rattle.auto_core.specs.Delayed.{RankedTriples, HoldsTriple, AreAnnounced, AreTriplesOf, AreStateRelated}
 use Rattle.auto_core.specs.Game.{Close, Holds, ArePairsBelow, IsGreatest, IsGreatestForward, IsGreatestBackward}
 use Rattle.auto_core.specs.Pruning.{AtSource, AtTarget, HasBetter, IsCut, IsPruned, look_back, look_ahead}
 use Rattle.auto_core.specs.Quotient.{IsQuotient}
@@ -176,7 +176,7 @@ pub delayed_leads : (A B : Automaton) (n : ℕ) (ranks : Ranking) (classes : Lis
 delayed_leads A B n ranks classes m is =
     let (X, x, held) = m.greatest in
     let to = same_related A n X ranks.triples x is.greatest in
-    let related : ℕ → ℕ → Type 0 = AreRelatedAhead A.labels n ranks.triples in
+    let related : ℕ → ℕ → Type 0 = AreStateRelated A.labels n ranks.triples in
     let same : (p q : ℕ) → Holds m.pairs p q ↔ related p q = λ p q. (λ h. (to p q).0 ((held p q).0 h), λ h. (held p q).1 ((to p q).1 h)) in
     subst (λ c. IsQuotient A c B)
     (same_classes A.states (Close (Holds m.pairs)) (Close related) m.classes classes m.joined is.joined (same_closure (Holds m.pairs) related same))

@@ -1,7 +1,7 @@
 -- What a reduction logs, written as the second log of a certificate, keeps its rules.
 use Rattle.std.proofs.Common.{◌≡◌, ℕ, ◌<◌, ◌≤◌, List, length, Contains, sym, subst}
 use Rattle.auto_core.specs.Automaton.{Automaton, IsAutomaton}
-use Rattle.auto_core.specs.Delayed.{RankedTriples, IsRight, AreTriplesOf, AreRelatedAhead, letters_for}
+use Rattle.auto_core.specs.Delayed.{RankedTriples, IsRight, AreTriplesOf, AreStateRelated, letters_for}
 use Rattle.auto_core.specs.Game.{Close, Holds, IsGreatestForward, IsGreatestBackward, StableForward, StableBackward}
 use Rattle.auto_core.specs.Pruning.{IsCut}
 use Rattle.auto_core.specs.Quotient.{AreClassesOf, IsQuotient, RelatesMembers, RelatesMembersBy}
@@ -63,9 +63,9 @@ module _ (A B : Automaton) (item : ℕ) where
   delayed_keeps n ranks classes block merge is leads =
       let below : IsRankBlockBelow A.states A.labels block = rank_block_below A.states A.labels ranks.letters ranks.triples block is (subst (λ m. AreTriplesOf A.states A.labels m ranks.triples) (sym merge.announced) merge.greatest.in_range) in
       let right : IsRight A (triples_of block) = subst (IsRight A) (sym is.triples) merge.greatest.right in
-      let P : ℕ → RankedTriples → Type 0 = λ m X. RelatesMembersBy A classes (AreRelatedAhead A.labels m X) in
+      let P : ℕ → RankedTriples → Type 0 = λ m X. RelatesMembersBy A classes (AreStateRelated A.labels m X) in
       let related : P ranks.letters (triples_of block) = subst (P ranks.letters) (sym is.triples)
-      (subst (λ m. P m ranks.triples) (sym merge.announced) (members_related A (AreRelatedAhead A.labels n ranks.triples) classes merge.joined)) in
+      (subst (λ m. P m ranks.triples) (sym merge.announced) (members_related A (AreStateRelated A.labels n ranks.triples) classes merge.joined)) in
       record { holds = (below, ((merge.joined.len, merge.joined.valid), (right, (related, tt)))); leads = leads }
 
   cut_keeps : (n k : ℕ) (gone : List Gone) (back ahead : ℕ → ℕ → Type 0) → AreLeastBetter A n back ahead gone → IsCut A (numbers_of_gone gone) B → KeepsAs (second.Cut (numbers_of_gone gone))

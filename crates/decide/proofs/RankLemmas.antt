@@ -204,18 +204,18 @@ place_one labels n m (a ∷ b) (d ∷ c) len first second same =
 
 module _ (R : Ranking) (valid : IsRanking R) where
   abbrev place : Triple → ℕ
-  place x = place_from R.labels (x.0 * R.size + x.2) x.1
+  place x = place_from R.labels (x.0 * R.states + x.2) x.1
 
   abbrev words : ℕ
   words = R.labels ^ (R.letters - 1)
 
-  low_place : (x : Triple) → Contains R.triples x → place x < R.size * R.size * words
+  low_place : (x : Triple) → Contains R.triples x → place x < R.states * R.states * words
   low_place x there =
       let range = valid.in_range x.1 x.0 x.2 (x.3, there) in
-      let lt = place_below R.labels (R.size * R.size) (x.0 * R.size + x.2) x.1 (mul-add-lt x.0 R.size x.2 R.size range.1 range.2) range.0.1 in
+      let lt = place_below R.labels (R.states * R.states) (x.0 * R.states + x.2) x.1 (mul-add-lt x.0 R.states x.2 R.states range.1 range.2) range.0.1 in
       let letters : suc (length x.1) ≡ R.letters = range.0.0 in
       let len : length x.1 ≡ R.letters - 1 = omega arith in
-      subst (λ k. place x < R.size * R.size * R.labels ^ k) len lt
+      subst (λ k. place x < R.states * R.states * R.labels ^ k) len lt
 
   other_place : (x z : Triple) → Contains R.triples x → Contains R.triples z → IsTripleBefore x z → place x ≡ place z → ⊥
   other_place x z there also before same =
@@ -223,8 +223,8 @@ module _ (R : Ranking) (valid : IsRanking R) where
       let other = valid.in_range z.1 z.0 z.2 (z.3, also) in
       let letters : suc (length x.1) ≡ R.letters = here.0.0 in
       let others : suc (length z.1) ≡ R.letters = other.0.0 in
-      let parts = place_one R.labels (x.0 * R.size + x.2) (z.0 * R.size + z.2) x.1 z.1 (omega arith) here.0.1 other.0.1 same in
-      let states = same_from_place x.0 x.2 z.0 z.2 R.size here.2 other.2 parts.0 in
+      let parts = place_one R.labels (x.0 * R.states + x.2) (z.0 * R.states + z.2) x.1 z.1 (omega arith) here.0.1 other.0.1 same in
+      let states = same_from_place x.0 x.2 z.0 z.2 R.states here.2 other.2 parts.0 in
       not_before x z (λ i. states.0 i ∷ parts.1 i) states.1 before
 
   all_distinct : (xs : RankedTriples) → Rises IsTripleBefore xs → ((x : Triple) → Contains xs x → Contains R.triples x) → IsDistinct eqb (map place xs)
@@ -238,10 +238,10 @@ module _ (R : Ranking) (valid : IsRanking R) where
   )
 
   -- There are no more triples than states with states and words of announced letters.
-  triples_are_few : length R.triples ≤ R.size * R.size * words
+  triples_are_few : length R.triples ≤ R.states * R.states * words
   triples_are_few =
       let len = length-map R.triples place in
-      let few = length-le_from_distinct_below (map place R.triples) (R.size * R.size * words) (all_distinct R.triples (rises_from_pairs IsTripleBefore R.triples valid.in_order) (λ x there. there)) (λ n listed.
+      let few = length-le_from_distinct_below (map place R.triples) (R.states * R.states * words) (all_distinct R.triples (rises_from_pairs IsTripleBefore R.triples valid.in_order) (λ x there. there)) (λ n listed.
       let (k, y, k_in, at, same) = Any-from_list_any (eqb n) (map place R.triples) listed in
       let (x, x_in, is) = map_from place R.triples y (k, k_in, at) in
       let lt = low_place x x_in in
@@ -270,7 +270,7 @@ pub ranks_are_few :
     → A.states ≤ 2048
     → A.labels ≤ 512
     → IsRanking R
-    → R.size ≡ A.states
+    → R.states ≡ A.states
     → R.labels ≡ A.labels
     → R.letters ≡ letters_for A n
     → IsGreatestDelayed A (letters_for A n) R.triples
@@ -288,6 +288,6 @@ ranks_are_few A n R states labels valid size on_labels letters greatest = record
     few : length R.triples ≤ 4194304
     few =
         let le = triples_are_few R valid in
-        let same = words_on R.size R.labels R.letters size on_labels letters in
+        let same = words_on R.states R.labels R.letters size on_labels letters in
         let most = words_are_few A n states in
         omega (arith, le, same, most)

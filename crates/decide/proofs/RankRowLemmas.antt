@@ -196,7 +196,7 @@ module _ (R : Ranking) (valid : IsRanking R) (few : HasFewTriples R) (at end : �
       here : Contains X (triple_at X at)
       here = Contains-get_or X at (0, [], 0, None) (omega arith)
 
-      range : AreAnnounced R.labels R.letters (triple_at X at).1 × ((triple_at X at).0 < R.size) × ((triple_at X at).2 < R.size)
+      range : AreAnnounced R.labels R.letters (triple_at X at).1 × ((triple_at X at).0 < R.states) × ((triple_at X at).2 < R.states)
       range = valid.in_range (triple_at X at).1 (triple_at X at).0 (triple_at X at).2 ((triple_at X at).3, here)
 
       left_low : left < 1000000000

@@ -20,7 +20,7 @@ ranked_of_triple x = record { right = x.2; code = code_for x.3 }
 -- The number of the triples, their states and letters and the codes of their ranks have at most nine digits.
 pub record HasFewTriples (ranks : Ranking) : Type 0 where
   pub count : length ranks.triples < 1000000000
-  pub states : ranks.size ≤ 1000000000
+  pub states : ranks.states ≤ 1000000000
   pub labels : ranks.labels ≤ 1000000000
   pub below : (b : List ℕ) (p q r : ℕ) → HasRank ranks.triples b p q r → r + 1 < 1000000000
 

@@ -59,7 +59,7 @@ fn ranked_rights(
     for i in 0..count {
         rights.push(Ranked {
             right: ranks.right(at + i),
-            code: code_of(ranks.rank_of(at + i)),
+            code: code_of(ranks.rank_at(at + i)),
         })?;
     }
     Ok(rights)

@@ -6,7 +6,7 @@ use Rattle.auto_core.specs.Delayed.{RankedTriples, HoldsTriple, HasRank, Announc
 use Rattle.auto_core.proofs.MemberLemmas.{map_has, map_from}
 use Rattle.auto_core.proofs.MoveLemmas.{move_in_range}
 use Rattle.delayed_sim.specs.Rankings.{Triple}
-use Rattle.delayed_sim.specs.Across.{RankedPlaces, HoldsPair, AreWithin, IsRightAcross}
+use Rattle.delayed_sim.specs.Across.{RankedPlaces, HoldsPlace, AreWithin, IsRightAcross}
 use Rattle.delayed_sim.specs.Pairings.{Pairing}
 use Rattle.delayed_sim.specs.Levels.{rank_at, IsLeastRank}
 use Rattle.delayed_sim.specs.Played.{HasEachRight, IsPlayed}
@@ -124,7 +124,7 @@ module _ (A : Automaton) (n : ℕ) (L : Automaton) (valid : IsAutomaton A) (plac
               (answer.0, has.0, answer.1, lists_rank p' c answer.0 has.0 next (move_in_range A valid p a p' move).1 there has.1, omega arith)
         ]
 
-    within : (Y : RankedTriples) → AreTriplesOf A.states A.labels n Y → IsRight A Y → (x q : ℕ) → HoldsPair (at_places Y) x q → Holds S.pairs x q
+    within : (Y : RankedTriples) → AreTriplesOf A.states A.labels n Y → IsRight A Y → (x q : ℕ) → HoldsPlace (at_places Y) x q → Holds S.pairs x q
     within Y range right = played.shrinks.leaves (at_places Y) (places_right Y range right) (first (at_places Y) (places_below Y range right) (places_right Y range right))
 
     pub greatest_ahead : IsGreatestDelayed A n T

@@ -2,7 +2,7 @@
 use Rattle.std.proofs.Common.{◌≡◌, ℕ, zero, suc, ◌≤◌, inl, inr, Bool, true, false, Option, None, Some, sym, ap, ◌∙◌, subst, arith}
 use Rattle.std.proofs.lemmas.Bool.{cases_eq, false≢true}
 use Rattle.auto_core.specs.Automaton.{Automaton, IsAccepting}
-use Rattle.delayed_sim.specs.Across.{RankedPlaces, HoldsPair, HasPairRank, IsRightAcross}
+use Rattle.delayed_sim.specs.Across.{RankedPlaces, HoldsPlace, HasPlaceRank, IsRightAcross}
 use Rattle.delayed_sim.specs.Levels.{CanHave}
 
 module _ (L A : Automaton) (R : ℕ → ℕ → Type 0) where
@@ -35,15 +35,15 @@ module _ (L A : Automaton) (R : ℕ → ℕ → Type 0) where
   ]
 
   -- the ranks of a right relation inside R can be had
-  pub right_can : (X : RankedPlaces) → IsRightAcross L A X → ((p q : ℕ) → HoldsPair X p q → R p q) → (n p q r : ℕ) → r ≤ n → HasPairRank X p q r → CanHave L A R n p q
-  right_can X right inside zero p q r le h = (inside p q (Some r, h), right.at_zero p q (subst (λ x. HasPairRank X p q x) (none r le) h))
+  pub right_can : (X : RankedPlaces) → IsRightAcross L A X → ((p q : ℕ) → HoldsPlace X p q → R p q) → (n p q r : ℕ) → r ≤ n → HasPlaceRank X p q r → CanHave L A R n p q
+  right_can X right inside zero p q r le h = (inside p q (Some r, h), right.at_zero p q (subst (λ x. HasPlaceRank X p q x) (none r le) h))
     where
       none : (r : ℕ) → r ≤ zero → r ≡ zero
       none r le = omega arith
   right_can X right inside (suc n) p q r le h = (
     inside p q (Some r, h),
     elim (cases_eq r 0) [
-      | inl e ↦ inl (right.at_zero p q (subst (λ x. HasPairRank X p q x) e h))
+      | inl e ↦ inl (right.at_zero p q (subst (λ x. HasPlaceRank X p q x) e h))
       | inr apart ↦ inr (λ a p' move.
           let answer = right.above_zero p q r a p' h (omega arith) move in
           let lt = answer.4 in

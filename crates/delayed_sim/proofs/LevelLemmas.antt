@@ -248,7 +248,7 @@ same_then R S T h g = record {
 pub greatest_of :
     (A : Automaton) (R : Ranking)
     → IsRanking R
-    → R.size ≡ A.states
+    → R.states ≡ A.states
     → R.labels ≡ A.labels
     → AreAllAnswered A R.triples
     → AreRanksRight A R.triples
@@ -257,7 +257,7 @@ pub greatest_of :
     → ((r : ℕ) → HasRanksUpto A R.letters r R.triples)
     → IsGreatestDelayed A R.letters R.triples
 greatest_of A R valid size labels answered ranks accepting each least = record {
-  in_range = subst (λ s. AreTriplesOf s A.labels R.letters R.triples) size (subst (λ l. AreTriplesOf R.size l R.letters R.triples) labels valid.in_range);
+  in_range = subst (λ s. AreTriplesOf s A.labels R.letters R.triples) size (subst (λ l. AreTriplesOf R.states l R.letters R.triples) labels valid.in_range);
   once = valid.once;
   right = right_of_triples A R.triples (λ x has. record {
     answers = answered x has;

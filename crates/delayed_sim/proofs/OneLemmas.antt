@@ -33,4 +33,4 @@ greatest_one A R S valid also size labels letters is other =
     let triples : R.triples ≡ S.triples =
     same_members IsTripleBefore before_back R.triples S.triples (rises_from_pairs IsTripleBefore R.triples valid.in_order) (rises_from_pairs IsTripleBefore S.triples also.in_order)
     (λ z h. goes_over A R.letters R.triples S.triples is other_n z.1 z.0 z.2 z.3 h) (λ z h. goes_over A R.letters S.triples R.triples other_n is z.1 z.0 z.2 z.3 h) in
-    λ i. record { size = size i; labels = labels i; letters = letters i; triples = triples i }
+    λ i. record { states = size i; labels = labels i; letters = letters i; triples = triples i }

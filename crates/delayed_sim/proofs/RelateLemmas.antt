@@ -12,7 +12,7 @@ use Rattle.std.proofs.lemmas.List.{append-nil, append_assoc, get_or_default, nil
 use Rattle.std.proofs.lemmas.List.Elements.{Contains-get_or, All-cons, All-head, All-tail}
 use Rattle.auto_core.specs.Game.{Holds}
 use Rattle.auto_core.specs.Rows.{bit_of, HasBit}
-use Rattle.auto_core.specs.Delayed.{RankedTriples, HoldsTriple, AreRelatedAhead}
+use Rattle.auto_core.specs.Delayed.{RankedTriples, HoldsTriple, AreStateRelated}
 use Rattle.bit_rel.specs.Relation.{Relation, Adds}
 use Rattle.delayed_sim.specs.Rankings.{Triple, Ranking, IsRanking, IsTripleBefore, IsTripleFrom, row_key, triple_cmp, triple_at}
 use Rattle.delayed_sim.specs.Related.{HoldsEach}
@@ -123,14 +123,14 @@ one_of_each R word p q a a_in h rest len below =
     (h (a ∷ rest) (omega (arith, length-append word (a ∷ []))) (All-cons (λ x. x < R.labels) a rest a_in below))
 
 -- with no letter chosen it is the state relation
-pub each_related : (R : Ranking) (p q : ℕ) → HoldsEach R [] p q ↔ AreRelatedAhead R.labels R.letters R.triples p q
+pub each_related : (R : Ranking) (p q : ℕ) → HoldsEach R [] p q ↔ AreStateRelated R.labels R.letters R.triples p q
 each_related R p q = (
   λ h b announced. h b (let len = announced.0 in omega arith) announced.1,
   λ h rest len below. h rest (omega arith, below),
 )
 
 -- with one letter there is but the empty word
-pub related_alone : (R : Ranking) (p q : ℕ) → R.letters ≡ 1 → AreRelatedAhead R.labels 1 R.triples p q ↔ HoldsTriple R.triples [] p q
+pub related_alone : (R : Ranking) (p q : ℕ) → R.letters ≡ 1 → AreStateRelated R.labels 1 R.triples p q ↔ HoldsTriple R.triples [] p q
 related_alone R p q alone = (
   λ h. h [] (refl, λ i d i_in. absurd (omega arith)),
   λ h b announced. let len = announced.0 in subst (λ l. HoldsTriple R.triples l p q) (sym (nil_from_length b (omega arith))) h,
@@ -146,7 +146,7 @@ pub pairs_of_triples :
     → IsRanking R
     → R.letters ≡ 1
     → upto ≡ length R.triples
-    → AreRelatedFrom R upto p q ↔ ((p < R.size) × (q < R.size) × AreRelatedAhead R.labels 1 R.triples p q)
+    → AreRelatedFrom R upto p q ↔ ((p < R.states) × (q < R.states) × AreStateRelated R.labels 1 R.triples p q)
 pairs_of_triples R p q upto valid alone all = (
   λ (i, i_in, left, right).
       let t = triple_at R.triples i in
@@ -155,8 +155,8 @@ pairs_of_triples R p q upto valid alone all = (
       let word : t.1 ≡ [] = let len = range.0.0 in nil_from_length t.1 (omega arith) in
       let here : HoldsTriple R.triples [] p q =
       (t.3, subst (λ b. Contains R.triples (p, b, q, t.3)) word (subst (λ x. Contains R.triples (x, t.1, q, t.3)) left (subst (λ y. Contains R.triples (t.0, t.1, y, t.3)) right has))) in (
-        subst (λ x. x < R.size) left range.1,
-        subst (λ x. x < R.size) right range.2,
+        subst (λ x. x < R.states) left range.1,
+        subst (λ x. x < R.states) right range.2,
         (related_alone R p q alone).1 here,
       ),
   λ (p_in, q_in, related).

@@ -117,7 +117,7 @@ answers_at A X limit t p b q r e f g told =
     subst (λ x. IsTrue r ↔ HasAnswers A X limit t.1 x t.2) e (subst (λ y. IsTrue r ↔ HasAnswers A X limit y p t.2) f (subst (λ z. IsTrue r ↔ HasAnswers A X limit b p z) g told))
 
 -- what stands at a place is of the states and labels
-pub place_range : (R : Ranking) → IsRanking R → (i : ℕ) → i < length R.triples → AreAnnounced R.labels R.letters (triple_at R.triples i).1 × ((triple_at R.triples i).0 < R.size) × ((triple_at R.triples i).2 < R.size)
+pub place_range : (R : Ranking) → IsRanking R → (i : ℕ) → i < length R.triples → AreAnnounced R.labels R.letters (triple_at R.triples i).1 × ((triple_at R.triples i).0 < R.states) × ((triple_at R.triples i).2 < R.states)
 place_range R valid i i_in =
     let t = triple_at R.triples i in
     valid.in_range t.1 t.0 t.2 (t.3, Contains-get_or R.triples i (0, [], 0, None) i_in)

@@ -4,7 +4,7 @@ use Rattle.std.proofs.lemmas.Bool.{cases_eq, cases_lt, false≢true}
 use Rattle.auto_core.specs.Automaton.{Automaton, Moves, trans_at}
 use Rattle.auto_core.specs.Rows.{bit_of, HasBit}
 use Rattle.auto_core.specs.Game.{Holds}
-use Rattle.delayed_sim.specs.Across.{HoldsPair}
+use Rattle.delayed_sim.specs.Across.{HoldsPlace}
 use Rattle.delayed_sim.specs.Pairings.{Pairing, IsPairing, IsNarrowed, Loses}
 use Rattle.delayed_sim.proofs.BoardLemmas.{fewer_pairs}
 use Rattle.row_steps.specs.Walks.{IsNextBit}
@@ -190,7 +190,7 @@ module _ (L A : Automaton) where
     leaves = λ X right inside r s h. (f.pairs r s).1 (
       inside r s h,
       λ e.
-          let answer = right.answers p s a p' (subst (λ x. HoldsPair X x s) e h) move in
+          let answer = right.answers p s a p' (subst (λ x. HoldsPlace X x s) e h) move in
           (leads s).1 (answer.0, answer.1, inside_ends answer.0 (inside p' answer.0 answer.2)),
     );
   }

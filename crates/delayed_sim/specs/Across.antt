@@ -8,26 +8,26 @@ abbrev pub RankedPlaces : Type 0
 RankedPlaces = List (ℕ × ℕ × Option ℕ)
 
 -- The list holds the pair, with a rank or without one.
-abbrev pub HoldsPair : RankedPlaces → ℕ → ℕ → Type 0
-HoldsPair X x q = (rank : Option ℕ) × Contains X (x, q, rank)
+abbrev pub HoldsPlace : RankedPlaces → ℕ → ℕ → Type 0
+HoldsPlace X x q = (rank : Option ℕ) × Contains X (x, q, rank)
 
 -- The list holds the pair with this rank.
-abbrev pub HasPairRank : RankedPlaces → ℕ → ℕ → ℕ → Type 0
-HasPairRank X x q r = Contains X (x, q, Some r)
+abbrev pub HasPlaceRank : RankedPlaces → ℕ → ℕ → ℕ → Type 0
+HasPlaceRank X x q r = Contains X (x, q, Some r)
 
 -- Each place is below m and each state below n.
 abbrev pub AreWithin : ℕ → ℕ → RankedPlaces → Type 0
-AreWithin m n X = (x q : ℕ) → HoldsPair X x q → (x < m) × (q < n)
+AreWithin m n X = (x q : ℕ) → HoldsPlace X x q → (x < m) × (q < n)
 
 -- The pairs and ranks are right: each move of a place is answered; a pair has a rank if its place is accepting; at rank 0 the right state
 -- is accepting; and at a greater rank each move is answered with a lesser one.
 pub record IsRightAcross (L A : Automaton) (X : RankedPlaces) : Type 0 where
-  pub answers : (x q a y : ℕ) → HoldsPair X x q → Moves L x a y → (q' : ℕ) × Moves A q a q' × HoldsPair X y q'
-  pub ranked : (x q : ℕ) → HoldsPair X x q → IsAccepting L x → (r : ℕ) × HasPairRank X x q r
-  pub at_zero : (x q : ℕ) → HasPairRank X x q 0 → IsAccepting A q
+  pub answers : (x q a y : ℕ) → HoldsPlace X x q → Moves L x a y → (q' : ℕ) × Moves A q a q' × HoldsPlace X y q'
+  pub ranked : (x q : ℕ) → HoldsPlace X x q → IsAccepting L x → (r : ℕ) × HasPlaceRank X x q r
+  pub at_zero : (x q : ℕ) → HasPlaceRank X x q 0 → IsAccepting A q
   pub above_zero :
       (x q r a y : ℕ)
-      → HasPairRank X x q r
+      → HasPlaceRank X x q r
       → 0 < r
       → Moves L x a y
-      → (q' s : ℕ) × Moves A q a q' × HasPairRank X y q' s × (s < r)
+      → (q' s : ℕ) × Moves A q a q' × HasPlaceRank X y q' s × (s < r)

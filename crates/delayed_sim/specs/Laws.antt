@@ -10,7 +10,7 @@ GreatestDelayedIsOne =
     (A : Automaton) (R S : Ranking)
     → IsRanking R
     → IsRanking S
-    → R.size ≡ S.size
+    → R.states ≡ S.states
     → R.labels ≡ S.labels
     → R.letters ≡ S.letters
     → IsGreatestDelayed A R.letters R.triples

@@ -2,14 +2,14 @@
 use Rattle.std.specs.Prelude.{ℕ, List}
 use Rattle.auto_core.specs.Automaton.{Automaton, IsAccepting}
 use Rattle.auto_core.specs.Game.{Holds}
-use Rattle.delayed_sim.specs.Across.{RankedPlaces, HoldsPair, AreWithin, IsRightAcross}
+use Rattle.delayed_sim.specs.Across.{RankedPlaces, HoldsPlace, AreWithin, IsRightAcross}
 use Rattle.delayed_sim.specs.Pairings.{Pairing}
 use Rattle.delayed_sim.specs.Settling.{AnswersAll, HasSomeRank, Shrinks}
 use Rattle.delayed_sim.specs.Boards.{AreLeastRanks}
 
 -- The relation has the pairs of each right list of pairs of places and states.
 abbrev pub HasEachRight : Automaton → Automaton → (ℕ → ℕ → Type 0) → Type 0
-HasEachRight L A R = (X : RankedPlaces) → AreWithin L.states A.states X → IsRightAcross L A X → (x q : ℕ) → HoldsPair X x q → R x q
+HasEachRight L A R = (X : RankedPlaces) → AreWithin L.states A.states X → IsRightAcross L A X → (x q : ℕ) → HoldsPlace X x q → R x q
 
 -- The pairs that are left lost none of a right relation; each move is answered by one of them; the table has their least ranks, and one for
 -- each whose place is accepting.

@@ -28,10 +28,9 @@ IsTripleBefore x y = triple_cmp x y ≡ Less
 abbrev pub AreTriplesInOrder : RankedTriples → Type 0
 AreTriplesInOrder X = AllPairs IsTripleBefore X
 
--- A relation on the states below `size` with `letters` announced letters over so many labels: the list of its triples, each with a rank or
--- without one.
+-- A relation on so many states with `letters` announced letters over so many labels: the list of its triples, each with a rank or without one.
 pub record Ranking : Type 0 where
-  pub size : ℕ
+  pub states : ℕ
   pub labels : ℕ
   pub letters : ℕ
   pub triples : RankedTriples
@@ -40,7 +39,7 @@ pub record Ranking : Type 0 where
 pub record IsRanking (R : Ranking) : Type 0 where
   pub letters_from : 1 ≤ R.letters
   pub letters_upto : R.letters ≤ 4
-  pub in_range : AreTriplesOf R.size R.labels R.letters R.triples
+  pub in_range : AreTriplesOf R.states R.labels R.letters R.triples
   pub once : HasTriplesOnce R.triples
   pub in_order : AreTriplesInOrder R.triples
 

@@ -3,7 +3,7 @@ use Rattle.std.specs.Prelude.{◌≡◌, ℕ, ◌<◌, ◌≤◌, ◌↔◌, Boo
 use Rattle.auto_core.specs.Automaton.{Automaton, Moves, IsAccepting}
 use Rattle.auto_core.specs.Game.{Holds, IsWithin}
 use Rattle.auto_core.specs.Rows.{bit_of, HasBit}
-use Rattle.delayed_sim.specs.Across.{RankedPlaces, HoldsPair, IsRightAcross}
+use Rattle.delayed_sim.specs.Across.{RankedPlaces, HoldsPlace, IsRightAcross}
 use Rattle.delayed_sim.specs.Pairings.{Pairing, IsPairing}
 use Rattle.delayed_sim.specs.Levels.{rank_at}
 
@@ -19,8 +19,8 @@ AnswersAll L A R x q = (a y : ℕ) → Moves L x a y → IsAnsweredIn A R q a y
 abbrev pub LeavesRight : Automaton → Automaton → Pairing → Pairing → Type 0
 LeavesRight L A old new =
     (X : RankedPlaces) → IsRightAcross L A X
-    → ((x q : ℕ) → HoldsPair X x q → Holds old.pairs x q)
-    → (x q : ℕ) → HoldsPair X x q → Holds new.pairs x q
+    → ((x q : ℕ) → HoldsPlace X x q → Holds old.pairs x q)
+    → (x q : ℕ) → HoldsPlace X x q → Holds new.pairs x q
 
 -- The relation lost pairs, but none that is in a right relation inside the old one.
 pub record Shrinks (L A : Automaton) (old new : Pairing) : Type 0 where

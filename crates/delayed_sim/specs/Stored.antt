@@ -16,7 +16,7 @@ entry_triples n entries = map (triple_of n) entries
 
 -- What the fields stand for.
 abbrev pub ranking_of : Inside → Ranking
-ranking_of d = record { size = d.states; labels = d.labels; letters = d.letters; triples = entry_triples d.letters d.entries.items }
+ranking_of d = record { states = d.states; labels = d.labels; letters = d.letters; triples = entry_triples d.letters d.entries.items }
 
 -- They stand for a valid ranking.
 pub record IsStoredRanking (d : Inside) : Type 0 where

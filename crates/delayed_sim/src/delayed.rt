@@ -5,7 +5,7 @@ ghost use Rattle.std.specs.Cmp.Lexicographic.{slice_cmp};
 ghost use Rattle.std.specs.Ordering.{nat_cmp};
 ghost use Rattle.std.specs.declared.cmp.Ordering.TheVariants.{Less};
 ghost use Rattle.auto_core.specs.Game.{Holds};
-ghost use Rattle.auto_core.specs.Delayed.{AreAnnounced, HoldsTriple, HasRank, AreRelatedAhead};
+ghost use Rattle.auto_core.specs.Delayed.{AreAnnounced, HoldsTriple, HasRank, AreStateRelated};
 ghost use Rattle.delayed_sim.specs.Rounds.{without, reranked};
 ghost use Rattle.delayed_sim.specs.Rankings.{IsRanking, AreTriplesGiven, DifferInTriples, HasJust, IsTripleFrom, row_key, triple_at};
 
@@ -64,7 +64,7 @@ impl Delayed {
         requires upto { letters ≤ 4 }
         requires in_range { AreTriplesGiven states labels letters triples.now }
         requires different { DifferInTriples triples.now }
-        ensures size { IfOk result (λ d. d.size ≡ states) }
+        ensures size { IfOk result (λ d. d.states ≡ states) }
         ensures labels { IfOk result (λ d. d.labels ≡ labels) }
         ensures letters { IfOk result (λ d. d.letters ≡ letters) }
         ensures triples { IfOk result (λ d. HasJust d.triples triples.now) }
@@ -93,7 +93,7 @@ impl Delayed {
 
     /// The number of states.
     pub fn states(&self) -> u32
-        ensures count { result ≡ self.now.size }
+        ensures count { result ≡ self.now.states }
         ensures valid { IsRanking self.now }
     {
         self.states
@@ -118,8 +118,8 @@ impl Delayed {
     /// Tells whether the relation holds the triple.
     pub fn relates(&self, p: u32, ahead: &[u32], q: u32) -> bool
         requires letters { AreAnnounced self.now.labels self.now.letters ahead.now }
-        requires left { p < self.now.size }
-        requires right { q < self.now.size }
+        requires left { p < self.now.states }
+        requires right { q < self.now.states }
         ensures told { IsTrue result ↔ HoldsTriple self.now.triples ahead.now p q }
         ensures valid { IsRanking self.now }
     {
@@ -132,8 +132,8 @@ impl Delayed {
     /// The rank of the triple; None where the triple is not held or has no rank.
     pub fn rank(&self, p: u32, ahead: &[u32], q: u32) -> Option<u32>
         requires letters { AreAnnounced self.now.labels self.now.letters ahead.now }
-        requires left { p < self.now.size }
-        requires right { q < self.now.size }
+        requires left { p < self.now.states }
+        requires right { q < self.now.states }
         ensures some { IfSome result (HasRank self.now.triples ahead.now p q) }
         ensures none { IfNone result ((r : ℕ) → HasRank self.now.triples ahead.now p q r → ⊥) }
         ensures valid { IsRanking self.now }
@@ -146,9 +146,9 @@ impl Delayed {
 
     /// The state relation: the pairs of states that are related whatever letters are announced.
     pub fn relation(&self, alloc: Global) -> Result<Rel, Memory>
-        ensures size { IfOk result (λ r. r.size ≡ self.now.size) }
+        ensures size { IfOk result (λ r. r.size ≡ self.now.states) }
         ensures pairs { IfOk result (λ r. (p q : ℕ) → Holds r.pairs p q
-            ↔ ((p < self.now.size) × (q < self.now.size) × AreRelatedAhead self.now.labels self.now.letters self.now.triples p q)) }
+            ↔ ((p < self.now.states) × (q < self.now.states) × AreStateRelated self.now.labels self.now.letters self.now.triples p q)) }
     {
         relating::relation_of(alloc, self)
     }
@@ -170,7 +170,7 @@ impl Delayed {
         self.entries[at].left
     }
 
-    /// The announced letters of the triple at this place.
+    /// The letters between the states of the triple at this place, one fewer than are announced.
     pub fn ahead(&self, at: usize) -> &[u32]
         requires { at < length self.now.triples }
         ensures letters { result.now ≡ (triple_at self.now.triples at).1 }
@@ -189,7 +189,7 @@ impl Delayed {
     }
 
     /// The rank of the triple at this place, if it has one.
-    pub fn rank_of(&self, at: usize) -> Option<u32>
+    pub fn rank_at(&self, at: usize) -> Option<u32>
         requires { at < length self.now.triples }
         ensures rank { result ≡ (triple_at self.now.triples at).3 }
         ensures valid { IsRanking self.now }

@@ -63,7 +63,7 @@ fn greatest_within(
     requires few { places.now.states * automaton.now.states + 2 < 2 ^ 32 }
     requires equal { first.now.size ≡ automaton.now.states }
     requires first { HasEachRight places.now automaton.now (λ x q. Holds first.now.pairs (x / automaton.now.labels ^ (letters - 1)) q) }
-    ensures size { IfOk result (λ d. d.size ≡ automaton.now.states) }
+    ensures size { IfOk result (λ d. d.states ≡ automaton.now.states) }
     ensures labels { IfOk result (λ d. d.labels ≡ automaton.now.labels) }
     ensures letters { IfOk result (λ d. d.letters ≡ letters) }
     ensures valid { IfOk result IsRanking }
@@ -85,7 +85,7 @@ fn greatest_within(
 fn greatest_at_once(alloc: Global, automaton: &Auto) -> Result<Delayed, Memory>
     requires few { automaton.now.states ≤ 65535 }
     requires valid { IsAutomaton automaton.now }
-    ensures size { IfOk result (λ d. d.size ≡ automaton.now.states) }
+    ensures size { IfOk result (λ d. d.states ≡ automaton.now.states) }
     ensures labels { IfOk result (λ d. d.labels ≡ automaton.now.labels) }
     ensures letters { IfOk result (λ d. d.letters ≡ 1) }
     ensures valid { IfOk result IsRanking }
@@ -101,7 +101,7 @@ fn greatest_ahead(alloc: Global, automaton: &Auto, letters: u32) -> Result<Delay
     requires upto { letters ≤ 4 }
     requires fitting { letters ≡ letters_for automaton.now letters }
     requires valid { IsAutomaton automaton.now }
-    ensures size { IfOk result (λ d. d.size ≡ automaton.now.states) }
+    ensures size { IfOk result (λ d. d.states ≡ automaton.now.states) }
     ensures labels { IfOk result (λ d. d.labels ≡ automaton.now.labels) }
     ensures letters { IfOk result (λ d. d.letters ≡ letters) }
     ensures valid { IfOk result IsRanking }
@@ -119,7 +119,7 @@ pub fn greatest(alloc: Global, automaton: &Auto, letters: u32) -> Result<Delayed
     requires upto { letters ≤ 4 }
     requires fitting { letters ≡ letters_for automaton.now letters }
     requires few { automaton.now.states ≤ 65535 }
-    ensures size { IfOk result (λ d. d.size ≡ automaton.now.states) }
+    ensures size { IfOk result (λ d. d.states ≡ automaton.now.states) }
     ensures labels { IfOk result (λ d. d.labels ≡ automaton.now.labels) }
     ensures letters { IfOk result (λ d. d.letters ≡ letters) }
     ensures valid { IfOk result IsRanking }

@@ -3,7 +3,7 @@
 ghost use Rattle.std.specs.Prelude.{◌≡◌, ◌+◌, ◌/◌, ◌<◌, ◌≤◌, ◌⊎◌, ◌↔◌, ℕ, [], All, length, take, IfOk};
 ghost use Rattle.auto_core.specs.Game.{Holds};
 ghost use Rattle.auto_core.specs.Rows.{HasBit};
-ghost use Rattle.auto_core.specs.Delayed.{AreAnnounced, HoldsTriple, AreRelatedAhead};
+ghost use Rattle.auto_core.specs.Delayed.{AreAnnounced, HoldsTriple, AreStateRelated};
 ghost use Rattle.delayed_sim.specs.Rankings.{IsRanking};
 ghost use Rattle.delayed_sim.specs.Related.{HoldsEach};
 
@@ -16,8 +16,8 @@ use std::alloc::Global;
 /// Marks the right states of the triples of the left state with the letters.
 fn mark_row(delayed: &Delayed, p: u32, ahead: &[u32], row: &mut [u64])
     requires letters { AreAnnounced delayed.now.labels delayed.now.letters ahead.now }
-    requires left { p < delayed.now.size }
-    requires len { length row.old ≡ (delayed.now.size + 63) / 64 }
+    requires left { p < delayed.now.states }
+    requires len { length row.old ≡ (delayed.now.states + 63) / 64 }
     requires valid { IsRanking delayed.now }
     ensures { (q : ℕ) → HasBit row.new q ↔ (HasBit row.old q ⊎ HoldsTriple delayed.now.triples ahead.now p q) }
 {
@@ -38,12 +38,12 @@ fn keep_each(
     row: &mut [u64],
     spare: &mut [u64],
 )
-    requires left { p < delayed.now.size }
+    requires left { p < delayed.now.states }
     requires inside { chosen < delayed.now.letters }
     requires short { delayed.now.letters ≤ 4 }
     requires letters { All (λ a. a < delayed.now.labels) (take chosen word) }
-    requires row { length row.old ≡ (delayed.now.size + 63) / 64 }
-    requires spare { length spare.old ≡ (delayed.now.size + 63) / 64 }
+    requires row { length row.old ≡ (delayed.now.states + 63) / 64 }
+    requires spare { length spare.old ≡ (delayed.now.states + 63) / 64 }
     requires valid { IsRanking delayed.now }
     ensures { (q : ℕ) → HasBit row.new q ↔ (HasBit row.old q × HoldsEach delayed.now (take chosen word) p q) }
 {
@@ -62,14 +62,14 @@ fn keep_each(
 
 /// Relates the state to those to which it is related whatever letters are announced. `row` and `spare` are room for one row.
 fn relate_row(delayed: &Delayed, p: u32, related: &mut Rel, row: &mut [u64], spare: &mut [u64])
-    requires equal { related.old.size ≡ delayed.now.size }
-    requires left { p < delayed.now.size }
-    requires row { length row.old ≡ (delayed.now.size + 63) / 64 }
-    requires spare { length spare.old ≡ (delayed.now.size + 63) / 64 }
+    requires equal { related.old.size ≡ delayed.now.states }
+    requires left { p < delayed.now.states }
+    requires row { length row.old ≡ (delayed.now.states + 63) / 64 }
+    requires spare { length spare.old ≡ (delayed.now.states + 63) / 64 }
     requires valid { IsRanking delayed.now }
     ensures size { related.new.size ≡ related.old.size }
     ensures pairs { (r q : ℕ) → Holds related.new.pairs r q
-        ↔ (Holds related.old.pairs r q ⊎ ((r ≡ p) × (q < delayed.now.size) × HoldsEach delayed.now [] p q)) }
+        ↔ (Holds related.old.pairs r q ⊎ ((r ≡ p) × (q < delayed.now.states) × HoldsEach delayed.now [] p q)) }
 {
     mark_below(row, delayed.states());
     keep_each(delayed, p, [0; 3], 0, row, spare);
@@ -82,12 +82,12 @@ fn relate_row(delayed: &Delayed, p: u32, related: &mut Rel, row: &mut [u64], spa
 
 /// Relates the states of each triple.
 fn relate_triples(delayed: &Delayed, related: &mut Rel)
-    requires equal { related.old.size ≡ delayed.now.size }
+    requires equal { related.old.size ≡ delayed.now.states }
     requires alone { delayed.now.letters ≡ 1 }
     requires none { related.old.pairs ≡ [] }
     requires valid { IsRanking delayed.now }
     ensures size { related.new.size ≡ related.old.size }
-    ensures pairs { (p q : ℕ) → Holds related.new.pairs p q ↔ ((p < delayed.now.size) × (q < delayed.now.size) × AreRelatedAhead delayed.now.labels 1 delayed.now.triples p q) }
+    ensures pairs { (p q : ℕ) → Holds related.new.pairs p q ↔ ((p < delayed.now.states) × (q < delayed.now.states) × AreStateRelated delayed.now.labels 1 delayed.now.triples p q) }
 {
     for at in 0..delayed.count() {
         related.set(delayed.left(at), delayed.right(at));
@@ -96,9 +96,9 @@ fn relate_triples(delayed: &Delayed, related: &mut Rel)
 
 /// The state relation. With one letter it has the pairs of the triples; with more of them, each word of letters is asked for.
 pub(crate) fn relation_of(alloc: Global, delayed: &Delayed) -> Result<Rel, Memory>
-    ensures size { IfOk result (λ r. r.size ≡ delayed.now.size) }
+    ensures size { IfOk result (λ r. r.size ≡ delayed.now.states) }
     ensures pairs { IfOk result (λ r. (p q : ℕ) → Holds r.pairs p q
-        ↔ ((p < delayed.now.size) × (q < delayed.now.size) × AreRelatedAhead delayed.now.labels delayed.now.letters delayed.now.triples p q)) }
+        ↔ ((p < delayed.now.states) × (q < delayed.now.states) × AreStateRelated delayed.now.labels delayed.now.letters delayed.now.triples p q)) }
 {
     let mut related = Rel::empty(alloc, delayed.states())?;
     if delayed.letters() == 1 {

@@ -12,8 +12,8 @@ use auto_core::{Auto, Trans};
 /// Tells whether the triple has a rank below this one.
 fn is_below(delayed: &Delayed, p: u32, ahead: &[u32], q: u32, rank: u32) -> bool
     requires letters { AreAnnounced delayed.now.labels delayed.now.letters ahead.now }
-    requires left { p < delayed.now.size }
-    requires right { q < delayed.now.size }
+    requires left { p < delayed.now.states }
+    requires right { q < delayed.now.states }
     ensures { IsTrue result ↔ ((s : ℕ) × HasRank delayed.now.triples ahead.now p q s × (s < rank)) }
 {
     match delayed.rank(p, ahead, q) {
@@ -25,8 +25,8 @@ fn is_below(delayed: &Delayed, p: u32, ahead: &[u32], q: u32, rank: u32) -> bool
 /// Tells whether the relation holds the triple, with a rank below the limit if there is one.
 fn suits(delayed: &Delayed, p: u32, ahead: &[u32], q: u32, limit: Option<u32>) -> bool
     requires letters { AreAnnounced delayed.now.labels delayed.now.letters ahead.now }
-    requires left { p < delayed.now.size }
-    requires right { q < delayed.now.size }
+    requires left { p < delayed.now.states }
+    requires right { q < delayed.now.states }
     ensures { IsTrue result ↔ Suits delayed.now.triples limit ahead.now p q }
 {
     match limit {
@@ -45,7 +45,7 @@ fn is_answered(
     ahead: &[u32],
     limit: Option<u32>,
 ) -> bool
-    requires equal { delayed.now.size ≡ automaton.now.states }
+    requires equal { delayed.now.states ≡ automaton.now.states }
     requires state { q < automaton.now.states }
     requires target { step.target < automaton.now.states }
     requires letters { AreAnnounced delayed.now.labels delayed.now.letters ahead.now }
@@ -94,7 +94,7 @@ fn is_answered_ahead(
     ahead: &[u32],
     limit: Option<u32>,
 ) -> bool
-    requires equal { delayed.now.size ≡ automaton.now.states }
+    requires equal { delayed.now.states ≡ automaton.now.states }
     requires same { delayed.now.labels ≡ automaton.now.labels }
     requires state { q < automaton.now.states }
     requires target { step.target < automaton.now.states }
@@ -124,7 +124,7 @@ fn answers_move(
     ahead: &[u32],
     limit: Option<u32>,
 ) -> bool
-    requires equal { delayed.now.size ≡ automaton.now.states }
+    requires equal { delayed.now.states ≡ automaton.now.states }
     requires same { delayed.now.labels ≡ automaton.now.labels }
     requires state { q < automaton.now.states }
     requires target { step.target < automaton.now.states }
@@ -152,7 +152,7 @@ fn has_answers(
     q: u32,
     limit: Option<u32>,
 ) -> bool
-    requires equal { delayed.now.size ≡ automaton.now.states }
+    requires equal { delayed.now.states ≡ automaton.now.states }
     requires same { delayed.now.labels ≡ automaton.now.labels }
     requires left { p < automaton.now.states }
     requires right { q < automaton.now.states }
@@ -172,7 +172,7 @@ fn has_answers(
 
 /// Tells whether the moves of the triple at this place are answered, by triples of a rank below the limit if there is one.
 pub fn is_answered_at(automaton: &Auto, delayed: &Delayed, at: usize, limit: Option<u32>) -> bool
-    requires equal { delayed.now.size ≡ automaton.now.states }
+    requires equal { delayed.now.states ≡ automaton.now.states }
     requires same { delayed.now.labels ≡ automaton.now.labels }
     requires inside { at < length delayed.now.triples }
     ensures { IsTrue result ↔ IsTripleAnswered automaton.now delayed.now.triples limit (triple_at delayed.now.triples at) }
@@ -189,14 +189,14 @@ pub fn is_answered_at(automaton: &Auto, delayed: &Delayed, at: usize, limit: Opt
 
 /// Tells whether the triple at this place is right.
 fn is_right(automaton: &Auto, delayed: &Delayed, at: usize) -> bool
-    requires equal { delayed.now.size ≡ automaton.now.states }
+    requires equal { delayed.now.states ≡ automaton.now.states }
     requires same { delayed.now.labels ≡ automaton.now.labels }
     requires inside { at < length delayed.now.triples }
     ensures { IsTrue result ↔ IsTripleRight automaton.now delayed.now.triples (triple_at delayed.now.triples at) }
 {
     let p = delayed.left(at);
     let q = delayed.right(at);
-    match delayed.rank_of(at) {
+    match delayed.rank_at(at) {
         None => !automaton.accepting(p) && is_answered_at(automaton, delayed, at, None),
         Some(0) => automaton.accepting(q) && is_answered_at(automaton, delayed, at, None),
         Some(rank) => is_answered_at(automaton, delayed, at, Some(rank)),
@@ -205,7 +205,7 @@ fn is_right(automaton: &Auto, delayed: &Delayed, at: usize) -> bool
 
 /// Tells whether the relation with its ranks is right on the automaton.
 pub fn holds(automaton: &Auto, delayed: &Delayed) -> bool
-    requires equal { delayed.now.size ≡ automaton.now.states }
+    requires equal { delayed.now.states ≡ automaton.now.states }
     requires same { delayed.now.labels ≡ automaton.now.labels }
     ensures { IsTrue result ↔ IsRight automaton.now delayed.now.triples }
 {

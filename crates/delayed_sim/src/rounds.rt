@@ -22,7 +22,7 @@ fn all_triples(alloc: Global, automaton: &Auto, letters: u32) -> Result<Delayed,
     requires word_count { automaton.now.labels ^ (letters - 1) < 2 ^ 32 }
     requires places { automaton.now.states * automaton.now.labels ^ (letters - 1) < 2 ^ 32 }
     requires few { automaton.now.states * automaton.now.labels ^ (letters - 1) * automaton.now.states + 1 < 2 ^ 32 }
-    ensures size { IfOk result (λ d. d.size ≡ automaton.now.states) }
+    ensures size { IfOk result (λ d. d.states ≡ automaton.now.states) }
     ensures labels { IfOk result (λ d. d.labels ≡ automaton.now.labels) }
     ensures letters { IfOk result (λ d. d.letters ≡ letters) }
     ensures valid { IfOk result IsRanking }
@@ -52,7 +52,7 @@ fn all_triples(alloc: Global, automaton: &Auto, letters: u32) -> Result<Delayed,
 
 /// One round: drops each triple with a move that is not answered, and tells whether there were any.
 fn drop_unanswered(automaton: &Auto, delayed: &mut Delayed) -> bool
-    requires equal { delayed.old.size ≡ automaton.now.states }
+    requires equal { delayed.old.states ≡ automaton.now.states }
     requires same { delayed.old.labels ≡ automaton.now.labels }
     requires valid { IsRanking delayed.old }
     requires each { HasEachTriple automaton.now delayed.old.letters delayed.old.triples }
@@ -75,7 +75,7 @@ fn drop_unanswered(automaton: &Auto, delayed: &mut Delayed) -> bool
 
 /// Drops triples until each move of those that are left is answered by one of them.
 fn settle(automaton: &Auto, delayed: &mut Delayed)
-    requires equal { delayed.old.size ≡ automaton.now.states }
+    requires equal { delayed.old.states ≡ automaton.now.states }
     requires same { delayed.old.labels ≡ automaton.now.labels }
     requires valid { IsRanking delayed.old }
     requires each { HasEachTriple automaton.now delayed.old.letters delayed.old.triples }
@@ -88,7 +88,7 @@ fn settle(automaton: &Auto, delayed: &mut Delayed)
 
 /// Gives rank 0 to each triple whose right state is accepting, and takes the ranks of the others.
 fn rank_accepting(automaton: &Auto, delayed: &mut Delayed)
-    requires equal { delayed.old.size ≡ automaton.now.states }
+    requires equal { delayed.old.states ≡ automaton.now.states }
     requires valid { IsRanking delayed.old }
     ensures { IsReranked (GetsRankZero automaton.now) (length delayed.old.triples) delayed.old delayed.new }
 {
@@ -104,7 +104,7 @@ fn rank_accepting(automaton: &Auto, delayed: &mut Delayed)
 /// One round: gives the rank to each triple that has none and whose moves are answered by triples of lesser rank, and tells whether
 /// there were any.
 fn rank_next(automaton: &Auto, delayed: &mut Delayed, rank: u32) -> bool
-    requires equal { delayed.old.size ≡ automaton.now.states }
+    requires equal { delayed.old.states ≡ automaton.now.states }
     requires same { delayed.old.labels ≡ automaton.now.labels }
     requires valid { IsRanking delayed.old }
     ensures ranks { IsReranked (GetsRank automaton.now delayed.old.triples rank) (length delayed.old.triples) delayed.old delayed.new }
@@ -113,7 +113,7 @@ fn rank_next(automaton: &Auto, delayed: &mut Delayed, rank: u32) -> bool
 {
     let mut any = false;
     for at in 0..delayed.count() {
-        if delayed.rank_of(at).is_none() {
+        if delayed.rank_at(at).is_none() {
             if is_answered_at(automaton, delayed, at, Some(rank)) {
                 delayed.set_rank(at, Some(rank));
                 any = true;
@@ -125,7 +125,7 @@ fn rank_next(automaton: &Auto, delayed: &mut Delayed, rank: u32) -> bool
 
 /// Gives each triple the least rank that it can have, level by level, until a round gives none.
 fn rank_all(automaton: &Auto, delayed: &mut Delayed)
-    requires equal { delayed.old.size ≡ automaton.now.states }
+    requires equal { delayed.old.states ≡ automaton.now.states }
     requires same { delayed.old.labels ≡ automaton.now.labels }
     requires valid { IsRanking delayed.old }
     requires few { length delayed.old.triples + 1 < 2 ^ 32 }
@@ -143,7 +143,7 @@ fn rank_all(automaton: &Auto, delayed: &mut Delayed)
 
 /// Drops each triple without a rank whose left state is accepting, and tells whether there were any.
 fn drop_unranked(automaton: &Auto, delayed: &mut Delayed) -> bool
-    requires equal { delayed.old.size ≡ automaton.now.states }
+    requires equal { delayed.old.states ≡ automaton.now.states }
     requires valid { IsRanking delayed.old }
     requires each { HasEachTriple automaton.now delayed.old.letters delayed.old.triples }
     requires least { (r : ℕ) → HasRanksUpto automaton.now delayed.old.letters r delayed.old.triples }
@@ -154,7 +154,7 @@ fn drop_unranked(automaton: &Auto, delayed: &mut Delayed) -> bool
     let mut any = false;
     let mut at = 0;
     'triples: while at < delayed.count() {
-        if automaton.accepting(delayed.left(at)) && delayed.rank_of(at).is_none() {
+        if automaton.accepting(delayed.left(at)) && delayed.rank_at(at).is_none() {
             delayed.take_out(at);
             any = true;
         } else {
@@ -166,7 +166,7 @@ fn drop_unranked(automaton: &Auto, delayed: &mut Delayed) -> bool
 
 /// Drops triples until their moves are answered, ranks them, drops those that need a rank and have none, and tells whether there were any.
 fn turn(automaton: &Auto, delayed: &mut Delayed) -> bool
-    requires equal { delayed.old.size ≡ automaton.now.states }
+    requires equal { delayed.old.states ≡ automaton.now.states }
     requires same { delayed.old.labels ≡ automaton.now.labels }
     requires valid { IsRanking delayed.old }
     requires few { length delayed.old.triples + 1 < 2 ^ 32 }
@@ -187,7 +187,7 @@ pub fn greatest_by_rounds(alloc: Global, automaton: &Auto, letters: u32) -> Resu
     requires upto { letters ≤ 4 }
     requires fitting { letters ≡ letters_for automaton.now letters }
     requires few { automaton.now.states ≤ 65535 }
-    ensures size { IfOk result (λ d. d.size ≡ automaton.now.states) }
+    ensures size { IfOk result (λ d. d.states ≡ automaton.now.states) }
     ensures labels { IfOk result (λ d. d.labels ≡ automaton.now.labels) }
     ensures letters { IfOk result (λ d. d.letters ≡ letters) }
     ensures valid { IfOk result IsRanking }

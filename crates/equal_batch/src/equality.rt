@@ -1,7 +1,7 @@
 //! What two answers say together.
 
 ghost use Rattle.std.specs.Prelude.{◌≡◌};
-ghost use Rattle.cert_value.specs.Text.{answer_of};
+ghost use Rattle.cert_value.specs.Text.{form_of};
 ghost use Rattle.equal_batch.specs.Equality.{said_by_both};
 
 use crate::outcome::Both;
@@ -9,7 +9,7 @@ use cert_value::{Body, Cert};
 
 /// What the two certificates' answers say together. It takes no memory.
 pub fn both(first: &Cert, second: &Cert) -> Both
-    ensures table { result ≡ said_by_both (answer_of first.now.body) (answer_of second.now.body) }
+    ensures table { result ≡ said_by_both (form_of first.now.body) (form_of second.now.body) }
 {
     match (&first.body, &second.body) {
         (Body::NoLasso(_) | Body::NoWord(_), _) => Both::FirstApart,

@@ -7,7 +7,7 @@ use Rattle.cert_text.specs.Forms.{line_fault}
 use Rattle.cert_text.specs.Lines.{number_in, sizes_in}
 use Rattle.cert_text.specs.Grammar.{read_end}
 use Rattle.cross_text.specs.Text.{CrossFormed, cross_lines}
-use Rattle.cross_text.specs.Grammar.{cross_heading_places, cross_heading_in, cross_of, read_relation, read_look, read_cross_sizes, read_cross}
+use Rattle.cross_text.specs.Grammar.{cross_heading_places, cross_heading_in, cross_of_parts, read_relation, read_look, read_cross_sizes, read_cross}
 use Rattle.cross_text.proofs.TextLemmas.{plain_cross, text_then, reading_back}
 use Rattle.fault_laws.proofs.TextLemmas.{ReadsTexts}
 use Rattle.fault_laws.proofs.ReaderLemmas.{Reader, TellsOwn, line_reads}
@@ -18,7 +18,7 @@ cross_heading_own : TellsOwn true cross_heading_in
 cross_heading_own line = if_own true (is_none (line_fault cross_heading_places tail.Nothing line)) (Ok tt) (Err Header) (ok_own true tt) (err_own true Header refl)
 
 relation_reads : (sizes : _) (look : ℕ) → Reader false (read_relation sizes look)
-relation_reads sizes look = block_reads 1 (λ block. read_end (cross_of sizes look block)) (λ block. end_reads (cross_of sizes look block))
+relation_reads sizes look = block_reads 1 (λ block. read_end (cross_of_parts sizes look block)) (λ block. end_reads (cross_of_parts sizes look block))
 
 cross_read : Reader true read_cross
 cross_read =

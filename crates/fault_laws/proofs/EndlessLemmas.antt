@@ -15,7 +15,7 @@ use Rattle.cert_text.specs.Grammar.{LinesOutcome, On, Read, lines_of, read_rows,
 use Rattle.cert_text.proofs.Backward.{line_bw}
 use Rattle.cert_text.proofs.LineFacts.{row_bw}
 use Rattle.cross_text.specs.declared.types.Cross.{Cross}
-use Rattle.cross_text.specs.Grammar.{FirstCrossFault, cross_of}
+use Rattle.cross_text.specs.Grammar.{FirstCrossFault, cross_of_parts}
 use Rattle.fault_laws.specs.FirstFaults.{BeginCert}
 use Rattle.fault_laws.specs.Admitted.{endless, EndlessIsAdmitted}
 use Rattle.fault_laws.specs.Crosses.{BeginCross}
@@ -89,7 +89,7 @@ endless_is_admitted = (before_the_fault certs endless (record { line = 7; kind =
 
 -- what is read of a cross relation after the rows
 abbrev then_end : On Cross (List Row)
-then_end rows = read_end (cross_of one_each 1 (record { rows = rows }))
+then_end rows = read_end (cross_of_parts one_each 1 (record { rows = rows }))
 
 cross_ends_there : FirstCrossFault cross_endless (record { line = 6; kind = Truncated })
 unfolding spelled

@@ -3,8 +3,8 @@ use Rattle.std.proofs.Common.{ℕ, zero, suc, ◌+◌, ◌==◌, List, [], ◌�
 use Rattle.auto_core.specs.declared.parts.Mode.{Mode}
 use Rattle.auto_core.specs.declared.parts.Mode.TheVariants as mode
 use Rattle.auto_core.specs.declared.parts.Origin.{Origin}
-use Rattle.cert_value.specs.declared.types.Answer.{Answer}
-use Rattle.cert_value.specs.declared.types.Answer.TheVariants as answer
+use Rattle.cert_value.specs.declared.types.Form.{Form}
+use Rattle.cert_value.specs.declared.types.Form.TheVariants as form
 use Rattle.cert_value.specs.declared.types.Body.{Body}
 use Rattle.cert_value.specs.declared.types.FirstStep.{FirstStep}
 use Rattle.cert_value.specs.declared.types.FirstStep.TheVariants as first
@@ -201,22 +201,22 @@ word_reads next all = search (numbers_read, all)
 pub end_reads : {C : Type 0} (c : C) → Reader false (read_end c)
 end_reads c = any_line (word_in _) (λ u. finish c) (word_own _) (λ u. finish_reads c)
 
--- The body of each answer.
-body_reads : (v : ℕ) (m : Mode) (a : Answer) (next : Then Body) → Goes next → Reader false (read_body v m a next)
-body_reads v m (answer.Yes) next all =
-    logs_read v m answer.Yes next
+-- The body of each form.
+body_reads : (v : ℕ) (m : Mode) (a : Form) (next : Then Body) → Goes next → Reader false (read_body v m a next)
+body_reads v m (form.Yes) next all =
+    logs_read v m form.Yes next
     (λ firsts seconds. closed_reads v m (λ closed. next (yes_of firsts seconds closed)) (λ closed. all (yes_of firsts seconds closed)))
-body_reads v (mode.Buchi) (answer.No) next all = lasso_reads next all
-body_reads v (mode.Finite) (answer.No) next all = word_reads next all
-body_reads v m (answer.List) next all =
-    logs_read v m answer.List next
+body_reads v (mode.Buchi) (form.No) next all = lasso_reads next all
+body_reads v (mode.Finite) (form.No) next all = word_reads next all
+body_reads v m (form.List) next all =
+    logs_read v m form.List next
     (λ firsts seconds. limited_reads m (λ limited. next (list_of firsts seconds limited)) (λ limited. all (list_of firsts seconds limited)))
 
 -- What follows a heading.
 sizes_read : (h : _) → Reader false (read_sizes h)
 sizes_read h =
     any_line sizes_in (read_rest h) sizes_own
-    (λ sizes. body_reads h.version h.mode h.answer (λ b. read_end (cert_of h.version h.mode sizes b))
+    (λ sizes. body_reads h.version h.mode h.form (λ b. read_end (cert_of h.version h.mode sizes b))
     (λ b. end_reads (cert_of h.version h.mode sizes b)))
 
 pub lines_read : Reader true read_lines

@@ -4,7 +4,7 @@ use Rattle.auto_core.proofs.PathLemmas.{Contains-here, Contains-later}
 use Rattle.std.proofs.lemmas.List.{nil_from_length}
 use Rattle.std.proofs.lemmas.List.Elements.{All-nil}
 use Rattle.auto_core.specs.Automaton.{Automaton, IsAutomaton}
-use Rattle.auto_core.specs.Delayed.{RankedTriples, HoldsTriple, Announces, AreAnnounced, AreTriplesOf, IsRight, IsGreatestDelayed, AreRelatedAhead}
+use Rattle.auto_core.specs.Delayed.{RankedTriples, HoldsTriple, Announces, AreAnnounced, AreTriplesOf, IsRight, IsGreatestDelayed, AreStateRelated}
 use Rattle.path_laws.proofs.PumpingLemmas.{move_in_range}
 use Rattle.greatest_laws.specs.OneLetter.{RankedPairs, HoldsRanked, AreRightPairs, AreRankedBelow, AreGreatestPairs, unannounced, OneLetterTriplesArePairs, OneLetterIsPairs, OneLetterGreatestIsOfPairs, OneLetterRelatesPairs}
 use Rattle.greatest_laws.proofs.MoveLemmas.{contains_map, map_contains}
@@ -137,10 +137,10 @@ one_letter_greatest_is_of_pairs A Y valid = (greatest_pairs A Y valid, greatest_
 pub one_letter_relates_pairs : OneLetterRelatesPairs
 one_letter_relates_pairs labels Y p q = (held, related)
   where
-    held : AreRelatedAhead labels 1 (map unannounced Y) p q → HoldsRanked Y p q
+    held : AreStateRelated labels 1 (map unannounced Y) p q → HoldsRanked Y p q
     held all = let (o, has) = all [] (none_announced labels) in (o, (pair_of Y [] p q o has).1)
 
-    related : HoldsRanked Y p q → AreRelatedAhead labels 1 (map unannounced Y) p q
+    related : HoldsRanked Y p q → AreStateRelated labels 1 (map unannounced Y) p q
     related has = λ b announced.
         let none = nil_from_length b (let one = announced.0 in omega arith) in
         (has.0, subst (λ d. Contains (map unannounced Y) (p, d, q, has.0)) (sym none) (triple_of Y p q has.0 has.1))

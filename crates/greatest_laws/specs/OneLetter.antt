@@ -1,7 +1,7 @@
 -- The delayed game in which one letter is announced, that of the move to be answered: nothing stands between two states.
 use Rattle.std.specs.Prelude.{◌≡◌, ℕ, ◌<◌, ◌≤◌, ◌↔◌, Option, Some, List, [], map, Contains}
 use Rattle.auto_core.specs.Automaton.{Automaton, Moves, IsAccepting, IsAutomaton}
-use Rattle.auto_core.specs.Delayed.{RankedTriples, AreTriplesOf, IsRight, IsGreatestDelayed, AreRelatedAhead}
+use Rattle.auto_core.specs.Delayed.{RankedTriples, AreTriplesOf, IsRight, IsGreatestDelayed, AreStateRelated}
 
 -- Pairs of states, each with a rank or without one.
 abbrev pub RankedPairs : Type 0
@@ -64,4 +64,4 @@ OneLetterGreatestIsOfPairs = (A : Automaton) (Y : RankedPairs) → IsAutomaton A
 
 -- And their state relation is that of the pairs.
 abbrev pub OneLetterRelatesPairs : Type 0
-OneLetterRelatesPairs = (labels : ℕ) (Y : RankedPairs) (p q : ℕ) → AreRelatedAhead labels 1 (map unannounced Y) p q ↔ HoldsRanked Y p q
+OneLetterRelatesPairs = (labels : ℕ) (Y : RankedPairs) (p q : ℕ) → AreStateRelated labels 1 (map unannounced Y) p q ↔ HoldsRanked Y p q

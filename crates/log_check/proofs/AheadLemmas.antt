@@ -4,7 +4,7 @@ use Rattle.std.proofs.lemmas.List.{length-replicate}
 use Rattle.std.proofs.lemmas.List.Elements.{All-nil, All-contains, All-replicate}
 use Rattle.auto_core.specs.Automaton.{Automaton}
 use Rattle.auto_core.specs.Game.{Close, Holds}
-use Rattle.auto_core.specs.Delayed.{RankedTriples, AreAnnounced, AreTriplesOf, AreRelatedAhead}
+use Rattle.auto_core.specs.Delayed.{RankedTriples, AreAnnounced, AreTriplesOf, AreStateRelated}
 use Rattle.auto_core.proofs.PathLemmas.{Contains-here}
 use Rattle.bit_rel.specs.Relation.{Relation, IsClosed}
 use Rattle.bit_rel.proofs.ClosingLemmas.{close_same}
@@ -32,11 +32,11 @@ ahead_within :
     → (p q : ℕ)
     → p < n
     → q < n
-    → Close (AreRelatedAhead labels letters X) p q
-    → Close (λ r s. (r < n) × (s < n) × AreRelatedAhead labels letters X r s) p q
+    → Close (AreStateRelated labels letters X) p q
+    → Close (λ r s. (r < n) × (s < n) × AreStateRelated labels letters X r s) p q
 ahead_within n labels letters X below p q p_in q_in way = elim (announced_or_none labels letters) [
   | inl (b, announced) ↦
-      close_same (AreRelatedAhead labels letters X) (λ r s. (r < n) × (s < n) × AreRelatedAhead labels letters X r s)
+      close_same (AreStateRelated labels letters X) (λ r s. (r < n) × (s < n) × AreStateRelated labels letters X r s)
       (λ r s h. let in_range = below b r s (h b announced) in (in_range.1, in_range.2, h)) p q way
   | inr none ↦ (1, (q, (p_in, q_in, λ b announced. absurd (none b announced)), refl))
 ]
@@ -45,17 +45,17 @@ closure_ahead :
     (n labels letters : ℕ) (X : RankedTriples) (rel closed : Relation)
     → AreTriplesOf n labels letters X
     → rel.size ≡ n
-    → ((p q : ℕ) → Holds rel.pairs p q ↔ ((p < n) × (q < n) × AreRelatedAhead labels letters X p q))
+    → ((p q : ℕ) → Holds rel.pairs p q ↔ ((p < n) × (q < n) × AreStateRelated labels letters X p q))
     → IsClosed rel closed
-    → IsClosureOf n (AreRelatedAhead labels letters X) closed
+    → IsClosureOf n (AreStateRelated labels letters X) closed
 closure_ahead n labels letters X rel closed below size same is = record {
   size = is.size ∙ size;
   pairs = λ p q p_in q_in. (
-    λ h. close_same (Holds rel.pairs) (AreRelatedAhead labels letters X) (λ r s held. ((same r s).0 held).2) p q ((is.pairs p q).0 h).2,
+    λ h. close_same (Holds rel.pairs) (AreStateRelated labels letters X) (λ r s held. ((same r s).0 held).2) p q ((is.pairs p q).0 h).2,
     λ way. (is.pairs p q).1 (
       subst (λ m. p < m) (sym size) p_in,
       subst (λ m. q < m) (sym size) q_in,
-      close_same (λ r s. (r < n) × (s < n) × AreRelatedAhead labels letters X r s) (Holds rel.pairs) (λ r s. (same r s).1) p q (ahead_within n labels letters X below p q p_in q_in way),
+      close_same (λ r s. (r < n) × (s < n) × AreStateRelated labels letters X r s) (Holds rel.pairs) (λ r s. (same r s).1) p q (ahead_within n labels letters X below p q p_in q_in way),
     ),
   );
 }
@@ -65,25 +65,25 @@ pub closure_made :
     (A : Automaton) (letters : ℕ) (block : RankBlock) (ranks : Ranking) (rel closed : Relation)
     → AreTriplesOf A.states A.labels letters (triples_of block)
     → IsRankingOf A letters block ranks
-    → rel.size ≡ ranks.size
-    → ((p q : ℕ) → Holds rel.pairs p q ↔ ((p < ranks.size) × (q < ranks.size) × AreRelatedAhead ranks.labels ranks.letters ranks.triples p q))
+    → rel.size ≡ ranks.states
+    → ((p q : ℕ) → Holds rel.pairs p q ↔ ((p < ranks.states) × (q < ranks.states) × AreStateRelated ranks.labels ranks.letters ranks.triples p q))
     → IsClosed rel closed
-    → IsClosureOf A.states (AreRelatedAhead A.labels letters (triples_of block)) closed
+    → IsClosureOf A.states (AreStateRelated A.labels letters (triples_of block)) closed
 closure_made A letters block ranks rel closed below made size pairs is =
     closure_ahead A.states A.labels letters (triples_of block) rel closed below (size ∙ made.size) (λ p q. (to p q, from p q)) is
   where
-    to : (p q : ℕ) → Holds rel.pairs p q → (p < A.states) × (q < A.states) × AreRelatedAhead A.labels letters (triples_of block) p q
+    to : (p q : ℕ) → Holds rel.pairs p q → (p < A.states) × (q < A.states) × AreStateRelated A.labels letters (triples_of block) p q
     to p q h =
         let (p_in, q_in, ahead) = (pairs p q).0 h in
-        let here : AreRelatedAhead A.labels letters ranks.triples p q =
-        subst (λ n. AreRelatedAhead A.labels n ranks.triples p q) made.letters (subst (λ l. AreRelatedAhead l ranks.letters ranks.triples p q) made.labels ahead) in
+        let here : AreStateRelated A.labels letters ranks.triples p q =
+        subst (λ n. AreStateRelated A.labels n ranks.triples p q) made.letters (subst (λ l. AreStateRelated l ranks.letters ranks.triples p q) made.labels ahead) in
         (subst (λ m. p < m) made.size p_in, subst (λ m. q < m) made.size q_in, ahead_alike A.labels letters ranks.triples (triples_of block) made.triples p q here)
 
-    from : (p q : ℕ) → (p < A.states) × (q < A.states) × AreRelatedAhead A.labels letters (triples_of block) p q → Holds rel.pairs p q
+    from : (p q : ℕ) → (p < A.states) × (q < A.states) × AreStateRelated A.labels letters (triples_of block) p q → Holds rel.pairs p q
     from p q (p_in, q_in, ahead) =
-        let there : AreRelatedAhead A.labels letters ranks.triples p q = ahead_alike A.labels letters (triples_of block) ranks.triples (turned ranks.triples (triples_of block) made.triples) p q ahead in
+        let there : AreStateRelated A.labels letters ranks.triples p q = ahead_alike A.labels letters (triples_of block) ranks.triples (turned ranks.triples (triples_of block) made.triples) p q ahead in
         (pairs p q).1 (
           subst (λ m. p < m) (sym made.size) p_in,
           subst (λ m. q < m) (sym made.size) q_in,
-          subst (λ l. AreRelatedAhead l ranks.letters ranks.triples p q) (sym made.labels) (subst (λ n. AreRelatedAhead A.labels n ranks.triples p q) (sym made.letters) there),
+          subst (λ l. AreStateRelated l ranks.letters ranks.triples p q) (sym made.labels) (subst (λ n. AreStateRelated A.labels n ranks.triples p q) (sym made.letters) there),
         )

@@ -9,7 +9,7 @@ use Rattle.std.proofs.lemmas.Cmp.{nat_list_cmp_total}
 use Rattle.std.proofs.lemmas.Bool.{and_parts, leb-true, eqb-true, false≢true, cases_order}
 use Rattle.std.proofs.lemmas.List.Elements.{Contains-append_cases, Contains-append_left, Contains-append_right, Contains-get_or, All-contains}
 use Rattle.auto_core.specs.Automaton.{Automaton}
-use Rattle.auto_core.specs.Delayed.{RankedTriples, HoldsTriple, IsRight, AreAnnounced, AreTriplesOf, AreRelatedAhead}
+use Rattle.auto_core.specs.Delayed.{RankedTriples, HoldsTriple, IsRight, AreAnnounced, AreTriplesOf, AreStateRelated}
 use Rattle.auto_core.proofs.MemberLemmas.{Rises, map_from, map_has}
 use Rattle.auto_core.proofs.PathLemmas.{Contains-here, Contains-later, Contains-cons_cases, none_in_nil}
 use Rattle.delayed_sim.specs.Rankings.{Ranking, ranked_triple, AreTriplesGiven, DifferInTriples, HasJust}
@@ -106,7 +106,7 @@ listed_to block b p q rank h =
 
 pub ranking_is :
     (A : Automaton) (n : ℕ) (block : RankBlock) (made : Ranking)
-    → made.size ≡ A.states
+    → made.states ≡ A.states
     → made.labels ≡ A.labels
     → made.letters ≡ n
     → HasJust made.triples (block_list block)
@@ -137,7 +137,7 @@ turned X Y same b p q rank = ((same b p q rank).1, (same b p q rank).0)
 triple_alike : (X Y : RankedTriples) → HaveSame X Y → (b : List ℕ) (p q : ℕ) → HoldsTriple X b p q → HoldsTriple Y b p q
 triple_alike X Y same b p q (rank, h) = (rank, (same b p q rank).0 h)
 
-pub ahead_alike : (labels n : ℕ) (X Y : RankedTriples) → HaveSame X Y → (p q : ℕ) → AreRelatedAhead labels n X p q → AreRelatedAhead labels n Y p q
+pub ahead_alike : (labels n : ℕ) (X Y : RankedTriples) → HaveSame X Y → (p q : ℕ) → AreStateRelated labels n X p q → AreStateRelated labels n Y p q
 ahead_alike labels n X Y same p q h = λ b announced. triple_alike X Y same b p q (h b announced)
 
 pub right_alike : (A : Automaton) (X Y : RankedTriples) → HaveSame X Y → IsRight A X → IsRight A Y

@@ -64,7 +64,7 @@ IsRankBlockBelow n labels block = All (IsRankRowBelow n labels) block.rows
 -- The relation with ranks, on the states and labels of A and with n announced letters, holds just the triples that the block lists, with
 -- their ranks.
 pub record IsRankingOf (A : Automaton) (n : ℕ) (block : RankBlock) (ranks : Ranking) : Type 0 where
-  pub size : ranks.size ≡ A.states
+  pub size : ranks.states ≡ A.states
   pub labels : ranks.labels ≡ A.labels
   pub letters : ranks.letters ≡ n
   pub triples :

@@ -2,7 +2,7 @@
 use Rattle.std.specs.Prelude.{ℕ, List, [], ◌∷◌}
 use Rattle.auto_core.specs.Automaton.{Automaton}
 use Rattle.auto_core.specs.Game.{StableForward, StableBackward}
-use Rattle.auto_core.specs.Delayed.{IsRight, AreRelatedAhead}
+use Rattle.auto_core.specs.Delayed.{IsRight, AreStateRelated}
 use Rattle.auto_core.specs.Useful.{IsKeptPart}
 use Rattle.auto_core.specs.Quotient.{IsQuotient, RelatesMembersBy, RelatesMembers}
 use Rattle.auto_core.specs.Pruning.{IsCut}
@@ -40,7 +40,7 @@ merge_checks A item (Delayed letters ranks) classes =
     rule_at 1 item (IsRankBlockBelow A.states A.labels ranks)
     ∷ rule_at 3 item (AreClassesFor A classes)
     ∷ rule_at 5 item (IsRight A (triples_of ranks))
-    ∷ rule_at 6 item (RelatesMembersBy A classes (AreRelatedAhead A.labels letters (triples_of ranks)))
+    ∷ rule_at 6 item (RelatesMembersBy A classes (AreStateRelated A.labels letters (triples_of ranks)))
     ∷ []
 
 -- What is asked of a step: a trim and a cut name what is there, and need nothing more.

@@ -9,7 +9,7 @@ use Rattle.auto_core.specs.Automaton.{Automaton, IsAutomaton, Moves, IsAccepting
 use Rattle.auto_core.specs.Run.{Path}
 use Rattle.auto_core.specs.Game.{Chain, Close}
 use Rattle.auto_core.specs.Quotient.{class_of, IsQuotient, RelatesMembersBy}
-use Rattle.auto_core.specs.Delayed.{RankedTriples, HoldsTriple, HasRank, Announces, IsRight, AreAnnounced, AreRelatedAhead}
+use Rattle.auto_core.specs.Delayed.{RankedTriples, HoldsTriple, HasRank, Announces, IsRight, AreAnnounced, AreStateRelated}
 use Rattle.auto_core.specs.declared.parts.Mode.TheVariants.{Buchi}
 use Rattle.auto_core.proofs.PathLemmas.{accepting_from_test, test_from_accepting, none_in_nil, Contains-cons_cases}
 use Rattle.auto_core.proofs.MoveLemmas.{move_in_range}
@@ -201,12 +201,12 @@ module _ (A : Automaton) (X : RankedTriples) (right : IsRight A X) where
       let less = chain_short (HoldsTriple X b) bound (λ s t lt held. let right_lt = right_below X b s t held in omega arith) n x z (omega arith) chain in
       owes_more delay (less.0 * ranks_bound X) b x z (mul-le-mul_right (ranks_bound X) (omega (arith, less.1))) (owes_along less.0 b x z accepting less.2)
 
-  module _ (valid : IsAutomaton A) (B : Automaton) (classes : List ℕ) (k : ℕ) (relates : RelatesMembersBy A classes (AreRelatedAhead A.labels (suc k) X)) (is : IsQuotient A classes B) where
+  module _ (valid : IsAutomaton A) (B : Automaton) (classes : List ℕ) (k : ℕ) (relates : RelatesMembersBy A classes (AreStateRelated A.labels (suc k) X)) (is : IsQuotient A classes B) where
     -- members of one class are below one another, whatever k letters are announced
     members_below : (b : List ℕ) → AreAnnounced A.labels (suc k) b → (p q : ℕ) → p < A.states → q < A.states → class_of classes p ≡ class_of classes q → Below b p q
     members_below b fits p q p_in q_in same = let way = relates p q p_in q_in same in (way.0, along way.0 p q way.1)
       where
-        along : (n p q : ℕ) → Chain (AreRelatedAhead A.labels (suc k) X) n p q → Chain (HoldsTriple X b) n p q
+        along : (n p q : ℕ) → Chain (AreStateRelated A.labels (suc k) X) n p q → Chain (HoldsTriple X b) n p q
         along zero p q c = c
         along (suc n) p q (r, first, rest) = (r, first b fits, along n r q rest)
 

@@ -4,7 +4,7 @@ use Rattle.auto_core.specs.Automaton.{Automaton, IsAutomaton}
 use Rattle.auto_core.specs.Accept.{Includes, Same}
 use Rattle.auto_core.specs.Game.{StableForward, StableBackward}
 use Rattle.auto_core.specs.Quotient.{IsQuotient, RelatesMembers, RelatesMembersBy}
-use Rattle.auto_core.specs.Delayed.{RankedTriples, IsRight, AreRelatedAhead}
+use Rattle.auto_core.specs.Delayed.{RankedTriples, IsRight, AreStateRelated}
 use Rattle.auto_core.specs.declared.parts.Mode.{Mode}
 use Rattle.auto_core.specs.declared.parts.Mode.TheVariants.{Buchi}
 
@@ -26,7 +26,7 @@ BackwardQuotientIsSame = (A B : Automaton) (classes : List ℕ) (k : ℕ) (S : L
 -- any two members of each class.
 abbrev pub DelayedQuotientIsSame : Type 0
 DelayedQuotientIsSame = (A B : Automaton) (classes : List ℕ) (n : ℕ) (X : RankedTriples) →
-    IsAutomaton A → 1 ≤ n → IsRight A X → RelatesMembersBy A classes (AreRelatedAhead A.labels n X) → IsQuotient A classes B → Same A B Buchi
+    IsAutomaton A → 1 ≤ n → IsRight A X → RelatesMembersBy A classes (AreStateRelated A.labels n X) → IsQuotient A classes B → Same A B Buchi
 
 -- There is one quotient by these classes at most.
 abbrev pub QuotientIsOne : Type 0

@@ -28,7 +28,7 @@ use Rattle.rabit_frame.specs.Files.{Input, Output}
 use Rattle.rabit_frame.specs.Lines.{read_line, memory_line}
 use Rattle.rabit_frame.specs.Statuses.{status_number}
 use Rattle.rabit_frame.specs.Reading.{FileReads, IsOfKind, MayStopAt, MissedInTurn, BegunInTurn, AllBegun, BlamesInTurn}
-use Rattle.rabit_frame.specs.Ending.{OfBoth, IsCutShort, PutEach, Leaves, MayEnd, filed, status_of, status_unsent, WasSaid, SaysOnly}
+use Rattle.rabit_frame.specs.Ending.{BeforeAndAfter, IsCutShort, PutEach, Leaves, MayEnd, filed, status_of, status_unsent, WasSaid, SaysOnly}
 use Rattle.rabit_frame.specs.Carrying.{EndsSo, NoReply, IsCarriedOut, SaysEach, PutsByStatus}
 use Rattle.rabit_frame.proofs.EndLemmas.{own_number, may_plain, stop_plain, says_each, read_fault_of, read_line_of, memory_of}
 use Rattle.rabit_frame.proofs.TurnLemmas.{counts_here, begun_here}
@@ -100,7 +100,7 @@ module _ (q : Question) (held held' : Option FileMap) (read read' put put' : ℕ
         | inr fault ↦ inr fault
       ]
 
-  pub leaves_question : OfBoth held held' (λ files files'. LeavesDecided files q.first q.second q.cert (usual_terms Buchi) (status_of e) put put' files')
+  pub leaves_question : BeforeAndAfter held held' (λ files files'. LeavesDecided files q.first q.second q.cert (usual_terms Buchi) (status_of e) put put' files')
   leaves_question =
       leaves_include held held' (status_of e) None (as_said e None 0).0 0 0 read read' put put' q.first q.second q.cert (usual_terms Buchi) (usual_bounded Buchi) e ends (as_said e None 0).1
 
@@ -248,7 +248,7 @@ each_none number held held' sent give gives read put missed calls stays = record
     known_nil None = refl
     known_nil (Some x) = ap Some (sym (append_nil x))
 
-    same : (h : Option FileMap) → held' ≡ h → OfBoth h held' (λ files files'. LeaveInTurn [] [] files files' calls calls)
+    same : (h : Option FileMap) → held' ≡ h → BeforeAndAfter h held' (λ files files'. LeaveInTurn [] [] files files' calls calls)
     same None e = e
     same (Some files) e = (files, e, (refl, refl))
 
@@ -270,20 +270,20 @@ module _ (q : Question) (number : ℕ) (held between : Option FileMap) (read rea
   put_stay : (statuses : List ℕ) (put' : ℕ) → (times 7 statuses ≡ 0 → put' ≡ put1) → times 7 (status_of e ∷ statuses) ≡ 0 → put' ≡ put
   put_stay statuses put' rest = stay_by 7 (status_of e) statuses put put1 put' (λ other. ends.no_write_fault (λ is. other (ap status_of is))) rest
 
-  turn_more : (questions : List Question) (statuses : List ℕ) (held' : Option FileMap) (calls' : ShelfCounts) → OfBoth between held' (λ files files'. LeaveInTurn questions statuses files files' calls1 calls') → OfBoth held held' (λ files files'. LeaveInTurn (q ∷ questions) (status_of e ∷ statuses) files files' calls calls')
+  turn_more : (questions : List Question) (statuses : List ℕ) (held' : Option FileMap) (calls' : ShelfCounts) → BeforeAndAfter between held' (λ files files'. LeaveInTurn questions statuses files files' calls1 calls') → BeforeAndAfter held held' (λ files files'. LeaveInTurn (q ∷ questions) (status_of e ∷ statuses) files files' calls calls')
   turn_more questions statuses held' calls' rest = go held ends.leaves made
     where
-      go : (h : Option FileMap) → OfBoth h between (λ files files'. Leaves (MeansQuestion q) (question_inputs q) e files files') → IfSome h (λ files. MadeCalls q (status_of e) files calls calls1)
-          → OfBoth h held' (λ files files'. LeaveInTurn (q ∷ questions) (status_of e ∷ statuses) files files' calls calls')
-      go None none b = subst (λ (m : Option FileMap). OfBoth m held' (λ files files'. LeaveInTurn questions statuses files files' calls1 calls')) none rest
+      go : (h : Option FileMap) → BeforeAndAfter h between (λ files files'. Leaves (MeansQuestion q) (question_inputs q) e files files') → IfSome h (λ files. MadeCalls q (status_of e) files calls calls1)
+          → BeforeAndAfter h held' (λ files files'. LeaveInTurn (q ∷ questions) (status_of e ∷ statuses) files files' calls calls')
+      go None none b = subst (λ (m : Option FileMap). BeforeAndAfter m held' (λ files files'. LeaveInTurn questions statuses files files' calls1 calls')) none rest
       go (Some files) (mid, is, left) b =
-          let (files', is', later) = subst (λ (m : Option FileMap). OfBoth m held' (λ files files'. LeaveInTurn questions statuses files files' calls1 calls')) is rest in
+          let (files', is', later) = subst (λ (m : Option FileMap). BeforeAndAfter m held' (λ files files'. LeaveInTurn questions statuses files files' calls1 calls')) is rest in
           (files', is', (mid, calls1, (e, left, refl), b, later))
 
   missed_more : (questions : List Question) (missed' : ℕ) → IfSome between (λ files. All (AutomataAreThere files) questions → missed' ≡ missed1) → IfSome held (λ files. All (AutomataAreThere files) (q ∷ questions) → missed' ≡ missed)
   missed_more questions missed' rest = go held ends.leaves counts
     where
-      go : (h : Option FileMap) → OfBoth h between (λ files files'. Leaves (MeansQuestion q) (question_inputs q) e files files') → IfSome h (λ files. MissedInTurn files (question_inputs q) missed missed1) → IfSome h (λ files. All (AutomataAreThere files) (q ∷ questions) → missed' ≡ missed)
+      go : (h : Option FileMap) → BeforeAndAfter h between (λ files files'. Leaves (MeansQuestion q) (question_inputs q) e files files') → IfSome h (λ files. MissedInTurn files (question_inputs q) missed missed1) → IfSome h (λ files. All (AutomataAreThere files) (q ∷ questions) → missed' ≡ missed)
       go None none c = tt
       go (Some files) (mid, is, left) c = λ there.
           let later = subst (λ (m : Option FileMap). IfSome m (λ files. All (AutomataAreThere files) questions → missed' ≡ missed1)) is rest in
@@ -343,7 +343,7 @@ module _ (q : Question) (number : ℕ) (held between : Option FileMap) (read rea
       place : number ≡ number + length none_more
       place = omega arith
 
-      stay : (h : Option FileMap) → OfBoth h h (λ files files'. LeaveInTurn questions [] files files' calls1 calls1)
+      stay : (h : Option FileMap) → BeforeAndAfter h h (λ files files'. LeaveInTurn questions [] files files' calls1 calls1)
       stay None = refl
       stay (Some files) = (files, refl, (refl, refl))
 
@@ -540,11 +540,11 @@ batch_asked list slot held held1 held' status sent sent' give give' gives gives'
         said = each.said;
         given_each = each.given_each;
         in_turn =
-            subst (λ n. OfBoth held held' (λ files files'. LeaveInTurn questions each.statuses files files' (shelf_counts n calls.puts calls.read_faults calls.put_faults calls1.blamed) calls')) begun
-            (subst (λ n. OfBoth held held' (λ files files'. LeaveInTurn questions each.statuses files files' (shelf_counts calls1.begins n calls.read_faults calls.put_faults calls1.blamed) calls')) puts_stay
-            (subst (λ n. OfBoth held held' (λ files files'. LeaveInTurn questions each.statuses files files' (shelf_counts calls1.begins calls1.puts n calls.put_faults calls1.blamed) calls')) no_read
-            (subst (λ n. OfBoth held held' (λ files files'. LeaveInTurn questions each.statuses files files' (shelf_counts calls1.begins calls1.puts calls1.read_faults n calls1.blamed) calls')) no_put
-            (subst (λ (h : Option FileMap). OfBoth h held' (λ files files'. LeaveInTurn questions each.statuses files files' calls1 calls')) held_stays each.in_turn))));
+            subst (λ n. BeforeAndAfter held held' (λ files files'. LeaveInTurn questions each.statuses files files' (shelf_counts n calls.puts calls.read_faults calls.put_faults calls1.blamed) calls')) begun
+            (subst (λ n. BeforeAndAfter held held' (λ files files'. LeaveInTurn questions each.statuses files files' (shelf_counts calls1.begins n calls.read_faults calls.put_faults calls1.blamed) calls')) puts_stay
+            (subst (λ n. BeforeAndAfter held held' (λ files files'. LeaveInTurn questions each.statuses files files' (shelf_counts calls1.begins calls1.puts n calls.put_faults calls1.blamed) calls')) no_read
+            (subst (λ n. BeforeAndAfter held held' (λ files files'. LeaveInTurn questions each.statuses files files' (shelf_counts calls1.begins calls1.puts calls1.read_faults n calls1.blamed) calls')) no_put
+            (subst (λ (h : Option FileMap). BeforeAndAfter h held' (λ files files'. LeaveInTurn questions each.statuses files files' calls1 calls')) held_stays each.in_turn))));
         read_faults_rose = subst (λ n. RoseBy (times 6 each.statuses) n read') read_stays each.read_faults_rose;
         put_faults_rose = subst (λ n. RoseBy (times 7 each.statuses) n put') put_stays each.put_faults_rose;
         read_faults_stay = λ none. each.read_faults_stay none ∙ read_stays;

@@ -8,7 +8,7 @@ use Rattle.rabit_frame.specs.declared.parts.Ending.{Ending}
 use Rattle.rabit_frame.specs.declared.parts.Ending.TheVariants as ending
 use Rattle.rabit_frame.specs.Statuses.{status_number}
 use Rattle.rabit_frame.specs.Reading.{AreOfKinds, MissedInTurn, BegunInTurn, BlamesInTurn}
-use Rattle.rabit_frame.specs.Ending.{OfBoth, WasSaid}
+use Rattle.rabit_frame.specs.Ending.{BeforeAndAfter, WasSaid}
 use Rattle.rabit_frame.specs.Carrying.{EndsSo, IsCarriedOut, ShowsResult, PutsByStatus}
 use Rattle.rabit_frame.proofs.EndLemmas.{may_plain, same_status, own_status, both_same, no_inputs, no_puts, no_puts_stay}
 use Rattle.std.specs.Prelude.{option_map}
@@ -194,12 +194,12 @@ module _ (held held' : Option FileMap) (status : ℕ) (sent sent' : Option (List
   pub writes_none : (q : Option Question) → Carried q → outputs_of q ≡ [] → put_faults' ≡ put_faults
   writes_none q c none = no_puts (Means q) (inputs_of q) held held' status sent sent' give_faults give_faults' faults faults' put_faults put_faults' c.end c.ends (no_outputs q none)
 
-  stays_with : (q : Option Question) → Carried q → outputs_of q ≡ [] → OfBoth held held' (λ files files'. files' ≡ files)
+  stays_with : (q : Option Question) → Carried q → outputs_of q ≡ [] → BeforeAndAfter held held' (λ files files'. files' ≡ files)
   stays_with q c none =
       both_same held held' (λ files files'. files' ≡ files) (λ files. refl)
       (no_puts_stay (Means q) (inputs_of q) held held' status sent sent' give_faults give_faults' faults faults' put_faults put_faults' c.end c.ends (no_outputs q none))
 
-  pub leaves : (q : Option Question) → IfSome q IsProper → Carried q → OfBoth held held' (λ files files'. LeavesFiles q status put_faults put_faults' files files')
+  pub leaves : (q : Option Question) → IfSome q IsProper → Carried q → BeforeAndAfter held held' (λ files files'. LeavesFiles q status put_faults put_faults' files files')
   leaves None range c = stays_with None c refl
   leaves (Some (Check a b d)) range c = stays_with (Some (Check a b d)) c refl
   leaves (Some (Include a b d m look limit letters)) range c =

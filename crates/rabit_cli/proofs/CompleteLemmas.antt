@@ -8,7 +8,7 @@ use Rattle.rabit_frame.specs.declared.parts.Ending.TheVariants as ending
 use Rattle.rabit_frame.specs.Files.{Input}
 use Rattle.rabit_frame.specs.Statuses.{status_number}
 use Rattle.rabit_frame.specs.Reading.{ReadInTurn, StopInTurn, FileStops}
-use Rattle.rabit_frame.specs.Ending.{IsReplyFor, Leaves, OfBoth, WasSaid}
+use Rattle.rabit_frame.specs.Ending.{IsReplyFor, Leaves, BeforeAndAfter, WasSaid}
 use Rattle.rabit_frame.specs.Carrying.{EndsSo, IsCarriedOut}
 use Rattle.rabit_frame.proofs.OneLemmas.{stop_or_read_in_turn}
 use Rattle.rabit_words.specs.Question.{Question, Include, Check, Reduce, Drill, Upgrade, Cross, CrossCheck, Equal, Batch, Union, Intersect, Shrink, Empty, Universal}
@@ -127,7 +127,7 @@ wants (Empty a e' c m) single files n e = inr e
 wants (Universal a u c m) single files n e = inr e
 
 module _ (held held' : Option FileMap) (status : ℕ) (sent sent' : Option (List ℕ)) (give_faults give_faults' faults faults' put_faults put_faults' : ℕ) where
-  answers_on : (q : Question) → IsSingle (Some q) → (h : Option FileMap) (e : Ending) → OfBoth h held' (λ files files'. Leaves (Means (Some q)) (inputs_of (Some q)) e files files')
+  answers_on : (q : Question) → IsSingle (Some q) → (h : Option FileMap) (e : Ending) → BeforeAndAfter h held' (λ files files'. Leaves (Means (Some q)) (inputs_of (Some q)) e files files')
       → EndsSo (Means (Some q)) (inputs_of (Some q)) e held held' faults faults' put_faults put_faults' → WasSaid e status sent sent' give_faults give_faults'
       → IfSome h (λ files. AnswersWhatReads q files status give_faults give_faults' faults faults' put_faults put_faults')
   answers_on q single None e leaves ends said = tt

@@ -18,7 +18,7 @@ use Rattle.rabit_frame.specs.declared.parts.Reply.{Reply}
 use Rattle.rabit_frame.specs.declared.parts.Ending.{Ending}
 use Rattle.rabit_frame.specs.Statuses.{status_number}
 use Rattle.rabit_frame.specs.Reading.{ReadInTurn, StopInTurn, reply_with, only_said}
-use Rattle.rabit_frame.specs.Ending.{IsReplyFor, OfBoth, IsCutShort, WasSaid, filed}
+use Rattle.rabit_frame.specs.Ending.{IsReplyFor, BeforeAndAfter, IsCutShort, WasSaid, filed}
 use Rattle.rabit_frame.specs.Carrying.{EndsSo}
 use Rattle.rabit_frame.proofs.EndLemmas.{leaves_by_status}
 use Rattle.rabit_frame.proofs.OneLemmas.{one_read_in_turn, stop_or_read_in_turn}
@@ -109,7 +109,7 @@ module _ (files : FileMap) (a b out : List ℕ) (look : ℕ) where
       ]
 
 module _ (held held' : Option FileMap) (status : ℕ) (sent sent' : Option (List ℕ)) (give_faults give_faults' faults faults' put_faults put_faults' : ℕ) (a b out : List ℕ) (look : ℕ) where
-  pub leaves_cross : (e : Ending) → EndsSo (MeansCross out look) (pair_inputs a b) e held held' faults faults' put_faults put_faults' → WasSaid e status sent sent' give_faults give_faults' → OfBoth held held' (λ files files'. LeavesCross files a b out look status put_faults put_faults' files')
+  pub leaves_cross : (e : Ending) → EndsSo (MeansCross out look) (pair_inputs a b) e held held' faults faults' put_faults put_faults' → WasSaid e status sent sent' give_faults give_faults' → BeforeAndAfter held held' (λ files files'. LeavesCross files a b out look status put_faults put_faults' files')
   leaves_cross e ends said =
       leaves_by_status (MeansCross out look) (pair_inputs a b) held held' status sent sent' give_faults give_faults' faults faults' put_faults put_faults' _ _ (cross_writes out look)
       (λ files files' values r reads means low left. holds_cross files a b out look files' values r reads means low left)

@@ -11,8 +11,8 @@ use Rattle.ba_format.proofs.LawLemmas.{joins_as_one}
 use Rattle.cert_value.specs.declared.types.Cert.{Cert}
 use Rattle.cert_value.specs.declared.types.Body.{Body}
 use Rattle.cert_value.specs.declared.types.Body.TheVariants.{Yes, NoLasso, NoWord, Listing}
-use Rattle.cert_value.specs.declared.types.Answer.TheVariants as an_answer
-use Rattle.cert_value.specs.Text.{answer_of}
+use Rattle.cert_value.specs.declared.types.Form.TheVariants as form
+use Rattle.cert_value.specs.Text.{form_of}
 use Rattle.decide.specs.Answer.{IsAnswer}
 use Rattle.decide.specs.Laws.{AnswerIsTrue}
 use Rattle.decide.proofs.UniqueLemmas.{one_answer}
@@ -27,7 +27,7 @@ use Rattle.rabit_frame.specs.declared.parts.Ending.{Ending}
 use Rattle.rabit_frame.specs.Files.{Output}
 use Rattle.rabit_frame.specs.Statuses.{status_number}
 use Rattle.rabit_frame.specs.Reading.{ReadInTurn, FileReads}
-use Rattle.rabit_frame.specs.Ending.{OfBoth, IsCutShort, WasSaid, filed}
+use Rattle.rabit_frame.specs.Ending.{BeforeAndAfter, IsCutShort, WasSaid, filed}
 use Rattle.rabit_frame.specs.Carrying.{EndsSo}
 use Rattle.rabit_frame.proofs.EndLemmas.{leaves_by_status}
 use Rattle.rabit_cli.specs.Files.{second_limits, automaton_file}
@@ -69,12 +69,12 @@ one_equal_reply c d one two pair pair' r s joined joined' (cert, answer, says) (
         | inl (is', e') ↦ e ∙ ap (λ z. first_apart_reply c z cert) same ∙ ap (first_apart_reply c pair') same_cert ∙ sym e'
         | inr (not, more) ↦ absurd (not (no is))
       ]
-      | inr (not, (converse, other, turned, second, e)) ↦ elim says' [
+      | inr (not, (exchanged, converse, turned, second, e)) ↦ elim says' [
         | inl (is', e') ↦ absurd (not (no' is'))
-        | inr (not', (converse', other', turned', second', e')) ↦
-            let (same_pair, same_other) = one_joined two one converse converse' other other' turned turned' second second' in
-            let R : Cert → Joined → Cert → Reply = λ x p y. both_reply (said_by_both (answer_of x.body) (answer_of y.body)) p.labels y.body (both_puts c d x y) in
-            e ∙ ap (λ x. R x converse other) same_cert ∙ ap (λ p. R cert' p other) same_pair ∙ ap (R cert' converse') same_other ∙ sym e'
+        | inr (not', (exchanged', converse', turned', second', e')) ↦
+            let (same_pair, same_converse) = one_joined two one exchanged exchanged' converse converse' turned turned' second second' in
+            let R : Cert → Joined → Cert → Reply = λ x p y. both_reply (said_by_both (form_of x.body) (form_of y.body)) p.labels y.body (both_puts c d x y) in
+            e ∙ ap (λ x. R x exchanged converse) same_cert ∙ ap (λ p. R cert' p converse) same_pair ∙ ap (R cert' exchanged') same_converse ∙ sym e'
       ]
     ]
 
@@ -92,7 +92,7 @@ one_equal c d values r s (one, two, is, (pair, joined, here)) (one', two', is', 
 equal_low_of : (c d : List ℕ) (one two : Named) (pair : Joined) (r : Reply) → IsEqualReply c d one two pair r → status_number r.status ≤ 2
 equal_low_of c d one two pair r (cert, answer, says) = elim says [
   | inl (is, e) ↦ subst (λ z. status_number z.status ≤ 2) (sym e) (omega arith)
-  | inr (not, (converse, other, turned, second, e)) ↦ subst (λ z. status_number z.status ≤ 2) (sym e) (low_of_both (said_by_both (answer_of cert.body) (answer_of other.body)) converse.labels other.body (both_puts c d cert other))
+  | inr (not, (exchanged, converse, turned, second, e)) ↦ subst (λ z. status_number z.status ≤ 2) (sym e) (low_of_both (said_by_both (form_of cert.body) (form_of converse.body)) exchanged.labels converse.body (both_puts c d cert converse))
 ]
 
 pub equal_low : (c d : List ℕ) (values : List Value) (r : Reply) → MeansEqual c d values r → status_number r.status ≤ 2
@@ -122,28 +122,28 @@ module _ (files : FileMap) (a b c d : List ℕ) where
     first_for : (cert : Cert) → IsAnswer pair (usual_terms Buchi) cert → IsCertForWithin second_limits files a b (usual_terms Buchi) pair cert
     first_for cert answer = cert_for_within second_limits within_first files a b (usual_terms Buchi) (usual_bounded Buchi) pair cert (one, two, first, second, joined) answer
 
-    second_for : (converse : Joined) (other : Cert) → IsJoined two one converse → IsAnswer converse (usual_terms Buchi) other → IsCertForWithin second_limits files b a (usual_terms Buchi) converse other
-    second_for converse other turned answer = cert_for_within second_limits within_first files b a (usual_terms Buchi) (usual_bounded Buchi) converse other (two, one, numbered b 2 1 two second, numbered a 1 2 one first, turned) answer
+    second_for : (exchanged : Joined) (converse : Cert) → IsJoined two one exchanged → IsAnswer exchanged (usual_terms Buchi) converse → IsCertForWithin second_limits files b a (usual_terms Buchi) exchanged converse
+    second_for exchanged converse turned answer = cert_for_within second_limits within_first files b a (usual_terms Buchi) (usual_bounded Buchi) exchanged converse (two, one, numbered b 2 1 two second, numbered a 1 2 one first, turned) answer
 
     -- two inclusions are equality
-    same_by : (converse : Joined) → IsJoined two one converse → Includes pair.first pair.second Buchi → Includes converse.first converse.second Buchi → Same pair.first pair.second Buchi
-    same_by converse turned forth back =
+    same_by : (exchanged : Joined) → IsJoined two one exchanged → Includes pair.first pair.second Buchi → Includes exchanged.first exchanged.second Buchi → Same pair.first pair.second Buchi
+    same_by exchanged turned forth back =
         let (bytes, has, few, reads) = first in
         let (bytes', has', few', reads') = second in
-        (forth, join_order_does_not_matter bytes' bytes second_limits second_limits two one converse pair Buchi reads' reads turned joined back)
+        (forth, join_order_does_not_matter bytes' bytes second_limits second_limits two one exchanged pair Buchi reads' reads turned joined back)
 
     written_by : (r : Reply) → IsEqualReply c d one two pair r → AreEqualPuts files a b c d r.puts
     written_by r (cert, answer, says) = elim says [
       | inl (is, e) ↦ inl (pair, cert, first_for cert answer, is, ap (λ z. z.puts) e)
-      | inr (not, (converse, other, turned, answer', e)) ↦
+      | inr (not, (exchanged, converse, turned, answer', e)) ↦
           inr (
             pair,
-            converse,
+            exchanged,
             cert,
-            other,
-            record { first = first_for cert answer; second = second_for converse other turned answer' },
+            converse,
+            record { first = first_for cert answer; second = second_for exchanged converse turned answer' },
             not,
-            ap (λ z. z.puts) e ∙ puts_of_both (said_by_both (answer_of cert.body) (answer_of other.body)) converse.labels other.body (both_puts c d cert other),
+            ap (λ z. z.puts) e ∙ puts_of_both (said_by_both (form_of cert.body) (form_of converse.body)) exchanged.labels converse.body (both_puts c d cert converse),
           )
     ]
 
@@ -165,29 +165,29 @@ module _ (files : FileMap) (a b c d : List ℕ) where
             listed = λ f. absurd (omega arith);
           }
 
-      module _ (cert : Cert) (answer : IsAnswer pair (usual_terms Buchi) cert) (not : ¬ IsNo cert.body) (converse : Joined) (other : Cert) (turned : IsJoined two one converse) (answer' : IsAnswer converse (usual_terms Buchi) other) where
-        certs : AreCertsBothWays files a b pair converse cert other
-        certs = record { first = first_for cert answer; second = second_for converse other turned answer' }
+      module _ (cert : Cert) (answer : IsAnswer pair (usual_terms Buchi) cert) (not : ¬ IsNo cert.body) (exchanged : Joined) (converse : Cert) (turned : IsJoined two one exchanged) (answer' : IsAnswer exchanged (usual_terms Buchi) converse) where
+        certs : AreCertsBothWays files a b pair exchanged cert converse
+        certs = record { first = first_for cert answer; second = second_for exchanged converse turned answer' }
 
         abbrev reply_by : Both → Reply
-        reply_by said = both_reply said converse.labels other.body (both_puts c d cert other)
+        reply_by said = both_reply said exchanged.labels converse.body (both_puts c d cert converse)
 
-        held_by : (said : Both) → r ≡ reply_by said → files' ≡ filed files (both_puts c d cert other)
-        held_by said e = left ∙ ap (λ z. filed files z.puts) e ∙ ap (filed files) (puts_of_both said converse.labels other.body (both_puts c d cert other))
+        held_by : (said : Both) → r ≡ reply_by said → files' ≡ filed files (both_puts c d cert converse)
+        held_by said e = left ∙ ap (λ z. filed files z.puts) e ∙ ap (filed files) (puts_of_both said exchanged.labels converse.body (both_puts c d cert converse))
 
-        shows_equal_now : r ≡ reply_by both.Equal → answer_of cert.body ≡ an_answer.Yes → answer_of other.body ≡ an_answer.Yes → Includes pair.first pair.second Buchi → Includes converse.first converse.second Buchi → ShowsEqual files a b c d status files' sent sent'
+        shows_equal_now : r ≡ reply_by both.Equal → form_of cert.body ≡ form.Yes → form_of converse.body ≡ form.Yes → Includes pair.first pair.second Buchi → Includes exchanged.first exchanged.second Buchi → ShowsEqual files a b c d status files' sent sent'
         shows_equal_now e accepts converse_accepts forth back =
             let zero : status ≡ 0 = sym number ∙ ap (λ z. status_number z.status) e in
             record {
               equal = λ f. record {
                 pair = pair;
-                converse = converse;
+                exchanged = exchanged;
                 cert = cert;
-                other = other;
+                converse = converse;
                 certs = certs;
                 says_yes = accepts;
-                other_says_yes = converse_accepts;
-                same = same_by converse turned forth back;
+                converse_says_yes = converse_accepts;
+                same = same_by exchanged turned forth back;
                 held = held_by both.Equal e;
                 printed = sends ∙ ap (λ z. append_known sent z.text) e;
               };
@@ -195,26 +195,26 @@ module _ (files : FileMap) (a b c d : List ℕ) where
               listed = λ f. absurd (omega arith);
             }
 
-        shows_second : r ≡ reply_by both.SecondApart → IsNo other.body → ShowsEqual files a b c d status files' sent sent'
+        shows_second : r ≡ reply_by both.SecondApart → IsNo converse.body → ShowsEqual files a b c d status files' sent sent'
         shows_second e is =
             let is_one : status ≡ 1 = sym number ∙ ap (λ z. status_number z.status) e in
             record {
               equal = λ f. absurd (omega arith);
               apart = λ f. inr (record {
                 pair = pair;
-                converse = converse;
+                exchanged = exchanged;
                 cert = cert;
-                other = other;
+                converse = converse;
                 certs = certs;
                 not_first = not;
-                apart = separated converse other.body is certs.second.truth;
+                apart = separated exchanged converse.body is certs.second.truth;
                 held = held_by both.SecondApart e;
                 printed = sends ∙ ap (λ z. append_known sent z.text) e;
               });
               listed = λ f. absurd (omega arith);
             }
 
-        shows_limit : r ≡ reply_by both.Limit → ¬ IsNo other.body → IsListBody cert.body ⊎ IsListBody other.body → ShowsEqual files a b c d status files' sent sent'
+        shows_limit : r ≡ reply_by both.Limit → ¬ IsNo converse.body → IsListBody cert.body ⊎ IsListBody converse.body → ShowsEqual files a b c d status files' sent sent'
         shows_limit e not' lists =
             let two : status ≡ 2 = sym number ∙ ap (λ z. status_number z.status) e in
             record {
@@ -222,9 +222,9 @@ module _ (files : FileMap) (a b c d : List ℕ) where
               apart = λ f. absurd (omega arith);
               listed = λ f. record {
                 pair = pair;
-                converse = converse;
+                exchanged = exchanged;
                 cert = cert;
-                other = other;
+                converse = converse;
                 certs = certs;
                 not_first = not;
                 not_second = not';
@@ -234,11 +234,11 @@ module _ (files : FileMap) (a b c d : List ℕ) where
               };
             }
 
-        by_bodies : (x y : Body) → cert.body ≡ x → other.body ≡ y → r ≡ reply_by (said_by_both (answer_of x) (answer_of y)) → ShowsEqual files a b c d status files' sent sent'
+        by_bodies : (x y : Body) → cert.body ≡ x → converse.body ≡ y → r ≡ reply_by (said_by_both (form_of x) (form_of y)) → ShowsEqual files a b c d status files' sent sent'
         by_bodies (NoLasso l) y is_x is_y e = absurd (not (subst IsNo (sym is_x) tt))
         by_bodies (NoWord w) y is_x is_y e = absurd (not (subst IsNo (sym is_x) tt))
         by_bodies (Yes p) (Yes q) is_x is_y e =
-            shows_equal_now e (ap answer_of is_x) (ap answer_of is_y) (subst (AnswerIsTrue pair (usual_terms Buchi)) is_x certs.first.truth).0 (subst (AnswerIsTrue converse (usual_terms Buchi)) is_y certs.second.truth).0
+            shows_equal_now e (ap form_of is_x) (ap form_of is_y) (subst (AnswerIsTrue pair (usual_terms Buchi)) is_x certs.first.truth).0 (subst (AnswerIsTrue exchanged (usual_terms Buchi)) is_y certs.second.truth).0
         by_bodies (Yes p) (NoLasso l) is_x is_y e = shows_second e (subst IsNo (sym is_y) tt)
         by_bodies (Yes p) (NoWord w) is_x is_y e = shows_second e (subst IsNo (sym is_y) tt)
         by_bodies (Yes p) (Listing l) is_x is_y e = shows_limit e (λ h. subst IsNo is_y h) (inr (subst IsListBody (sym is_y) tt))
@@ -250,7 +250,7 @@ module _ (files : FileMap) (a b c d : List ℕ) where
       shows_of : IsEqualReply c d one two pair r → ShowsEqual files a b c d status files' sent sent'
       shows_of (cert, answer, says) = elim says [
         | inl (is, e) ↦ shows_first cert answer is e
-        | inr (not, (converse, other, turned, answer', e)) ↦ by_bodies cert answer not converse other turned answer' cert.body other.body refl refl e
+        | inr (not, (exchanged, converse, turned, answer', e)) ↦ by_bodies cert answer not exchanged converse turned answer' cert.body converse.body refl refl e
       ]
 
   pub shows_equal : (status : ℕ) (files' : FileMap) (sent sent' : Option (List ℕ)) (r : Reply) → status_number r.status ≡ status → files' ≡ filed files r.puts → sent' ≡ append_known sent r.text → (values : List Value) →
@@ -271,7 +271,7 @@ module _ (files : FileMap) (a b c d : List ℕ) where
   holds_equal_part files' values r reads means cut = (r.puts, puts_of values r reads means, cut)
 
 module _ (held held' : Option FileMap) (status : ℕ) (sent sent' : Option (List ℕ)) (give_faults give_faults' faults faults' put_faults put_faults' : ℕ) (a b c d : List ℕ) where
-  pub leaves_equal : (e : Ending) → EndsSo (MeansEqual c d) (equal_inputs a b) e held held' faults faults' put_faults put_faults' → WasSaid e status sent sent' give_faults give_faults' → OfBoth held held' (λ files files'. LeavesEqual files a b c d status put_faults put_faults' files')
+  pub leaves_equal : (e : Ending) → EndsSo (MeansEqual c d) (equal_inputs a b) e held held' faults faults' put_faults put_faults' → WasSaid e status sent sent' give_faults give_faults' → BeforeAndAfter held held' (λ files files'. LeavesEqual files a b c d status put_faults put_faults' files')
   leaves_equal e ends said =
       leaves_by_status (MeansEqual c d) (equal_inputs a b) held held' status sent sent' give_faults give_faults' faults faults' put_faults put_faults' _ _ (equal_writes c d)
       (λ files files' values r reads means low left. holds_equal files a b c d files' values r reads means left)

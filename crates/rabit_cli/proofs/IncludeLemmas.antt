@@ -30,7 +30,7 @@ use Rattle.rabit_frame.specs.declared.parts.Ending.{Ending}
 use Rattle.rabit_frame.specs.Files.{Output}
 use Rattle.rabit_frame.specs.Statuses.{status_number}
 use Rattle.rabit_frame.specs.Reading.{ReadInTurn}
-use Rattle.rabit_frame.specs.Ending.{OfBoth, IsCutShort, WasSaid, filed}
+use Rattle.rabit_frame.specs.Ending.{BeforeAndAfter, IsCutShort, WasSaid, filed}
 use Rattle.rabit_frame.specs.Carrying.{EndsSo}
 use Rattle.rabit_frame.proofs.EndLemmas.{leaves_by_status}
 use Rattle.rabit_cli.specs.Printed.{limit_text}
@@ -191,7 +191,7 @@ module _ (files : FileMap) (a b c : List ℕ) (terms : Terms) (bounds : AreBound
 
 -- what it leaves
 module _ (held held' : Option FileMap) (status : ℕ) (sent sent' : Option (List ℕ)) (give_faults give_faults' faults faults' put_faults put_faults' : ℕ) (a b c : List ℕ) (terms : Terms) (bounds : AreBounded terms) where
-  pub leaves_include : (e : Ending) → EndsSo (MeansInclude c terms) (pair_inputs a b) e held held' faults faults' put_faults put_faults' → WasSaid e status sent sent' give_faults give_faults' → OfBoth held held' (λ files files'. LeavesDecided files a b c terms status put_faults put_faults' files')
+  pub leaves_include : (e : Ending) → EndsSo (MeansInclude c terms) (pair_inputs a b) e held held' faults faults' put_faults put_faults' → WasSaid e status sent sent' give_faults give_faults' → BeforeAndAfter held held' (λ files files'. LeavesDecided files a b c terms status put_faults put_faults' files')
   leaves_include e ends said =
       leaves_by_status (MeansInclude c terms) (pair_inputs a b) held held' status sent sent' give_faults give_faults' faults faults' put_faults put_faults' _ _ (include_writes c terms)
       (λ files files' values r reads means low left. holds_answer files a b c terms bounds files' values r reads means left)

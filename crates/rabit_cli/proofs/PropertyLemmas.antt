@@ -24,7 +24,7 @@ use Rattle.rabit_frame.specs.declared.parts.Ending.{Ending}
 use Rattle.rabit_frame.specs.Files.{Output}
 use Rattle.rabit_frame.specs.Statuses.{status_number}
 use Rattle.rabit_frame.specs.Reading.{ReadInTurn}
-use Rattle.rabit_frame.specs.Ending.{OfBoth, IsCutShort, WasSaid, filed}
+use Rattle.rabit_frame.specs.Ending.{BeforeAndAfter, IsCutShort, WasSaid, filed}
 use Rattle.rabit_frame.specs.Carrying.{EndsSo}
 use Rattle.rabit_frame.proofs.EndLemmas.{leaves_by_status}
 use Rattle.rabit_cli.specs.Printed.{lasso_against_text, word_against_text, limit_text}
@@ -219,7 +219,7 @@ module _ (p : Property) (known : IsDecidable p) (m c : List ℕ) (mode : Mode) w
         (f.one, f.other, f.pair, f.cert, f.is_for, cut')
 
   module _ (held held' : Option FileMap) (status : ℕ) (sent sent' : Option (List ℕ)) (give_faults give_faults' faults faults' put_faults put_faults' : ℕ) (a : List ℕ) where
-    pub leaves_property : (e : Ending) → EndsSo (MeansProperty p m c mode) (property_inputs p a) e held held' faults faults' put_faults put_faults' → WasSaid e status sent sent' give_faults give_faults' → OfBoth held held' (λ files files'. LeavesProperty p files a m c mode status put_faults put_faults' files')
+    pub leaves_property : (e : Ending) → EndsSo (MeansProperty p m c mode) (property_inputs p a) e held held' faults faults' put_faults put_faults' → WasSaid e status sent sent' give_faults give_faults' → BeforeAndAfter held held' (λ files files'. LeavesProperty p files a m c mode status put_faults put_faults' files')
     leaves_property e ends said =
         leaves_by_status (MeansProperty p m c mode) (property_inputs p a) held held' status sent sent' give_faults give_faults' faults faults' put_faults put_faults' _ _ decided_writes
         (λ files files' values r reads means low left. holds_both files a files' values r reads means left)

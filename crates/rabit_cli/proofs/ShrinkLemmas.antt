@@ -34,7 +34,7 @@ use Rattle.rabit_frame.specs.declared.parts.Ending.{Ending}
 use Rattle.rabit_frame.specs.Files.{Output}
 use Rattle.rabit_frame.specs.Statuses.{status_number}
 use Rattle.rabit_frame.specs.Reading.{only_said, ReadInTurn, StopInTurn}
-use Rattle.rabit_frame.specs.Ending.{IsReplyFor, OfBoth, IsCutShort, WasSaid, filed}
+use Rattle.rabit_frame.specs.Ending.{IsReplyFor, BeforeAndAfter, IsCutShort, WasSaid, filed}
 use Rattle.rabit_frame.specs.Carrying.{EndsSo}
 use Rattle.rabit_frame.proofs.EndLemmas.{leaves_by_status}
 use Rattle.rabit_frame.proofs.OneLemmas.{one_read_in_turn, stop_or_read_in_turn}
@@ -355,7 +355,7 @@ module _ (files : FileMap) (a b c out : List ℕ) where
   ]
 
 module _ (held held' : Option FileMap) (status : ℕ) (sent sent' : Option (List ℕ)) (give_faults give_faults' faults faults' put_faults put_faults' : ℕ) (a b c out : List ℕ) where
-  pub leaves_shrink : (e : Ending) → EndsSo (MeansShrink out) (check_inputs a b c) e held held' faults faults' put_faults put_faults' → WasSaid e status sent sent' give_faults give_faults' → OfBoth held held' (λ files files'. LeavesShrunk files a b c out status put_faults put_faults' files')
+  pub leaves_shrink : (e : Ending) → EndsSo (MeansShrink out) (check_inputs a b c) e held held' faults faults' put_faults put_faults' → WasSaid e status sent sent' give_faults give_faults' → BeforeAndAfter held held' (λ files files'. LeavesShrunk files a b c out status put_faults put_faults' files')
   leaves_shrink e ends said =
       leaves_by_status (MeansShrink out) (check_inputs a b c) held held' status sent sent' give_faults give_faults' faults faults' put_faults put_faults' _ _ (shrink_writes out)
       (λ files files' values r reads means low left. holds_shrunk files a b c out files' values r reads means low left)

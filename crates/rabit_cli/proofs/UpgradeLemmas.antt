@@ -14,7 +14,7 @@ use Rattle.rabit_frame.specs.declared.parts.Reply.{Reply}
 use Rattle.rabit_frame.specs.declared.parts.Ending.{Ending}
 use Rattle.rabit_frame.specs.Statuses.{status_number}
 use Rattle.rabit_frame.specs.Reading.{ReadInTurn, StopInTurn}
-use Rattle.rabit_frame.specs.Ending.{IsReplyFor, OfBoth, IsCutShort, WasSaid, filed}
+use Rattle.rabit_frame.specs.Ending.{IsReplyFor, BeforeAndAfter, IsCutShort, WasSaid, filed}
 use Rattle.rabit_frame.specs.Carrying.{EndsSo}
 use Rattle.rabit_frame.proofs.EndLemmas.{leaves_by_status}
 use Rattle.rabit_frame.proofs.OneLemmas.{stop_or_read_in_turn}
@@ -69,7 +69,7 @@ module _ (files : FileMap) (c out : List ℕ) where
   ]
 
 module _ (held held' : Option FileMap) (status : ℕ) (sent sent' : Option (List ℕ)) (give_faults give_faults' faults faults' put_faults put_faults' : ℕ) (c out : List ℕ) where
-  pub leaves_upgrade : (e : Ending) → EndsSo (MeansUpgrade out) (upgrade_inputs c) e held held' faults faults' put_faults put_faults' → WasSaid e status sent sent' give_faults give_faults' → OfBoth held held' (λ files files'. LeavesUpgraded files c out status put_faults put_faults' files')
+  pub leaves_upgrade : (e : Ending) → EndsSo (MeansUpgrade out) (upgrade_inputs c) e held held' faults faults' put_faults put_faults' → WasSaid e status sent sent' give_faults give_faults' → BeforeAndAfter held held' (λ files files'. LeavesUpgraded files c out status put_faults put_faults' files')
   leaves_upgrade e ends said =
       leaves_by_status (MeansUpgrade out) (upgrade_inputs c) held held' status sent sent' give_faults give_faults' faults faults' put_faults put_faults' _ _ (upgrade_writes out)
       (λ files files' values r reads means low left. holds_upgraded files c out files' values r reads means left)

@@ -17,7 +17,7 @@ use Rattle.rabit_frame.specs.Files.{Input}
 use Rattle.rabit_frame.specs.Lines.{line_end}
 use Rattle.rabit_frame.specs.Statuses.{status_number}
 use Rattle.rabit_frame.specs.Reading.{FileReads, MissedInTurn, BegunInTurn, AllBegun, BlamesInTurn}
-use Rattle.rabit_frame.specs.Ending.{IsReplyFor, OfBoth, Leaves, filed, status_of}
+use Rattle.rabit_frame.specs.Ending.{IsReplyFor, BeforeAndAfter, Leaves, filed, status_of}
 use Rattle.rabit_frame.specs.Carrying.{NoReply, IsCarriedOut, PutsByStatus}
 use Rattle.rabit_cli.specs.Include.{usual_terms, pair_inputs, MeansInclude, ShowsInclude}
 
@@ -161,7 +161,7 @@ pub record IsCarriedEach (number : ℕ) (questions : List Question) (held held' 
   pub known : All IsQuestionStatus statuses
   pub said : AllSaid number questions statuses status sent sent' give_faults give_faults' ⊎ LastRefused number statuses status sent sent' give_faults give_faults'
   pub given_each : GivenEach statuses gives gives'
-  pub in_turn : OfBoth held held' (λ files files'. LeaveInTurn questions statuses files files' calls calls')
+  pub in_turn : BeforeAndAfter held held' (λ files files'. LeaveInTurn questions statuses files files' calls calls')
   pub read_faults_rose : RoseBy (times 6 statuses) read_faults read_faults'
   pub put_faults_rose : RoseBy (times 7 statuses) put_faults put_faults'
   pub read_faults_stay : times 6 statuses ≡ 0 → read_faults' ≡ read_faults

@@ -10,8 +10,8 @@ use Rattle.ba_format.specs.Joining.{IsJoined}
 use Rattle.cert_value.specs.declared.types.Cert.{Cert}
 use Rattle.cert_value.specs.declared.types.Body.{Body}
 use Rattle.cert_value.specs.declared.types.Body.TheVariants.{Yes, NoLasso, NoWord, Listing}
-use Rattle.cert_value.specs.declared.types.Answer.TheVariants as answer
-use Rattle.cert_value.specs.Text.{answer_of}
+use Rattle.cert_value.specs.declared.types.Form.TheVariants as form
+use Rattle.cert_value.specs.Text.{form_of}
 use Rattle.decide.specs.Answer.{IsAnswer}
 use Rattle.equal_batch.specs.declared.outcome.Both.{Both}
 use Rattle.equal_batch.specs.declared.outcome.Both.TheVariants as both
@@ -48,16 +48,16 @@ both_reply (both.Limit) labels body puts = reply_with status.Limit (limit_text u
 
 -- The files that are written where both were decided, in order.
 abbrev pub both_puts : List ℕ → List ℕ → Cert → Cert → List Output
-both_puts c d cert other = certificate_put c cert ∷ certificate_put d other ∷ []
+both_puts c d cert converse = certificate_put c cert ∷ certificate_put d converse ∷ []
 
 -- The reply where the first inclusion has this answer and is not refuted: the second is decided too.
 abbrev pub IsBothReply : List ℕ → List ℕ → Named → Named → Cert → Reply → Type 0
 IsBothReply c d one two cert r =
-    (converse : Joined)
-    × (other : Cert)
-    × IsJoined two one converse
-    × IsAnswer converse (usual_terms Buchi) other
-    × (r ≡ both_reply (said_by_both (answer_of cert.body) (answer_of other.body)) converse.labels other.body (both_puts c d cert other))
+    (exchanged : Joined)
+    × (converse : Cert)
+    × IsJoined two one exchanged
+    × IsAnswer exchanged (usual_terms Buchi) converse
+    × (r ≡ both_reply (said_by_both (form_of cert.body) (form_of converse.body)) exchanged.labels converse.body (both_puts c d cert converse))
 
 -- The reply to two joined automata.
 abbrev pub IsEqualReply : List ℕ → List ℕ → Named → Named → Joined → Reply → Type 0
@@ -74,19 +74,19 @@ MeansEqual c d values r =
     × ((pair : Joined) × IsJoined one two pair × IsEqualReply c d one two pair r)
 
 -- The files read as two automata, and the certificates are the answers for the first in the second and for the second in the first.
-pub record AreCertsBothWays (files : FileMap) (a b : List ℕ) (pair converse : Joined) (cert other : Cert) : Type 0 where
+pub record AreCertsBothWays (files : FileMap) (a b : List ℕ) (pair exchanged : Joined) (cert converse : Cert) : Type 0 where
   pub first : IsCertForWithin second_limits files a b (usual_terms Buchi) pair cert
-  pub second : IsCertForWithin second_limits files b a (usual_terms Buchi) converse other
+  pub second : IsCertForWithin second_limits files b a (usual_terms Buchi) exchanged converse
 
 -- What is written for these files: the first answer alone where that is a no, and else both.
 abbrev pub AreEqualPuts : FileMap → List ℕ → List ℕ → List ℕ → List ℕ → List Output → Type 0
 AreEqualPuts files a b c d puts =
     ((pair : Joined) × (cert : Cert) × IsCertForWithin second_limits files a b (usual_terms Buchi) pair cert × IsNo cert.body × (puts ≡ certificate_put c cert ∷ []))
-    ⊎ ((pair converse : Joined)
-    × (cert other : Cert)
-    × AreCertsBothWays files a b pair converse cert other
+    ⊎ ((pair exchanged : Joined)
+    × (cert converse : Cert)
+    × AreCertsBothWays files a b pair exchanged cert converse
     × ¬ IsNo cert.body
-    × (puts ≡ both_puts c d cert other))
+    × (puts ≡ both_puts c d cert converse))
 
 -- All of that is written, and all other files are as before.
 abbrev pub HoldsEqual : FileMap → List ℕ → List ℕ → List ℕ → List ℕ → FileMap → Type 0
@@ -118,14 +118,14 @@ IsListBody (Listing list) = Unit {0}
 -- Both accept the same lassos, and that was said; both certificates are written, and each says yes.
 pub record AreShownEqual (files : FileMap) (a b c d : List ℕ) (files' : FileMap) (sent sent' : Option (List ℕ)) : Type 0 where
   pub pair : Joined
-  pub converse : Joined
+  pub exchanged : Joined
   pub cert : Cert
-  pub other : Cert
-  pub certs : AreCertsBothWays files a b pair converse cert other
-  pub says_yes : answer_of cert.body ≡ answer.Yes
-  pub other_says_yes : answer_of other.body ≡ answer.Yes
+  pub converse : Cert
+  pub certs : AreCertsBothWays files a b pair exchanged cert converse
+  pub says_yes : form_of cert.body ≡ form.Yes
+  pub converse_says_yes : form_of converse.body ≡ form.Yes
   pub same : Same pair.first pair.second Buchi
-  pub held : files' ≡ filed files (both_puts c d cert other)
+  pub held : files' ≡ filed files (both_puts c d cert converse)
   pub printed : sent' ≡ append_known sent equal_text
 
 -- The first accepts a lasso that the second does not, which was printed; its certificate alone is written.
@@ -140,26 +140,26 @@ pub record IsFirstApart (files : FileMap) (a b c : List ℕ) (files' : FileMap) 
 -- No lasso was found that the first accepts and the second does not, but one the other way round, which was printed; both certificates are written.
 pub record IsSecondApart (files : FileMap) (a b c d : List ℕ) (files' : FileMap) (sent sent' : Option (List ℕ)) : Type 0 where
   pub pair : Joined
-  pub converse : Joined
+  pub exchanged : Joined
   pub cert : Cert
-  pub other : Cert
-  pub certs : AreCertsBothWays files a b pair converse cert other
+  pub converse : Cert
+  pub certs : AreCertsBothWays files a b pair exchanged cert converse
   pub not_first : ¬ IsNo cert.body
-  pub apart : Separates converse other.body
-  pub held : files' ≡ filed files (both_puts c d cert other)
-  pub printed : sent' ≡ append_known sent (second_apart_text converse.labels other.body)
+  pub apart : Separates exchanged converse.body
+  pub held : files' ≡ filed files (both_puts c d cert converse)
+  pub printed : sent' ≡ append_known sent (second_apart_text exchanged.labels converse.body)
 
 -- One of the searches met its limit, and neither answer is a no; both certificates are written.
 pub record IsEqualListed (files : FileMap) (a b c d : List ℕ) (files' : FileMap) (sent sent' : Option (List ℕ)) : Type 0 where
   pub pair : Joined
-  pub converse : Joined
+  pub exchanged : Joined
   pub cert : Cert
-  pub other : Cert
-  pub certs : AreCertsBothWays files a b pair converse cert other
+  pub converse : Cert
+  pub certs : AreCertsBothWays files a b pair exchanged cert converse
   pub not_first : ¬ IsNo cert.body
-  pub not_second : ¬ IsNo other.body
-  pub lists : IsListBody cert.body ⊎ IsListBody other.body
-  pub held : files' ≡ filed files (both_puts c d cert other)
+  pub not_second : ¬ IsNo converse.body
+  pub lists : IsListBody cert.body ⊎ IsListBody converse.body
+  pub held : files' ≡ filed files (both_puts c d cert converse)
   pub printed : sent' ≡ append_known sent (limit_text usual_limit)
 
 -- What a status up to 2 shows: 0 that both accept the same, 1 what separates them one way or the other, 2 that a limit was met.

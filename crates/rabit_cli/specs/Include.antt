@@ -31,7 +31,7 @@ use Rattle.rabit_cli.specs.Printed.{included_text, limit_text}
 use Rattle.rabit_cli.specs.Files.{first_limits, second_limits, automaton_file, ReadsPairWithin, ReadsPair}
 use Rattle.rabit_cli.specs.Replies.{IsVerdictReply, SaysApart}
 
--- The terms of a decision that names neither a lookahead nor a limit.
+-- The terms of a decision that names neither a lookahead nor a limit nor announced letters.
 abbrev pub usual_terms : Mode → Terms
 usual_terms mode = terms_of_version_1 mode usual_look usual_limit
 

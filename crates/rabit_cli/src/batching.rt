@@ -7,7 +7,7 @@ ghost use Rattle.equal_batch.specs.Questions.{is_word, is_question, line_of};
 ghost use Rattle.rabit_frame.specs.declared.parts.Value.TheVariants as value;
 ghost use Rattle.rabit_frame.specs.declared.parts.Ending.{Ending as AnEnding};
 ghost use Rattle.rabit_frame.specs.Reading.{FileReads, IsOfKind, MissedInTurn, BegunInTurn, AllBegun, BlamesInTurn};
-ghost use Rattle.rabit_frame.specs.Ending.{OfBoth, status_of};
+ghost use Rattle.rabit_frame.specs.Ending.{BeforeAndAfter, status_of};
 ghost use Rattle.rabit_frame.specs.Carrying.{EndsSo, PutsByStatus};
 ghost use Rattle.rabit_cli.specs.Include.{usual_terms, LeavesDecided};
 ghost use Rattle.rabit_cli.specs.Batch.{question_inputs, MeansQuestion, IsQuestionStatus, ShowsQuestion, AnswersQuestion, question_line, AreQuestions, shelf_counts, IsCarriedEach, list_file, IsBatch};
@@ -73,13 +73,13 @@ pub fn answer_one<H: Shelf>(alloc: Global, question: &Question, shelf: &mut H) -
     ensures status { IsQuestionStatus result }
 
     // What a status up to 2 shows: an inclusion, a lasso that separates, or a list past the limit, with the certificate's file.
-    ensures shows { result ≤ 2 → OfBoth (H.held shelf.old) (H.held shelf.new) (λ files files'. ShowsQuestion question.now result files files') }
+    ensures shows { result ≤ 2 → BeforeAndAfter (H.held shelf.old) (H.held shelf.new) (λ files files'. ShowsQuestion question.now result files files') }
 
     // The right reply, whatever it is, has its status answered and its files written, unless a call of the shelf failed or memory was refused.
     ensures exact { IfSome (H.held shelf.old) (λ files. AnswersQuestion question.now files (H.held shelf.new) result (H.faults shelf.old) (H.faults shelf.new) (H.put_faults shelf.old) (H.put_faults shelf.new)) }
 
     // What the files are afterwards.
-    ensures files { OfBoth (H.held shelf.old) (H.held shelf.new) (λ files files'. LeavesDecided files question.now.first question.now.second question.now.cert (usual_terms Buchi) result (H.put_faults shelf.old) (H.put_faults shelf.new) files') }
+    ensures files { BeforeAndAfter (H.held shelf.old) (H.held shelf.new) (λ files files'. LeavesDecided files question.now.first question.now.second question.now.cert (usual_terms Buchi) result (H.put_faults shelf.old) (H.put_faults shelf.new) files') }
     ensures memory { result ≡ 8 → H.held shelf.new ≡ H.held shelf.old }
 
     // By the count of puts: each file of the reply was put once, or up to one that was refused.

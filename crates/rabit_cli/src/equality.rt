@@ -138,21 +138,27 @@ fn both_reply<'a>(
 fn of_both<'a>(
     alloc: Global,
     certificate: &'a str,
-    converse: &'a str,
+    converse_name: &'a str,
     one: &Named,
     two: &Named,
     cert: &Cert,
 ) -> Result<Reply<'a>, Memory>
     requires one { IsWithinLimits second_limits one.now }
     requires two { IsWithinLimits second_limits two.now }
-    ensures { IfOk result (IsBothReply certificate.entry.now converse.entry.now one.now two.now cert.now) }
+    ensures { IfOk result (IsBothReply certificate.entry.now converse_name.entry.now one.now two.now cert.now) }
 {
-    let pair = joined(alloc, two, one)?;
-    let other = answered(alloc, &pair)?;
+    let exchanged = joined(alloc, two, one)?;
+    let converse = answered(alloc, &exchanged)?;
     let mut puts = List::new(alloc);
     puts.push(put_of(alloc, certificate, cert)?)?;
-    puts.push(put_of(alloc, converse, &other)?)?;
-    both_reply(alloc, both(cert, &other), &pair.labels, &other.body, puts)
+    puts.push(put_of(alloc, converse_name, &converse)?)?;
+    both_reply(
+        alloc,
+        both(cert, &converse),
+        &exchanged.labels,
+        &converse.body,
+        puts,
+    )
 }
 
 /// The reply where the first is not included in the second: the certificate of that alone is written.
@@ -180,20 +186,20 @@ fn first_apart<'a>(
 fn compared<'a>(
     alloc: Global,
     certificate: &'a str,
-    converse: &'a str,
+    converse_name: &'a str,
     one: &Named,
     two: &Named,
 ) -> Result<Reply<'a>, Memory>
     requires one { IsWithinLimits second_limits one.now }
     requires two { IsWithinLimits second_limits two.now }
-    ensures { IfOk result (λ reply. (pair : AJoined) × IsJoined one.now two.now pair × IsEqualReply certificate.entry.now converse.entry.now one.now two.now pair reply) }
+    ensures { IfOk result (λ reply. (pair : AJoined) × IsJoined one.now two.now pair × IsEqualReply certificate.entry.now converse_name.entry.now one.now two.now pair reply) }
 {
     let pair = joined(alloc, one, two)?;
     let cert = answered(alloc, &pair)?;
     if is_no(&cert.body) {
         first_apart(alloc, certificate, &pair, &cert)
     } else {
-        of_both(alloc, certificate, converse, one, two, &cert)
+        of_both(alloc, certificate, converse_name, one, two, &cert)
     }
 }
 
@@ -201,17 +207,17 @@ fn compared<'a>(
 pub fn reply<'a>(
     alloc: Global,
     certificate: &'a str,
-    converse: &'a str,
+    converse_name: &'a str,
     values: &[Value],
 ) -> Result<Reply<'a>, Memory>
     requires { (a b : Items ℕ) × AreOfKinds (equal_inputs a b) values.now }
-    ensures { IfOk result (MeansEqual certificate.entry.now converse.entry.now values.now) }
+    ensures { IfOk result (MeansEqual certificate.entry.now converse_name.entry.now values.now) }
 {
     match values {
         [Value::Automaton(one), Value::Automaton(two)] => compared(
             alloc,
             certificate,
-            converse,
+            converse_name,
             one,
             two,
         ),

@@ -15,7 +15,6 @@ mod files;
 mod including;
 mod intersecting;
 mod laws;
-mod letters;
 mod properties;
 mod reducing;
 mod replies;
@@ -24,6 +23,7 @@ mod top;
 mod uniting;
 mod universality;
 mod upgrading;
+mod word_texts;
 
 use shelf_io::{DiskShelf, OutSink};
 use std::env;

@@ -12,8 +12,8 @@ ghost use Rattle.rabit_cli.specs.Files.{second_limits, automaton_file};
 ghost use Rattle.rabit_cli.specs.Property.{IsPropertyReply, IsPropertyDecided};
 
 use crate::files::{SECOND_LIMITS, automaton_slot};
-use crate::letters::push_word;
 use crate::replies::limit_met;
+use crate::word_texts::push_word;
 use auto_core::{Lasso, List, Memory, Mode, Word};
 use ba_format::{Joined, Limits, Named, ReadFault, Texts};
 use cert_text::{Body, write_cert};

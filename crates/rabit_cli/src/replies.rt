@@ -8,7 +8,7 @@ ghost use Rattle.rabit_frame.specs.Reading.{only_said, reply_with};
 ghost use Rattle.rabit_cli.specs.Printed.{refused_text, included_text, not_included_text, word_not_included_text, limit_text};
 ghost use Rattle.rabit_cli.specs.Replies.{usage_reply, IsVerdictReply};
 
-use crate::letters::push_word;
+use crate::word_texts::push_word;
 use auto_core::{Lasso, List, Memory, Mode, Word};
 use ba_format::{Joined, Texts};
 use cert_check::Refusal;

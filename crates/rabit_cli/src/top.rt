@@ -6,7 +6,7 @@ ghost use Rattle.shelf_io.specs.Counts.{Rose, counted};
 ghost use Rattle.rabit_frame.specs.Lines.{read_line, memory_line};
 ghost use Rattle.rabit_frame.specs.Statuses.{IsOwn};
 ghost use Rattle.rabit_frame.specs.Reading.{MissedInTurn, BegunInTurn, AllBegun, BlamesInTurn};
-ghost use Rattle.rabit_frame.specs.Ending.{OfBoth, SaysOnly};
+ghost use Rattle.rabit_frame.specs.Ending.{BeforeAndAfter, SaysOnly};
 ghost use Rattle.rabit_frame.specs.Carrying.{IsCarriedOut, SaysEach, IsOwnReply, LeavesAtWriteFault, PutsByStatus};
 ghost use Rattle.rabit_words.specs.Question.{question_of};
 ghost use Rattle.rabit_cli.specs.Batch.{shelf_counts};
@@ -55,11 +55,11 @@ pub fn run<H: Shelf, K: Sink>(alloc: Global, words: &[String], shelf: &mut H, ou
 
     // What a status up to 2 shows, command by command: an inclusion, a lasso that separates, a list past the limit, a reduced automaton, what a drill found,
     // a certificate in version 2, a cross relation, two automata that accept the same, a union, an intersection, what is left of a no, an automaton that accepts nothing or everything, or what shows that it does not.
-    ensures shows { IsSingle (question_of (map string_bytes words.now)) → result ≤ 2 → OfBoth (H.held shelf.old) (H.held shelf.new) (λ files files'.
+    ensures shows { IsSingle (question_of (map string_bytes words.now)) → result ≤ 2 → BeforeAndAfter (H.held shelf.old) (H.held shelf.new) (λ files files'.
         Shows (question_of (map string_bytes words.now)) result files files' (K.sent out.old) (K.sent out.new)) }
 
     // A status of a command's own is that of the right reply: its files are written, and its text was given, or where the sink's count rose a front of it.
-    ensures own_status { IsSingle (question_of (map string_bytes words.now)) → IsOwn result → OfBoth (H.held shelf.old) (H.held shelf.new) (λ files files'.
+    ensures own_status { IsSingle (question_of (map string_bytes words.now)) → IsOwn result → BeforeAndAfter (H.held shelf.old) (H.held shelf.new) (λ files files'.
         IsOwnReply (Means (question_of (map string_bytes words.now))) (inputs_of (question_of (map string_bytes words.now)))
         result (K.sent out.old) (K.sent out.new) (K.faults out.old) (K.faults out.new) files files') }
 
@@ -77,7 +77,7 @@ pub fn run<H: Shelf, K: Sink>(alloc: Global, words: &[String], shelf: &mut H, ou
 
     // What the shelf holds afterwards: only `include`, `upgrade`, `cross`, `equal` and `shrink` write, and only the files of certificates or of
     // the cross relation, and `empty` and `universal` that of the automaton that they make too.
-    ensures files { IsSingle (question_of (map string_bytes words.now)) → OfBoth (H.held shelf.old) (H.held shelf.new) (λ files files'.
+    ensures files { IsSingle (question_of (map string_bytes words.now)) → BeforeAndAfter (H.held shelf.old) (H.held shelf.new) (λ files files'.
         LeavesFiles (question_of (map string_bytes words.now)) result (H.put_faults shelf.old) (H.put_faults shelf.new) files files') }
 
     // Faults of the outside, each with its count, and what stays.
@@ -89,7 +89,7 @@ pub fn run<H: Shelf, K: Sink>(alloc: Global, words: &[String], shelf: &mut H, ou
     // At 6 and 8 no file changed, and that was said; at 7 the counts tell which call was refused, and so what is left.
     ensures read_line { result ≡ 6 → (H.held shelf.new ≡ H.held shelf.old) × SaysOnly read_line result (K.sent out.old) (K.sent out.new) (K.faults out.old) (K.faults out.new) }
     ensures memory { result ≡ 8 → (H.held shelf.new ≡ H.held shelf.old) × SaysOnly memory_line result (K.sent out.old) (K.sent out.new) (K.faults out.old) (K.faults out.new) }
-    ensures at_write_fault { IsSingle (question_of (map string_bytes words.now)) → result ≡ 7 → OfBoth (H.held shelf.old) (H.held shelf.new) (λ files files'.
+    ensures at_write_fault { IsSingle (question_of (map string_bytes words.now)) → result ≡ 7 → BeforeAndAfter (H.held shelf.old) (H.held shelf.new) (λ files files'.
         LeavesAtWriteFault (Means (question_of (map string_bytes words.now))) (inputs_of (question_of (map string_bytes words.now)))
         (K.sent out.old) (K.sent out.new) (K.faults out.old) (K.faults out.new) (H.put_faults shelf.old) (H.put_faults shelf.new) files files') }
 

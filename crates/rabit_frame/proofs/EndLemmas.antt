@@ -14,7 +14,7 @@ use Rattle.rabit_frame.specs.Files.{Input}
 use Rattle.rabit_frame.specs.Lines.{read_line, write_line, memory_line}
 use Rattle.rabit_frame.specs.Statuses.{status_number, number_unsent, IsOwn}
 use Rattle.rabit_frame.specs.Reading.{AreOfKinds, ReadInTurn, FileStops, StopInTurn, HasFault, MayStopAt, MayStop, long_reply}
-use Rattle.rabit_frame.specs.Ending.{IsReplyFor, IsReplyOf, MayReply, MayEnd, Leaves, OfBoth, filed, IsCutShort, PutEach, PutFront, status_of, status_unsent, WasGiven, WasSaid, SaysOnly}
+use Rattle.rabit_frame.specs.Ending.{IsReplyFor, IsReplyOf, MayReply, MayEnd, Leaves, BeforeAndAfter, filed, IsCutShort, PutEach, PutFront, status_of, status_unsent, WasGiven, WasSaid, SaysOnly}
 use Rattle.rabit_frame.specs.Carrying.{EndsSo, NoReply, SaysEach, IsOwnReply, ShowsResult, LeavesAtWriteFault, LeavesByStatus, PutsOnce, PutsByStatus}
 use Rattle.rabit_frame.proofs.OneLemmas.{one_reply}
 
@@ -89,15 +89,15 @@ may_plain (i ∷ is) r p =
       | inr later ↦ may_plain is r later
     ]
 
-pub both_map : (held held' : Option FileMap) (P Q : FileMap → FileMap → Type 0) → ((files files' : FileMap) → P files files' → Q files files') → OfBoth held held' P → OfBoth held held' Q
+pub both_map : (held held' : Option FileMap) (P Q : FileMap → FileMap → Type 0) → ((files files' : FileMap) → P files files' → Q files files') → BeforeAndAfter held held' P → BeforeAndAfter held held' Q
 both_map None held' P Q f p = p
 both_map (Some files) held' P Q f (files', is, p) = (files', is, f files files' p)
 
-pub left_same : (held held' : Option FileMap) → OfBoth held held' (λ files files'. files' ≡ files) → held' ≡ held
+pub left_same : (held held' : Option FileMap) → BeforeAndAfter held held' (λ files files'. files' ≡ files) → held' ≡ held
 left_same None held' p = p
 left_same (Some files) held' (files', is, e) = is ∙ ap Some e
 
-pub both_same : (held held' : Option FileMap) (P : FileMap → FileMap → Type 0) → ((files : FileMap) → P files files) → held' ≡ held → OfBoth held held' P
+pub both_same : (held held' : Option FileMap) (P : FileMap → FileMap → Type 0) → ((files : FileMap) → P files files) → held' ≡ held → BeforeAndAfter held held' P
 both_same None held' P f e = e
 both_same (Some files) held' P f e = (files, e, f files)
 
@@ -108,7 +108,7 @@ module _ (means : List Value → Reply → Type 0) (inputs : List Input) (held h
   abbrev pub Said : Ending → Type 0
   Said e = WasSaid e status sent sent' sink sink'
 
-  says_each_on : (h : Option FileMap) (e : Ending) → OfBoth h held' (λ files files'. Leaves means inputs e files files') → Ends e → Said e → ((vs : List Value) (r s : Reply) → AreOfKinds inputs vs → means vs r → means vs s → r ≡ s) →
+  says_each_on : (h : Option FileMap) (e : Ending) → BeforeAndAfter h held' (λ files files'. Leaves means inputs e files files') → Ends e → Said e → ((vs : List Value) (r s : Reply) → AreOfKinds inputs vs → means vs r → means vs s → r ≡ s) →
       IfSome h (λ files. SaysEach means inputs files held' status sent sent' sink sink' faults faults' puts puts')
   says_each_on None e leaves ends said one = tt
   says_each_on (Some files) (ending.Reached s) (files', is, (right, left)) ends said one = λ r of.
@@ -149,7 +149,7 @@ module _ (means : List Value → Reply → Type 0) (inputs : List Input) (held h
         | inr front ↦ elim (unsent_number r.status) [ inl seven ↦ absurd (own.1 (front.0 ∙ seven)) | inr stays ↦ sym (front.0 ∙ stays.0) ]
       ]
 
-  pub shows_reply : (e : Ending) → Ends e → Said e → IsOwn status → OfBoth held held' (λ files files'. IsOwnReply means inputs status sent sent' sink sink' files files')
+  pub shows_reply : (e : Ending) → Ends e → Said e → IsOwn status → BeforeAndAfter held held' (λ files files'. IsOwnReply means inputs status sent sent' sink sink' files files')
   shows_reply (ending.Reached r) ends said own =
       both_map held held' (λ files files'. Leaves means inputs (ending.Reached r) files files') (λ files files'. IsOwnReply means inputs status sent sent' sink sink' files files')
       (λ files files' left. (r, left.0, own_status r said own, left.1, said)) ends.leaves
@@ -157,7 +157,7 @@ module _ (means : List Value → Reply → Type 0) (inputs : List Input) (held h
   shows_reply (ending.WriteFault) ends said own = absurd (own.1 (same_status 7 ending.WriteFault refl refl said))
   shows_reply (ending.OutOfMemory) ends said own = absurd (own.2 (same_status 8 ending.OutOfMemory refl refl said))
 
-  pub shows_result : (e : Ending) → Ends e → Said e → status ≤ 2 → OfBoth held held' (λ files files'. ShowsResult means inputs status sent sent' files files')
+  pub shows_result : (e : Ending) → Ends e → Said e → status ≤ 2 → BeforeAndAfter held held' (λ files files'. ShowsResult means inputs status sent sent' files files')
   shows_result (ending.Reached r) ends said low =
       elim said [
         | inl whole ↦
@@ -178,7 +178,7 @@ module _ (means : List Value → Reply → Type 0) (inputs : List Input) (held h
   shows_result (ending.WriteFault) ends said low = (let is = same_status 7 ending.WriteFault refl refl said in absurd (omega arith))
   shows_result (ending.OutOfMemory) ends said low = (let is = same_status 8 ending.OutOfMemory refl refl said in absurd (omega arith))
 
-  pub says_at_write_fault : (e : Ending) → Ends e → Said e → status ≡ 7 → OfBoth held held' (λ files files'. LeavesAtWriteFault means inputs sent sent' sink sink' puts puts' files files')
+  pub says_at_write_fault : (e : Ending) → Ends e → Said e → status ≡ 7 → BeforeAndAfter held held' (λ files files'. LeavesAtWriteFault means inputs sent sent' sink sink' puts puts' files files')
   says_at_write_fault (ending.Reached r) ends said is =
       elim said [
         | inl whole ↦ absurd ((own_number r.status).1 (sym whole.0 ∙ is))
@@ -298,7 +298,7 @@ module _ (means : List Value → Reply → Type 0) (inputs : List Input) (held h
           → (e : Ending)
           → Ends e
           → Said e
-          → OfBoth held held' (λ files files'. LeavesByStatus whole part status puts puts' files files')
+          → BeforeAndAfter held held' (λ files files'. LeavesByStatus whole part status puts puts' files files')
       leaves_by_status is_whole is_part (ending.Reached r) ends said =
           both_map held held' (λ files files'. Leaves means inputs (ending.Reached r) files files') Left
           (λ files files' left.
@@ -392,33 +392,33 @@ module _ (means : List Value → Reply → Type 0) (inputs : List Input) (held b
     no_write_fault = λ not. same;
   }
 
-  pub ends_reached : (r : Reply) → IfSome held (λ files. IsReplyFor means inputs files r) → MayReply means inputs r → between ≡ held → OfBoth between held' (λ files files'. files' ≡ filed files r.puts) →
+  pub ends_reached : (r : Reply) → IfSome held (λ files. IsReplyFor means inputs files r) → MayReply means inputs r → between ≡ held → BeforeAndAfter between held' (λ files files'. files' ≡ filed files r.puts) →
       faults' ≡ faults → puts' ≡ puts → EndsSo means inputs (ending.Reached r) held held' faults faults' puts puts'
   ends_reached r right may stays written none same = record {
     may = may;
-    leaves = go held right (subst (λ h. OfBoth h held' (λ files files'. files' ≡ filed files r.puts)) stays written);
+    leaves = go held right (subst (λ h. BeforeAndAfter h held' (λ files files'. files' ≡ filed files r.puts)) stays written);
     read_fault = λ is. cc;
     no_read_fault = λ not. none;
     write_fault = λ is. cc;
     no_write_fault = λ not. same;
   }
     where
-      go : (h : Option FileMap) → IfSome h (λ files. IsReplyFor means inputs files r) → OfBoth h held' (λ files files'. files' ≡ filed files r.puts) → OfBoth h held' (λ files files'. Leaves means inputs (ending.Reached r) files files')
+      go : (h : Option FileMap) → IfSome h (λ files. IsReplyFor means inputs files r) → BeforeAndAfter h held' (λ files files'. files' ≡ filed files r.puts) → BeforeAndAfter h held' (λ files files'. Leaves means inputs (ending.Reached r) files files')
       go None right p = p
       go (Some files) right (files', is, p) = (files', is, (right, p))
 
-  pub ends_cut : (r : Reply) → IfSome held (λ files. IsReplyFor means inputs files r) → MayReply means inputs r → between ≡ held → OfBoth between held' (λ files files'. IsCutShort files r.puts files') → 1 ≤ length r.puts →
+  pub ends_cut : (r : Reply) → IfSome held (λ files. IsReplyFor means inputs files r) → MayReply means inputs r → between ≡ held → BeforeAndAfter between held' (λ files files'. IsCutShort files r.puts files') → 1 ≤ length r.puts →
       faults' ≡ faults → Rose puts puts' → EndsSo means inputs ending.WriteFault held held' faults faults' puts puts'
   ends_cut r right may stays cut some none rose = record {
     may = (r, may, some);
-    leaves = go held right (subst (λ h. OfBoth h held' (λ files files'. IsCutShort files r.puts files')) stays cut);
+    leaves = go held right (subst (λ h. BeforeAndAfter h held' (λ files files'. IsCutShort files r.puts files')) stays cut);
     read_fault = λ is. cc;
     no_read_fault = λ not. none;
     write_fault = λ is. rose;
     no_write_fault = λ not. absurd (not refl);
   }
     where
-      go : (h : Option FileMap) → IfSome h (λ files. IsReplyFor means inputs files r) → OfBoth h held' (λ files files'. IsCutShort files r.puts files') → OfBoth h held' (λ files files'. Leaves means inputs ending.WriteFault files files')
+      go : (h : Option FileMap) → IfSome h (λ files. IsReplyFor means inputs files r) → BeforeAndAfter h held' (λ files files'. IsCutShort files r.puts files') → BeforeAndAfter h held' (λ files files'. Leaves means inputs ending.WriteFault files files')
       go None right p = p
       go (Some files) right (files', is, p) = (files', is, (r, right, p))
 

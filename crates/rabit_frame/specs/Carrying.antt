@@ -11,13 +11,13 @@ use Rattle.rabit_frame.specs.Files.{Input}
 use Rattle.rabit_frame.specs.Lines.{write_line}
 use Rattle.rabit_frame.specs.Statuses.{status_number, number_unsent, IsOwn}
 use Rattle.rabit_frame.specs.Reading.{ReadInTurn}
-use Rattle.rabit_frame.specs.Ending.{IsReplyFor, IsReplyOf, MayEnd, Leaves, OfBoth, filed, IsCutShort, PutEach, PutFront, WasGiven, WasSaid, SaysOnly}
+use Rattle.rabit_frame.specs.Ending.{IsReplyFor, IsReplyOf, MayEnd, Leaves, BeforeAndAfter, filed, IsCutShort, PutEach, PutFront, WasGiven, WasSaid, SaysOnly}
 
 -- The command came to this end. Where the shelf tells its files, the reply is the right one and they are what it leaves. It is a read fault exactly
 -- where the shelf's count of failed reads rose, and a write fault exactly where that of failed puts did.
 pub record EndsSo (means : List Value → Reply → Type 0) (inputs : List Input) (end : Ending) (held held' : Option FileMap) (read_faults read_faults' put_faults put_faults' : ℕ) : Type 0 where
   pub may : MayEnd means inputs end
-  pub leaves : OfBoth held held' (λ files files'. Leaves means inputs end files files')
+  pub leaves : BeforeAndAfter held held' (λ files files'. Leaves means inputs end files files')
   pub read_fault : end ≡ ending.ReadFault → Rose read_faults read_faults'
   pub no_read_fault : ¬ (end ≡ ending.ReadFault) → read_faults' ≡ read_faults
   pub write_fault : end ≡ ending.WriteFault → Rose put_faults put_faults'

@@ -49,9 +49,9 @@ PutFront [] before now = ⊥
 PutFront (p ∷ ps) before now = (now ≡ counted before) ⊎ PutFront ps (counted before) now
 
 -- A shelf that tells its files tells them afterwards too, and then this holds of those before and those after.
-abbrev pub OfBoth : Option FileMap → Option FileMap → (FileMap → FileMap → Type 0) → Type 0
-OfBoth (Some files) held' P = (files' : FileMap) × (held' ≡ Some files') × P files files'
-OfBoth None held' P = held' ≡ None
+abbrev pub BeforeAndAfter : Option FileMap → Option FileMap → (FileMap → FileMap → Type 0) → Type 0
+BeforeAndAfter (Some files) held' P = (files' : FileMap) × (held' ≡ Some files') × P files files'
+BeforeAndAfter None held' P = held' ≡ None
 
 -- What the files are after a command that ended so. Only a reply writes, and only its own files.
 abbrev pub Leaves : (List Value → Reply → Type 0) → List Input → Ending → FileMap → FileMap → Type 0

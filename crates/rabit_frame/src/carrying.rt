@@ -10,7 +10,7 @@ ghost use Rattle.rabit_frame.specs.declared.parts.Ending.{Ending as AnEnding};
 ghost use Rattle.rabit_frame.specs.Lines.{read_line, memory_line};
 ghost use Rattle.rabit_frame.specs.Statuses.{IsOwn};
 ghost use Rattle.rabit_frame.specs.Reading.{AreOfKinds, IsOfKind, FileReads, MayStop, MissedInTurn, BegunInTurn, AllBegun, BlamesInTurn};
-ghost use Rattle.rabit_frame.specs.Ending.{IsReplyFor, MayReply, OfBoth, WasGiven, WasSaid, SaysOnly, status_of};
+ghost use Rattle.rabit_frame.specs.Ending.{IsReplyFor, MayReply, BeforeAndAfter, WasGiven, WasSaid, SaysOnly, status_of};
 ghost use Rattle.rabit_frame.specs.Carrying.{EndsSo, NoReply, IsCarriedOut, SaysEach, IsOwnReply, ShowsResult, LeavesAtWriteFault, PutsOnce, PutsByStatus};
 
 use crate::parts::{Ending, Halt, Lack, Reply, Slot, Value};
@@ -170,9 +170,9 @@ pub fn carry_out<W: Work, H: Shelf, K: Sink>(
         (H.faults shelf.old) (H.faults shelf.new) (H.put_faults shelf.old) (H.put_faults shelf.new)) }
 
     // What a status of a command's own shows, and what one up to 2 does.
-    ensures own_status { IsOwn result → OfBoth (H.held shelf.old) (H.held shelf.new) (λ files files'.
+    ensures own_status { IsOwn result → BeforeAndAfter (H.held shelf.old) (H.held shelf.new) (λ files files'.
         IsOwnReply (W.means work.now) (W.inputs work.now) result (K.sent out.old) (K.sent out.new) (K.faults out.old) (K.faults out.new) files files') }
-    ensures shown_whole { result ≤ 2 → OfBoth (H.held shelf.old) (H.held shelf.new) (λ files files'.
+    ensures shown_whole { result ≤ 2 → BeforeAndAfter (H.held shelf.old) (H.held shelf.new) (λ files files'.
         ShowsResult (W.means work.now) (W.inputs work.now) result (K.sent out.old) (K.sent out.new) files files') }
 
     // Faults of the outside, each with its count, and what stays.
@@ -184,7 +184,7 @@ pub fn carry_out<W: Work, H: Shelf, K: Sink>(
     // At 6 and 8 no file changed and that was said; at 7 the counts tell which call was refused, and so what is left.
     ensures read_line { result ≡ 6 → (H.held shelf.new ≡ H.held shelf.old) × SaysOnly read_line result (K.sent out.old) (K.sent out.new) (K.faults out.old) (K.faults out.new) }
     ensures memory { result ≡ 8 → (H.held shelf.new ≡ H.held shelf.old) × SaysOnly memory_line result (K.sent out.old) (K.sent out.new) (K.faults out.old) (K.faults out.new) }
-    ensures at_write_fault { result ≡ 7 → OfBoth (H.held shelf.old) (H.held shelf.new) (λ files files'.
+    ensures at_write_fault { result ≡ 7 → BeforeAndAfter (H.held shelf.old) (H.held shelf.new) (λ files files'.
         LeavesAtWriteFault (W.means work.now) (W.inputs work.now) (K.sent out.old) (K.sent out.new) (K.faults out.old) (K.faults out.new) (H.put_faults shelf.old) (H.put_faults shelf.new) files files') }
 
     // By the counts of calls: each file of the reply was put once, or up to one that was refused, and the whole text was one give.

@@ -2,15 +2,15 @@
 
 ghost use Rattle.std.specs.Prelude.{◌≡◌, ◌≤◌, length, OnOk, OnErr};
 ghost use Rattle.shelf_io.specs.Counts.{Rose};
-ghost use Rattle.rabit_frame.specs.Ending.{OfBoth, filed, IsCutShort, PutEach, PutFront};
+ghost use Rattle.rabit_frame.specs.Ending.{BeforeAndAfter, filed, IsCutShort, PutEach, PutFront};
 
 use crate::parts::Put;
 use shelf_io::{Failed, Shelf};
 
 /// Puts the files in order, and none after one that is refused.
 pub fn put_all<H: Shelf>(shelf: &mut H, puts: &[Put<'_>]) -> Result<(), Failed>
-    ensures written { OnOk result (OfBoth (H.held shelf.old) (H.held shelf.new) (λ files files'. files' ≡ filed files puts.now)) }
-    ensures cut { OnErr result (OfBoth (H.held shelf.old) (H.held shelf.new) (λ files files'. IsCutShort files puts.now files')) }
+    ensures written { OnOk result (BeforeAndAfter (H.held shelf.old) (H.held shelf.new) (λ files files'. files' ≡ filed files puts.now)) }
+    ensures cut { OnErr result (BeforeAndAfter (H.held shelf.old) (H.held shelf.new) (λ files files'. IsCutShort files puts.now files')) }
     ensures put_each { OnOk result (PutEach puts.now (H.put_calls shelf.old) (H.put_calls shelf.new)) }
     ensures put_front { OnErr result (PutFront puts.now (H.put_calls shelf.old) (H.put_calls shelf.new)) }
     ensures some { OnErr result (1 ≤ length puts.now) }

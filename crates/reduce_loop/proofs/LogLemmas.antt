@@ -3,7 +3,7 @@ use Rattle.std.proofs.Common.{◌≡◌, ℕ, zero, suc, ◌<◌, ◌↔◌, inl
 use Rattle.std.specs.List.Sorted.{IsStrictlyIncreasing}
 use Rattle.std.proofs.lemmas.List.Kept.{AllPairs-from_increasing}
 use Rattle.auto_core.specs.Automaton.{Automaton, IsAutomaton}
-use Rattle.auto_core.specs.Delayed.{IsGreatestDelayed, AreRelatedAhead, letters_for}
+use Rattle.auto_core.specs.Delayed.{IsGreatestDelayed, AreStateRelated, letters_for}
 use Rattle.auto_core.specs.Game.{Close, Holds, IsGreatestForward, IsGreatestBackward}
 use Rattle.auto_core.specs.Pruning.{look_back, look_ahead}
 use Rattle.auto_core.specs.declared.parts.Mode.{Mode}
@@ -67,8 +67,8 @@ delayed_entry_one A n X Y classes these is also =
     let greatest : IsGreatestDelayed A X.letters X.triples = subst (λ m. IsGreatestDelayed A m X.triples) (sym is.announced) is.greatest in
     let other : IsGreatestDelayed A Y.letters Y.triples = subst (λ m. IsGreatestDelayed A m Y.triples) (sym also.announced) also.greatest in
     let same : X ≡ Y = greatest_one A X Y is.valid also.valid (is.on_states ∙ sym also.on_states) (is.on_labels ∙ sym also.on_labels) (is.announced ∙ sym also.announced) greatest other in
-    let R : ℕ → ℕ → Type 0 = AreRelatedAhead A.labels n X.triples in
-    let S : ℕ → ℕ → Type 0 = AreRelatedAhead A.labels n Y.triples in
+    let R : ℕ → ℕ → Type 0 = AreStateRelated A.labels n X.triples in
+    let S : ℕ → ℕ → Type 0 = AreStateRelated A.labels n Y.triples in
     let equal : classes ≡ these = same_classes A.states (Close R) (Close S) classes these is.joined also.joined (same_closure R S (same_related A n X.triples Y.triples is.greatest also.greatest)) in
     λ i. step.Merge (by.Delayed (same i)) (equal i)
 

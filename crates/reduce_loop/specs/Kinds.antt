@@ -1,7 +1,7 @@
 -- The kinds of steps, and what each makes of an automaton.
 use Rattle.std.specs.Prelude.{ℕ, ◌↔◌, List, [], ◌∷◌}
 use Rattle.auto_core.specs.Automaton.{Automaton}
-use Rattle.auto_core.specs.Delayed.{RankedTriples, IsGreatestDelayed, AreRelatedAhead, letters_for}
+use Rattle.auto_core.specs.Delayed.{RankedTriples, IsGreatestDelayed, AreStateRelated, letters_for}
 use Rattle.auto_core.specs.Game.{Close, Holds, IsGreatestForward, IsGreatestBackward}
 use Rattle.auto_core.specs.Pruning.{IsPruned}
 use Rattle.auto_core.specs.Useful.{IsTrimmed}
@@ -31,7 +31,7 @@ pub record IsMerged (A : Automaton) (Greatest : List (ℕ × ℕ) → Type 0) (B
 
 -- The list has just the pairs that the greatest delayed relation with n announced letters relates, whatever letters are announced.
 abbrev pub AreDelayedPairs : Automaton → ℕ → List (ℕ × ℕ) → Type 0
-AreDelayedPairs A n S = (X : RankedTriples) × IsGreatestDelayed A n X × ((p q : ℕ) → Holds S p q ↔ AreRelatedAhead A.labels n X p q)
+AreDelayedPairs A n S = (X : RankedTriples) × IsGreatestDelayed A n X × ((p q : ℕ) → Holds S p q ↔ AreStateRelated A.labels n X p q)
 
 -- B is A after a step of this kind, by the greatest relations of A as it is then: the direct ones at the lookahead, the delayed one with
 -- the letters that are announced on A.

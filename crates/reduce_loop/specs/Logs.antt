@@ -2,7 +2,7 @@
 use Rattle.std.specs.Prelude.{◌≡◌, ℕ, zero, suc, ◌⊎◌, Option, None, Some, List, [], ◌∷◌, ◌++◌}
 use Rattle.std.specs.List.Sorted.{IsStrictlyIncreasing}
 use Rattle.auto_core.specs.Automaton.{Automaton}
-use Rattle.auto_core.specs.Delayed.{IsGreatestDelayed, AreRelatedAhead, letters_for}
+use Rattle.auto_core.specs.Delayed.{IsGreatestDelayed, AreStateRelated, letters_for}
 use Rattle.auto_core.specs.Game.{Close, Holds, IsGreatestForward, IsGreatestBackward}
 use Rattle.auto_core.specs.Pruning.{look_back, look_ahead}
 use Rattle.auto_core.specs.Useful.{AreUseful}
@@ -40,11 +40,11 @@ pub record IsMergeOf (A : Automaton) (Greatest : List (ℕ × ℕ) → Type 0) (
 -- closure of its state relation.
 pub record IsDelayedMergeOf (A : Automaton) (n : ℕ) (ranks : Ranking) (classes : List ℕ) : Type 0 where
   pub valid : IsRanking ranks
-  pub on_states : ranks.size ≡ A.states
+  pub on_states : ranks.states ≡ A.states
   pub on_labels : ranks.labels ≡ A.labels
   pub announced : ranks.letters ≡ n
   pub greatest : IsGreatestDelayed A n ranks.triples
-  pub joined : AreClassesOf A.states (Close (AreRelatedAhead A.labels n ranks.triples)) classes
+  pub joined : AreClassesOf A.states (Close (AreStateRelated A.labels n ranks.triples)) classes
 
 -- A relation is given just where there is a use for one, and is as it has to be.
 abbrev pub IsGivenWhere : Type 0 → (Relation → Type 0) → Option Relation → Type 0

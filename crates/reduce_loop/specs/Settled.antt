@@ -1,7 +1,7 @@
 -- Automata in which no step finds anything to do.
 use Rattle.std.specs.Prelude.{◌≡◌, ℕ, ◌<◌, List, Contains}
 use Rattle.auto_core.specs.Automaton.{Automaton}
-use Rattle.auto_core.specs.Delayed.{RankedTriples, IsGreatestDelayed, AreRelatedAhead, letters_for}
+use Rattle.auto_core.specs.Delayed.{RankedTriples, IsGreatestDelayed, AreStateRelated, letters_for}
 use Rattle.auto_core.specs.Game.{Close, Holds, IsGreatestForward, IsGreatestBackward}
 use Rattle.auto_core.specs.Pruning.{HasBetter, IsGreatestBack, IsGreatestAhead}
 use Rattle.auto_core.specs.Useful.{IsTrimmed}
@@ -34,7 +34,7 @@ IsSettledAt A mode sight Backward = (S : List (ℕ × ℕ)) → IsGreatestBackwa
 IsSettledAt A mode sight Delayed =
     (X : RankedTriples)
     → IsGreatestDelayed A (letters_for A sight.letters) X
-    → HasNoTwins A (Close (AreRelatedAhead A.labels (letters_for A sight.letters) X))
+    → HasNoTwins A (Close (AreStateRelated A.labels (letters_for A sight.letters) X))
 IsSettledAt A mode sight (Prune n) = HasNoneBetter A n sight.look
 
 -- No step of the mode has anything to do.

@@ -19,7 +19,7 @@ fn are_same(one: &Delayed, other: &Delayed) -> bool {
         if one.left(at) != other.left(at) || one.right(at) != other.right(at) {
             return false;
         }
-        if one.ahead(at) != other.ahead(at) || one.rank_of(at) != other.rank_of(at) {
+        if one.ahead(at) != other.ahead(at) || one.rank_at(at) != other.rank_at(at) {
             return false;
         }
     }

@@ -176,7 +176,7 @@ fn reduce_by(
     }
 }
 
-/// The reduced automaton, with lookahead `look` in the direct games and one announced letter in the delayed one, and the steps that
+/// The reduced automaton, with lookahead `look` in the forward and backward games and one announced letter in the delayed one, and the steps that
 /// changed something.
 pub fn reduce(alloc: Global, automaton: &Auto, mode: Mode, look: u32) -> Result<Reduced, Memory>
     requires few { automaton.now.states ≤ 65535 }

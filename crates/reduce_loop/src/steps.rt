@@ -27,7 +27,7 @@ pub enum Kind {
 /// How far Duplicator sees in the games of a reduction.
 #[derive(Clone, Copy, Debug, PartialEq, Eq)]
 pub struct Foresight {
-    /// The lookahead of the direct games: at most so many moves of Spoiler's.
+    /// The lookahead of the forward and backward games: at most so many moves of Spoiler's.
     pub look: u32,
     /// The letters that are announced in the delayed game, fewer where that would be too many for the automaton.
     pub letters: u32,

@@ -24,6 +24,6 @@ returns c =
     none_told c.line_fault.result c.is_none.result c.is_none.ensures
     ∙ ap is_none
     (c.line_fault.ensures
-    ∙ ap (λ v. at v c.mode_word.result c.answer_word.result) c.version_word.ensures
-    ∙ ap (λ m. at (version_word h.version) m c.answer_word.result) c.mode_word.ensures
-    ∙ ap (λ a. at (version_word h.version) (mode_word h.mode) a) c.answer_word.ensures)
+    ∙ ap (λ v. at v c.mode_word.result c.form_word.result) c.version_word.ensures
+    ∙ ap (λ m. at (version_word h.version) m c.form_word.result) c.mode_word.ensures
+    ∙ ap (λ a. at (version_word h.version) (mode_word h.mode) a) c.form_word.ensures)

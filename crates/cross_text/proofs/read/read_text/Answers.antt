@@ -6,7 +6,7 @@ use Rattle.cert_text.specs.declared.lines.Sizes.{Sizes}
 use Rattle.cert_text.specs.Lines.{word_in, number_in, sizes_in}
 use Rattle.cert_text.specs.Grammar.{On, next_line, read_block, read_end, finish, lines_of}
 use Rattle.cross_text.specs.declared.types.Cross.{Cross}
-use Rattle.cross_text.specs.Grammar.{cross_heading_in, cross_of, read_relation, read_look, read_cross_sizes, read_cross}
+use Rattle.cross_text.specs.Grammar.{cross_heading_in, cross_of_parts, read_relation, read_look, read_cross_sizes, read_cross}
 use Rattle.cross_text.specs.Reads.{Left, ReadsOn}
 use Rattle.cross_text.proofs.ReadsLemmas.{IsAt, at_start, at_next, at_stop, at_end, at_over, few_left}
 use Rattle.cross_text.proofs.read.read_text.Goals as goal
@@ -27,7 +27,7 @@ at_relation bytes l m s k h r = at_next bytes (next_line (number_in keyword.Look
 
 -- the cross relation of these rows, and what follows them
 abbrev of_rows : Sizes → ℕ → List Row → Cross
-of_rows s k rows = cross_of s k (record { rows = rows })
+of_rows s k rows = cross_of_parts s k (record { rows = rows })
 
 abbrev after_rows : Sizes → ℕ → On Cross (List Row)
 after_rows s k rows = read_end (of_rows s k rows)

@@ -7,11 +7,11 @@ pub code_of-requires : goal.code_of-requires
 code_of-requires c =
     let R = c.args.ranks.now in
     let lt : c.args.at + c.loop-i.i < length R.triples = omega (arith, c.requires.within, c.loop-i-test.true) in
-    rank_few R (c.args.at + c.loop-i.i) c.rank_of.result c.requires.few lt c.rank_of.ensures.rank
+    rank_few R (c.args.at + c.loop-i.i) c.rank_at.result c.requires.few lt c.rank_at.ensures.rank
 
 pub loop-i-preserved : goal.loop-i-preserved
 loop-i-preserved c =
     let R = c.args.ranks.now in
     let lt : c.args.at + c.loop-i.i < length R.triples = omega (arith, c.requires.within, c.loop-i-test.true) in
     c.in_ok-push.ensures.ok
-    ∙ rights_on R.triples c.args.at c.loop-i.i c.loop-i.rights c.right.result c.code_of.result lt c.right.ensures.state (c.code_of.ensures ∙ ap code_for c.rank_of.ensures.rank) c.loop-i.invariant
+    ∙ rights_on R.triples c.args.at c.loop-i.i c.loop-i.rights c.right.result c.code_of.result lt c.right.ensures.state (c.code_of.ensures ∙ ap code_for c.rank_at.ensures.rank) c.loop-i.invariant

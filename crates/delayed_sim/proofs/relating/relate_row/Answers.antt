@@ -30,5 +30,5 @@ loop-q-preserved c =
 pub returns-clause-pairs : goal.returns-clause-pairs
 returns-clause-pairs c =
     let D = c.args.delayed.now in
-    let all : c.loop-q.q ≡ D.size = omega (arith, c.loop-q-test.false, c.loop-q.auto.q-end, c.states-q-end.ensures.count) in
+    let all : c.loop-q.q ≡ D.states = omega (arith, c.loop-q-test.false, c.loop-q.auto.q-end, c.states-q-end.ensures.count) in
     subst (λ (n : ℕ). (r s : ℕ) → Holds c.loop-q.related.pairs r s ↔ (Holds c.args.related.now.pairs r s ⊎ ((r ≡ c.args.p) × (s < n) × HoldsEach D [] c.args.p s))) all c.loop-q.invariant.1

@@ -26,7 +26,7 @@ triples-preserved-then-is_none c =
     let at_in : at < length X = omega (arith, c.triples-test.true, c.count.ensures.count) in
     let valid : IsRanking R = c.left.ensures.valid in
     let accepting : IsAccepting A (triple_at X at).0 = subst (IsAccepting A) c.left.ensures.state (c.accepting.ensures.told.0 c.if-accepting.true) in
-    let none : (triple_at X at).3 ≡ None = sym c.rank_of.ensures.rank ∙ none_from c.rank_of.result c.if-is_none.ensures in (
+    let none : (triple_at X at).3 ≡ None = sym c.rank_at.ensures.rank ∙ none_from c.rank_at.result c.if-is_none.ensures in (
       subst (λ S. Thins c.args.delayed.now S true) (sym is) (thins_more c.args.delayed.now R c.triples.any at at_in h.0 (subst IsRanking is c.take_out.ensures.valid)),
       subst (λ (S : Ranking). HasEachTriple A S.letters S.triples) (sym is) (each_unranked A R.letters X at at_in h.1 h.2 valid.once accepting none),
       subst (λ (S : Ranking). (r : ℕ) → HasRanksUpto A S.letters r S.triples) (sym is) (ranks_without A R.letters X at at_in none h.2),

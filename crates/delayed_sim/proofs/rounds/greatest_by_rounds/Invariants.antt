@@ -5,7 +5,7 @@ use Rattle.delayed_sim.proofs.rounds.greatest_by_rounds.Given as goal
 
 abbrev pub invariant-turns : goal.invariant-turns
 invariant-turns l =
-    (l.left.size ≡ l.automaton.states)
+    (l.left.states ≡ l.automaton.states)
     × (l.left.labels ≡ l.automaton.labels)
     × (l.left.letters ≡ l.letters)
     × IsRanking l.left

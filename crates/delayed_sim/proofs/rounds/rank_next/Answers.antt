@@ -28,7 +28,7 @@ loop-at-preserved c =
     elim c.if-is_none.branch [
       | then-is_none+then-is_answered_at w ↦
           let is : w.set_rank.new.self ≡ reranked now at (Some r) = w.set_rank.ensures.ranked in
-          let without : (triple_at now.triples at).3 ≡ None = sym c.rank_of.ensures.rank ∙ none_from c.rank_of.result w.if-is_none.ensures in
+          let without : (triple_at now.triples at).3 ≡ None = sym c.rank_at.ensures.rank ∙ none_from c.rank_at.result w.if-is_none.ensures in
           let answered = answered_before A r at old now h (triple_at now.triples at) (w.is_answered_at.ensures.0 w.if-is_answered_at.true) in
           let gets : S (triple_at X at) (Some r) = inl (subst (λ (t : Triple). t.3 ≡ None) here without, subst (IsTripleAnswered A X (Some r)) here answered, refl) in
           let fell = unranked_falls now.triples at r (omega arith) without in
@@ -50,7 +50,7 @@ loop-at-preserved c =
           let keeps : S (triple_at X at) (triple_at X at).3 = inr (
             refl,
             λ without answered.
-                false≢true (sym (ap is_some (c.rank_of.ensures.rank ∙ ap (λ (t : Triple). t.3) here ∙ without)) ∙ w.if-is_none.ensures),
+                false≢true (sym (ap is_some (c.rank_at.ensures.rank ∙ ap (λ (t : Triple). t.3) here ∙ without)) ∙ w.if-is_none.ensures),
           ) in
           subst (λ R. T R c.if-is_none.any) (sym w.delayed-is) (subst (T now) (sym w.any-is) (kept keeps))
     ]

@@ -25,7 +25,7 @@ build-requires-clause-different c =
 
 made_so :
     (A : Automaton) (n : ℕ) (block : RankBlock) (r : Result Ranking Memory)
-    → IfOk r (λ d. d.size ≡ A.states)
+    → IfOk r (λ d. d.states ≡ A.states)
     → IfOk r (λ d. d.labels ≡ A.labels)
     → IfOk r (λ d. d.letters ≡ n)
     → IfOk r (λ d. HasJust d.triples (block_list block))
@@ -38,6 +38,6 @@ returns c =
     let A = c.args.automaton.now in
     let same : c.deref.result.now ≡ block_list c.args.block.now = c.deref.ensures.value ∙ c.in_ok-triples.ensures in
     made_so A c.args.letters c.args.block.now c.build.result
-    (subst (λ n. IfOk c.build.result (λ (d : Ranking). d.size ≡ n)) c.states.ensures.count c.build.ensures.size)
+    (subst (λ n. IfOk c.build.result (λ (d : Ranking). d.states ≡ n)) c.states.ensures.count c.build.ensures.size)
     (subst (λ n. IfOk c.build.result (λ (d : Ranking). d.labels ≡ n)) c.labels.ensures.count c.build.ensures.labels) c.build.ensures.letters
     (subst (λ (l : List RankedTriple). IfOk c.build.result (λ (d : Ranking). HasJust d.triples l)) same c.build.ensures.triples)

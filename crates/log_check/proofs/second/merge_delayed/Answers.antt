@@ -1,6 +1,6 @@
 use Rattle.std.proofs.Common.{◌≡◌, true, false, ℕ, inl, inr, List, refl, sym, ◌∙◌, subst, rules}
 use Rattle.std.proofs.lemmas.Bool.{false≢true}
-use Rattle.auto_core.specs.Delayed.{IsRight, AreRelatedAhead}
+use Rattle.auto_core.specs.Delayed.{IsRight, AreStateRelated}
 use Rattle.auto_core.specs.Quotient.{IsQuotient, RelatesMembersBy}
 use Rattle.log_check.specs.Blocks.{triples_of, IsRankBlockBelow, IsRankingOf}
 use Rattle.log_check.specs.Closures.{IsClosureOf, JoinsMembers}
@@ -35,7 +35,7 @@ returns-then-not-joins_members c =
     let A = c.args.automaton.now in
     let X = triples_of c.args.ranks.now in
     let Y = c.in_ok-ranking.ranking.triples in
-    let R = AreRelatedAhead A.labels c.args.letters X in
+    let R = AreStateRelated A.labels c.args.letters X in
     let rel = c.close.new.self in
     let named : IsRankBlockBelow A.states A.labels c.args.ranks.now = search rules in
     let classed : (c.in-Some.classes ≡ c.args.numbers.now) × AreClassesFor A c.args.numbers.now = search rules in
@@ -65,7 +65,7 @@ returns c =
     let A = c.args.automaton.now in
     let X = triples_of c.args.ranks.now in
     let Y = c.in_ok-ranking.ranking.triples in
-    let R = AreRelatedAhead A.labels c.args.letters X in
+    let R = AreStateRelated A.labels c.args.letters X in
     let rel = c.close.new.self in
     let named : IsRankBlockBelow A.states A.labels c.args.ranks.now = search rules in
     let classed : (c.in-Some.classes ≡ c.args.numbers.now) × AreClassesFor A c.args.numbers.now = search rules in

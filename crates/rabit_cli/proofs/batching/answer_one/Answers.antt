@@ -1,7 +1,7 @@
 use Rattle.std.proofs.Common.{ℕ, Option, IfSome, sym, subst}
 use Rattle.shelf_io.specs.Shelf.{FileMap}
 use Rattle.auto_core.specs.declared.parts.Mode.TheVariants.{Buchi}
-use Rattle.rabit_frame.specs.Ending.{OfBoth}
+use Rattle.rabit_frame.specs.Ending.{BeforeAndAfter}
 use Rattle.rabit_frame.proofs.EndLemmas.{both_map}
 use Rattle.rabit_cli.specs.Include.{usual_terms, LeavesDecided}
 use Rattle.rabit_cli.specs.Batch.{AnswersQuestion, ShowsQuestion}
@@ -22,7 +22,7 @@ returns-clause-files g c =
     let held : Option FileMap = g.H.Shelf.held c.args.shelf.now in
     let held' : Option FileMap = g.H.Shelf.held c.carry_out_unsaid.new.shelf in
     let (e, ends, is) = c.carry_out_unsaid.ensures.ends in
-    let P : ℕ → Type 0 = λ n. OfBoth held held' (λ files files'. LeavesDecided files q.first q.second q.cert (usual_terms Buchi) n (g.H.Shelf.put_faults c.args.shelf.now) (g.H.Shelf.put_faults c.carry_out_unsaid.new.shelf) files') in
+    let P : ℕ → Type 0 = λ n. BeforeAndAfter held held' (λ files files'. LeavesDecided files q.first q.second q.cert (usual_terms Buchi) n (g.H.Shelf.put_faults c.args.shelf.now) (g.H.Shelf.put_faults c.carry_out_unsaid.new.shelf) files') in
     subst P (sym is) (leaves_question q held held' _ _ _ _ e ends)
 
 pub returns-clause-shows : goal.returns-clause-shows

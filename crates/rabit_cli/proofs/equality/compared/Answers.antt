@@ -15,7 +15,7 @@ returns-then-is_no c =
     let cert = c.in_ok-cert.cert in
     let name = c.args.certificate.now in
     ok_gives (λ (r : Reply). r ≡ first_apart_reply name pair cert)
-    (λ (r : Reply). (x : Joined) × IsJoined c.args.one.now c.args.two.now x × IsEqualReply name c.args.converse.now c.args.one.now c.args.two.now x r) c.first_apart.result
+    (λ (r : Reply). (x : Joined) × IsJoined c.args.one.now c.args.two.now x × IsEqualReply name c.args.converse_name.now c.args.one.now c.args.two.now x r) c.first_apart.result
     (λ (r : Reply) e. (pair, c.in_ok-pair.ensures.joined, (cert, c.in_ok-cert.ensures.answer, inl (c.is_no.ensures.0 c.if-is_no.true, e))))
     c.first_apart.ensures
 
@@ -24,7 +24,7 @@ returns c =
     let pair = c.in_ok-pair.pair in
     let cert = c.in_ok-cert.cert in
     let name = c.args.certificate.now in
-    ok_gives (IsBothReply name c.args.converse.now c.args.one.now c.args.two.now cert)
-    (λ (r : Reply). (x : Joined) × IsJoined c.args.one.now c.args.two.now x × IsEqualReply name c.args.converse.now c.args.one.now c.args.two.now x r) c.of_both.result
+    ok_gives (IsBothReply name c.args.converse_name.now c.args.one.now c.args.two.now cert)
+    (λ (r : Reply). (x : Joined) × IsJoined c.args.one.now c.args.two.now x × IsEqualReply name c.args.converse_name.now c.args.one.now c.args.two.now x r) c.of_both.result
     (λ (r : Reply) says. (pair, c.in_ok-pair.ensures.joined, (cert, c.in_ok-cert.ensures.answer, inr (λ no. true≢false (sym (c.is_no.ensures.1 no) ∙ c.if-is_no.false), says))))
     c.of_both.ensures

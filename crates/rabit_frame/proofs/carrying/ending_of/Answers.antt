@@ -3,7 +3,7 @@ use Rattle.rabit_frame.specs.Files.{Output}
 use Rattle.shelf_io.specs.Shelf.{FileMap}
 use Rattle.shelf_io.specs.Counts.{Rose}
 use Rattle.rabit_frame.specs.Reading.{AllBegun}
-use Rattle.rabit_frame.specs.Ending.{OfBoth, filed, IsCutShort, PutEach, PutFront}
+use Rattle.rabit_frame.specs.Ending.{BeforeAndAfter, filed, IsCutShort, PutEach, PutFront}
 use Rattle.rabit_frame.proofs.EndLemmas.{may_plain, on_error, ends_unread, ends_refused, ends_reached, ends_cut}
 use Rattle.rabit_frame.proofs.carrying.ending_of.Goals as goal
 
@@ -24,7 +24,7 @@ returns-in-Ok-put_all-clause-ends g c =
     let held' : Option FileMap = g.H.Shelf.held c.put_all.new.shelf in
     let e = c.in-Ok.ensures in
     let w = c.in-Ok-put_all.ensures in
-    let P : List Output → Type 0 = λ ps. OfBoth between held' (λ files files'. files' ≡ filed files ps) in
+    let P : List Output → Type 0 = λ ps. BeforeAndAfter between held' (λ files files'. files' ≡ filed files ps) in
     let none = w.faults_stay ∙ e.no_read_fault (λ is. cc) in
     ends_reached _ _ held between held' _ _ _ _ c.in-Ok.reply e.right e.may e.files_stay (subst P c.as_slice.ensures w.written) none (w.done ∙ e.puts_stay)
 
@@ -36,7 +36,7 @@ returns-clause-ends g c =
     let e = c.in-Ok.ensures in
     let failed = λ (P : Type 0) (h : OnErr c.put_all.result P). on_error P c.put_all.result c.in-Err._failed c.in-Err.is h in
     let w = c.put_all.ensures in
-    let P : List Output → Type 0 = λ ps. OfBoth between held' (λ files files'. IsCutShort files ps files') in
+    let P : List Output → Type 0 = λ ps. BeforeAndAfter between held' (λ files files'. IsCutShort files ps files') in
     let Q : List Output → Type 0 = λ ps. 1 ≤ length ps in
     let R : ℕ → Type 0 = λ n. Rose n (g.H.Shelf.put_faults c.put_all.new.shelf) in
     let none = w.faults_stay ∙ e.no_read_fault (λ is. cc) in

@@ -1,5 +1,5 @@
 use Rattle.std.proofs.Common.{ℕ, refl}
-use Rattle.auto_core.specs.Delayed.{AreRelatedAhead, letters_for}
+use Rattle.auto_core.specs.Delayed.{AreStateRelated, letters_for}
 use Rattle.auto_core.specs.Game.{Holds}
 use Rattle.reduce_loop.proofs.DelayedLemmas.{classes_over, related_pairs}
 use Rattle.reduce_loop.proofs.making.merge_delayed.Goals as goal
@@ -36,6 +36,6 @@ returns-clause-entry c =
         on_labels = ranks.labels;
         announced = ranks.letters;
         greatest = ranks.greatest;
-        joined = classes_over A.states (Holds rel.pairs) (AreRelatedAhead A.labels (letters_for A n) found.triples) c.in_ok-joined.joined.classes same c.in_ok-joined.ensures.joined;
+        joined = classes_over A.states (Holds rel.pairs) (AreStateRelated A.labels (letters_for A n) found.triples) c.in_ok-joined.joined.classes same c.in_ok-joined.ensures.joined;
       },
     )

@@ -45,7 +45,7 @@ returns-clause-ranked c =
     let T = entry_triples n entries in
     let at_in : at < length T = subst (λ (R : Ranking). at < length R.triples) (sym c.self.view_is) c.requires in
     let is = reranked_entries n entries at e o (omega (arith, entry_count n entries)) c.index-entry.ensures in
-    let ranking : RankedTriples → Ranking = λ X. record { size = c.self.inside.states; labels = c.self.inside.labels; letters = n; triples = X } in
+    let ranking : RankedTriples → Ranking = λ X. record { states = c.self.inside.states; labels = c.self.inside.labels; letters = n; triples = X } in
     ap ranking is ∙ ap (λ (R : Ranking). reranked R at o) c.self.view_is
 
 pub returns-clause-valid : goal.returns-clause-valid

@@ -28,7 +28,7 @@ returns-clause-left c =
     let at : ℕ = c.args.at in
     let T = entry_triples n c.self.inside.entries.items in
     let is : entry_triples n c.remove.new.self.items ≡ remove T at = ap (entry_triples n) c.remove.ensures.items ∙ triples_remove n c.self.inside.entries.items at in
-    let ranking : RankedTriples → Ranking = λ X. record { size = c.self.inside.states; labels = c.self.inside.labels; letters = n; triples = X } in
+    let ranking : RankedTriples → Ranking = λ X. record { states = c.self.inside.states; labels = c.self.inside.labels; letters = n; triples = X } in
     ap ranking is ∙ ap (λ (R : Ranking). without R at) c.self.view_is
 
 pub returns-clause-valid : goal.returns-clause-valid

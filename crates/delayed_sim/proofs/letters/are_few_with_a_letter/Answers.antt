@@ -1,10 +1,10 @@
 use Rattle.std.proofs.Common.{◌≡◌, ◌+◌, ◌*◌, sym, ap, ◌∙◌, arith}
 use Rattle.delayed_sim.proofs.LetterLemmas.{many_stay, power_next}
-use Rattle.delayed_sim.proofs.letters.are_few_triples.Goals as goal
+use Rattle.delayed_sim.proofs.letters.are_few_with_a_letter.Goals as goal
 
-pub returns-then-count-gt-MOST_TRIPLES : goal.returns-then-count-gt-MOST_TRIPLES
-returns-then-count-gt-MOST_TRIPLES c =
-    sym (many_stay c.args.automaton.now c.loop.count c.loop.counter c.args.letters c.requires (omega (arith, c.loop-test.true)) c.loop.invariant (omega (arith, c.if-count-gt-MOST_TRIPLES.true)))
+pub returns-then-count-gt-MOST_WITH_A_LETTER : goal.returns-then-count-gt-MOST_WITH_A_LETTER
+returns-then-count-gt-MOST_WITH_A_LETTER c =
+    sym (many_stay c.args.automaton.now c.loop.count c.loop.counter c.args.letters c.requires (omega (arith, c.loop-test.true)) c.loop.invariant (omega (arith, c.if-count-gt-MOST_WITH_A_LETTER.true)))
 
 pub loop-preserved : goal.loop-preserved
 loop-preserved c =
