@@ -219,7 +219,7 @@ def read_block(text, version):
 
 
 def read_ranks(text, letters):
-    """The block of a delayed merge as its rows: the left state and the announced labels of each, and the code of each right state."""
+    """The block of a delayed merge as its rows: the left state and the word of each, and the code of each right state."""
     _, (rows,) = text.take(kind("rel #"))
     block, last = {}, ()
     for _ in range(rows):
@@ -392,7 +392,7 @@ def stable_across(first, second, look, block):
 
 
 def delayed_right(automaton, labels, block):
-    """Whether triples and codes are right, whatever label is announced next; a code is the rank and one, or 0."""
+    """Whether triples and codes are right, whatever further label is announced; a code is the rank and one, or 0."""
     for (p, *ahead), rights in block.items():
         announced = [[*ahead, more] for more in range(labels)]
         for q, code in rights.items():
@@ -409,7 +409,7 @@ def delayed_right(automaton, labels, block):
 
 
 def state_relation(states, labels, letters, block):
-    """The pairs of states whose triple stands in the block for each list of announced labels."""
+    """The pairs of states whose triple stands in the block for each word."""
     words = labels ** (letters - 1)
     if words == 0:
         return {p: dict.fromkeys(range(states)) for p in range(states)}

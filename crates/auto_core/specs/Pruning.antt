@@ -52,28 +52,28 @@ pub record IsCut (A : Automaton) (gone : List ℕ) (B : Automaton) : Type 0 wher
   pub accepting : B.accepting ≡ A.accepting
 
 -- The lookahead of the backward relation in pair n where the reduction has lookahead k.
-abbrev pub look_back : ℕ → ℕ → ℕ
-look_back n k = if n == 4 then 1 else k
+abbrev pub look_backward : ℕ → ℕ → ℕ
+look_backward n k = if n == 4 then 1 else k
 
--- The lookahead of the forward relation.
-abbrev pub look_ahead : ℕ → ℕ → ℕ
-look_ahead n k = if n == 3 then 1 else k
+-- The lookahead of its forward relation.
+abbrev pub look_forward : ℕ → ℕ → ℕ
+look_forward n k = if n == 3 then 1 else k
 
 -- Where the pair has a backward relation at all, the list is stable backward at its lookahead.
 abbrev pub IsStableBack : Automaton → ℕ → ℕ → List (ℕ × ℕ) → Type 0
-IsStableBack A n k S = ¬ (n ≡ 1) → StableBackward A (look_back n k) S
+IsStableBack A n k S = ¬ (n ≡ 1) → StableBackward A (look_backward n k) S
 
 -- Where the pair has a forward relation at all, the list is stable forward at its lookahead.
 abbrev pub IsStableAhead : Automaton → ℕ → ℕ → List (ℕ × ℕ) → Type 0
-IsStableAhead A n k S = ¬ (n ≡ 2) → StableForward A (look_ahead n k) S
+IsStableAhead A n k S = ¬ (n ≡ 2) → StableForward A (look_forward n k) S
 
 -- Where the pair has a backward relation at all, the list is the greatest one at its lookahead.
 abbrev pub IsGreatestBack : Automaton → ℕ → ℕ → List (ℕ × ℕ) → Type 0
-IsGreatestBack A n k S = ¬ (n ≡ 1) → IsGreatestBackward A (look_back n k) S
+IsGreatestBack A n k S = ¬ (n ≡ 1) → IsGreatestBackward A (look_backward n k) S
 
 -- Where the pair has a forward relation at all, the list is the greatest one at its lookahead.
 abbrev pub IsGreatestAhead : Automaton → ℕ → ℕ → List (ℕ × ℕ) → Type 0
-IsGreatestAhead A n k S = ¬ (n ≡ 2) → IsGreatestForward A (look_ahead n k) S
+IsGreatestAhead A n k S = ¬ (n ≡ 2) → IsGreatestForward A (look_forward n k) S
 
 -- The numbers are just those of the transitions that have a better one by pair n over the closures of the lists.
 abbrev pub AreRemovable : Automaton → ℕ → List (ℕ × ℕ) → List (ℕ × ℕ) → List ℕ → Type 0

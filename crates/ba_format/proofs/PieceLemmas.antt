@@ -1,12 +1,8 @@
 -- Lemmas on reading a text in pieces.
-use Rattle.std.proofs.Common.{◌≡◌, ℕ, ◌+◌, ◌^◌, ◌<◌, ◌≤◌, Bool, true, false, not, cond, eqb, ltb, min, position, Result, Ok, Err, IfOk, ◌⊎◌, inl, inr, List, [], ◌∷◌, ◌++◌, length, take, drop, map, None, Some, refl, sym, ap, ap₂, subst, ◌∙◌, arith, append-nil, append_assoc}
+use Rattle.std.proofs.Common.{◌≡◌, ℕ, ◌+◌, ◌^◌, ◌<◌, ◌≤◌, Bool, true, false, min, Result, Ok, Err, IfOk, ◌⊎◌, inl, inr, List, [], ◌∷◌, ◌++◌, length, map, None, Some, refl, sym, ap, ap₂, subst, ◌∙◌, arith, append-nil, append_assoc}
 use Rattle.std.specs.List.{slice_split, onto_first, before_first, after_first, position_or_len}
-use Rattle.std.proofs.lemmas.List.{length-append, length-drop, take-append-le, drop-append-le}
-use Rattle.std.proofs.Math.Seq.{take-append-add, drop-append-add}
-use Rattle.std.proofs.lemmas.List.Folds.{prefix_len-append}
+use Rattle.std.proofs.lemmas.List.{length-append, length-drop}
 use Rattle.std.proofs.lemmas.List.Splits.{slice_split-cons_yes, slice_split-cons_no, length-slice_split}
-use Rattle.std.proofs.lemmas.List.Sums.{prefix_len-le-length}
-use Rattle.std.proofs.lemmas.Bool.{eqb-true, eq-eqb, ltb-false, false≢true}
 use Rattle.std.proofs.Math.Nat.{min-eq_left}
 use Rattle.ba_format.specs.declared.parts.BaFault.{BaFault}
 use Rattle.ba_format.specs.declared.parts.BaKind.{BaKind}
@@ -15,69 +11,14 @@ use Rattle.ba_format.specs.declared.parts.Named.{Named}
 use Rattle.ba_format.specs.declared.parts.ReadFault.{ReadFault}
 use Rattle.ba_format.specs.declared.parts.ReadFault.TheVariants.{Ba, Memory as OutOfMemory}
 use Rattle.ba_format.specs.declared.pieces.Lines.{Lines}
-use Rattle.ba_format.specs.Grammar.{NumberedLine, is_newline, trimmed, onto_lines, lines_from, lines_in, content_of}
+use Rattle.text_lines.specs.Cut.{is_newline, HasNewline, IsUnfinished}
+use Rattle.text_lines.proofs.CutLemmas.{has_more, before_more, after_more, has_on, before_on, after_on}
+use Rattle.ba_format.specs.Grammar.{NumberedLine, trimmed, onto_lines, lines_from, lines_in, content_of}
 use Rattle.ba_format.specs.Faults.{kind_of_line, first_fault, fault_of_lines, fault_of, contents_of}
 use Rattle.ba_format.specs.Draft.{Stands, Fits}
 use Rattle.ba_format.specs.Reading.{Reads}
-use Rattle.ba_format.specs.Pieces.{HasNewline, IsUnfinished, AreTaken, HasFirstFault}
+use Rattle.ba_format.specs.Pieces.{AreTaken, HasFirstFault}
 use Rattle.ba_format.proofs.ReadLemmas.{Underway, Underway-blank, Underway-taken, refused_line, Underway-end}
-
--- ---- where the first line ends
-
-same_or : (b : Bool) (n m : ℕ) → b ≡ false → cond b n m ≡ m
-same_or true n m e = absurd (false≢true (sym e))
-same_or false n m e = refl
-
-place_more : (text more : List ℕ) → HasNewline text → position_or_len is_newline (text ++ more) ≡ position_or_len is_newline text
-place_more text more has = prefix_len-append (λ b. not (is_newline b)) text more ∙ same_or _ _ _ (differs (position_or_len is_newline text) (length text) has)
-  where
-    differs : (a b : ℕ) → a < b → eqb a b ≡ false
-    differs a b lt = go (eqb a b) refl
-      where
-        go : (t : Bool) → eqb a b ≡ t → t ≡ false
-        go true e = absurd (let same = eqb-true a b e in omega arith)
-        go false e = refl
-
-pub has_more : (text more : List ℕ) → HasNewline text → HasNewline (text ++ more)
-has_more text more has = omega (arith, place_more text more has, length-append text more)
-
-pub before_more : (text more : List ℕ) → HasNewline text → before_first is_newline (text ++ more) ≡ before_first is_newline text
-before_more text more has =
-    ap (λ n. take n (text ++ more)) (place_more text more has) ∙ take-append-le (position_or_len is_newline text) text more (omega arith)
-
-pub after_more : (text more : List ℕ) → HasNewline text → after_first is_newline (text ++ more) ≡ after_first is_newline text ++ more
-after_more text more has =
-    ap (λ n. drop (n + 1) (text ++ more)) (place_more text more has) ∙ drop-append-le (position_or_len is_newline text + 1) text more (omega arith)
-
-pub unfinished_from : (text : List ℕ) → position is_newline text ≡ None → IsUnfinished text
-unfinished_from text e = by (ltb (position_or_len is_newline text) (length text)) refl e
-  where
-    by : (b : Bool) → ltb (position_or_len is_newline text) (length text) ≡ b → cond b (Some (position_or_len is_newline text)) None ≡ None → IsUnfinished text
-    by true t h = cc
-    by false t h = (let low = prefix_len-le-length (λ b. not (is_newline b)) text in omega (arith, low, ltb-false _ _ t))
-
--- a line that has not ended goes on
-place_on : (line more : List ℕ) → IsUnfinished line → position_or_len is_newline (line ++ more) ≡ length line + position_or_len is_newline more
-place_on line more none =
-    prefix_len-append (λ b. not (is_newline b)) line more ∙ same_then _ _ _ (eq-eqb _ _ none)
-  where
-    same_then : (b : Bool) (n m : ℕ) → b ≡ true → cond b n m ≡ n
-    same_then true n m e = refl
-    same_then false n m e = absurd (false≢true e)
-
-pub has_on : (line more : List ℕ) → IsUnfinished line → HasNewline more → HasNewline (line ++ more)
-has_on line more none has = omega (arith, place_on line more none, length-append line more)
-
-pub unfinished_on : (line more : List ℕ) → IsUnfinished line → IsUnfinished more → IsUnfinished (line ++ more)
-unfinished_on line more none none' = omega (arith, place_on line more none, length-append line more)
-
-pub before_on : (line more : List ℕ) → IsUnfinished line → before_first is_newline (line ++ more) ≡ line ++ before_first is_newline more
-before_on line more none =
-    ap (λ n. take n (line ++ more)) (place_on line more none) ∙ take-append-add line more (position_or_len is_newline more)
-
-pub after_on : (line more : List ℕ) → IsUnfinished line → after_first is_newline (line ++ more) ≡ after_first is_newline more
-after_on line more none =
-    ap (λ n. drop n (line ++ more)) (omega (arith, place_on line more none)) ∙ drop-append-add line more (position_or_len is_newline more + 1)
 
 -- ---- lines taken
 

@@ -1,6 +1,6 @@
 -- A text that comes in pieces: what a reader holds after those so far, whatever follows.
-use Rattle.std.specs.Prelude.{◌≡◌, ℕ, ◌+◌, ◌≤◌, ◌<◌, List, [], ◌++◌, length, map, Some}
-use Rattle.std.specs.List.{slice_split, position_or_len}
+use Rattle.std.specs.Prelude.{◌≡◌, ℕ, ◌+◌, ◌≤◌, List, [], ◌++◌, length, map, Some}
+use Rattle.std.specs.List.{slice_split}
 use Rattle.ba_format.specs.declared.parts.BaFault.{BaFault}
 use Rattle.ba_format.specs.declared.parts.Limits.{Limits}
 use Rattle.ba_format.specs.declared.parts.ReadFault.{ReadFault}
@@ -9,17 +9,10 @@ use Rattle.ba_format.specs.declared.pieces.Lines.{Lines}
 use Rattle.ba_format.specs.declared.pieces.Progress.{Progress}
 use Rattle.ba_format.specs.declared.pieces.Progress.TheVariants.{Faultless, Faulty, Refused}
 use Rattle.ba_format.specs.declared.pieces.Reader.{Reader}
-use Rattle.ba_format.specs.Grammar.{LineContent, is_newline, lines_from, lines_in, content_of}
+use Rattle.text_lines.specs.Cut.{is_newline, IsUnfinished}
+use Rattle.ba_format.specs.Grammar.{LineContent, lines_from, lines_in, content_of}
 use Rattle.ba_format.specs.Faults.{first_fault, fault_of, contents_of}
 use Rattle.ba_format.specs.Draft.{Stands, Fits}
-
--- A line of the text ends.
-abbrev pub HasNewline : List ℕ → Type 0
-HasNewline text = position_or_len is_newline text < length text
-
--- None does.
-abbrev pub IsUnfinished : List ℕ → Type 0
-IsUnfinished text = position_or_len is_newline text ≡ length text
 
 -- The lines that were taken are those of the text before this rest: none has a fault, and the draft stands for what they say. What follows
 -- the rest has no part in that.

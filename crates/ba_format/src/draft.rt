@@ -7,11 +7,10 @@ ghost use Rattle.ba_format.specs.Draft.{PastLimit, NotesState, NotesTransition, 
 ghost use Rattle.ba_format.specs.Reading.{IsReading};
 ghost use Rattle.std.specs.List.{range_with_len};
 
-use crate::building::built;
 use crate::lines::{Said, said_by};
 use crate::parts::{BaKind, Limits, Named};
 use crate::texts::Texts;
-use auto_core::{Memory, Trans};
+use auto_core::{Memory, Trans, of_parts};
 use indexmap::IndexSet;
 use std::alloc::{AllocFailed, Global};
 
@@ -198,7 +197,7 @@ impl Draft {
     {
         let transitions = transitions_of(alloc, self.transitions.as_slice())?;
         let accepting = chosen_or_all(alloc, self.accepting.as_slice(), self.names.count())?;
-        let auto = built(
+        let auto = of_parts(
             alloc,
             self.names.count(),
             self.labels.count(),

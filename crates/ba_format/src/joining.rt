@@ -6,10 +6,9 @@ ghost use Rattle.auto_core.specs.Automaton.{trans};
 ghost use Rattle.ba_format.specs.Sight.{same_text, place_in, AreDifferent};
 ghost use Rattle.ba_format.specs.Joining.{joined_labels, IsRelabelled, IsJoined};
 
-use crate::building::built;
 use crate::parts::{Joined, Named};
 use crate::texts::Texts;
-use auto_core::{Auto, Memory, Trans};
+use auto_core::{Auto, Memory, Trans, of_parts};
 use std::alloc::Global;
 
 /// Appends those texts that aren't there yet, in order.
@@ -80,7 +79,7 @@ fn relabelled(alloc: Global, auto: &Auto, labels: &Texts, joined: &Texts) -> Res
     let numbers = numbers_in(alloc, labels, joined)?;
     let transitions = with_numbers(alloc, auto.transitions(), &numbers)?;
     let accepting = accepting_states(alloc, auto)?;
-    built(
+    of_parts(
         alloc,
         auto.states(),
         joined.count(),

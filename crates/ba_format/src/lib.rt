@@ -1,7 +1,6 @@
 //! The text format `.ba` of automata: reading, writing, and joining two read automata over common labels.
 #![tactic(auto)]
 
-mod building;
 mod draft;
 mod joining;
 pub mod laws;

@@ -2,35 +2,19 @@
 
 ghost use Rattle.std.specs.Prelude.{◌≡◌, ◌+◌, ◌^◌, ◌≤◌, ◌⊎◌, ◌++◌, List, ℕ, [], length, position, Some, Ok, Err, IfOk, OnOk, OnErr, IsErr, MatchOption, MatchResult};
 ghost use Rattle.std.specs.List.{before_first, after_first};
-ghost use Rattle.ba_format.specs.Grammar.{is_newline};
+ghost use Rattle.text_lines.specs.Cut.{is_newline, HasNewline, IsUnfinished};
 ghost use Rattle.ba_format.specs.declared.parts.BaFault.{BaFault as AFault};
 ghost use Rattle.ba_format.specs.declared.parts.Limits.{Limits as TheLimits};
 ghost use Rattle.ba_format.specs.Faults.{fault_of};
 ghost use Rattle.ba_format.specs.Reading.{Reads, IsWithinLimits};
-ghost use Rattle.ba_format.specs.Pieces.{HasNewline, IsUnfinished, AreTaken, TellsFirstFault, HasRead, WasRefused};
+ghost use Rattle.ba_format.specs.Pieces.{AreTaken, TellsFirstFault, HasRead, WasRefused};
 
 use crate::draft::{Draft, Opening, Refusal};
 use crate::lines::trimmed;
 use crate::parts::{BaFault, BaKind, Limits, Named, ReadFault};
 use auto_core::Memory;
 use std::alloc::Global;
-
-/// Where the first LF of the text stands.
-fn place_of_newline(text: &[u8]) -> Option<usize>
-    ensures { result ≡ position is_newline text.now }
-{
-    text.iter().position(|byte| *byte == b'\n')
-}
-
-/// The first line of a text, if it ends, and what stands after its LF.
-fn split_line(text: &[u8]) -> Option<(&[u8], &[u8])>
-    ensures { MatchOption result (IsUnfinished text.now) (λ parts. HasNewline text.now × (parts.0.now ≡ before_first is_newline text.now) × (parts.1.now ≡ after_first is_newline text.now)) }
-{
-    match place_of_newline(text) {
-        None => None,
-        Some(at) => Some((&text[..at], &text[at + 1..])),
-    }
-}
+use text_lines::split_line;
 
 /// What the lines so far bring.
 #[derive(Drop)]

@@ -3,7 +3,7 @@ use Rattle.auto_core.specs.declared.parts.Mode.{Mode}
 use Rattle.auto_core.specs.declared.parts.Mode.TheVariants as mode
 use Rattle.auto_core.specs.declared.parts.Origin.{Origin}
 use Rattle.cert_value.specs.declared.keywords.Keyword.TheVariants as keyword
-use Rattle.cert_text.specs.declared.forms.Tail.TheVariants as tail
+use Rattle.cert_line.specs.declared.shapes.Tail.TheVariants as tail
 use Rattle.cert_value.specs.declared.types.Form.TheVariants as form
 use Rattle.cert_value.specs.declared.types.Cert.{Cert}
 use Rattle.cert_value.specs.declared.types.Body.{Body}
@@ -21,23 +21,23 @@ use Rattle.cert_value.specs.declared.types.Element.{Element}
 use Rattle.cert_value.specs.declared.types.StepLine.{StepLine}
 use Rattle.cert_text.specs.declared.parts.Closed.{Closed}
 use Rattle.cert_text.specs.declared.parts.Limited.{Limited}
-use Rattle.cert_text.specs.declared.lines.Sizes.{Sizes}
-use Rattle.cert_text.specs.declared.lines.Heading.{Heading}
-use Rattle.cert_text.specs.declared.heads.FirstHead.TheVariants as first_head
-use Rattle.cert_text.specs.declared.heads.SecondHead.TheVariants as second_head
-use Rattle.cert_text.specs.declared.heads.Way.{Way}
-use Rattle.cert_text.specs.declared.heads.Way.TheVariants as way
+use Rattle.cert_line.specs.declared.lines.Sizes.{Sizes}
+use Rattle.cert_line.specs.declared.lines.Heading.{Heading}
+use Rattle.cert_line.specs.declared.heads.FirstHead.TheVariants as first_head
+use Rattle.cert_line.specs.declared.heads.SecondHead.TheVariants as second_head
+use Rattle.cert_line.specs.declared.heads.Way.{Way}
+use Rattle.cert_line.specs.declared.heads.Way.TheVariants as way
 use Rattle.cert_value.specs.Text.{Line, spelled, numbers, row_numbers, each, row_lines, block_lines, rank_row_lines, rank_block_lines, classes_line, first_step_lines, merge_lines, second_step_lines, origin_line, origin_lines, mark_tokens, element_lines, step_lines, first_lines, second_lines, elements_line, closed_lines, limit_lines, body_lines, form_of, first_line, sizes_line, end_line, cert_lines, gone_numbers, ranked_numbers}
 use Rattle.cert_value.specs.declared.types.Grounds.{Grounds}
 use Rattle.cert_value.specs.WellFormed.{is_version, are_letters, rank_key, blocks_due, is_live, has_some, is_short, are_short, ascend, is_row, are_rows, is_block, is_rank_row, are_rank_rows, is_rank_block, are_gone, are_classes, is_first_step, are_grounds, is_second_step, is_origin, is_element, is_step_of, are_steps, are_logs, is_body, has_text}
-use Rattle.cert_text.specs.Lines.{Said, word_in, number_in, numbers_in, ascending_in, sizes_in, heading_in, row_in, rank_row_in, gone_by_in, first_head_in, second_head_in, origin_in, element_in, step_in}
+use Rattle.cert_line.specs.Lines.{Said, word_in, number_in, numbers_in, ascending_in, sizes_in, heading_in, row_in, rank_row_in, gone_by_in, first_head_in, second_head_in, origin_in, element_in, step_in}
 use Rattle.cert_text.specs.Grammar.{On, Then, after, next_line, read_rows, read_block, read_rank_rows, read_rank_block, read_blocks, read_classes, read_first_rest, read_first_steps, read_grounds, read_second_rest, read_second_steps, read_elements, read_steps, read_origins, read_cover, read_all_elements, read_closed, read_all_origins, read_limited, read_first_log, read_second_log, read_turn, yes_of, list_of, read_evidence, read_after_first, read_body, finish, cert_of, read_end, read_rest, read_sizes, read_lines}
 use Rattle.std.specs.List.{list_all}
 use Rattle.std.proofs.lemmas.Bool.{and_parts, and_from}
-use Rattle.cert_text.proofs.PairLemmas.{some_cons}
-use Rattle.cert_text.proofs.LineFacts.{word_fw, number_fw, numbers_fw, sorted_fw, sizes_fw, row_fw, rank_row_fw, gone_fw, step_fw, some_numbers}
-use Rattle.cert_text.proofs.HeadFacts.{first_head_fw, way_tokens, is_way, second_head_fw}
-use Rattle.cert_text.proofs.OriginFacts.{origin_fw, element_fw, heading_fw}
+use Rattle.cert_line.proofs.PairLemmas.{some_cons}
+use Rattle.cert_line.proofs.LineFacts.{word_fw, number_fw, numbers_fw, sorted_fw, sizes_fw, row_fw, rank_row_fw, gone_fw, step_fw, some_numbers}
+use Rattle.cert_line.proofs.HeadFacts.{first_head_fw, way_tokens, is_way, second_head_fw}
+use Rattle.cert_line.proofs.OriginFacts.{origin_fw, element_fw, heading_fw}
 
 -- a whole line is read
 pub line_fw : {C A : Type 0} (said : Line → Said A) (next : On C A) (line : Line) (a : A) (rest : List Line) → said line ≡ Ok a

@@ -1,18 +1,17 @@
-use Rattle.std.proofs.Common.{◌≡◌, ℕ, suc, ◌<◌, ◌+◌, ◌-◌, ◌==◌, List, [], ◌∷◌, length, map, take, drop, Bool, true, false, cond, Option, Some, None, Result, Ok, Err, position, refl, sym, ap, ◌∙◌, subst, arith}
+use Rattle.std.proofs.Common.{◌≡◌, ℕ, suc, ◌<◌, ◌+◌, ◌-◌, ◌==◌, List, [], ◌∷◌, length, map, take, drop, Bool, true, false, cond, Option, Some, None, Ok, Err, position, refl, sym, ap, ◌∙◌, subst, arith}
 use Rattle.std.specs.List.{slice_split, onto_first}
 use Rattle.std.proofs.lemmas.List.Splits.{length-slice_split}
-use Rattle.cert_text.specs.declared.faults.LineFault.{LineFault}
-use Rattle.cert_text.specs.declared.faults.LineFault.TheVariants.{Text, Memory}
-use Rattle.cert_text.specs.declared.faults.TextKind.{TextKind}
-use Rattle.cert_text.specs.declared.faults.TextKind.TheVariants.{Truncated, Trailing}
-use Rattle.cert_text.specs.declared.faults.TextFault.{TextFault}
+use Rattle.cert_line.specs.declared.faults.LineFault.{LineFault}
+use Rattle.cert_line.specs.declared.faults.LineFault.TheVariants.{Text, Memory}
+use Rattle.cert_line.specs.declared.faults.TextKind.{TextKind}
+use Rattle.cert_line.specs.declared.faults.TextKind.TheVariants.{Truncated, Trailing}
 use Rattle.cert_value.specs.declared.types.Cert.{Cert}
 use Rattle.cert_text.specs.declared.machine.State.{State}
 use Rattle.cert_value.specs.Text.{Line}
 use Rattle.cert_value.specs.Tokens.{tokens_of}
-use Rattle.cert_text.specs.Agrees.{Agrees}
+use Rattle.cert_line.specs.Agrees.{Agrees}
 use Rattle.cert_text.specs.Told.{Told, located}
-use Rattle.cert_text.specs.Grammar.{ReadOutcome, Read, Stopped, after, lines_of, read_lines, reading, told_at, first_left, is_bare}
+use Rattle.cert_text.specs.Grammar.{Read, Stopped, after, lines_of, read_lines, reading, told_at, is_bare}
 use Rattle.cert_text.specs.Machine.{step, ended, at_end}
 use Rattle.cert_text.proofs.ResumeState.{resume, state_law, state_last}
 use Rattle.cert_text.proofs.Reading.{stopped_by, read_by}

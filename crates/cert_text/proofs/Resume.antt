@@ -2,8 +2,8 @@ use Rattle.std.proofs.Common.{◌≡◌, ℕ, zero, suc, ◌+◌, ◌-◌, List,
 use Rattle.std.proofs.lemmas.Bool.{cond-false}
 use Rattle.auto_core.specs.declared.parts.Mode.{Mode}
 use Rattle.cert_value.specs.declared.keywords.Keyword.TheVariants as keyword
-use Rattle.cert_text.specs.declared.forms.Tail.TheVariants as tail
-use Rattle.cert_text.specs.declared.faults.TextKind.TheVariants.{Truncated}
+use Rattle.cert_line.specs.declared.shapes.Tail.TheVariants as tail
+use Rattle.cert_line.specs.declared.faults.TextKind.TheVariants.{Truncated}
 use Rattle.cert_text.specs.declared.parts.Step.{Step}
 use Rattle.cert_text.specs.declared.parts.Step.TheVariants.{More, Whole}
 use Rattle.cert_value.specs.declared.types.FirstStep.{FirstStep}
@@ -16,12 +16,12 @@ use Rattle.cert_value.specs.declared.types.RelBlock.{RelBlock}
 use Rattle.cert_value.specs.declared.types.RankBlock.{RankBlock}
 use Rattle.cert_value.specs.declared.types.Row.{Row}
 use Rattle.cert_value.specs.declared.types.RankRow.{RankRow}
-use Rattle.cert_text.specs.declared.heads.FirstHead.{FirstHead}
-use Rattle.cert_text.specs.declared.heads.FirstHead.TheVariants as first_head
-use Rattle.cert_text.specs.declared.heads.SecondHead.{SecondHead}
-use Rattle.cert_text.specs.declared.heads.SecondHead.TheVariants as second_head
-use Rattle.cert_text.specs.declared.heads.Way.{Way}
-use Rattle.cert_text.specs.declared.heads.Way.TheVariants as way
+use Rattle.cert_line.specs.declared.heads.FirstHead.{FirstHead}
+use Rattle.cert_line.specs.declared.heads.FirstHead.TheVariants as first_head
+use Rattle.cert_line.specs.declared.heads.SecondHead.{SecondHead}
+use Rattle.cert_line.specs.declared.heads.SecondHead.TheVariants as second_head
+use Rattle.cert_line.specs.declared.heads.Way.{Way}
+use Rattle.cert_line.specs.declared.heads.Way.TheVariants as way
 use Rattle.cert_text.specs.declared.blocks.BlockState.{BlockState}
 use Rattle.cert_text.specs.declared.blocks.BlockState.TheVariants as block
 use Rattle.cert_text.specs.declared.blocks.RankState.{RankState}
@@ -37,7 +37,7 @@ use Rattle.cert_text.specs.declared.second_log.SecondLog.TheVariants as second_l
 use Rattle.cert_value.specs.Text.{Line}
 use Rattle.cert_value.specs.WellFormed.{blocks_due, rank_key, key_before}
 use Rattle.std.specs.List.{slice_get}
-use Rattle.cert_text.specs.Lines.{Said, number_in, numbers_in, ascending_in, row_in, rank_row_in, gone_by_in, first_head_in, second_head_in}
+use Rattle.cert_line.specs.Lines.{Said, number_in, numbers_in, ascending_in, row_in, rank_row_in, gone_by_in, first_head_in, second_head_in}
 use Rattle.cert_text.specs.Grammar.{ReadOutcome, Stopped, Then, after, next_line, read_rows, read_block, read_rank_rows, read_rank_block, read_blocks, read_classes, read_first_rest, read_first_steps, read_grounds, read_second_rest, read_second_steps, read_first_log, read_second_log}
 use Rattle.cert_text.specs.Machine.{map_said, on_or, rows_due, step_block, last_key, rank_rows_due, step_ranks, blocks_left, with_block, first_started, step_first, first_left, with_first, step_first_log, rel_due, with_forward, with_backward, with_delayed, second_started, step_second, second_left, with_second, step_second_log}
 

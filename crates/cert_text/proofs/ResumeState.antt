@@ -3,8 +3,8 @@ use Rattle.auto_core.specs.declared.parts.Mode.{Mode}
 use Rattle.auto_core.specs.declared.parts.Mode.TheVariants as mode
 use Rattle.auto_core.specs.declared.parts.Origin.{Origin}
 use Rattle.cert_value.specs.declared.keywords.Keyword.TheVariants as keyword
-use Rattle.cert_text.specs.declared.forms.Tail.TheVariants as tail
-use Rattle.cert_text.specs.declared.faults.TextKind.TheVariants.{Truncated}
+use Rattle.cert_line.specs.declared.shapes.Tail.TheVariants as tail
+use Rattle.cert_line.specs.declared.faults.TextKind.TheVariants.{Truncated}
 use Rattle.cert_text.specs.declared.parts.Step.{Step}
 use Rattle.cert_text.specs.declared.parts.Step.TheVariants.{More, Whole}
 use Rattle.cert_text.specs.declared.parts.Closed.{Closed}
@@ -18,7 +18,7 @@ use Rattle.cert_value.specs.declared.types.SecondStep.{SecondStep}
 use Rattle.cert_value.specs.declared.types.RelBlock.{RelBlock}
 use Rattle.cert_value.specs.declared.types.Element.{Element}
 use Rattle.cert_value.specs.declared.types.StepLine.{StepLine}
-use Rattle.cert_text.specs.declared.lines.Sizes.{Sizes}
+use Rattle.cert_line.specs.declared.lines.Sizes.{Sizes}
 use Rattle.cert_text.specs.declared.blocks.BlockState.{BlockState}
 use Rattle.cert_text.specs.declared.first_log.FirstLog.{FirstLog}
 use Rattle.cert_text.specs.declared.second_log.SecondLog.{SecondLog}
@@ -33,7 +33,7 @@ use Rattle.cert_text.specs.declared.machine.State.{State}
 use Rattle.cert_text.specs.declared.machine.State.TheVariants as state
 use Rattle.cert_value.specs.Text.{Line}
 use Rattle.cert_value.specs.WellFormed.{is_live}
-use Rattle.cert_text.specs.Lines.{word_in, number_in, numbers_in, sizes_in, heading_in, origin_in, element_in, step_in}
+use Rattle.cert_line.specs.Lines.{word_in, number_in, numbers_in, sizes_in, heading_in, origin_in, element_in, step_in}
 use Rattle.cert_text.specs.Grammar.{ReadOutcome, Stopped, Then, after, next_line, read_elements, read_steps, read_origins, read_cover, read_all_elements, read_all_origins, read_limited, read_turn, read_lasso, read_word, yes_of, list_of, read_evidence, read_after_first, finish, cert_of, read_end, read_rest, read_sizes}
 use Rattle.cert_text.specs.Machine.{step_block, step_first_log, step_second_log, elements_left, live_from, step_or_whole, steps_left, with_order, step_yes, origins_left, step_list, step_no, whole, begun, with_no, with_first_log, evidence_due, with_second_log, with_yes, with_list, step, at_end}
 use Rattle.cert_text.proofs.Resume.{Resume, on_step, arm, on_suc, resume_block, block_law, block_last, resume_first_log, first_log_law, first_log_last, resume_second_log, second_log_law, second_log_last}

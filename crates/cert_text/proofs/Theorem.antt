@@ -1,4 +1,4 @@
-use Rattle.std.proofs.Common.{◌≡◌, ℕ, List, [], ◌++◌, ◌==◌, map, true, Result, Ok, Err, refl, sym, ap, ◌∙◌, append-nil, subst, inl, inr, ◌⊎◌, IfOk}
+use Rattle.std.proofs.Common.{◌≡◌, ℕ, List, [], ◌++◌, ◌==◌, map, true, Result, Ok, Err, sym, ap, ◌∙◌, append-nil, ◌⊎◌, IfOk}
 use Rattle.cert_text.specs.declared.faults.CertReadFault.{CertReadFault}
 use Rattle.cert_text.specs.declared.faults.CertReadFault.TheVariants.{Text, Memory}
 use Rattle.cert_text.specs.Told.{Told}
@@ -7,9 +7,9 @@ use Rattle.cert_text.specs.declared.faults.TextFault.{TextFault}
 use Rattle.cert_value.specs.Text.{text, cert_lines}
 use Rattle.cert_value.specs.Tokens.{tokens_of}
 use Rattle.cert_value.specs.WellFormed.{has_text, has_some, WellFormed}
-use Rattle.cert_text.specs.Grammar.{ReadOutcome, Read, Stopped, lines_of, read_lines, reading, told_at, finish}
+use Rattle.cert_text.specs.Grammar.{Read, lines_of, read_lines, reading, finish}
 use Rattle.cert_text.specs.Law.{OneText}
-use Rattle.cert_text.proofs.PairLemmas.{some_cons}
+use Rattle.cert_line.proofs.PairLemmas.{some_cons}
 use Rattle.cert_text.proofs.BytesLines.{lines_text, text_back}
 use Rattle.cert_text.proofs.PlainCert.{plain_cert}
 use Rattle.cert_text.proofs.Forward.{cert_fw}

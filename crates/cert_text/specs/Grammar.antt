@@ -6,9 +6,9 @@ use Rattle.auto_core.specs.declared.parts.Mode.{Mode}
 use Rattle.auto_core.specs.declared.parts.Mode.TheVariants as mode
 use Rattle.auto_core.specs.declared.parts.Origin.{Origin}
 use Rattle.cert_value.specs.declared.keywords.Keyword.TheVariants as keyword
-use Rattle.cert_text.specs.declared.forms.Tail.TheVariants as tail
-use Rattle.cert_text.specs.declared.faults.TextKind.{TextKind}
-use Rattle.cert_text.specs.declared.faults.TextKind.TheVariants.{Truncated, Trailing}
+use Rattle.cert_line.specs.declared.shapes.Tail.TheVariants as tail
+use Rattle.cert_line.specs.declared.faults.TextKind.{TextKind}
+use Rattle.cert_line.specs.declared.faults.TextKind.TheVariants.{Truncated, Trailing}
 use Rattle.cert_text.specs.declared.faults.TextFault.{TextFault}
 use Rattle.cert_value.specs.declared.types.Form.{Form}
 use Rattle.cert_value.specs.declared.types.Form.TheVariants as form
@@ -28,18 +28,18 @@ use Rattle.cert_value.specs.declared.types.Element.{Element}
 use Rattle.cert_value.specs.declared.types.StepLine.{StepLine}
 use Rattle.cert_text.specs.declared.parts.Closed.{Closed}
 use Rattle.cert_text.specs.declared.parts.Limited.{Limited}
-use Rattle.cert_text.specs.declared.lines.Sizes.{Sizes}
-use Rattle.cert_text.specs.declared.lines.Heading.{Heading}
-use Rattle.cert_text.specs.declared.heads.FirstHead.{FirstHead}
-use Rattle.cert_text.specs.declared.heads.FirstHead.TheVariants as first_head
-use Rattle.cert_text.specs.declared.heads.SecondHead.{SecondHead}
-use Rattle.cert_text.specs.declared.heads.SecondHead.TheVariants as second_head
-use Rattle.cert_text.specs.declared.heads.Way.{Way}
-use Rattle.cert_text.specs.declared.heads.Way.TheVariants as way
+use Rattle.cert_line.specs.declared.lines.Sizes.{Sizes}
+use Rattle.cert_line.specs.declared.lines.Heading.{Heading}
+use Rattle.cert_line.specs.declared.heads.FirstHead.{FirstHead}
+use Rattle.cert_line.specs.declared.heads.FirstHead.TheVariants as first_head
+use Rattle.cert_line.specs.declared.heads.SecondHead.{SecondHead}
+use Rattle.cert_line.specs.declared.heads.SecondHead.TheVariants as second_head
+use Rattle.cert_line.specs.declared.heads.Way.{Way}
+use Rattle.cert_line.specs.declared.heads.Way.TheVariants as way
 use Rattle.cert_value.specs.Text.{Line}
 use Rattle.cert_value.specs.Tokens.{tokens_of}
 use Rattle.cert_value.specs.WellFormed.{blocks_due, is_live, rank_key}
-use Rattle.cert_text.specs.Lines.{Said, word_in, number_in, numbers_in, ascending_in, sizes_in, heading_in, row_in, rank_row_in, gone_by_in, first_head_in, second_head_in, origin_in, element_in, step_in}
+use Rattle.cert_line.specs.Lines.{Said, word_in, number_in, numbers_in, ascending_in, sizes_in, heading_in, row_in, rank_row_in, gone_by_in, first_head_in, second_head_in, origin_in, element_in, step_in}
 
 -- What comes of reading lines: the value that they are the text of, or a fault at the first of these lines.
 pub data LinesOutcome (C : Type 0) : Type 0 where
@@ -79,7 +79,7 @@ abbrev pub read_block : {C : Type 0} → ℕ → On C RelBlock → List Line →
 read_block v next =
     next_line (number_in keyword.Rel) (λ n. read_rows v n 0 [] (λ rows. next (record { rows = rows })))
 
--- That many rows with ranks, whose left numbers and labels ascend past the key, after these.
+-- That many rows with ranks, whose left numbers and words ascend past the key, after these.
 abbrev pub read_rank_rows : ℕ → ℕ → List ℕ → List RankRow → Then (List RankRow) → List Line → ReadOutcome
 read_rank_rows letters zero key rows next lines = next rows lines
 read_rank_rows letters (suc n) key rows next lines =
@@ -214,6 +214,7 @@ abbrev pub list_of : List FirstStep → List SecondStep → Limited → Body
 list_of firsts seconds limited =
     body.Listing (record { first = firsts; second = seconds; limit = limited.limit; elements = limited.elements })
 
+-- The evidence behind the logs. A no has no logs, and so none comes here.
 abbrev pub read_evidence : ℕ → Mode → Form → List FirstStep → List SecondStep → Then Body → List Line → ReadOutcome
 read_evidence v m (form.Yes) firsts seconds next = read_closed v m (λ closed. next (yes_of firsts seconds closed))
 read_evidence v m (form.No) firsts seconds next = read_closed v m (λ closed. next (yes_of firsts seconds closed))
@@ -221,10 +222,10 @@ read_evidence v m (form.List) firsts seconds next = read_limited m (λ limited. 
 
 -- The logs, and what follows them.
 abbrev pub read_after_first : ℕ → Mode → Form → List FirstStep → Then Body → List Line → ReadOutcome
-read_after_first v m a firsts next = read_second_log v m (λ seconds. read_evidence v m a firsts seconds next)
+read_after_first v m f firsts next = read_second_log v m (λ seconds. read_evidence v m f firsts seconds next)
 
 abbrev pub read_logs : ℕ → Mode → Form → Then Body → List Line → ReadOutcome
-read_logs v m a next = read_first_log v (λ firsts. read_after_first v m a firsts next)
+read_logs v m f next = read_first_log v (λ firsts. read_after_first v m f firsts next)
 
 -- The lines between the line of sizes and the last line.
 abbrev pub read_body : ℕ → Mode → Form → Then Body → List Line → ReadOutcome

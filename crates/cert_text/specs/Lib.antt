@@ -1,7 +1,5 @@
-pub mod Forms
-pub mod Lines
-pub mod Agrees
 pub mod Grammar
 pub mod Machine
 pub mod Told
 pub mod Law
+pub mod Pieces

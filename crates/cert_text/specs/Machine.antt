@@ -5,8 +5,8 @@ use Rattle.auto_core.specs.declared.parts.Mode.{Mode}
 use Rattle.auto_core.specs.declared.parts.Mode.TheVariants as mode
 use Rattle.auto_core.specs.declared.parts.Origin.{Origin}
 use Rattle.cert_value.specs.declared.keywords.Keyword.TheVariants as keyword
-use Rattle.cert_text.specs.declared.forms.Tail.TheVariants as tail
-use Rattle.cert_text.specs.declared.faults.TextKind.TheVariants as kind
+use Rattle.cert_line.specs.declared.shapes.Tail.TheVariants as tail
+use Rattle.cert_line.specs.declared.faults.TextKind.TheVariants as kind
 use Rattle.cert_text.specs.declared.parts.Step.{Step}
 use Rattle.cert_text.specs.declared.parts.Step.TheVariants.{More, Whole}
 use Rattle.cert_text.specs.declared.parts.Closed.{Closed}
@@ -27,14 +27,14 @@ use Rattle.cert_value.specs.declared.types.Row.{Row}
 use Rattle.cert_value.specs.declared.types.RankRow.{RankRow}
 use Rattle.cert_value.specs.declared.types.Element.{Element}
 use Rattle.cert_value.specs.declared.types.StepLine.{StepLine}
-use Rattle.cert_text.specs.declared.lines.Sizes.{Sizes}
-use Rattle.cert_text.specs.declared.lines.Heading.{Heading}
-use Rattle.cert_text.specs.declared.heads.FirstHead.{FirstHead}
-use Rattle.cert_text.specs.declared.heads.FirstHead.TheVariants as first_head
-use Rattle.cert_text.specs.declared.heads.SecondHead.{SecondHead}
-use Rattle.cert_text.specs.declared.heads.SecondHead.TheVariants as second_head
-use Rattle.cert_text.specs.declared.heads.Way.{Way}
-use Rattle.cert_text.specs.declared.heads.Way.TheVariants as way
+use Rattle.cert_line.specs.declared.lines.Sizes.{Sizes}
+use Rattle.cert_line.specs.declared.lines.Heading.{Heading}
+use Rattle.cert_line.specs.declared.heads.FirstHead.{FirstHead}
+use Rattle.cert_line.specs.declared.heads.FirstHead.TheVariants as first_head
+use Rattle.cert_line.specs.declared.heads.SecondHead.{SecondHead}
+use Rattle.cert_line.specs.declared.heads.SecondHead.TheVariants as second_head
+use Rattle.cert_line.specs.declared.heads.Way.{Way}
+use Rattle.cert_line.specs.declared.heads.Way.TheVariants as way
 use Rattle.cert_text.specs.declared.blocks.BlockState.{BlockState}
 use Rattle.cert_text.specs.declared.blocks.BlockState.TheVariants as block
 use Rattle.cert_text.specs.declared.blocks.RankState.{RankState}
@@ -58,7 +58,7 @@ use Rattle.cert_text.specs.declared.machine.State.{State}
 use Rattle.cert_text.specs.declared.machine.State.TheVariants as state
 use Rattle.cert_value.specs.Text.{Line}
 use Rattle.cert_value.specs.WellFormed.{blocks_due, is_live, key_before}
-use Rattle.cert_text.specs.Lines.{Said, word_in, number_in, numbers_in, ascending_in, sizes_in, heading_in, row_in, rank_row_in, gone_by_in, first_head_in, second_head_in, origin_in, element_in, step_in}
+use Rattle.cert_line.specs.Lines.{Said, word_in, number_in, numbers_in, ascending_in, sizes_in, heading_in, row_in, rank_row_in, gone_by_in, first_head_in, second_head_in, origin_in, element_in, step_in}
 use Rattle.cert_text.specs.Grammar.{ReadOutcome, Stopped, finish, yes_of, list_of, cert_of}
 
 -- What comes of what is said.
@@ -79,7 +79,7 @@ step_block v (block.Count) line = map_said (λ n. rows_due [] 0 n) (number_in ke
 step_block v (block.Row rows bound later) line =
     map_said (λ row. rows_due (rows ++ row ∷ []) (row.left + 1) later) (row_in v bound line)
 
--- The left number and the labels of the last row, if there is one.
+-- The left number and the word of the last row, if there is one.
 abbrev pub last_key : List RankRow → List ℕ
 last_key rows = key_before (slice_get rows (length rows - 1))
 
@@ -246,6 +246,7 @@ unfoldable pub with_first_log : Opening → Step FirstLog (List FirstStep) → S
 with_first_log o (More at) = state.First o at
 with_first_log o (Whole firsts) = state.Second o firsts second_log.Count
 
+-- The evidence behind the logs. A no has no logs, and so none comes here.
 unfoldable pub evidence_due : Opening → List FirstStep → List SecondStep → State
 evidence_due o firsts seconds = elim o.form [
   | form.Yes ↦ state.Yes o firsts seconds (yes_state.Order block.Count)

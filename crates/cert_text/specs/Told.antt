@@ -2,8 +2,8 @@
 use Rattle.std.specs.Prelude.{◌≡◌, ℕ, Result, Ok, Err}
 use Rattle.cert_text.specs.declared.faults.CertReadFault.{CertReadFault}
 use Rattle.cert_text.specs.declared.faults.CertReadFault.TheVariants.{Text, Memory}
-use Rattle.cert_text.specs.declared.faults.LineFault.{LineFault}
-use Rattle.cert_text.specs.declared.faults.LineFault.TheVariants as line_fault
+use Rattle.cert_line.specs.declared.faults.LineFault.{LineFault}
+use Rattle.cert_line.specs.declared.faults.LineFault.TheVariants as line_fault
 use Rattle.cert_text.specs.declared.faults.TextFault.{TextFault}
 
 -- It gives what the text is, or want of memory.

@@ -2,13 +2,12 @@
 
 ghost use Rattle.std.specs.Prelude.{◌≡◌, ◌+◌, ◌∷◌, [], ◌++◌, drop};
 ghost use Rattle.cert_value.specs.Tokens.{tokens_of};
-ghost use Rattle.cert_text.specs.Agrees.{Agrees};
+ghost use Rattle.cert_line.specs.Agrees.{Agrees};
 ghost use Rattle.cert_text.specs.Machine.{rows_due, rank_rows_due, step_block, step_ranks};
 
-use crate::faults::LineFault;
-use crate::lines::{number_in, rank_row_in, row_in};
 use crate::parts::{Step, pushed};
 use auto_core::List;
+use cert_line::{LineFault, number_in, rank_row_in, row_in};
 use cert_value::{Keyword, RankBlock, RankRow, RelBlock, Row};
 use std::alloc::Global;
 

@@ -2,18 +2,15 @@
 
 ghost use Rattle.std.specs.Prelude.{◌≡◌, ◌+◌, ◌∷◌, [], ◌++◌, drop};
 ghost use Rattle.cert_value.specs.Tokens.{tokens_of};
-ghost use Rattle.cert_text.specs.Lines.{step_in};
+ghost use Rattle.cert_line.specs.Lines.{step_in};
 ghost use Rattle.cert_text.specs.declared.evidence.YesState.TheVariants as yes_state;
-ghost use Rattle.cert_text.specs.Agrees.{Agrees};
+ghost use Rattle.cert_line.specs.Agrees.{Agrees};
 ghost use Rattle.cert_text.specs.Machine.{elements_left, live_from, step_or_whole, steps_left, with_order, step_yes, origins_left, step_list, step_no, step_block, map_said};
 
 use crate::blocks::{BlockState, step_block};
-use crate::faults::LineFault;
-use crate::forms::Tail;
-use crate::lines::{number_in, numbers_in, step_in};
-use crate::origins::{element_in, origin_in};
 use crate::parts::{Closed, Limited, Step, pushed};
 use auto_core::{Lasso, List, Mode, Origin};
+use cert_line::{LineFault, Tail, element_in, number_in, numbers_in, origin_in, step_in};
 use cert_value::{Body, Element, Keyword, RelBlock, StepLine, is_live};
 use std::alloc::Global;
 

@@ -2,16 +2,13 @@
 
 ghost use Rattle.std.specs.Prelude.{◌≡◌, ◌+◌, ◌∷◌, [], ◌++◌, drop};
 ghost use Rattle.cert_value.specs.Tokens.{tokens_of};
-ghost use Rattle.cert_text.specs.Agrees.{Agrees};
+ghost use Rattle.cert_line.specs.Agrees.{Agrees};
 ghost use Rattle.cert_text.specs.Machine.{blocks_left, with_block, first_started, step_first, first_left, with_first, step_first_log, step_block, map_said};
 
 use crate::blocks::{BlockState, step_block};
-use crate::faults::LineFault;
-use crate::forms::Tail;
-use crate::heads::{FirstHead, first_head_in};
-use crate::lines::{gone_by_in, number_in, numbers_in};
 use crate::parts::{Step, pushed};
 use auto_core::List;
+use cert_line::{FirstHead, LineFault, Tail, first_head_in, gone_by_in, number_in, numbers_in};
 use cert_value::{FirstStep, GoneBy, Keyword, RelBlock, blocks_due};
 use std::alloc::Global;
 

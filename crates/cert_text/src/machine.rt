@@ -2,17 +2,16 @@
 
 ghost use Rattle.std.specs.Prelude.{◌≡◌, ◌+◌, ◌∷◌, [], ◌++◌, drop};
 ghost use Rattle.cert_value.specs.Tokens.{tokens_of};
-ghost use Rattle.cert_text.specs.Agrees.{Agrees};
+ghost use Rattle.cert_line.specs.Agrees.{Agrees};
 ghost use Rattle.cert_text.specs.Machine.{whole, begun, with_no, with_first_log, evidence_due, with_second_log, with_yes, with_list, step, step_no, step_first_log, step_second_log, step_yes, step_list, map_said};
 
 use crate::blocks::BlockState;
 use crate::evidence::{ListState, NoState, YesState, step_list, step_no, step_yes};
-use crate::faults::{LineFault, TextKind};
 use crate::first_log::{FirstLog, step_first_log};
-use crate::lines::{Heading, Sizes, heading_in, sizes_in, word_in};
 use crate::parts::Step;
 use crate::second_log::{SecondLog, step_second_log};
 use auto_core::{List, Mode};
+use cert_line::{Heading, LineFault, Sizes, TextKind, heading_in, sizes_in, word_in};
 use cert_value::{Body, Cert, FirstStep, Form, Keyword, ListBody, SecondStep, YesBody};
 use std::alloc::Global;
 

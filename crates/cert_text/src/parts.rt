@@ -1,10 +1,10 @@
 //! What a reader has read of a certificate's parts.
 
 ghost use Rattle.std.specs.Prelude.{◌≡◌, ◌∷◌, [], ◌++◌, MatchResult};
-ghost use Rattle.cert_text.specs.declared.faults.LineFault.TheVariants as fault;
+ghost use Rattle.cert_line.specs.declared.faults.LineFault.TheVariants as fault;
 
-use crate::faults::LineFault;
 use auto_core::{List, Memory, Origin};
+use cert_line::LineFault;
 use cert_value::{Element, RelBlock, StepLine};
 
 /// What comes of a line: there is more to read, or the part is whole.

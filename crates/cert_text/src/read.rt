@@ -2,7 +2,8 @@
 
 ghost use Rattle.std.specs.Prelude.{◌≡◌, ◌==◌, ◌≤◌, ◌^◌, ◌∷◌, [], ℕ, length, position, ◌<◌, ◌⊎◌, Ok, Err, MatchOption, IfSome, IfOk};
 ghost use Rattle.cert_value.specs.Tokens.{tokens_of};
-ghost use Rattle.cert_text.specs.Grammar.{lines_of, reading, told_at};
+ghost use Rattle.text_lines.specs.Cut.{IsUnfinished, IsCut};
+ghost use Rattle.cert_text.specs.Grammar.{lines_of, told_at};
 ghost use Rattle.cert_text.specs.Told.{Told, located};
 ghost use Rattle.cert_text.specs.Machine.{done_cert, at_end};
 ghost use Rattle.cert_text.specs.Law.{FirstFault};
@@ -12,29 +13,23 @@ ghost use Rattle.cert_value.specs.declared.types.Cert.{Cert};
 ghost use Rattle.cert_text.specs.declared.faults.TextFault.{TextFault};
 ghost use Rattle.cert_text.specs.declared.faults.CertReadFault.TheVariants as fault;
 
-use crate::faults::{CertReadFault, LineFault, TextFault, TextKind};
-use crate::machine::{State, next_state};
+use crate::faults::{CertReadFault, TextFault};
+use crate::machine::State;
+use crate::pieces::CertReader;
+use cert_line::{LineFault, TextKind};
 use cert_value::Cert;
 use std::alloc::Global;
-
-/// Where the first LF stands.
-fn newline_at(bytes: &[u8]) -> Option<usize>
-    ensures { result ≡ position (λ b. b == 10) bytes.now }
-{
-    bytes.iter().position(|byte| *byte == b'\n')
-}
+use text_lines::split_line;
 
 /// The first line, without its LF, and what follows it.
 pub fn first_line(bytes: &[u8]) -> Option<(&[u8], &[u8])>
     ensures cut { MatchOption result
         (lines_of bytes.now ≡ tokens_of bytes.now ∷ [])
         (λ cut. lines_of bytes.now ≡ tokens_of cut.0.now ∷ lines_of cut.1.now) }
+    ensures ends { MatchOption result (IsUnfinished bytes.now) (λ cut. IsCut bytes.now cut.0.now cut.1.now) }
     ensures shorter { IfSome result (λ cut. length cut.1.now < length bytes.now) }
 {
-    match newline_at(bytes) {
-        None => None,
-        Some(at) => Some((&bytes[..at], &bytes[at + 1..])),
-    }
+    split_line(bytes)
 }
 
 /// The fault, at the line with this number.
@@ -58,7 +53,7 @@ fn done_cert(state: State) -> Option<Cert>
 }
 
 /// What comes of the bytes after the last LF.
-fn at_end(state: State, rest: &[u8], line: u32) -> Result<Cert, CertReadFault>
+pub(crate) fn at_end(state: State, rest: &[u8], line: u32) -> Result<Cert, CertReadFault>
     ensures { Told (told_at line (at_end state (tokens_of rest.now))) result }
 {
     match done_cert(state) {
@@ -79,25 +74,6 @@ fn at_end(state: State, rest: &[u8], line: u32) -> Result<Cert, CertReadFault>
     }
 }
 
-/// What the bytes are, read line by line.
-fn read_text(alloc: Global, bytes: &[u8]) -> Result<Cert, CertReadFault>
-    requires { length bytes.now ≤ 2 ^ 30 }
-    ensures reading { Told (reading bytes.now) result }
-{
-    let mut state = State::Heading;
-    let mut rest = bytes;
-    let mut line = 1u32;
-    while let Some((text, left)) = first_line(rest) {
-        match next_state(alloc, state, text) {
-            Ok(next) => state = next,
-            Err(fault) => return Err(located(fault, line)),
-        }
-        rest = left;
-        line += 1;
-    }
-    at_end(state, rest, line)
-}
-
 /// Reads a certificate's text, of at most 1 GiB. It takes no memory for lines that have not come.
 pub fn read_cert(alloc: Global, bytes: &[u8]) -> Result<Cert, CertReadFault>
     requires { length bytes.now ≤ 2 ^ 30 }
@@ -111,5 +87,9 @@ pub fn read_cert(alloc: Global, bytes: &[u8]) -> Result<Cert, CertReadFault>
         → FirstFault bytes.now f
         → (result ≡ Err (fault.Text f)) ⊎ (result ≡ Err fault.Memory) }
 {
-    read_text(alloc, bytes)
+    let mut reader = CertReader::new(alloc)?;
+    match reader.feed(bytes) {
+        Ok(()) => reader.finish(),
+        Err(_refused) => Err(CertReadFault::Memory),
+    }
 }

@@ -2,16 +2,15 @@
 
 ghost use Rattle.std.specs.Prelude.{◌≡◌, ◌+◌, ◌∷◌, [], ◌++◌, drop};
 ghost use Rattle.cert_value.specs.Tokens.{tokens_of};
-ghost use Rattle.cert_text.specs.Agrees.{Agrees};
+ghost use Rattle.cert_line.specs.Agrees.{Agrees};
 ghost use Rattle.cert_text.specs.Machine.{rel_due, with_forward, with_backward, with_delayed, second_started, step_second, second_left, with_second, step_second_log, step_block, step_ranks, map_said};
 
 use crate::blocks::{BlockState, RankState, step_block, step_ranks};
-use crate::faults::LineFault;
-use crate::forms::Tail;
-use crate::heads::{SecondHead, Way, second_head_in};
-use crate::lines::{ascending_in, number_in, numbers_in};
 use crate::parts::{Step, pushed};
 use auto_core::{List, Mode};
+use cert_line::{
+    LineFault, SecondHead, Tail, Way, ascending_in, number_in, numbers_in, second_head_in,
+};
 use cert_value::{Grounds, Keyword, SecondStep};
 use std::alloc::Global;
 

@@ -6,6 +6,7 @@ ghost use Rattle.cert_value.specs.WellFormed.{upgraded};
 ghost use Rattle.cert_value.specs.Text.{spelled, text_of, line_text, text, first_lines, second_lines, yes_lines, list_lines, body_lines, first_line, closed_lines, limit_lines, form_of, version_word, mode_word, form_word};
 
 use auto_core::{List, Memory, Mode, Origin};
+use cert_line::{form_word, mode_word, version_word};
 use cert_value::{
     Body, Cert, Element, FirstStep, Form, Keyword, ListBody, Print, SecondStep, StepLine, YesBody,
     print_all, print_count, print_keyword, print_line,
@@ -103,38 +104,6 @@ fn print_body(out: &mut List<u8>, body: &Body, version: u32) -> Result<(), Memor
         Body::Listing(list) => print_listing(out, list, version)?,
     }
     Ok(())
-}
-
-/// The version's word in the first line.
-pub(crate) fn version_word(version: u32) -> Keyword
-    ensures { result ≡ version_word version }
-{
-    if version == 2 {
-        Keyword::Two
-    } else {
-        Keyword::One
-    }
-}
-
-/// The mode's word in the first line.
-pub(crate) fn mode_word(mode: Mode) -> Keyword
-    ensures { result ≡ mode_word mode }
-{
-    match mode {
-        Mode::Buchi => Keyword::Buchi,
-        Mode::Finite => Keyword::Finite,
-    }
-}
-
-/// The form's word in the first line.
-pub(crate) fn form_word(form: Form) -> Keyword
-    ensures { result ≡ form_word form }
-{
-    match form {
-        Form::Yes => Keyword::Yes,
-        Form::No => Keyword::No,
-        Form::List => Keyword::List,
-    }
 }
 
 /// Writes the words before the mode in the first line.

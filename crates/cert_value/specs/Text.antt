@@ -133,7 +133,7 @@ block_lines v block = (spelled keyword.Rel ∷ decimal (length block.rows) ∷ [
 abbrev pub ranked_numbers : List Ranked → List ℕ
 ranked_numbers pairs = in_pairs (λ pair. pair.right) (λ pair. pair.code) pairs
 
--- A row of a relation with ranks: its left number, the announced labels, and the right numbers with their codes.
+-- A row of a relation with ranks: its left number, its word, and the right numbers with their codes.
 abbrev pub rank_row_lines : RankRow → List Line
 rank_row_lines row =
     (spelled keyword.Row ∷ decimal row.left ∷ numbers (row.ahead ++ ranked_numbers row.rights)) ∷ []
@@ -268,8 +268,8 @@ version_word v = if v == 2 then keyword.Two else keyword.One
 
 -- The first line.
 abbrev pub first_line : ℕ → Mode → Form → Line
-first_line v m a =
-    spelled keyword.RabitCert ∷ spelled (version_word v) ∷ spelled (mode_word m) ∷ spelled (form_word a) ∷ []
+first_line v m f =
+    spelled keyword.RabitCert ∷ spelled (version_word v) ∷ spelled (mode_word m) ∷ spelled (form_word f) ∷ []
 
 -- The line of sizes: the states of the read first automaton, of the read second one, and the joined labels.
 abbrev pub sizes_line : ℕ → ℕ → ℕ → Line

@@ -81,7 +81,7 @@ are_rows bound (row ∷ rows) = is_row bound row && are_rows (row.left + 1) rows
 abbrev pub is_block : RelBlock → Bool
 is_block block = is_short (length block.rows) && are_rows 0 block.rows
 
--- The right numbers of ranked pairs.
+-- The right numbers of a row with ranks.
 abbrev pub rights_of : List Ranked → List ℕ
 rights_of pairs = map (λ p. p.right) pairs
 
@@ -89,7 +89,7 @@ rights_of pairs = map (λ p. p.right) pairs
 abbrev pub is_ranked : Ranked → Bool
 is_ranked pair = is_short pair.right && is_short pair.code
 
--- The left number of a row and its announced labels.
+-- The left number of a row, and its word.
 abbrev pub rank_key : RankRow → List ℕ
 rank_key row = row.left ∷ row.ahead
 
@@ -102,7 +102,7 @@ key_before (Some row) = rank_key row
 abbrev pub is_less : List ℕ → List ℕ → Bool
 is_less ns ms = is_lt (slice_cmp nat_cmp ns ms)
 
--- A row of a relation with ranks for so many announced letters, with its left number and labels past the key.
+-- A row of a relation with ranks for so many announced letters, with its left number and word past the key.
 abbrev pub is_rank_row : ℕ → List ℕ → RankRow → Bool
 is_rank_row letters key row =
     is_short row.left
@@ -110,7 +110,7 @@ is_rank_row letters key row =
     && (list_all is_ranked row.rights
     && (has_some row.rights && (ascend (rights_of row.rights) && is_less key (rank_key row)))))
 
--- Such rows, whose left numbers and labels ascend in lexicographic order past the key.
+-- Such rows, whose left numbers and words ascend in lexicographic order past the key.
 abbrev pub are_rank_rows : ℕ → List ℕ → List RankRow → Bool
 are_rank_rows letters key [] = true
 are_rank_rows letters key (row ∷ rows) = is_rank_row letters key row && are_rank_rows letters (rank_key row) rows

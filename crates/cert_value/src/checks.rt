@@ -172,7 +172,7 @@ fn is_less(one: &[u32], other: &[u32]) -> bool
     one.cmp(other).is_lt()
 }
 
-/// Whether the row's left number and labels exceed those of the row before.
+/// Whether the row's left number and word exceed those of the row before.
 fn exceeds(before: &RankRow, row: &RankRow) -> bool
     ensures { result ≡ is_less (rank_key before.now) (rank_key row.now) }
 {
@@ -183,7 +183,7 @@ fn exceeds(before: &RankRow, row: &RankRow) -> bool
     }
 }
 
-/// Whether the row's left number and labels exceed those of the row before, if there is one.
+/// Whether the row's left number and word exceed those of the row before, if there is one.
 pub fn exceeds_last(before: Option<&RankRow>, row: &RankRow) -> bool
     ensures { result ≡ is_less (key_before (option_copied before.entry)) (rank_key row.now) }
 {
@@ -193,14 +193,14 @@ pub fn exceeds_last(before: Option<&RankRow>, row: &RankRow) -> bool
     }
 }
 
-/// Whether the announced labels are so many as there are letters but one.
+/// Whether these are short numbers, one fewer than letters are announced: a word.
 fn is_ahead(letters: u32, ahead: &[u32]) -> bool
     ensures { result ≡ (are_short ahead.now && (length ahead.now == letters - 1)) }
 {
     are_short(ahead) && ahead.len() == letters.saturating_sub(1) as usize
 }
 
-/// Whether the row with ranks is one for so many announced letters, past the row before, if there is one.
+/// Whether the row with ranks is one for so many announced letters, its left number and word past those of the row before, if there is one.
 fn is_rank_row(letters: u32, before: Option<&RankRow>, row: &RankRow) -> bool
     ensures { result ≡ is_rank_row letters (key_before (option_copied before.entry)) row.now }
 {
@@ -213,7 +213,7 @@ fn is_rank_row(letters: u32, before: Option<&RankRow>, row: &RankRow) -> bool
         && exceeds_last(before, row)
 }
 
-/// Whether the rows with ranks are, their left numbers and labels ascending.
+/// Whether the rows with ranks are, their left numbers and words ascending.
 fn are_rank_rows(letters: u32, rows: &[RankRow]) -> bool
     ensures { result ≡ are_rank_rows letters [] rows.now }
 {

@@ -184,16 +184,16 @@ pub struct Run {
 /// A relation with ranks: exactly the triples that it lists.
 #[derive(Debug, Drop)]
 pub struct RankBlock {
-    /// A row for each left number and announced word that have a right number, ascending.
+    /// A row for each left number and word that have a right number, ascending.
     pub rows: List<RankRow>,
 }
 
-/// The pairs of one left number and one announced word, with their ranks.
+/// The triples of one left number and one word, with their ranks.
 #[derive(Debug, Drop)]
 pub struct RankRow {
     /// The left number.
     pub left: u32,
-    /// The announced labels, one fewer than the letters.
+    /// The word: one label fewer than letters are announced.
     pub ahead: List<u32>,
     /// The right numbers, ascending, each with its code.
     pub rights: List<Ranked>,
@@ -204,7 +204,7 @@ pub struct RankRow {
 pub struct Ranked {
     /// The right number.
     pub right: u32,
-    /// 0 for a pair without a rank, and otherwise the rank plus 1.
+    /// 0 for a triple without a rank, and otherwise the rank plus 1.
     pub code: u32,
 }
 

@@ -10,7 +10,7 @@ use Rattle.std.proofs.lemmas.Bool.{and_parts, false≢true}
 use Rattle.cert_value.specs.declared.types.RelBlock.{RelBlock}
 use Rattle.cert_value.specs.declared.types.Row.{Row}
 use Rattle.cert_value.specs.WellFormed.{is_short, are_rows}
-use Rattle.cert_text.proofs.NumberFacts.{short_lt}
+use Rattle.cert_line.proofs.NumberFacts.{short_lt}
 use Rattle.log_check.specs.Blocks.{pairs_of}
 use Rattle.log_check.specs.Checks.{RuleCheck, AllHold, rule_at}
 use Rattle.cross_text.specs.declared.types.Cross.{Cross}

@@ -1,7 +1,7 @@
 -- There is a cross relation to be written.
 use Rattle.std.proofs.Common.{◌≡◌, ℕ, zero, suc, ◌+◌, ◌<◌, ◌≤◌, ◌⊎◌, inl, inr, List, [], ◌∷◌, ◌++◌, length, map, refl, subst, arith}
 use Rattle.cert_value.specs.declared.types.Row.{Row}
-use Rattle.cert_text.specs.Lines.{joined_runs}
+use Rattle.cert_line.specs.Lines.{joined_runs}
 use Rattle.greatest_laws.proofs.DecisionLemmas.{decide_held}
 use Rattle.greatest_laws.proofs.GreatestLemmas.{greatest_across_is_there}
 use Rattle.relation_rows.specs.Rows.{HoldsFrom, AreRights, AreRows}

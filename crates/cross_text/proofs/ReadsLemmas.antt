@@ -10,14 +10,14 @@ use Rattle.cert_value.specs.Text.{Line}
 use Rattle.cert_value.specs.WellFormed.{has_some}
 use Rattle.cert_text.specs.declared.faults.CertReadFault.{CertReadFault}
 use Rattle.cert_text.specs.declared.faults.CertReadFault.TheVariants.{Text, Memory}
-use Rattle.cert_text.specs.declared.faults.LineFault.{LineFault}
-use Rattle.cert_text.specs.declared.faults.LineFault.TheVariants as line_fault
-use Rattle.cert_text.specs.declared.faults.TextKind.{TextKind}
-use Rattle.cert_text.specs.declared.faults.TextKind.TheVariants.{Truncated, Trailing}
+use Rattle.cert_line.specs.declared.faults.LineFault.{LineFault}
+use Rattle.cert_line.specs.declared.faults.LineFault.TheVariants as line_fault
+use Rattle.cert_line.specs.declared.faults.TextKind.{TextKind}
+use Rattle.cert_line.specs.declared.faults.TextKind.TheVariants.{Truncated, Trailing}
 use Rattle.cert_text.specs.declared.faults.TextFault.{TextFault}
-use Rattle.cert_text.specs.Agrees.{Agrees}
+use Rattle.cert_line.specs.Agrees.{Agrees}
 use Rattle.cert_text.specs.Told.{Told, located}
-use Rattle.cert_text.specs.Lines.{Said, row_in}
+use Rattle.cert_line.specs.Lines.{Said, row_in}
 use Rattle.cert_text.specs.Grammar.{LinesOutcome, On, Read, Stopped, after, next_line, read_rows, finish, lines_of}
 use Rattle.cert_text.proofs.Forward.{line_fw}
 use Rattle.cert_text.proofs.ReadLemmas.{split_cons, bare_false, line_off, last_off}

@@ -5,20 +5,20 @@ use Rattle.cert_value.specs.declared.keywords.Keyword.TheVariants as keyword
 use Rattle.cert_value.specs.declared.types.RelBlock.{RelBlock}
 use Rattle.cert_value.specs.Text.{Line, sizes_line, block_lines, end_line, text_of, line_text}
 use Rattle.cert_value.specs.WellFormed.{is_short, has_some}
-use Rattle.cert_text.specs.declared.forms.Tail.TheVariants as tail
-use Rattle.cert_text.specs.declared.faults.TextKind.{TextKind}
-use Rattle.cert_text.specs.declared.faults.TextKind.TheVariants as kind
-use Rattle.cert_text.specs.declared.lines.Sizes.{Sizes}
-use Rattle.cert_text.specs.Forms.{line_fault}
-use Rattle.cert_text.specs.Lines.{Said, word_in, number_in, sizes_in}
+use Rattle.cert_line.specs.declared.shapes.Tail.TheVariants as tail
+use Rattle.cert_line.specs.declared.faults.TextKind.{TextKind}
+use Rattle.cert_line.specs.declared.faults.TextKind.TheVariants as kind
+use Rattle.cert_line.specs.declared.lines.Sizes.{Sizes}
+use Rattle.cert_line.specs.Shapes.{line_fault}
+use Rattle.cert_line.specs.Lines.{Said, word_in, number_in, sizes_in}
 use Rattle.cert_text.specs.Grammar.{On, Read, read_end, finish, lines_of}
 use Rattle.cert_value.proofs.TextLemmas.{text_append}
-use Rattle.cert_text.proofs.PairLemmas.{some_cons}
+use Rattle.cert_line.proofs.PairLemmas.{some_cons}
 use Rattle.cert_text.proofs.BytesLines.{PlainLines, lines_text, text_back}
 use Rattle.cert_text.proofs.PlainCert.{word_line, number_then, one_number, two_words, plain_append, plain_block}
-use Rattle.cert_text.proofs.FormFacts.{line_none, line_back, closed_none}
-use Rattle.cert_text.proofs.OriginFacts.{none_from}
-use Rattle.cert_text.proofs.LineFacts.{word_fw, word_bw, number_fw, number_bw, sizes_fw, sizes_bw}
+use Rattle.cert_line.proofs.ShapeFacts.{line_none, line_back, closed_none}
+use Rattle.cert_line.proofs.OriginFacts.{none_from}
+use Rattle.cert_line.proofs.LineFacts.{word_fw, word_bw, number_fw, number_bw, sizes_fw, sizes_bw}
 use Rattle.cert_text.proofs.Forward.{line_fw, some_append, block_fw}
 use Rattle.cert_text.proofs.Backward.{line_bw, block_bw, finish_bw}
 use Rattle.cert_text.proofs.Reading.{read_by, told_inv}

@@ -3,14 +3,14 @@ use Rattle.std.specs.Prelude.{◌≡◌, ℕ, List, [], ◌∷◌, Result, Ok, E
 use Rattle.cert_value.specs.declared.keywords.Keyword.TheVariants as keyword
 use Rattle.cert_value.specs.declared.types.RelBlock.{RelBlock}
 use Rattle.cert_value.specs.Text.{Line}
-use Rattle.cert_text.specs.declared.forms.Place.{Place}
-use Rattle.cert_text.specs.declared.forms.Place.TheVariants.{Word}
-use Rattle.cert_text.specs.declared.forms.Tail.TheVariants as tail
-use Rattle.cert_text.specs.declared.faults.TextKind.TheVariants as kind
+use Rattle.cert_line.specs.declared.shapes.Place.{Place}
+use Rattle.cert_line.specs.declared.shapes.Place.TheVariants.{Word}
+use Rattle.cert_line.specs.declared.shapes.Tail.TheVariants as tail
+use Rattle.cert_line.specs.declared.faults.TextKind.TheVariants as kind
 use Rattle.cert_text.specs.declared.faults.TextFault.{TextFault}
-use Rattle.cert_text.specs.declared.lines.Sizes.{Sizes}
-use Rattle.cert_text.specs.Forms.{line_fault}
-use Rattle.cert_text.specs.Lines.{Said, number_in, sizes_in}
+use Rattle.cert_line.specs.declared.lines.Sizes.{Sizes}
+use Rattle.cert_line.specs.Shapes.{line_fault}
+use Rattle.cert_line.specs.Lines.{Said, number_in, sizes_in}
 use Rattle.cert_text.specs.Grammar.{LinesOutcome, next_line, read_block, read_end, reading_by}
 use Rattle.cross_text.specs.declared.types.Cross.{Cross}
 

@@ -3,7 +3,7 @@ use Rattle.std.specs.Prelude.{◌≡◌, ℕ, ◌+◌, List, [], ◌∷◌, leng
 use Rattle.cert_value.specs.Text.{Line}
 use Rattle.cert_text.specs.declared.faults.CertReadFault.{CertReadFault}
 use Rattle.cert_text.specs.declared.faults.CertReadFault.TheVariants.{Text, Memory}
-use Rattle.cert_text.specs.declared.faults.TextKind.TheVariants.{Truncated}
+use Rattle.cert_line.specs.declared.faults.TextKind.TheVariants.{Truncated}
 use Rattle.cert_value.specs.WellFormed.{has_some}
 use Rattle.cert_text.specs.Grammar.{LinesOutcome, On, Read, Stopped, finish}
 use Rattle.cross_text.specs.declared.types.Cross.{Cross}

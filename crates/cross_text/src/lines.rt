@@ -5,17 +5,17 @@ ghost use Rattle.cert_value.specs.Tokens.{tokens_of};
 ghost use Rattle.cert_value.specs.Text.{Line};
 ghost use Rattle.cert_value.specs.WellFormed.{has_some};
 ghost use Rattle.cert_value.specs.declared.keywords.Keyword.TheVariants as keyword;
-ghost use Rattle.cert_text.specs.Agrees.{Agrees};
+ghost use Rattle.cert_line.specs.Agrees.{Agrees};
 ghost use Rattle.cert_text.specs.Grammar.{lines_of, next_line, read_rows, read_block};
-ghost use Rattle.cert_text.specs.Lines.{word_in, number_in, sizes_in, row_in};
+ghost use Rattle.cert_line.specs.Lines.{word_in, number_in, sizes_in, row_in};
 ghost use Rattle.cross_text.specs.Grammar.{cross_heading_in};
 ghost use Rattle.cross_text.specs.Reads.{Left, past, ReadsOn, TakesLineOff, RunsOut, Ends};
 
 use auto_core::List;
-use cert_text::{
-    CertReadFault, LineFault, Place, Sizes, Tail, TextFault, TextKind, first_line, line_fault,
-    located, number_in, row_in, sizes_in, word_in,
+use cert_line::{
+    LineFault, Place, Sizes, Tail, TextKind, line_fault, number_in, row_in, sizes_in, word_in,
 };
+use cert_text::{CertReadFault, TextFault, first_line, located};
 use cert_value::{Keyword, Row};
 use std::alloc::Global;
 use std::marker::Model;

@@ -1,33 +1,33 @@
 -- There is one block of a relation, and one of a relation with ranks.
-use Rattle.std.proofs.Common.{◌≡◌, ℕ, zero, suc, ◌-◌, ◌<◌, true, List, [], ◌∷◌, ◌++◌, length, map, refl, sym, ap, ◌∙◌, subst, arith, length-append}
+use Rattle.std.proofs.Common.{◌≡◌, ℕ, zero, suc, ◌<◌, true, List, [], ◌∷◌, ◌++◌, length, map, refl, sym, ap, ◌∙◌, subst, arith, length-append}
 use Rattle.std.specs.List.{flat_map}
 use Rattle.std.proofs.lemmas.Bool.{and_parts}
 use Rattle.std.proofs.lemmas.List.{length-map}
 use Rattle.std.proofs.lemmas.Option.{same_Some, none-some}
-use Rattle.auto_core.specs.Delayed.{RankedTriples}
+use Rattle.auto_core.specs.Delayed.{RankedTriples, rank_in_code}
 use Rattle.cert_value.specs.declared.types.RelBlock.{RelBlock}
 use Rattle.cert_value.specs.declared.types.RankBlock.{RankBlock}
 use Rattle.cert_value.specs.declared.types.RankRow.{RankRow}
 use Rattle.cert_value.specs.declared.types.Ranked.{Ranked}
 use Rattle.cert_value.specs.WellFormed.{is_short, are_rows, rank_key, is_less, is_rank_row, are_rank_rows}
 use Rattle.delayed_sim.specs.Rankings.{Triple, row_key}
-use Rattle.log_check.specs.Blocks.{rank_in_code, triples_of_row}
+use Rattle.log_check.specs.Blocks.{triples_of_row}
 use Rattle.decide.specs.Written.{IsBlockOfPairs, IsRankBlockOf}
 use Rattle.relation_rows.proofs.SameRowsLemmas.{same_rows}
-use Rattle.decide.proofs.RankRowLemmas.{first_one, rest_one, not_less_itself, later_code, in_triple, some_ranked}
+use Rattle.decide.proofs.RankRowLemmas.{first_one, rest_one, not_less_itself, in_triple, some_ranked}
 
 pub one_block : (S : List (ℕ × ℕ)) (b c : RelBlock) → IsBlockOfPairs S b → IsBlockOfPairs S c → b ≡ c
 one_block S b c p q =
     ap (λ rows. record { rows = rows })
     (same_rows 0 0 b.rows c.rows (and_parts (is_short (length b.rows)) (are_rows 0 b.rows) p.formed).1 (and_parts (is_short (length c.rows)) (are_rows 0 c.rows) q.formed).1 (p.pairs ∙ sym q.pairs))
 
--- ---- blocks with ranks: of rows behind which the left states and letters are greater, the first triples are the same
+-- ---- blocks with ranks: of rows behind which the left states and words are greater, the first triples are the same
 
 same_code : (a b : ℕ) → rank_in_code a ≡ rank_in_code b → a ≡ b
 same_code zero zero e = refl
-same_code zero (suc b) e = absurd (none-some (suc b - 1) (e ∙ later_code b))
-same_code (suc a) zero e = absurd (none-some (suc a - 1) (sym e ∙ later_code a))
-same_code (suc a) (suc b) e = let f = same_Some (suc a - 1) (suc b - 1) (sym (later_code a) ∙ e ∙ later_code b) in omega arith
+same_code zero (suc b) e = absurd (none-some b e)
+same_code (suc a) zero e = absurd (none-some a (sym e))
+same_code (suc a) (suc b) e = ap suc (same_Some a b e)
 
 ranked_one : (left other : ℕ) (ahead letters : List ℕ) (r s : Ranked) → in_triple left ahead r ≡ in_triple other letters s → r ≡ s
 ranked_one left other ahead letters r s e =
@@ -52,7 +52,7 @@ first_triple letters key (row ∷ rows) z zs h e =
         let parts = some_ranked letters key row (and_parts (is_rank_row letters key row) (are_rank_rows letters (rank_key row) rows) h).0 in
         subst (λ y. is_less key (row_key y) ≡ true) first parts.1
 
--- Where the triples of two rows with one left state and letters, with those of the rows behind, are the same, so are the right states,
+-- Where the triples of two rows with one left state and word, with those of the rows behind, are the same, so are the right states,
 -- and so is what is left.
 same_fronts :
     (letters left : ℕ) (ahead : List ℕ) (xs ys : List Ranked) (rs ss : List RankRow)
@@ -72,7 +72,7 @@ same_fronts letters left ahead (x ∷ xs) (y ∷ ys) rs ss a b e =
     let rest = same_fronts letters left ahead xs ys rs ss a b (rest_one (in_triple left ahead x) (in_triple left ahead y) firsts seconds e) in
     ((λ i. first i ∷ rest.0 i), rest.1)
 
--- Rows with the same triples have the same first left state and letters.
+-- Rows with the same triples have the same first left state and word.
 same_first :
     (letters : ℕ) (key other : List ℕ) (r s : RankRow) (rs ss : List RankRow)
     → is_rank_row letters key r ≡ true

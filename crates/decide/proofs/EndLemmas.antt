@@ -6,7 +6,7 @@ use Rattle.std.proofs.lemmas.Bool.{and_from}
 use Rattle.auto_core.specs.Automaton.{Automaton, IsAutomaton}
 use Rattle.auto_core.specs.Accept.{Same}
 use Rattle.auto_core.specs.Game.{IsGreatestForward, IsGreatestBackward}
-use Rattle.auto_core.specs.Pruning.{look_back, look_ahead}
+use Rattle.auto_core.specs.Pruning.{look_backward, look_forward}
 use Rattle.auto_core.specs.declared.parts.Mode.{Mode}
 use Rattle.bit_rel.specs.Relation.{Relation}
 use Rattle.ba_format.specs.declared.parts.Joined.{Joined}
@@ -75,8 +75,8 @@ entry_few A m sight Backward entry few labels (rel, classes, e, is) = subst IsSt
 entry_few A m sight Delayed entry few labels (ranks, classes, e, is) = subst IsStepOnFew (sym e)
     (ranks_are_few A sight.letters ranks few labels is.valid is.on_states is.on_labels is.announced is.greatest)
 entry_few A m sight (Prune n) entry few labels (gone, back, ahead, e, is) = subst IsStepOnFew (sym e) (
-  given_few A (IsGreatestBackward A (look_back n sight.look)) (¬ (n ≡ 1)) back few is.is_back,
-  given_few A (IsGreatestForward A (look_ahead n sight.look)) (¬ (n ≡ 2)) ahead few is.is_ahead,
+  given_few A (IsGreatestBackward A (look_backward n sight.look)) (¬ (n ≡ 1)) back few is.is_back,
+  given_few A (IsGreatestForward A (look_forward n sight.look)) (¬ (n ≡ 2)) ahead few is.is_ahead,
 )
 
 -- So does each step of its log.
@@ -94,7 +94,7 @@ written_logs_lead pair terms at one two some low ends = record {
   second = log_follows_second pair.second at.second terms.mode (sight_of terms) ends.second_steps at.second_log (1 + length at.first_log) two some low ends.second_reduced ends.second_written;
 }
 
--- The announced letters fit the version.
+-- The letters asked for fit the version.
 announced : (terms : Terms) → AreBounded terms → AreLettersFor terms.version terms.letters
 announced terms bounds = (bounds.letters_from, bounds.letters_upto, bounds.versioned)
 

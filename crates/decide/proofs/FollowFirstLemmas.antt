@@ -6,7 +6,7 @@ use Rattle.std.proofs.lemmas.List.Elements.{All-nil, All-cons, All-map, All-weak
 use Rattle.auto_core.specs.Automaton.{Automaton, IsAutomaton, trans_at}
 use Rattle.auto_core.specs.Delayed.{letters_for}
 use Rattle.auto_core.specs.Game.{Close, Holds, ArePairsBelow, IsGreatestForward, IsGreatestBackward, StableForward, StableBackward}
-use Rattle.auto_core.specs.Pruning.{AtSource, AtTarget, IsCut, look_back, look_ahead}
+use Rattle.auto_core.specs.Pruning.{AtSource, AtTarget, IsCut, look_backward, look_forward}
 use Rattle.auto_core.specs.Quotient.{IsQuotient}
 use Rattle.auto_core.specs.declared.parts.Mode.{Mode}
 use Rattle.bit_rel.specs.Relation.{Relation}
@@ -184,8 +184,8 @@ module _ (A : Automaton) (n : ℕ) (back ahead : Option Relation) (blocks : List
 
   cut_stable : (k : ℕ) → IsBackOf A n k back → IsAheadOf A n k ahead → AreStable A n k blocks
   cut_stable k is_back is_ahead = (
-    λ wanted. subst (StableBackward A (look_back n k)) (sym are.back_is) (back_greatest A n k back is_back wanted).stable,
-    λ wanted. subst (StableForward A (look_ahead n k)) (sym are.ahead_is) (ahead_greatest A n k ahead is_ahead wanted).stable,
+    λ wanted. subst (StableBackward A (look_backward n k)) (sym are.back_is) (back_greatest A n k back is_back wanted).stable,
+    λ wanted. subst (StableForward A (look_forward n k)) (sym are.ahead_is) (ahead_greatest A n k ahead is_ahead wanted).stable,
   )
 
 -- The numbers of what is gone, as they are written.

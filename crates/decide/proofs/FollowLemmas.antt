@@ -5,9 +5,9 @@ use Rattle.std.proofs.lemmas.Bool.{and_parts}
 use Rattle.std.proofs.lemmas.List.{append-nil}
 use Rattle.std.proofs.lemmas.List.Elements.{All-nil, All-cons, All-contains, All-from_recursion, Contains-get_or, Contains-append_left, Contains-append_right}
 use Rattle.auto_core.specs.Automaton.{Automaton, IsAutomaton, trans_at}
-use Rattle.auto_core.specs.Delayed.{RankedTriples, HoldsTriple, AreAnnounced, AreTriplesOf, AreStateRelated}
+use Rattle.auto_core.specs.Delayed.{RankedTriples, HoldsTriple, IsTripleWord, AreTriplesOf, AreStateRelated, rank_in_code}
 use Rattle.auto_core.specs.Game.{Close, Holds, ArePairsBelow, IsGreatest, IsGreatestForward, IsGreatestBackward}
-use Rattle.auto_core.specs.Pruning.{AtSource, AtTarget, HasBetter, IsCut, IsPruned, look_back, look_ahead}
+use Rattle.auto_core.specs.Pruning.{AtSource, AtTarget, HasBetter, IsCut, IsPruned, look_backward, look_forward}
 use Rattle.auto_core.specs.Quotient.{IsQuotient}
 use Rattle.auto_core.specs.Useful.{IsKeptPart, IsTrimmed}
 use Rattle.auto_core.specs.declared.parts.Mode.{Mode}
@@ -33,7 +33,7 @@ use Rattle.cert_value.specs.declared.types.RankBlock.{RankBlock}
 use Rattle.cert_value.specs.declared.types.RankRow.{RankRow}
 use Rattle.cert_value.specs.declared.types.Ranked.{Ranked}
 use Rattle.cert_value.specs.WellFormed.{is_short, are_rows, rank_key, is_rank_row, are_rank_rows}
-use Rattle.log_check.specs.Blocks.{IsBlockBelow, rank_in_code, triples_of_row, IsRankRowBelow, IsRankBlockBelow}
+use Rattle.log_check.specs.Blocks.{IsBlockBelow, triples_of_row, IsRankRowBelow, IsRankBlockBelow}
 use Rattle.log_check.specs.Follows.{LogRules, StepFollows, Follows}
 use Rattle.decide.specs.Written.{IsBlockOfPairs, IsRankBlockOf, AreWritten}
 use Rattle.relation_rows.proofs.RowBoundLemmas.{rows_below}
@@ -124,7 +124,7 @@ row_below :
     (n labels letters : ℕ) (row : RankRow) (rights : List Ranked)
     → row.rights ≡ rights
     → 0 < length rights
-    → ((r : Ranked) → Contains rights r → AreAnnounced labels letters row.ahead × (row.left < n) × (r.right < n))
+    → ((r : Ranked) → Contains rights r → IsTripleWord labels letters row.ahead × (row.left < n) × (r.right < n))
     → IsRankRowBelow n labels row
 row_below n labels letters row [] same some each = absurd (omega arith)
 row_below n labels letters row (r ∷ rights) same some each =
@@ -204,11 +204,11 @@ pub pair_listed : (mode : Mode) (n : ℕ) → Contains (kinds_of mode) (Prune n)
 pair_listed mode n h = All-contains IsFine (kinds_of mode) (Prune n) (fine_kinds mode) h
 
 -- The relation that is given is the greatest one, where there is one.
-pub back_greatest : (A : Automaton) (n k : ℕ) (back : Option Relation) → IsBackOf A n k back → ¬ (n ≡ 1) → IsGreatestBackward A (look_back n k) (relation_pairs back)
+pub back_greatest : (A : Automaton) (n k : ℕ) (back : Option Relation) → IsBackOf A n k back → ¬ (n ≡ 1) → IsGreatestBackward A (look_backward n k) (relation_pairs back)
 back_greatest A n k None is wanted = absurd (is wanted)
 back_greatest A n k (Some rel) is wanted = is.1.greatest
 
-pub ahead_greatest : (A : Automaton) (n k : ℕ) (ahead : Option Relation) → IsAheadOf A n k ahead → ¬ (n ≡ 2) → IsGreatestForward A (look_ahead n k) (relation_pairs ahead)
+pub ahead_greatest : (A : Automaton) (n k : ℕ) (ahead : Option Relation) → IsAheadOf A n k ahead → ¬ (n ≡ 2) → IsGreatestForward A (look_forward n k) (relation_pairs ahead)
 ahead_greatest A n k None is wanted = absurd (is wanted)
 ahead_greatest A n k (Some rel) is wanted = is.1.greatest
 
@@ -268,8 +268,8 @@ pub cut_leads : (A B : Automaton) (n k : ℕ) (gone : List Gone) (back ahead : O
 cut_leads A B n k gone back ahead p is =
     let mine = relation_pairs back in
     let other = relation_pairs ahead in
-    let same_back : ¬ (n ≡ 1) → (q r : ℕ) → Holds p.back q r ↔ Holds mine q r = λ w. greatest_same _ _ (look_back n k) A.states p.back mine (p.greatest_back w) (back_greatest A n k back is.is_back w) in
-    let same_ahead : ¬ (n ≡ 2) → (q r : ℕ) → Holds p.ahead q r ↔ Holds other q r = λ w. greatest_same _ _ (look_ahead n k) A.states p.ahead other (p.greatest_ahead w) (ahead_greatest A n k ahead is.is_ahead w) in
+    let same_back : ¬ (n ≡ 1) → (q r : ℕ) → Holds p.back q r ↔ Holds mine q r = λ w. greatest_same _ _ (look_backward n k) A.states p.back mine (p.greatest_back w) (back_greatest A n k back is.is_back w) in
+    let same_ahead : ¬ (n ≡ 2) → (q r : ℕ) → Holds p.ahead q r ↔ Holds other q r = λ w. greatest_same _ _ (look_forward n k) A.states p.ahead other (p.greatest_ahead w) (ahead_greatest A n k ahead is.is_ahead w) in
     cut_by_members A B p.gone (numbers_of_gone gone)
     (λ t. (
       λ h. is.least.all t (better_as A n p.back p.ahead mine other same_back same_ahead t ((p.removable t).0 h)),

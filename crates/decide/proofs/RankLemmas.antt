@@ -179,7 +179,7 @@ module _ (A : Automaton) (n : ℕ) (X : RankedTriples) (is : IsGreatestDelayed A
       listed_any (map one_less X) s (subst (Contains (map one_less X)) e (map_has one_less X (x, c, y, Some (suc s)) ranked))) in
       omega arith
 
--- ---- places of triples: those of their states and letters, as numbers
+-- ---- places of triples: those of their states and words, as numbers
 
 abbrev place_from : ℕ → ℕ → List ℕ → ℕ
 place_from labels n [] = n
@@ -237,7 +237,7 @@ module _ (R : Ranking) (valid : IsRanking R) where
     all_distinct xs order.1 (λ z there. each z (Contains-later x z xs there)),
   )
 
-  -- There are no more triples than states with states and words of announced letters.
+  -- There are no more triples than states with states and words.
   triples_are_few : length R.triples ≤ R.states * R.states * words
   triples_are_few =
       let len = length-map R.triples place in

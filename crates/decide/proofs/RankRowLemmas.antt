@@ -1,26 +1,25 @@
 -- The rows of a relation with ranks as they are made, and what they list.
-use Rattle.std.proofs.Common.{◌≡◌, ℕ, zero, suc, ◌+◌, ◌-◌, ◌<◌, ◌≤◌, ◌&&◌, ◌==◌, true, cond, inl, inr, Option, None, Some, List, [], ◌∷◌, ◌++◌, length, map, take, drop, Contains, refl, sym, ap, ◌∙◌, subst, arith, length-append}
+use Rattle.std.proofs.Common.{◌≡◌, ℕ, zero, suc, ◌+◌, ◌-◌, ◌<◌, ◌≤◌, ◌&&◌, ◌==◌, true, inl, inr, Option, None, Some, List, [], ◌∷◌, ◌++◌, length, map, take, drop, Contains, refl, sym, ap, ◌∙◌, subst, arith, length-append}
 use Rattle.std.specs.Prelude.{IfSome, nat_le}
 use Rattle.std.specs.List.{list_all}
 use Rattle.std.specs.Ordering.{MatchOrdering, is_lt, nat_cmp, ordering_then}
 use Rattle.std.specs.declared.cmp.Ordering.TheVariants.{Less, Equal}
 use Rattle.std.specs.Cmp.{ranks}
 use Rattle.std.specs.Cmp.Lexicographic.{slice_cmp}
-use Rattle.std.proofs.Math.Dec.{eqb-suc-zero}
 use Rattle.std.proofs.Math.Seq.{take-add}
 use Rattle.std.proofs.lemmas.Bool.{false≢true, and_from, and_parts, eq-eqb, le-leb, lt-ltb, ltb-true}
 use Rattle.std.proofs.lemmas.Cmp.{nat_list_cmp_total, tied_itself}
 use Rattle.std.proofs.lemmas.List.{append-nil, take_all, take_more, get_or-take, get_or-drop, get_or_default, length-drop, length-map, length-take-le}
 use Rattle.std.proofs.lemmas.List.Concat.{flat_map-append}
 use Rattle.std.proofs.lemmas.List.Elements.{All-contains, Contains-get_or}
-use Rattle.auto_core.specs.Delayed.{AreAnnounced}
+use Rattle.auto_core.specs.Delayed.{IsTripleWord, rank_in_code}
 use Rattle.auto_core.proofs.PathLemmas.{Contains-cons_cases, Contains-here, Contains-later, none_in_nil}
 use Rattle.auto_core.proofs.MemberLemmas.{Rises, rises_from_pairs}
 use Rattle.cert_value.specs.declared.types.RankRow.{RankRow}
 use Rattle.cert_value.specs.declared.types.Ranked.{Ranked}
 use Rattle.cert_value.specs.WellFormed.{is_short, are_short, is_ranked, rights_of, has_some, ascend, ascend_from, rank_key, is_less, is_rank_row, are_rank_rows}
 use Rattle.delayed_sim.specs.Rankings.{Triple, Ranking, IsRanking, IsTripleBefore, row_key, triple_at}
-use Rattle.log_check.specs.Blocks.{rank_in_code, triples_of_row}
+use Rattle.log_check.specs.Blocks.{triples_of_row}
 use Rattle.decide.specs.Written.{IsRankBlockOf}
 use Rattle.decide.specs.Rows.{HasFewTriples, IsRankRowOf, AreRankRows, ranked_of_triple, code_for, last_row_key}
 use Rattle.relation_rows.proofs.RowLemmas.{all_short}
@@ -46,7 +45,7 @@ own_order ns = tied_itself nat_list_cmp_total ns
 pub not_less_itself : (ns : List ℕ) → is_less ns ns ≡ true → ⊥
 not_less_itself ns h = false≢true (sym (ap is_lt (own_order ns)) ∙ h)
 
--- Of two triples with the same left state and letters the earlier one has the lesser right state.
+-- Of two triples with the same left state and word the earlier one has the lesser right state.
 before_right : (x y : Triple) → row_key x ≡ row_key y → IsTripleBefore x y → x.2 < y.2
 before_right x y same h =
     let own : ordering_then (slice_cmp nat_cmp (row_key x) (row_key x)) (nat_cmp x.2 y.2) ≡ Less = subst (λ k. ordering_then (slice_cmp nat_cmp (row_key x) k) (nat_cmp x.2 y.2) ≡ Less) (sym same) h in
@@ -73,15 +72,11 @@ rises_taken (suc n) (x ∷ xs) h = (λ y there. h.0 y (in_taken n xs y there), r
 
 -- ---- ranks and their codes
 
-pub later_code : (n : ℕ) → rank_in_code (suc n) ≡ Some (suc n - 1)
-later_code n = ap (λ t. cond t None (Some (suc n - 1))) (eqb-suc-zero n)
-
 code_back : (o : Option ℕ) → rank_in_code (code_for o) ≡ o
 code_back None = refl
 code_back (Some r) =
     let more : r + 1 ≡ suc r = omega arith in
-    let less : suc r - 1 ≡ r = omega arith in
-    ap rank_in_code more ∙ later_code r ∙ ap Some less
+    ap rank_in_code more
 
 -- Where the triple stands in the list, its rank has few digits, and so has its code.
 pub rank_few : (R : Ranking) (at : ℕ) (rank : Option ℕ) → HasFewTriples R → at < length R.triples → rank ≡ (triple_at R.triples at).3 → IfSome rank (λ r. r + 1 < 1000000000)
@@ -96,7 +91,7 @@ code_short R few p b q (Some r) h = lt-ltb (r + 1) 1000000000 (few.below b p q r
 
 -- ---- the triples of a row
 
--- The triple of a left state and letters with a right state and the code of its rank.
+-- The triple of a left state and word with a right state and the code of its rank.
 abbrev pub in_triple : ℕ → List ℕ → Ranked → Triple
 in_triple left ahead r = (left, ahead, r.right, rank_in_code r.code)
 
@@ -196,7 +191,7 @@ module _ (R : Ranking) (valid : IsRanking R) (few : HasFewTriples R) (at end : �
       here : Contains X (triple_at X at)
       here = Contains-get_or X at (0, [], 0, None) (omega arith)
 
-      range : AreAnnounced R.labels R.letters (triple_at X at).1 × ((triple_at X at).0 < R.states) × ((triple_at X at).2 < R.states)
+      range : IsTripleWord R.labels R.letters (triple_at X at).1 × ((triple_at X at).0 < R.states) × ((triple_at X at).2 < R.states)
       range = valid.in_range (triple_at X at).1 (triple_at X at).0 (triple_at X at).2 ((triple_at X at).3, here)
 
       left_low : left < 1000000000
@@ -231,7 +226,7 @@ rights_on X at i rights right code lt right_is code_is are =
     let new : ◌≡◌ {A = Ranked} (record { right = right; code = code }) (ranked_of_triple (triple_at X (at + i))) = λ k. record { right = right_is k; code = code_is k } in
     (λ k. are k ++ new k ∷ []) ∙ sym (map_behind ranked_of_triple (take i (drop at X)) (triple_at X (at + i))) ∙ ap (map ranked_of_triple) (sym next)
 
--- What a row has: some right states, and a left state and letters past the key.
+-- What a row has: some right states, and a left state and word past the key.
 pub some_ranked : (letters : ℕ) (key : List ℕ) (row : RankRow) → is_rank_row letters key row ≡ true → (0 < length row.rights) × (is_less key (rank_key row) ≡ true)
 some_ranked letters key row is =
     let a = and_parts (is_short row.left) ((are_short row.ahead && (length row.ahead == letters - 1)) && (list_all is_ranked row.rights && (has_some row.rights && (ascend (rights_of row.rights) && is_less key (rank_key row))))) is in

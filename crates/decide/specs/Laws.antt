@@ -78,7 +78,7 @@ OneAnswer =
     → IsAnswer pair terms d
     → c ≡ d
 
--- An answer has a text, at each lookahead from 1 to 6, up to 4 announced letters and each limit up to 100,000.
+-- An answer has a text, at each lookahead from 1 to 6, up to 4 letters asked for and each limit up to 100,000.
 abbrev pub AnswersAreFormed : Type 0
 AnswersAreFormed =
     (pair : Joined) (terms : Terms) (cert : Cert)

@@ -5,23 +5,23 @@ use Rattle.auto_core.specs.declared.parts.Mode.{Mode}
 use Rattle.reduce_loop.specs.declared.steps.Foresight.{Foresight}
 use Rattle.decide.specs.declared.terms.Terms.{Terms}
 
--- The terms with this mode, lookahead and limit in version 1, where one letter is announced.
+-- The terms with this mode, lookahead and limit in version 1, where one letter is asked for.
 abbrev pub terms_of_version_1 : Mode → ℕ → ℕ → Terms
 terms_of_version_1 mode look limit = record { mode = mode; look = look; letters = 1; version = 1; limit = limit }
 
--- The terms in version 2, with so many announced letters.
-abbrev pub terms_ahead : Mode → ℕ → ℕ → ℕ → Terms
-terms_ahead mode look letters limit = record { mode = mode; look = look; letters = letters; version = 2; limit = limit }
+-- The terms in version 2, where so many letters are asked for.
+abbrev pub terms_of_version_2 : Mode → ℕ → ℕ → ℕ → Terms
+terms_of_version_2 mode look letters limit = record { mode = mode; look = look; letters = letters; version = 2; limit = limit }
 
 -- How far the games of the reductions look.
 abbrev pub sight_of : Terms → Foresight
 sight_of terms = record { look = terms.look; letters = terms.letters }
 
--- Version 1 has one announced letter.
+-- In version 1 one letter is asked for.
 abbrev pub IsVersioned : Terms → Type 0
 IsVersioned terms = ((terms.version ≡ 1) × (terms.letters ≡ 1)) ⊎ (terms.version ≡ 2)
 
--- The lookahead is 1 to 6, the announced letters are 1 to 4 and fit the version, and the limit is at most 100,000.
+-- The lookahead is 1 to 6, the letters asked for are 1 to 4 and fit the version, and the limit is at most 100,000.
 pub record AreBounded (terms : Terms) : Type 0 where
   pub look_from : 1 ≤ terms.look
   pub look_upto : terms.look ≤ 6

@@ -26,7 +26,7 @@ pub record IsBlockOfPairs (S : List (ℕ × ℕ)) (block : RelBlock) : Type 0 wh
   pub formed : is_block block ≡ true
   pub pairs : pairs_of block ≡ S
 
--- The same of triples with so many announced letters, each with a rank or without one.
+-- The same of the triples of a game with so many announced letters, each with a rank or without one.
 pub record IsRankBlockOf (letters : ℕ) (X : RankedTriples) (block : RankBlock) : Type 0 where
   pub formed : is_rank_block letters block ≡ true
   pub triples : triples_of block ≡ X

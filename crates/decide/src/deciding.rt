@@ -8,7 +8,7 @@ ghost use Rattle.cert_value.specs.declared.types.YesBody.{YesBody};
 ghost use Rattle.cert_value.specs.declared.types.ListBody.{ListBody};
 ghost use Rattle.cert_value.specs.declared.types.Body.TheVariants as body;
 ghost use Rattle.decide.specs.Answer.{IsAnswer, HasFewParts};
-ghost use Rattle.decide.specs.Terms.{AreBounded, terms_of_version_1, terms_ahead};
+ghost use Rattle.decide.specs.Terms.{AreBounded, terms_of_version_1, terms_of_version_2};
 ghost use Rattle.cert_check.specs.Laws.{IsValid};
 ghost use Rattle.decide.specs.Laws.{StandApart, ListsNew};
 ghost use Rattle.decide.specs.Searches.{bound_in};
@@ -126,7 +126,7 @@ pub fn include(
     )
 }
 
-/// The same with up to `letters` announced letters in the delayed games of the reductions, and the answer in version 2.
+/// The same with so many letters asked for in the delayed games of the reductions, and the answer in version 2.
 pub fn include_ahead(
     alloc: Global,
     pair: &Joined,
@@ -148,7 +148,7 @@ pub fn include_ahead(
     requires few { limit ≤ 100000 }
 
     // The certificate is the answer: what it has to hold for the outcome of the search on the reduced automata.
-    ensures answer { IfOk result (IsAnswer pair.now (terms_ahead mode look letters limit)) }
+    ensures answer { IfOk result (IsAnswer pair.now (terms_of_version_2 mode look letters limit)) }
 
     // It has a text, and it is valid for the two automata: it keeps all rules of the check.
     ensures formed { IfOk result WellFormed }
@@ -156,7 +156,7 @@ pub fn include_ahead(
 
     // A yes says an inclusion. Its logs lead to settled automata, and no live element of it subsumes another there.
     ensures included { IfOk result (λ cert. (evidence : YesBody) → cert.body ≡ body.Yes evidence → Includes pair.now.first pair.now.second mode) }
-    ensures apart_live { IfOk result (λ cert. (evidence : YesBody) → cert.body ≡ body.Yes evidence → StandApart pair.now (terms_ahead mode look letters limit) evidence) }
+    ensures apart_live { IfOk result (λ cert. (evidence : YesBody) → cert.body ≡ body.Yes evidence → StandApart pair.now (terms_of_version_2 mode look letters limit) evidence) }
 
     // A no has a lasso that separates the two automata, in finite mode a word.
     ensures apart { IfOk result (λ cert. (lasso : Lasso) → cert.body ≡ body.NoLasso lasso → SeparatesLasso pair.now.first pair.now.second lasso.prefix lasso.turn) }
@@ -164,7 +164,7 @@ pub fn include_ahead(
 
     // The logs of a list lead to settled automata. It has limit + 1 different supergraphs of these, in finite mode pairs of a state and a
     // set, none subsumed by an earlier one.
-    ensures listed { IfOk result (λ cert. (list : ListBody) → cert.body ≡ body.Listing list → ListsNew pair.now (terms_ahead mode look letters limit) list) }
+    ensures listed { IfOk result (λ cert. (list : ListBody) → cert.body ≡ body.Listing list → ListsNew pair.now (terms_of_version_2 mode look letters limit) list) }
 
     // At a limit of at least the bound on different ones of the two automata no list comes.
     ensures no_list { bound_in mode pair.now.first.states pair.now.second.states ≤ limit → IfOk result (λ cert. (list : ListBody) → cert.body ≡ body.Listing list → ⊥) }

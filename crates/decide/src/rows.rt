@@ -80,7 +80,7 @@ fn rank_row(alloc: Global, ranks: &Delayed, at: usize, end: usize) -> Result<Ran
     })
 }
 
-/// A row for each left state and announced letters that the relation holds with some state, with the ranks.
+/// A row for each left state and word that the relation holds with some state, with the ranks.
 pub(crate) fn rank_block_of(alloc: Global, ranks: &Delayed) -> Result<RankBlock, Memory>
     requires { HasFewTriples ranks.now }
     ensures { IfOk result (IsRankBlockOf ranks.now.letters ranks.now.triples) }

@@ -9,7 +9,7 @@ pub struct Terms {
     pub mode: Mode,
     /// The lookahead of the reductions, from 1 to 6.
     pub look: u32,
-    /// How many letters may be announced in their delayed games, from 1 to 4, in version 1 one.
+    /// How many letters are asked for in their delayed games, from 1 to 4, in version 1 one.
     pub letters: u32,
     /// The version of the certificate, 1 or 2.
     pub version: u32,

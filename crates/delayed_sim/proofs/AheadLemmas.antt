@@ -1,14 +1,14 @@
--- Announced letters before and after a move.
+-- Words before and after a move.
 use Rattle.std.proofs.Common.{◌≡◌, ℕ, suc, ◌+◌, ◌<◌, List, [], ◌∷◌, ◌++◌, length, get_or, take, drop, set, refl, sym, ap, ◌∙◌, subst, arith, length-append}
 use Rattle.std.proofs.lemmas.List.{take_more, take_more_set, length-drop, get_or-drop}
 use Rattle.std.proofs.lemmas.List.Elements.{All-push, All-drop}
-use Rattle.auto_core.specs.Delayed.{AreAnnounced, Announces}
+use Rattle.auto_core.specs.Delayed.{IsTripleWord, Announces}
 
 pub first_of : (b : List ℕ) (more : ℕ) → 0 < length b → get_or (b ++ more ∷ []) 0 0 ≡ get_or b 0 0
 first_of [] more some = absurd (omega arith)
 first_of (x ∷ b) more some = refl
 
--- what is announced after a move, and its letter
+-- the letter of a move, and the word after it
 pub announced_parts : (b : List ℕ) (more a : ℕ) (c : List ℕ) → Announces b more a c → (get_or (b ++ more ∷ []) 0 0 ≡ a) × (drop 1 (b ++ more ∷ []) ≡ c)
 announced_parts b more a c e = (ap (λ l. get_or l 0 0) e, ap (λ l. drop 1 l) e)
 
@@ -19,16 +19,16 @@ parts_announced (x ∷ b) more a e = ap (λ y. y ∷ (b ++ more ∷ [])) e
 pub length_announced : (b : List ℕ) (more : ℕ) → length (drop 1 (b ++ more ∷ [])) ≡ length b
 length_announced b more = omega (arith, length-drop 1 (b ++ more ∷ []), length-append b (more ∷ []))
 
-pub next_announced : (labels n : ℕ) (b : List ℕ) (more : ℕ) → AreAnnounced labels n b → more < labels → AreAnnounced labels n (drop 1 (b ++ more ∷ []))
-next_announced labels n b more h lt = (
+pub next_word : (labels n : ℕ) (b : List ℕ) (more : ℕ) → IsTripleWord labels n b → more < labels → IsTripleWord labels n (drop 1 (b ++ more ∷ []))
+next_word labels n b more h lt = (
   ap (λ k. suc k) (length_announced b more) ∙ h.0,
   All-drop (λ a. a < labels) 1 (b ++ more ∷ []) (All-push (λ a. a < labels) b more h.1 lt),
 )
 
-pub announced_after : (labels n : ℕ) (b : List ℕ) (more a : ℕ) (c : List ℕ) → AreAnnounced labels n b → more < labels → Announces b more a c → AreAnnounced labels n c
-announced_after labels n b more a c h lt e = subst (AreAnnounced labels n) (announced_parts b more a c e).1 (next_announced labels n b more h lt)
+pub word_after : (labels n : ℕ) (b : List ℕ) (more a : ℕ) (c : List ℕ) → IsTripleWord labels n b → more < labels → Announces b more a c → IsTripleWord labels n c
+word_after labels n b more a c h lt e = subst (IsTripleWord labels n) (announced_parts b more a c e).1 (next_word labels n b more h lt)
 
--- one more of the letters that are announced after a move
+-- one more of the letters of the word after a move
 pub next_more :
     (next b : List ℕ) (more at letter : ℕ)
     → at < length b

@@ -5,8 +5,8 @@ use Rattle.auto_core.specs.Game.{Holds, Round}
 use Rattle.auto_core.proofs.MemberLemmas.{map_has, map_from}
 use Rattle.bit_rel.specs.Relation.{Relation}
 use Rattle.look_round.specs.Words.{IsBound}
-use Rattle.delayed_sim.specs.Across.{RankedPlaces, HoldsPlace, IsRightAcross}
-use Rattle.delayed_sim.specs.Played.{HasEachRight}
+use Rattle.delayed_game.specs.Across.{RankedPlacePairs, HoldsPlacePair, IsRightAcross}
+use Rattle.delayed_game.specs.Played.{HasEachRight}
 use Rattle.delayed_sim.specs.Unasked.{AsksNothing}
 use Rattle.delayed_sim.proofs.WordLemmas.{power_zero}
 
@@ -14,18 +14,18 @@ use Rattle.delayed_sim.proofs.WordLemmas.{power_zero}
 abbrev states_of : ℕ × ℕ × Option ℕ → ℕ × ℕ
 states_of x = (x.0, x.1)
 
-unranked : (Y : RankedPlaces) (p q : ℕ) → HoldsPlace Y p q → Holds (map states_of Y) p q
+unranked : (Y : RankedPlacePairs) (p q : ℕ) → HoldsPlacePair Y p q → Holds (map states_of Y) p q
 unranked Y p q h = map_has states_of Y (p, q, h.0) h.1
 
-ranked : (Y : RankedPlaces) (p q : ℕ) → Holds (map states_of Y) p q → HoldsPlace Y p q
+ranked : (Y : RankedPlacePairs) (p q : ℕ) → Holds (map states_of Y) p q → HoldsPlacePair Y p q
 ranked Y p q h =
     let (x, there, is) = map_from states_of Y (p, q) h in
     let left : x.0 ≡ p = ap (λ (y : ℕ × ℕ). y.0) is in
     let right : x.1 ≡ q = ap (λ (y : ℕ × ℕ). y.1) is in
-    let here : HoldsPlace Y x.0 x.1 = (x.2, there) in
-    subst (λ r. HoldsPlace Y r q) left (subst (λ r. HoldsPlace Y x.0 r) right here)
+    let here : HoldsPlacePair Y x.0 x.1 = (x.2, there) in
+    subst (λ r. HoldsPlacePair Y r q) left (subst (λ r. HoldsPlacePair Y x.0 r) right here)
 
-right_round : (A : Automaton) (Y : RankedPlaces) → IsRightAcross A A Y → (p q : ℕ) → HoldsPlace Y p q → Round (Moves A) (Moves A) AsksNothing 1 (Holds (map states_of Y)) p q
+right_round : (A : Automaton) (Y : RankedPlacePairs) → IsRightAcross A A Y → (p q : ℕ) → HoldsPlacePair Y p q → Round (Moves A) (Moves A) AsksNothing 1 (Holds (map states_of Y)) p q
 right_round A Y right p q held [] ps path may = absurd (elim may [ inl e ↦ omega arith | inr short ↦ let lt = short.0 in omega arith ])
 right_round A Y right p q held (a ∷ w) [] path may = absurd path
 right_round A Y right p q held (a ∷ w) (r ∷ ps) path may =

@@ -38,7 +38,7 @@ same_list (x ∷ xs) (y ∷ ys) e =
     let rest = same_list xs ys both.1 in
     λ i. first i ∷ rest i
 
--- triples that compare as equal have the same states and letters
+-- triples that compare as equal have the same states and the same word
 pub same_triple : (x y : Triple) → triple_cmp x y ≡ Equal → (row_key x ≡ row_key y) × (x.2 ≡ y.2)
 same_triple x y e =
     let both = both_equal (slice_cmp nat_cmp (row_key x) (row_key y)) (nat_cmp x.2 y.2) e in
@@ -148,7 +148,7 @@ found_none n entries p b q low high h none rank has =
 
 -- ---- the first entry from a triple on
 
--- The first entry that does not stand before the triple is between these places.
+-- The first entry that does not stand before the triple has a number between these.
 pub record IsFirstWithin (n : ℕ) (entries : List Entry) (key : Triple) (low high : ℕ) : Type 0 where
   pub upto : low ≤ high
   pub within : high ≤ length entries

@@ -5,7 +5,7 @@ use Rattle.std.proofs.lemmas.Nat.{mul-le}
 use Rattle.std.proofs.Math.Nat.{pow-zero, pow-suc, mul-le-mul_right, le-mul_of_pos_right}
 use Rattle.auto_core.specs.Automaton.{Automaton, IsAutomaton, IsInRange, IsBefore, trans, trans_at}
 use Rattle.auto_core.specs.declared.parts.Trans.{Trans}
-use Rattle.auto_core.specs.Delayed.{most_with_a_letter, are_few_with_a_letter, most_letters, letters_for}
+use Rattle.auto_core.specs.Delayed.{most_triples_with_a_letter, are_few_triples_with_a_letter, most_letters, letters_for}
 use Rattle.delayed_sim.proofs.LetterLemmas.{with_labels}
 
 -- ---- the number of transitions
@@ -66,25 +66,25 @@ transitions_few A valid = upto (length A.transitions) refl
 pub record IsSmall (A : Automaton) (n : ℕ) : Type 0 where
   pub labels : 0 < A.labels
   pub words : 0 < A.labels ^ (n - 1)
-  pub word_count : A.labels ^ (n - 1) ≤ most_with_a_letter
-  pub places : A.states * A.labels ^ (n - 1) ≤ most_with_a_letter
-  pub letters : A.labels * A.labels ^ (n - 1) ≤ most_with_a_letter
-  pub steps : length A.transitions * A.labels ^ (n - 1) ≤ most_with_a_letter
-  pub pairs : A.states * A.labels ^ (n - 1) * A.states ≤ most_with_a_letter
+  pub word_count : A.labels ^ (n - 1) ≤ most_triples_with_a_letter
+  pub places : A.states * A.labels ^ (n - 1) ≤ most_triples_with_a_letter
+  pub letters : A.labels * A.labels ^ (n - 1) ≤ most_triples_with_a_letter
+  pub steps : length A.transitions * A.labels ^ (n - 1) ≤ most_triples_with_a_letter
+  pub pairs : A.states * A.labels ^ (n - 1) * A.states ≤ most_triples_with_a_letter
 
 most_upto : (A : Automaton) (n : ℕ) → most_letters A n ≤ suc n
 most_upto A zero = omega arith
-most_upto A (suc n) = elim (cases_Bool (are_few_with_a_letter A (suc n))) [
-  | inl few ↦ omega (arith, cond-true (are_few_with_a_letter A (suc n)) (suc n) (most_letters A n) few)
-  | inr many ↦ let rest = most_upto A n in omega (arith, cond-false (are_few_with_a_letter A (suc n)) (suc n) (most_letters A n) many)
+most_upto A (suc n) = elim (cases_Bool (are_few_triples_with_a_letter A (suc n))) [
+  | inl few ↦ omega (arith, cond-true (are_few_triples_with_a_letter A (suc n)) (suc n) (most_letters A n) few)
+  | inr many ↦ let rest = most_upto A n in omega (arith, cond-false (are_few_triples_with_a_letter A (suc n)) (suc n) (most_letters A n) many)
 ]
 
 -- more letters than one are no more than there are
 most_less_than : (A : Automaton) (n : ℕ) → 1 ≤ n → most_letters A n ≤ n
 most_less_than A zero some = absurd (omega arith)
-most_less_than A (suc n) some = elim (cases_Bool (are_few_with_a_letter A (suc n))) [
-  | inl few ↦ omega (arith, cond-true (are_few_with_a_letter A (suc n)) (suc n) (most_letters A n) few)
-  | inr many ↦ let rest = most_upto A n in omega (arith, cond-false (are_few_with_a_letter A (suc n)) (suc n) (most_letters A n) many)
+most_less_than A (suc n) some = elim (cases_Bool (are_few_triples_with_a_letter A (suc n))) [
+  | inl few ↦ omega (arith, cond-true (are_few_triples_with_a_letter A (suc n)) (suc n) (most_letters A n) few)
+  | inr many ↦ let rest = most_upto A n in omega (arith, cond-false (are_few_triples_with_a_letter A (suc n)) (suc n) (most_letters A n) many)
 ]
 
 some_power : (l m : ℕ) → 0 < l → 0 < l ^ m
@@ -99,13 +99,13 @@ fits_labels A n more fits none =
     let one : letters_for A n ≡ 1 = cond-true (A.labels == 0) 1 (most_letters A n) (eq-eqb A.labels 0 none) in
     omega arith
 
-fits_few : (A : Automaton) (n : ℕ) → 2 ≤ n → n ≡ letters_for A n → are_few_with_a_letter A n ≡ true
+fits_few : (A : Automaton) (n : ℕ) → 2 ≤ n → n ≡ letters_for A n → are_few_triples_with_a_letter A n ≡ true
 fits_few A zero more fits = absurd (omega arith)
-fits_few A (suc m) more fits = elim (cases_Bool (are_few_with_a_letter A (suc m))) [
+fits_few A (suc m) more fits = elim (cases_Bool (are_few_triples_with_a_letter A (suc m))) [
   | inl few ↦ few
   | inr many ↦
       let most : letters_for A (suc m) ≡ most_letters A (suc m) = with_labels A (suc m) (fits_labels A (suc m) more fits) in
-      let less : most_letters A (suc m) ≡ most_letters A m = cond-false (are_few_with_a_letter A (suc m)) (suc m) (most_letters A m) many in
+      let less : most_letters A (suc m) ≡ most_letters A m = cond-false (are_few_triples_with_a_letter A (suc m)) (suc m) (most_letters A m) many in
       let upto = most_less_than A m (omega arith) in
       absurd (omega arith)
 ]
@@ -117,7 +117,7 @@ small_game A n valid more fits =
     let w = l ^ (n - 1) in
     let next : n ≡ suc (n - 1) = omega arith in
     let power : l ^ n ≡ w * l = ap (λ i. l ^ i) next ∙ pow-suc l (n - 1) in
-    let all : s * s * (w * l) ≤ most_with_a_letter = subst (λ x. s * s * x ≤ most_with_a_letter) power all_few in
+    let all : s * s * (w * l) ≤ most_triples_with_a_letter = subst (λ x. s * s * x ≤ most_triples_with_a_letter) power all_few in
     let words : 0 < w = some_power l (n - 1) labels_some in
     let square : 0 < s * s = let more = le-mul_of_pos_right s states_some in let some = states_some in omega arith in
     let some_letters : 0 < s * l = let more = le-mul_of_pos_right s labels_some in let some = states_some in omega arith in
@@ -145,8 +145,8 @@ small_game A n valid more fits =
     states_some : 0 < A.states
     states_some = let first = valid.initial_is_state in omega arith
 
-    all_few : A.states * A.states * A.labels ^ n ≤ most_with_a_letter
-    all_few = leb-true (A.states * A.states * A.labels ^ n) most_with_a_letter (fits_few A n more fits)
+    all_few : A.states * A.states * A.labels ^ n ≤ most_triples_with_a_letter
+    all_few = leb-true (A.states * A.states * A.labels ^ n) most_triples_with_a_letter (fits_few A n more fits)
 
     same_triples : (s w l : ℕ) → s * w * (s * l) ≡ s * s * (w * l)
     same_triples s w l = grind arith

@@ -3,7 +3,7 @@ use Rattle.std.proofs.Common.{◌≡◌, ℕ, ◌+◌, ◌-◌, ◌*◌, ◌/◌
 use Rattle.std.proofs.lemmas.Bool.{cases_eq, cases_order}
 use Rattle.std.proofs.lemmas.Nat.{div-add-mod', div-mul-add, mod-mul-add, mod_below, div_below}
 use Rattle.std.proofs.lemmas.List.{get_or_push, get_or_append_left, map_push}
-use Rattle.auto_core.specs.Delayed.{RankedTriples, AreAnnounced, HoldsTriple, AreTriplesOf}
+use Rattle.auto_core.specs.Delayed.{RankedTriples, IsTripleWord, HoldsTriple, AreTriplesOf}
 use Rattle.delayed_sim.specs.declared.entries.Entry.{Entry}
 use Rattle.delayed_sim.specs.Stored.{triple_of, entry_triples}
 use Rattle.delayed_sim.specs.Rankings.{Triple, IsTripleBefore, AreTriplesInOrder}
@@ -74,16 +74,16 @@ module _ (labels n states upto : ℕ) (T : RankedTriples) (some : 1 ≤ n) (posi
       let i_upto : i < upto = omega arith in
       let e : full_triple labels n states i ≡ (p, b, q, o) = sym (h.1 i (p, b, q, o) i_upto) ∙ is in
       let x_in = place_in i i_upto in (
-        subst (AreAnnounced labels n) (ap (λ (t : Triple). t.1) e) (letters_of_place labels n states (i / states) some x_in),
+        subst (IsTripleWord labels n) (ap (λ (t : Triple). t.1) e) (letters_of_place labels n states (i / states) some x_in),
         subst (λ x. x < states) (ap (λ (t : Triple). t.0) e) (state_of_place labels n states (i / states) x_in),
         subst (λ x. x < states) (ap (λ (t : Triple). t.2) e) (mod_below i states positive),
       )
 
-  pub full_all : (b : List ℕ) (p q : ℕ) → AreAnnounced labels n b → p < states → q < states → HoldsTriple T b p q
-  full_all b p q announced p_in q_in =
+  pub full_all : (b : List ℕ) (p q : ℕ) → IsTripleWord labels n b → p < states → q < states → HoldsTriple T b p q
+  full_all b p q is_word p_in q_in =
       let x = place_of labels p b in
       let i = x * states + q in
-      let below = place_below labels n states p b announced p_in in
+      let below = place_below labels n states p b is_word p_in in
       let inside = place_rises x (states * labels ^ (n - 1)) states q 0 below q_in in
       let i_in : i < upto = omega arith in
       let len = h.0 in
@@ -92,8 +92,8 @@ module _ (labels n states upto : ℕ) (T : RankedTriples) (some : 1 ≤ n) (posi
       let made : full_triple labels n states i ≡ (p, b, q, None) =
       ap (λ z. triple (z / labels ^ (n - 1)) (digits labels (n - 1) (z % labels ^ (n - 1))) (i % states)) left
       ∙ ap (λ z. triple (x / labels ^ (n - 1)) (digits labels (n - 1) (x % labels ^ (n - 1))) z) right
-      ∙ ap (λ z. triple z (digits labels (n - 1) (x % labels ^ (n - 1))) q) (place_state labels n p b announced)
-      ∙ ap (λ z. triple p z q) (place_letters labels n p b announced) in
+      ∙ ap (λ z. triple z (digits labels (n - 1) (x % labels ^ (n - 1))) q) (place_state labels n p b is_word)
+      ∙ ap (λ z. triple p z q) (place_letters labels n p b is_word) in
       (None, (i, omega arith, h.1 i (p, b, q, None) i_in ∙ made))
     where
       triple : ℕ → List ℕ → ℕ → Triple

@@ -49,7 +49,7 @@ GetsOrKeeps S t rank = S t rank ⊎ (rank ≡ t.3)
 
 partly : (S : Triple → Option ℕ → Type 0) (at : ℕ) (old now : Ranking) → IsReranked S at old now → IsReranked (GetsOrKeeps S) (length old.triples) old now
 partly S at old now h = record {
-  size = h.size;
+  states = h.states;
   labels = h.labels;
   letters = h.letters;
   valid = h.valid;
@@ -235,7 +235,7 @@ answered_same A old new same answered t has a p' move more c lt e =
 
 pub same_then : (R S T : Ranking) → HasSameTriples R S → HasSameTriples S T → HasSameTriples R T
 same_then R S T h g = record {
-  size = g.size ∙ h.size;
+  states = g.states ∙ h.states;
   labels = g.labels ∙ h.labels;
   letters = g.letters ∙ h.letters;
   valid = g.valid;

@@ -4,13 +4,6 @@ pub mod OneLemmas
 pub mod LetterLemmas
 pub mod AheadLemmas
 pub mod RightLemmas
-pub mod BoardLemmas
-pub mod SettleLemmas
-pub mod SetLemmas
-pub mod BeforeLemmas
-pub mod CanLemmas
-pub mod ClimbLemmas
-pub mod GreatestLemmas
 pub mod WordLemmas
 pub mod PlaceLemmas
 pub mod AheadGreatest

@@ -10,15 +10,15 @@ use Rattle.std.proofs.lemmas.List.Quantifiers.{all_pairs_push}
 use Rattle.auto_core.specs.Automaton.{Automaton}
 use Rattle.auto_core.specs.Game.{Holds}
 use Rattle.auto_core.specs.Rows.{bit_of, HasBit}
-use Rattle.auto_core.specs.Delayed.{RankedTriples, AreAnnounced}
+use Rattle.auto_core.specs.Delayed.{RankedTriples, IsTripleWord}
 use Rattle.auto_core.proofs.PathLemmas.{none_in_nil}
 use Rattle.bit_rel.specs.Relation.{IsPairBefore}
 use Rattle.row_steps.specs.Walks.{IsNextBit}
 use Rattle.delayed_sim.specs.declared.entries.Entry.{Entry}
 use Rattle.delayed_sim.specs.Stored.{triple_of, entry_triples}
 use Rattle.delayed_sim.specs.Rankings.{Triple, row_key, IsTripleBefore}
-use Rattle.delayed_sim.specs.Pairings.{Pairing, IsPairing}
-use Rattle.delayed_sim.specs.Levels.{rank_at}
+use Rattle.delayed_game.specs.Pairings.{Pairing, IsPairing}
+use Rattle.delayed_game.specs.Levels.{rank_in_table}
 use Rattle.delayed_sim.specs.Words.{digits, place_of, triple_here, ListsTriplesBefore}
 use Rattle.delayed_sim.proofs.WordLemmas.{number_order, lt_less, length-digits}
 use Rattle.delayed_sim.proofs.PlaceLemmas.{letters_of_place, number_of_place, state_of_place, place_state, place_letters, place_below}
@@ -152,22 +152,22 @@ listed_pairs A n S ranks T some size words valid h p b q o = (
       let left : y / w ≡ p = ap (λ (t : Triple). t.0) is in
       let word : digits A.labels (n - 1) (y % w) ≡ b = ap (λ (t : Triple). t.1) is in
       let right : s ≡ q = ap (λ (t : Triple). t.2) is in
-      let rank : rank_at ranks S.states y s ≡ o = ap (λ (t : Triple). t.3) is in
+      let rank : rank_in_table ranks S.states y s ≡ o = ap (λ (t : Triple). t.3) is in
       let place : y ≡ place_of A.labels p b =
       sym (number_of_place A.labels n A.states y some y_in) ∙ ap (λ x. place_of A.labels x (digits A.labels (n - 1) (y % w))) left ∙ ap (λ c. place_of A.labels p c) word in (
-        subst (AreAnnounced A.labels n) word (letters_of_place A.labels n A.states y some y_in),
+        subst (IsTripleWord A.labels n) word (letters_of_place A.labels n A.states y some y_in),
         subst (λ x. x < A.states) left (state_of_place A.labels n A.states y y_in),
         subst (λ z. Holds S.pairs (place_of A.labels p b) z) right (subst (λ z. Holds S.pairs z s) place held),
-        ap (λ z. rank_at ranks A.states (place_of A.labels p b) z) (sym right) ∙ ap (λ z. rank_at ranks A.states z s) (sym place) ∙ ap (λ m. rank_at ranks m y s) (sym size) ∙ rank,
+        ap (λ z. rank_in_table ranks A.states (place_of A.labels p b) z) (sym right) ∙ ap (λ z. rank_in_table ranks A.states z s) (sym place) ∙ ap (λ m. rank_in_table ranks m y s) (sym size) ∙ rank,
       ),
-  λ (announced, left, held, rank).
+  λ (is_word, left, held, rank).
       let x = place_of A.labels p b in
-      let inside = place_below A.labels n A.states p b announced left in
+      let inside = place_below A.labels n A.states p b is_word left in
       let there = h.all x q held (inl (omega arith)) in
       let made : triple_here A.labels n S.states ranks x q ≡ (p, b, q, o) =
-      ap (λ z. triple_parts z (digits A.labels (n - 1) (x % A.labels ^ (n - 1))) q (rank_at ranks S.states x q)) (place_state A.labels n p b announced)
-      ∙ ap (λ z. triple_parts p z q (rank_at ranks S.states x q)) (place_letters A.labels n p b announced)
-      ∙ ap (λ m. triple_parts p b q (rank_at ranks m x q)) size
+      ap (λ z. triple_parts z (digits A.labels (n - 1) (x % A.labels ^ (n - 1))) q (rank_in_table ranks S.states x q)) (place_state A.labels n p b is_word)
+      ∙ ap (λ z. triple_parts p z q (rank_in_table ranks S.states x q)) (place_letters A.labels n p b is_word)
+      ∙ ap (λ m. triple_parts p b q (rank_in_table ranks m x q)) size
       ∙ ap (λ z. triple_parts p b q z) rank in
       subst (λ t. Contains T t) made there,
 )
@@ -181,7 +181,7 @@ pub entry_here :
     → e.left ≡ x / labels ^ (n - 1)
     → take (n - 1) e.ahead ≡ digits labels (n - 1) (x % labels ^ (n - 1))
     → e.right ≡ q
-    → e.rank ≡ rank_at ranks m x q
+    → e.rank ≡ rank_in_table ranks m x q
     → triple_of n e ≡ triple_here labels n m ranks x q
 entry_here labels n m ranks x q e left word right rank =
     ap (λ z. parts z (take (n - 1) e.ahead) e.right e.rank) left

@@ -16,7 +16,7 @@ triple_total = then_total (on_total row_key nat_list_cmp_total) (on_total (λ (x
 pub equal_less : (o : Ordering) → o ≡ Equal → o ≡ Less → ⊥
 equal_less o e l = false≢true (sym (ap is_lt e) ∙ ap is_lt l)
 
--- no triple stands before one with the same states and letters
+-- no triple stands before one with the same states and the same word
 pub not_before : (x y : Triple) → row_key x ≡ row_key y → x.2 ≡ y.2 → IsTripleBefore x y → ⊥
 not_before x y keys rights before =
     let same : triple_cmp x x ≡ triple_cmp x y = cc in

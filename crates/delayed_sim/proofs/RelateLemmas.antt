@@ -1,4 +1,4 @@
--- Which states are related whatever letters are announced.
+-- Which states are related whatever the word.
 use Rattle.std.proofs.Common.{◌≡◌, ℕ, suc, ◌+◌, ◌<◌, ◌≤◌, ◌⊎◌, ◌↔◌, inl, inr, Bool, None, List, [], ◌∷◌, ◌++◌, length, Contains, refl, sym, ap, ◌∙◌, subst, arith, length-append}
 use Rattle.std.specs.Prelude.{IsTrue}
 use Rattle.std.specs.Cmp.{nat_cmp_is}
@@ -42,7 +42,7 @@ in_row x p b size Greater is lt past = absurd (false≢true (ap is_lt lt))
 whole_triple : (x : Triple) (p : ℕ) (b : List ℕ) (q : ℕ) → row_key x ≡ p ∷ b → x.2 ≡ q → ◌≡◌ {A = Triple} x (p, b, q, x.3)
 whole_triple (l, w, r, o) p b q key right = cc
 
--- The triple at one of the places from `begin` up to `end`, before `at`, has this right state.
+-- One of the triples with the numbers from `begin` up to `end`, and below `at`, has this right state.
 abbrev pub IsPlaced : RankedTriples → ℕ → ℕ → ℕ → ℕ → Type 0
 IsPlaced X begin end at q = (i : ℕ) × (begin ≤ i) × (i < end) × (i < at) × ((triple_at X i).2 ≡ q)
 
@@ -125,7 +125,7 @@ one_of_each R word p q a a_in h rest len below =
 -- with no letter chosen it is the state relation
 pub each_related : (R : Ranking) (p q : ℕ) → HoldsEach R [] p q ↔ AreStateRelated R.labels R.letters R.triples p q
 each_related R p q = (
-  λ h b announced. h b (let len = announced.0 in omega arith) announced.1,
+  λ h b is_word. h b (let len = is_word.0 in omega arith) is_word.1,
   λ h rest len below. h rest (omega arith, below),
 )
 
@@ -133,7 +133,7 @@ each_related R p q = (
 pub related_alone : (R : Ranking) (p q : ℕ) → R.letters ≡ 1 → AreStateRelated R.labels 1 R.triples p q ↔ HoldsTriple R.triples [] p q
 related_alone R p q alone = (
   λ h. h [] (refl, λ i d i_in. absurd (omega arith)),
-  λ h b announced. let len = announced.0 in subst (λ l. HoldsTriple R.triples l p q) (sym (nil_from_length b (omega arith))) h,
+  λ h b is_word. let len = is_word.0 in subst (λ l. HoldsTriple R.triples l p q) (sym (nil_from_length b (omega arith))) h,
 )
 
 -- The states of the first triples are related.

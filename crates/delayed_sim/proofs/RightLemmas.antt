@@ -5,7 +5,7 @@ use Rattle.std.proofs.lemmas.Bool.{false≢true}
 use Rattle.std.proofs.lemmas.List.{get_or_default}
 use Rattle.std.proofs.lemmas.List.Elements.{Contains-get_or}
 use Rattle.auto_core.specs.Automaton.{Automaton, IsAccepting}
-use Rattle.auto_core.specs.Delayed.{RankedTriples, HasRank, HasTriplesOnce, AreAnnounced, IsRight}
+use Rattle.auto_core.specs.Delayed.{RankedTriples, HasRank, HasTriplesOnce, IsTripleWord, IsRight}
 use Rattle.delayed_sim.specs.Rankings.{Triple, Ranking, IsRanking, triple_at}
 use Rattle.delayed_sim.specs.Right.{Suits, IsAnsweredWithin, IsAnsweredAhead, HasAnswers, IsTripleRight}
 use Rattle.delayed_sim.proofs.AheadLemmas.{announced_parts, parts_announced, first_of}
@@ -16,7 +16,7 @@ same_some a b e = cc
 pub one_rank : (X : RankedTriples) → HasTriplesOnce X → (b : List ℕ) (p q r s : ℕ) → HasRank X b p q r → HasRank X b p q s → r ≡ s
 one_rank X once b p q r s h g = same_some r s (once b p q (Some r) (Some s) h g)
 
--- ---- the next letter
+-- ---- the further letter
 
 -- With no letters before it the move is answered at once.
 pub ahead_at_once :
@@ -116,9 +116,9 @@ pub answers_at :
 answers_at A X limit t p b q r e f g told =
     subst (λ x. IsTrue r ↔ HasAnswers A X limit t.1 x t.2) e (subst (λ y. IsTrue r ↔ HasAnswers A X limit y p t.2) f (subst (λ z. IsTrue r ↔ HasAnswers A X limit b p z) g told))
 
--- what stands at a place is of the states and labels
-pub place_range : (R : Ranking) → IsRanking R → (i : ℕ) → i < length R.triples → AreAnnounced R.labels R.letters (triple_at R.triples i).1 × ((triple_at R.triples i).0 < R.states) × ((triple_at R.triples i).2 < R.states)
-place_range R valid i i_in =
+-- a triple of the list is of the states and labels
+pub triple_range : (R : Ranking) → IsRanking R → (i : ℕ) → i < length R.triples → IsTripleWord R.labels R.letters (triple_at R.triples i).1 × ((triple_at R.triples i).0 < R.states) × ((triple_at R.triples i).2 < R.states)
+triple_range R valid i i_in =
     let t = triple_at R.triples i in
     valid.in_range t.1 t.0 t.2 (t.3, Contains-get_or R.triples i (0, [], 0, None) i_in)
 

@@ -69,7 +69,7 @@ order_without T at at_in order = all_pairs_remove IsTripleBefore T at at_in orde
 
 pub shortened_none : (R : Ranking) → IsRanking R → IsShortened R R
 shortened_none R valid = record {
-  size = refl;
+  states = refl;
   labels = refl;
   letters = refl;
   valid = valid;
@@ -81,7 +81,7 @@ shortened_then R S T h g =
     let first = h.upto in
     let second = g.upto in
     record {
-      size = g.size ∙ h.size;
+      states = g.states ∙ h.states;
       labels = g.labels ∙ h.labels;
       letters = g.letters ∙ h.letters;
       valid = g.valid;
@@ -101,7 +101,7 @@ thins_more old now any at at_in h valid =
     let upto = h.shortened.upto in
     record {
       shortened = record {
-        size = h.shortened.size;
+        states = h.shortened.states;
         labels = h.shortened.labels;
         letters = h.shortened.letters;
         valid = valid;
@@ -111,7 +111,7 @@ thins_more old now any at at_in h valid =
       same = λ no. absurd (false≢true (sym no));
     }
 
--- the triple with these states and letters is another one than that at the place, which is as P asks
+-- the triple with these states and this word is another one than that with the number, which is as P asks
 stays : (T : RankedTriples) (at : ℕ) (P : Triple → Type 0) (t : Triple) → at < length T → P t → (P (triple_at T at) → ⊥) → Contains T t → Contains (remove T at) t
 stays T at P t at_in is other h = remove_has T at t at_in (λ e. other (subst P (sym (get_or_default T at no_triple t at_in ∙ e)) is)) h
 
@@ -206,7 +206,7 @@ triples_set n entries at e o at_in is =
 module _ (S : Triple → Option ℕ → Type 0) (old : Ranking) where
   pub rerank_none : IsRanking old → IsReranked S 0 old old
   rerank_none valid = record {
-    size = refl;
+    states = refl;
     labels = refl;
     letters = refl;
     valid = valid;
@@ -220,7 +220,7 @@ module _ (S : Triple → Option ℕ → Type 0) (old : Ranking) where
       let len = h.len in
       let u = ranked_as (triple_at now.triples at) o in
       record {
-        size = h.size;
+        states = h.states;
         labels = h.labels;
         letters = h.letters;
         valid = valid;
@@ -240,7 +240,7 @@ module _ (S : Triple → Option ℕ → Type 0) (old : Ranking) where
 
   pub rerank_skip : (now : Ranking) (at : ℕ) → at < length old.triples → IsReranked S at old now → S (triple_at old.triples at) (triple_at old.triples at).3 → IsReranked S (at + 1) old now
   rerank_skip now at at_in h is = record {
-    size = h.size;
+    states = h.states;
     labels = h.labels;
     letters = h.letters;
     valid = h.valid;
@@ -260,7 +260,7 @@ module _ (S : Triple → Option ℕ → Type 0) (old : Ranking) where
   reranked_same now h =
       let same : AreSamePlaces old.triples now.triples = (h.len, λ i lt. let was = h.done i lt lt in (was.0, was.2)) in
       record {
-        size = h.size;
+        states = h.states;
         labels = h.labels;
         letters = h.letters;
         valid = h.valid;

@@ -11,13 +11,13 @@ use Rattle.auto_core.specs.Automaton.{Automaton, IsAutomaton, IsInRange, IsBefor
 use Rattle.auto_core.specs.declared.parts.Trans.{Trans}
 use Rattle.auto_core.specs.Build.{IsBuilt}
 use Rattle.auto_core.specs.Parts.{AreParts}
-use Rattle.auto_core.specs.Delayed.{AreAnnounced, Announces}
+use Rattle.auto_core.specs.Delayed.{IsTripleWord, Announces}
 use Rattle.auto_core.proofs.MemberLemmas.{no_repeat}
 use Rattle.auto_core.proofs.PathLemmas.{none_in_nil}
 use Rattle.auto_core.proofs.MoveLemmas.{number_of, move_at, move_in_range}
 use Rattle.delayed_sim.specs.Words.{word_number, digits, place_of, ArePlaces}
 use Rattle.delayed_sim.specs.Steps.{step_announcing, step_at, AreSteps, AreAcceptingPlaces}
-use Rattle.delayed_sim.proofs.AheadLemmas.{announced_after}
+use Rattle.delayed_sim.proofs.AheadLemmas.{word_after}
 use Rattle.delayed_sim.proofs.FewLemmas.{IsSmall, place_rises}
 use Rattle.delayed_sim.proofs.WordLemmas.{number_push, number_one, number-digits, length-digits, digits_below, power_zero}
 use Rattle.delayed_sim.proofs.PlaceLemmas.{letters_before, word_below, place_is, place_below, place_state}
@@ -32,7 +32,7 @@ module _ (A : Automaton) (n : ℕ) (valid : IsAutomaton A) (some : 1 ≤ n) (sma
   number_in : (k : ℕ) → k < length steps → k / A.labels ^ (n - 1) < length A.transitions
   number_in k k_in = div_below k (A.labels ^ (n - 1)) (length A.transitions) small.words (omega (arith, moves.0))
 
-  -- what is announced before a move
+  -- the word before a move
   ahead_below : (a c : ℕ) → a < A.labels → c < A.labels ^ (n - 1) → (a * A.labels ^ (n - 1) + c) / A.labels < A.labels ^ (n - 1)
   ahead_below a c a_in c_in = div_below (a * A.labels ^ (n - 1) + c) A.labels (A.labels ^ (n - 1)) small.labels (mul-add-lt a (A.labels ^ (n - 1)) c A.labels a_in c_in)
 
@@ -102,15 +102,15 @@ module _ (A : Automaton) (n : ℕ) (valid : IsAutomaton A) (some : 1 ≤ n) (sma
     step_of_move x a y h = Contains-permutation L.transitions steps (trans x a y) (IsPermutation-sym steps L.transitions built.transitions_given) h
 
     -- the number of a word with one letter more at either end
-    ends_meet : (b : List ℕ) (more a : ℕ) (c : List ℕ) → AreAnnounced A.labels n c → Announces b more a c → word_number A.labels b * A.labels + more ≡ a * A.labels ^ (n - 1) + word_number A.labels c
-    ends_meet b more a c announced e =
-        sym (number_push A.labels b more) ∙ ap (word_number A.labels) e ∙ ap (λ i. a * A.labels ^ i + word_number A.labels c) (letters_before A.labels n c announced)
+    ends_meet : (b : List ℕ) (more a : ℕ) (c : List ℕ) → IsTripleWord A.labels n c → Announces b more a c → word_number A.labels b * A.labels + more ≡ a * A.labels ^ (n - 1) + word_number A.labels c
+    ends_meet b more a c is_word e =
+        sym (number_push A.labels b more) ∙ ap (word_number A.labels) e ∙ ap (λ i. a * A.labels ^ i + word_number A.labels c) (letters_before A.labels n c is_word)
 
-    forth : (b : List ℕ) (p more a : ℕ) (c : List ℕ) (p' : ℕ) → AreAnnounced A.labels n b → more < A.labels → Announces b more a c → Moves A p a p' → Moves L (place_of A.labels p b) a (place_of A.labels p' c)
-    forth b p more a c p' announced lt e move =
+    forth : (b : List ℕ) (p more a : ℕ) (c : List ℕ) (p' : ℕ) → IsTripleWord A.labels n b → more < A.labels → Announces b more a c → Moves A p a p' → Moves L (place_of A.labels p b) a (place_of A.labels p' c)
+    forth b p more a c p' is_word lt e move =
         let v = A.labels ^ (n - 1) in
         let (t, t_in, is) = number_of A p a p' move in
-        let next = announced_after A.labels n b more a c announced lt e in
+        let next = word_after A.labels n b more a c is_word lt e in
         let m = word_number A.labels c in
         let m_in = word_below A.labels n c next in
         let k = t * v + m in
@@ -119,7 +119,7 @@ module _ (A : Automaton) (n : ℕ) (valid : IsAutomaton A) (some : 1 ≤ n) (sma
         let ahead : (a * v + m) / A.labels ≡ word_number A.labels b = ap (λ x. x / A.labels) (sym (ends_meet b more a c next e)) ∙ div-mul-add (word_number A.labels b) A.labels more lt in
         let made : step_announcing A.labels v (trans p a p') m ≡ to =
         ap (λ x. trans (p * v + x) a (p' * v + m)) ahead
-        ∙ ap (λ x. trans x a (p' * v + m)) (sym (place_is A.labels n p b announced))
+        ∙ ap (λ x. trans x a (p' * v + m)) (sym (place_is A.labels n p b is_word))
         ∙ ap (λ y. trans (place_of A.labels p b) a y) (sym (place_is A.labels n p' c next)) in
         let here : step_at A v k ≡ to =
         ap (λ i. step_announcing A.labels v (trans_at A i) (k % v)) (div-mul-add t v m m_in)
@@ -132,8 +132,8 @@ module _ (A : Automaton) (n : ℕ) (valid : IsAutomaton A) (some : 1 ≤ n) (sma
     abbrev MovesBack : List ℕ → ℕ → ℕ → ℕ → Type 0
     MovesBack b p a y = (more : ℕ) × (c : List ℕ) × (p' : ℕ) × (more < A.labels) × Announces b more a c × Moves A p a p' × (place_of A.labels p' c ≡ y)
 
-    back : (b : List ℕ) (p a y : ℕ) → AreAnnounced A.labels n b → Moves L (place_of A.labels p b) a y → MovesBack b p a y
-    back b p a y announced move =
+    back : (b : List ℕ) (p a y : ℕ) → IsTripleWord A.labels n b → Moves L (place_of A.labels p b) a y → MovesBack b p a y
+    back b p a y is_word move =
         let v = A.labels ^ (n - 1) in
         let (k, k_in, at) = step_of_move (place_of A.labels p b) a y move in
         let here : step_at A v k ≡ trans (place_of A.labels p b) a y = sym (moves.1 k (trans (place_of A.labels p b) a y) (omega (arith, moves.0))) ∙ at in
@@ -144,14 +144,14 @@ module _ (A : Automaton) (n : ℕ) (valid : IsAutomaton A) (some : 1 ≤ n) (sma
         let m_in = next_below k in
         let by : t.label ≡ a = ap (λ (x : Trans). x.label) here in
         let x = t.label * v + m in
-        let from = same_from_place t.source (x / A.labels) p (word_number A.labels b) v (ahead_below t.label m range.2 m_in) (word_below A.labels n b announced) (ap (λ (x : Trans). x.source) here ∙ place_is A.labels n p b announced) in
+        let from = same_from_place t.source (x / A.labels) p (word_number A.labels b) v (ahead_below t.label m range.2 m_in) (word_below A.labels n b is_word) (ap (λ (x : Trans). x.source) here ∙ place_is A.labels n p b is_word) in
         let c = digits A.labels (n - 1) m in
         let c_len : length c ≡ n - 1 = length-digits A.labels (n - 1) m in
         let c_below : All (λ a. a < A.labels) c = digits_below A.labels (n - 1) m m_in in
-        let c_announced : AreAnnounced A.labels n c = (omega arith, c_below) in
+        let c_is_word : IsTripleWord A.labels n c = (omega arith, c_below) in
         let more = x % A.labels in
         let more_in : more < A.labels = mod_below x A.labels small.labels in
-        let b_len : length b ≡ n - 1 = letters_before A.labels n b announced in
+        let b_len : length b ≡ n - 1 = letters_before A.labels n b is_word in
         let number : word_number A.labels (b ++ more ∷ []) ≡ word_number A.labels (a ∷ c) =
         number_push A.labels b more
         ∙ ap (λ i. i * A.labels + more) (sym from.1)
@@ -160,9 +160,9 @@ module _ (A : Automaton) (n : ℕ) (valid : IsAutomaton A) (some : 1 ≤ n) (sma
         ∙ ap (λ i. a * v + i) (sym (number-digits A.labels (n - 1) m m_in))
         ∙ ap (λ i. a * A.labels ^ i + word_number A.labels c) (sym c_len) in
         let a_in : a < A.labels = subst (λ i. i < A.labels) by range.2 in
-        let e : Announces b more a c = number_one A.labels (b ++ more ∷ []) (a ∷ c) (omega (arith, length-append b (more ∷ []))) (All-push (λ a. a < A.labels) b more announced.1 more_in) (All-cons (λ a. a < A.labels) a c a_in c_below) number in
+        let e : Announces b more a c = number_one A.labels (b ++ more ∷ []) (a ∷ c) (omega (arith, length-append b (more ∷ []))) (All-push (λ a. a < A.labels) b more is_word.1 more_in) (All-cons (λ a. a < A.labels) a c a_in c_below) number in
         let go : Moves A p a t.target = subst (λ i. Moves A i a t.target) from.0 (subst (λ i. Moves A t.source i t.target) by (move_at A (k / v) t_number)) in
-        let to : place_of A.labels t.target c ≡ y = place_is A.labels n t.target c c_announced ∙ ap (λ i. t.target * v + i) (number-digits A.labels (n - 1) m m_in) ∙ ap (λ (x : Trans). x.target) here in
+        let to : place_of A.labels t.target c ≡ y = place_is A.labels n t.target c c_is_word ∙ ap (λ i. t.target * v + i) (number-digits A.labels (n - 1) m m_in) ∙ ap (λ (x : Trans). x.target) here in
         (more, c, t.target, more_in, e, go, to)
 
     pub built_places : ArePlaces A n L
@@ -172,14 +172,14 @@ module _ (A : Automaton) (n : ℕ) (valid : IsAutomaton A) (some : 1 ≤ n) (sma
       labels = built.labels_given;
       forth = forth;
       back = back;
-      accepting = λ b p announced. (
+      accepting = λ b p is_word. (
         λ h.
             let there = Contains-permutation L.accepting accepting (place_of A.labels p b) (IsPermutation-sym accepting L.accepting built.accepting_given) h in
-            subst (λ i. IsAccepting A i) (place_state A.labels n p b announced) ((ends.each (place_of A.labels p b)).0 there).1,
+            subst (λ i. IsAccepting A i) (place_state A.labels n p b is_word) ((ends.each (place_of A.labels p b)).0 there).1,
         λ h.
             let p_in : p < A.states = All-contains (λ q. q < A.states) A.accepting p valid.accepting_in_range h in
-            let inside = place_below A.labels n A.states p b announced p_in in
-            let there = (ends.each (place_of A.labels p b)).1 (inside, subst (λ i. IsAccepting A i) (sym (place_state A.labels n p b announced)) h) in
+            let inside = place_below A.labels n A.states p b is_word p_in in
+            let there = (ends.each (place_of A.labels p b)).1 (inside, subst (λ i. IsAccepting A i) (sym (place_state A.labels n p b is_word)) h) in
             Contains-permutation accepting L.accepting (place_of A.labels p b) built.accepting_given there,
       );
     }
@@ -249,19 +249,19 @@ places_alone A valid = record {
     once : (s l : ℕ) → s ≡ s * l ^ (1 - 1)
     once s l = grind (arith, power_zero l)
 
-    forth : (b : List ℕ) (p more a : ℕ) (c : List ℕ) (p' : ℕ) → AreAnnounced A.labels 1 b → more < A.labels → Announces b more a c → Moves A p a p' → Moves A (place_of A.labels p b) a (place_of A.labels p' c)
-    forth [] p more a c p' announced lt e move =
+    forth : (b : List ℕ) (p more a : ℕ) (c : List ℕ) (p' : ℕ) → IsTripleWord A.labels 1 b → more < A.labels → Announces b more a c → Moves A p a p' → Moves A (place_of A.labels p b) a (place_of A.labels p' c)
+    forth [] p more a c p' is_word lt e move =
         let none : c ≡ [] = sym (ap (λ (l : List ℕ). drop 1 l) e) in
         subst (λ d. Moves A (place_of A.labels p []) a (place_of A.labels p' d)) (sym none)
         (subst (λ y. Moves A (place_of A.labels p []) a y) (sym (place_alone A.labels p')) (subst (λ x. Moves A x a p') (sym (place_alone A.labels p)) move))
-    forth (x ∷ b) p more a c p' announced lt e move = let len = announced.0 in absurd (omega arith)
+    forth (x ∷ b) p more a c p' is_word lt e move = let len = is_word.0 in absurd (omega arith)
 
-    back : (b : List ℕ) (p a y : ℕ) → AreAnnounced A.labels 1 b → Moves A (place_of A.labels p b) a y → (more : ℕ) × (c : List ℕ) × (p' : ℕ) × (more < A.labels) × Announces b more a c × Moves A p a p' × (place_of A.labels p' c ≡ y)
-    back [] p a y announced move =
+    back : (b : List ℕ) (p a y : ℕ) → IsTripleWord A.labels 1 b → Moves A (place_of A.labels p b) a y → (more : ℕ) × (c : List ℕ) × (p' : ℕ) × (more < A.labels) × Announces b more a c × Moves A p a p' × (place_of A.labels p' c ≡ y)
+    back [] p a y is_word move =
         let go = subst (λ x. Moves A x a y) (place_alone A.labels p) move in
         (a, [], y, (move_in_range A valid p a y go).2, refl, go, place_alone A.labels y)
-    back (x ∷ b) p a y announced move = let len = announced.0 in absurd (omega arith)
+    back (x ∷ b) p a y is_word move = let len = is_word.0 in absurd (omega arith)
 
-    accepting : (b : List ℕ) (p : ℕ) → AreAnnounced A.labels 1 b → IsAccepting A (place_of A.labels p b) ↔ IsAccepting A p
-    accepting [] p announced = (λ h. subst (λ x. IsAccepting A x) (place_alone A.labels p) h, λ h. subst (λ x. IsAccepting A x) (sym (place_alone A.labels p)) h)
-    accepting (x ∷ b) p announced = let len = announced.0 in absurd (omega arith)
+    accepting : (b : List ℕ) (p : ℕ) → IsTripleWord A.labels 1 b → IsAccepting A (place_of A.labels p b) ↔ IsAccepting A p
+    accepting [] p is_word = (λ h. subst (λ x. IsAccepting A x) (place_alone A.labels p) h, λ h. subst (λ x. IsAccepting A x) (sym (place_alone A.labels p)) h)
+    accepting (x ∷ b) p is_word = let len = is_word.0 in absurd (omega arith)

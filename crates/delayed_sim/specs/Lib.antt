@@ -2,13 +2,6 @@ pub mod Rankings
 pub mod Stored
 pub mod Right
 pub mod Laws
-pub mod Across
-pub mod Pairings
-pub mod Levels
-pub mod Before
-pub mod Settling
-pub mod Boards
-pub mod Played
 pub mod Unasked
 pub mod Words
 pub mod Steps

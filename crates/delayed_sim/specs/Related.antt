@@ -1,9 +1,9 @@
--- Which states are related whatever letters are announced.
+-- Which states are related whatever the word.
 use Rattle.std.specs.Prelude.{◌≡◌, ℕ, suc, ◌+◌, ◌<◌, List, ◌++◌, length, All}
 use Rattle.auto_core.specs.Delayed.{HoldsTriple}
 use Rattle.delayed_sim.specs.Rankings.{Ranking}
 
--- Each triple of p and q whose letters begin with these is held.
+-- Each triple of p and q whose word begins with these letters is held.
 abbrev pub HoldsEach : Ranking → List ℕ → ℕ → ℕ → Type 0
 HoldsEach R front p q =
     (rest : List ℕ)

@@ -13,7 +13,7 @@ Suits X (Some r) c p q = (s : ℕ) × HasRank X c p q s × (s < r)
 abbrev pub IsAnsweredWithin : Automaton → RankedTriples → Option ℕ → List ℕ → ℕ → ℕ → ℕ → Type 0
 IsAnsweredWithin A X limit c q a p' = (q' : ℕ) × Moves A q a q' × Suits X limit c p' q'
 
--- q answers it so whatever letter is announced next.
+-- q answers it so whatever further letter is announced behind the word b.
 abbrev pub IsAnsweredAhead : Automaton → RankedTriples → Option ℕ → List ℕ → ℕ → ℕ → ℕ → Type 0
 IsAnsweredAhead A X limit b q a p' = (more : ℕ) (c : List ℕ) → more < A.labels → Announces b more a c → IsAnsweredWithin A X limit c q a p'
 

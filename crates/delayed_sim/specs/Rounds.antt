@@ -7,7 +7,7 @@ use Rattle.auto_core.specs.Delayed.{RankedTriples, HoldsTriple, HasRank, AreTrip
 use Rattle.delayed_sim.specs.Rankings.{Triple, Ranking, IsRanking, triple_at}
 use Rattle.delayed_sim.specs.Right.{HasAnswers, IsTripleAnswered}
 
--- The relation without the triple at a place.
+-- The relation without the triple with this number.
 abbrev pub without : Ranking → ℕ → Ranking
 without R at = record { states = R.states; labels = R.labels; letters = R.letters; triples = remove R.triples at }
 
@@ -15,7 +15,7 @@ without R at = record { states = R.states; labels = R.labels; letters = R.letter
 abbrev pub ranked_as : Triple → Option ℕ → Triple
 ranked_as t rank = (t.0, t.1, t.2, rank)
 
--- The relation where the triple at a place has this rank or none.
+-- The relation where the triple with this number has this rank or none.
 abbrev pub reranked : Ranking → ℕ → Option ℕ → Ranking
 reranked R at rank =
     record { states = R.states; labels = R.labels; letters = R.letters; triples = set R.triples at (ranked_as (triple_at R.triples at) rank) }
@@ -38,7 +38,7 @@ HasRanksUpto A n r X =
 
 -- The new relation is on the same states, labels and letters, and has no more triples.
 pub record IsShortened (old new : Ranking) : Type 0 where
-  pub size : new.states ≡ old.states
+  pub states : new.states ≡ old.states
   pub labels : new.labels ≡ old.labels
   pub letters : new.letters ≡ old.letters
   pub valid : IsRanking new
@@ -52,7 +52,7 @@ pub record Thins (old new : Ranking) (any : Bool) : Type 0 where
 
 -- The same triples, of which the first ones have ranks as S tells and the others those of before.
 pub record IsReranked (S : Triple → Option ℕ → Type 0) (upto : ℕ) (old new : Ranking) : Type 0 where
-  pub size : new.states ≡ old.states
+  pub states : new.states ≡ old.states
   pub labels : new.labels ≡ old.labels
   pub letters : new.letters ≡ old.letters
   pub valid : IsRanking new
@@ -66,7 +66,7 @@ pub record IsReranked (S : Triple → Option ℕ → Type 0) (upto : ℕ) (old n
 
 -- The same triples, with whatever ranks.
 pub record HasSameTriples (old new : Ranking) : Type 0 where
-  pub size : new.states ≡ old.states
+  pub states : new.states ≡ old.states
   pub labels : new.labels ≡ old.labels
   pub letters : new.letters ≡ old.letters
   pub valid : IsRanking new

@@ -4,7 +4,7 @@ use Rattle.std.specs.List.{AllPairs}
 use Rattle.auto_core.specs.declared.parts.Trans.{Trans}
 use Rattle.auto_core.specs.Automaton.{Automaton, IsAccepting, trans, trans_at}
 
--- The move of places by the transition, after which the word with the number c is announced.
+-- The move of places by the transition, after which the word is that with the number c.
 abbrev pub step_announcing : ℕ → ℕ → Trans → ℕ → Trans
 step_announcing labels words t c = trans (t.source * words + (t.label * words + c) / labels) t.label (t.target * words + c)
 

@@ -6,7 +6,7 @@ use Rattle.delayed_sim.specs.Rankings.{Triple, Ranking, triple_cmp, AreTriplesIn
 use Rattle.delayed_sim.specs.declared.entries.Entry.{Entry}
 use Rattle.delayed_sim.specs.declared.delayed.Delayed.TheInside.{Inside}
 
--- The triple of an entry in a game with n letters.
+-- The triple of an entry in a game with n announced letters.
 abbrev pub triple_of : ℕ → Entry → Triple
 triple_of n e = (e.left, take (n - 1) e.ahead, e.right, e.rank)
 
@@ -25,11 +25,11 @@ pub record IsStoredRanking (d : Inside) : Type 0 where
   pub in_range : AreTriplesOf d.states d.labels d.letters (entry_triples d.letters d.entries.items)
   pub in_order : AreTriplesInOrder (entry_triples d.letters d.entries.items)
 
--- Some entry, where there is none at a place.
+-- Some entry, where there is none with a number.
 abbrev pub no_entry : Entry
 no_entry = record { left = 0; ahead = []; right = 0; rank = None }
 
--- The entry at the place has the triple of p, the letters b and q.
+-- The entry with this number has the triple of p, the word b and q.
 abbrev pub IsTripleAt : ℕ → List Entry → ℕ → List ℕ → ℕ → ℕ → Type 0
 IsTripleAt n entries p b q i = (i < length entries) × Contains (entry_triples n entries) (p, b, q, (slice_index_or entries i no_entry).rank)
 
@@ -40,7 +40,7 @@ pub record IsBetween (n : ℕ) (entries : List Entry) (key : Triple) (low high :
   pub below : (i : ℕ) → i < low → triple_cmp (triple_of n (slice_index_or entries i no_entry)) key ≡ Less
   pub above : (i : ℕ) → high ≤ i → i < length entries → triple_cmp (triple_of n (slice_index_or entries i no_entry)) key ≡ Greater
 
--- Just the entries before the place stand before the triple.
+-- Just the entries with lesser numbers stand before the triple.
 pub record IsFirstFrom (n : ℕ) (entries : List Entry) (key : Triple) (at : ℕ) : Type 0 where
   pub upto : at ≤ length entries
   pub below : (i : ℕ) → i < at → triple_cmp (triple_of n (slice_index_or entries i no_entry)) key ≡ Less

@@ -1,11 +1,11 @@
-//! A relation over announced letters some of whose triples have a rank.
+//! A relation of triples some of which have a rank.
 
 ghost use Rattle.std.specs.Prelude.{◌≡◌, ◌<◌, ◌≤◌, ◌↔◌, ℕ, length, IsTrue, None, IfOk, IfSome, IfNone};
 ghost use Rattle.std.specs.Cmp.Lexicographic.{slice_cmp};
 ghost use Rattle.std.specs.Ordering.{nat_cmp};
 ghost use Rattle.std.specs.declared.cmp.Ordering.TheVariants.{Less};
 ghost use Rattle.auto_core.specs.Game.{Holds};
-ghost use Rattle.auto_core.specs.Delayed.{AreAnnounced, HoldsTriple, HasRank, AreStateRelated};
+ghost use Rattle.auto_core.specs.Delayed.{IsTripleWord, HoldsTriple, HasRank, AreStateRelated};
 ghost use Rattle.delayed_sim.specs.Rounds.{without, reranked};
 ghost use Rattle.delayed_sim.specs.Rankings.{IsRanking, AreTriplesGiven, DifferInTriples, HasJust, IsTripleFrom, row_key, triple_at};
 
@@ -16,12 +16,12 @@ use bit_rel::Rel;
 use std::alloc::Global;
 use std::marker::Model;
 
-/// A triple of a left state, announced letters and a right state, with a rank or without one.
+/// A triple of a left state, a word and a right state, with a rank or without one.
 #[derive(Debug, Drop)]
 pub struct RankedTriple {
     /// The left state.
     pub left: u32,
-    /// The announced letters, one fewer than the game has.
+    /// The word: one letter fewer than are announced.
     pub ahead: Word,
     /// The right state.
     pub right: u32,
@@ -29,8 +29,8 @@ pub struct RankedTriple {
     pub rank: Option<u32>,
 }
 
-/// A relation over announced letters some of whose triples have a rank. Contracts see it as a `Ranking`: the numbers of states, labels and
-/// letters, and the list of the triples with their ranks, in order. It holds the listed triples alone.
+/// A relation of triples some of which have a rank. Contracts see it as a `Ranking`: the numbers of states, labels and announced letters,
+/// and the list of the triples with their ranks, in order. It holds the listed triples alone.
 #[derive(Debug, Drop)]
 pub struct Delayed {
     pub(crate) states: u32,
@@ -64,7 +64,7 @@ impl Delayed {
         requires upto { letters ≤ 4 }
         requires in_range { AreTriplesGiven states labels letters triples.now }
         requires different { DifferInTriples triples.now }
-        ensures size { IfOk result (λ d. d.states ≡ states) }
+        ensures states { IfOk result (λ d. d.states ≡ states) }
         ensures labels { IfOk result (λ d. d.labels ≡ labels) }
         ensures letters { IfOk result (λ d. d.letters ≡ letters) }
         ensures triples { IfOk result (λ d. HasJust d.triples triples.now) }
@@ -117,7 +117,7 @@ impl Delayed {
 
     /// Tells whether the relation holds the triple.
     pub fn relates(&self, p: u32, ahead: &[u32], q: u32) -> bool
-        requires letters { AreAnnounced self.now.labels self.now.letters ahead.now }
+        requires letters { IsTripleWord self.now.labels self.now.letters ahead.now }
         requires left { p < self.now.states }
         requires right { q < self.now.states }
         ensures told { IsTrue result ↔ HoldsTriple self.now.triples ahead.now p q }
@@ -131,7 +131,7 @@ impl Delayed {
 
     /// The rank of the triple; None where the triple is not held or has no rank.
     pub fn rank(&self, p: u32, ahead: &[u32], q: u32) -> Option<u32>
-        requires letters { AreAnnounced self.now.labels self.now.letters ahead.now }
+        requires letters { IsTripleWord self.now.labels self.now.letters ahead.now }
         requires left { p < self.now.states }
         requires right { q < self.now.states }
         ensures some { IfSome result (HasRank self.now.triples ahead.now p q) }
@@ -144,7 +144,7 @@ impl Delayed {
         }
     }
 
-    /// The state relation: the pairs of states that are related whatever letters are announced.
+    /// The state relation: the pairs of states whose triple with each word is held.
     pub fn relation(&self, alloc: Global) -> Result<Rel, Memory>
         ensures size { IfOk result (λ r. r.size ≡ self.now.states) }
         ensures pairs { IfOk result (λ r. (p q : ℕ) → Holds r.pairs p q
@@ -161,7 +161,7 @@ impl Delayed {
         self.entries.len()
     }
 
-    /// The left state of the triple at this place.
+    /// The left state of the triple with this number.
     pub fn left(&self, at: usize) -> u32
         requires { at < length self.now.triples }
         ensures state { result ≡ (triple_at self.now.triples at).0 }
@@ -170,7 +170,7 @@ impl Delayed {
         self.entries[at].left
     }
 
-    /// The letters between the states of the triple at this place, one fewer than are announced.
+    /// The word of the triple with this number: one letter fewer than are announced.
     pub fn ahead(&self, at: usize) -> &[u32]
         requires { at < length self.now.triples }
         ensures letters { result.now ≡ (triple_at self.now.triples at).1 }
@@ -179,7 +179,7 @@ impl Delayed {
         entries::ahead_of(&self.entries[at], self.letters)
     }
 
-    /// The right state of the triple at this place.
+    /// The right state of the triple with this number.
     pub fn right(&self, at: usize) -> u32
         requires { at < length self.now.triples }
         ensures state { result ≡ (triple_at self.now.triples at).2 }
@@ -188,7 +188,7 @@ impl Delayed {
         self.entries[at].right
     }
 
-    /// The rank of the triple at this place, if it has one.
+    /// The rank of the triple with this number, if it has one.
     pub fn rank_at(&self, at: usize) -> Option<u32>
         requires { at < length self.now.triples }
         ensures rank { result ≡ (triple_at self.now.triples at).3 }
@@ -197,14 +197,14 @@ impl Delayed {
         self.entries[at].rank
     }
 
-    /// The place of the first triple that does not stand before this one.
+    /// The number of the first triple that does not stand before this one.
     pub(crate) fn first_from(&self, p: u32, ahead: &[u32], q: u32) -> usize
         ensures { IsTripleFrom self.now.triples (p, ahead.now, q, None) result }
     {
         entries::first_from(&self.entries, self.letters, p, ahead, q)
     }
 
-    /// Takes the triple at this place out.
+    /// Takes the triple with this number out.
     pub(crate) fn take_out(&mut self, at: usize)
         requires { at < length self.old.triples }
         ensures left { self.new ≡ without self.old at }
@@ -213,7 +213,7 @@ impl Delayed {
         self.entries.remove(at);
     }
 
-    /// Gives the triple at this place the rank, or takes the one that it has.
+    /// Gives the triple with this number the rank, or takes the one that it has.
     pub(crate) fn set_rank(&mut self, at: usize, rank: Option<u32>)
         requires { at < length self.old.triples }
         ensures ranked { self.new ≡ reranked self.old at rank }
@@ -224,7 +224,7 @@ impl Delayed {
         self.entries[at] = entry;
     }
 
-    /// The place past the last triple with the left state and the letters of the triple at this place.
+    /// The number past the last triple with the left state and the word of the triple with this number.
     pub fn row_end(&self, at: usize) -> usize
         requires { at < length self.now.triples }
         ensures onward { at < result }

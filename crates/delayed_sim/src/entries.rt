@@ -8,12 +8,12 @@ ghost use Rattle.delayed_sim.specs.Stored.{triple_of, entry_triples, no_entry, I
 use auto_core::Memory;
 use std::cmp::Ordering;
 
-/// A triple with its rank, if it has one. Of `ahead` the first letters are announced, one fewer than the game has.
+/// A triple with its rank, if it has one. The first letters of `ahead` are the word, one fewer than are announced.
 #[derive(Clone, Copy, Debug)]
 pub(crate) struct Entry {
     /// The left state.
     pub left: u32,
-    /// The announced letters.
+    /// The letters of the word, and what fills them up.
     pub ahead: [u32; 3],
     /// The right state.
     pub right: u32,
@@ -21,7 +21,7 @@ pub(crate) struct Entry {
     pub rank: Option<u32>,
 }
 
-/// The announced letters of the entry in a game with so many.
+/// The word of the entry in a game with so many announced letters.
 pub(crate) fn ahead_of(entry: &Entry, letters: u32) -> &[u32]
     requires from { 1 ≤ letters }
     requires upto { letters ≤ 4 }
@@ -30,7 +30,7 @@ pub(crate) fn ahead_of(entry: &Entry, letters: u32) -> &[u32]
     &entry.ahead[..letters as usize - 1]
 }
 
-/// Compares the entry's triple with that of these states and letters.
+/// Compares the entry's triple with that of these states and this word.
 fn compare(entry: &Entry, letters: u32, left: u32, ahead: &[u32], right: u32) -> Ordering
     requires from { 1 ≤ letters }
     requires upto { letters ≤ 4 }
@@ -47,7 +47,7 @@ fn compare(entry: &Entry, letters: u32, left: u32, ahead: &[u32], right: u32) ->
     }
 }
 
-/// The place of the entry with these states and letters, or where it would stand.
+/// The number of the entry with these states and this word, or that which it would have.
 fn search(
     entries: &[Entry],
     letters: u32,
@@ -74,7 +74,7 @@ fn search(
     Err(low)
 }
 
-/// Tells whether the entry's triple stands before that of these states and letters.
+/// Tells whether the entry's triple stands before that of these states and this word.
 fn is_before(entry: &Entry, letters: u32, left: u32, ahead: &[u32], right: u32) -> bool
     requires from { 1 ≤ letters }
     requires upto { letters ≤ 4 }
@@ -87,7 +87,7 @@ fn is_before(entry: &Entry, letters: u32, left: u32, ahead: &[u32], right: u32) 
     }
 }
 
-/// The place of the first entry that does not stand before this triple.
+/// The number of the first entry that does not stand before this triple.
 pub(crate) fn first_from(
     entries: &[Entry],
     letters: u32,
@@ -113,7 +113,7 @@ pub(crate) fn first_from(
     low
 }
 
-/// The place of the entry with these states and letters.
+/// The number of the entry with these states and this word.
 pub(crate) fn find(
     entries: &[Entry],
     letters: u32,
@@ -133,7 +133,7 @@ pub(crate) fn find(
     }
 }
 
-/// Puts the entry where it belongs; none has its states and letters yet.
+/// Puts the entry where it belongs; none has its states and its word yet.
 pub(crate) fn put_in(entries: &mut Vec<Entry>, letters: u32, entry: Entry) -> Result<(), Memory>
     requires from { 1 ≤ letters }
     requires upto { letters ≤ 4 }
@@ -156,7 +156,7 @@ pub(crate) fn put_in(entries: &mut Vec<Entry>, letters: u32, entry: Entry) -> Re
     }
 }
 
-/// The three letters that begin with these.
+/// Three letters that begin with the word.
 pub(crate) fn padded(ahead: &[u32]) -> [u32; 3]
     requires { length ahead.now ≤ 3 }
     ensures { take (length ahead.now) result ≡ ahead.now }
@@ -168,7 +168,7 @@ pub(crate) fn padded(ahead: &[u32]) -> [u32; 3]
     letters
 }
 
-/// Tells whether the two entries have the same left state and letters.
+/// Tells whether the two entries have the same left state and the same word.
 fn is_of_row(entry: &Entry, other: &Entry, letters: u32) -> bool
     requires from { 1 ≤ letters }
     requires upto { letters ≤ 4 }
@@ -177,7 +177,7 @@ fn is_of_row(entry: &Entry, other: &Entry, letters: u32) -> bool
     entry.left == other.left && ahead_of(entry, letters) == ahead_of(other, letters)
 }
 
-/// The place past the last entry of the row of the entry at this place.
+/// The number past the last entry of the row of the entry with this number.
 pub(crate) fn row_end(entries: &[Entry], letters: u32, at: usize) -> usize
     requires from { 1 ≤ letters }
     requires upto { letters ≤ 4 }

@@ -6,18 +6,17 @@ ghost use Rattle.auto_core.specs.Game.{Holds};
 ghost use Rattle.auto_core.specs.Delayed.{IsGreatestDelayed, letters_for};
 ghost use Rattle.bit_rel.specs.Relation.{IsRelation};
 ghost use Rattle.delayed_sim.specs.Rankings.{IsRanking};
-ghost use Rattle.delayed_sim.specs.Played.{HasEachRight};
+ghost use Rattle.delayed_game.specs.Played.{HasEachRight};
 ghost use Rattle.delayed_sim.specs.Words.{ArePlaces};
 
-use crate::board::Board;
 use crate::delayed::Delayed;
 use crate::listing::entries_of;
 use crate::places::places_of;
-use crate::playing::play;
 use crate::unasked::Unasked;
 use crate::words::word_count;
 use auto_core::{Auto, Memory};
 use bit_rel::Rel;
+use delayed_game::{Board, play};
 use look_round::bound;
 use std::alloc::Global;
 
@@ -46,7 +45,7 @@ fn all_pairs(alloc: Global, n: u32) -> Result<Rel, Memory>
     Ok(rel)
 }
 
-/// What is left of the game of the places, which begins with the pairs of `first`, whatever the letters.
+/// What is left of the game of the places, which begins with the pairs of `first`, whatever the word.
 fn greatest_within(
     alloc: Global,
     places: &Auto,
@@ -63,7 +62,7 @@ fn greatest_within(
     requires few { places.now.states * automaton.now.states + 2 < 2 ^ 32 }
     requires equal { first.now.size ≡ automaton.now.states }
     requires first { HasEachRight places.now automaton.now (λ x q. Holds first.now.pairs (x / automaton.now.labels ^ (letters - 1)) q) }
-    ensures size { IfOk result (λ d. d.states ≡ automaton.now.states) }
+    ensures states { IfOk result (λ d. d.states ≡ automaton.now.states) }
     ensures labels { IfOk result (λ d. d.labels ≡ automaton.now.labels) }
     ensures letters { IfOk result (λ d. d.letters ≡ letters) }
     ensures valid { IfOk result IsRanking }
@@ -85,7 +84,7 @@ fn greatest_within(
 fn greatest_at_once(alloc: Global, automaton: &Auto) -> Result<Delayed, Memory>
     requires few { automaton.now.states ≤ 65535 }
     requires valid { IsAutomaton automaton.now }
-    ensures size { IfOk result (λ d. d.states ≡ automaton.now.states) }
+    ensures states { IfOk result (λ d. d.states ≡ automaton.now.states) }
     ensures labels { IfOk result (λ d. d.labels ≡ automaton.now.labels) }
     ensures letters { IfOk result (λ d. d.letters ≡ 1) }
     ensures valid { IfOk result IsRanking }
@@ -95,13 +94,13 @@ fn greatest_at_once(alloc: Global, automaton: &Auto) -> Result<Delayed, Memory>
     greatest_within(alloc, automaton, automaton, &first, 1)
 }
 
-/// The greatest delayed relation with more than one letter, by the game of the places.
+/// The greatest delayed relation with more than one announced letter, by the game of the places.
 fn greatest_ahead(alloc: Global, automaton: &Auto, letters: u32) -> Result<Delayed, Memory>
     requires from { 2 ≤ letters }
     requires upto { letters ≤ 4 }
     requires fitting { letters ≡ letters_for automaton.now letters }
     requires valid { IsAutomaton automaton.now }
-    ensures size { IfOk result (λ d. d.states ≡ automaton.now.states) }
+    ensures states { IfOk result (λ d. d.states ≡ automaton.now.states) }
     ensures labels { IfOk result (λ d. d.labels ≡ automaton.now.labels) }
     ensures letters { IfOk result (λ d. d.letters ≡ letters) }
     ensures valid { IfOk result IsRanking }
@@ -119,7 +118,7 @@ pub fn greatest(alloc: Global, automaton: &Auto, letters: u32) -> Result<Delayed
     requires upto { letters ≤ 4 }
     requires fitting { letters ≡ letters_for automaton.now letters }
     requires few { automaton.now.states ≤ 65535 }
-    ensures size { IfOk result (λ d. d.states ≡ automaton.now.states) }
+    ensures states { IfOk result (λ d. d.states ≡ automaton.now.states) }
     ensures labels { IfOk result (λ d. d.labels ≡ automaton.now.labels) }
     ensures letters { IfOk result (λ d. d.letters ≡ letters) }
     ensures valid { IfOk result IsRanking }

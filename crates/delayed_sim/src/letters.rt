@@ -2,28 +2,28 @@
 
 ghost use Rattle.std.specs.Prelude.{◌≡◌, ◌<◌, ◌≤◌};
 ghost use Rattle.auto_core.specs.Automaton.{IsAutomaton};
-ghost use Rattle.auto_core.specs.Delayed.{are_few_with_a_letter, letters_for};
+ghost use Rattle.auto_core.specs.Delayed.{are_few_triples_with_a_letter, letters_for};
 
 use auto_core::Auto;
 
-/// The most triples, each with one more letter, of a game with more than one announced letter.
-const MOST_WITH_A_LETTER: u64 = 4_000_000;
+/// The most triples, each with one further letter, of a game with more than one announced letter.
+const MOST_TRIPLES_WITH_A_LETTER: u64 = 4_000_000;
 
-/// Tells whether with so many announced letters there are no more triples, each with one more letter, than a game with more than one announced letter has.
-fn are_few_with_a_letter(automaton: &Auto, letters: u32) -> bool
+/// Tells whether with so many announced letters there are at most that many triples, each with one further letter.
+fn are_few_triples_with_a_letter(automaton: &Auto, letters: u32) -> bool
     requires { 0 < automaton.now.labels }
-    ensures { result ≡ are_few_with_a_letter automaton.now letters }
+    ensures { result ≡ are_few_triples_with_a_letter automaton.now letters }
 {
     let states = u64::from(automaton.states());
     let labels = u64::from(automaton.labels());
     let mut count = states * states;
     for _ in 0..letters {
-        if count > MOST_WITH_A_LETTER {
+        if count > MOST_TRIPLES_WITH_A_LETTER {
             return false;
         }
         count *= labels;
     }
-    count <= MOST_WITH_A_LETTER
+    count <= MOST_TRIPLES_WITH_A_LETTER
 }
 
 /// How many letters are announced on the automaton where `asked` are asked for: fewer where there would be too many triples.
@@ -39,7 +39,7 @@ pub fn letters_for(automaton: &Auto, asked: u32) -> u32
     }
     let mut letters = asked;
     'fewer: while letters > 1 {
-        if are_few_with_a_letter(automaton, letters) {
+        if are_few_triples_with_a_letter(automaton, letters) {
             return letters;
         }
         letters -= 1;

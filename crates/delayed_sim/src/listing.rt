@@ -1,30 +1,29 @@
 //! The triples of a relation from places to states, in their order.
 
 ghost use Rattle.std.specs.Prelude.{◌≡◌, ◌+◌, ◌-◌, ◌*◌, ◌/◌, ◌%◌, ◌^◌, ◌<◌, ◌≤◌, ℕ, length, take, IfOk};
-ghost use Rattle.delayed_sim.specs.Pairings.{IsPairing};
-ghost use Rattle.delayed_sim.specs.Levels.{rank_of};
+ghost use Rattle.delayed_game.specs.Pairings.{IsPairing};
+ghost use Rattle.auto_core.specs.Delayed.{rank_in_code};
 ghost use Rattle.delayed_sim.specs.Stored.{entry_triples};
 ghost use Rattle.delayed_sim.specs.Words.{digits, ListsTriplesBefore};
 
-use crate::board::Board;
 use crate::entries::Entry;
-use crate::pairs::place;
 use crate::words::{letters_of, word_count};
 use auto_core::Memory;
+use delayed_game::{Board, place};
 use row_steps::next_bit;
 use std::alloc::Global;
 
-/// The rank that stands in a table of ranks as this number: one less, and none where it is 0.
-fn rank_of(held: u32) -> Option<u32>
-    ensures { result ≡ rank_of held }
+/// The rank for which this number stands, in a table or in a certificate: one less, and none where it is 0.
+pub fn rank_in_code(code: u32) -> Option<u32>
+    ensures { result ≡ rank_in_code code }
 {
-    if held == 0 {
+    if code == 0 {
         return None;
     }
-    Some(held - 1)
+    Some(code - 1)
 }
 
-/// Appends the triples of the place, which has this left state and these letters.
+/// Appends the triples of the place, which has this left state and this word.
 fn push_row(
     entries: &mut Vec<Entry>,
     board: &Board,
@@ -49,7 +48,7 @@ fn push_row(
 {
     let mut at = 0;
     while let Some(q) = next_bit(board.row(x), at) {
-        let rank = rank_of(ranks[place(board.places(), board.states(), x, q as u32)]);
+        let rank = rank_in_code(ranks[place(board.places(), board.states(), x, q as u32)]);
         entries.push(Entry {
             left,
             ahead,

@@ -1,4 +1,4 @@
-//! The automaton of the places: left states with announced letters.
+//! The automaton of the places: left states with words.
 
 ghost use Rattle.std.specs.Prelude.{◌≡◌, ◌+◌, ◌-◌, ◌*◌, ◌/◌, ◌%◌, ◌^◌, ◌<◌, ◌≤◌, length, true, IfOk};
 ghost use Rattle.auto_core.specs.Automaton.{IsAutomaton};
@@ -10,7 +10,7 @@ use crate::words::word_count;
 use auto_core::{Auto, Memory, Trans, of_parts};
 use std::alloc::Global;
 
-/// The move of places by the transition, after which the word with this number is announced.
+/// The move of places by the transition, after which the word is that with this number.
 fn step_of(step: Trans, labels: u32, words: u32, next: u32) -> Trans
     requires label { step.label < labels }
     requires next { next < words }

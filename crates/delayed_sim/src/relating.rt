@@ -1,9 +1,9 @@
-//! The state relation: the pairs of states that are related whatever letters are announced.
+//! The state relation: the pairs of states whose triple with each word is held.
 
 ghost use Rattle.std.specs.Prelude.{◌≡◌, ◌+◌, ◌/◌, ◌<◌, ◌≤◌, ◌⊎◌, ◌↔◌, ℕ, [], All, length, take, IfOk};
 ghost use Rattle.auto_core.specs.Game.{Holds};
 ghost use Rattle.auto_core.specs.Rows.{HasBit};
-ghost use Rattle.auto_core.specs.Delayed.{AreAnnounced, HoldsTriple, AreStateRelated};
+ghost use Rattle.auto_core.specs.Delayed.{IsTripleWord, HoldsTriple, AreStateRelated};
 ghost use Rattle.delayed_sim.specs.Rankings.{IsRanking};
 ghost use Rattle.delayed_sim.specs.Related.{HoldsEach};
 
@@ -13,9 +13,9 @@ use bit_rel::Rel;
 use row_steps::{and_row, mark_below};
 use std::alloc::Global;
 
-/// Marks the right states of the triples of the left state with the letters.
+/// Marks the right states of the triples of the left state with the word.
 fn mark_row(delayed: &Delayed, p: u32, ahead: &[u32], row: &mut [u64])
-    requires letters { AreAnnounced delayed.now.labels delayed.now.letters ahead.now }
+    requires letters { IsTripleWord delayed.now.labels delayed.now.letters ahead.now }
     requires left { p < delayed.now.states }
     requires len { length row.old ≡ (delayed.now.states + 63) / 64 }
     requires valid { IsRanking delayed.now }
@@ -28,7 +28,7 @@ fn mark_row(delayed: &Delayed, p: u32, ahead: &[u32], row: &mut [u64])
     }
 }
 
-/// Takes from the row the states with which the left state has not each triple whose letters begin with the first ones of the word. `spare`
+/// Takes from the row the states with which the left state has not each triple whose word begins with the first letters of this one. `spare`
 /// is room for one row.
 fn keep_each(
     delayed: &Delayed,
@@ -60,7 +60,7 @@ fn keep_each(
     }
 }
 
-/// Relates the state to those to which it is related whatever letters are announced. `row` and `spare` are room for one row.
+/// Relates the state to those to which it is related whatever the word. `row` and `spare` are room for one row.
 fn relate_row(delayed: &Delayed, p: u32, related: &mut Rel, row: &mut [u64], spare: &mut [u64])
     requires equal { related.old.size ≡ delayed.now.states }
     requires left { p < delayed.now.states }
@@ -94,7 +94,7 @@ fn relate_triples(delayed: &Delayed, related: &mut Rel)
     }
 }
 
-/// The state relation. With one letter it has the pairs of the triples; with more of them, each word of letters is asked for.
+/// The state relation. With one announced letter it has the pairs of the triples; with more of them, each word is asked for.
 pub(crate) fn relation_of(alloc: Global, delayed: &Delayed) -> Result<Rel, Memory>
     ensures size { IfOk result (λ r. r.size ≡ delayed.now.states) }
     ensures pairs { IfOk result (λ r. (p q : ℕ) → Holds r.pairs p q

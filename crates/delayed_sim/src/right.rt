@@ -2,7 +2,7 @@
 
 ghost use Rattle.std.specs.Prelude.{◌≡◌, ◌+◌, ◌<◌, ◌≤◌, ◌↔◌, ℕ, Option, [], ◌∷◌, ◌++◌, length, take, drop, slice_index, IsTrue};
 ghost use Rattle.auto_core.specs.Automaton.{Moves, IsAccepting, trans_at};
-ghost use Rattle.auto_core.specs.Delayed.{AreAnnounced, HasRank, IsRight};
+ghost use Rattle.auto_core.specs.Delayed.{IsTripleWord, HasRank, IsRight};
 ghost use Rattle.delayed_sim.specs.Rankings.{triple_at};
 ghost use Rattle.delayed_sim.specs.Right.{Suits, IsAnsweredWithin, IsAnsweredAhead, HasAnswers, IsTripleRight, IsTripleAnswered};
 
@@ -11,7 +11,7 @@ use auto_core::{Auto, Trans};
 
 /// Tells whether the triple has a rank below this one.
 fn is_below(delayed: &Delayed, p: u32, ahead: &[u32], q: u32, rank: u32) -> bool
-    requires letters { AreAnnounced delayed.now.labels delayed.now.letters ahead.now }
+    requires letters { IsTripleWord delayed.now.labels delayed.now.letters ahead.now }
     requires left { p < delayed.now.states }
     requires right { q < delayed.now.states }
     ensures { IsTrue result ↔ ((s : ℕ) × HasRank delayed.now.triples ahead.now p q s × (s < rank)) }
@@ -24,7 +24,7 @@ fn is_below(delayed: &Delayed, p: u32, ahead: &[u32], q: u32, rank: u32) -> bool
 
 /// Tells whether the relation holds the triple, with a rank below the limit if there is one.
 fn suits(delayed: &Delayed, p: u32, ahead: &[u32], q: u32, limit: Option<u32>) -> bool
-    requires letters { AreAnnounced delayed.now.labels delayed.now.letters ahead.now }
+    requires letters { IsTripleWord delayed.now.labels delayed.now.letters ahead.now }
     requires left { p < delayed.now.states }
     requires right { q < delayed.now.states }
     ensures { IsTrue result ↔ Suits delayed.now.triples limit ahead.now p q }
@@ -35,7 +35,7 @@ fn suits(delayed: &Delayed, p: u32, ahead: &[u32], q: u32, limit: Option<u32>) -
     }
 }
 
-/// Tells whether the state answers the move, after which these letters are announced, with a triple of the relation, of a rank below the
+/// Tells whether the state answers the move, after which the word is this one, with a triple of the relation, of a rank below the
 /// limit if there is one.
 fn is_answered(
     automaton: &Auto,
@@ -48,7 +48,7 @@ fn is_answered(
     requires equal { delayed.now.states ≡ automaton.now.states }
     requires state { q < automaton.now.states }
     requires target { step.target < automaton.now.states }
-    requires letters { AreAnnounced delayed.now.labels delayed.now.letters ahead.now }
+    requires letters { IsTripleWord delayed.now.labels delayed.now.letters ahead.now }
     ensures { IsTrue result ↔ IsAnsweredWithin automaton.now delayed.now.triples limit ahead.now q step.label step.target }
 {
     let span = automaton.successors(q, step.label);
@@ -61,7 +61,7 @@ fn is_answered(
     false
 }
 
-/// The letter after the one at this place, where `more` comes behind the announced letters.
+/// The letter behind the one with this number in the word, where `more` comes behind the word.
 fn letter_after(ahead: &[u32], more: u32, at: usize) -> u32
     requires { at < length ahead.now }
     ensures { result ≡ slice_index (ahead.now ++ more ∷ []) (at + 1) }
@@ -73,7 +73,7 @@ fn letter_after(ahead: &[u32], more: u32, at: usize) -> u32
     }
 }
 
-/// The letters that are announced after a move, where `more` is announced next: the first ones of the three.
+/// The word after a move, where the further letter is `more`: the first ones of the three letters.
 fn next_ahead(ahead: &[u32], more: u32) -> [u32; 3]
     requires { length ahead.now ≤ 3 }
     ensures { take (length ahead.now) result ≡ drop 1 (ahead.now ++ more ∷ []) }
@@ -85,7 +85,7 @@ fn next_ahead(ahead: &[u32], more: u32) -> [u32; 3]
     next
 }
 
-/// Tells whether the state answers the move whatever letter is announced next, with triples of a rank below the limit if there is one.
+/// Tells whether the state answers the move whatever further letter is announced, with triples of a rank below the limit if there is one.
 fn is_answered_ahead(
     automaton: &Auto,
     delayed: &Delayed,
@@ -99,7 +99,7 @@ fn is_answered_ahead(
     requires state { q < automaton.now.states }
     requires target { step.target < automaton.now.states }
     requires label { step.label < automaton.now.labels }
-    requires letters { AreAnnounced delayed.now.labels delayed.now.letters ahead.now }
+    requires letters { IsTripleWord delayed.now.labels delayed.now.letters ahead.now }
     requires some { 0 < length ahead.now }
     requires short { length ahead.now ≤ 3 }
     requires first { slice_index ahead.now 0 ≡ step.label }
@@ -114,8 +114,8 @@ fn is_answered_ahead(
     true
 }
 
-/// Tells whether the state answers the move of another one over these letters, if they allow it: at once where none are announced before it,
-/// and otherwise whatever letter is announced next.
+/// Tells whether the state answers the move of another one with this word, if the word allows it: at once where the word is empty, and
+/// otherwise whatever further letter is announced.
 fn answers_move(
     automaton: &Auto,
     delayed: &Delayed,
@@ -129,7 +129,7 @@ fn answers_move(
     requires state { q < automaton.now.states }
     requires target { step.target < automaton.now.states }
     requires label { step.label < automaton.now.labels }
-    requires letters { AreAnnounced delayed.now.labels delayed.now.letters ahead.now }
+    requires letters { IsTripleWord delayed.now.labels delayed.now.letters ahead.now }
     requires short { length ahead.now ≤ 3 }
     ensures { IsTrue result ↔ IsAnsweredAhead automaton.now delayed.now.triples limit ahead.now q step.label step.target }
 {
@@ -142,7 +142,7 @@ fn answers_move(
     is_answered_ahead(automaton, delayed, q, step, ahead, limit)
 }
 
-/// Tells whether the right state answers each move of the left one over these letters, with triples of a rank below the limit if there is
+/// Tells whether the right state answers each move of the left one with this word, with triples of a rank below the limit if there is
 /// one.
 fn has_answers(
     automaton: &Auto,
@@ -156,7 +156,7 @@ fn has_answers(
     requires same { delayed.now.labels ≡ automaton.now.labels }
     requires left { p < automaton.now.states }
     requires right { q < automaton.now.states }
-    requires letters { AreAnnounced delayed.now.labels delayed.now.letters ahead.now }
+    requires letters { IsTripleWord delayed.now.labels delayed.now.letters ahead.now }
     requires short { length ahead.now ≤ 3 }
     ensures { IsTrue result ↔ HasAnswers automaton.now delayed.now.triples limit ahead.now p q }
 {
@@ -170,7 +170,7 @@ fn has_answers(
     true
 }
 
-/// Tells whether the moves of the triple at this place are answered, by triples of a rank below the limit if there is one.
+/// Tells whether the moves of the triple with this number are answered, by triples of a rank below the limit if there is one.
 pub fn is_answered_at(automaton: &Auto, delayed: &Delayed, at: usize, limit: Option<u32>) -> bool
     requires equal { delayed.now.states ≡ automaton.now.states }
     requires same { delayed.now.labels ≡ automaton.now.labels }
@@ -187,7 +187,7 @@ pub fn is_answered_at(automaton: &Auto, delayed: &Delayed, at: usize, limit: Opt
     )
 }
 
-/// Tells whether the triple at this place is right.
+/// Tells whether the triple with this number is right.
 fn is_right(automaton: &Auto, delayed: &Delayed, at: usize) -> bool
     requires equal { delayed.now.states ≡ automaton.now.states }
     requires same { delayed.now.labels ≡ automaton.now.labels }

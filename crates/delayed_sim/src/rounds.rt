@@ -2,7 +2,7 @@
 
 ghost use Rattle.std.specs.Prelude.{◌≡◌, ◌+◌, ◌-◌, ◌*◌, ◌^◌, ◌<◌, ◌≤◌, ◌↔◌, ℕ, List, Option, length, true, false, IsTrue, IfOk};
 ghost use Rattle.auto_core.specs.Automaton.{IsAutomaton};
-ghost use Rattle.auto_core.specs.Delayed.{AreAnnounced, HoldsTriple, IsGreatestDelayed, letters_for};
+ghost use Rattle.auto_core.specs.Delayed.{IsTripleWord, HoldsTriple, IsGreatestDelayed, letters_for};
 ghost use Rattle.delayed_sim.specs.Rankings.{IsRanking, triple_at};
 ghost use Rattle.delayed_sim.specs.Right.{IsTripleAnswered};
 ghost use Rattle.delayed_sim.specs.Rounds.{HasEachTriple, HasRanksUpto, IsShortened, Thins, IsReranked, HasSameTriples, AreRanksRight, GetsRankZero, GetsRank, unranked, AreAcceptingRanked, AreAllAnswered};
@@ -22,12 +22,12 @@ fn all_triples(alloc: Global, automaton: &Auto, letters: u32) -> Result<Delayed,
     requires word_count { automaton.now.labels ^ (letters - 1) < 2 ^ 32 }
     requires places { automaton.now.states * automaton.now.labels ^ (letters - 1) < 2 ^ 32 }
     requires few { automaton.now.states * automaton.now.labels ^ (letters - 1) * automaton.now.states + 1 < 2 ^ 32 }
-    ensures size { IfOk result (λ d. d.states ≡ automaton.now.states) }
+    ensures states { IfOk result (λ d. d.states ≡ automaton.now.states) }
     ensures labels { IfOk result (λ d. d.labels ≡ automaton.now.labels) }
     ensures letters { IfOk result (λ d. d.letters ≡ letters) }
     ensures valid { IfOk result IsRanking }
     ensures few { IfOk result (λ d. length d.triples + 1 < 2 ^ 32) }
-    ensures all { IfOk result (λ d. (b : List ℕ) (p q : ℕ) → AreAnnounced automaton.now.labels letters b → p < automaton.now.states → q < automaton.now.states → HoldsTriple d.triples b p q) }
+    ensures all { IfOk result (λ d. (b : List ℕ) (p q : ℕ) → IsTripleWord automaton.now.labels letters b → p < automaton.now.states → q < automaton.now.states → HoldsTriple d.triples b p q) }
 {
     let states = automaton.states();
     let labels = automaton.labels();
@@ -187,7 +187,7 @@ pub fn greatest_by_rounds(alloc: Global, automaton: &Auto, letters: u32) -> Resu
     requires upto { letters ≤ 4 }
     requires fitting { letters ≡ letters_for automaton.now letters }
     requires few { automaton.now.states ≤ 65535 }
-    ensures size { IfOk result (λ d. d.states ≡ automaton.now.states) }
+    ensures states { IfOk result (λ d. d.states ≡ automaton.now.states) }
     ensures labels { IfOk result (λ d. d.labels ≡ automaton.now.labels) }
     ensures letters { IfOk result (λ d. d.letters ≡ letters) }
     ensures valid { IfOk result IsRanking }

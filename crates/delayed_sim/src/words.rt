@@ -1,4 +1,4 @@
-//! Words of announced letters as numbers.
+//! Words of triples as numbers.
 
 ghost use Rattle.std.specs.Prelude.{◌≡◌, ◌+◌, ◌-◌, ◌*◌, ◌^◌, ◌<◌, ◌≤◌, take};
 ghost use Rattle.delayed_sim.specs.Words.{digits};

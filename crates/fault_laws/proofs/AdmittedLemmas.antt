@@ -3,8 +3,8 @@ use Rattle.std.proofs.Common.{◌≡◌, ◌≢◌, ℕ, ◌<◌, ◌≤◌, ◌
 use Rattle.std.proofs.lemmas.Bool.{cases_lt}
 use Rattle.std.proofs.lemmas.List.{take-take, length-append}
 use Rattle.std.proofs.Math.Seq.{take-append_seam}
-use Rattle.cert_text.specs.declared.faults.TextKind.{TextKind}
-use Rattle.cert_text.specs.declared.faults.TextKind.TheVariants as kind
+use Rattle.cert_line.specs.declared.faults.TextKind.{TextKind}
+use Rattle.cert_line.specs.declared.faults.TextKind.TheVariants as kind
 use Rattle.cert_text.specs.declared.faults.TextFault.{TextFault}
 use Rattle.cert_value.specs.Text.{Line, text_of}
 use Rattle.cert_text.specs.Grammar.{LinesOutcome, lines_of, reading_by}

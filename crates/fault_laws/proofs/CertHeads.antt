@@ -8,12 +8,12 @@ use Rattle.cert_value.specs.declared.types.Body.{Body}
 use Rattle.cert_value.specs.declared.types.Body.TheVariants as body
 use Rattle.cert_value.specs.declared.types.Form.{Form}
 use Rattle.cert_value.specs.declared.types.Form.TheVariants as form
-use Rattle.cert_text.specs.declared.faults.TextKind.{TextKind}
-use Rattle.cert_text.specs.declared.faults.TextKind.TheVariants.{Header}
+use Rattle.cert_line.specs.declared.faults.TextKind.{TextKind}
+use Rattle.cert_line.specs.declared.faults.TextKind.TheVariants.{Header}
 use Rattle.cert_value.specs.Text.{Line, form_of, first_line, sizes_line, body_lines, end_line, cert_lines}
 use Rattle.cert_value.specs.WellFormed.{WellFormed, is_version, is_body}
-use Rattle.cert_text.specs.Lines.{or_else, heading_said, version_heading_in, heading_in}
-use Rattle.cert_text.proofs.OriginFacts.{heading_bw}
+use Rattle.cert_line.specs.Lines.{or_else, heading_said, version_heading_in, heading_in}
+use Rattle.cert_line.proofs.OriginFacts.{heading_bw}
 use Rattle.fault_laws.proofs.HeaderLemmas.{IsHead}
 
 -- A body of each form, and a certificate with it.

@@ -1,12 +1,12 @@
 -- The heading of cross relations is their first line.
 use Rattle.std.proofs.Common.{◌≡◌, [], ◌∷◌, ◌++◌, Option, Some, None, is_none, if◌then◌else◌, Ok, Err, refl, sym, ap}
-use Rattle.cert_text.specs.declared.faults.TextKind.{TextKind}
-use Rattle.cert_text.specs.declared.faults.TextKind.TheVariants.{Header}
-use Rattle.cert_text.specs.declared.forms.Tail.TheVariants as tail
+use Rattle.cert_line.specs.declared.faults.TextKind.{TextKind}
+use Rattle.cert_line.specs.declared.faults.TextKind.TheVariants.{Header}
+use Rattle.cert_line.specs.declared.shapes.Tail.TheVariants as tail
 use Rattle.cert_value.specs.Text.{Line, sizes_line, block_lines, end_line}
-use Rattle.cert_text.specs.Forms.{line_fault}
-use Rattle.cert_text.specs.Lines.{Said}
-use Rattle.cert_text.proofs.FormFacts.{line_back, closed_none}
+use Rattle.cert_line.specs.Shapes.{line_fault}
+use Rattle.cert_line.specs.Lines.{Said}
+use Rattle.cert_line.proofs.ShapeFacts.{line_back, closed_none}
 use Rattle.cross_text.specs.declared.types.Cross.{Cross}
 use Rattle.cross_text.specs.Text.{CrossFormed, block_of, heading_line, look_line, cross_lines}
 use Rattle.cross_text.specs.Grammar.{cross_heading_places, cross_heading_in}

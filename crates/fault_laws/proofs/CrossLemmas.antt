@@ -1,10 +1,10 @@
 -- The grammar of cross relations, and their texts.
 use Rattle.std.proofs.Common.{ℕ, true, false, is_none, Ok, Err, refl}
 use Rattle.cert_value.specs.declared.keywords.Keyword.TheVariants as keyword
-use Rattle.cert_text.specs.declared.faults.TextKind.TheVariants.{Header}
-use Rattle.cert_text.specs.declared.forms.Tail.TheVariants as tail
-use Rattle.cert_text.specs.Forms.{line_fault}
-use Rattle.cert_text.specs.Lines.{number_in, sizes_in}
+use Rattle.cert_line.specs.declared.faults.TextKind.TheVariants.{Header}
+use Rattle.cert_line.specs.declared.shapes.Tail.TheVariants as tail
+use Rattle.cert_line.specs.Shapes.{line_fault}
+use Rattle.cert_line.specs.Lines.{number_in, sizes_in}
 use Rattle.cert_text.specs.Grammar.{read_end}
 use Rattle.cross_text.specs.Text.{CrossFormed, cross_lines}
 use Rattle.cross_text.specs.Grammar.{cross_heading_places, cross_heading_in, cross_of_parts, read_relation, read_look, read_cross_sizes, read_cross}

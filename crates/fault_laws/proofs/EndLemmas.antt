@@ -4,7 +4,7 @@ use Rattle.std.specs.List.{slice_split, join_with_byte}
 use Rattle.std.proofs.lemmas.Bool.{ne_eqb}
 use Rattle.std.proofs.lemmas.List.{length-append}
 use Rattle.std.proofs.lemmas.List.Splits.{join_with_byte-slice_split}
-use Rattle.cert_text.specs.declared.faults.TextKind.TheVariants.{Trailing}
+use Rattle.cert_line.specs.declared.faults.TextKind.TheVariants.{Trailing}
 use Rattle.cert_value.specs.Text.{Line, text_of}
 use Rattle.cert_value.specs.Tokens.{tokens_of}
 use Rattle.cert_text.specs.Grammar.{LinesOutcome, Read, Stopped, is_bare, finish, lines_of, reading_by}

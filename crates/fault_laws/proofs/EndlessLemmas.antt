@@ -5,15 +5,15 @@ use Rattle.std.proofs.lemmas.Bool.{and_parts, ltb-true, leb-true}
 use Rattle.auto_core.specs.declared.parts.Mode.TheVariants as mode
 use Rattle.cert_value.specs.declared.types.Cert.{Cert}
 use Rattle.cert_value.specs.declared.types.Row.{Row}
-use Rattle.cert_text.specs.declared.faults.TextKind.TheVariants.{Truncated}
-use Rattle.cert_text.specs.declared.lines.Sizes.{Sizes}
+use Rattle.cert_line.specs.declared.faults.TextKind.TheVariants.{Truncated}
+use Rattle.cert_line.specs.declared.lines.Sizes.{Sizes}
 use Rattle.cert_value.specs.Text.{Line, spelled, text_of}
 use Rattle.cert_value.specs.WellFormed.{is_short, is_run, has_some, runs_ascend}
 use Rattle.cert_text.specs.Law.{FirstFault}
-use Rattle.cert_text.specs.Lines.{row_in}
+use Rattle.cert_line.specs.Lines.{row_in}
 use Rattle.cert_text.specs.Grammar.{LinesOutcome, On, Read, lines_of, read_rows, read_all_elements, read_end, cert_of, yes_of}
 use Rattle.cert_text.proofs.Backward.{line_bw}
-use Rattle.cert_text.proofs.LineFacts.{row_bw}
+use Rattle.cert_line.proofs.LineFacts.{row_bw}
 use Rattle.cross_text.specs.declared.types.Cross.{Cross}
 use Rattle.cross_text.specs.Grammar.{FirstCrossFault, cross_of_parts}
 use Rattle.fault_laws.specs.FirstFaults.{BeginCert}

@@ -2,10 +2,10 @@
 use Rattle.std.proofs.Common.{◌≡◌, ℕ, ◌≤◌, List, [], ◌∷◌, ◌++◌, length, map, take, Ok, Err, ◌↔◌, refl, sym, ap, ◌∙◌, arith}
 use Rattle.std.specs.List.{join_with_byte}
 use Rattle.std.proofs.lemmas.List.{length-append}
-use Rattle.cert_text.specs.declared.faults.TextKind.{TextKind}
-use Rattle.cert_text.specs.declared.faults.TextKind.TheVariants.{Header}
+use Rattle.cert_line.specs.declared.faults.TextKind.{TextKind}
+use Rattle.cert_line.specs.declared.faults.TextKind.TheVariants.{Header}
 use Rattle.cert_value.specs.Text.{Line, text_of}
-use Rattle.cert_text.specs.Lines.{Said}
+use Rattle.cert_line.specs.Lines.{Said}
 use Rattle.cert_text.specs.Grammar.{On, Stopped, after, next_line, lines_of}
 use Rattle.cert_text.proofs.BytesLines.{pieces_back}
 use Rattle.cert_text.proofs.Reading.{stopped_by}

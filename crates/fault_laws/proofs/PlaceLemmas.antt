@@ -1,7 +1,7 @@
 -- Where the first fault stands, whatever is read.
 use Rattle.std.proofs.Common.{◌≡◌, ◌≢◌, ℕ, ◌<◌, ◌≤◌, ◌+◌, ◌-◌, true, List, length, Err, inl, inr, sym, ap, arith}
 use Rattle.std.proofs.lemmas.Bool.{cases_lt}
-use Rattle.cert_text.specs.declared.faults.TextKind.TheVariants.{Truncated, Trailing}
+use Rattle.cert_line.specs.declared.faults.TextKind.TheVariants.{Truncated, Trailing}
 use Rattle.cert_text.specs.declared.faults.TextFault.{TextFault}
 use Rattle.cert_value.specs.Text.{Line, text_of}
 use Rattle.cert_text.specs.Grammar.{LinesOutcome, Read, Stopped, lines_of, told_at, first_left, reading_by}

@@ -2,10 +2,10 @@
 use Rattle.std.proofs.Common.{◌≡◌, ◌≢◌, ℕ, zero, suc, ◌<◌, ◌≤◌, ◌+◌, List, [], ◌∷◌, ◌++◌, length, take, Bool, true, false, cond, Ok, Err, refl, sym, ap, ◌∙◌, subst, arith}
 use Rattle.std.proofs.lemmas.Bool.{false≢true}
 use Rattle.std.proofs.lemmas.List.{length-append}
-use Rattle.cert_text.specs.declared.faults.TextKind.{TextKind}
-use Rattle.cert_text.specs.declared.faults.TextKind.TheVariants.{Header, Number, Shape, Order, Truncated, Trailing}
+use Rattle.cert_line.specs.declared.faults.TextKind.{TextKind}
+use Rattle.cert_line.specs.declared.faults.TextKind.TheVariants.{Header, Number, Shape, Order, Truncated, Trailing}
 use Rattle.cert_value.specs.Text.{Line}
-use Rattle.cert_text.specs.Lines.{Said}
+use Rattle.cert_line.specs.Lines.{Said}
 use Rattle.cert_text.specs.Grammar.{LinesOutcome, On, Read, Stopped, after, next_line, is_bare, finish}
 
 -- What a line can be refused for; the heading is a first line's alone.

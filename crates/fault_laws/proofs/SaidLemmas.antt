@@ -2,11 +2,11 @@
 use Rattle.std.proofs.Common.{◌≡◌, ℕ, List, ◌==◌, Bool, true, false, not, Option, Some, None, Ok, Err, if◌then◌else◌, refl, subst}
 use Rattle.auto_core.specs.declared.parts.Mode.{Mode}
 use Rattle.auto_core.specs.declared.parts.Mode.TheVariants as mode
-use Rattle.cert_text.specs.declared.faults.TextKind.{TextKind}
-use Rattle.cert_text.specs.declared.faults.TextKind.TheVariants as kind
+use Rattle.cert_line.specs.declared.faults.TextKind.{TextKind}
+use Rattle.cert_line.specs.declared.faults.TextKind.TheVariants as kind
 use Rattle.cert_value.specs.Text.{Line}
-use Rattle.cert_text.specs.Forms.{fits, has_empty, has_numbers, has_count, line_fault}
-use Rattle.cert_text.specs.Lines.{Said, unless, as_form, in_order, either, word_in, number_in, numbers_in, ascending_in, sizes_in, row_in, rank_row_in, gone_by_in, trim_in, first_head_in, plain_delayed_in, announced_delayed_in, delayed_in, delayed_or_cut_in, second_head_in, origin_in, element_in, step_in, heading_in, heading_said, or_else, version_heading_in}
+use Rattle.cert_line.specs.Shapes.{fits, has_empty, has_numbers, has_count, line_fault}
+use Rattle.cert_line.specs.Lines.{Said, unless, as_shape, in_order, either, word_in, number_in, numbers_in, ascending_in, sizes_in, row_in, rank_row_in, gone_by_in, trim_in, first_head_in, plain_delayed_in, announced_delayed_in, delayed_in, delayed_or_cut_in, second_head_in, origin_in, element_in, step_in, heading_in, heading_said, or_else, version_heading_in}
 use Rattle.fault_laws.proofs.ReaderLemmas.{IsLineKind, SaysOwn, TellsOwn}
 
 pub ok_own : {A : Type 0} (head : Bool) (a : A) → SaysOwn head (Ok a)
@@ -27,7 +27,7 @@ unless_if head true kind o said p q = p
 unless_if head false kind o said p q = q
 
 form_own : {A : Type 0} (head : Bool) (places : _) (tail : _) (told : Line → Said A)
-    → TellsOwn head told → TellsOwn head (as_form places tail told)
+    → TellsOwn head told → TellsOwn head (as_shape places tail told)
 form_own head places tail told own line =
     unless_if head (has_empty line) kind.Shape _ (told line) (err_own head kind.Shape tt)
     (unless_if head (not (fits places line)) kind.Shape _ (told line) (err_own head kind.Shape tt)
@@ -41,13 +41,13 @@ either_own : {A : Type 0} (head : Bool) (places : _) (told other : Line → Said
     → TellsOwn head told → TellsOwn head other → TellsOwn head (either places told other)
 either_own head places told other p q line = if_own head (fits places line) (told line) (other line) (p line) (q line)
 
--- a form that takes any numbers
-plain_own : {A : Type 0} (head : Bool) (places : _) (tail : _) (value : Line → A) → TellsOwn head (as_form places tail (λ tokens. Ok (value tokens)))
+-- a shape that takes any numbers
+plain_own : {A : Type 0} (head : Bool) (places : _) (tail : _) (value : Line → A) → TellsOwn head (as_shape places tail (λ tokens. Ok (value tokens)))
 plain_own head places tail value = form_own head places tail (λ tokens. Ok (value tokens)) (λ tokens. ok_own head (value tokens))
 
--- a form with an order
+-- a shape with an order
 sorted_own : {A : Type 0} (head : Bool) (places : _) (tail : _) (right : Line → Bool) (value : Line → A)
-    → TellsOwn head (as_form places tail (λ tokens. in_order (right tokens) (value tokens)))
+    → TellsOwn head (as_shape places tail (λ tokens. in_order (right tokens) (value tokens)))
 sorted_own head places tail right value =
     form_own head places tail (λ tokens. in_order (right tokens) (value tokens)) (λ tokens. in_order_own head (right tokens) (value tokens))
 
@@ -78,9 +78,9 @@ gone_by_own = search sorted_own
 trim_own : {A : Type 0} (head : List ℕ → A) → TellsOwn false (trim_in head)
 trim_own head = search sorted_own
 
--- a form with a test of its own
+-- a shape with a test of its own
 tested_own : {A : Type 0} (head : Bool) (places : _) (tail : _) (right : Line → Bool) (value : Line → A)
-    → TellsOwn head (as_form places tail (λ tokens. if right tokens then Ok (value tokens) else Err kind.Shape))
+    → TellsOwn head (as_shape places tail (λ tokens. if right tokens then Ok (value tokens) else Err kind.Shape))
 tested_own head places tail right value =
     form_own head places tail (λ tokens. if right tokens then Ok (value tokens) else Err kind.Shape)
     (λ tokens. if_own head (right tokens) (Ok (value tokens)) (Err kind.Shape) (ok_own head (value tokens)) (err_own head kind.Shape tt))
@@ -145,16 +145,16 @@ of_unless P (Some fault) said a e p = of_err P fault a e
 of_unless P None said a e p = p e
 
 of_form : {A : Type 0} (P : A → Type 0) (places : _) (tail : _) (told : Line → Said A)
-    → ((line : Line) (a : A) → told line ≡ Ok a → P a) → Tells P (as_form places tail told)
+    → ((line : Line) (a : A) → told line ≡ Ok a → P a) → Tells P (as_shape places tail told)
 of_form P places tail told p = record { each = λ line a e. of_unless P (line_fault places tail line) (told line) a e (p line a) }
 
 pub plain_tells : {A : Type 0} (P : A → Type 0) (places : _) (tail : _) (value : Line → A)
-    → ((line : Line) → P (value line)) → Tells P (as_form places tail (λ tokens. Ok (value tokens)))
+    → ((line : Line) → P (value line)) → Tells P (as_shape places tail (λ tokens. Ok (value tokens)))
 plain_tells P places tail value p =
     of_form P places tail (λ tokens. Ok (value tokens)) (λ line a e. of_said P (value line) a (Ok (value line)) refl e (p line))
 
 pub tested_tells : {A : Type 0} (P : A → Type 0) (places : _) (tail : _) (right : Line → Bool) (value : Line → A) (fault : TextKind)
-    → ((line : Line) → P (value line)) → Tells P (as_form places tail (λ tokens. if right tokens then Ok (value tokens) else Err fault))
+    → ((line : Line) → P (value line)) → Tells P (as_shape places tail (λ tokens. if right tokens then Ok (value tokens) else Err fault))
 tested_tells P places tail right value fault p =
     of_form P places tail (λ tokens. if right tokens then Ok (value tokens) else Err fault) (λ line a e.
     of_if P (right line) (Ok (value line)) (Err fault) a e (λ f. of_said P (value line) a (Ok (value line)) refl f (p line)) (λ f. of_err P fault a f))

@@ -1,7 +1,7 @@
 -- Which lines a cross relation's text may begin with, as a certificate's.
 use Rattle.std.specs.Prelude.{◌≡◌, ◌↔◌, ℕ, ◌+◌, ◌<◌, ◌≤◌, List, [], ◌∷◌, ◌++◌, length, codes}
 use Rattle.cert_text.specs.declared.faults.TextFault.{TextFault}
-use Rattle.cert_text.specs.declared.faults.TextKind.TheVariants.{Header, Truncated}
+use Rattle.cert_line.specs.declared.faults.TextKind.TheVariants.{Header, Truncated}
 use Rattle.cross_text.specs.declared.types.Cross.{Cross}
 use Rattle.cross_text.specs.Text.{CrossFormed, cross_text}
 use Rattle.cross_text.specs.Grammar.{FirstCrossFault}

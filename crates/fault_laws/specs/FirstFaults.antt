@@ -3,7 +3,7 @@ use Rattle.std.specs.Prelude.{◌≡◌, ◌≢◌, ◌==◌, ℕ, ◌+◌, ◌-
 use Rattle.std.specs.List.{slice_split}
 use Rattle.cert_value.specs.declared.types.Cert.{Cert}
 use Rattle.cert_text.specs.declared.faults.TextFault.{TextFault}
-use Rattle.cert_text.specs.declared.faults.TextKind.TheVariants.{Truncated, Trailing}
+use Rattle.cert_line.specs.declared.faults.TextKind.TheVariants.{Truncated, Trailing}
 use Rattle.cert_value.specs.Text.{text}
 use Rattle.cert_value.specs.WellFormed.{WellFormed}
 use Rattle.cert_text.specs.Law.{FirstFault}

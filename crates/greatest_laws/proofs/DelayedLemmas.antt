@@ -3,7 +3,7 @@
 use Rattle.std.proofs.Common.{◌≡◌, ℕ, zero, suc, ◌<◌, ◌≤◌, List, length, map, Contains, Option, Some, None, refl, sym, ap, subst, ◌∙◌, inl, inr, arith}
 use Rattle.std.proofs.lemmas.Bool.{cases_eq}
 use Rattle.auto_core.specs.Automaton.{Automaton, Moves, IsAccepting}
-use Rattle.auto_core.specs.Delayed.{RankedTriples, HoldsTriple, HasRank, Announces, AreAnnounced, AreTriplesOf, IsRight, IsGreatestDelayed}
+use Rattle.auto_core.specs.Delayed.{RankedTriples, HoldsTriple, HasRank, Announces, IsTripleWord, AreTriplesOf, IsRight, IsGreatestDelayed}
 use Rattle.greatest_laws.specs.Greatest.{GreatestDelayedIsThere}
 use Rattle.greatest_laws.proofs.DecisionLemmas.{Decided, decide_both, decide_then, decide_number, keep}
 use Rattle.greatest_laws.proofs.MoveLemmas.{contains_map, map_contains}
@@ -56,7 +56,7 @@ module _ (A : Automaton) (n : ℕ) where
 
   -- Each place of the list is one of the automaton's.
   abbrev ArePlaces : List Place → Type 0
-  ArePlaces S = (b : List ℕ) (p q : ℕ) → Has S b p q → AreAnnounced A.labels n b × (p < A.states) × (q < A.states)
+  ArePlaces S = (b : List ℕ) (p q : ℕ) → Has S b p q → IsTripleWord A.labels n b × (p < A.states) × (q < A.states)
 
   -- A list of places that all stay, with each right list of triples inside.
   abbrev LastPlaces : Type 0

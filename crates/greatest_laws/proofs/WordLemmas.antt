@@ -1,15 +1,15 @@
--- Words of announced letters, and what is decided of triples over them.
+-- Words of triples, and what is decided of triples over them.
 use Rattle.std.proofs.Common.{◌≡◌, ℕ, zero, suc, ◌<◌, List, [], ◌∷◌, ◌++◌, length, map, drop, get_or, All, Contains, refl, sym, ap, subst, inl, inr, arith}
 use Rattle.std.specs.List.{flat_map}
 use Rattle.std.proofs.lemmas.Bool.{cases_eq}
 use Rattle.std.proofs.lemmas.List.Elements.{All-cons, All-head, All-tail, Contains-append_left, Contains-append_right, Contains-append_cases}
 use Rattle.auto_core.specs.Automaton.{Automaton, Moves}
-use Rattle.auto_core.specs.Delayed.{Announces, AreAnnounced}
+use Rattle.auto_core.specs.Delayed.{Announces, IsTripleWord}
 use Rattle.auto_core.proofs.PathLemmas.{Contains-here, Contains-later, Contains-cons_cases, none_in_nil}
 use Rattle.greatest_laws.proofs.DecisionLemmas.{Decided, decide_as, decide_both, decide_then, decide_some, all_pairs, pairs_have, pairs_below}
 use Rattle.greatest_laws.proofs.MoveLemmas.{contains_map, map_contains, forward_listing, decide_moves, decide_move}
 
--- Announced letters, a left state and a right state.
+-- A word, a left state and a right state.
 abbrev pub Place : Type 0
 Place = List ℕ × ℕ × ℕ
 
@@ -42,7 +42,7 @@ decide_below (suc n) P decide =
     (λ all. (λ i lt. all i (omega arith), all n (omega arith)))
     (decide_both ((i : ℕ) → i < n → P i) (P n) (decide_below n P decide) (decide n))
 
--- ---- answers whatever letter is announced next
+-- ---- answers whatever further letter is announced
 
 -- Each move of p is answered by q with a place of which P holds.
 abbrev pub IsAnsweredAll : Automaton → (List ℕ → ℕ → ℕ → Type 0) → List ℕ → ℕ → ℕ → Type 0
@@ -140,14 +140,14 @@ abbrev pub all_places : ℕ → ℕ → ℕ → List Place
 all_places states labels zero = []
 all_places states labels (suc m) = flat_map (with_pairs (all_pairs states states)) (all_words labels m)
 
-pub places_have : (states labels n : ℕ) (b : List ℕ) (p q : ℕ) → AreAnnounced labels n b → p < states → q < states → Has (all_places states labels n) b p q
+pub places_have : (states labels n : ℕ) (b : List ℕ) (p q : ℕ) → IsTripleWord labels n b → p < states → q < states → Has (all_places states labels n) b p q
 places_have states labels zero b p q h lt short = let len = h.0 in absurd (omega arith)
 places_have states labels (suc m) b p q h lt short =
     let len = h.0 in
     flat_has (with_pairs (all_pairs states states)) (all_words labels m) b (b, p, q) (words_have labels m b (omega arith) h.1)
     (map_contains (λ (x : ℕ × ℕ). (b, x.0, x.1)) (all_pairs states states) (p, q) (pairs_have states states p q lt short))
 
-pub places_below : (states labels n : ℕ) (b : List ℕ) (p q : ℕ) → Has (all_places states labels n) b p q → AreAnnounced labels n b × (p < states) × (q < states)
+pub places_below : (states labels n : ℕ) (b : List ℕ) (p q : ℕ) → Has (all_places states labels n) b p q → IsTripleWord labels n b × (p < states) × (q < states)
 places_below states labels zero b p q h = absurd (none_in_nil (b, p, q) h)
 places_below states labels (suc m) b p q h =
     let (c, c_in, made) = flat_from (with_pairs (all_pairs states states)) (all_words labels m) (b, p, q) h in
@@ -157,7 +157,7 @@ places_below states labels (suc m) b p q h =
     let right : x.1 ≡ q = ap (λ (z : Place). z.2) e in
     let words = words_below labels m c c_in in
     let pairs = pairs_below states states x.0 x.1 x_in in (
-      subst (AreAnnounced labels (suc m)) word (ap suc words.0, words.1),
+      subst (IsTripleWord labels (suc m)) word (ap suc words.0, words.1),
       subst (λ z. z < states) left pairs.0,
       subst (λ z. z < states) right pairs.1,
     )

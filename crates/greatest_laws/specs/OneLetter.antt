@@ -1,4 +1,4 @@
--- The delayed game in which one letter is announced, that of the move to be answered: nothing stands between two states.
+-- The delayed game with one announced letter, that of the move to be answered: the word of each triple is empty.
 use Rattle.std.specs.Prelude.{◌≡◌, ℕ, ◌<◌, ◌≤◌, ◌↔◌, Option, Some, List, [], map, Contains}
 use Rattle.auto_core.specs.Automaton.{Automaton, Moves, IsAccepting, IsAutomaton}
 use Rattle.auto_core.specs.Delayed.{RankedTriples, AreTriplesOf, IsRight, IsGreatestDelayed, AreStateRelated}
@@ -43,25 +43,25 @@ pub record AreGreatestPairs (A : Automaton) (X : RankedPairs) : Type 0 where
       (Y : RankedPairs) → AreRankedBelow A.states Y → AreRightPairs A Y
       → (p q s : ℕ) → PairHasRank Y p q s → (r : ℕ) × PairHasRank X p q r × (r ≤ s)
 
--- The triple of this pair, where nothing is announced between its states.
-abbrev pub unannounced : ℕ × ℕ × Option ℕ → ℕ × List ℕ × ℕ × Option ℕ
-unannounced x = (x.0, [], x.1, x.2)
+-- The triple of this pair, with the empty word.
+abbrev pub triple_of_pair : ℕ × ℕ × Option ℕ → ℕ × List ℕ × ℕ × Option ℕ
+triple_of_pair x = (x.0, [], x.1, x.2)
 
--- Each list of triples of the game with one letter is one of pairs.
+-- Each list of triples of the game with one announced letter is one of pairs.
 abbrev pub OneLetterTriplesArePairs : Type 0
 OneLetterTriplesArePairs =
     (states labels : ℕ) (X : RankedTriples)
     → AreTriplesOf states labels 1 X
-    → (Y : RankedPairs) × (X ≡ map unannounced Y)
+    → (Y : RankedPairs) × (X ≡ map triple_of_pair Y)
 
 -- And its triples are right exactly where the pairs are.
 abbrev pub OneLetterIsPairs : Type 0
-OneLetterIsPairs = (A : Automaton) (Y : RankedPairs) → IsAutomaton A → IsRight A (map unannounced Y) ↔ AreRightPairs A Y
+OneLetterIsPairs = (A : Automaton) (Y : RankedPairs) → IsAutomaton A → IsRight A (map triple_of_pair Y) ↔ AreRightPairs A Y
 
 -- They are the greatest delayed relation exactly where the pairs are.
 abbrev pub OneLetterGreatestIsOfPairs : Type 0
-OneLetterGreatestIsOfPairs = (A : Automaton) (Y : RankedPairs) → IsAutomaton A → IsGreatestDelayed A 1 (map unannounced Y) ↔ AreGreatestPairs A Y
+OneLetterGreatestIsOfPairs = (A : Automaton) (Y : RankedPairs) → IsAutomaton A → IsGreatestDelayed A 1 (map triple_of_pair Y) ↔ AreGreatestPairs A Y
 
 -- And their state relation is that of the pairs.
 abbrev pub OneLetterRelatesPairs : Type 0
-OneLetterRelatesPairs = (labels : ℕ) (Y : RankedPairs) (p q : ℕ) → AreStateRelated labels 1 (map unannounced Y) p q ↔ HoldsRanked Y p q
+OneLetterRelatesPairs = (labels : ℕ) (Y : RankedPairs) (p q : ℕ) → AreStateRelated labels 1 (map triple_of_pair Y) p q ↔ HoldsRanked Y p q

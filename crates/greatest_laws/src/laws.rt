@@ -23,7 +23,7 @@ pub fn a_greatest_delayed_relation_is_there()
     ensures { GreatestDelayedIsThere }
 {}
 
-/// With one announced letter the triples are pairs: no letter stands between two states.
+/// With one announced letter the triples are pairs: their word is empty.
 pub fn one_letter_triples_are_pairs()
     ensures { OneLetterTriplesArePairs }
 {}

@@ -6,7 +6,7 @@ use Rattle.std.proofs.lemmas.Result.{IfOk-weaker}
 use Rattle.auto_core.specs.Automaton.{Automaton, IsAutomaton, trans_at}
 use Rattle.auto_core.specs.Game.{Close, Holds, StableForward, StableBackward}
 use Rattle.auto_core.specs.Quotient.{RelatesMembersBy}
-use Rattle.auto_core.specs.Pruning.{look_back, look_ahead, IsStableBack, IsStableAhead}
+use Rattle.auto_core.specs.Pruning.{look_backward, look_forward, IsStableBack, IsStableAhead}
 use Rattle.auto_core.specs.declared.parts.Memory.{Memory}
 use Rattle.auto_core.proofs.PathLemmas.{none_in_nil}
 use Rattle.bit_rel.specs.Relation.{Relation, IsClosed}
@@ -75,7 +75,7 @@ block_at blocks i block lt is = ap pairs_of (sym (is ∙ get_or_default blocks i
 pub ahead_told :
     (A : Automaton) (pair look k : ℕ) (blocks : List RelBlock) (block : RelBlock) (r : Result (Option Relation) Memory)
     → ahead_of pair blocks ≡ pairs_of block
-    → look_ahead pair look ≡ k
+    → look_forward pair look ≡ k
     → (pair ≡ 2 → ⊥)
     → IfOk r (λ found. MatchOption found (StableForward A k (pairs_of block) → ⊥) (λ rel. StableForward A k (pairs_of block) × IsClosureOf A.states (Holds (pairs_of block)) rel))
     → IfOk r (λ found. MatchOption found (IsStableAhead A pair look (ahead_of pair blocks) → ⊥)
@@ -90,7 +90,7 @@ ahead_told A pair look k blocks block r pairs looks has told =
 pub back_told :
     (A : Automaton) (pair look k : ℕ) (blocks : List RelBlock) (block : RelBlock) (r : Result (Option Relation) Memory)
     → back_of pair blocks ≡ pairs_of block
-    → look_back pair look ≡ k
+    → look_backward pair look ≡ k
     → (pair ≡ 1 → ⊥)
     → IfOk r (λ found. MatchOption found (StableBackward A k (pairs_of block) → ⊥) (λ rel. StableBackward A k (pairs_of block) × IsClosureOf A.states (Holds (pairs_of block)) rel))
     → IfOk r (λ found. MatchOption found (IsStableBack A pair look (back_of pair blocks) → ⊥)

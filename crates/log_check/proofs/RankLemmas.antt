@@ -9,7 +9,7 @@ use Rattle.std.proofs.lemmas.Cmp.{nat_list_cmp_total}
 use Rattle.std.proofs.lemmas.Bool.{and_parts, leb-true, eqb-true, false≢true, cases_order}
 use Rattle.std.proofs.lemmas.List.Elements.{Contains-append_cases, Contains-append_left, Contains-append_right, Contains-get_or, All-contains}
 use Rattle.auto_core.specs.Automaton.{Automaton}
-use Rattle.auto_core.specs.Delayed.{RankedTriples, HoldsTriple, IsRight, AreAnnounced, AreTriplesOf, AreStateRelated}
+use Rattle.auto_core.specs.Delayed.{RankedTriples, HoldsTriple, IsRight, IsTripleWord, AreTriplesOf, AreStateRelated, rank_in_code}
 use Rattle.auto_core.proofs.MemberLemmas.{Rises, map_from, map_has}
 use Rattle.auto_core.proofs.PathLemmas.{Contains-here, Contains-later, Contains-cons_cases, none_in_nil}
 use Rattle.delayed_sim.specs.Rankings.{Ranking, ranked_triple, AreTriplesGiven, DifferInTriples, HasJust}
@@ -18,7 +18,7 @@ use Rattle.cert_value.specs.declared.types.RankBlock.{RankBlock}
 use Rattle.cert_value.specs.declared.types.RankRow.{RankRow}
 use Rattle.cert_value.specs.declared.types.Ranked.{Ranked}
 use Rattle.cert_value.specs.WellFormed.{is_short, are_short, has_some, ascend_from, ascend, rights_of, is_ranked, rank_key, is_less, are_rank_rows, is_rank_row, is_rank_block}
-use Rattle.log_check.specs.Blocks.{rank_in_code, triples_of_row, triples_of, IsRankRowBelow, IsRankBlockBelow, IsRankingOf}
+use Rattle.log_check.specs.Blocks.{triples_of_row, triples_of, IsRankRowBelow, IsRankBlockBelow, IsRankingOf}
 use Rattle.log_check.specs.RankedLists.{row_list, block_list}
 
 -- ---- joined lists
@@ -84,8 +84,8 @@ triples_given n labels letters block from formed below p b q rank h =
     let row_below : IsRankRowBelow n labels row = All-contains (IsRankRowBelow n labels) block.rows row below row_in in
     let right_below : r.right < n = All-contains (λ (s : Ranked). s.right < n) row.rights r row_below.rights r_in in
     let count : length row.ahead ≡ letters - 1 = counted letters [] block.rows row (and_parts (is_short (length block.rows)) (are_rank_rows letters [] block.rows) formed).1 row_in in
-    let announced : AreAnnounced labels letters row.ahead = (omega arith, row_below.ahead) in (
-      subst (AreAnnounced labels letters) (ap (λ (x : RankedTriple). x.ahead) is) announced,
+    let is_word : IsTripleWord labels letters row.ahead = (omega arith, row_below.ahead) in (
+      subst (IsTripleWord labels letters) (ap (λ (x : RankedTriple). x.ahead) is) is_word,
       subst (λ m. m < n) (ap (λ (x : RankedTriple). x.left) is) row_below.left,
       subst (λ m. m < n) (ap (λ (x : RankedTriple). x.right) is) right_below,
     )
@@ -111,8 +111,8 @@ pub ranking_is :
     → made.letters ≡ n
     → HasJust made.triples (block_list block)
     → IsRankingOf A n block made
-ranking_is A n block made size labels letters just = record {
-  size = size;
+ranking_is A n block made states labels letters just = record {
+  states = states;
   labels = labels;
   letters = letters;
   triples = λ b p q rank. (
@@ -138,7 +138,7 @@ triple_alike : (X Y : RankedTriples) → HaveSame X Y → (b : List ℕ) (p q : 
 triple_alike X Y same b p q (rank, h) = (rank, (same b p q rank).0 h)
 
 pub ahead_alike : (labels n : ℕ) (X Y : RankedTriples) → HaveSame X Y → (p q : ℕ) → AreStateRelated labels n X p q → AreStateRelated labels n Y p q
-ahead_alike labels n X Y same p q h = λ b announced. triple_alike X Y same b p q (h b announced)
+ahead_alike labels n X Y same p q h = λ b is_word. triple_alike X Y same b p q (h b is_word)
 
 pub right_alike : (A : Automaton) (X Y : RankedTriples) → HaveSame X Y → IsRight A X → IsRight A Y
 right_alike A X Y same right = record {
@@ -168,7 +168,7 @@ not_less xs h =
     let turned_is : is_less xs xs ≡ is_lt (ordering_reverse (slice_cmp nat_cmp xs xs)) = ap is_lt (nat_list_cmp_total.antisymm xs xs) in
     false≢true (sym (ap (λ o. is_lt (ordering_reverse o)) less) ∙ sym turned_is ∙ h)
 
--- One triple stands before another: by left state and announced letters, then by right state.
+-- One triple stands before another: by left state and word, then by right state.
 abbrev Before : RankedTriple → RankedTriple → Type 0
 Before x y = (is_less (x.left ∷ x.ahead) (y.left ∷ y.ahead) ≡ true) ⊎ ((x.left ∷ x.ahead ≡ y.left ∷ y.ahead) × (x.right < y.right))
 

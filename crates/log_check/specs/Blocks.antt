@@ -1,9 +1,9 @@
 -- What the blocks of a certificate list, pairs or triples with ranks, and whether they name states and labels.
-use Rattle.std.specs.Prelude.{◌≡◌, ℕ, ◌-◌, ◌<◌, ◌==◌, ◌↔◌, Option, None, Some, List, map, All, Contains, if◌then◌else◌}
+use Rattle.std.specs.Prelude.{◌≡◌, ℕ, ◌<◌, ◌↔◌, Option, List, map, All, Contains}
 use Rattle.std.specs.List.{flat_map}
 use Rattle.auto_core.specs.Automaton.{Automaton}
 use Rattle.auto_core.specs.Game.{Holds}
-use Rattle.auto_core.specs.Delayed.{RankedTriples}
+use Rattle.auto_core.specs.Delayed.{RankedTriples, rank_in_code}
 use Rattle.bit_rel.specs.Relation.{Relation}
 use Rattle.delayed_sim.specs.Rankings.{Ranking}
 use Rattle.cert_value.specs.declared.types.RelBlock.{RelBlock}
@@ -39,10 +39,6 @@ pub record IsBlockRelation (n : ℕ) (block : RelBlock) (rel : Relation) : Type 
   pub size : rel.size ≡ n
   pub pairs : (p q : ℕ) → Holds rel.pairs p q ↔ Holds (pairs_of block) p q
 
--- What a code says of the rank: 0 that there is none, and a greater code that it is one less.
-abbrev pub rank_in_code : ℕ → Option ℕ
-rank_in_code code = if code == 0 then None else Some (code - 1)
-
 -- The triples of a row with ranks.
 abbrev pub triples_of_row : RankRow → RankedTriples
 triples_of_row row = map (λ (r : Ranked). (row.left, row.ahead, r.right, rank_in_code r.code)) row.rights
@@ -51,7 +47,7 @@ triples_of_row row = map (λ (r : Ranked). (row.left, row.ahead, r.right, rank_i
 abbrev pub triples_of : RankBlock → RankedTriples
 triples_of block = flat_map triples_of_row block.rows
 
--- The states of the row are below n, and its announced letters are labels.
+-- The states of the row are below n, and the letters of its word are labels.
 pub record IsRankRowBelow (n labels : ℕ) (row : RankRow) : Type 0 where
   pub left : row.left < n
   pub ahead : All (λ a. a < labels) row.ahead
@@ -64,7 +60,7 @@ IsRankBlockBelow n labels block = All (IsRankRowBelow n labels) block.rows
 -- The relation with ranks, on the states and labels of A and with n announced letters, holds just the triples that the block lists, with
 -- their ranks.
 pub record IsRankingOf (A : Automaton) (n : ℕ) (block : RankBlock) (ranks : Ranking) : Type 0 where
-  pub size : ranks.states ≡ A.states
+  pub states : ranks.states ≡ A.states
   pub labels : ranks.labels ≡ A.labels
   pub letters : ranks.letters ≡ n
   pub triples :

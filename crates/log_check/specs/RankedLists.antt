@@ -2,11 +2,11 @@
 use Rattle.std.specs.Prelude.{List, map}
 use Rattle.std.specs.List.{flat_map}
 use Rattle.delayed_sim.specs.declared.delayed.RankedTriple.{RankedTriple}
+use Rattle.auto_core.specs.Delayed.{rank_in_code}
 use Rattle.delayed_sim.specs.Rankings.{ranked_triple}
 use Rattle.cert_value.specs.declared.types.RankBlock.{RankBlock}
 use Rattle.cert_value.specs.declared.types.RankRow.{RankRow}
 use Rattle.cert_value.specs.declared.types.Ranked.{Ranked}
-use Rattle.log_check.specs.Blocks.{rank_in_code}
 
 -- The triples of a row.
 abbrev pub row_list : RankRow → List RankedTriple

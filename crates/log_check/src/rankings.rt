@@ -2,13 +2,14 @@
 
 ghost use Rattle.std.specs.Prelude.{◌≡◌, ◌≤◌, ◌↔◌, ◌++◌, true, IfOk, IsTrue};
 ghost use Rattle.cert_value.specs.WellFormed.{is_rank_block};
-ghost use Rattle.log_check.specs.Blocks.{rank_in_code, IsRankRowBelow, IsRankBlockBelow, IsRankingOf};
+ghost use Rattle.auto_core.specs.Delayed.{rank_in_code};
+ghost use Rattle.log_check.specs.Blocks.{IsRankRowBelow, IsRankBlockBelow, IsRankingOf};
 ghost use Rattle.log_check.specs.RankedLists.{row_list, block_list};
 
 use crate::copying::copied_numbers;
 use auto_core::{Auto, Memory};
 use cert_value::{RankBlock, RankRow};
-use delayed_sim::{Delayed, RankedTriple};
+use delayed_sim::{Delayed, RankedTriple, rank_in_code};
 use std::alloc::Global;
 
 fn is_rank_row_below(states: u32, labels: u32, row: &RankRow) -> bool
@@ -23,7 +24,7 @@ fn is_rank_row_below(states: u32, labels: u32, row: &RankRow) -> bool
             .all(|ranked| ranked.right < states)
 }
 
-/// Tells whether the states of the block are those of the automaton, and its announced letters labels.
+/// Tells whether the states of the block are those of the automaton, and the letters of its words labels.
 pub(crate) fn is_rank_block_below(automaton: &Auto, block: &RankBlock) -> bool
     ensures { IsTrue result ↔ IsRankBlockBelow automaton.now.states automaton.now.labels block.now }
 {
@@ -37,13 +38,6 @@ pub(crate) fn is_rank_block_below(automaton: &Auto, block: &RankBlock) -> bool
     true
 }
 
-/// The rank that the code stands for, if it stands for one.
-fn rank(code: u32) -> Option<u32>
-    ensures { result ≡ rank_in_code code }
-{
-    if code == 0 { None } else { Some(code - 1) }
-}
-
 fn add_row(alloc: Global, triples: &mut Vec<RankedTriple>, row: &RankRow) -> Result<(), Memory>
     ensures { IfOk result (λ _. triples.new.items ≡ triples.old.items ++ row_list row.now) }
 {
@@ -53,7 +47,7 @@ fn add_row(alloc: Global, triples: &mut Vec<RankedTriple>, row: &RankRow) -> Res
             left: row.left,
             ahead,
             right: ranked.right,
-            rank: rank(ranked.code),
+            rank: rank_in_code(ranked.code),
         })?;
     }
     Ok(())

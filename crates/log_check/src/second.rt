@@ -76,7 +76,7 @@ fn merge_by_side<S: Side>(
     Ok(merge(alloc, automaton, &classes)?)
 }
 
-/// Makes the states of each class one, which a delayed relation relates whatever letters are announced.
+/// Makes the states of each class one, which the state relation of a delayed relation relates.
 fn merge_delayed(
     alloc: Global,
     automaton: &Auto,

@@ -1,6 +1,6 @@
 pub mod TakingLemmas
 pub mod RowLemmas
 pub mod NearLemmas
-pub mod FirstLemmas
+pub mod VisitLemmas
 pub mod AskedLemmas
 pub mod PlayLemmas

@@ -1,5 +1,5 @@
 pub mod Taking
 pub mod Near
-pub mod First
 pub mod Asked
 pub mod Playing
+pub mod Visiting

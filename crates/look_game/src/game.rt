@@ -4,54 +4,19 @@ ghost use Rattle.std.specs.Prelude.{◌≡◌, ◌+◌, ◌/◌, ◌^◌, ◌<�
 ghost use Rattle.auto_core.specs.Automaton.{IsAutomaton};
 ghost use Rattle.auto_core.specs.Game.{ArePairsBelow, Holds, IsGreatest, Stable};
 ghost use Rattle.bit_rel.specs.Relation.{IsRelation};
-ghost use Rattle.look_game.specs.Taking.{TakesAway, TakesSome, KeepsOthers, HasRounds, HasStable};
+ghost use Rattle.look_game.specs.Taking.{TakesAway, TakesSome, HasRounds, HasStable};
 ghost use Rattle.look_game.specs.Asked.{IsLost, IsNeverKept};
-ghost use Rattle.look_game.specs.Near.{IsReachedWithin, IsFarFrom, HasOtherRounds};
+ghost use Rattle.look_game.specs.Near.{IsFarFrom, HasOtherRounds};
+ghost use Rattle.look_game.specs.Visiting.{IsReady};
 
 use crate::asked::{Pair, is_lost, may_stay};
-use crate::{first, near};
+use crate::near;
+use crate::visiting::{Visits, visit_row};
 use auto_core::{Auto, Memory, rows};
 use bit_rel::Rel;
 use look_round::{Scratch, Side, bound};
-use row_steps::{mark_below, next_bit};
+use row_steps::mark_below;
 use std::alloc::Global;
-
-/// Takes away the pairs of `p` that do not have their round, and tells whether there were any.
-fn visit_row<S: Side>(
-    side: &S,
-    automaton: &Auto,
-    look: u32,
-    rel: &mut Rel,
-    scratch: &mut Scratch,
-    p: u32,
-) -> bool
-    requires look_from { 1 ≤ look }
-    requires look_upto { look ≤ 6 }
-    requires equal { rel.old.size ≡ automaton.now.states }
-    requires made { scratch.old ≡ record { states = automaton.now.states; look = look } }
-    requires state { p < automaton.now.states }
-    requires few { automaton.now.states < 2 ^ 32 }
-    requires valid { IsRelation rel.old }
-    ensures takes { TakesAway (S.goes side.now automaton.now) (S.keeps side.now automaton.now) look rel.old rel.new }
-    ensures some { result ≡ true → TakesSome rel.old rel.new }
-    ensures same { result ≡ false → rel.new ≡ rel.old }
-    ensures rounds { result ≡ false → HasRounds (S.goes side.now automaton.now) (S.keeps side.now automaton.now) look rel.new p }
-    ensures others { KeepsOthers p rel.old rel.new }
-    ensures apart { (IsReachedWithin (S.goes side.now automaton.now) look p p → ⊥)
-        → HasRounds (S.goes side.now automaton.now) (S.keeps side.now automaton.now) look rel.new p }
-    ensures scratch { scratch.new ≡ scratch.old }
-{
-    let mut changed = false;
-    let mut at = 0;
-    while let Some(q) = next_bit(rel.row(p), at) {
-        if !first::holds(side, automaton, rel, look, p, q as u32, scratch) {
-            rel.clear(p, q as u32);
-            changed = true;
-        }
-        at = q + 1;
-    }
-    changed
-}
 
 /// Takes away pairs of the marked rows that do not have their round, each pair being tried once, and tells whether there were
 /// any. The last rows come first, since moves mostly lead on to later states. `changed` is made to mark the rows that lost pairs.
@@ -63,6 +28,7 @@ fn pass<S: Side>(
     rel: &mut Rel,
     scratch: &mut Scratch,
     changed: &mut [u64],
+    visits: &mut Visits,
 ) -> bool
     requires look_from { 1 ≤ look }
     requires look_upto { look ≤ 6 }
@@ -71,6 +37,7 @@ fn pass<S: Side>(
     requires marks_len { length marks.now ≡ (automaton.now.states + 63) / 64 }
     requires changed_len { length changed.old ≡ (automaton.now.states + 63) / 64 }
     requires others { HasOtherRounds (S.goes side.now automaton.now) (S.keeps side.now automaton.now) look rel.old marks.now }
+    requires ready { IsReady (S.goes side.now automaton.now) (S.keeps side.now automaton.now) (Holds rel.old.pairs) automaton.now.states visits.old }
     ensures takes { TakesAway (S.goes side.now automaton.now) (S.keeps side.now automaton.now) look rel.old rel.new }
     ensures some { result ≡ true → TakesSome rel.old rel.new }
     ensures none { result ≡ false → (p : ℕ) → HasRounds (S.goes side.now automaton.now) (S.keeps side.now automaton.now) look rel.new p }
@@ -78,12 +45,13 @@ fn pass<S: Side>(
         → IsFarFrom (S.goes side.now automaton.now) look changed.new p
         → HasRounds (S.goes side.now automaton.now) (S.keeps side.now automaton.now) look rel.new p }
     ensures scratch { scratch.new ≡ scratch.old }
+    ensures ready { IsReady (S.goes side.now automaton.now) (S.keeps side.now automaton.now) (Holds rel.new.pairs) automaton.now.states visits.new }
 {
     rows::clear_row(changed);
     let mut any = false;
     for p in (0..rel.size()).rev() {
         if rows::has_bit(marks, p as usize) {
-            if visit_row(side, automaton, look, rel, scratch, p) {
+            if visit_row(side, automaton, look, rel, scratch, p, visits) {
                 rows::set_bit(changed, p as usize);
                 any = true;
             }
@@ -104,6 +72,7 @@ fn settle<S: Side>(
     marks: &mut [u64],
     changed: &mut [u64],
     spare: &mut [u64],
+    visits: &mut Visits,
 ) -> bool
     requires valid { IsAutomaton automaton.now }
     requires look_from { 1 ≤ look }
@@ -114,12 +83,13 @@ fn settle<S: Side>(
     requires marks_len { length marks.old ≡ (automaton.now.states + 63) / 64 }
     requires changed_len { length changed.old ≡ (automaton.now.states + 63) / 64 }
     requires spare_len { length spare.old ≡ (automaton.now.states + 63) / 64 }
+    requires ready { IsReady (S.goes side.now automaton.now) (S.keeps side.now automaton.now) (Holds rel.old.pairs) automaton.now.states visits.old }
     ensures takes { TakesAway (S.goes side.now automaton.now) (S.keeps side.now automaton.now) look rel.old rel.new }
     ensures rounds { result ≡ true → (p : ℕ) → HasRounds (S.goes side.now automaton.now) (S.keeps side.now automaton.now) look rel.new p }
     ensures lost { result ≡ false → IsLost rel.new.pairs asked }
 {
     mark_below(marks, rel.size());
-    'passes: while pass(side, automaton, look, marks, rel, scratch, changed) {
+    'passes: while pass(side, automaton, look, marks, rel, scratch, changed, visits) {
         if is_lost(rel, asked) {
             return false;
         }
@@ -156,6 +126,7 @@ fn greatest_within<S: Side>(
     let mut marks = vec![in alloc; 0; width]?;
     let mut changed = vec![in alloc; 0; width]?;
     let mut spare = vec![in alloc; 0; width]?;
+    let mut visits = Visits::new(alloc, side, automaton, &rel)?;
     let is_settled = settle(
         side,
         automaton,
@@ -166,6 +137,7 @@ fn greatest_within<S: Side>(
         &mut marks,
         &mut changed,
         &mut spare,
+        &mut visits,
     );
     if is_settled { Ok(Some(rel)) } else { Ok(None) }
 }

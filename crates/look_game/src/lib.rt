@@ -2,11 +2,11 @@
 #![tactic(auto)]
 
 mod asked;
-mod first;
 mod game;
 mod losing;
 mod near;
 mod rounds;
+mod visiting;
 
 pub use game::{greatest, greatest_near, greatest_with};
 pub use rounds::greatest_by_rounds;

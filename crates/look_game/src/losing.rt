@@ -6,10 +6,9 @@ ghost use Rattle.bit_rel.specs.Relation.{IsRelation};
 ghost use Rattle.look_game.specs.Taking.{TakesAway};
 
 use crate::asked::Pair;
-use crate::first;
 use auto_core::{Auto, Memory};
 use bit_rel::Rel;
-use look_round::{Move, Scratch, Side};
+use look_round::{Move, Scratch, Side, is_reply, round_holds};
 use std::alloc::Global;
 
 /// At most one round is played for so many pairs of states.
@@ -115,7 +114,7 @@ impl<'a, S: Side> Play<'a, S> {
     {
         for at in 0..self.side.moves(self.automaton, q) {
             let reply = self.side.nth(self.automaton, q, at);
-            if first::is_reply(self.side, self.automaton, step, reply)
+            if is_reply(self.side, self.automaton, step, reply)
                 && replies.len() <= MOST_REPLIES
                 && !replies.contains(&reply.to)
             {
@@ -145,7 +144,7 @@ impl<'a, S: Side> Play<'a, S> {
         ensures { PlaysOn self.old self.new }
     {
         if self.rel.get(pair.left, pair.right) {
-            if !first::holds(
+            if !round_holds(
                 self.side,
                 self.automaton,
                 &self.rel,

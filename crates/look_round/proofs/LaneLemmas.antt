@@ -1,13 +1,12 @@
 -- Lanes: for each state a word whose bits tell which of some columns the state has.
-use Rattle.std.proofs.Common.{◌≡◌, ℕ, ◌+◌, ◌*◌, ◌/◌, ◌<◌, ◌≤◌, ◌⊎◌, ◌↔◌, inl, inr, true, false, ◌||◌, List, ◌∷◌, length, get_or, Contains, refl, sym, ap, ◌∙◌, subst, arith}
+use Rattle.std.proofs.Common.{◌≡◌, ℕ, ◌+◌, ◌*◌, ◌<◌, ◌≤◌, ◌⊎◌, ◌↔◌, inl, inr, true, false, ◌||◌, List, ◌∷◌, length, get_or, Contains, refl, sym, ap, ◌∙◌, subst, arith}
 use Rattle.std.proofs.lemmas.Bool.{cases_eq, cases_lt, or_cases, or_left, or_right, false≢true}
 use Rattle.std.proofs.lemmas.List.{get_or_default}
+use Rattle.auto_core.specs.Automaton.{trans}
+use Rattle.auto_core.specs.declared.parts.Trans.{Trans}
 use Rattle.auto_core.specs.Rows.{bit_of, cell_of, HasBit, HasCell}
 use Rattle.row_steps.specs.Walks.{IsNextBit}
-use Rattle.row_steps.proofs.WordLemmas.{bit_of_zero_word}
-use Rattle.look_round.specs.declared.moves.Move.{Move}
-use Rattle.look_round.specs.Sides.{move}
-use Rattle.look_round.specs.Words.{AreColumns, AreLanes, AreLanesOf, LeadsToLane, HasNear, AddsColumns}
+use Rattle.look_round.specs.Words.{AreColumns, AreLanes, AreLanesOf, LeadsToLane, AddsColumns}
 
 -- The rows that the bits of `row` below `next` name are marked at one place.
 pub record IsMarkedUpto (old now row : List ℕ) (width count at next : ℕ) : Type 0 where
@@ -67,83 +66,105 @@ marked_all old now row width count at next h none r r_in = (
   ]),
 )
 
--- The word has the lanes that the first n moves of the list lead to by the letter.
-abbrev pub HasFoundUpto : List Move → List ℕ → List ℕ → List ℕ → ℕ → ℕ → Type 0
-HasFoundUpto moves lanes asked found a n = (j : ℕ) → j < 64
-    → HasBit found j ↔ ((i : ℕ) × (i < n) × ((get_or moves i (move 0 0)).label ≡ a) × HasBit asked (get_or moves i (move 0 0)).to × HasCell lanes 1 (get_or moves i (move 0 0)).to j)
+-- The words of the states have the lanes that the first n steps lead to by the letter.
+abbrev pub HasLanesUpto : (ℕ → Trans) → List ℕ → List ℕ → List ℕ → ℕ → ℕ → ℕ → Type 0
+HasLanesUpto steps lanes asked found states a n = (j q : ℕ) → j < 64 → q < states
+    → HasCell found 1 q j ↔ ((i : ℕ) × (i < n) × ((steps i).source ≡ q) × ((steps i).label ≡ a) × HasBit asked (steps i).target × HasCell lanes 1 (steps i).target j)
 
-pub found_none :
-    (moves : List Move) (lanes asked found : List ℕ) (a : ℕ)
+pub no_lanes_yet :
+    (steps : ℕ → Trans) (lanes asked found : List ℕ) (states a : ℕ)
     → ((i : ℕ) → bit_of found i ≡ false)
-    → HasFoundUpto moves lanes asked found a 0
-found_none moves lanes asked found a clear j j_in = (λ bit. absurd (false≢true (sym (clear j) ∙ bit)), λ is. let lt = is.1 in absurd (omega arith))
+    → HasLanesUpto steps lanes asked found states a 0
+no_lanes_yet steps lanes asked found states a clear j q j_in q_in =
+    (λ cell. absurd (false≢true (sym (clear (q * 1 * 64 + j)) ∙ cell)), λ is. let lt = is.1 in absurd (omega arith))
 
--- one more move leads to lanes
-pub found_more :
-    (moves : List Move) (lanes asked old new : List ℕ) (a n : ℕ)
-    → HasFoundUpto moves lanes asked old a n
-    → (m : Move)
-    → m ≡ get_or moves n (move 0 0)
+-- one more step leads to lanes
+pub lanes_more :
+    (steps : ℕ → Trans) (lanes asked old new row : List ℕ) (states a n : ℕ)
+    → HasLanesUpto steps lanes asked old states a n
+    → (m : Trans)
+    → m ≡ steps n
     → m.label ≡ a
-    → HasBit asked m.to
-    → ((j : ℕ) → j < 64 → bit_of new j ≡ (bit_of old j || cell_of lanes 1 m.to j))
-    → HasFoundUpto moves lanes asked new a (n + 1)
-found_more moves lanes asked old new a n h m is label bit added j j_in =
-    let L : Move → Type 0 = λ x. x.label ≡ a in
-    let B : Move → Type 0 = λ x. HasBit asked x.to in
-    let C : Move → Type 0 = λ x. HasCell lanes 1 x.to j in (
-      λ have. elim (or_cases (bit_of old j) (cell_of lanes 1 m.to j) (sym (added j j_in) ∙ have)) [
-        | inl was ↦ let found = (h j j_in).0 was in let lt = found.1 in (found.0, omega arith, found.2, found.3, found.4)
-        | inr lane ↦ (n, omega arith, subst L is label, subst B is bit, subst C is lane)
-      ],
-      λ found. added j j_in ∙ elim (cases_eq found.0 n) [
-        | inl e ↦ or_right (bit_of old j) (cell_of lanes 1 m.to j) (subst C (ap (λ x. get_or moves x (move 0 0)) e ∙ sym is) found.4)
-        | inr apart ↦ let lt = found.1 in or_left (bit_of old j) (cell_of lanes 1 m.to j) ((h j j_in).1 (found.0, omega arith, found.2, found.3, found.4))
+    → HasBit asked m.target
+    → ((j : ℕ) → j < 64 → bit_of row j ≡ cell_of lanes 1 m.target j)
+    → ((j : ℕ) → j < 64 → cell_of new 1 m.source j ≡ (cell_of old 1 m.source j || bit_of row j))
+    → ((q j : ℕ) → j < 64 → ¬ (q ≡ m.source) → cell_of new 1 q j ≡ cell_of old 1 q j)
+    → HasLanesUpto steps lanes asked new states a (n + 1)
+lanes_more steps lanes asked old new row states a n h m is label bit bits here others j q j_in q_in =
+    let S : Trans → Type 0 = λ x. x.source ≡ q in
+    let L : Trans → Type 0 = λ x. x.label ≡ a in
+    let B : Trans → Type 0 = λ x. HasBit asked x.target in
+    let C : Trans → Type 0 = λ x. HasCell lanes 1 x.target j in
+    elim (cases_eq q m.source) [
+      | inl e ↦
+          let old_cell : cell_of old 1 m.source j ≡ cell_of old 1 q j = ap (λ x. cell_of old 1 x j) (sym e) in
+          let new_cell : cell_of new 1 q j ≡ cell_of new 1 m.source j = ap (λ x. cell_of new 1 x j) e in
+          let both : cell_of new 1 q j ≡ (cell_of old 1 q j || cell_of lanes 1 m.target j) =
+          new_cell ∙ here j j_in ∙ ap (λ x. x || bit_of row j) old_cell ∙ ap (λ x. cell_of old 1 q j || x) (bits j j_in) in (
+            λ have. elim (or_cases (cell_of old 1 q j) (cell_of lanes 1 m.target j) (sym both ∙ have)) [
+              | inl was ↦ let found = (h j q j_in q_in).0 was in let lt = found.1 in (found.0, omega arith, found.2, found.3, found.4, found.5)
+              | inr lane ↦ (n, omega arith, subst S is (sym e), subst L is label, subst B is bit, subst C is lane)
+            ],
+            λ found. both ∙ elim (cases_eq found.0 n) [
+              | inl last ↦ or_right (cell_of old 1 q j) (cell_of lanes 1 m.target j) (subst C (ap steps last ∙ sym is) found.5)
+              | inr apart ↦ let lt = found.1 in or_left (cell_of old 1 q j) (cell_of lanes 1 m.target j) ((h j q j_in q_in).1 (found.0, omega arith, found.2, found.3, found.4, found.5))
+            ],
+          )
+      | inr apart ↦
+          let same = others q j j_in apart in (
+            λ have. let found = (h j q j_in q_in).0 (sym same ∙ have) in let lt = found.1 in (found.0, omega arith, found.2, found.3, found.4, found.5),
+            λ found. same ∙ elim (cases_eq found.0 n) [
+              | inl last ↦ absurd (apart (sym (subst S (ap steps last ∙ sym is) found.2)))
+              | inr before ↦ let lt = found.1 in (h j q j_in q_in).1 (found.0, omega arith, found.2, found.3, found.4, found.5)
+            ],
+          )
+    ]
+
+-- one more step leads to none
+pub lanes_passed :
+    (steps : ℕ → Trans) (lanes asked found : List ℕ) (states a n : ℕ)
+    → HasLanesUpto steps lanes asked found states a n
+    → (m : Trans)
+    → m ≡ steps n
+    → (m.label ≡ a → HasBit asked m.target → ⊥)
+    → HasLanesUpto steps lanes asked found states a (n + 1)
+lanes_passed steps lanes asked found states a n h m is none j q j_in q_in =
+    let L : Trans → Type 0 = λ x. x.label ≡ a in
+    let B : Trans → Type 0 = λ x. HasBit asked x.target in (
+      λ cell. let was = (h j q j_in q_in).0 cell in let lt = was.1 in (was.0, omega arith, was.2, was.3, was.4, was.5),
+      λ found_lane. elim (cases_eq found_lane.0 n) [
+        | inl last ↦
+            let same : steps found_lane.0 ≡ m = ap steps last ∙ sym is in
+            absurd (none (subst L same found_lane.3) (subst B same found_lane.4))
+        | inr apart ↦ let lt = found_lane.1 in (h j q j_in q_in).1 (found_lane.0, omega arith, found_lane.2, found_lane.3, found_lane.4, found_lane.5)
       ],
     )
 
--- one more move leads to none
-pub found_passed :
-    (moves : List Move) (lanes asked found : List ℕ) (a n : ℕ)
-    → HasFoundUpto moves lanes asked found a n
-    → (m : Move)
-    → m ≡ get_or moves n (move 0 0)
-    → (m.label ≡ a → HasBit asked m.to → ⊥)
-    → HasFoundUpto moves lanes asked found a (n + 1)
-found_passed moves lanes asked found a n h m is none j j_in =
-    let L : Move → Type 0 = λ x. x.label ≡ a in
-    let B : Move → Type 0 = λ x. HasBit asked x.to in (
-      λ bit. let was = (h j j_in).0 bit in let lt = was.1 in (was.0, omega arith, was.2, was.3, was.4),
-      λ is_found. elim (cases_eq is_found.0 n) [
-        | inl e ↦
-            let same : get_or moves is_found.0 (move 0 0) ≡ m = ap (λ x. get_or moves x (move 0 0)) e ∙ sym is in
-            absurd (none (subst L same is_found.2) (subst B same is_found.3))
-        | inr apart ↦ let lt = is_found.1 in (h j j_in).1 (is_found.0, omega arith, is_found.2, is_found.3, is_found.4)
-      ],
-    )
+same_parts : (t : Trans) (p a : ℕ) → t.source ≡ p → t.label ≡ a → t ≡ trans p a t.target
+same_parts t p a e f = ap (λ x. trans x t.label t.target) e ∙ ap (λ x. trans p x t.target) f
 
--- all moves have been tried
-pub found_all :
-    (M : ℕ → ℕ → ℕ → Type 0) (moves : List Move) (lanes asked found : List ℕ) (a n q : ℕ)
-    → ((b r : ℕ) → Contains moves (move b r) ↔ M q b r)
-    → HasFoundUpto moves lanes asked found a n
-    → n ≡ length moves
-    → (j : ℕ)
+-- all steps have been tried
+pub lanes_all :
+    (M : ℕ → ℕ → ℕ → Type 0) (see : Trans → Trans) (ts : List Trans) (lanes asked found : List ℕ) (states a n : ℕ)
+    → ((p b r : ℕ) → M p b r ↔ ((t : Trans) × Contains ts t × (see t ≡ trans p b r)))
+    → HasLanesUpto (λ i. see (get_or ts i (trans 0 0 0))) lanes asked found states a n
+    → n ≡ length ts
+    → (j q : ℕ)
     → j < 64
-    → HasBit found j ↔ LeadsToLane M lanes asked a j q
-found_all M moves lanes asked found a n q lists h all j j_in = (
-  λ bit.
-      let (i, i_in, label, asks, lane) = (h j j_in).0 bit in
-      let m : Move = get_or moves i (move 0 0) in
-      let is : m ≡ move a m.to = ap (λ x. move x m.to) label in
-      (m.to, (lists a m.to).0 (i, omega arith, get_or_default moves i (move a m.to) (move 0 0) (omega arith) ∙ is), asks, lane),
+    → q < states
+    → HasCell found 1 q j ↔ LeadsToLane M lanes asked a j q
+lanes_all M see ts lanes asked found states a n sees h all j q j_in q_in = (
+  λ cell.
+      let (i, i_in, source, label, asks, lane) = (h j q j_in q_in).0 cell in
+      let t : Trans = get_or ts i (trans 0 0 0) in
+      let there : Contains ts t = (i, omega arith, get_or_default ts i t (trans 0 0 0) (omega arith)) in
+      ((see t).target, (sees q a (see t).target).1 (t, there, same_parts (see t) q a source label), asks, lane),
   λ (r, go, asks, lane).
-      let (i, i_in, is) = (lists a r).1 go in
-      let here : get_or moves i (move 0 0) ≡ move a r = get_or_default moves i (move 0 0) (move a r) i_in ∙ is in
-      let L : Move → Type 0 = λ x. x.label ≡ a in
-      let B : Move → Type 0 = λ x. HasBit asked x.to in
-      let C : Move → Type 0 = λ x. HasCell lanes 1 x.to j in
-      (h j j_in).1 (i, omega arith, subst L (sym here) refl, subst B (sym here) asks, subst C (sym here) lane),
+      let (t, (i, i_in, is), e) = (sees q a r).0 go in
+      let here : see (get_or ts i (trans 0 0 0)) ≡ trans q a r = ap see (get_or_default ts i (trans 0 0 0) t i_in ∙ is) ∙ e in
+      let B : Trans → Type 0 = λ x. HasBit asked x.target in
+      let C : Trans → Type 0 = λ x. HasCell lanes 1 x.target j in
+      (h j q j_in q_in).1 (i, omega arith, ap (λ (x : Trans). x.source) here, ap (λ (x : Trans). x.label) here, subst B (sym here) asks, subst C (sym here) lane),
 )
 
 -- The rows of the lanes have the states below q of which P holds, and no others.
@@ -280,75 +301,3 @@ filled_more n old new columns column width count used at room h at_in free bits 
   few = omega arith;
   rest = λ q j q_in from near. others q j near (λ e. omega arith) ∙ h.rest q j q_in (omega arith) near;
 }
-
--- Of the first n moves of the list none leads to a state that has a lane.
-abbrev pub LeadToNoLane : List Move → List ℕ → ℕ → Type 0
-LeadToNoLane moves lanes n = (j : ℕ) → j < n → get_or lanes (get_or moves j (move 0 0)).to 0 ≡ 0
-
-pub leads_to_no_lane :
-    (moves : List Move) (lanes : List ℕ) (n : ℕ) (m : Move)
-    → LeadToNoLane moves lanes n
-    → m ≡ get_or moves n (move 0 0)
-    → get_or lanes m.to 0 ≡ 0
-    → LeadToNoLane moves lanes (n + 1)
-leads_to_no_lane moves lanes n m h is none j j_in = elim (cases_eq j n) [
-  | inl e ↦
-      let P : Move → Type 0 = λ x. get_or lanes x.to 0 ≡ 0 in
-      subst P (is ∙ ap (λ i. get_or moves i (move 0 0)) (sym e)) none
-  | inr apart ↦ h j (omega arith)
-]
-
-pub all_to_no_lane :
-    (moves : List Move) (lanes : List ℕ) (n : ℕ) (goes : ℕ → ℕ → Type 0)
-    → ((a r : ℕ) → Contains moves (move a r) ↔ goes a r)
-    → n ≡ length moves
-    → LeadToNoLane moves lanes n
-    → (a r : ℕ)
-    → goes a r
-    → get_or lanes r 0 ≡ 0
-all_to_no_lane moves lanes n goes lists all h a r go =
-    let (j, j_in, is) = (lists a r).1 go in
-    let here : get_or moves j (move 0 0) ≡ move a r = get_or_default moves j (move 0 0) (move a r) j_in ∙ is in
-    let P : Move → Type 0 = λ x. get_or lanes x.to 0 ≡ 0 in
-    subst P here (h j (omega arith))
-
--- a state with no lane at all
-pub no_lane : (lanes : List ℕ) (r j : ℕ) → j < 64 → get_or lanes r 0 ≡ 0 → HasCell lanes 1 r j → ⊥
-no_lane lanes r j near none cell =
-    let word : (r * 1 * 64 + j) / 64 ≡ r = omega arith in
-    false≢true (sym (bit_of_zero_word lanes (r * 1 * 64 + j) (ap (λ i. get_or lanes i 0) word ∙ none)) ∙ cell)
-
-pub near_marked :
-    (M : ℕ → ℕ → ℕ → Type 0) (lanes near new : List ℕ) (n : ℕ)
-    → HasNear M n lanes near
-    → bit_of new n ≡ true
-    → ((i : ℕ) → ¬ (i ≡ n) → bit_of new i ≡ bit_of near i)
-    → HasNear M (n + 1) lanes new
-near_marked M lanes near new n h here others q a r j q_in go j_in lane = elim (cases_eq q n) [
-  | inl e ↦ subst (λ x. HasBit new x) (sym e) here
-  | inr apart ↦ others q apart ∙ h q a r j (omega arith) go j_in lane
-]
-
-pub near_passed :
-    (M : ℕ → ℕ → ℕ → Type 0) (lanes near : List ℕ) (n : ℕ)
-    → HasNear M n lanes near
-    → ((a r : ℕ) → M n a r → get_or lanes r 0 ≡ 0)
-    → HasNear M (n + 1) lanes near
-near_passed M lanes near n h none q a r j q_in go j_in lane = elim (cases_eq q n) [
-  | inl e ↦ absurd (no_lane lanes r j j_in (none a r (subst (λ x. M x a r) e go)) lane)
-  | inr apart ↦ h q a r j (omega arith) go j_in lane
-]
-
--- a state from which no move leads to a lane is passed over
-pub step_passed :
-    (P : ℕ → ℕ → Type 0) (made : List ℕ) (width q : ℕ)
-    → AreStepsUpto P made width q
-    → ((j : ℕ) → j < 64 → P j q → ⊥)
-    → AreStepsUpto P made width (q + 1)
-step_passed P made width q h none j s j_in near = (
-  λ cell. let is = (h j s j_in near).0 cell in let lt = is.0 in (omega arith, is.1),
-  λ is. elim (cases_eq s q) [
-    | inl e ↦ absurd (none j j_in (subst (λ x. P j x) e is.1))
-    | inr apart ↦ let lt = is.0 in (h j s j_in near).1 (omega arith, is.1)
-  ],
-)

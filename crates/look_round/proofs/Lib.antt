@@ -10,3 +10,4 @@ pub mod LaneLemmas
 pub mod BoundLemmas
 pub mod KnownLemmas
 pub mod ListedLemmas
+pub mod AnsweringLemmas

@@ -5,3 +5,4 @@ pub mod Room
 pub mod RoomStored
 pub mod Words
 pub mod Known
+pub mod Answering

@@ -10,7 +10,7 @@ use Rattle.auto_core.specs.Game.{BackwardMoves}
 use Rattle.auto_core.proofs.MemberLemmas.{map_has, map_from, filter_has, filter_from}
 use Rattle.auto_core.proofs.PathLemmas.{Contains-here, Contains-later, Contains-cons_cases, none_in_nil}
 use Rattle.look_round.specs.declared.moves.Move.{Move}
-use Rattle.look_round.specs.Sides.{move, move_of, forward_moves, turned_move, backward_moves}
+use Rattle.look_round.specs.Sides.{move, move_of, forward_moves, turned_move, backward_moves, turned}
 
 -- the transitions out of p as moves
 abbrev out_of : List Trans → ℕ → List Move
@@ -71,3 +71,11 @@ backward_lists A p a q = (
 -- moves backward lead to states
 pub backward_stays : (A : Automaton) → IsAutomaton A → (p a q : ℕ) → BackwardMoves A p a q → q < A.states
 backward_stays A valid p a q m = (move_in_range A valid q a p m).0
+
+-- p moves forward by a to q exactly where this is a transition.
+pub forward_sees : (A : Automaton) (p a q : ℕ) → Moves A p a q ↔ ((t : Trans) × Contains A.transitions t × (t ≡ trans p a q))
+forward_sees A p a q = (λ m. (trans p a q, m, refl), λ (t, there, is). subst (Contains A.transitions) is there)
+
+-- p moves backward by a to q exactly where this is a transition turned round.
+pub backward_sees : (A : Automaton) (p a q : ℕ) → BackwardMoves A p a q ↔ ((t : Trans) × Contains A.transitions t × (turned t ≡ trans p a q))
+backward_sees A p a q = (λ m. (trans q a p, m, refl), λ (t, there, is). subst (Contains A.transitions) (ap turned is) there)

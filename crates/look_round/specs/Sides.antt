@@ -24,3 +24,7 @@ turned_move t = move t.label t.source
 -- The moves backward out of p: the transitions whose target it is, in their order.
 abbrev pub backward_moves : Automaton → ℕ → List Move
 backward_moves A p = map turned_move (filter (λ (t : Trans). t.target == p) A.transitions)
+
+-- The transition turned round.
+abbrev pub turned : Trans → Trans
+turned t = record { source = t.target; label = t.label; target = t.source }

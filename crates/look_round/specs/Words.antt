@@ -33,10 +33,6 @@ AreLanesOf n lanes used columns width count = (j : ℕ) → j < used → (i : �
 abbrev pub LeadsToLane : (ℕ → ℕ → ℕ → Type 0) → List ℕ → List ℕ → ℕ → ℕ → ℕ → Type 0
 LeadsToLane M lanes asked a j q = (r : ℕ) × M q a r × HasBit asked r × HasCell lanes 1 r j
 
--- The row has each of the n states from which a move leads to a state that a lane is on.
-abbrev pub HasNear : (ℕ → ℕ → ℕ → Type 0) → ℕ → List ℕ → List ℕ → Type 0
-HasNear M n lanes near = (q a r j : ℕ) → q < n → M q a r → j < 64 → HasCell lanes 1 r j → HasBit near q
-
 -- Columns were added, each one of the first rows of `made`, and the others stay.
 pub record AddsColumns (old new : List ℕ) (width count more : ℕ) (made : List ℕ) (used : ℕ) : Type 0 where
   pub upward : count ≤ more

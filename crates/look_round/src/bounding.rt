@@ -125,8 +125,8 @@ fn relation_of(alloc: Global, table: &[u64], count: u32, width: usize) -> Result
     Ok(rel)
 }
 
-/// The bound, where `table` is room for a row for each state, `columns` for so many words, `ends` for one row, `lanes` for a word for each
-/// state, `found` for one word, and `made` for 64 rows.
+/// The bound, where `table` is room for a row for each state, `columns` for so many words, `ends` for one row, `lanes` and `found` for a word
+/// for each state, and `made` for 64 rows.
 fn bound_in<S: Side>(
     alloc: Global,
     side: &S,
@@ -147,7 +147,7 @@ fn bound_in<S: Side>(
     requires columns { length columns.old ≡ room * width }
     requires ends { length ends.old ≡ width }
     requires lanes { length lanes.old ≡ automaton.now.states }
-    requires found { length found.old ≡ 1 }
+    requires found { length found.old ≡ automaton.now.states }
     requires made { length made.old ≡ 64 * width }
     ensures { IfOk result (IsBound (S.goes side.now automaton.now) (S.keeps side.now automaton.now) automaton.now.states) }
 {
@@ -173,7 +173,7 @@ pub fn bound<S: Side>(alloc: Global, side: &S, automaton: &Auto) -> Result<Rel, 
     let mut columns = vec![in alloc; 0; room * width]?;
     let mut ends = vec![in alloc; 0; width]?;
     let mut lanes = vec![in alloc; 0; count as usize]?;
-    let mut found = vec![in alloc; 0; 1]?;
+    let mut found = vec![in alloc; 0; count as usize]?;
     let mut made = vec![in alloc; 0; 64 * width]?;
     bound_in(
         alloc,

@@ -1,6 +1,8 @@
 //! The game of looking ahead: one round, and a bound on what it can relate by short words.
 #![tactic(auto)]
 
+mod answering;
+mod answers;
 mod bounding;
 mod kinds;
 mod known;
@@ -12,8 +14,10 @@ mod scratch;
 mod sides;
 mod words;
 
+pub use answering::Answering;
 pub use bounding::bound;
 pub use moves::Move;
-pub use round::round_holds;
+pub use replies::is_reply;
+pub use round::{round_holds, round_holds_by};
 pub use scratch::Scratch;
 pub use sides::{Backward, Forward, Side};

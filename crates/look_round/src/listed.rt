@@ -3,8 +3,10 @@
 ghost use Rattle.std.specs.Prelude.{◌≡◌, ◌<◌, ◌≤◌, ◌↔◌, ◌⊎◌, ℕ, [], length, All, Contains, IsTrue};
 ghost use Rattle.auto_core.specs.Automaton.{IsAutomaton};
 ghost use Rattle.auto_core.specs.Game.{Round, Holds};
+ghost use Rattle.look_round.specs.Answering.{AreAnswers};
 ghost use Rattle.look_round.specs.Replies.{IsReply, HasReplyFrom, RoundFrom, RoundAfter};
 
+use crate::answering::Answering;
 use crate::moves::Move;
 use crate::replies::{has_reply_in, is_reply};
 use crate::sides::Side;
@@ -44,6 +46,28 @@ fn one_answers<S: Side>(side: &S, automaton: &Auto, rel: &Rel, step: Move, from:
         }
     }
     false
+}
+
+/// Tells the same, by the rows where they know.
+fn one_meets<S: Side>(
+    side: &S,
+    automaton: &Auto,
+    rel: &Rel,
+    answering: &Answering,
+    step: Move,
+    from: &[u32],
+) -> bool
+    requires equal { rel.now.size ≡ automaton.now.states }
+    requires answers { AreAnswers (S.goes side.now automaton.now) (S.keeps side.now automaton.now) (Holds rel.now.pairs) automaton.now.states answering.now }
+    requires step { step.to < automaton.now.states }
+    requires from { All (λ q. q < automaton.now.states) from.now }
+    ensures { IsTrue result
+        ↔ ((r : ℕ) × HasReplyFrom (S.goes side.now automaton.now) (S.keeps side.now automaton.now) step.label step.to (Contains from.now) r × Holds rel.now.pairs step.to r) }
+{
+    if answering.has_row(step) {
+        return answering.has_one(step, from);
+    }
+    one_answers(side, automaton, rel, step, from)
 }
 
 /// Adds the states by which `from` answers the step, as far as there is room.
@@ -107,6 +131,7 @@ fn told_after<S: Side>(
     side: &S,
     automaton: &Auto,
     rel: &Rel,
+    answering: &Answering,
     left: u32,
     step: Move,
     from: &[u32],
@@ -115,6 +140,7 @@ fn told_after<S: Side>(
     requires valid { IsAutomaton automaton.now }
     requires left { 1 ≤ left }
     requires step { step.to < automaton.now.states }
+    requires answers { AreAnswers (S.goes side.now automaton.now) (S.keeps side.now automaton.now) (Holds rel.now.pairs) automaton.now.states answering.now }
     requires equal { rel.now.size ≡ automaton.now.states }
     requires from { All (λ q. q < automaton.now.states) from.now }
     ensures holds { result ≡ Told.Holds
@@ -123,7 +149,7 @@ fn told_after<S: Side>(
         → RoundAfter (S.goes side.now automaton.now) (S.keeps side.now automaton.now) (Holds rel.now.pairs) left step.label step.to (Contains from.now)
         → ⊥ }
 {
-    if one_answers(side, automaton, rel, step, from) {
+    if one_meets(side, automaton, rel, answering, step, from) {
         return Told::Holds;
     }
     if left == 1 {
@@ -141,6 +167,7 @@ fn told_after<S: Side>(
         side,
         automaton,
         rel,
+        answering,
         left - 1,
         step.to,
         replies.as_slice(),
@@ -156,6 +183,7 @@ fn told_from<S: Side>(
     side: &S,
     automaton: &Auto,
     rel: &Rel,
+    answering: &Answering,
     left: u32,
     p: u32,
     from: &[u32],
@@ -164,6 +192,7 @@ fn told_from<S: Side>(
     requires valid { IsAutomaton automaton.now }
     requires left { 1 ≤ left }
     requires state { p < automaton.now.states }
+    requires answers { AreAnswers (S.goes side.now automaton.now) (S.keeps side.now automaton.now) (Holds rel.now.pairs) automaton.now.states answering.now }
     requires equal { rel.now.size ≡ automaton.now.states }
     requires from { All (λ q. q < automaton.now.states) from.now }
     ensures holds { result ≡ Told.Holds
@@ -178,7 +207,9 @@ fn told_from<S: Side>(
         }
         *room -= from.len();
         let step = side.nth(automaton, p, at);
-        match told_after(alloc, side, automaton, rel, left, step, from, room) {
+        match told_after(
+            alloc, side, automaton, rel, answering, left, step, from, room,
+        ) {
             Told::Holds => {}
             Told::Fails => return Told::Fails,
             Told::Nothing => return Told::Nothing,
@@ -193,11 +224,13 @@ pub(crate) fn told_by_lists<S: Side>(
     side: &S,
     automaton: &Auto,
     rel: &Rel,
+    answering: &Answering,
     look: u32,
     p: u32,
     q: u32,
 ) -> Told
     requires look { 1 ≤ look }
+    requires answers { AreAnswers (S.goes side.now automaton.now) (S.keeps side.now automaton.now) (Holds rel.now.pairs) automaton.now.states answering.now }
     requires equal { rel.now.size ≡ automaton.now.states }
     requires left { p < automaton.now.states }
     requires right { q < automaton.now.states }
@@ -205,5 +238,15 @@ pub(crate) fn told_by_lists<S: Side>(
     ensures fails { result ≡ Told.Fails → Round (S.goes side.now automaton.now) (S.goes side.now automaton.now) (S.keeps side.now automaton.now) look (Holds rel.now.pairs) p q → ⊥ }
 {
     let mut room = MOST_LOOKED_AT.max(automaton.states() as usize);
-    told_from(alloc, side, automaton, rel, look, p, &[q], &mut room)
+    told_from(
+        alloc,
+        side,
+        automaton,
+        rel,
+        answering,
+        look,
+        p,
+        &[q],
+        &mut room,
+    )
 }

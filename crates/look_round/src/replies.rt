@@ -8,7 +8,7 @@ ghost use Rattle.look_round.specs.Replies.{IsReply, HasReply, HasReplyFrom};
 use crate::moves::Move;
 use crate::sides::Side;
 use auto_core::{Auto, rows};
-use row_steps::next_bit;
+use row_steps::{meets, next_bit};
 
 /// Clears the row of the table, and leaves the others.
 pub fn clear_table_row(table: &mut [u64], width: usize, row: usize)
@@ -109,7 +109,7 @@ fn add_replies<S: Side>(
 }
 
 /// Writes into the row after `place` the states by which the states of row `place` answer the step.
-pub fn step_replies<S: Side>(
+fn step_replies<S: Side>(
     side: &S,
     automaton: &Auto,
     step: Move,
@@ -136,4 +136,33 @@ pub fn step_replies<S: Side>(
         add_replies(side, automaton, q as u32, step, table, width, place + 1);
         at = q + 1;
     }
+}
+
+/// Writes into the row after `place` the states by which the states of row `place` answer the step, and tells whether one of them is a
+/// state of the other row.
+pub fn step_into<S: Side>(
+    side: &S,
+    automaton: &Auto,
+    step: Move,
+    table: &mut [u64],
+    width: usize,
+    place: usize,
+    row: &[u64],
+) -> bool
+    requires valid { IsAutomaton automaton.now }
+    requires step { step.to < automaton.now.states }
+    requires here { place * width + width ≤ length table.old }
+    requires next { (place + 1) * width + width ≤ length table.old }
+    requires width { width ≡ (automaton.now.states + 63) / 64 }
+    requires row { length row.now ≡ width }
+    requires states { (q : ℕ) → HasBit row.now q → q < automaton.now.states }
+    ensures told { IsTrue result
+        ↔ ((r : ℕ) × HasReplyFrom (S.goes side.now automaton.now) (S.keeps side.now automaton.now) step.label step.to (HasReply table.old automaton.now.states width place) r × HasBit row.now r) }
+    ensures next { (r : ℕ)
+        → HasReply table.new automaton.now.states width (place + 1) r
+        ↔ HasReplyFrom (S.goes side.now automaton.now) (S.keeps side.now automaton.now) step.label step.to (HasReply table.old automaton.now.states width place) r }
+    ensures others { (i r : ℕ) → r < width * 64 → ¬ (i ≡ place + 1) → cell_of table.new width i r ≡ cell_of table.old width i r }
+{
+    step_replies(side, automaton, step, table, width, place);
+    meets(row, rows::row_at(table, width, place + 1))
 }

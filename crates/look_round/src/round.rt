@@ -3,9 +3,11 @@
 ghost use Rattle.std.specs.Prelude.{◌≡◌, ◌+◌, ◌*◌, ◌/◌, ◌<◌, ◌≤◌, ◌↔◌, ℕ, length, IsTrue};
 ghost use Rattle.auto_core.specs.Automaton.{IsAutomaton};
 ghost use Rattle.auto_core.specs.Game.{Round, Holds};
+ghost use Rattle.look_round.specs.Answering.{AreAnswers};
 ghost use Rattle.look_round.specs.Known.{AreKnown};
 ghost use Rattle.look_round.specs.Replies.{HasReply, RoundFrom, RoundAfter, HasRows, KeepsRows};
 
+use crate::answering::Answering;
 use crate::known::{is_known, note};
 use crate::listed::{Told, told_by_lists};
 use crate::moves::Move;
@@ -62,16 +64,16 @@ fn step_answered<S: Side>(
     ) {
         return true;
     }
-    if replies::one_has_reply_in(side, automaton, step, sets, width, place, rel.row(step.to)) {
-        return true;
-    }
+    let related = rel.row(step.to);
     if left == 1 {
-        return false;
+        return replies::one_has_reply_in(side, automaton, step, sets, width, place, related);
+    }
+    if replies::step_into(side, automaton, step, sets, width, place, related) {
+        return true;
     }
     if side.moves(automaton, step.to) == 0 {
         return false;
     }
-    replies::step_replies(side, automaton, step, sets, width, place);
     path.push_reserved(step);
     let answered = round_from(
         side,
@@ -205,7 +207,33 @@ pub fn round_holds<S: Side>(
         ↔ Round (S.goes side.now automaton.now) (S.goes side.now automaton.now) (S.keeps side.now automaton.now) look (Holds rel.now.pairs) p q }
     ensures scratch { scratch.new ≡ scratch.old }
 {
-    match told_by_lists(scratch.alloc, side, automaton, rel, look, p, q) {
+    let none = Answering::none(scratch.alloc, automaton);
+    round_holds_by(side, automaton, rel, &none, look, p, q, scratch)
+}
+
+/// Tells the same, where rows are known that tell which states answer a move at once.
+pub fn round_holds_by<S: Side>(
+    side: &S,
+    automaton: &Auto,
+    rel: &Rel,
+    answering: &Answering,
+    look: u32,
+    p: u32,
+    q: u32,
+    scratch: &mut Scratch,
+) -> bool
+    requires look_from { 1 ≤ look }
+    requires look_upto { look ≤ 6 }
+    requires equal { rel.now.size ≡ automaton.now.states }
+    requires answers { AreAnswers (S.goes side.now automaton.now) (S.keeps side.now automaton.now) (Holds rel.now.pairs) automaton.now.states answering.now }
+    requires made { scratch.old ≡ record { states = automaton.now.states; look = look } }
+    requires left { p < automaton.now.states }
+    requires right { q < automaton.now.states }
+    ensures told { IsTrue result
+        ↔ Round (S.goes side.now automaton.now) (S.goes side.now automaton.now) (S.keeps side.now automaton.now) look (Holds rel.now.pairs) p q }
+    ensures scratch { scratch.new ≡ scratch.old }
+{
+    match told_by_lists(scratch.alloc, side, automaton, rel, answering, look, p, q) {
         Told::Holds => true,
         Told::Fails => false,
         Told::Nothing => whole_round(

@@ -1,15 +1,16 @@
 //! The sides from which the game is played: which moves a state has, and what one state asks of another.
 
 ghost use Rattle.std.specs.Prelude.{◌≡◌, ◌<◌, ◌↔◌, ℕ, List, length, Contains, slice_index_or, IsTrue};
-ghost use Rattle.auto_core.specs.Automaton.{Automaton, IsAutomaton, Moves};
+ghost use Rattle.auto_core.specs.Automaton.{Automaton, IsAutomaton, Moves, trans, trans_at};
 ghost use Rattle.auto_core.specs.Game.{BackwardMoves, MatchesForward, MatchesBackward};
+ghost use Rattle.auto_core.specs.declared.parts.Trans.{Trans};
 ghost use Rattle.look_round.specs.declared.moves.Move.{Move};
-ghost use Rattle.look_round.specs.Sides.{move, forward_moves, backward_moves};
+ghost use Rattle.look_round.specs.Sides.{move, forward_moves, backward_moves, turned};
 ghost use Rattle.path_laws.proofs.MatchLemmas.{forward_trans, backward_trans};
-ghost use Rattle.look_round.specs.SideLaws.{forward_lists, forward_stays, backward_lists, backward_stays};
+ghost use Rattle.look_round.specs.SideLaws.{forward_lists, forward_stays, forward_sees, backward_lists, backward_stays, backward_sees};
 
 use crate::moves::Move;
-use auto_core::Auto;
+use auto_core::{Auto, Trans};
 
 /// A side of the game.
 pub trait Side {
@@ -18,6 +19,10 @@ pub trait Side {
     ghost goes: { Self → Automaton → ℕ → ℕ → ℕ → Type 0 };
 
     ghost keeps: { Self → Automaton → ℕ → ℕ → Type 0 };
+
+    ghost seen: { Self → Trans → Trans };
+
+    ghost arriving: { Self → Automaton → ℕ → List Move };
 
     /// The number of the state's moves.
     fn moves(&self, automaton: &Auto, state: u32) -> u32
@@ -31,6 +36,25 @@ pub trait Side {
         ensures item { result ≡ slice_index_or (list self.now automaton.now state) at (move 0 0) }
         ensures in_range { result.to < automaton.now.states };
 
+    /// The automaton's transition with this number as a move of this side, with the state that it leaves as the source.
+    fn seen_at(&self, automaton: &Auto, number: usize) -> Trans
+        requires { number < length automaton.now.transitions }
+        ensures seen { result ≡ seen self.now (trans_at automaton.now number) }
+        ensures source { result.source < automaton.now.states }
+        ensures target { result.target < automaton.now.states };
+
+    /// The number of the moves that lead to the state.
+    fn arrivals(&self, automaton: &Auto, state: u32) -> u32
+        requires { state < automaton.now.states }
+        ensures { result ≡ length (arriving self.now automaton.now state) };
+
+    /// The move at this place among those that lead to the state, with the state that it leaves in place of the one that it leads to.
+    fn nth_arrival(&self, automaton: &Auto, state: u32, at: u32) -> Move
+        requires state { state < automaton.now.states }
+        requires place { at < length (arriving self.now automaton.now state) }
+        ensures item { result ≡ slice_index_or (arriving self.now automaton.now state) at (move 0 0) }
+        ensures in_range { result.to < automaton.now.states };
+
     /// Tells whether `q` has what Spoiler's `p` asks of it.
     fn matched(&self, automaton: &Auto, p: u32, q: u32) -> bool
         requires left { p < automaton.now.states }
@@ -40,6 +64,10 @@ pub trait Side {
     ghost stays: { (s : Self) (A : Automaton) → IsAutomaton A → (p a q : ℕ) → goes s A p a q → q < A.states };
 
     ghost lists: { (s : Self) (A : Automaton) (p a q : ℕ) → Contains (list s A p) (move a q) ↔ goes s A p a q };
+
+    ghost sees: { (s : Self) (A : Automaton) (p a q : ℕ) → goes s A p a q ↔ ((t : Trans) × Contains A.transitions t × (seen s t ≡ trans p a q)) };
+
+    ghost arrives: { (s : Self) (A : Automaton) (p a q : ℕ) → Contains (arriving s A q) (move a p) ↔ goes s A p a q };
 
     ghost joins: { (s : Self) (A : Automaton) (p q r : ℕ) → keeps s A p q → keeps s A q r → keeps s A p r };
 }
@@ -68,9 +96,17 @@ impl Side for Forward {
 
     ghost keeps = { λ _ A. MatchesForward A A };
 
+    ghost seen = { λ _ t. t };
+
+    ghost arriving = { λ _ A p. backward_moves A p };
+
     ghost stays = { λ _ A valid p a q m. forward_stays A valid p a q m };
 
     ghost lists = { λ _ A p a q. forward_lists A p a q };
+
+    ghost sees = { λ _ A p a q. forward_sees A p a q };
+
+    ghost arrives = { λ _ A p a q. backward_lists A q a p };
 
     ghost joins = { λ _ A p q r. forward_trans A A A p q r };
 
@@ -85,6 +121,18 @@ impl Side for Forward {
             label: t.label,
             to: t.target,
         }
+    }
+
+    fn seen_at(&self, automaton: &Auto, number: usize) -> Trans {
+        automaton.transitions()[number]
+    }
+
+    fn arrivals(&self, automaton: &Auto, state: u32) -> u32 {
+        Backward.moves(automaton, state)
+    }
+
+    fn nth_arrival(&self, automaton: &Auto, state: u32, at: u32) -> Move {
+        Backward.nth(automaton, state, at)
     }
 
     fn matched(&self, automaton: &Auto, p: u32, q: u32) -> bool {
@@ -103,9 +151,17 @@ impl Side for Backward {
 
     ghost keeps = { λ _ A. MatchesBackward A A };
 
+    ghost seen = { λ _ t. turned t };
+
+    ghost arriving = { λ _ A p. forward_moves A p };
+
     ghost stays = { λ _ A valid p a q m. backward_stays A valid p a q m };
 
     ghost lists = { λ _ A p a q. backward_lists A p a q };
+
+    ghost sees = { λ _ A p a q. backward_sees A p a q };
+
+    ghost arrives = { λ _ A p a q. forward_lists A q a p };
 
     ghost joins = { λ _ A p q r. backward_trans A A A p q r };
 
@@ -120,6 +176,23 @@ impl Side for Backward {
             label: t.label,
             to: t.source,
         }
+    }
+
+    fn seen_at(&self, automaton: &Auto, number: usize) -> Trans {
+        let step = automaton.transitions()[number];
+        Trans {
+            source: step.target,
+            label: step.label,
+            target: step.source,
+        }
+    }
+
+    fn arrivals(&self, automaton: &Auto, state: u32) -> u32 {
+        Forward.moves(automaton, state)
+    }
+
+    fn nth_arrival(&self, automaton: &Auto, state: u32, at: u32) -> Move {
+        Forward.nth(automaton, state, at)
     }
 
     fn matched(&self, automaton: &Auto, p: u32, q: u32) -> bool {

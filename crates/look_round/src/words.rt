@@ -1,9 +1,9 @@
 //! Short words that states have, as columns of bits: a column is on the states that have its word.
 
-ghost use Rattle.std.specs.Prelude.{◌≡◌, ◌+◌, ◌*◌, ◌/◌, ◌^◌, ◌<◌, ◌≤◌, ◌↔◌, ◌⊎◌, ℕ, false, length, slice_index, All};
+ghost use Rattle.std.specs.Prelude.{◌≡◌, ◌+◌, ◌*◌, ◌/◌, ◌^◌, ◌<◌, ◌≤◌, ◌↔◌, ◌⊎◌, ℕ, false, length, All};
 ghost use Rattle.auto_core.specs.Automaton.{IsAutomaton};
 ghost use Rattle.auto_core.specs.Rows.{cell_of, HasBit, HasCell};
-ghost use Rattle.look_round.specs.Words.{LeadsToLane, HasNear, AddsColumns, AreColumns, AreLanes, AreLanesOf, AreMatches};
+ghost use Rattle.look_round.specs.Words.{LeadsToLane, AddsColumns, AreColumns, AreLanes, AreLanesOf, AreMatches};
 
 use crate::sides::Side;
 use auto_core::{Auto, rows};
@@ -30,68 +30,38 @@ fn mark_down(table: &mut [u64], width: usize, count: usize, at: usize, row: &[u6
     }
 }
 
-/// Writes the lanes that a move from the state by the letter leads to, by way of the states of the row `asked`. `found` is one word.
+/// Writes for each state the lanes that a move from it by the letter leads to, by way of the states of the row `asked`.
 fn find_lanes<S: Side>(
     side: &S,
     automaton: &Auto,
-    q: u32,
     label: u32,
     asked: &[u64],
     lanes: &[u64],
     found: &mut [u64],
 )
-    requires state { q < automaton.now.states }
     requires asked { length asked.now ≡ (automaton.now.states + 63) / 64 }
     requires lanes { length lanes.now ≡ automaton.now.states }
-    requires found { length found.old ≡ 1 }
-    ensures { (j : ℕ) → j < 64 → HasBit found.new j ↔ LeadsToLane (S.goes side.now automaton.now) lanes.now asked.now label j q }
+    requires found { length found.old ≡ automaton.now.states }
+    ensures { (j q : ℕ) → j < 64 → q < automaton.now.states → HasCell found.new 1 q j ↔ LeadsToLane (S.goes side.now automaton.now) lanes.now asked.now label j q }
 {
     rows::clear_row(found);
-    for at in 0..side.moves(automaton, q) {
-        let step = side.nth(automaton, q, at);
-        if step.label == label && rows::has_bit(asked, step.to as usize) {
-            rows::or_into(found, rows::row_at(lanes, 1, step.to as usize));
+    for number in 0..automaton.transitions().len() {
+        let step = side.seen_at(automaton, number);
+        if step.label == label && rows::has_bit(asked, step.target as usize) {
+            let lane = rows::row_at(lanes, 1, step.target as usize);
+            rows::or_row(found, 1, step.source as usize, lane);
         }
     }
 }
 
-/// Tells whether a move from the state leads to a state that has a lane.
-fn moves_to_lane<S: Side>(side: &S, automaton: &Auto, q: u32, lanes: &[u64]) -> bool
-    requires state { q < automaton.now.states }
-    requires lanes { length lanes.now ≡ automaton.now.states }
-    ensures { result ≡ false → (a r : ℕ) → S.goes side.now automaton.now q a r → slice_index lanes.now r ≡ 0 }
-{
-    for at in 0..side.moves(automaton, q) {
-        if lanes[side.nth(automaton, q, at).to as usize] != 0 {
-            return true;
-        }
-    }
-    false
-}
-
-/// Writes into the row the states from which a move leads to a state that has a lane.
-fn find_near<S: Side>(side: &S, automaton: &Auto, lanes: &[u64], near: &mut [u64])
-    requires lanes { length lanes.now ≡ automaton.now.states }
-    requires near { length near.old ≡ (automaton.now.states + 63) / 64 }
-    ensures { HasNear (S.goes side.now automaton.now) automaton.now.states lanes.now near.new }
-{
-    rows::clear_row(near);
-    for p in 0..automaton.states() {
-        if moves_to_lane(side, automaton, p, lanes) {
-            rows::set_bit(near, p as usize);
-        }
-    }
-}
-
-/// Writes into the row of each lane the states from which a move by the letter leads to a state of the row `asked` that has the lane. A
-/// move from each of them leads to a state that has a lane: the row `near` has these. `found` is one word.
+/// Writes into the row of each lane the states from which a move by the letter leads to a state of the row `asked` that has the lane.
+/// `found` is room for a word for each state.
 fn step_back<S: Side>(
     side: &S,
     automaton: &Auto,
     label: u32,
     asked: &[u64],
     lanes: &[u64],
-    near: &[u64],
     found: &mut [u64],
     made: &mut [u64],
     width: usize,
@@ -99,18 +69,15 @@ fn step_back<S: Side>(
     requires width { width ≡ (automaton.now.states + 63) / 64 }
     requires asked { length asked.now ≡ width }
     requires lanes { length lanes.now ≡ automaton.now.states }
-    requires near_len { length near.now ≡ width }
-    requires near { HasNear (S.goes side.now automaton.now) automaton.now.states lanes.now near.now }
-    requires found { length found.old ≡ 1 }
+    requires found { length found.old ≡ automaton.now.states }
     requires made { length made.old ≡ 64 * width }
     ensures { (j q : ℕ) → j < 64 → q < automaton.now.states → HasCell made.new width j q ↔ LeadsToLane (S.goes side.now automaton.now) lanes.now asked.now label j q }
 {
+    find_lanes(side, automaton, label, asked, lanes, found);
     rows::clear_row(made);
     for q in 0..automaton.states() {
-        if rows::has_bit(near, q as usize) {
-            find_lanes(side, automaton, q, label, asked, lanes, found);
-            mark_down(made, width, LANES, q as usize, found);
-        }
+        let lane = rows::row_at(found, 1, q as usize);
+        mark_down(made, width, LANES, q as usize, lane);
     }
 }
 
@@ -163,7 +130,6 @@ fn lengthen_by<S: Side>(
     asked: &[u64],
     lanes: &[u64],
     used: usize,
-    near: &[u64],
     columns: &mut [u64],
     width: usize,
     count: usize,
@@ -179,28 +145,24 @@ fn lengthen_by<S: Side>(
     requires lanes_len { length lanes.now ≡ automaton.now.states }
     requires lanes { AreLanes (S.goes side.now automaton.now) (S.keeps side.now automaton.now) automaton.now.states lanes.now used }
     requires used { used ≤ 64 }
-    requires near_len { length near.now ≡ width }
-    requires near { HasNear (S.goes side.now automaton.now) automaton.now.states lanes.now near.now }
     requires room { length columns.old ≡ room * width }
     requires count { count ≤ room }
     requires columns { AreColumns (S.goes side.now automaton.now) (S.keeps side.now automaton.now) automaton.now.states columns.old width count }
-    requires found { length found.old ≡ 1 }
+    requires found { length found.old ≡ automaton.now.states }
     requires made { length made.old ≡ 64 * width }
     ensures columns { AreColumns (S.goes side.now automaton.now) (S.keeps side.now automaton.now) automaton.now.states columns.new width result }
     ensures room { result ≤ room }
 {
     let mut count = count;
     for label in 0..letters {
-        step_back(
-            side, automaton, label, asked, lanes, near, found, made, width,
-        );
+        step_back(side, automaton, label, asked, lanes, found, made, width);
         count = add_columns(columns, width, count, room, made, used);
     }
     count
 }
 
-/// Adds the columns of the words that go on, by one letter and a state of each kind, with the words of the lanes. `near` is room for one
-/// row.
+/// Adds the columns of the words that go on, by one letter and a state of each kind, with the words of the lanes. `found` is room for a
+/// word for each state.
 fn lengthen<S: Side>(
     side: &S,
     automaton: &Auto,
@@ -208,7 +170,6 @@ fn lengthen<S: Side>(
     kinds: &[u32],
     lanes: &[u64],
     used: usize,
-    near: &mut [u64],
     columns: &mut [u64],
     width: usize,
     count: usize,
@@ -225,21 +186,19 @@ fn lengthen<S: Side>(
     requires lanes_len { length lanes.now ≡ automaton.now.states }
     requires lanes { AreLanes (S.goes side.now automaton.now) (S.keeps side.now automaton.now) automaton.now.states lanes.now used }
     requires used { used ≤ 64 }
-    requires near { length near.old ≡ width }
     requires room { length columns.old ≡ room * width }
     requires count { count ≤ room }
     requires columns { AreColumns (S.goes side.now automaton.now) (S.keeps side.now automaton.now) automaton.now.states columns.old width count }
-    requires found { length found.old ≡ 1 }
+    requires found { length found.old ≡ automaton.now.states }
     requires made { length made.old ≡ 64 * width }
     ensures columns { AreColumns (S.goes side.now automaton.now) (S.keeps side.now automaton.now) automaton.now.states columns.new width result }
     ensures room { result ≤ room }
 {
-    find_near(side, automaton, lanes, near);
     let mut count = count;
     for kind in kinds {
         let asked = rows::row_at(matches, width, *kind as usize);
         count = lengthen_by(
-            side, automaton, *kind, asked, lanes, used, near, columns, width, count, room, letters,
+            side, automaton, *kind, asked, lanes, used, columns, width, count, room, letters,
             found, made,
         );
     }
@@ -330,7 +289,7 @@ fn fill_lanes(
 }
 
 /// Adds columns of words, each one letter longer than that of a column whose turn it is, as far as there is room, and tells how many
-/// columns there are then. A former walk tried the first `walked` columns. `near` is room for one row.
+/// columns there are then. A former walk tried the first `walked` columns. `found` is room for a word for each state.
 fn walk_columns<S: Side>(
     side: &S,
     automaton: &Auto,
@@ -342,7 +301,6 @@ fn walk_columns<S: Side>(
     count: usize,
     room: usize,
     letters: u32,
-    near: &mut [u64],
     lanes: &mut [u64],
     found: &mut [u64],
     made: &mut [u64],
@@ -356,9 +314,8 @@ fn walk_columns<S: Side>(
     requires room { length columns.old ≡ room * width }
     requires count { count ≤ room }
     requires columns { AreColumns (S.goes side.now automaton.now) (S.keeps side.now automaton.now) automaton.now.states columns.old width count }
-    requires near { length near.old ≡ width }
     requires lanes { length lanes.old ≡ automaton.now.states }
-    requires found { length found.old ≡ 1 }
+    requires found { length found.old ≡ automaton.now.states }
     requires made { length made.old ≡ 64 * width }
     ensures columns { AreColumns (S.goes side.now automaton.now) (S.keeps side.now automaton.now) automaton.now.states columns.new width result }
     ensures room { result ≤ room }
@@ -378,7 +335,6 @@ fn walk_columns<S: Side>(
                 kinds,
                 lanes,
                 filled.used,
-                near,
                 columns,
                 width,
                 count,
@@ -394,7 +350,7 @@ fn walk_columns<S: Side>(
 }
 
 /// Writes columns of words of the letters below `letters`, as far as there is room for columns, and tells how many they are.
-/// `ends` is room for one row, `lanes` for a word for each state, `found` for one word, and `made` for a row for each lane.
+/// `ends` is room for one row, `lanes` and `found` for a word for each state, and `made` for a row for each lane.
 pub(crate) fn write_columns<S: Side>(
     side: &S,
     automaton: &Auto,
@@ -419,7 +375,7 @@ pub(crate) fn write_columns<S: Side>(
     requires room { length columns.old ≡ room * width }
     requires ends { length ends.old ≡ width }
     requires lanes { length lanes.old ≡ automaton.now.states }
-    requires found { length found.old ≡ 1 }
+    requires found { length found.old ≡ automaton.now.states }
     requires made { length made.old ≡ 64 * width }
     ensures columns { AreColumns (S.goes side.now automaton.now) (S.keeps side.now automaton.now) automaton.now.states columns.new width result }
     ensures room { result ≤ room }
@@ -427,14 +383,13 @@ pub(crate) fn write_columns<S: Side>(
     mark_below(ends, automaton.states());
     write_row(columns, width, 0, ends);
     let count = walk_columns(
-        side, automaton, matches, kinds, columns, width, 0, 1, room, letters, ends, lanes, found,
-        made,
+        side, automaton, matches, kinds, columns, width, 0, 1, room, letters, lanes, found, made,
     );
     if kinds.len() < 2 {
         return count;
     }
     walk_columns(
-        side, automaton, matches, kinds, columns, width, count, count, room, letters, ends, lanes,
-        found, made,
+        side, automaton, matches, kinds, columns, width, count, count, room, letters, lanes, found,
+        made,
     )
 }

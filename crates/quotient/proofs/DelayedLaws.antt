@@ -9,7 +9,7 @@ use Rattle.auto_core.specs.Automaton.{Automaton, IsAutomaton, Moves, IsAccepting
 use Rattle.auto_core.specs.Run.{Path}
 use Rattle.auto_core.specs.Game.{Chain, Close}
 use Rattle.auto_core.specs.Quotient.{class_of, IsQuotient, RelatesMembersBy}
-use Rattle.auto_core.specs.Delayed.{RankedTriples, HoldsTriple, HasRank, Announces, IsRight, AreAnnounced, AreStateRelated}
+use Rattle.auto_core.specs.Delayed.{RankedTriples, HoldsTriple, HasRank, Announces, IsRight, IsTripleWord, AreStateRelated}
 use Rattle.auto_core.specs.declared.parts.Mode.TheVariants.{Buchi}
 use Rattle.auto_core.proofs.PathLemmas.{accepting_from_test, test_from_accepting, none_in_nil, Contains-cons_cases}
 use Rattle.auto_core.proofs.MoveLemmas.{move_in_range}
@@ -52,7 +52,7 @@ right_below (x ∷ xs) b p q h = elim (Contains-cons_cases x (p, b, q, h.0) xs h
   | inr later ↦ let lt = right_below xs b p q (h.0, later) in omega arith
 ]
 
--- ---- words of announced letters
+-- ---- words of triples
 
 -- the first k letters of a word, the word's first letter, and the first k letters after it
 announced_next : (k a : ℕ) (u : List ℕ) → k ≤ length u → Announces (take k (a ∷ u)) (get_or (a ∷ u) k 0) a (take k u)
@@ -202,8 +202,8 @@ module _ (A : Automaton) (X : RankedTriples) (right : IsRight A X) where
       owes_more delay (less.0 * ranks_bound X) b x z (mul-le-mul_right (ranks_bound X) (omega (arith, less.1))) (owes_along less.0 b x z accepting less.2)
 
   module _ (valid : IsAutomaton A) (B : Automaton) (classes : List ℕ) (k : ℕ) (relates : RelatesMembersBy A classes (AreStateRelated A.labels (suc k) X)) (is : IsQuotient A classes B) where
-    -- members of one class are below one another, whatever k letters are announced
-    members_below : (b : List ℕ) → AreAnnounced A.labels (suc k) b → (p q : ℕ) → p < A.states → q < A.states → class_of classes p ≡ class_of classes q → Below b p q
+    -- members of one class are below one another, whatever the word of k letters
+    members_below : (b : List ℕ) → IsTripleWord A.labels (suc k) b → (p q : ℕ) → p < A.states → q < A.states → class_of classes p ≡ class_of classes q → Below b p q
     members_below b fits p q p_in q_in same = let way = relates p q p_in q_in same in (way.0, along way.0 p q way.1)
       where
         along : (n p q : ℕ) → Chain (AreStateRelated A.labels (suc k) X) n p q → Chain (HoldsTriple X b) n p q
@@ -241,8 +241,8 @@ module _ (A : Automaton) (X : RankedTriples) (right : IsRight A X) where
         let rep = (is.moves c a d).0 move in
         All-cons (λ a. a < A.labels) a w (move_in_range A valid rep.0 a rep.1 rep.2).2 (path_labels d w ds rest)
 
-    -- the letters announced where the word u is still to come
-    fits_after : (u : List ℕ) → k ≤ length u → All (λ a. a < A.labels) u → AreAnnounced A.labels (suc k) (take k u)
+    -- a triple's word where the word u is still to come
+    fits_after : (u : List ℕ) → k ≤ length u → All (λ a. a < A.labels) u → IsTripleWord A.labels (suc k) (take k u)
     fits_after u long labels = (ap suc (length-take-le k u long), All-take (λ a. a < A.labels) k u labels)
 
     -- no debt is greater than the delay
@@ -263,7 +263,7 @@ module _ (A : Automaton) (X : RankedTriples) (right : IsRight A X) where
 
     module _ (pad : List ℕ) (padded : length pad ≡ k) (pad_labels : All (λ a. a < A.labels) pad) where
       -- a state of the class d is reached with no debt: if the class is accepting, a debt begins
-      go_on : (w cs : List ℕ) → FollowsRest pad w cs → (d q z : ℕ) → Path B d w cs → q < A.states → class_of classes q ≡ d → AreAnnounced A.labels (suc k) (take k (w ++ pad)) → Below (take k (w ++ pad)) q z
+      go_on : (w cs : List ℕ) → FollowsRest pad w cs → (d q z : ℕ) → Path B d w cs → q < A.states → class_of classes q ≡ d → IsTripleWord A.labels (suc k) (take k (w ++ pad)) → Below (take k (w ++ pad)) q z
           → (zs : List ℕ) × Path A z w zs × AllMatchedWithin B A delay cs zs × (IsAccepting B d → AcceptsWithin A delay (z ∷ zs))
       go_on w cs rest d q z path q_in of_d fits below = by_test (is_accepting B d) refl
         where
@@ -320,10 +320,10 @@ module _ (A : Automaton) (X : RankedTriples) (right : IsRight A X) where
           next : Announces (take k (a ∷ u)) more a (take k u)
           next = announced_next k a u long
 
-          now : AreAnnounced A.labels (suc k) (take k (a ∷ u))
+          now : IsTripleWord A.labels (suc k) (take k (a ∷ u))
           now = fits_after (a ∷ u) (omega (arith, long)) all_labels
 
-          then : AreAnnounced A.labels (suc k) (take k u)
+          then : IsTripleWord A.labels (suc k) (take k u)
           then = fits_after u long u_labels
 
           rep : (p q : ℕ) × Moves A p a q × (c ≡ class_of classes p) × (d ≡ class_of classes q)

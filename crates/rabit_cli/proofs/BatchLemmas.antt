@@ -12,7 +12,7 @@ use Rattle.std.specs.Prelude.{◌≢◌, is_some, nat_lt, IsUtf8, map as map_lis
 use Rattle.std.specs.List.{list_all}
 use Rattle.std.specs.Io.KnownBytes.{append_known}
 use Rattle.shelf_io.specs.Counts.{Rose, counted}
-use Rattle.shelf_io.specs.Shelf.{FileMap, CountsMissing, IsBlamed}
+use Rattle.shelf_io.specs.Shelf.{FileMap, CountsMissing}
 use Rattle.auto_core.specs.declared.parts.Mode.TheVariants.{Buchi}
 use Rattle.ba_format.specs.declared.parts.Limits.{Limits}
 use Rattle.cert_value.specs.WellFormed.{has_some}
@@ -27,11 +27,11 @@ use Rattle.rabit_frame.specs.declared.parts.Ending.TheVariants as ending
 use Rattle.rabit_frame.specs.Files.{Input, Output}
 use Rattle.rabit_frame.specs.Lines.{read_line, memory_line}
 use Rattle.rabit_frame.specs.Statuses.{status_number}
-use Rattle.rabit_frame.specs.Reading.{FileReads, IsOfKind, MayStopAt, MissedInTurn, BegunInTurn, AllBegun, BlamesInTurn}
+use Rattle.rabit_frame.specs.Reading.{FileReads, IsOfKind, MayStopAt, MissedInTurn}
 use Rattle.rabit_frame.specs.Ending.{BeforeAndAfter, IsCutShort, PutEach, Leaves, MayEnd, filed, status_of, status_unsent, WasSaid, SaysOnly}
-use Rattle.rabit_frame.specs.Carrying.{EndsSo, NoReply, IsCarriedOut, SaysEach, PutsByStatus}
-use Rattle.rabit_frame.proofs.EndLemmas.{own_number, may_plain, stop_plain, says_each, read_fault_of, read_line_of, memory_of}
-use Rattle.rabit_frame.proofs.TurnLemmas.{counts_here, begun_here}
+use Rattle.rabit_frame.specs.Carrying.{EndsSo, NoReply, IsCarriedOut, SaysEach, PutsByStatus, BegunByStatus}
+use Rattle.rabit_frame.proofs.EndLemmas.{own_number, may_plain, stop_plain, says_each, read_fault_of, read_line_of, memory_of, begun_by_status}
+use Rattle.rabit_frame.proofs.TurnLemmas.{counts_here}
 use Rattle.rabit_cli.specs.Include.{usual_terms, LeavesDecided}
 use Rattle.rabit_cli.specs.Batch.{AreQuestions, AnswersQuestion, ShowsQuestion, question_inputs, MeansQuestion, IsQuestionStatus, AutomataAreThere, LeavesQuestion, LeaveInTurn, question_line, question_lines, GivenEach, times, RoseBy, IsCarriedEach, list_file, batch_inputs, IsStatusOfNoneAsked, NoneAsked, IsBatch, ShelfCounts, shelf_counts, MadeCalls}
 use Rattle.rabit_words.specs.Question.{Batch}
@@ -209,20 +209,17 @@ known_append (Some x) a b = ap Some (append_assoc x a b)
 -- ---- the calls of one question
 
 pub made_calls : (q : Question) (status : ℕ) (held : Option FileMap) (calls calls' : ShelfCounts)
-    → IfSome held (λ files. BegunInTurn files (question_inputs q) calls.begins calls'.begins) → (status ≤ 2 → AllBegun (question_inputs q) calls.begins calls'.begins)
+    → BegunByStatus (question_inputs q) status held calls'.blamed calls.begins calls'.begins
     → PutsByStatus (MeansQuestion q) (question_inputs q) status held calls.puts calls'.puts
     → (status ≡ 6 → Rose calls.read_faults calls'.read_faults) → (status ≢ 6 → calls'.read_faults ≡ calls.read_faults)
-    → (status ≡ 6 → IfSome held (λ files. BlamesInTurn files (question_inputs q) calls'.blamed))
     → (status ≡ 7 → Rose calls.put_faults calls'.put_faults) → (status ≢ 7 → calls'.put_faults ≡ calls.put_faults)
     → IfSome held (λ files. MadeCalls q status files calls calls')
-made_calls q status None calls calls' turn all puts read no_read blames put no_put = tt
-made_calls q status (Some files) calls calls' turn all puts read no_read blames put no_put = record {
-  begun_in_turn = turn;
-  all_begun = all;
+made_calls q status None calls calls' begun puts read no_read put no_put = tt
+made_calls q status (Some files) calls calls' begun puts read no_read put no_put = record {
+  begun = begun;
   put_once = puts;
   read_fault = read;
   no_read_fault = no_read;
-  blames = blames;
   write_fault = put;
   no_write_fault = no_put;
 }
@@ -360,21 +357,6 @@ stops_eleven r p = elim p [
   | inr (bytes, (line, is, e)) ↦ (ap (λ z. status_number z.status) e, ap (λ z. status_unsent (ending.Reached z)) e)
 ]
 
--- and status 6 is that of a failed read
-six_is_unread : (list : List ℕ) (status : ℕ) (sent sent' : Option (List ℕ)) (give give' : ℕ) (e : Ending) → MayEnd NoReply (batch_inputs list) e → WasSaid e status sent sent' give give' → status ≡ 6 → e ≡ ending.ReadFault
-six_is_unread list status sent sent' give give' (ending.Reached r) may said six = elim may [
-  | inl stop ↦ elim stop [
-    | inl here ↦
-        let is : status ≡ 11 = elim said [ inl whole ↦ whole.0 ∙ (stops_eleven r here).0 | inr front ↦ front.0 ∙ (stops_eleven r here).1 ] in
-        absurd (omega arith)
-    | inr none ↦ absurd none
-  ]
-  | inr (values, kinds, none) ↦ absurd none
-]
-six_is_unread list status sent sent' give give' (ending.ReadFault) may said six = refl
-six_is_unread list status sent sent' give give' (ending.OutOfMemory) may said six = (let is : status ≡ 8 = elim said [ inl whole ↦ whole.0 | inr front ↦ front.0 ] in absurd (omega arith))
-six_is_unread list status sent sent' give give' (ending.WriteFault) may said six = (let is : status ≡ 7 = elim said [ inl whole ↦ whole.0 | inr front ↦ front.0 ] in absurd (omega arith))
-
 pub unread_status : (list : List ℕ) (held held' : Option FileMap) (status : ℕ) (sent sent' : Option (List ℕ)) (give give' read read' put put' : ℕ)
     → IsCarriedOut NoReply (batch_inputs list) held held' status sent sent' give give' read read' put put' → IsStatusOfNoneAsked status
 unread_status list held held' status sent sent' give give' read read' put put' c = go c.end c.ends.may c.said
@@ -491,10 +473,10 @@ list_is_of_questions questions (bytes, is) = (is.words, is.few)
 
 -- the list is not read
 pub batch_unread : (list : List ℕ) (slot : Input) (held held' : Option FileMap) (status : ℕ) (sent sent' : Option (List ℕ)) (give give' gives gives' read read' put put' missed missed' : ℕ) (calls calls' : ShelfCounts) (e : Ending)
-    → slot ≡ list_file list → EndsSo NoReply (slot ∷ []) e held held' read read' put put' → WasSaid e status sent sent' give give' → gives' ≡ counted gives → CountsMissing held slot.name missed missed' → calls'.begins ≡ counted calls.begins → calls'.puts ≡ calls.puts
-    → (e ≡ ending.ReadFault → IfSome held (λ files. IsBlamed files slot.name calls'.blamed))
+    → slot ≡ list_file list → EndsSo NoReply (slot ∷ []) e held held' read read' put put' → WasSaid e status sent sent' give give' → gives' ≡ counted gives → CountsMissing held slot.name missed missed' → calls'.puts ≡ calls.puts
+    → BegunByStatus (slot ∷ []) (status_of e) held calls'.blamed calls.begins calls'.begins
     → IsBatch list held held' status sent sent' give give' gives gives' read read' put put' missed missed' calls calls'
-batch_unread list slot held held' status sent sent' give give' gives gives' read read' put put' missed missed' calls calls' e is ends said given counts begun puts_stay blames =
+batch_unread list slot held held' status sent sent' give give' gives gives' read read' put put' missed missed' calls calls' e is ends said given counts puts_stay begun =
     let carried : IsCarriedOut NoReply (batch_inputs list) held held' status sent sent' give give' read read' put put' =
     record { end = e; ends = subst (λ (i : Input). EndsSo NoReply (i ∷ []) e held held' read read' put put') is ends; said = said } in
     inl (record {
@@ -502,14 +484,11 @@ batch_unread list slot held held' status sent sent' give give' gives gives' read
       known = unread_status list held held' status sent sent' give give' read read' put put' carried;
       given_once = given;
       missing = counts_here held (list_file list) [] missed missed' (subst (λ (i : Input). CountsMissing held i.name missed missed') is counts);
-      begun_in_turn = begun_here held (list_file list) [] calls.begins calls'.begins begun;
+      begun =
+          begun_by_status (batch_inputs list) held calls'.blamed calls.begins calls'.begins e status
+          (subst (λ (i : Input). BegunByStatus (i ∷ []) (status_of e) held calls'.blamed calls.begins calls'.begins) is begun) (elim said [ inl whole ↦ inl whole.0 | inr front ↦ inr front.0 ]);
       puts_stay = puts_stay;
-      blames = λ six. here held (subst (λ (i : Input). IfSome held (λ files. IsBlamed files i.name calls'.blamed)) is (blames (six_is_unread list status sent sent' give give' e carried.ends.may said six)));
     })
-  where
-    here : (h : Option FileMap) → IfSome h (λ files. IsBlamed files list calls'.blamed) → IfSome h (λ files. BlamesInTurn files (batch_inputs list) calls'.blamed)
-    here None blamed = tt
-    here (Some files) blamed = inl blamed
 
 -- the list was read, so its name was not missed
 read_is_held : (files : FileMap) (i : Input) (v : Value) (before now : ℕ) → FileReads files i v → CountsMissing (Some files) i.name before now → now ≡ before

@@ -40,8 +40,8 @@ use Rattle.rabit_cli.specs.Check.{check_inputs, Concludes, MeansCheck}
 use Rattle.rabit_cli.specs.Include.{pair_inputs, certificate_put}
 use Rattle.rabit_cli.specs.Upgrade.{upgrade_inputs}
 use Rattle.rabit_cli.specs.Cross.{cross_put, cross_check_inputs, MeansCrossCheck}
-use Rattle.rabit_cli.specs.Laws.{IsCheckReply, UpgradedFileIsChecked, CrossIsChecked, CrossRelationsAreAccepted, EmptyIsChecked, UniversalIsChecked}
-use Rattle.rabit_cli.proofs.UpgradeLemmas.{upgrade_checked}
+use Rattle.rabit_cli.specs.Laws.{IsCheckReply, UpgradeIsChecked, CrossIsChecked, CrossRelationsAreAccepted, EmptyIsChecked, UniversalIsChecked}
+use Rattle.rabit_cli.proofs.UpgradeLemmas.{agrees_on_upgrade}
 use Rattle.rabit_cli.proofs.EmptyLemmas.{empty_is_short}
 use Rattle.rabit_cli.proofs.UniversalLemmas.{universal_is_short, universal_has_no_fault}
 use Rattle.rabit_cli.proofs.LawLemmas.{written as put_there, other as put_elsewhere, reads_alike, stops_alike, reads_still}
@@ -134,8 +134,8 @@ check_over files files' a b c c' cert cert' same_a same_b reads reads' alike s r
       )
 ]
 
-pub upgraded_file_checked : UpgradedFileIsChecked
-upgraded_file_checked files a b c out r s not_a not_b right zero short = elim right [
+pub upgrade_checked : UpgradeIsChecked
+upgrade_checked files a b c out r s not_a not_b right zero short = elim right [
   | inl stop ↦ let high = (stop_plain files (upgrade_inputs c) r stop).0 in absurd (omega (arith, high, zero))
   | inr (values, in_turn, (cert, is, e)) ↦
       let (reads, end) = subst (ReadInTurn files (upgrade_inputs c)) is in_turn in
@@ -146,8 +146,8 @@ upgraded_file_checked files a b c out r s not_a not_b right zero short = elim ri
       let same_b = put_elsewhere files out (text (upgraded cert)) b not_b in
       let reads' : ReadsCertificate after out (upgraded cert) = (text (upgraded cert), put_there files out (text (upgraded cert)), few, (text_up cert reads.3.0, refl)) in
       subst (λ ps. IsCheckReply files a b c s ↔ IsCheckReply (filed files ps) a b out s) (sym puts) (
-        check_over files after a b c out cert (upgraded cert) same_a same_b reads reads' (λ one two t. (upgrade_checked one two cert t).0) s,
-        check_over after files a b out c (upgraded cert) cert (sym same_a) (sym same_b) reads' reads (λ one two t. (upgrade_checked one two cert t).1) s,
+        check_over files after a b c out cert (upgraded cert) same_a same_b reads reads' (λ one two t. (agrees_on_upgrade one two cert t).0) s,
+        check_over after files a b out c (upgraded cert) cert (sym same_a) (sym same_b) reads' reads (λ one two t. (agrees_on_upgrade one two cert t).1) s,
       )
 ]
 

@@ -7,9 +7,9 @@ use Rattle.rabit_frame.specs.declared.parts.Reply.{Reply}
 use Rattle.rabit_frame.specs.declared.parts.Ending.{Ending}
 use Rattle.rabit_frame.specs.declared.parts.Ending.TheVariants as ending
 use Rattle.rabit_frame.specs.Statuses.{status_number}
-use Rattle.rabit_frame.specs.Reading.{AreOfKinds, MissedInTurn, BegunInTurn, BlamesInTurn}
+use Rattle.rabit_frame.specs.Reading.{AreOfKinds, MissedInTurn}
 use Rattle.rabit_frame.specs.Ending.{BeforeAndAfter, WasSaid}
-use Rattle.rabit_frame.specs.Carrying.{EndsSo, IsCarriedOut, ShowsResult, PutsByStatus}
+use Rattle.rabit_frame.specs.Carrying.{EndsSo, IsCarriedOut, ShowsResult, PutsByStatus, BegunByStatus}
 use Rattle.rabit_frame.proofs.EndLemmas.{may_plain, same_status, own_status, both_same, no_inputs, no_puts, no_puts_stay}
 use Rattle.std.specs.Prelude.{option_map}
 use Rattle.rabit_words.specs.declared.parts.Question.{Question as Held}
@@ -218,40 +218,40 @@ module _ (held held' : Option FileMap) (status : ℕ) (sent sent' : Option (List
   leaves (Some (Universal a u d m)) range c = leaves_property universality universality_decidable u d m held held' status sent sent' give_faults give_faults' faults faults' put_faults put_faults' a c.end c.ends c.said
 
   -- a batch that was carried out as if it had a reply of its own has no question asked
-  pub batches : (q : Option Question) → Carried q → (gives gives' missed missed' : ℕ) (calls calls' : ShelfCounts) → gives' ≡ counted gives → PutsByStatus (Means q) (inputs_of q) status held calls.puts calls'.puts → IfSome held (λ files. MissedInTurn files (inputs_of q) missed missed') → IfSome held (λ files. BegunInTurn files (inputs_of q) calls.begins calls'.begins) → (status ≡ 6 → IfSome held (λ files. BlamesInTurn files (inputs_of q) calls'.blamed))
+  pub batches : (q : Option Question) → Carried q → (gives gives' missed missed' : ℕ) (calls calls' : ShelfCounts) → gives' ≡ counted gives → PutsByStatus (Means q) (inputs_of q) status held calls.puts calls'.puts → IfSome held (λ files. MissedInTurn files (inputs_of q) missed missed') → BegunByStatus (inputs_of q) status held calls'.blamed calls.begins calls'.begins
       → IfSome q (λ asked. Batches asked held held' status sent sent' give_faults give_faults' gives gives' faults faults' put_faults put_faults' missed missed' calls calls')
-  batches (Some (Batch l)) c gives gives' missed missed' calls calls' given puts missing begun blames =
+  batches (Some (Batch l)) c gives gives' missed missed' calls calls' given puts missing begun =
       let known = unread_status l held held' status sent sent' give_faults give_faults' faults faults' put_faults put_faults' c in
-      inl (record { carried = c; known = known; given_once = given; missing = missing; begun_in_turn = begun; puts_stay = puts_none l status held calls.puts calls'.puts known puts; blames = blames })
-  batches None c gives gives' missed missed' calls calls' given puts missing begun blames = tt
-  batches (Some (Check a b d)) c gives gives' missed missed' calls calls' given puts missing begun blames = tt
-  batches (Some (Include a b d m look limit letters)) c gives gives' missed missed' calls calls' given puts missing begun blames = tt
-  batches (Some (Reduce a m look letters)) c gives gives' missed missed' calls calls' given puts missing begun blames = tt
-  batches (Some (Drill seed states labels)) c gives gives' missed missed' calls calls' given puts missing begun blames = tt
-  batches (Some (Upgrade d out)) c gives gives' missed missed' calls calls' given puts missing begun blames = tt
-  batches (Some (Cross a b out look)) c gives gives' missed missed' calls calls' given puts missing begun blames = tt
-  batches (Some (CrossCheck a b f)) c gives gives' missed missed' calls calls' given puts missing begun blames = tt
-  batches (Some (Equal a b d out)) c gives gives' missed missed' calls calls' given puts missing begun blames = tt
-  batches (Some (Union a b m)) c gives gives' missed missed' calls calls' given puts missing begun blames = tt
-  batches (Some (Intersect a b m)) c gives gives' missed missed' calls calls' given puts missing begun blames = tt
-  batches (Some (Shrink a b d out)) c gives gives' missed missed' calls calls' given puts missing begun blames = tt
-  batches (Some (Empty a e d m)) c gives gives' missed missed' calls calls' given puts missing begun blames = tt
-  batches (Some (Universal a u d m)) c gives gives' missed missed' calls calls' given puts missing begun blames = tt
+      inl (record { carried = c; known = known; given_once = given; missing = missing; begun = begun; puts_stay = puts_none l status held calls.puts calls'.puts known puts })
+  batches None c gives gives' missed missed' calls calls' given puts missing begun = tt
+  batches (Some (Check a b d)) c gives gives' missed missed' calls calls' given puts missing begun = tt
+  batches (Some (Include a b d m look limit letters)) c gives gives' missed missed' calls calls' given puts missing begun = tt
+  batches (Some (Reduce a m look letters)) c gives gives' missed missed' calls calls' given puts missing begun = tt
+  batches (Some (Drill seed states labels)) c gives gives' missed missed' calls calls' given puts missing begun = tt
+  batches (Some (Upgrade d out)) c gives gives' missed missed' calls calls' given puts missing begun = tt
+  batches (Some (Cross a b out look)) c gives gives' missed missed' calls calls' given puts missing begun = tt
+  batches (Some (CrossCheck a b f)) c gives gives' missed missed' calls calls' given puts missing begun = tt
+  batches (Some (Equal a b d out)) c gives gives' missed missed' calls calls' given puts missing begun = tt
+  batches (Some (Union a b m)) c gives gives' missed missed' calls calls' given puts missing begun = tt
+  batches (Some (Intersect a b m)) c gives gives' missed missed' calls calls' given puts missing begun = tt
+  batches (Some (Shrink a b d out)) c gives gives' missed missed' calls calls' given puts missing begun = tt
+  batches (Some (Empty a e d m)) c gives gives' missed missed' calls calls' given puts missing begun = tt
+  batches (Some (Universal a u d m)) c gives gives' missed missed' calls calls' given puts missing begun = tt
 
   -- and its status
-  pub answers_batches : (q : Option Question) → Carried q → (gives gives' missed missed' : ℕ) (calls calls' : ShelfCounts) → gives' ≡ counted gives → PutsByStatus (Means q) (inputs_of q) status held calls.puts calls'.puts → IfSome held (λ files. MissedInTurn files (inputs_of q) missed missed') → IfSome held (λ files. BegunInTurn files (inputs_of q) calls.begins calls'.begins) → (status ≡ 6 → IfSome held (λ files. BlamesInTurn files (inputs_of q) calls'.blamed)) → IfSome q (λ asked. AnswersBatch asked status give_faults give_faults' faults faults')
-  answers_batches (Some (Batch l)) c gives gives' missed missed' calls calls' given puts missing begun blames = answers_batch l held held' status sent sent' give_faults give_faults' gives gives' faults faults' put_faults put_faults' missed missed' calls calls' (batches (Some (Batch l)) c gives gives' missed missed' calls calls' given puts missing begun blames)
-  answers_batches None c gives gives' missed missed' calls calls' given puts missing begun blames = tt
-  answers_batches (Some (Check a b d)) c gives gives' missed missed' calls calls' given puts missing begun blames = tt
-  answers_batches (Some (Include a b d m look limit letters)) c gives gives' missed missed' calls calls' given puts missing begun blames = tt
-  answers_batches (Some (Reduce a m look letters)) c gives gives' missed missed' calls calls' given puts missing begun blames = tt
-  answers_batches (Some (Drill seed states labels)) c gives gives' missed missed' calls calls' given puts missing begun blames = tt
-  answers_batches (Some (Upgrade d out)) c gives gives' missed missed' calls calls' given puts missing begun blames = tt
-  answers_batches (Some (Cross a b out look)) c gives gives' missed missed' calls calls' given puts missing begun blames = tt
-  answers_batches (Some (CrossCheck a b f)) c gives gives' missed missed' calls calls' given puts missing begun blames = tt
-  answers_batches (Some (Equal a b d out)) c gives gives' missed missed' calls calls' given puts missing begun blames = tt
-  answers_batches (Some (Union a b m)) c gives gives' missed missed' calls calls' given puts missing begun blames = tt
-  answers_batches (Some (Intersect a b m)) c gives gives' missed missed' calls calls' given puts missing begun blames = tt
-  answers_batches (Some (Shrink a b d out)) c gives gives' missed missed' calls calls' given puts missing begun blames = tt
-  answers_batches (Some (Empty a e d m)) c gives gives' missed missed' calls calls' given puts missing begun blames = tt
-  answers_batches (Some (Universal a u d m)) c gives gives' missed missed' calls calls' given puts missing begun blames = tt
+  pub answers_batches : (q : Option Question) → Carried q → (gives gives' missed missed' : ℕ) (calls calls' : ShelfCounts) → gives' ≡ counted gives → PutsByStatus (Means q) (inputs_of q) status held calls.puts calls'.puts → IfSome held (λ files. MissedInTurn files (inputs_of q) missed missed') → BegunByStatus (inputs_of q) status held calls'.blamed calls.begins calls'.begins → IfSome q (λ asked. AnswersBatch asked status give_faults give_faults' faults faults')
+  answers_batches (Some (Batch l)) c gives gives' missed missed' calls calls' given puts missing begun = answers_batch l held held' status sent sent' give_faults give_faults' gives gives' faults faults' put_faults put_faults' missed missed' calls calls' (batches (Some (Batch l)) c gives gives' missed missed' calls calls' given puts missing begun)
+  answers_batches None c gives gives' missed missed' calls calls' given puts missing begun = tt
+  answers_batches (Some (Check a b d)) c gives gives' missed missed' calls calls' given puts missing begun = tt
+  answers_batches (Some (Include a b d m look limit letters)) c gives gives' missed missed' calls calls' given puts missing begun = tt
+  answers_batches (Some (Reduce a m look letters)) c gives gives' missed missed' calls calls' given puts missing begun = tt
+  answers_batches (Some (Drill seed states labels)) c gives gives' missed missed' calls calls' given puts missing begun = tt
+  answers_batches (Some (Upgrade d out)) c gives gives' missed missed' calls calls' given puts missing begun = tt
+  answers_batches (Some (Cross a b out look)) c gives gives' missed missed' calls calls' given puts missing begun = tt
+  answers_batches (Some (CrossCheck a b f)) c gives gives' missed missed' calls calls' given puts missing begun = tt
+  answers_batches (Some (Equal a b d out)) c gives gives' missed missed' calls calls' given puts missing begun = tt
+  answers_batches (Some (Union a b m)) c gives gives' missed missed' calls calls' given puts missing begun = tt
+  answers_batches (Some (Intersect a b m)) c gives gives' missed missed' calls calls' given puts missing begun = tt
+  answers_batches (Some (Shrink a b d out)) c gives gives' missed missed' calls calls' given puts missing begun = tt
+  answers_batches (Some (Empty a e d m)) c gives gives' missed missed' calls calls' given puts missing begun = tt
+  answers_batches (Some (Universal a u d m)) c gives gives' missed missed' calls calls' given puts missing begun = tt

@@ -20,7 +20,7 @@ use Rattle.rabit_frame.proofs.EndLemmas.{leaves_by_status}
 use Rattle.rabit_frame.proofs.OneLemmas.{stop_or_read_in_turn}
 use Rattle.rabit_cli.specs.Files.{ReadsCertificate}
 use Rattle.rabit_cli.specs.Check.{Concludes, MeansCheck}
-use Rattle.rabit_cli.specs.Laws.{UpgradeIsChecked}
+use Rattle.rabit_cli.specs.Laws.{CheckAgreesOnUpgrade}
 use Rattle.rabit_cli.specs.Upgrade.{upgrade_inputs, upgrade_reply, MeansUpgrade, HoldsUpgraded, HoldsUpgradedFront, LeavesUpgraded, ShowsUpgrade, IsUpgradeStatus}
 
 pub one_upgrade : (name : List ℕ) (values : List Value) (r s : Reply) → MeansUpgrade name values r → MeansUpgrade name values s → r ≡ s
@@ -101,8 +101,8 @@ check_of one two cert r (x, y, c, is, (pair, joined, says)) =
     let C : Cert → Type 0 = λ z. Concludes pair z r in
     (pair, subst Q second (subst P first joined), subst C third says)
 
-pub upgrade_checked : UpgradeIsChecked
-upgrade_checked one two cert r = (
+pub agrees_on_upgrade : CheckAgreesOnUpgrade
+agrees_on_upgrade one two cert r = (
   λ means. let (pair, joined, says) = check_of one two cert r means in (one, two, upgraded cert, refl, (pair, joined, (concludes_alike pair cert r).0 says)),
   λ means. let (pair, joined, says) = check_of one two (upgraded cert) r means in (one, two, cert, refl, (pair, joined, (concludes_alike pair cert r).1 says)),
 )

@@ -16,9 +16,9 @@ use Rattle.rabit_frame.specs.declared.parts.Ending.{Ending}
 use Rattle.rabit_frame.specs.Files.{Input}
 use Rattle.rabit_frame.specs.Lines.{line_end}
 use Rattle.rabit_frame.specs.Statuses.{status_number}
-use Rattle.rabit_frame.specs.Reading.{FileReads, MissedInTurn, BegunInTurn, AllBegun, BlamesInTurn}
+use Rattle.rabit_frame.specs.Reading.{FileReads, MissedInTurn}
 use Rattle.rabit_frame.specs.Ending.{IsReplyFor, BeforeAndAfter, Leaves, filed, status_of}
-use Rattle.rabit_frame.specs.Carrying.{NoReply, IsCarriedOut, PutsByStatus}
+use Rattle.rabit_frame.specs.Carrying.{NoReply, IsCarriedOut, PutsByStatus, BegunByStatus}
 use Rattle.rabit_cli.specs.Include.{usual_terms, pair_inputs, MeansInclude, ShowsInclude}
 
 -- ---- one question
@@ -76,16 +76,13 @@ pub record ShelfCounts : Type 0 where
 abbrev pub shelf_counts : ℕ → ℕ → ℕ → ℕ → WhichFile → ShelfCounts
 shelf_counts begins puts read_faults put_faults blamed = record { begins = begins; puts = puts; read_faults = read_faults; put_faults = put_faults; blamed = blamed }
 
--- The calls that a question made, which ended with this status: it began its files in turn, all of them where its status is up to 2, and put those of
--- its reply once each, up to one that was refused. A read failed just where the status is 6, of the first file that was not read to its end, and a put
--- just where it is 7.
+-- The calls that a question made, which ended with this status: it began just the files that the status needs, each once, and put those of its reply
+-- once each, up to one that was refused. A read failed just where the status is 6, of the last file that was begun, and a put just where it is 7.
 pub record MadeCalls (q : Question) (status : ℕ) (files : FileMap) (calls calls' : ShelfCounts) : Type 0 where
-  pub begun_in_turn : BegunInTurn files (question_inputs q) calls.begins calls'.begins
-  pub all_begun : status ≤ 2 → AllBegun (question_inputs q) calls.begins calls'.begins
+  pub begun : BegunByStatus (question_inputs q) status (Some files) calls'.blamed calls.begins calls'.begins
   pub put_once : PutsByStatus (MeansQuestion q) (question_inputs q) status (Some files) calls.puts calls'.puts
   pub read_fault : status ≡ 6 → Rose calls.read_faults calls'.read_faults
   pub no_read_fault : status ≢ 6 → calls'.read_faults ≡ calls.read_faults
-  pub blames : status ≡ 6 → BlamesInTurn files (question_inputs q) calls'.blamed
   pub write_fault : status ≡ 7 → Rose calls.put_faults calls'.put_faults
   pub no_write_fault : status ≢ 7 → calls'.put_faults ≡ calls.put_faults
 
@@ -188,9 +185,8 @@ pub record NoneAsked (list : List ℕ) (held held' : Option FileMap) (status : �
   pub known : IsStatusOfNoneAsked status
   pub given_once : gives' ≡ counted gives
   pub missing : IfSome held (λ files. MissedInTurn files (batch_inputs list) missed missed')
-  pub begun_in_turn : IfSome held (λ files. BegunInTurn files (batch_inputs list) calls.begins calls'.begins)
+  pub begun : BegunByStatus (batch_inputs list) status held calls'.blamed calls.begins calls'.begins
   pub puts_stay : calls'.puts ≡ calls.puts
-  pub blames : status ≡ 6 → IfSome held (λ files. BlamesInTurn files (batch_inputs list) calls'.blamed)
 
 -- The calls once one more file was begun and read; which file a read was refused of before is not told.
 abbrev pub after_reading : ShelfCounts → WhichFile → ShelfCounts

@@ -1,5 +1,5 @@
 -- Each question's files, what its reply means, and what its results show: one row a command.
-use Rattle.std.specs.Prelude.{◌≡◌, ℕ, ◌⊎◌, List, [], ◌∷◌, Option, Some, None}
+use Rattle.std.specs.Prelude.{◌≡◌, ℕ, ◌⊎◌, List, [], ◌∷◌, map, Option, Some, None, String, string_bytes}
 use Rattle.shelf_io.specs.Shelf.{FileMap}
 use Rattle.rabit_frame.specs.declared.parts.Value.{Value}
 use Rattle.rabit_frame.specs.declared.parts.Reply.{Reply}
@@ -7,7 +7,7 @@ use Rattle.rabit_frame.specs.Files.{Input}
 use Rattle.rabit_frame.specs.Lines.{memory_line}
 use Rattle.rabit_frame.specs.Ending.{SaysOnly}
 use Rattle.rabit_frame.specs.Carrying.{NoReply}
-use Rattle.rabit_words.specs.Question.{Question, Include, Check, Reduce, Drill, Upgrade, Cross, CrossCheck, Equal, Batch, Union, Intersect, Shrink, Empty, Universal}
+use Rattle.rabit_words.specs.Question.{Question, Include, Check, Reduce, Drill, Upgrade, Cross, CrossCheck, Equal, Batch, Union, Intersect, Shrink, Empty, Universal, question_of}
 use Rattle.rabit_cli.specs.Printed.{usage_text}
 use Rattle.rabit_cli.specs.Replies.{usage_reply}
 use Rattle.rabit_cli.specs.Check.{check_inputs, MeansCheck, ShowsCheck}
@@ -24,6 +24,10 @@ use Rattle.rabit_cli.specs.Shrink.{MeansShrink, ShowsShrink, LeavesShrunk}
 use Rattle.rabit_cli.specs.Property.{property_inputs, MeansProperty, ShowsProperty, LeavesProperty}
 use Rattle.rabit_cli.specs.Empty.{emptiness}
 use Rattle.rabit_cli.specs.Universal.{universality}
+
+-- What the words after the program's name ask, if anything.
+abbrev pub asked_by : {Z : Type 0} → List (String Z) → Option Question
+asked_by words = question_of (map string_bytes words)
 
 -- Every question is answered by a reply of its own but a batch, which asks further ones.
 abbrev pub IsSingle : Option Question → Type 0

@@ -26,26 +26,26 @@ use Rattle.rabit_frame.specs.declared.parts.Reply.{Reply}
 use Rattle.rabit_frame.specs.Files.{Input, Output}
 use Rattle.rabit_frame.specs.Ending.{IsCutShort}
 use Rattle.rabit_frame.specs.Carrying.{LeavesByStatus}
-use Rattle.rabit_words.specs.Question.{usual_look, usual_limit}
+use Rattle.rabit_words.specs.Question.{usual_look, usual_limit, usual_letters}
 use Rattle.rabit_cli.specs.Printed.{included_text, limit_text}
 use Rattle.rabit_cli.specs.Files.{first_limits, second_limits, automaton_file, ReadsPairWithin, ReadsPair}
 use Rattle.rabit_cli.specs.Replies.{IsVerdictReply, SaysApart}
 
--- The terms of a decision that names neither a lookahead nor a limit nor announced letters.
+-- The terms of a decision that names neither a lookahead nor a limit nor letters.
 abbrev pub usual_terms : Mode → Terms
 usual_terms mode = terms_of_version_1 mode usual_look usual_limit
 
--- The announced letters of a decision: one where none are named.
+-- How many letters a decision asks for: the usual number where none are named.
 abbrev pub letters_by : Option ℕ → ℕ
-letters_by None = 1
+letters_by None = usual_letters
 letters_by (Some letters) = letters
 
--- The version of its certificate: 2 where announced letters are named, and otherwise 1.
+-- The version of its certificate: 2 where letters are named, and otherwise 1.
 abbrev pub version_by : Option ℕ → ℕ
 version_by None = 1
 version_by (Some letters) = 2
 
--- The terms of a decision with this mode, lookahead and limit, where these announced letters are named.
+-- The terms of a decision with this mode, lookahead and limit, where so many letters are named, or none.
 abbrev pub terms_by : Mode → ℕ → ℕ → Option ℕ → Terms
 terms_by mode look limit letters = record { mode = mode; look = look; letters = letters_by letters; version = version_by letters; limit = limit }
 

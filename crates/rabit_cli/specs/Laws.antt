@@ -79,16 +79,16 @@ AnswersAreAccepted =
     → IsCheckReply files a b c r
 
 -- A check says the same of a certificate and of its upgrade, for all automata.
-abbrev pub UpgradeIsChecked : Type 0
-UpgradeIsChecked =
+abbrev pub CheckAgreesOnUpgrade : Type 0
+CheckAgreesOnUpgrade =
     (one two : Named) (cert : Cert) (r : Reply)
     → MeansCheck (value.Automaton one ∷ value.Automaton two ∷ value.Certificate cert ∷ []) r
     ↔ MeansCheck (value.Automaton one ∷ value.Automaton two ∷ value.Certificate (upgraded cert) ∷ []) r
 
 -- Where the upgrade's name is neither automaton's, and `upgrade` wrote at most 1 GiB, a check of the upgrade over the files that it leaves says what a
 -- check of the certificate says over the files before.
-abbrev pub UpgradedFileIsChecked : Type 0
-UpgradedFileIsChecked =
+abbrev pub UpgradeIsChecked : Type 0
+UpgradeIsChecked =
     (files : FileMap) (a b c out : List ℕ) (r s : Reply)
     → out ≢ a
     → out ≢ b

@@ -39,9 +39,9 @@ no_relation_text = codes "no cross relation" ++ line_end
 abbrev pub too_large_text : List ℕ
 too_large_text = codes "too large" ++ line_end
 
--- The certificate is written in version 2.
-abbrev pub upgraded_text : List ℕ
-upgraded_text = codes "upgraded" ++ line_end
+-- The line that says that the certificate is written in version 2.
+abbrev pub upgrade_done_text : List ℕ
+upgrade_done_text = codes "upgraded" ++ line_end
 
 -- A valid certificate has neither a lasso nor a word.
 abbrev pub nothing_to_shrink_text : List ℕ

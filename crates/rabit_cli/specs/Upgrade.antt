@@ -14,7 +14,7 @@ use Rattle.rabit_frame.specs.Files.{Input}
 use Rattle.rabit_frame.specs.Reading.{reply_with}
 use Rattle.rabit_frame.specs.Ending.{IsCutShort}
 use Rattle.rabit_frame.specs.Carrying.{LeavesByStatus}
-use Rattle.rabit_cli.specs.Printed.{upgraded_text}
+use Rattle.rabit_cli.specs.Printed.{upgrade_done_text}
 use Rattle.rabit_cli.specs.Files.{certificate_file, ReadsCertificate}
 use Rattle.rabit_cli.specs.Include.{certificate_put}
 
@@ -24,7 +24,7 @@ upgrade_inputs c = certificate_file c ∷ []
 
 -- The reply to a certificate: that of version 2 is written, and that this is done is said.
 abbrev pub upgrade_reply : List ℕ → Cert → Reply
-upgrade_reply name cert = reply_with status.Done upgraded_text (certificate_put name (upgraded cert) ∷ [])
+upgrade_reply name cert = reply_with status.Done upgrade_done_text (certificate_put name (upgraded cert) ∷ [])
 
 -- The reply to what was read.
 abbrev pub MeansUpgrade : List ℕ → List Value → Reply → Type 0
@@ -46,7 +46,7 @@ LeavesUpgraded files c out status put_faults put_faults' files' =
 -- The certificate was written in version 2, and that was said.
 pub record IsUpgradedShown (files : FileMap) (c out : List ℕ) (files' : FileMap) (sent sent' : Option (List ℕ)) : Type 0 where
   pub held : HoldsUpgraded files c out files'
-  pub printed : sent' ≡ append_known sent upgraded_text
+  pub printed : sent' ≡ append_known sent upgrade_done_text
 
 -- What a status up to 2 shows: 0 a certificate of version 2, and 1 and 2 do not come.
 pub record ShowsUpgrade (files : FileMap) (c out : List ℕ) (status : ℕ) (files' : FileMap) (sent sent' : Option (List ℕ)) : Type 0 where

@@ -6,9 +6,9 @@ ghost use Rattle.auto_core.specs.declared.parts.Mode.TheVariants.{Buchi};
 ghost use Rattle.equal_batch.specs.Questions.{is_word, is_question, line_of};
 ghost use Rattle.rabit_frame.specs.declared.parts.Value.TheVariants as value;
 ghost use Rattle.rabit_frame.specs.declared.parts.Ending.{Ending as AnEnding};
-ghost use Rattle.rabit_frame.specs.Reading.{FileReads, IsOfKind, MissedInTurn, BegunInTurn, AllBegun, BlamesInTurn};
+ghost use Rattle.rabit_frame.specs.Reading.{FileReads, IsOfKind, MissedInTurn};
 ghost use Rattle.rabit_frame.specs.Ending.{BeforeAndAfter, status_of};
-ghost use Rattle.rabit_frame.specs.Carrying.{EndsSo, PutsByStatus};
+ghost use Rattle.rabit_frame.specs.Carrying.{EndsSo, PutsByStatus, BegunByStatus};
 ghost use Rattle.rabit_cli.specs.Include.{usual_terms, LeavesDecided};
 ghost use Rattle.rabit_cli.specs.Batch.{question_inputs, MeansQuestion, IsQuestionStatus, ShowsQuestion, AnswersQuestion, question_line, AreQuestions, shelf_counts, IsCarriedEach, list_file, IsBatch};
 
@@ -91,12 +91,9 @@ pub fn answer_one<H: Shelf>(alloc: Global, question: &Question, shelf: &mut H) -
     ensures write_fault { result ≡ 7 → Rose (H.put_faults shelf.old) (H.put_faults shelf.new) }
     ensures no_write_fault { result ≢ 7 → H.put_faults shelf.new ≡ H.put_faults shelf.old }
 
-    // Where the shelf tells its files, each is begun only when those before it read as values, and a missing one is counted only in its turn.
-    // Up to 2 all were begun; at 6 a read was refused of one of them, and those before it read as values.
+    // By the count of begins just the files were begun that the status needs, each once, and a missing one is counted only in its turn.
+    ensures begun { BegunByStatus (question_inputs question.now) result (H.held shelf.old) (H.blamed shelf.new) (H.begins shelf.old) (H.begins shelf.new) }
     ensures missing { IfSome (H.held shelf.old) (λ files. MissedInTurn files (question_inputs question.now) (H.missed shelf.old) (H.missed shelf.new)) }
-    ensures begun_in_turn { IfSome (H.held shelf.old) (λ files. BegunInTurn files (question_inputs question.now) (H.begins shelf.old) (H.begins shelf.new)) }
-    ensures all_begun { result ≤ 2 → AllBegun (question_inputs question.now) (H.begins shelf.old) (H.begins shelf.new) }
-    ensures blames { result ≡ 6 → IfSome (H.held shelf.old) (λ files. BlamesInTurn files (question_inputs question.now) (H.blamed shelf.new)) }
 {
     let asking = Asking { question };
     rabit_frame::carry_out_unsaid(alloc, &asking, shelf)

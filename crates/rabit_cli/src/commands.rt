@@ -1,11 +1,10 @@
 //! From the question to its files and its reply: one arm a command.
 
-ghost use Rattle.std.specs.Prelude.{◌≡◌, Ok, Some, map, option_map, IfOk, IfSome, MatchOption};
-ghost use Rattle.std.specs.String.{string_bytes};
+ghost use Rattle.std.specs.Prelude.{◌≡◌, Ok, Some, option_map, IfOk, IfSome, MatchOption};
 ghost use Rattle.rabit_frame.specs.Reading.{AreOfKinds};
 ghost use Rattle.rabit_words.specs.declared.parts.Question.{Question as AQuestion};
-ghost use Rattle.rabit_words.specs.Question.{Batch, told, question_of, IsProper};
-ghost use Rattle.rabit_cli.specs.Commands.{IsSingle, inputs_of, Means};
+ghost use Rattle.rabit_words.specs.Question.{Batch, told, IsProper};
+ghost use Rattle.rabit_cli.specs.Commands.{asked_by, IsSingle, inputs_of, Means};
 
 use crate::files::{FIRST_LIMITS, SECOND_LIMITS};
 use crate::including::AskedInclude;
@@ -204,11 +203,11 @@ impl<'a> Command<'a> {
 }
 
 impl<'a> Work for Command<'a> {
-    ghost inputs = { λ c. inputs_of (question_of (map string_bytes c.words.now)) };
+    ghost inputs = { λ c. inputs_of (asked_by c.words.now) };
 
-    ghost means = { λ c. Means (question_of (map string_bytes c.words.now)) };
+    ghost means = { λ c. Means (asked_by c.words.now) };
 
-    ghost is_fit = { λ c. IfOk c.asked (λ asked. (option_map told asked ≡ question_of (map string_bytes c.words.now)) × IfSome asked (λ q. IsProper (told q) × IsSingle (Some (told q)))) };
+    ghost is_fit = { λ c. IfOk c.asked (λ asked. (option_map told asked ≡ asked_by c.words.now) × IfSome asked (λ q. IsProper (told q) × IsSingle (Some (told q)))) };
 
     fn slots(&self, alloc: Global) -> Result<List<Slot<'_>>, Memory> {
         match &self.asked {

@@ -2,7 +2,7 @@
 
 ghost use Rattle.std.specs.Prelude.{◌≡◌, ◌++◌, ℕ, List as Items, IfOk, OnOk, codes};
 ghost use Rattle.cert_value.specs.declared.types.Cert.{Cert as ACert};
-ghost use Rattle.cert_value.specs.declared.types.Body.TheVariants as form;
+ghost use Rattle.cert_value.specs.declared.types.Body.TheVariants.{NoWord};
 ghost use Rattle.decide.specs.Answer.{IsAnswer};
 ghost use Rattle.decide.specs.Laws.{CanDecide};
 ghost use Rattle.drawing.specs.Drawn.{IsInBounds};
@@ -54,7 +54,7 @@ fn size(alloc: Global, name: &str, automaton: &Auto) -> Result<List<u8>, Memory>
 
 /// What was found of an inclusion.
 fn finding(alloc: Global, body: &Body) -> Result<List<u8>, Memory>
-    requires lassos { (word : Items ℕ) → body.now ≡ form.NoWord word → ⊥ }
+    requires lassos { (word : Items ℕ) → body.now ≡ NoWord word → ⊥ }
     ensures { IfOk result (λ text. text ≡ finding body.now) }
 {
     match body {

@@ -6,7 +6,7 @@ ghost use Rattle.auto_core.specs.declared.parts.Mode.TheVariants.{Buchi};
 ghost use Rattle.ba_format.specs.declared.parts.Joined.{Joined as AJoined};
 ghost use Rattle.ba_format.specs.Reading.{IsWithinLimits};
 ghost use Rattle.ba_format.specs.Joining.{IsJoined};
-ghost use Rattle.cert_value.specs.declared.types.Body.TheVariants as form;
+ghost use Rattle.cert_value.specs.declared.types.Body.TheVariants.{NoLasso, NoWord};
 ghost use Rattle.decide.specs.Laws.{CanDecide};
 ghost use Rattle.decide.specs.Answer.{IsAnswer};
 ghost use Rattle.equal_batch.specs.declared.outcome.Both.{Both as ABoth};
@@ -52,8 +52,8 @@ fn is_no(body: &Body) -> bool
 
 /// Appends what a no has.
 fn push_witness(out: &mut List<u8>, labels: &Texts, body: &Body) -> Result<(), Memory>
-    requires letters { (lasso : ALasso) → body.now ≡ form.NoLasso lasso → All (λ a. a < length labels.now) lasso.prefix × All (λ a. a < length labels.now) lasso.turn }
-    requires word { (word : Items ℕ) → body.now ≡ form.NoWord word → All (λ a. a < length labels.now) word }
+    requires letters { (lasso : ALasso) → body.now ≡ NoLasso lasso → All (λ a. a < length labels.now) lasso.prefix × All (λ a. a < length labels.now) lasso.turn }
+    requires word { (word : Items ℕ) → body.now ≡ NoWord word → All (λ a. a < length labels.now) word }
     ensures { OnOk result (out.new ≡ out.old ++ witness_lines labels.now body.now) }
 {
     match body {
@@ -66,8 +66,8 @@ fn push_witness(out: &mut List<u8>, labels: &Texts, body: &Body) -> Result<(), M
 
 /// The text of a no: what it begins with, and what the no has.
 fn apart_text(alloc: Global, said: &str, labels: &Texts, body: &Body) -> Result<List<u8>, Memory>
-    requires letters { (lasso : ALasso) → body.now ≡ form.NoLasso lasso → All (λ a. a < length labels.now) lasso.prefix × All (λ a. a < length labels.now) lasso.turn }
-    requires word { (word : Items ℕ) → body.now ≡ form.NoWord word → All (λ a. a < length labels.now) word }
+    requires letters { (lasso : ALasso) → body.now ≡ NoLasso lasso → All (λ a. a < length labels.now) lasso.prefix × All (λ a. a < length labels.now) lasso.turn }
+    requires word { (word : Items ℕ) → body.now ≡ NoWord word → All (λ a. a < length labels.now) word }
     ensures { IfOk result (λ text. text ≡ said.now ++ witness_lines labels.now body.now) }
 {
     let mut text = List::new(alloc);
@@ -80,8 +80,8 @@ fn apart_text(alloc: Global, said: &str, labels: &Texts, body: &Body) -> Result<
 fn answered(alloc: Global, pair: &Joined) -> Result<Cert, Memory>
     requires { CanDecide pair.now }
     ensures answer { IfOk result (IsAnswer pair.now (usual_terms Buchi)) }
-    ensures letters { IfOk result (λ cert. (lasso : ALasso) → cert.body ≡ form.NoLasso lasso → All (λ a. a < length pair.now.labels) lasso.prefix × All (λ a. a < length pair.now.labels) lasso.turn) }
-    ensures word { IfOk result (λ cert. (word : Items ℕ) → cert.body ≡ form.NoWord word → All (λ a. a < length pair.now.labels) word) }
+    ensures letters { IfOk result (λ cert. (lasso : ALasso) → cert.body ≡ NoLasso lasso → All (λ a. a < length pair.now.labels) lasso.prefix × All (λ a. a < length pair.now.labels) lasso.turn) }
+    ensures word { IfOk result (λ cert. (word : Items ℕ) → cert.body ≡ NoWord word → All (λ a. a < length pair.now.labels) word) }
 {
     decide::include(alloc, pair, Mode::Buchi, USUAL_LOOK, USUAL_LIMIT)
 }
@@ -102,8 +102,8 @@ fn both_reply<'a>(
     body: &Body,
     puts: List<Put<'a>>,
 ) -> Result<Reply<'a>, Memory>
-    requires letters { (lasso : ALasso) → body.now ≡ form.NoLasso lasso → All (λ a. a < length labels.now) lasso.prefix × All (λ a. a < length labels.now) lasso.turn }
-    requires word { (word : Items ℕ) → body.now ≡ form.NoWord word → All (λ a. a < length labels.now) word }
+    requires letters { (lasso : ALasso) → body.now ≡ NoLasso lasso → All (λ a. a < length labels.now) lasso.prefix × All (λ a. a < length labels.now) lasso.turn }
+    requires word { (word : Items ℕ) → body.now ≡ NoWord word → All (λ a. a < length labels.now) word }
     ensures { IfOk result (λ reply. reply ≡ both_reply said labels.now body.now puts.entry) }
 {
     match said {
@@ -168,8 +168,8 @@ fn first_apart<'a>(
     pair: &Joined,
     cert: &Cert,
 ) -> Result<Reply<'a>, Memory>
-    requires letters { (lasso : ALasso) → cert.now.body ≡ form.NoLasso lasso → All (λ a. a < length pair.now.labels) lasso.prefix × All (λ a. a < length pair.now.labels) lasso.turn }
-    requires word { (word : Items ℕ) → cert.now.body ≡ form.NoWord word → All (λ a. a < length pair.now.labels) word }
+    requires letters { (lasso : ALasso) → cert.now.body ≡ NoLasso lasso → All (λ a. a < length pair.now.labels) lasso.prefix × All (λ a. a < length pair.now.labels) lasso.turn }
+    requires word { (word : Items ℕ) → cert.now.body ≡ NoWord word → All (λ a. a < length pair.now.labels) word }
     ensures { IfOk result (λ reply. reply ≡ first_apart_reply certificate.entry.now pair.now cert.now) }
 {
     let text = apart_text(alloc, "first not in second\n", &pair.labels, &cert.body)?;

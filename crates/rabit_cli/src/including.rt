@@ -5,7 +5,7 @@ ghost use Rattle.auto_core.specs.declared.parts.Lasso.{Lasso as ALasso};
 ghost use Rattle.ba_format.specs.declared.parts.Joined.{Joined as AJoined};
 ghost use Rattle.ba_format.specs.Reading.{IsWithinLimits};
 ghost use Rattle.ba_format.specs.Joining.{IsJoined};
-ghost use Rattle.cert_value.specs.declared.types.Body.TheVariants as form;
+ghost use Rattle.cert_value.specs.declared.types.Body.TheVariants.{NoLasso, NoWord};
 ghost use Rattle.decide.specs.Answer.{IsAnswer};
 ghost use Rattle.decide.specs.Laws.{CanDecide};
 ghost use Rattle.decide.specs.Terms.{AreBounded};
@@ -41,7 +41,7 @@ pub struct AskedInclude {
     pub look: u32,
     /// The most elements of the search, from 1 to 100,000.
     pub limit: u32,
-    /// The announced letters, from 1 to 4, of a certificate of version 2; None asks for one of version 1.
+    /// How many letters are asked for in the delayed games, from 1 to 4, with a certificate of version 2; None asks for one of version 1.
     pub letters: Option<u32>,
 }
 
@@ -51,8 +51,8 @@ fn answered(alloc: Global, asked: AskedInclude, pair: &Joined) -> Result<Cert, M
     requires bounded { AreBounded (terms_of_asked asked) }
     requires limit_from { 1 ≤ asked.limit }
     ensures answer { IfOk result (IsAnswer pair.now (terms_of_asked asked)) }
-    ensures letters { IfOk result (λ cert. (lasso : ALasso) → cert.body ≡ form.NoLasso lasso → All (λ a. a < length pair.now.labels) lasso.prefix × All (λ a. a < length pair.now.labels) lasso.turn) }
-    ensures word { IfOk result (λ cert. (word : Items ℕ) → cert.body ≡ form.NoWord word → All (λ a. a < length pair.now.labels) word) }
+    ensures letters { IfOk result (λ cert. (lasso : ALasso) → cert.body ≡ NoLasso lasso → All (λ a. a < length pair.now.labels) lasso.prefix × All (λ a. a < length pair.now.labels) lasso.turn) }
+    ensures word { IfOk result (λ cert. (word : Items ℕ) → cert.body ≡ NoWord word → All (λ a. a < length pair.now.labels) word) }
 {
     match asked.letters {
         None => decide::include(alloc, pair, asked.mode, asked.look, asked.limit),

@@ -1,6 +1,6 @@
 //! What the commands have to do with one another: each law is the contract of a function that does nothing.
 
-ghost use Rattle.rabit_cli.specs.Laws.{CheckAgrees, IncludeIsChecked, AnswersAreAccepted, UpgradeIsChecked, UpgradedFileIsChecked, CrossIsChecked, CrossRelationsAreAccepted, QuestionsShowInTurn, EmptyTextAcceptsNothing, UniversalTextAcceptsAll, EmptyIsChecked, UniversalIsChecked};
+ghost use Rattle.rabit_cli.specs.Laws.{CheckAgrees, IncludeIsChecked, AnswersAreAccepted, CheckAgreesOnUpgrade, UpgradeIsChecked, CrossIsChecked, CrossRelationsAreAccepted, QuestionsShowInTurn, EmptyTextAcceptsNothing, UniversalTextAcceptsAll, EmptyIsChecked, UniversalIsChecked};
 
 /// A check of the answer that a decision wrote under a name of its own says what the decision said, where the file has at most 1 GiB.
 pub fn check_agrees()
@@ -18,13 +18,13 @@ pub fn answers_are_accepted()
 {}
 
 /// A check says the same of a certificate and of its upgrade.
-pub fn upgrade_is_checked()
-    ensures { UpgradeIsChecked }
+pub fn check_agrees_on_upgrade()
+    ensures { CheckAgreesOnUpgrade }
 {}
 
 /// A check of what `upgrade` left says what a check of the certificate says.
-pub fn upgraded_file_is_checked()
-    ensures { UpgradedFileIsChecked }
+pub fn upgrade_is_checked()
+    ensures { UpgradeIsChecked }
 {}
 
 /// What `cross` left is accepted by `cross-check`.

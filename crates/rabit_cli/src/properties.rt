@@ -4,7 +4,7 @@ ghost use Rattle.std.specs.Prelude.{◌≡◌, ◌≤◌, ◌<◌, ◌^◌, ◌+
 ghost use Rattle.auto_core.specs.declared.parts.Lasso.{Lasso as ALasso};
 ghost use Rattle.ba_format.specs.Faults.{fault_of};
 ghost use Rattle.ba_format.specs.Reading.{Reads, IsWithinLimits};
-ghost use Rattle.cert_value.specs.declared.types.Body.TheVariants as form;
+ghost use Rattle.cert_value.specs.declared.types.Body.TheVariants.{NoLasso, NoWord};
 ghost use Rattle.decide.specs.Laws.{CanDecide};
 ghost use Rattle.rabit_frame.specs.Lines.{line_end};
 ghost use Rattle.rabit_cli.specs.Printed.{lasso_lines, word_line, holds_text, lasso_against_text, word_against_text};
@@ -127,8 +127,8 @@ fn verdict<'a>(
     body: &Body,
     puts: List<Put<'a>>,
 ) -> Result<Reply<'a>, Memory>
-    requires letters { (lasso : ALasso) → body.now ≡ form.NoLasso lasso → All (λ a. a < length pair.now.labels) lasso.prefix × All (λ a. a < length pair.now.labels) lasso.turn }
-    requires word { (word : Items ℕ) → body.now ≡ form.NoWord word → All (λ a. a < length pair.now.labels) word }
+    requires letters { (lasso : ALasso) → body.now ≡ NoLasso lasso → All (λ a. a < length pair.now.labels) lasso.prefix × All (λ a. a < length pair.now.labels) lasso.turn }
+    requires word { (word : Items ℕ) → body.now ≡ NoWord word → All (λ a. a < length pair.now.labels) word }
     ensures { IfOk result (IsPropertyReply property.now pair.now body.now puts.entry) }
 {
     match body {

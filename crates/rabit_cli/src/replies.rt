@@ -3,7 +3,7 @@
 ghost use Rattle.std.specs.Prelude.{◌≡◌, ◌<◌, IfOk, All, List as Items, ℕ, length};
 ghost use Rattle.auto_core.specs.declared.parts.Lasso.{Lasso as ALasso};
 ghost use Rattle.ba_format.specs.declared.parts.Joined.{Joined};
-ghost use Rattle.cert_value.specs.declared.types.Body.TheVariants as form;
+ghost use Rattle.cert_value.specs.declared.types.Body.TheVariants.{NoLasso, NoWord};
 ghost use Rattle.rabit_frame.specs.Reading.{only_said, reply_with};
 ghost use Rattle.rabit_cli.specs.Printed.{refused_text, included_text, not_included_text, word_not_included_text, limit_text};
 ghost use Rattle.rabit_cli.specs.Replies.{usage_reply, IsVerdictReply};
@@ -92,8 +92,8 @@ pub fn verdict<'a>(
     body: &Body,
     puts: List<Put<'a>>,
 ) -> Result<Reply<'a>, Memory>
-    requires letters { (lasso : ALasso) → body.now ≡ form.NoLasso lasso → All (λ a. a < length pair.now.labels) lasso.prefix × All (λ a. a < length pair.now.labels) lasso.turn }
-    requires word { (word : Items ℕ) → body.now ≡ form.NoWord word → All (λ a. a < length pair.now.labels) word }
+    requires letters { (lasso : ALasso) → body.now ≡ NoLasso lasso → All (λ a. a < length pair.now.labels) lasso.prefix × All (λ a. a < length pair.now.labels) lasso.turn }
+    requires word { (word : Items ℕ) → body.now ≡ NoWord word → All (λ a. a < length pair.now.labels) word }
     ensures { IfOk result (IsVerdictReply mode pair.now body.now puts.entry) }
 {
     match body {

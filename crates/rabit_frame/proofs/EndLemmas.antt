@@ -1,7 +1,7 @@
 -- From the end that was said to its status, its files and what it shows.
 use Rattle.std.proofs.Common.{◌≡◌, ◌⊎◌, ℕ, ◌≤◌, List, [], ◌∷◌, length, Option, Some, None, IfSome, Result, Ok, Err, OnErr, inl, inr, refl, sym, ◌∙◌, ap, subst, arith}
 use Rattle.shelf_io.specs.Counts.{Rose}
-use Rattle.shelf_io.specs.Shelf.{FileMap}
+use Rattle.shelf_io.specs.Shelf.{FileMap, WhichFile}
 use Rattle.rabit_frame.specs.declared.parts.FileKind.{FileKind}
 use Rattle.rabit_frame.specs.declared.parts.FileKind.TheVariants as kind
 use Rattle.rabit_frame.specs.declared.parts.Value.{Value}
@@ -13,9 +13,9 @@ use Rattle.rabit_frame.specs.declared.parts.Ending.TheVariants as ending
 use Rattle.rabit_frame.specs.Files.{Input}
 use Rattle.rabit_frame.specs.Lines.{read_line, write_line, memory_line}
 use Rattle.rabit_frame.specs.Statuses.{status_number, number_unsent, IsOwn}
-use Rattle.rabit_frame.specs.Reading.{AreOfKinds, ReadInTurn, FileStops, StopInTurn, HasFault, MayStopAt, MayStop, long_reply}
+use Rattle.rabit_frame.specs.Reading.{AreOfKinds, ReadInTurn, FileStops, StopInTurn, HasFault, MayStopAt, MayStop, BegunInTurn, AllBegun, BegunForReply, BegunToBlamed, long_reply}
 use Rattle.rabit_frame.specs.Ending.{IsReplyFor, IsReplyOf, MayReply, MayEnd, Leaves, BeforeAndAfter, filed, IsCutShort, PutEach, PutFront, status_of, status_unsent, WasGiven, WasSaid, SaysOnly}
-use Rattle.rabit_frame.specs.Carrying.{EndsSo, NoReply, SaysEach, IsOwnReply, ShowsResult, LeavesAtWriteFault, LeavesByStatus, PutsOnce, PutsByStatus}
+use Rattle.rabit_frame.specs.Carrying.{EndsSo, NoReply, SaysEach, IsOwnReply, ShowsResult, LeavesAtWriteFault, LeavesByStatus, PutsOnce, PutsByStatus, BegunByStatus}
 use Rattle.rabit_frame.proofs.OneLemmas.{one_reply}
 
 -- the numbers of a command's own statuses
@@ -365,6 +365,59 @@ module _ (means : List Value → Reply → Type 0) (inputs : List Input) (held :
   puts_by_status (ending.WriteFault) status (r, right, front) is = at_seven r status right (inr front) (elim is [ inl sent ↦ sent | inr unsent ↦ unsent ])
   puts_by_status (ending.ReadFault) status same is = none_put status 6 (λ own. own.0 refl) (λ e. omega arith) (elim is [ inl sent ↦ sent | inr unsent ↦ unsent ]) same
   puts_by_status (ending.OutOfMemory) status same is = none_put status 8 (λ own. own.2 refl) (λ e. omega arith) (elim is [ inl sent ↦ sent | inr unsent ↦ unsent ]) same
+
+-- what was begun by the ending, and so by its status, be its text sent or not
+module _ (inputs : List Input) (held : Option FileMap) (blamed : WhichFile) (before now : ℕ) where
+  pub begun_reached : (r : Reply) → MayStop inputs r ⊎ AllBegun inputs before now → BegunForReply held inputs before now → BegunByStatus inputs (status_number r.status) held blamed before now
+  begun_reached r all needed =
+      let own = own_number r.status in record {
+        own = λ mine. needed;
+        result = λ low. elim all [ inl stop ↦ absurd (let high = (may_plain inputs r stop).0 in omega arith) | inr every ↦ every ];
+        write_fault = λ seven. absurd (own.1 seven);
+        read_fault = λ six. absurd (own.0 six);
+        memory = λ eight. absurd (own.2 eight);
+      }
+
+  begun_seven : (status : ℕ) → status ≡ 7 → AllBegun inputs before now → BegunByStatus inputs status held blamed before now
+  begun_seven status is all = record {
+    own = λ own. absurd (own.1 is);
+    result = λ low. all;
+    write_fault = λ seven. all;
+    read_fault = λ six. absurd (omega arith);
+    memory = λ eight. absurd (omega arith);
+  }
+
+  pub begun_cut : (r : Reply) → MayStop inputs r ⊎ AllBegun inputs before now → 1 ≤ length r.puts → BegunByStatus inputs 7 held blamed before now
+  begun_cut r all some = begun_seven 7 refl (elim all [ inl stop ↦ absurd (let none = ap length (may_plain inputs r stop).1 in omega arith) | inr every ↦ every ])
+
+  pub begun_unread : BegunToBlamed held inputs blamed before now → BegunByStatus inputs 6 held blamed before now
+  begun_unread to = record {
+    own = λ own. absurd (own.0 refl);
+    result = λ low. absurd (omega arith);
+    write_fault = λ seven. absurd (omega arith);
+    read_fault = λ six. to;
+    memory = λ eight. absurd (omega arith);
+  }
+
+  pub begun_refused : BegunInTurn held inputs before now → BegunByStatus inputs 8 held blamed before now
+  begun_refused some = record {
+    own = λ own. absurd (own.2 refl);
+    result = λ low. absurd (omega arith);
+    write_fault = λ seven. absurd (omega arith);
+    read_fault = λ six. absurd (omega arith);
+    memory = λ eight. some;
+  }
+
+  pub begun_by_status : (e : Ending) (status : ℕ) → BegunByStatus inputs (status_of e) held blamed before now → (status ≡ status_of e) ⊎ (status ≡ status_unsent e) → BegunByStatus inputs status held blamed before now
+  begun_by_status (ending.Reached r) status begun is =
+      let P : ℕ → Type 0 = λ n. BegunByStatus inputs n held blamed before now in
+      elim is [
+        | inl sent ↦ subst P (sym sent) begun
+        | inr unsent ↦ elim (unsent_number r.status) [ inl seven ↦ begun_seven status (unsent ∙ seven) (begun.result (unsent_low r.status seven)) | inr stays ↦ subst P (sym (unsent ∙ stays.0)) begun ]
+      ]
+  begun_by_status (ending.WriteFault) status begun is = subst (λ n. BegunByStatus inputs n held blamed before now) (sym (elim is [ inl sent ↦ sent | inr unsent ↦ unsent ])) begun
+  begun_by_status (ending.ReadFault) status begun is = subst (λ n. BegunByStatus inputs n held blamed before now) (sym (elim is [ inl sent ↦ sent | inr unsent ↦ unsent ])) begun
+  begun_by_status (ending.OutOfMemory) status begun is = subst (λ n. BegunByStatus inputs n held blamed before now) (sym (elim is [ inl sent ↦ sent | inr unsent ↦ unsent ])) begun
 
 pub on_error : {T E : Type 0} (P : Type 0) (r : Result T E) (e : E) → r ≡ Err e → OnErr r P → P
 on_error P (Ok x) e is h = absurd (let f = is in cc)

@@ -2,7 +2,7 @@
 use Rattle.std.specs.Prelude.{◌≡◌, ℕ, ◌≤◌, ◌⊎◌, List, take, Option, Some}
 use Rattle.std.specs.Io.KnownBytes.{append_known}
 use Rattle.shelf_io.specs.Counts.{Rose}
-use Rattle.shelf_io.specs.Shelf.{FileMap}
+use Rattle.shelf_io.specs.Shelf.{FileMap, WhichFile}
 use Rattle.rabit_frame.specs.declared.parts.Value.{Value}
 use Rattle.rabit_frame.specs.declared.parts.Reply.{Reply}
 use Rattle.rabit_frame.specs.declared.parts.Ending.{Ending}
@@ -10,7 +10,7 @@ use Rattle.rabit_frame.specs.declared.parts.Ending.TheVariants as ending
 use Rattle.rabit_frame.specs.Files.{Input}
 use Rattle.rabit_frame.specs.Lines.{write_line}
 use Rattle.rabit_frame.specs.Statuses.{status_number, number_unsent, IsOwn}
-use Rattle.rabit_frame.specs.Reading.{ReadInTurn}
+use Rattle.rabit_frame.specs.Reading.{ReadInTurn, BegunInTurn, AllBegun, BegunForReply, BegunToBlamed}
 use Rattle.rabit_frame.specs.Ending.{IsReplyFor, IsReplyOf, MayEnd, Leaves, BeforeAndAfter, filed, IsCutShort, PutEach, PutFront, WasGiven, WasSaid, SaysOnly}
 
 -- The command came to this end. Where the shelf tells its files, the reply is the right one and they are what it leaves. It is a read fault exactly
@@ -86,6 +86,16 @@ pub record PutsByStatus (means : List Value → Reply → Type 0) (inputs : List
   pub write_fault : status ≡ 7 → (r : Reply) × IsReplyOf means inputs held r × (PutEach r.puts before now ⊎ PutFront r.puts before now)
   pub read_fault : status ≡ 6 → now ≡ before
   pub memory : status ≡ 8 → now ≡ before
+
+-- Which files a command has begun, by the count of begins and by its status. With a status of its own they are just those that its reply needs, and for a
+-- result, or at a write fault, all of them. At a read fault they go up to the one that a read was refused of. At want of memory they are some in turn,
+-- since memory can be refused before the first, between any two and after the last.
+pub record BegunByStatus (inputs : List Input) (status : ℕ) (held : Option FileMap) (blamed : WhichFile) (before now : ℕ) : Type 0 where
+  pub own : IsOwn status → BegunForReply held inputs before now
+  pub result : status ≤ 2 → AllBegun inputs before now
+  pub write_fault : status ≡ 7 → AllBegun inputs before now
+  pub read_fault : status ≡ 6 → BegunToBlamed held inputs blamed before now
+  pub memory : status ≡ 8 → BegunInTurn held inputs before now
 
 -- What a command leaves, by its status, where only its results write: a result comes with all of its files. A write fault leaves
 -- them too where the sink refused the text, and where the shelf's count rose a part of them. Nothing else writes a file.

@@ -2,8 +2,8 @@
 use Rattle.std.specs.Prelude.{ℕ, List, [], ◌∷◌, ◌++◌, codes, decimal}
 use Rattle.ba_format.specs.declared.parts.BaKind.{BaKind}
 use Rattle.ba_format.specs.declared.parts.BaKind.TheVariants as kind
-use Rattle.cert_text.specs.declared.faults.TextKind.{TextKind}
-use Rattle.cert_text.specs.declared.faults.TextKind.TheVariants as text_kind
+use Rattle.cert_line.specs.declared.faults.TextKind.{TextKind}
+use Rattle.cert_line.specs.declared.faults.TextKind.TheVariants as text_kind
 
 -- The name of a fault of a `.ba` text.
 abbrev pub kind_name : BaKind → List ℕ

@@ -128,24 +128,37 @@ MissInTurn files (i ∷ is) = IsMissing files i.name ⊎ ((read : Value) × File
 abbrev pub MissedInTurn : FileMap → List Input → ℕ → ℕ → Type 0
 MissedInTurn files inputs before now = (now ≡ before) ⊎ MissInTurn files inputs
 
+-- Where the shelf tells its files, this one reads as a value.
+abbrev pub TellsValue : Option FileMap → Input → Type 0
+TellsValue held input = IfSome held (λ files. (read : Value) × FileReads files input read)
+
 -- By the count of begins: none of the files was begun, or the first alone, or, since it reads as a value, the others in turn too.
 -- So no file is begun before what those before it hold is known.
-abbrev pub BegunInTurn : FileMap → List Input → ℕ → ℕ → Type 0
-BegunInTurn files [] before now = now ≡ before
-BegunInTurn files (i ∷ is) before now =
+abbrev pub BegunInTurn : Option FileMap → List Input → ℕ → ℕ → Type 0
+BegunInTurn held [] before now = now ≡ before
+BegunInTurn held (i ∷ is) before now =
     (now ≡ before)
     ⊎ (now ≡ counted before)
-    ⊎ ((read : Value) × FileReads files i read × BegunInTurn files is (counted before) now)
+    ⊎ (TellsValue held i × BegunInTurn held is (counted before) now)
 
--- All of the files were begun.
+-- By the count of begins: each of the files was begun once.
 abbrev pub AllBegun : List Input → ℕ → ℕ → Type 0
 AllBegun [] before now = now ≡ before
 AllBegun (i ∷ is) before now = AllBegun is (counted before) now
 
--- The file that a read was refused of is one of these, and those before it read as values.
-abbrev pub BlamesInTurn : FileMap → List Input → WhichFile → Type 0
-BlamesInTurn files [] blamed = ⊥
-BlamesInTurn files (i ∷ is) blamed = IsBlamed files i.name blamed ⊎ ((read : Value) × FileReads files i read × BlamesInTurn files is blamed)
+-- By the count of begins: each file up to the first that is too long or has a fault was begun once, and none after it; or all were, which read as values.
+abbrev pub BegunForReply : Option FileMap → List Input → ℕ → ℕ → Type 0
+BegunForReply held [] before now = now ≡ before
+BegunForReply held (i ∷ is) before now =
+    ((now ≡ counted before) × IfSome held (λ files. (r : Reply) × FileStops files i r))
+    ⊎ (TellsValue held i × BegunForReply held is (counted before) now)
+
+-- By the count of begins: each file up to the one that a read was refused of was begun once, and none after it; those before it read as values.
+abbrev pub BegunToBlamed : Option FileMap → List Input → WhichFile → ℕ → ℕ → Type 0
+BegunToBlamed held [] blamed before now = ⊥
+BegunToBlamed held (i ∷ is) blamed before now =
+    ((now ≡ counted before) × IfSome held (λ files. IsBlamed files i.name blamed))
+    ⊎ (TellsValue held i × BegunToBlamed held is blamed (counted before) now)
 
 -- What may be said of a file of this kind that is not read, whatever it holds.
 abbrev pub MayStopAt : FileKind → Reply → Type 0

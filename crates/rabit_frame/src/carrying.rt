@@ -3,15 +3,15 @@
 ghost use Rattle.std.specs.Prelude.{◌≡◌, ◌≢◌, ◌≤◌, ◌⊎◌, ◌∷◌, [], ℕ, List as Items, length, Err, IfOk, IfErr, IfSome};
 ghost use Rattle.std.specs.Io.KnownBytes.{append_known};
 ghost use Rattle.shelf_io.specs.Counts.{Rose, counted};
-ghost use Rattle.shelf_io.specs.Shelf.{CountsMissing, IsBlamed};
+ghost use Rattle.shelf_io.specs.Shelf.{CountsMissing};
 ghost use Rattle.rabit_frame.specs.declared.parts.Value.{Value as AValue};
 ghost use Rattle.rabit_frame.specs.declared.parts.Reply.{Reply as AReply};
 ghost use Rattle.rabit_frame.specs.declared.parts.Ending.{Ending as AnEnding};
 ghost use Rattle.rabit_frame.specs.Lines.{read_line, memory_line};
 ghost use Rattle.rabit_frame.specs.Statuses.{IsOwn};
-ghost use Rattle.rabit_frame.specs.Reading.{AreOfKinds, IsOfKind, FileReads, MayStop, MissedInTurn, BegunInTurn, AllBegun, BlamesInTurn};
+ghost use Rattle.rabit_frame.specs.Reading.{AreOfKinds, IsOfKind, FileReads, MayStop, MissedInTurn, BegunInTurn, AllBegun, BegunForReply, BegunToBlamed};
 ghost use Rattle.rabit_frame.specs.Ending.{IsReplyFor, MayReply, BeforeAndAfter, WasGiven, WasSaid, SaysOnly, status_of};
-ghost use Rattle.rabit_frame.specs.Carrying.{EndsSo, NoReply, IsCarriedOut, SaysEach, IsOwnReply, ShowsResult, LeavesAtWriteFault, PutsOnce, PutsByStatus};
+ghost use Rattle.rabit_frame.specs.Carrying.{EndsSo, NoReply, IsCarriedOut, SaysEach, IsOwnReply, ShowsResult, LeavesAtWriteFault, PutsOnce, PutsByStatus, BegunByStatus};
 
 use crate::parts::{Ending, Halt, Lack, Reply, Slot, Value};
 use crate::work::Work;
@@ -36,9 +36,10 @@ fn reply_of<'w, W: Work, H: Shelf>(
     ensures puts_stay { H.put_faults shelf.new ≡ H.put_faults shelf.old }
     ensures put_calls_stay { H.put_calls shelf.new ≡ H.put_calls shelf.old }
     ensures missing { IfSome (H.held shelf.old) (λ files. MissedInTurn files (W.inputs work.now) (H.missed shelf.old) (H.missed shelf.new)) }
-    ensures begun_in_turn { IfSome (H.held shelf.old) (λ files. BegunInTurn files (W.inputs work.now) (H.begins shelf.old) (H.begins shelf.new)) }
     ensures all_begun { IfOk result (λ reply. MayStop (W.inputs work.now) reply ⊎ AllBegun (W.inputs work.now) (H.begins shelf.old) (H.begins shelf.new)) }
-    ensures blames { result ≡ Err Lack.ReadFault → IfSome (H.held shelf.old) (λ files. BlamesInTurn files (W.inputs work.now) (H.blamed shelf.new)) }
+    ensures begun_for_reply { IfOk result (λ reply. BegunForReply (H.held shelf.old) (W.inputs work.now) (H.begins shelf.old) (H.begins shelf.new)) }
+    ensures begun_to_blamed { result ≡ Err Lack.ReadFault → BegunToBlamed (H.held shelf.old) (W.inputs work.now) (H.blamed shelf.new) (H.begins shelf.old) (H.begins shelf.new) }
+    ensures begun_in_turn { BegunInTurn (H.held shelf.old) (W.inputs work.now) (H.begins shelf.old) (H.begins shelf.new) }
 {
     let slots = match work.slots(alloc) {
         Ok(slots) => slots,
@@ -61,9 +62,7 @@ fn ending_of<'w, W: Work, H: Shelf>(alloc: Global, work: &'w W, shelf: &mut H) -
     ensures ends { EndsSo (W.means work.now) (W.inputs work.now) result (H.held shelf.old) (H.held shelf.new) (H.faults shelf.old) (H.faults shelf.new) (H.put_faults shelf.old) (H.put_faults shelf.new) }
     ensures put_once { PutsOnce (W.means work.now) (W.inputs work.now) result (H.held shelf.old) (H.put_calls shelf.old) (H.put_calls shelf.new) }
     ensures missing { IfSome (H.held shelf.old) (λ files. MissedInTurn files (W.inputs work.now) (H.missed shelf.old) (H.missed shelf.new)) }
-    ensures begun_in_turn { IfSome (H.held shelf.old) (λ files. BegunInTurn files (W.inputs work.now) (H.begins shelf.old) (H.begins shelf.new)) }
-    ensures all_begun { status_of result ≤ 2 → AllBegun (W.inputs work.now) (H.begins shelf.old) (H.begins shelf.new) }
-    ensures blames { status_of result ≡ 6 → IfSome (H.held shelf.old) (λ files. BlamesInTurn files (W.inputs work.now) (H.blamed shelf.new)) }
+    ensures begun { BegunByStatus (W.inputs work.now) (status_of result) (H.held shelf.old) (H.blamed shelf.new) (H.begins shelf.old) (H.begins shelf.new) }
 {
     let reply = match reply_of(alloc, work, shelf) {
         Ok(reply) => reply,
@@ -119,7 +118,7 @@ pub fn read_alone<H: Shelf>(
     ensures put_calls_stay { H.put_calls shelf.new ≡ H.put_calls shelf.old }
     ensures counts_missing { CountsMissing (H.held shelf.old) slot.now.name (H.missed shelf.old) (H.missed shelf.new) }
     ensures counts_begin { H.begins shelf.new ≡ counted (H.begins shelf.old) }
-    ensures blames { result ≡ Err Ending.ReadFault → IfSome (H.held shelf.old) (λ files. IsBlamed files slot.now.name (H.blamed shelf.new)) }
+    ensures begun { IfErr result (λ end. BegunByStatus (slot.now ∷ []) (status_of end) (H.held shelf.old) (H.blamed shelf.new) (H.begins shelf.old) (H.begins shelf.new)) }
 {
     match reading::read_one(alloc, shelf, slot) {
         Ok(value) => Ok(value),
@@ -135,9 +134,7 @@ pub fn carry_out_unsaid<W: Work, H: Shelf>(alloc: Global, work: &W, shelf: &mut 
     ensures ends { (end : AnEnding) × EndsSo (W.means work.now) (W.inputs work.now) end (H.held shelf.old) (H.held shelf.new) (H.faults shelf.old) (H.faults shelf.new) (H.put_faults shelf.old) (H.put_faults shelf.new) × (result ≡ status_of end) }
     ensures put_once { PutsByStatus (W.means work.now) (W.inputs work.now) result (H.held shelf.old) (H.put_calls shelf.old) (H.put_calls shelf.new) }
     ensures missing { IfSome (H.held shelf.old) (λ files. MissedInTurn files (W.inputs work.now) (H.missed shelf.old) (H.missed shelf.new)) }
-    ensures begun_in_turn { IfSome (H.held shelf.old) (λ files. BegunInTurn files (W.inputs work.now) (H.begins shelf.old) (H.begins shelf.new)) }
-    ensures all_begun { result ≤ 2 → AllBegun (W.inputs work.now) (H.begins shelf.old) (H.begins shelf.new) }
-    ensures blames { result ≡ 6 → IfSome (H.held shelf.old) (λ files. BlamesInTurn files (W.inputs work.now) (H.blamed shelf.new)) }
+    ensures begun { BegunByStatus (W.inputs work.now) result (H.held shelf.old) (H.blamed shelf.new) (H.begins shelf.old) (H.begins shelf.new) }
 {
     match ending_of(alloc, work, shelf) {
         Ending::Reached(reply) => reply.status.number(),
@@ -191,12 +188,9 @@ pub fn carry_out<W: Work, H: Shelf, K: Sink>(
     ensures put_once { PutsByStatus (W.means work.now) (W.inputs work.now) result (H.held shelf.old) (H.put_calls shelf.old) (H.put_calls shelf.new) }
     ensures given_once { K.give_calls out.new ≡ counted (K.give_calls out.old) }
 
-    // Where the shelf tells its files, each is begun only when those before it read as values, and a missing one is counted only in its turn.
-    // Up to 2 all were begun; at 6 a read was refused of one of them, and those before it read as values.
+    // By the count of begins: just the files were begun that the status needs, each once. A missing one is counted only in its turn.
+    ensures begun { BegunByStatus (W.inputs work.now) result (H.held shelf.old) (H.blamed shelf.new) (H.begins shelf.old) (H.begins shelf.new) }
     ensures missing { IfSome (H.held shelf.old) (λ files. MissedInTurn files (W.inputs work.now) (H.missed shelf.old) (H.missed shelf.new)) }
-    ensures begun_in_turn { IfSome (H.held shelf.old) (λ files. BegunInTurn files (W.inputs work.now) (H.begins shelf.old) (H.begins shelf.new)) }
-    ensures all_begun { result ≤ 2 → AllBegun (W.inputs work.now) (H.begins shelf.old) (H.begins shelf.new) }
-    ensures blames { result ≡ 6 → IfSome (H.held shelf.old) (λ files. BlamesInTurn files (W.inputs work.now) (H.blamed shelf.new)) }
 {
     let ending = ending_of(alloc, work, shelf);
     say(&ending, out)

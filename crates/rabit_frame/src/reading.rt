@@ -4,7 +4,7 @@ ghost use Rattle.std.specs.Prelude.{◌≡◌, ◌≤◌, List as Items, length,
 ghost use Rattle.shelf_io.specs.Counts.{Rose, counted};
 ghost use Rattle.shelf_io.specs.Shelf.{CountsMissing, IsBlamed};
 ghost use Rattle.rabit_frame.specs.Lines.{kind_name, text_kind_name, file_line, certificate_line, list_line};
-ghost use Rattle.rabit_frame.specs.Reading.{most_bytes, long_reply, only_said, ReadsAs, HasFault, IsOfKind, FileReads, FileStops, StopInTurn, MissedInTurn, BegunInTurn, AllBegun, BlamesInTurn, MayStopAt, MayStop, HaltsBy, AddsRead};
+ghost use Rattle.rabit_frame.specs.Reading.{most_bytes, long_reply, only_said, ReadsAs, HasFault, IsOfKind, FileReads, FileStops, StopInTurn, MissedInTurn, BegunInTurn, AllBegun, BegunForReply, BegunToBlamed, MayStopAt, MayStop, HaltsBy, AddsRead};
 
 use crate::lines;
 use crate::parts::{FileKind, Halt, Reply, Slot, Status, Value};
@@ -156,9 +156,10 @@ pub fn read_all<H: Shelf>(
     ensures puts_stay { H.put_faults shelf.new ≡ H.put_faults shelf.old }
     ensures put_calls_stay { H.put_calls shelf.new ≡ H.put_calls shelf.old }
     ensures missing { IfSome (H.held shelf.old) (λ files. MissedInTurn files slots.now (H.missed shelf.old) (H.missed shelf.new)) }
-    ensures begun_in_turn { IfSome (H.held shelf.old) (λ files. BegunInTurn files slots.now (H.begins shelf.old) (H.begins shelf.new)) }
+    ensures begun_in_turn { BegunInTurn (H.held shelf.old) slots.now (H.begins shelf.old) (H.begins shelf.new) }
     ensures all_begun { IfOk result (λ all. AllBegun slots.now (H.begins shelf.old) (H.begins shelf.new)) }
-    ensures blames { result ≡ Err Halt.ReadFault → IfSome (H.held shelf.old) (λ files. BlamesInTurn files slots.now (H.blamed shelf.new)) }
+    ensures begun_for_reply { IfErr result (HaltsBy (λ reply. BegunForReply (H.held shelf.old) slots.now (H.begins shelf.old) (H.begins shelf.new))) }
+    ensures begun_to_blamed { result ≡ Err Halt.ReadFault → BegunToBlamed (H.held shelf.old) slots.now (H.blamed shelf.new) (H.begins shelf.old) (H.begins shelf.new) }
 {
     match slots {
         [] => Ok(values),

@@ -50,7 +50,7 @@ abbrev pub mode_by : Option (List ℕ) → Mode
 mode_by None = Buchi
 mode_by (Some text) = if bytes_eq text (codes "true") then Finite else Buchi
 
--- The lookahead, the limit and the announced letters where none are named.
+-- The lookahead, the limit and the number of letters asked for, where none is named.
 abbrev pub usual_look : ℕ
 usual_look = 3
 
@@ -68,11 +68,11 @@ look_in rows = number_or usual_look 1 6 (first_of (codes "look") rows)
 abbrev pub limit_in : List Row → Option ℕ
 limit_in rows = number_or usual_limit 1 100000 (first_of (codes "limit") rows)
 
--- The announced letters of a reduction, from 1 to 4, and the usual number where none is named.
+-- How many letters are asked for in a reduction, from 1 to 4, and the usual number where none is named.
 abbrev pub letters_in : List Row → Option ℕ
 letters_in rows = number_or usual_letters 1 4 (first_of (codes "letters") rows)
 
--- The announced letters of an inclusion, from 1 to 4, if any are named.
+-- How many letters are asked for in an inclusion, from 1 to 4, if they are named.
 abbrev pub letters_named_in : List Row → Option (Option ℕ)
 letters_named_in rows = number_if_named 1 4 (first_of (codes "letters") rows)
 

@@ -68,14 +68,14 @@ fn limit_of(found: &ArgMatches<'_>) -> Option<u32>
     number_or(word_of(found, "limit"), USUAL_LIMIT, 1, 100_000)
 }
 
-/// What stands for the announced letters of a reduction.
+/// How many letters are asked for in a reduction.
 fn letters_of(found: &ArgMatches<'_>) -> Option<u32>
     ensures { result ≡ letters_in (rows_of (found_of found.now)) }
 {
     number_or(word_of(found, "letters"), USUAL_LETTERS, 1, 4)
 }
 
-/// What stands for the announced letters of an inclusion, if anything does.
+/// How many letters are asked for in an inclusion, if they are named.
 fn letters_named_of(found: &ArgMatches<'_>) -> Option<Option<u32>>
     ensures { result ≡ letters_named_in (rows_of (found_of found.now)) }
 {

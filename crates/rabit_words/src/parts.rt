@@ -6,7 +6,7 @@ use auto_core::Mode;
 pub const USUAL_LOOK: u32 = 3;
 /// The most elements of a search that names no limit.
 pub const USUAL_LIMIT: u32 = 20_000;
-/// The announced letters of a reduction that names none.
+/// How many letters are asked for where none are named.
 pub const USUAL_LETTERS: u32 = 1;
 
 /// A question: a command with its files' names and its numbers.
@@ -26,7 +26,7 @@ pub enum Question {
         look: u32,
         /// The most elements of the search, from 1 to 100,000.
         limit: u32,
-        /// The announced letters, from 1 to 4, of a certificate of version 2; None asks for one of version 1.
+        /// How many letters are asked for in the delayed game, from 1 to 4, with a certificate of version 2; None asks for one of version 1.
         letters: Option<u32>,
     },
     /// Checks a certificate.
@@ -46,7 +46,7 @@ pub enum Question {
         mode: Mode,
         /// The lookahead, from 1 to 6.
         look: u32,
-        /// The announced letters, from 1 to 4.
+        /// How many letters are asked for in the delayed game, from 1 to 4.
         letters: u32,
     },
     /// Makes two automata, decides both inclusions and checks both certificates.

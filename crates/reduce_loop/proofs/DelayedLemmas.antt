@@ -5,7 +5,7 @@ use Rattle.std.proofs.lemmas.List.{length-replicate}
 use Rattle.std.proofs.lemmas.List.Elements.{All-replicate}
 use Rattle.auto_core.specs.Automaton.{Automaton, IsAutomaton}
 use Rattle.auto_core.specs.Accept.{Same}
-use Rattle.auto_core.specs.Delayed.{RankedTriples, IsGreatestDelayed, AreAnnounced, AreStateRelated, are_few_with_a_letter, most_letters, letters_for}
+use Rattle.auto_core.specs.Delayed.{RankedTriples, IsGreatestDelayed, IsTripleWord, AreStateRelated, are_few_triples_with_a_letter, most_letters, letters_for}
 use Rattle.auto_core.specs.Game.{Close, Holds}
 use Rattle.auto_core.specs.Quotient.{AreClassesOf}
 use Rattle.auto_core.specs.declared.parts.Mode.TheVariants.{Buchi, Finite}
@@ -23,14 +23,14 @@ use Rattle.reduce_loop.proofs.MergeLemmas.{no_twins, same_closure}
 
 -- as many as can be are asked for again, and as many are given
 most_stays : (A : Automaton) (n : ℕ) → most_letters A (most_letters A n) ≡ most_letters A n
-most_stays A zero = one (are_few_with_a_letter A 1)
+most_stays A zero = one (are_few_triples_with_a_letter A 1)
   where
     one : (b : Bool) → ◌≡◌ {A = ℕ} (if b then 1 else 1) 1
     one true = refl
     one false = refl
-most_stays A (suc n) = by (most_stays A n) (are_few_with_a_letter A (suc n)) refl
+most_stays A (suc n) = by (most_stays A n) (are_few_triples_with_a_letter A (suc n)) refl
   where
-    by : most_letters A (most_letters A n) ≡ most_letters A n → (b : Bool) → are_few_with_a_letter A (suc n) ≡ b → most_letters A (if b then suc n else most_letters A n) ≡ (if b then suc n else most_letters A n)
+    by : most_letters A (most_letters A n) ≡ most_letters A n → (b : Bool) → are_few_triples_with_a_letter A (suc n) ≡ b → most_letters A (if b then suc n else most_letters A n) ≡ (if b then suc n else most_letters A n)
     by before true few = ap (λ b. if b then suc n else most_letters A n) few
     by before false many = before
 
@@ -47,7 +47,7 @@ letters_fit A n letters is = is ∙ sym (letters_stay A n) ∙ ap (letters_for A
 
 most_some : (A : Automaton) (n : ℕ) → 1 ≤ most_letters A n
 most_some A zero = omega arith
-most_some A (suc n) = by (most_some A n) (are_few_with_a_letter A (suc n))
+most_some A (suc n) = by (most_some A n) (are_few_triples_with_a_letter A (suc n))
   where
     by : 1 ≤ most_letters A n → (b : Bool) → 1 ≤ (if b then suc n else most_letters A n)
     by before true = omega arith
@@ -62,7 +62,7 @@ letters_some A n = by (A.labels == 0)
 
 most_within : (A : Automaton) (n m : ℕ) → 1 ≤ m → n ≤ m → most_letters A n ≤ m
 most_within A zero m some le = some
-most_within A (suc n) m some le = by (most_within A n m some (omega arith)) (are_few_with_a_letter A (suc n))
+most_within A (suc n) m some le = by (most_within A n m some (omega arith)) (are_few_triples_with_a_letter A (suc n))
   where
     by : most_letters A n ≤ m → (b : Bool) → (if b then suc n else most_letters A n) ≤ m
     by before true = le
@@ -75,12 +75,12 @@ letters_within A n some = by (A.labels == 0)
     by true = some
     by false = most_within A n n some (omega arith)
 
-most_are_few : (A : Automaton) (n : ℕ) → (most_letters A n ≡ 1) ⊎ (are_few_with_a_letter A (most_letters A n) ≡ true)
+most_are_few : (A : Automaton) (n : ℕ) → (most_letters A n ≡ 1) ⊎ (are_few_triples_with_a_letter A (most_letters A n) ≡ true)
 most_are_few A zero = inl refl
-most_are_few A (suc n) = by (most_are_few A n) (are_few_with_a_letter A (suc n)) refl
+most_are_few A (suc n) = by (most_are_few A n) (are_few_triples_with_a_letter A (suc n)) refl
   where
-    by : (most_letters A n ≡ 1) ⊎ (are_few_with_a_letter A (most_letters A n) ≡ true) → (b : Bool) → are_few_with_a_letter A (suc n) ≡ b →
-        ((if b then suc n else most_letters A n) ≡ 1) ⊎ (are_few_with_a_letter A (if b then suc n else most_letters A n) ≡ true)
+    by : (most_letters A n ≡ 1) ⊎ (are_few_triples_with_a_letter A (most_letters A n) ≡ true) → (b : Bool) → are_few_triples_with_a_letter A (suc n) ≡ b →
+        ((if b then suc n else most_letters A n) ≡ 1) ⊎ (are_few_triples_with_a_letter A (if b then suc n else most_letters A n) ≡ true)
     by before true few = inr few
     by before false many = before
 
@@ -89,14 +89,14 @@ one_letter : (A : Automaton) (n : ℕ) → A.labels ≡ 0 → letters_for A n �
 one_letter A n none = ap (λ b. if b then 1 else most_letters A n) (eq-eqb A.labels 0 none)
 
 -- one letter is announced, or there are labels and few triples
-pub letters_are_few : (A : Automaton) (n : ℕ) → (letters_for A n ≡ 1) ⊎ ((0 < A.labels) × (are_few_with_a_letter A (letters_for A n) ≡ true))
+pub letters_are_few : (A : Automaton) (n : ℕ) → (letters_for A n ≡ 1) ⊎ ((0 < A.labels) × (are_few_triples_with_a_letter A (letters_for A n) ≡ true))
 letters_are_few A n = elim (cases_eq A.labels 0) [
   | inl none ↦ inl (one_letter A n none)
   | inr labels ↦
       let is = with_labels A n (λ e. labels e) in
       elim (most_are_few A n) [
         | inl one ↦ inl (is ∙ one)
-        | inr few ↦ inr (omega arith, subst (λ m. are_few_with_a_letter A m ≡ true) (sym is) few)
+        | inr few ↦ inr (omega arith, subst (λ m. are_few_triples_with_a_letter A m ≡ true) (sym is) few)
       ]
 ]
 
@@ -118,9 +118,9 @@ delayed_is_one A n S T (X, x, held) (Y, y, also) p q = (
   λ h. (held p q).1 ((same_related A n X Y x y p q).1 ((also p q).0 h)),
 )
 
--- some letters can be announced: without labels none are
-some_announced : (A : Automaton) (n : ℕ) → (b : List ℕ) × AreAnnounced A.labels (letters_for A n) b
-some_announced A n = elim (cases_eq A.labels 0) [
+-- there is a word for triples: without labels the empty one
+some_word : (A : Automaton) (n : ℕ) → (b : List ℕ) × IsTripleWord A.labels (letters_for A n) b
+some_word A n = elim (cases_eq A.labels 0) [
   | inl none ↦ ([], (sym (one_letter A n none), λ i d lt. absurd (omega arith)))
   | inr labels ↦
       let some = letters_some A n in
@@ -132,11 +132,11 @@ some_announced A n = elim (cases_eq A.labels 0) [
 -- the state relation is one of states
 pub related_are_states : (A : Automaton) (n : ℕ) (X : RankedTriples) → IsGreatestDelayed A (letters_for A n) X → (p q : ℕ) → AreStateRelated A.labels (letters_for A n) X p q → (p < A.states) × (q < A.states)
 related_are_states A n X x p q h =
-    let (b, fits) = some_announced A n in
+    let (b, fits) = some_word A n in
     let there = x.in_range b p q (h b fits) in
     (there.1, there.2)
 
--- the pairs of states that a ranking relates, whatever letters are announced, are those of its state relation
+-- the pairs of states that a ranking relates, whatever the word, are those of its state relation
 pub related_pairs :
     (A : Automaton) (n : ℕ) (R : Ranking) (S : List (ℕ × ℕ))
     → R.states ≡ A.states

@@ -5,7 +5,7 @@ use Rattle.std.proofs.lemmas.List.Kept.{AllPairs-from_increasing}
 use Rattle.auto_core.specs.Automaton.{Automaton, IsAutomaton}
 use Rattle.auto_core.specs.Delayed.{IsGreatestDelayed, AreStateRelated, letters_for}
 use Rattle.auto_core.specs.Game.{Close, Holds, IsGreatestForward, IsGreatestBackward}
-use Rattle.auto_core.specs.Pruning.{look_back, look_ahead}
+use Rattle.auto_core.specs.Pruning.{look_backward, look_forward}
 use Rattle.auto_core.specs.declared.parts.Mode.{Mode}
 use Rattle.auto_core.proofs.MemberLemmas.{rises_from_pairs, same_members}
 use Rattle.backward_sim.proofs.GreatestLemmas.{greatest_is_one as backward_is_one}
@@ -74,8 +74,8 @@ delayed_entry_one A n X Y classes these is also =
 
 cut_entry_one : (A : Automaton) (n k : ℕ) (gone these : List Gone) (back back' ahead ahead' : Option Relation) → IsCutOf A n k gone back ahead → IsCutOf A n k these back' ahead' → step.Cut n k gone back ahead ≡ step.Cut n k these back' ahead'
 cut_entry_one A n k gone these back back' ahead ahead' is also =
-    let same_back : back ≡ back' = given_one A (IsGreatestBackward A (look_back n k)) (backward_is_one A (look_back n k)) (¬ (n ≡ 1)) back back' is.is_back also.is_back in
-    let same_ahead : ahead ≡ ahead' = given_one A (IsGreatestForward A (look_ahead n k)) (forward_is_one A (look_ahead n k)) (¬ (n ≡ 2)) ahead ahead' is.is_ahead also.is_ahead in
+    let same_back : back ≡ back' = given_one A (IsGreatestBackward A (look_backward n k)) (backward_is_one A (look_backward n k)) (¬ (n ≡ 1)) back back' is.is_back also.is_back in
+    let same_ahead : ahead ≡ ahead' = given_one A (IsGreatestForward A (look_forward n k)) (forward_is_one A (look_forward n k)) (¬ (n ≡ 2)) ahead ahead' is.is_ahead also.is_ahead in
     let moved : AreLeastBetter A n (Close (Holds (pairs_given back'))) (Close (Holds (pairs_given ahead'))) gone =
     subst (λ f. AreLeastBetter A n (Close (Holds (pairs_given back'))) (Close (Holds (pairs_given f))) gone) same_ahead
     (subst (λ b. AreLeastBetter A n (Close (Holds (pairs_given b))) (Close (Holds (pairs_given ahead))) gone) same_back is.least) in

@@ -4,7 +4,7 @@ use Rattle.std.specs.List.Sorted.{IsStrictlyIncreasing}
 use Rattle.auto_core.specs.Automaton.{Automaton}
 use Rattle.auto_core.specs.Delayed.{IsGreatestDelayed, AreStateRelated, letters_for}
 use Rattle.auto_core.specs.Game.{Close, Holds, IsGreatestForward, IsGreatestBackward}
-use Rattle.auto_core.specs.Pruning.{look_back, look_ahead}
+use Rattle.auto_core.specs.Pruning.{look_backward, look_forward}
 use Rattle.auto_core.specs.Useful.{AreUseful}
 use Rattle.auto_core.specs.Quotient.{AreClassesOf}
 use Rattle.auto_core.specs.declared.parts.Mode.{Mode}
@@ -58,11 +58,11 @@ pairs_given (Some rel) = rel.pairs
 
 -- Where pair n has a backward relation, it is given and the greatest of A at the pair's lookahead.
 abbrev pub IsBackOf : Automaton → ℕ → ℕ → Option Relation → Type 0
-IsBackOf A n k back = IsGivenWhere (¬ (n ≡ 1)) (IsRelationOf A (IsGreatestBackward A (look_back n k))) back
+IsBackOf A n k back = IsGivenWhere (¬ (n ≡ 1)) (IsRelationOf A (IsGreatestBackward A (look_backward n k))) back
 
 -- The same of the forward relation.
 abbrev pub IsAheadOf : Automaton → ℕ → ℕ → Option Relation → Type 0
-IsAheadOf A n k ahead = IsGivenWhere (¬ (n ≡ 2)) (IsRelationOf A (IsGreatestForward A (look_ahead n k))) ahead
+IsAheadOf A n k ahead = IsGivenWhere (¬ (n ≡ 2)) (IsRelationOf A (IsGreatestForward A (look_forward n k))) ahead
 
 -- Ascending and with the least better one each, these are just the transitions of A that have a better one by pair n over the
 -- closures of the greatest relations at lookahead k.

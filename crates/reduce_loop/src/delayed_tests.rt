@@ -52,7 +52,7 @@ fn rank(delayed: &Delayed, p: u32, q: u32) -> Option<Option<u32>> {
     }
 }
 
-/// A triple with one announced letter, which does not stand in it.
+/// A triple with the empty word, that of one announced letter.
 fn triple(alloc: Global, left: u32, right: u32, rank: u32) -> RankedTriple
     ensures { result ≡ ranked_triple left [] right (Some rank) }
 {

@@ -106,7 +106,7 @@ fn merge_backward(
     })
 }
 
-/// The greatest delayed relation with as many letters up to `asked` as are announced on the automaton.
+/// The greatest delayed relation with as many letters as are announced on the automaton where so many are asked for.
 pub(crate) fn greatest_delayed(
     alloc: Global,
     automaton: &Auto,
@@ -115,7 +115,7 @@ pub(crate) fn greatest_delayed(
     requires few { automaton.now.states ≤ 65535 }
     requires letters_from { 1 ≤ asked }
     requires letters_upto { asked ≤ 4 }
-    ensures size { IfOk result (λ d. d.states ≡ automaton.now.states) }
+    ensures states { IfOk result (λ d. d.states ≡ automaton.now.states) }
     ensures labels { IfOk result (λ d. d.labels ≡ automaton.now.labels) }
     ensures letters { IfOk result (λ d. d.letters ≡ letters_for automaton.now asked) }
     ensures valid { IfOk result IsRanking }

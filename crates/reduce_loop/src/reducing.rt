@@ -190,7 +190,7 @@ pub fn reduce(alloc: Global, automaton: &Auto, mode: Mode, look: u32) -> Result<
     reduce_by(alloc, automaton, mode, Foresight { look, letters: 1 })
 }
 
-/// The same with up to `letters` announced letters.
+/// The same with so many letters asked for in the delayed game.
 pub fn reduce_ahead(
     alloc: Global,
     automaton: &Auto,

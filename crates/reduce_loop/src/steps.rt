@@ -29,7 +29,7 @@ pub enum Kind {
 pub struct Foresight {
     /// The lookahead of the forward and backward games: at most so many moves of Spoiler's.
     pub look: u32,
-    /// The letters that are announced in the delayed game, fewer where that would be too many for the automaton.
+    /// How many letters are asked for in the delayed game; fewer are announced where there would be too many triples.
     pub letters: u32,
 }
 
@@ -52,7 +52,7 @@ pub enum MergeBy {
     },
     /// The greatest delayed relation, given as it is, without being closed.
     Delayed {
-        /// The relation, with its announced letters and the least ranks.
+        /// The relation, with the number of announced letters and the least ranks.
         ranks: Delayed,
     },
 }

@@ -14,8 +14,8 @@ use Rattle.cert_value.specs.declared.types.Row.{Row}
 use Rattle.cert_value.specs.declared.types.Run.{Run}
 use Rattle.cert_value.specs.Text.{run_numbers, numbers_of}
 use Rattle.cert_value.specs.WellFormed.{is_short, has_some, ascend, ascend_from, is_run, runs_ascend, runs_ascend_from, is_row, are_rows}
-use Rattle.cert_text.specs.Lines.{run, joined_runs}
-use Rattle.cert_text.proofs.RunFacts.{joined_there, joined_back, joined_ascend, joined_short, onto_some}
+use Rattle.cert_line.specs.Lines.{run, joined_runs}
+use Rattle.cert_line.proofs.RunFacts.{joined_there, joined_back, joined_ascend, joined_short, onto_some}
 use Rattle.log_check.specs.Blocks.{pairs_of_row}
 use Rattle.relation_rows.specs.Rows.{HoldsFrom, AreRights, AreRows}
 

@@ -12,8 +12,8 @@ use Rattle.cert_value.specs.declared.types.Row.{Row}
 use Rattle.cert_value.specs.declared.types.Run.{Run}
 use Rattle.cert_value.specs.Text.{numbers_of}
 use Rattle.cert_value.specs.WellFormed.{ascend_from, runs_ascend, is_row, are_rows}
-use Rattle.cert_text.specs.Lines.{joined_runs}
-use Rattle.cert_text.proofs.RunFacts.{joined_back}
+use Rattle.cert_line.specs.Lines.{joined_runs}
+use Rattle.cert_line.proofs.RunFacts.{joined_back}
 use Rattle.log_check.specs.Blocks.{pairs_of_row}
 use Rattle.relation_rows.proofs.RowLemmas.{in_row, of_row, ascend_above, rows_above, rows_ascend, row_parts}
 

@@ -5,7 +5,7 @@ ghost use Rattle.relation_rows.specs.Rows.{HoldsFrom, AreRights, AreRows};
 
 use auto_core::{List, Memory};
 use bit_rel::Rel;
-use cert_text::joined_runs;
+use cert_line::joined_runs;
 use cert_value::Row;
 use std::alloc::Global;
 

@@ -1,5 +1,5 @@
 -- What loading a file says of the shelf's files.
-use Rattle.std.specs.Prelude.{◌≡◌, ℕ, ◌+◌, ◌<◌, ◌≤◌, List, length, Option, Some, None, IfSome}
+use Rattle.std.specs.Prelude.{◌≡◌, ℕ, ◌+◌, ◌<◌, ◌≤◌, List, ◌++◌, length, Option, Some, None, IfSome}
 use Rattle.std.specs.FinMap as map
 use Rattle.std.specs.Io.KnownBytes.{Consumes}
 use Rattle.shelf_io.specs.Shelf.{FileMap}
@@ -22,14 +22,27 @@ IsToldMissing (Some files) name = map.get files name ≡ None
 abbrev pub TakesMoreThan : Option (List ℕ) → Option (List ℕ) → ℕ → Type 0
 TakesMoreThan left left' most = (bytes : List ℕ) × Consumes left left' bytes × (most < length bytes)
 
--- What takes bytes was fed some, at most so many.
-abbrev pub HasEaten : {S : Type 0} → (List ℕ → S → Type 0) → ℕ → S → Type 0
-HasEaten eats most new = (bytes : List ℕ) × (length bytes ≤ most) × eats bytes new
+-- A shelf that tells its files holds under the name nothing, or bytes that begin with these.
+abbrev pub HoldsFront : Option FileMap → List ℕ → List ℕ → Type 0
+HoldsFront held name bytes =
+    IfSome held (λ files. (whole : List ℕ) → map.get files name ≡ Some whole → (rest : List ℕ) × (whole ≡ bytes ++ rest))
 
--- It was fed just these bytes, so many.
-abbrev pub HasEatenAll : {S : Type 0} → (List ℕ → S → Type 0) → (List ℕ → Type 0) → ℕ → S → Type 0
-HasEatenAll eats Are count new = (bytes : List ℕ) × Are bytes × (length bytes ≡ count) × eats bytes new
+-- What remained to be taken, as far as the shelf told, begins with these.
+abbrev pub RemainsFront : Option (List ℕ) → List ℕ → Type 0
+RemainsFront left bytes = (left' : Option (List ℕ)) × Consumes left left' bytes
 
--- It was fed so many bytes but for less than a piece of 65,536.
-abbrev pub HasEatenAlmost : {S : Type 0} → (List ℕ → S → Type 0) → ℕ → S → Type 0
-HasEatenAlmost eats most new = (bytes : List ℕ) × (most < length bytes + 65536) × eats bytes new
+-- What had eaten these has eaten such bytes more, so many. `Eaten` tells what it has eaten now.
+abbrev pub HasEatenAll : (List ℕ → Type 0) → ℕ → (List ℕ → Type 0) → List ℕ → Type 0
+HasEatenAll Are count Eaten before = (bytes : List ℕ) × Are bytes × (length bytes ≡ count) × Eaten (before ++ bytes)
+
+-- The same of at most so many.
+abbrev pub HasEaten : (List ℕ → Type 0) → ℕ → (List ℕ → Type 0) → List ℕ → Type 0
+HasEaten Are most Eaten before = (bytes : List ℕ) × Are bytes × (length bytes ≤ most) × Eaten (before ++ bytes)
+
+-- The same of so many but for less than a piece of 65,536.
+abbrev pub HasEatenAlmost : (List ℕ → Type 0) → ℕ → (List ℕ → Type 0) → List ℕ → Type 0
+HasEatenAlmost Are most Eaten before = (bytes : List ℕ) × Are bytes × (most < length bytes + 65536) × Eaten (before ++ bytes)
+
+-- What has room for so many bytes more: these were eaten, and no more than `most` may be in all.
+abbrev pub HasRoom : (List ℕ → Type 0) → ℕ → ℕ → List ℕ → Type 0
+HasRoom Eaten most more before = Eaten before × (length before + more ≤ most)

@@ -49,17 +49,17 @@ pub fn load<H: Shelf>(
 }
 
 impl Eat for List<u8> {
-    ghost use Rattle.std.proofs.Common.{◌∙◌, append-nil, append_assoc, sym, ap};
+    ghost use Rattle.std.specs.Prelude.{◌≡◌, ◌^◌};
 
-    ghost eats = { λ old bytes new. new ≡ old ++ bytes };
+    ghost Terms = { Unit {0} };
+
+    ghost eaten = { λ _ list bytes. list ≡ bytes };
+
+    ghost most = { λ _. 2 ^ 64 };
 
     fn feed(&mut self, piece: &[u8]) -> Result<(), Memory> {
         append(self, piece)
     }
-
-    ghost eats_none = { λ s. sym (append-nil s) };
-
-    ghost eats_more = { λ s t u a b first second. second ∙ ap (λ xs. xs ++ b) first ∙ append_assoc s a b };
 }
 
 /// Appends the piece. Refused, the list holds a front of it more.

@@ -1,10 +1,10 @@
 //! Pouring a file from a shelf into what takes it, a piece at a time.
 
-ghost use Rattle.std.specs.Prelude.{◌≡◌, ◌≢◌, ◌-◌, ◌^◌, ◌<◌, ◌≤◌, ◌++◌, ℕ, List, [], length, Err, IfOk, IfSome, OnOk, IsErrOf, vec_len};
+ghost use Rattle.std.specs.Prelude.{◌≡◌, ◌≢◌, ◌+◌, ◌-◌, ◌^◌, ◌<◌, ◌≤◌, ◌++◌, ℕ, List, [], length, Err, IfOk, IfSome, OnOk, IsErrOf, vec_len};
 ghost use Rattle.std.specs.Io.KnownBytes.{IsAtEnd, Consumes};
 ghost use Rattle.shelf_io.specs.Counts.{Rose, counted};
 ghost use Rattle.shelf_io.specs.Shelf.{CountsMissing, IsBlamed};
-ghost use Rattle.shelf_io.specs.Load.{HoldsUnder, HoldsMoreThan, TakesMoreThan, IsToldMissing, HasEaten, HasEatenAll, HasEatenAlmost};
+ghost use Rattle.shelf_io.specs.Load.{HoldsUnder, HoldsFront, HoldsMoreThan, TakesMoreThan, RemainsFront, IsToldMissing, HasRoom, HasEaten, HasEatenAll, HasEatenAlmost};
 
 use crate::outside::Shelf;
 use crate::parts::LoadFault;
@@ -13,18 +13,18 @@ use std::alloc::{AllocError, Global};
 
 /// What takes bytes, a piece at a time.
 pub trait Eat {
-    /// What was eaten: the first value, fed these bytes, may be the second.
-    ghost eats: { Self → List ℕ → Self → Type 0 };
+    /// What tells how bytes are taken: what they are the text of, say.
+    ghost Terms: { Type 0 };
 
-    /// Takes the next piece.
+    /// What was eaten under the terms: these bytes. A value need not know them.
+    ghost eaten: { Terms → Self → List ℕ → Type 0 };
+
+    /// How many bytes may be eaten in all.
+    ghost most: { Terms → ℕ };
+
+    /// Takes the next piece, where there is room for it.
     fn feed(&mut self, piece: &[u8]) -> Result<(), Memory>
-        ensures eaten { OnOk result (eats self.old piece.now self.new) };
-
-    /// Law: fed nothing, it may stay.
-    ghost eats_none: { (s : Self) → eats s [] s };
-
-    /// Law: fed some bytes and then others, it is fed both.
-    ghost eats_more: { (s t u : Self) (a b : List ℕ) → eats s a t → eats t b u → eats s (a ++ b) u };
+        ensures eaten { OnOk result ((terms : Terms) (before : List ℕ) → HasRoom (eaten terms self.old) (most terms) (length piece.now) before → eaten terms self.new (before ++ piece.now)) };
 }
 
 /// How many bytes are asked of the shelf at a time.
@@ -40,14 +40,14 @@ pub fn pour<H: Shelf, E: Eat>(
     eater: &mut E,
 ) -> Result<u64, LoadFault>
     // What is fed is the named file, whole, and the shelf is at its end.
-    ensures bytes { IfOk result (λ count. HasEatenAll (E.eats eater.old) (HoldsUnder (H.held shelf.old) name.now) count eater.new) }
+    ensures bytes { IfOk result (λ count. (terms : E.Terms) (before : List ℕ) → HasRoom (E.eaten terms eater.old) (E.most terms) cap before → HasEatenAll (HoldsUnder (H.held shelf.old) name.now) count (E.eaten terms eater.new) before) }
     ensures all_taken { IfOk result (λ count. count ≡ H.taken shelf.new) }
     ensures at_end { OnOk result (IsAtEnd (H.left shelf.new)) }
 
-    // No more than `cap` bytes are fed, whatever the answer; where the file has more, all of them but less than a piece.
+    // A front of the file is fed, of no more than `cap` bytes, whatever the answer; where the file has more, so many but for less than a piece.
     ensures within { IfOk result (λ count. count ≤ cap) }
-    ensures fed { result ≢ Err LoadFault.Memory → HasEaten (E.eats eater.old) cap eater.new }
-    ensures long_fed { IsErrOf result LoadFault.Long → HasEatenAlmost (E.eats eater.old) cap eater.new }
+    ensures fed { result ≢ Err LoadFault.Memory → (terms : E.Terms) (before : List ℕ) → HasRoom (E.eaten terms eater.old) (E.most terms) cap before → HasEaten (HoldsFront (H.held shelf.old) name.now) cap (E.eaten terms eater.new) before }
+    ensures long_fed { IsErrOf result LoadFault.Long → (terms : E.Terms) (before : List ℕ) → HasRoom (E.eaten terms eater.old) (E.most terms) cap before → HasEatenAlmost (HoldsFront (H.held shelf.old) name.now) cap (E.eaten terms eater.new) before }
 
     // Each refusal has its cause.
     ensures failed { IsErrOf result LoadFault.Failed → Rose (H.faults shelf.old) (H.faults shelf.new) }
@@ -88,12 +88,12 @@ fn pour_rest<H: Shelf, E: Eat>(
 ) -> Result<u64, LoadFault>
     requires some_room { (0 < length piece.old) × (length piece.old ≤ 65536) }
     requires from_start { H.taken shelf.old ≡ 0 }
-    ensures bytes { IfOk result (λ count. HasEatenAll (E.eats eater.old) (Consumes (H.left shelf.old) (H.left shelf.new)) count eater.new) }
+    ensures bytes { IfOk result (λ count. (terms : E.Terms) (before : List ℕ) → HasRoom (E.eaten terms eater.old) (E.most terms) cap before → HasEatenAll (Consumes (H.left shelf.old) (H.left shelf.new)) count (E.eaten terms eater.new) before) }
     ensures all_taken { IfOk result (λ count. count ≡ H.taken shelf.new) }
     ensures at_end { OnOk result (IsAtEnd (H.left shelf.new)) }
     ensures within { IfOk result (λ count. count ≤ cap) }
-    ensures fed { result ≢ Err LoadFault.Memory → HasEaten (E.eats eater.old) cap eater.new }
-    ensures long_fed { IsErrOf result LoadFault.Long → HasEatenAlmost (E.eats eater.old) cap eater.new }
+    ensures fed { result ≢ Err LoadFault.Memory → (terms : E.Terms) (before : List ℕ) → HasRoom (E.eaten terms eater.old) (E.most terms) cap before → HasEaten (RemainsFront (H.left shelf.old)) cap (E.eaten terms eater.new) before }
+    ensures long_fed { IsErrOf result LoadFault.Long → (terms : E.Terms) (before : List ℕ) → HasRoom (E.eaten terms eater.old) (E.most terms) cap before → HasEatenAlmost (RemainsFront (H.left shelf.old)) cap (E.eaten terms eater.new) before }
     ensures failed { IsErrOf result LoadFault.Failed → Rose (H.faults shelf.old) (H.faults shelf.new) }
     ensures only_failed { result ≢ Err LoadFault.Failed → H.faults shelf.new ≡ H.faults shelf.old }
     ensures failed_within { IsErrOf result LoadFault.Failed → H.taken shelf.new ≤ cap }

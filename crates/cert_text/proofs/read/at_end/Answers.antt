@@ -2,7 +2,7 @@ use Rattle.std.proofs.Common.{◌≡◌, ◌==◌, false, ◌∷◌, [], length,
 use Rattle.cert_value.specs.Tokens.{tokens_of}
 use Rattle.cert_text.specs.Machine.{ended}
 use Rattle.cert_text.specs.Grammar.{told_at, Read, Stopped}
-use Rattle.cert_text.specs.declared.faults.TextKind.TheVariants.{Trailing}
+use Rattle.cert_line.specs.declared.faults.TextKind.TheVariants.{Trailing}
 use Rattle.cert_value.specs.declared.types.Cert.{Cert}
 use Rattle.cert_text.specs.declared.faults.TextFault.{TextFault}
 use Rattle.cert_text.proofs.ReadLemmas.{bare_false}

@@ -1,14 +1,13 @@
-use Rattle.cert_text.proofs.Theorem.{found_of, only_of, fault_of, first_of}
+use Rattle.std.proofs.Common.{[], arith}
 use Rattle.cert_text.proofs.read.read_cert.Goals as goal
 
-pub returns : goal.returns
-returns c =
+pub returns-in-Ok : goal.returns-in-Ok
+returns-in-Ok c =
     let bytes = c.args.bytes.now in
-    let r = c.read_text.result in
-    let t = c.read_text.ensures.reading in
+    let has = c.in-Ok.ensures.read [] c.in_ok-reader.ensures (omega (arith, c.requires)) in
     record {
-      found = found_of bytes r t;
-      only = λ k w e. only_of bytes r k t w e;
-      fault = λ f e. fault_of bytes r f t e;
-      first = λ f e. first_of bytes r f t e;
+      found = c.finish.ensures.found bytes has;
+      only = λ k w e. c.finish.ensures.only bytes has k w e;
+      fault = λ f e. c.finish.ensures.fault bytes has f e;
+      first = λ f e. c.finish.ensures.first bytes has f e;
     }

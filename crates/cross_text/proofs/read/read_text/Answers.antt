@@ -2,8 +2,8 @@ use Rattle.std.proofs.Common.{◌≡◌, ℕ, List, Ok, sym, subst}
 use Rattle.std.proofs.lemmas.Result.{err_from_is_err_and}
 use Rattle.cert_value.specs.declared.keywords.Keyword.TheVariants as keyword
 use Rattle.cert_value.specs.declared.types.Row.{Row}
-use Rattle.cert_text.specs.declared.lines.Sizes.{Sizes}
-use Rattle.cert_text.specs.Lines.{word_in, number_in, sizes_in}
+use Rattle.cert_line.specs.declared.lines.Sizes.{Sizes}
+use Rattle.cert_line.specs.Lines.{word_in, number_in, sizes_in}
 use Rattle.cert_text.specs.Grammar.{On, next_line, read_block, read_end, finish, lines_of}
 use Rattle.cross_text.specs.declared.types.Cross.{Cross}
 use Rattle.cross_text.specs.Grammar.{cross_heading_in, cross_of_parts, read_relation, read_look, read_cross_sizes, read_cross}

@@ -3,10 +3,10 @@ use Rattle.auto_core.specs.Automaton.{Automaton, IsAutomaton}
 use Rattle.auto_core.specs.Game.{Holds}
 use Rattle.auto_core.specs.Delayed.{RankedTriples, AreTriplesOf, IsGreatestDelayed}
 use Rattle.bit_rel.specs.Relation.{Relation}
-use Rattle.delayed_sim.specs.Pairings.{Pairing}
+use Rattle.delayed_game.specs.Pairings.{Pairing}
 use Rattle.delayed_sim.specs.Stored.{entry_triples}
 use Rattle.delayed_sim.specs.Words.{ArePlaces, ListsTriplesBefore}
-use Rattle.delayed_sim.specs.Played.{HasEachRight, IsPlayed}
+use Rattle.delayed_game.specs.Played.{HasEachRight, IsPlayed}
 use Rattle.delayed_sim.proofs.AheadGreatest.{greatest_ahead}
 use Rattle.delayed_sim.proofs.ListLemmas.{listed_pairs}
 use Rattle.delayed_sim.proofs.game.greatest_within.Goals as goal

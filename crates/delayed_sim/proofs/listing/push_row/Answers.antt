@@ -1,10 +1,11 @@
 use Rattle.std.proofs.Common.{rules, ◌≡◌, ℕ, ◌+◌, ◌*◌, get_or, refl, sym, ap, ◌∙◌, subst, arith}
 use Rattle.delayed_sim.specs.declared.entries.Entry.{Entry}
-use Rattle.delayed_sim.specs.Levels.{rank_of, rank_at}
+use Rattle.delayed_game.specs.Levels.{rank_in_table}
+use Rattle.auto_core.specs.Delayed.{rank_in_code}
 use Rattle.delayed_sim.specs.Stored.{entry_triples}
 use Rattle.delayed_sim.specs.Words.{ListsTriplesBefore}
 use Rattle.delayed_sim.proofs.ListLemmas.{entry_here, listed_push, listed_row}
-use Rattle.delayed_sim.proofs.SettleLemmas.{pair_below}
+use Rattle.delayed_game.proofs.SettleLemmas.{pair_below}
 use Rattle.delayed_sim.proofs.listing.push_row.Goals as goal
 
 pub loop-q-init : goal.loop-q-init
@@ -36,8 +37,8 @@ loop-q-preserved c =
     let q : ℕ = c.in-Some.q in
     let below = pair_below R c.row.result.now R.states x q refl c.requires.valid c.in-Some.ensures.found.here (c.row.ensures.bits q) in
     let at : c.place.result ≡ x * R.states + q = c.place.ensures.place ∙ ap (λ m. x * m + q) c.states.ensures.count in
-    let e : Entry = record { left = c.args.left; ahead = c.args.ahead; right = q; rank = c.rank_of-rank.result } in
-    let rank : c.rank_of-rank.result ≡ rank_at ranks R.states x q = c.rank_of-rank.ensures ∙ ap (λ i. rank_of (get_or ranks i 0)) at in
+    let e : Entry = record { left = c.args.left; ahead = c.args.ahead; right = q; rank = c.rank_in_code-rank.result } in
+    let rank : c.rank_in_code-rank.result ≡ rank_in_table ranks R.states x q = c.rank_in_code-rank.ensures ∙ ap (λ i. rank_in_code (get_or ranks i 0)) at in
     let here = entry_here labels n R.states ranks x q e c.requires.state c.requires.word refl rank in (
       subst (λ l. ListsTriplesBefore labels n R ranks x (q + 1) (entry_triples n l)) (sym c.in_ok-push.ensures.items)
           (listed_push labels n R ranks x c.loop-q.at q c.row.result.now c.loop-q.entries.items e c.requires.from c.requires.words c.requires.valid c.loop-q.invariant.0 c.row.ensures.bits c.in-Some.ensures.found here),

@@ -4,7 +4,7 @@ use Rattle.std.proofs.lemmas.List.{length-take-le, take_more_set}
 use Rattle.auto_core.specs.Rows.{bit_of}
 use Rattle.row_steps.proofs.WordLemmas.{first_cell}
 use Rattle.delayed_sim.specs.Related.{HoldsEach}
-use Rattle.delayed_sim.proofs.BeforeLemmas.{bit_near}
+use Rattle.delayed_game.proofs.BeforeLemmas.{bit_near}
 use Rattle.delayed_sim.proofs.RelateLemmas.{each_whole, each_of_all, one_of_each}
 use Rattle.delayed_sim.proofs.relating.+keep_each.Goals as goal
 

@@ -1,7 +1,7 @@
 use Rattle.std.proofs.Common.{ℕ, ◌≤◌, inl, inr, subst, arith}
 use Rattle.std.specs.Prelude.{None}
 use Rattle.delayed_sim.specs.Rankings.{IsTripleFrom}
-use Rattle.delayed_sim.proofs.RightLemmas.{place_range}
+use Rattle.delayed_sim.proofs.RightLemmas.{triple_range}
 use Rattle.delayed_sim.proofs.RelateLemmas.{placed_held, held_placed, placed_more}
 use Rattle.delayed_sim.proofs.relating.mark_row.Goals as goal
 
@@ -16,7 +16,7 @@ right-requires c =
 pub set_bit-requires : goal.set_bit-requires
 set_bit-requires c =
     let upto = c.first_from-end.ensures.upto in
-    let range = place_range c.args.delayed.now c.requires.valid c.loop-at.at (omega (arith, c.loop-at-test.true)) in
+    let range = triple_range c.args.delayed.now c.requires.valid c.loop-at.at (omega (arith, c.loop-at-test.true)) in
     let right = range.2 in
     omega (arith, c.right.ensures.state, c.loop-at.auto.row, c.requires.len)
 

@@ -1,7 +1,7 @@
 use Rattle.std.proofs.Common.{◌≡◌, ◌<◌, length, refl, ◌∙◌, subst, arith}
 use Rattle.auto_core.specs.Game.{Holds}
 use Rattle.auto_core.proofs.PathLemmas.{none_in_nil}
-use Rattle.delayed_sim.proofs.RightLemmas.{place_range}
+use Rattle.delayed_sim.proofs.RightLemmas.{triple_range}
 use Rattle.delayed_sim.proofs.RelateLemmas.{triples_more, pairs_of_triples}
 use Rattle.delayed_sim.proofs.relating.relate_triples.Goals as goal
 
@@ -30,11 +30,11 @@ returns-clause-pairs c = λ p q.
 pub set-requires-clause-left : goal.set-requires-clause-left
 set-requires-clause-left c =
     let inside : c.loop-at.at < length c.args.delayed.now.triples = omega (arith, c.loop-at-test.true, c.count-at-end.ensures.count) in
-    let range = place_range c.args.delayed.now c.requires.valid c.loop-at.at inside in
+    let range = triple_range c.args.delayed.now c.requires.valid c.loop-at.at inside in
     omega (arith, range.1, c.left.ensures.state, c.loop-at.invariant.0, c.requires.equal)
 
 pub set-requires-clause-right : goal.set-requires-clause-right
 set-requires-clause-right c =
     let inside : c.loop-at.at < length c.args.delayed.now.triples = omega (arith, c.loop-at-test.true, c.count-at-end.ensures.count) in
-    let range = place_range c.args.delayed.now c.requires.valid c.loop-at.at inside in
+    let range = triple_range c.args.delayed.now c.requires.valid c.loop-at.at inside in
     omega (arith, range.2, c.right.ensures.state, c.loop-at.invariant.0, c.requires.equal)

@@ -4,17 +4,17 @@ use Rattle.std.proofs.lemmas.Bool.Decides.{nat_tests}
 use Rattle.auto_core.specs.Automaton.{IsAccepting}
 use Rattle.delayed_sim.specs.Rankings.{triple_at}
 use Rattle.delayed_sim.specs.Right.{IsTripleRight}
-use Rattle.delayed_sim.proofs.RightLemmas.{place_range, unranked_right, zero_right, ranked_right}
+use Rattle.delayed_sim.proofs.RightLemmas.{triple_range, unranked_right, zero_right, ranked_right}
 use Rattle.delayed_sim.proofs.right.is_right.Goals as goal
 
 pub accepting-requires : goal.accepting-requires
 accepting-requires c =
-    let range = place_range c.args.delayed.now c.left-p.ensures.valid c.args.at c.requires.inside in
+    let range = triple_range c.args.delayed.now c.left-p.ensures.valid c.args.at c.requires.inside in
     omega (arith, range.1, c.left-p.ensures.state, c.requires.equal)
 
 pub accepting-requires-in-Some-eq0 : goal.accepting-requires-in-Some-eq0
 accepting-requires-in-Some-eq0 c =
-    let range = place_range c.args.delayed.now c.left-p.ensures.valid c.args.at c.requires.inside in
+    let range = triple_range c.args.delayed.now c.left-p.ensures.valid c.args.at c.requires.inside in
     omega (arith, range.2, c.right-q.ensures.state, c.requires.equal)
 
 pub returns-then-not-accepting : goal.returns-then-not-accepting

@@ -1,5 +1,5 @@
 use Rattle.std.proofs.Common.{rules, ◌≡◌, [], ℕ, ◌+◌, ◌-◌, ◌*◌, ◌/◌, ◌%◌, ◌^◌, ◌<◌, None, refl, sym, ap, ◌∙◌, subst, arith}
-use Rattle.auto_core.specs.Delayed.{AreAnnounced}
+use Rattle.auto_core.specs.Delayed.{IsTripleWord}
 use Rattle.delayed_sim.specs.declared.entries.Entry.{Entry}
 use Rattle.delayed_sim.specs.Stored.{entry_triples}
 use Rattle.delayed_sim.proofs.EntryLemmas.{valid_stored}
@@ -44,7 +44,7 @@ pub returns-clause-valid : goal.returns-clause-valid
 returns-clause-valid c = valid_stored (record { states = c.states-states.result; labels = c.labels-labels.result; letters = c.args.letters; entries = c.loop-number.entries }) (invariant_of-result c)
 
 pub returns-clause-all : goal.returns-clause-all
-returns-clause-all c = λ b p q announced p_in q_in.
+returns-clause-all c = λ b p q is_word p_in q_in.
     let n : ℕ = c.args.letters in
     let labels : ℕ = c.labels-labels.result in
     let states : ℕ = c.states-states.result in
@@ -54,5 +54,5 @@ returns-clause-all c = λ b p q announced p_in q_in.
     let end : number ≡ states * words * states = omega (arith, c.loop-number-test.false, c.loop-number.auto.number-end) in
     let all : number ≡ states * labels ^ (n - 1) * states = end ∙ ap (λ w. states * w * states) c.word_count-words.ensures in
     let positive : 0 < states = omega (arith, c.states-states.ensures.valid.initial_is_state, c.states-states.ensures.count) in
-    full_all labels n states number T c.requires.from positive all c.loop-number.invariant b p q (subst (λ l. AreAnnounced l n b) (sym c.labels-labels.ensures.count) announced)
+    full_all labels n states number T c.requires.from positive all c.loop-number.invariant b p q (subst (λ l. IsTripleWord l n b) (sym c.labels-labels.ensures.count) is_word)
     (omega (arith, p_in, c.states-states.ensures.count)) (omega (arith, q_in, c.states-states.ensures.count))

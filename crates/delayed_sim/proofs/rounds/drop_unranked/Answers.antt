@@ -4,7 +4,7 @@ use Rattle.std.proofs.lemmas.List.{get_or_default}
 use Rattle.auto_core.specs.Automaton.{IsAccepting}
 use Rattle.delayed_sim.specs.Rankings.{Triple, Ranking, IsRanking, triple_at}
 use Rattle.delayed_sim.specs.Rounds.{without, HasEachTriple, HasRanksUpto, Thins}
-use Rattle.delayed_sim.proofs.RightLemmas.{place_range}
+use Rattle.delayed_sim.proofs.RightLemmas.{triple_range}
 use Rattle.delayed_sim.proofs.RoundLemmas.{no_triple, none_from, thins_more, each_unranked, ranks_without}
 use Rattle.delayed_sim.proofs.rounds.drop_unranked.Goals as goal
 
@@ -12,8 +12,8 @@ pub accepting-requires : goal.accepting-requires
 accepting-requires c =
     let R = c.triples.delayed in
     let at_in : c.triples.at < length R.triples = omega (arith, c.triples-test.true, c.count.ensures.count) in
-    let range = place_range R c.left.ensures.valid c.triples.at at_in in
-    omega (arith, range.1, c.left.ensures.state, c.triples.invariant.0.shortened.size, c.requires.equal)
+    let range = triple_range R c.left.ensures.valid c.triples.at at_in in
+    omega (arith, range.1, c.left.ensures.state, c.triples.invariant.0.shortened.states, c.requires.equal)
 
 pub triples-preserved-then-is_none : goal.triples-preserved-then-is_none
 triples-preserved-then-is_none c =

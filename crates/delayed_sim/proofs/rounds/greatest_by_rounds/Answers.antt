@@ -1,5 +1,5 @@
 use Rattle.std.proofs.Common.{ℕ, subst}
-use Rattle.auto_core.specs.Delayed.{AreAnnounced}
+use Rattle.auto_core.specs.Delayed.{IsTripleWord}
 use Rattle.delayed_sim.proofs.FewLemmas.{listable}
 use Rattle.delayed_sim.proofs.rounds.greatest_by_rounds.Goals as goal
 
@@ -17,12 +17,12 @@ all_triples-requires-clause-few c = (listable c.args.automaton.now c.args.letter
 
 pub turns-init : goal.turns-init
 turns-init c = (
-  c.in_ok-left.ensures.size,
+  c.in_ok-left.ensures.states,
   c.in_ok-left.ensures.labels,
   c.in_ok-left.ensures.letters,
   c.in_ok-left.ensures.valid,
   c.in_ok-left.ensures.few,
   λ Y range right b p q h.
-      let (announced, left, inside) = range b p q h in
-      c.in_ok-left.ensures.all b p q (subst (λ (n : ℕ). AreAnnounced c.args.automaton.now.labels n b) c.in_ok-left.ensures.letters announced) left inside,
+      let (is_word, left, inside) = range b p q h in
+      c.in_ok-left.ensures.all b p q (subst (λ (n : ℕ). IsTripleWord c.args.automaton.now.labels n b) c.in_ok-left.ensures.letters is_word) left inside,
 )

@@ -3,7 +3,7 @@ use Rattle.std.proofs.lemmas.Bool.{iff_false}
 use Rattle.auto_core.specs.Automaton.{IsAccepting}
 use Rattle.delayed_sim.specs.Rankings.{Triple, IsRanking, triple_at}
 use Rattle.delayed_sim.specs.Rounds.{reranked, IsReranked, GetsRankZero}
-use Rattle.delayed_sim.proofs.RightLemmas.{place_range}
+use Rattle.delayed_sim.proofs.RightLemmas.{triple_range}
 use Rattle.delayed_sim.proofs.RoundLemmas.{rerank_more}
 use Rattle.delayed_sim.proofs.rounds.rank_accepting.Goals as goal
 use Rattle.delayed_sim.proofs.rounds.rank_accepting.Goals.{then-accepting, else-accepting}
@@ -13,8 +13,8 @@ accepting-requires c =
     let R = c.loop-at.delayed in
     let h = c.loop-at.invariant in
     let at_in : c.loop-at.at < length R.triples = omega (arith, c.loop-at-test.true, c.loop-at.auto.at-end, h.len, c.count-at-end.ensures.count) in
-    let range = place_range R h.valid c.loop-at.at at_in in
-    omega (arith, range.2, c.right.ensures.state, h.size, c.requires.equal)
+    let range = triple_range R h.valid c.loop-at.at at_in in
+    omega (arith, range.2, c.right.ensures.state, h.states, c.requires.equal)
 
 pub loop-at-preserved : goal.loop-at-preserved
 loop-at-preserved c =

@@ -21,7 +21,7 @@ returns-clause-greatest c = λ no.
     let same = c.rank_all.ensures.triples in
     let still : c.drop_unranked.new.delayed ≡ ranked = c.drop_unranked.ensures.thins.same no in
     subst (λ (R : Ranking). IsGreatestDelayed A R.letters R.triples) (sym still) (greatest_of A ranked same.valid
-    (same.size ∙ c.settle.ensures.shortened.size ∙ c.requires.equal)
+    (same.states ∙ c.settle.ensures.shortened.states ∙ c.requires.equal)
     (same.labels ∙ c.settle.ensures.shortened.labels ∙ c.requires.same)
     (answered_same A settled ranked same c.settle.ensures.answered)
     c.rank_all.ensures.right

@@ -1,4 +1,4 @@
-use Rattle.cert_text.specs.Lines.{heading_in}
+use Rattle.cert_line.specs.Lines.{heading_in}
 use Rattle.cert_text.specs.Grammar.{read_sizes}
 use Rattle.fault_laws.proofs.HeaderLemmas.{header_just_where}
 use Rattle.fault_laws.proofs.CertHeads.{heads, heading_refuses}

@@ -1,7 +1,7 @@
 use Rattle.std.proofs.Common.{◌≡◌, ◌++◌, map, take}
+use Rattle.auto_core.specs.Delayed.{rank_in_code}
 use Rattle.delayed_sim.specs.Rankings.{ranked_triple}
 use Rattle.cert_value.specs.declared.types.Ranked.{Ranked}
-use Rattle.log_check.specs.Blocks.{rank_in_code}
 use Rattle.log_check.proofs.rankings.add_row.Given as goal
 
 abbrev pub invariant-loop-ranked : goal.invariant-loop-ranked

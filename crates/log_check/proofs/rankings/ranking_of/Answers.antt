@@ -30,14 +30,14 @@ made_so :
     → IfOk r (λ d. d.letters ≡ n)
     → IfOk r (λ d. HasJust d.triples (block_list block))
     → IfOk r (IsRankingOf A n block)
-made_so A n block (Ok d) size labels letters just = ranking_is A n block d size labels letters just
-made_so A n block (Err e) size labels letters just = tt
+made_so A n block (Ok d) states labels letters just = ranking_is A n block d states labels letters just
+made_so A n block (Err e) states labels letters just = tt
 
 pub returns : goal.returns
 returns c =
     let A = c.args.automaton.now in
     let same : c.deref.result.now ≡ block_list c.args.block.now = c.deref.ensures.value ∙ c.in_ok-triples.ensures in
     made_so A c.args.letters c.args.block.now c.build.result
-    (subst (λ n. IfOk c.build.result (λ (d : Ranking). d.states ≡ n)) c.states.ensures.count c.build.ensures.size)
+    (subst (λ n. IfOk c.build.result (λ (d : Ranking). d.states ≡ n)) c.states.ensures.count c.build.ensures.states)
     (subst (λ n. IfOk c.build.result (λ (d : Ranking). d.labels ≡ n)) c.labels.ensures.count c.build.ensures.labels) c.build.ensures.letters
     (subst (λ (l : List RankedTriple). IfOk c.build.result (λ (d : Ranking). HasJust d.triples l)) same c.build.ensures.triples)

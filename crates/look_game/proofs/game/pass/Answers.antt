@@ -8,6 +8,7 @@ loop-p-init g c = (
   refl,
   trying_begins (g.S.Side.goes c.args.side.now c.args.automaton.now) (g.S.Side.keeps c.args.side.now c.args.automaton.now) c.args.look c.args.marks.now c.args.rel.now c.clear_row.new.row c.size-p.result
       c.size-p.ensures.valid c.size-p.ensures.count c.clear_row.ensures c.requires.others,
+  c.requires.ready,
 )
 
 pub loop-p-preserved-then-visit_row : goal.loop-p-preserved-then-visit_row
@@ -19,6 +20,7 @@ loop-p-preserved-then-visit_row g c =
       e.scratch ∙ c.loop-p.invariant.0,
       row_lost (g.S.Side.goes c.args.side.now c.args.automaton.now) (g.S.Side.keeps c.args.side.now c.args.automaton.now) c.args.look c.args.marks.now c.args.rel.now c.loop-p.rel c.visit_row.new.rel
           c.loop-p.changed c.set_bit.new.row c.loop-p.any p n next c.loop-p.invariant.1 e.takes (e.some c.if-visit_row.true) e.others e.apart c.set_bit.ensures.here c.set_bit.ensures.others,
+      e.ready,
     )
 
 pub loop-p-preserved-else-visit_row : goal.loop-p-preserved-else-visit_row
@@ -30,6 +32,7 @@ loop-p-preserved-else-visit_row g c =
       e.scratch ∙ c.loop-p.invariant.0,
       row_kept (g.S.Side.goes c.args.side.now c.args.automaton.now) (g.S.Side.keeps c.args.side.now c.args.automaton.now) c.args.look c.args.marks.now c.args.rel.now c.loop-p.rel c.visit_row.new.rel
           c.loop-p.changed c.loop-p.any p n next c.loop-p.invariant.1 (e.same c.if-visit_row.false) (e.rounds c.if-visit_row.false),
+      e.ready,
     )
 
 pub loop-p-preserved : goal.loop-p-preserved
@@ -40,6 +43,7 @@ loop-p-preserved g c =
       c.loop-p.invariant.0,
       row_passed (g.S.Side.goes c.args.side.now c.args.automaton.now) (g.S.Side.keeps c.args.side.now c.args.automaton.now) c.args.look c.args.marks.now c.args.rel.now c.loop-p.rel
           c.loop-p.changed c.loop-p.any p n next c.loop-p.invariant.1 (λ bit. false≢true (sym c.if-has_bit.false ∙ c.has_bit.ensures ∙ bit)),
+      c.loop-p.invariant.2,
     )
 
 pub returns-clause-none : goal.returns-clause-none

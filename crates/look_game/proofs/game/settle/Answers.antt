@@ -7,7 +7,7 @@ pub passes-init : goal.passes-init
 passes-init g c =
     let M = g.S.Side.goes c.args.side.now c.args.automaton.now in
     let ok = g.S.Side.keeps c.args.side.now c.args.automaton.now in
-    (refl, takes_none M ok c.args.look c.args.rel.now c.size.ensures.valid, others_begin M ok c.args.look c.size.result c.args.rel.now c.mark_below.new.row c.size.ensures.valid (omega (arith, c.size.ensures.count)) (λ p p_in. (c.mark_below.ensures p).1 (inl p_in)))
+    (refl, takes_none M ok c.args.look c.args.rel.now c.size.ensures.valid, others_begin M ok c.args.look c.size.result c.args.rel.now c.mark_below.new.row c.size.ensures.valid (omega (arith, c.size.ensures.count)) (λ p p_in. (c.mark_below.ensures p).1 (inl p_in)), c.requires.ready)
 
 pub passes-preserved : goal.passes-preserved
 passes-preserved g c =
@@ -17,6 +17,7 @@ passes-preserved g c =
       c.pass.ensures.scratch ∙ c.passes.invariant.0,
       takes,
       others_again M ok c.args.look c.args.automaton.now.states c.pass.new.rel c.pass.new.changed c.mark_near.new.near takes.valid (takes.size ∙ c.requires.equal) c.mark_near.ensures c.pass.ensures.apart,
+      c.pass.ensures.ready,
     )
 
 pub returns-clause-takes : goal.returns-clause-takes

@@ -1,4 +1,4 @@
-use Rattle.look_round.proofs.ColumnLemmas.{MarksUpto}
+use Rattle.row_steps.proofs.MarkLemmas.{MarksUpto}
 use Rattle.look_round.proofs.kinds.match_row.Given as goal
 
 abbrev pub invariant-loop-q : goal.invariant-loop-q

@@ -54,15 +54,15 @@ told_from-returns-clause-holds g t c = λ e.
     let all : AllAnswered M ok W c.args.left D moves = subst (λ l. AllAnswered M ok W c.args.left D l) (take_all c.loop-at.at moves over) c.loop-at.invariant in
     from_moves M ok W c.args.left c.args.p D c.requires.left (λ a r go. all (move a r) ((g.met.S.Side.lists s A c.args.p a r).1 go))
 
-pub told_after-returns-then-one_answers-clause-holds : goal.told_after-returns-then-one_answers-clause-holds
-told_after-returns-then-one_answers-clause-holds g t c = λ e.
+pub told_after-returns-then-one_meets-clause-holds : goal.told_after-returns-then-one_meets-clause-holds
+told_after-returns-then-one_meets-clause-holds g t c = λ e.
     let M = g.S.Side.goes c.args.side.now c.args.automaton.now in
     let ok = g.S.Side.keeps c.args.side.now c.args.automaton.now in
     let W = Holds c.args.rel.now.pairs in
     let a = c.args.step.label in
     let p = c.args.step.to in
     let D : ℕ → Type 0 = Contains c.args.from.now in
-    let found = c.one_answers.ensures.0 c.if-one_answers.true in
+    let found = c.one_meets.ensures.0 c.if-one_meets.true in
     met M ok W c.args.left a p D (HasReplyFrom M ok a p D) (λ r. (λ x. x, λ x. x)) found.0 found.1 found.2
 
 pub told_after-returns-then-left-eq1-clause-fails : goal.told_after-returns-then-left-eq1-clause-fails
@@ -74,7 +74,7 @@ told_after-returns-then-left-eq1-clause-fails g t c = λ e h.
     let p = c.args.step.to in
     let D : ℕ → Type 0 = Contains c.args.from.now in
     let E : ℕ → Type 0 = HasReplyFrom M ok a p D in
-    let apart = iff_false c.one_answers.ensures c.if-one_answers.false in
+    let apart = iff_false c.one_meets.ensures c.if-one_meets.false in
     let none : (r : ℕ) → E r → W p r → ⊥ = λ r is related. apart (r, is, related) in
     ended M ok W c.args.left a p D E (λ r. (λ x. x, λ x. x)) none (inl c.if-left-eq1.true) h
 
@@ -89,7 +89,7 @@ told_after-returns-then-moves-eq0-clause-fails g t c = λ e h.
     let p = c.args.step.to in
     let D : ℕ → Type 0 = Contains c.args.from.now in
     let E : ℕ → Type 0 = HasReplyFrom M ok a p D in
-    let apart = iff_false c.one_answers.ensures c.if-one_answers.false in
+    let apart = iff_false c.one_meets.ensures c.if-one_meets.false in
     let none : (r : ℕ) → E r → W p r → ⊥ = λ r is related. apart (r, is, related) in
     let dead : IsDead M p = dead_from M (g.S.Side.list s A p) p (g.met.S.Side.lists s A p) (sym c.moves.ensures ∙ c.if-moves-eq0.true) in
     let some = c.requires.left in
@@ -109,7 +109,7 @@ told_after-returns-clause-holds g t c = λ e.
     let E : ℕ → Type 0 = Contains c.replies_to-replies.result.items in
     let few : length c.replies_to-replies.result.items ≤ 64 = omega (arith, c.len.ensures.value, c.if-len-gt-MOST_LISTED.false) in
     let replies : (r : ℕ) → E r ↔ HasReplyFrom M ok a p D r = c.replies_to-replies.ensures.listed few in
-    let apart = iff_false c.one_answers.ensures c.if-one_answers.false in
+    let apart = iff_false c.one_meets.ensures c.if-one_meets.false in
     let none : (r : ℕ) → E r → W p r → ⊥ = λ r is related. apart (r, (replies r).0 is, related) in
     let alive : IsDead M p → ⊥ = alive_from M (g.S.Side.list s A p) p (g.met.S.Side.lists s A p) (λ f. c.if-moves-eq0.false (c.moves.ensures ∙ f)) in
     let some = c.requires.left in
@@ -130,7 +130,7 @@ told_after-returns-clause-fails g t c = λ e h.
     let E : ℕ → Type 0 = Contains c.replies_to-replies.result.items in
     let few : length c.replies_to-replies.result.items ≤ 64 = omega (arith, c.len.ensures.value, c.if-len-gt-MOST_LISTED.false) in
     let replies : (r : ℕ) → E r ↔ HasReplyFrom M ok a p D r = c.replies_to-replies.ensures.listed few in
-    let apart = iff_false c.one_answers.ensures c.if-one_answers.false in
+    let apart = iff_false c.one_meets.ensures c.if-one_meets.false in
     let none : (r : ℕ) → E r → W p r → ⊥ = λ r is related. apart (r, (replies r).0 is, related) in
     let alive : IsDead M p → ⊥ = alive_from M (g.S.Side.list s A p) p (g.met.S.Side.lists s A p) (λ f. c.if-moves-eq0.false (c.moves.ensures ∙ f)) in
     let some = c.requires.left in

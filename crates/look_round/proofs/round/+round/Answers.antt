@@ -1,4 +1,4 @@
-use Rattle.std.proofs.Common.{rules, arith, ◌≡◌, ◌+◌, ◌-◌, ◌*◌, ◌<◌, ◌≤◌, ◌↔◌, ℕ, length, IsTrue, true, false, [], ◌∷◌, refl, sym, ap, ◌∙◌, subst, inl, inr, length-append}
+use Rattle.std.proofs.Common.{rules, Bool, false, arith, ◌≡◌, ◌+◌, ◌-◌, ◌*◌, ◌<◌, ◌≤◌, ◌↔◌, ℕ, length, IsTrue, true, false, [], ◌∷◌, refl, sym, ap, ◌∙◌, subst, inl, inr, length-append}
 use Rattle.std.proofs.lemmas.Bool.{iff_false, false≢true}
 use Rattle.auto_core.specs.Rows.{cell_of, HasBit}
 use Rattle.auto_core.specs.Game.{Holds, IsDead}
@@ -8,6 +8,11 @@ use Rattle.look_round.proofs.StepLemmas.{reply_same}
 use Rattle.look_round.proofs.KnownLemmas.{known_answered, known_more}
 use Rattle.look_round.proofs.RoundLoop.{told_first, one_answered, all_answered, one_unanswered, dead_from, alive_from}
 use Rattle.look_round.proofs.round.+round.Goals as goal
+
+-- a test is true that cannot be false
+true_if : {b : Bool} {P : Type 0} → b ≡ true ↔ P → ((P → ⊥) → ⊥) → b ≡ true
+true_if {b = true} both some = refl
+true_if {b = false} both some = absurd (some (iff_false both refl))
 
 pub round_from-returns-then-not-step_answered-clause-told : goal.round_from-returns-then-not-step_answered-clause-told
 round_from-returns-then-not-step_answered-clause-told g t c =
@@ -85,8 +90,8 @@ round_from-returns-clause-told g t c =
       λ h. refl,
     )
 
-pub step_answered-returns-then-one_has_reply_in-clause-told : goal.step_answered-returns-then-one_has_reply_in-clause-told
-step_answered-returns-then-one_has_reply_in-clause-told g t c =
+pub step_answered-returns-then-step_into-clause-told : goal.step_answered-returns-then-step_into-clause-told
+step_answered-returns-then-step_into-clause-told g t c =
     let A = c.args.automaton.now in
     let s = c.args.side.now in
     let M = g.S.Side.goes s A in
@@ -98,10 +103,10 @@ step_answered-returns-then-one_has_reply_in-clause-told g t c =
     let p = c.args.step.to in
     let D : ℕ → Type 0 = HasReply c.args.sets.now n w (length c.args.path.now.items) in
     let E : ℕ → Type 0 = HasReplyFrom M ok a p D in
-    let P : ℕ → Type 0 = λ x. IsTrue c.one_has_reply_in.result ↔ ((r : ℕ) × HasReplyFrom M ok a p (HasReply c.args.sets.now n w x) r × HasBit c.row.result.now r) in
-    let one = subst P c.len-place.ensures.value c.one_has_reply_in.ensures in
-    let found = one.0 c.if-one_has_reply_in.true in (
-      λ h. met M ok W c.args.left a p D E (λ r. (λ x. x, λ x. x)) found.0 found.1 ((c.row.ensures.bits found.0).0 found.2),
+    let P : ℕ → Type 0 = λ x. IsTrue c.step_into.result ↔ ((r : ℕ) × HasReplyFrom M ok a p (HasReply c.args.sets.now n w x) r × HasBit c.row-related.result.now r) in
+    let one = subst P c.len-place.ensures.value c.step_into.ensures.told in
+    let found = one.0 c.if-step_into.true in (
+      λ h. met M ok W c.args.left a p D E (λ r. (λ x. x, λ x. x)) found.0 found.1 ((c.row-related.ensures.bits found.0).0 found.2),
       λ h. refl,
     )
 
@@ -118,12 +123,10 @@ step_answered-returns-then-left-eq1-clause-told g t c =
     let p = c.args.step.to in
     let D : ℕ → Type 0 = HasReply c.args.sets.now n w (length c.args.path.now.items) in
     let E : ℕ → Type 0 = HasReplyFrom M ok a p D in
-    let P : ℕ → Type 0 = λ x. IsTrue c.one_has_reply_in.result ↔ ((r : ℕ) × HasReplyFrom M ok a p (HasReply c.args.sets.now n w x) r × HasBit c.row.result.now r) in
-    let one = subst P c.len-place.ensures.value c.one_has_reply_in.ensures in
-    let apart = iff_false one c.if-one_has_reply_in.false in
-    let none : (r : ℕ) → E r → W p r → ⊥ = λ r is related. apart (r, is, (c.row.ensures.bits r).1 related) in (
-      λ h. absurd (false≢true h),
-      λ h. absurd (ended M ok W c.args.left a p D E (λ r. (λ x. x, λ x. x)) none (inl c.if-left-eq1.true) h),
+    let P : ℕ → Type 0 = λ x. IsTrue c.one_has_reply_in.result ↔ ((r : ℕ) × HasReplyFrom M ok a p (HasReply c.args.sets.now n w x) r × HasBit c.row-related.result.now r) in
+    let one = subst P c.len-place.ensures.value c.one_has_reply_in.ensures in (
+      λ h. let found = one.0 h in met M ok W c.args.left a p D E (λ r. (λ x. x, λ x. x)) found.0 found.1 ((c.row-related.ensures.bits found.0).0 found.2),
+      λ h. true_if one (λ apart. ended M ok W c.args.left a p D E (λ r. (λ x. x, λ x. x)) (λ r is related. apart (r, is, (c.row-related.ensures.bits r).1 related)) (inl c.if-left-eq1.true) h),
     )
 
 pub step_answered-returns-then-moves-eq0-clause-told : goal.step_answered-returns-then-moves-eq0-clause-told
@@ -139,10 +142,10 @@ step_answered-returns-then-moves-eq0-clause-told g t c =
     let p = c.args.step.to in
     let D : ℕ → Type 0 = HasReply c.args.sets.now n w (length c.args.path.now.items) in
     let E : ℕ → Type 0 = HasReplyFrom M ok a p D in
-    let P : ℕ → Type 0 = λ x. IsTrue c.one_has_reply_in.result ↔ ((r : ℕ) × HasReplyFrom M ok a p (HasReply c.args.sets.now n w x) r × HasBit c.row.result.now r) in
-    let one = subst P c.len-place.ensures.value c.one_has_reply_in.ensures in
-    let apart = iff_false one c.if-one_has_reply_in.false in
-    let none : (r : ℕ) → E r → W p r → ⊥ = λ r is related. apart (r, is, (c.row.ensures.bits r).1 related) in
+    let P : ℕ → Type 0 = λ x. IsTrue c.step_into.result ↔ ((r : ℕ) × HasReplyFrom M ok a p (HasReply c.args.sets.now n w x) r × HasBit c.row-related.result.now r) in
+    let one = subst P c.len-place.ensures.value c.step_into.ensures.told in
+    let apart = iff_false one c.if-step_into.false in
+    let none : (r : ℕ) → E r → W p r → ⊥ = λ r is related. apart (r, is, (c.row-related.ensures.bits r).1 related) in
     let dead : IsDead M p = dead_from M (g.S.Side.list s A p) p (g.met.S.Side.lists s A p) (sym c.moves.ensures ∙ c.if-moves-eq0.true) in
     let some = c.requires.left in
     let more : 1 < c.args.left = omega (arith, c.if-left-eq1.false) in (
@@ -181,14 +184,14 @@ step_answered-returns-then-not-answered-clause-told g t c =
     let a = c.args.step.label in
     let p = c.args.step.to in
     let old = c.args.sets.now in
-    let new = c.step_replies.new.table in
+    let new = c.step_into.new.table in
     let place = c.len-place.result in
     let P : ℕ → Type 0 = λ x. (r : ℕ) → HasReply new n w (place + 1) r ↔ HasReplyFrom M ok a p (HasReply old n w x) r in
-    let replies = subst P c.len-place.ensures.value c.step_replies.ensures.next in
-    let Q1 : ℕ → Type 0 = λ x. IsTrue c.one_has_reply_in.result ↔ ((r : ℕ) × HasReplyFrom M ok a p (HasReply old n w x) r × HasBit c.row.result.now r) in
-    let one = subst Q1 c.len-place.ensures.value c.one_has_reply_in.ensures in
-    let apart = iff_false one c.if-one_has_reply_in.false in
-    let none : (r : ℕ) → HasReply new n w (place + 1) r → W p r → ⊥ = λ r is related. apart (r, (replies r).0 is, (c.row.ensures.bits r).1 related) in
+    let replies = subst P c.len-place.ensures.value c.step_into.ensures.next in
+    let Q1 : ℕ → Type 0 = λ x. IsTrue c.step_into.result ↔ ((r : ℕ) × HasReplyFrom M ok a p (HasReply old n w x) r × HasBit c.row-related.result.now r) in
+    let one = subst Q1 c.len-place.ensures.value c.step_into.ensures.told in
+    let apart = iff_false one c.if-step_into.false in
+    let none : (r : ℕ) → HasReply new n w (place + 1) r → W p r → ⊥ = λ r is related. apart (r, (replies r).0 is, (c.row-related.ensures.bits r).1 related) in
     let alive : IsDead M p → ⊥ = alive_from M (g.S.Side.list s A p) p (g.met.S.Side.lists s A p) (λ e. c.if-moves-eq0.false (c.moves.ensures ∙ e)) in
     let some = c.requires.left in
     let more : 1 < c.args.left = omega (arith, c.if-left-eq1.false) in
@@ -212,14 +215,14 @@ step_answered-returns-clause-told g t c =
     let a = c.args.step.label in
     let p = c.args.step.to in
     let old = c.args.sets.now in
-    let new = c.step_replies.new.table in
+    let new = c.step_into.new.table in
     let place = c.len-place.result in
     let P : ℕ → Type 0 = λ x. (r : ℕ) → HasReply new n w (place + 1) r ↔ HasReplyFrom M ok a p (HasReply old n w x) r in
-    let replies = subst P c.len-place.ensures.value c.step_replies.ensures.next in
-    let Q1 : ℕ → Type 0 = λ x. IsTrue c.one_has_reply_in.result ↔ ((r : ℕ) × HasReplyFrom M ok a p (HasReply old n w x) r × HasBit c.row.result.now r) in
-    let one = subst Q1 c.len-place.ensures.value c.one_has_reply_in.ensures in
-    let apart = iff_false one c.if-one_has_reply_in.false in
-    let none : (r : ℕ) → HasReply new n w (place + 1) r → W p r → ⊥ = λ r is related. apart (r, (replies r).0 is, (c.row.ensures.bits r).1 related) in
+    let replies = subst P c.len-place.ensures.value c.step_into.ensures.next in
+    let Q1 : ℕ → Type 0 = λ x. IsTrue c.step_into.result ↔ ((r : ℕ) × HasReplyFrom M ok a p (HasReply old n w x) r × HasBit c.row-related.result.now r) in
+    let one = subst Q1 c.len-place.ensures.value c.step_into.ensures.told in
+    let apart = iff_false one c.if-step_into.false in
+    let none : (r : ℕ) → HasReply new n w (place + 1) r → W p r → ⊥ = λ r is related. apart (r, (replies r).0 is, (c.row-related.ensures.bits r).1 related) in
     let alive : IsDead M p → ⊥ = alive_from M (g.S.Side.list s A p) p (g.met.S.Side.lists s A p) (λ e. c.if-moves-eq0.false (c.moves.ensures ∙ e)) in
     let some = c.requires.left in
     let more : 1 < c.args.left = omega (arith, c.if-left-eq1.false) in
@@ -243,14 +246,14 @@ step_answered-returns-clause-answered g t c =
     let a = c.args.step.label in
     let p = c.args.step.to in
     let old = c.args.sets.now in
-    let new = c.step_replies.new.table in
+    let new = c.step_into.new.table in
     let place = c.len-place.result in
     let P : ℕ → Type 0 = λ x. (r : ℕ) → HasReply new n w (place + 1) r ↔ HasReplyFrom M ok a p (HasReply old n w x) r in
-    let replies = subst P c.len-place.ensures.value c.step_replies.ensures.next in
-    let Q1 : ℕ → Type 0 = λ x. IsTrue c.one_has_reply_in.result ↔ ((r : ℕ) × HasReplyFrom M ok a p (HasReply old n w x) r × HasBit c.row.result.now r) in
-    let one = subst Q1 c.len-place.ensures.value c.one_has_reply_in.ensures in
-    let apart = iff_false one c.if-one_has_reply_in.false in
-    let none : (r : ℕ) → HasReply new n w (place + 1) r → W p r → ⊥ = λ r is related. apart (r, (replies r).0 is, (c.row.ensures.bits r).1 related) in
+    let replies = subst P c.len-place.ensures.value c.step_into.ensures.next in
+    let Q1 : ℕ → Type 0 = λ x. IsTrue c.step_into.result ↔ ((r : ℕ) × HasReplyFrom M ok a p (HasReply old n w x) r × HasBit c.row-related.result.now r) in
+    let one = subst Q1 c.len-place.ensures.value c.step_into.ensures.told in
+    let apart = iff_false one c.if-step_into.false in
+    let none : (r : ℕ) → HasReply new n w (place + 1) r → W p r → ⊥ = λ r is related. apart (r, (replies r).0 is, (c.row-related.ensures.bits r).1 related) in
     let alive : IsDead M p → ⊥ = alive_from M (g.S.Side.list s A p) p (g.met.S.Side.lists s A p) (λ e. c.if-moves-eq0.false (c.moves.ensures ∙ e)) in
     let some = c.requires.left in
     let more : 1 < c.args.left = omega (arith, c.if-left-eq1.false) in
@@ -265,7 +268,7 @@ step_answered-returns-clause-answered g t c =
     let room : n ≤ w * 64 = omega (arith, c.requires.width) in
     let sets = c.round_from-answered.new.sets in
     let kept : (q : ℕ) → q < w * 64 → cell_of sets w place q ≡ cell_of old w place q =
-    λ q near. c.round_from-answered.ensures.kept place q (omega (arith, size)) near ∙ c.step_replies.ensures.others place q near (λ e. omega arith) in
+    λ q near. c.round_from-answered.ensures.kept place q (omega (arith, size)) near ∙ c.step_into.ensures.others place q near (λ e. omega arith) in
     let same = reply_same old sets n w place room kept in
     let D : ℕ → Type 0 = HasReply sets n w place in
     let P2 : ℕ → Type 0 = λ x. RoundAfter M ok W c.args.left a p (HasReply old n w x) in
@@ -281,7 +284,7 @@ step_answered-returns-then-not-answered-clause-kept g t c =
     let size : length c.push_reserved.new.self.items ≡ place + 1 =
     ap length c.push_reserved.ensures.items ∙ length-append c.args.path.now.items (c.args.step ∷ []) ∙ ap (λ x. x + 1) (sym c.len-place.ensures.value) in
     λ i q i_in near.
-    c.round_from-answered.ensures.kept i q (omega (arith, size, value)) near ∙ c.step_replies.ensures.others i q near (λ e. omega (arith, value))
+    c.round_from-answered.ensures.kept i q (omega (arith, size, value)) near ∙ c.step_into.ensures.others i q near (λ e. omega (arith, value))
 
 pub step_answered-returns-clause-kept : goal.step_answered-returns-clause-kept
 step_answered-returns-clause-kept g t c =
@@ -290,4 +293,19 @@ step_answered-returns-clause-kept g t c =
     let size : length c.push_reserved.new.self.items ≡ place + 1 =
     ap length c.push_reserved.ensures.items ∙ length-append c.args.path.now.items (c.args.step ∷ []) ∙ ap (λ x. x + 1) (sym c.len-place.ensures.value) in
     λ i q i_in near.
-    c.round_from-answered.ensures.kept i q (omega (arith, size, value)) near ∙ c.step_replies.ensures.others i q near (λ e. omega (arith, value))
+    c.round_from-answered.ensures.kept i q (omega (arith, size, value)) near ∙ c.step_into.ensures.others i q near (λ e. omega (arith, value))
+
+pub step_answered-returns-then-step_into-clause-kept : goal.step_answered-returns-then-step_into-clause-kept
+step_answered-returns-then-step_into-clause-kept g t c =
+    let value : c.len-place.result ≡ length c.args.path.now.items = c.len-place.ensures.value in
+    λ i q i_in near. c.step_into.ensures.others i q near (λ e. omega (arith, value))
+
+pub step_answered-returns-then-moves-eq0-clause-kept : goal.step_answered-returns-then-moves-eq0-clause-kept
+step_answered-returns-then-moves-eq0-clause-kept g t c =
+    let value : c.len-place.result ≡ length c.args.path.now.items = c.len-place.ensures.value in
+    λ i q i_in near. c.step_into.ensures.others i q near (λ e. omega (arith, value))
+
+pub step_answered-step_into-requires-clause-states : goal.step_answered-step_into-requires-clause-states
+step_answered-step_into-requires-clause-states g t c = λ q bit.
+    let below = (c.row-related.ensures.valid.in_range c.args.step.to q ((c.row-related.ensures.bits q).0 bit)).1 in
+    omega (arith, below, c.requires.equal)

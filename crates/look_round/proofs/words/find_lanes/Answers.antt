@@ -1,32 +1,36 @@
-use Rattle.std.proofs.Common.{◌≡◌, ℕ, ◌+◌, ◌||◌, List, length, ap, sym, ◌∙◌, subst, arith}
+use Rattle.std.proofs.Common.{rules, ◌≡◌, ℕ, ◌+◌, List, length, get_or, sym, ◌∙◌, subst}
 use Rattle.std.proofs.lemmas.Bool.{false≢true}
-use Rattle.auto_core.specs.Rows.{bit_of}
-use Rattle.look_round.proofs.LaneLemmas.{HasFoundUpto, found_none, found_more, found_passed, found_all}
+use Rattle.auto_core.specs.Automaton.{trans}
+use Rattle.auto_core.specs.declared.parts.Trans.{Trans}
+use Rattle.look_round.proofs.LaneLemmas.{HasLanesUpto, no_lanes_yet, lanes_more, lanes_passed, lanes_all}
 use Rattle.look_round.proofs.words.find_lanes.Goals as goal
 use Rattle.look_round.proofs.words.find_lanes.Goals.{then-step-label+then-has_bit, else-step-label, else-step-label-via-then-step-label+else-has_bit, else-step-label-via-else-step-label}
 
-pub loop-at-init : goal.loop-at-init
-loop-at-init g c = found_none (g.S.Side.list c.args.side.now c.args.automaton.now c.args.q) c.args.lanes.now c.args.asked.now c.clear_row.new.row c.args.label c.clear_row.ensures
+pub loop-number-init : goal.loop-number-init
+loop-number-init g c =
+    let steps : ℕ → Trans = λ i. g.S.Side.seen c.args.side.now (get_or c.args.automaton.now.transitions i (trans 0 0 0)) in
+    no_lanes_yet steps c.args.lanes.now c.args.asked.now c.clear_row.new.row c.args.automaton.now.states c.args.label c.clear_row.ensures
 
-pub loop-at-preserved : goal.loop-at-preserved
-loop-at-preserved g c =
-    let moves = g.S.Side.list c.args.side.now c.args.automaton.now c.args.q in
+pub loop-number-preserved : goal.loop-number-preserved
+loop-number-preserved g c =
+    let A = c.args.automaton.now in
+    let steps : ℕ → Trans = λ i. g.S.Side.seen c.args.side.now (get_or A.transitions i (trans 0 0 0)) in
     let lanes = c.args.lanes.now in
     let asked = c.args.asked.now in
-    let old = c.loop-at.found in
+    let old = c.loop-number.found in
     let a = c.args.label in
-    let n = c.loop-at.at in
-    let m = c.nth-step.result in
-    let item = c.nth-step.ensures.item in
-    let P : List ℕ → Type 0 = λ t. HasFoundUpto moves lanes asked t a (n + 1) in
+    let n = c.loop-number.number in
+    let m = c.seen_at-step.result in
+    let item = c.seen_at-step.ensures.seen in
+    let P : List ℕ → Type 0 = λ t. HasLanesUpto steps lanes asked t A.states a (n + 1) in
     elim c.if-step-label.branch [
       | then-step-label+then-has_bit b ↦
           subst P (sym b.found-is)
-          (found_more moves lanes asked old b.or_into.new.into a n c.loop-at.invariant m item b.if-step-label.true (sym b.has_bit.ensures ∙ b.if-has_bit.true)
-          (λ j j_in. b.or_into.ensures j ∙ ap (λ x. bit_of old j || x) (b.row_at.ensures.bits j j_in)))
+          (lanes_more steps lanes asked old b.or_row.new.table b.row_at-lane.result.now A.states a n c.loop-number.invariant m item b.if-step-label.true (sym b.has_bit.ensures ∙ b.if-has_bit.true)
+          b.row_at-lane.ensures.bits b.or_row.ensures.here b.or_row.ensures.others)
       | else-step-label b ↦
           subst P (sym b.found-is)
-          (found_passed moves lanes asked old a n c.loop-at.invariant m item (λ label bit. elim b.else-step-label.branch [
+          (lanes_passed steps lanes asked old A.states a n c.loop-number.invariant m item (λ label bit. elim b.else-step-label.branch [
             | else-step-label-via-then-step-label+else-has_bit v ↦ false≢true (sym v.if-has_bit.false ∙ v.has_bit.ensures ∙ bit)
             | else-step-label-via-else-step-label v ↦ v.if-step-label.false label
           ]))
@@ -36,5 +40,5 @@ pub returns : goal.returns
 returns g c =
     let A = c.args.automaton.now in
     let s = c.args.side.now in
-    let count : c.loop-at.at ≡ length (g.S.Side.list s A c.args.q) = omega (arith, c.moves-at-end.ensures) in
-    found_all (g.S.Side.goes s A) (g.S.Side.list s A c.args.q) c.args.lanes.now c.args.asked.now c.loop-at.found c.args.label c.loop-at.at c.args.q (g.met.S.Side.lists s A c.args.q) c.loop-at.invariant count
+    let all : c.loop-number.number ≡ length A.transitions = search rules in
+    lanes_all (g.S.Side.goes s A) (g.S.Side.seen s) A.transitions c.args.lanes.now c.args.asked.now c.loop-number.found A.states c.args.label c.loop-number.number (g.met.S.Side.sees s A) c.loop-number.invariant all

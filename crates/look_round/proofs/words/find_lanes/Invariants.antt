@@ -1,5 +1,8 @@
-use Rattle.look_round.proofs.LaneLemmas.{HasFoundUpto}
+use Rattle.std.proofs.Common.{get_or}
+use Rattle.auto_core.specs.Automaton.{trans}
+use Rattle.look_round.proofs.LaneLemmas.{HasLanesUpto}
 use Rattle.look_round.proofs.words.find_lanes.Given as goal
 
-abbrev pub invariant-loop-at : goal.invariant-loop-at
-invariant-loop-at g l = HasFoundUpto (g.S.Side.list l.side l.automaton l.q) l.lanes l.asked l.found l.label l.at
+abbrev pub invariant-loop-number : goal.invariant-loop-number
+invariant-loop-number g l =
+    HasLanesUpto (λ i. g.S.Side.seen l.side (get_or l.automaton.transitions i (trans 0 0 0))) l.lanes l.asked l.found l.automaton.states l.label l.number

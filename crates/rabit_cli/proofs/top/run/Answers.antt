@@ -43,7 +43,7 @@ returns-clause-complete g c single = let words = map (string_bytes {Z = Global})
 pub returns-clause-batch : goal.returns-clause-batch
 returns-clause-batch g c =
     let words = map (string_bytes {Z = Global}) c.args.words.now in
-    batches _ _ _ _ _ _ _ _ _ _ _ (question_of words) c.carry_out.ensures.carried _ _ _ _ (shelf_counts (g.H.Shelf.begins c.args.shelf.now) (g.H.Shelf.put_calls c.args.shelf.now) (g.H.Shelf.faults c.args.shelf.now) (g.H.Shelf.put_faults c.args.shelf.now) (g.H.Shelf.blamed c.args.shelf.now)) (shelf_counts (g.H.Shelf.begins c.carry_out.new.shelf) (g.H.Shelf.put_calls c.carry_out.new.shelf) (g.H.Shelf.faults c.carry_out.new.shelf) (g.H.Shelf.put_faults c.carry_out.new.shelf) (g.H.Shelf.blamed c.carry_out.new.shelf)) c.carry_out.ensures.given_once c.carry_out.ensures.put_once c.carry_out.ensures.missing c.carry_out.ensures.begun_in_turn c.carry_out.ensures.blames
+    batches _ _ _ _ _ _ _ _ _ _ _ (question_of words) c.carry_out.ensures.carried _ _ _ _ (shelf_counts (g.H.Shelf.begins c.args.shelf.now) (g.H.Shelf.put_calls c.args.shelf.now) (g.H.Shelf.faults c.args.shelf.now) (g.H.Shelf.put_faults c.args.shelf.now) (g.H.Shelf.blamed c.args.shelf.now)) (shelf_counts (g.H.Shelf.begins c.carry_out.new.shelf) (g.H.Shelf.put_calls c.carry_out.new.shelf) (g.H.Shelf.faults c.carry_out.new.shelf) (g.H.Shelf.put_faults c.carry_out.new.shelf) (g.H.Shelf.blamed c.carry_out.new.shelf)) c.carry_out.ensures.given_once c.carry_out.ensures.put_once c.carry_out.ensures.missing c.carry_out.ensures.begun
 
 pub returns-in-Some-clause-carried : goal.returns-in-Some-clause-carried
 returns-in-Some-clause-carried g c single =
@@ -136,22 +136,8 @@ returns-in-Some-clause-given_once g c single =
     let is : question_of words ≡ Some (Batch c.in-Some.list.now) = batch_found c.question.result question c.in-Some.list.now words held batch c.question.ensures.asked in
     absurd (subst IsSingle is single)
 
-pub returns-in-Some-clause-begun_in_turn : goal.returns-in-Some-clause-begun_in_turn
-returns-in-Some-clause-begun_in_turn g c single =
-    let words = map (string_bytes {Z = Global}) c.args.words.now in
-    let (question, held, batch) = c.in-Some.ensures in
-    let is : question_of words ≡ Some (Batch c.in-Some.list.now) = batch_found c.question.result question c.in-Some.list.now words held batch c.question.ensures.asked in
-    absurd (subst IsSingle is single)
-
-pub returns-in-Some-clause-all_begun : goal.returns-in-Some-clause-all_begun
-returns-in-Some-clause-all_begun g c single low =
-    let words = map (string_bytes {Z = Global}) c.args.words.now in
-    let (question, held, batch) = c.in-Some.ensures in
-    let is : question_of words ≡ Some (Batch c.in-Some.list.now) = batch_found c.question.result question c.in-Some.list.now words held batch c.question.ensures.asked in
-    absurd (subst IsSingle is single)
-
-pub returns-in-Some-clause-blames : goal.returns-in-Some-clause-blames
-returns-in-Some-clause-blames g c single six =
+pub returns-in-Some-clause-begun : goal.returns-in-Some-clause-begun
+returns-in-Some-clause-begun g c single =
     let words = map (string_bytes {Z = Global}) c.args.words.now in
     let (question, held, batch) = c.in-Some.ensures in
     let is : question_of words ≡ Some (Batch c.in-Some.list.now) = batch_found c.question.result question c.in-Some.list.now words held batch c.question.ensures.asked in
@@ -192,7 +178,7 @@ returns-in-Some-clause-batch g c =
 pub returns-clause-complete_batch : goal.returns-clause-complete_batch
 returns-clause-complete_batch g c =
     let words = map (string_bytes {Z = Global}) c.args.words.now in
-    answers_batches _ _ _ _ _ _ _ _ _ _ _ (question_of words) c.carry_out.ensures.carried _ _ _ _ (shelf_counts (g.H.Shelf.begins c.args.shelf.now) (g.H.Shelf.put_calls c.args.shelf.now) (g.H.Shelf.faults c.args.shelf.now) (g.H.Shelf.put_faults c.args.shelf.now) (g.H.Shelf.blamed c.args.shelf.now)) (shelf_counts (g.H.Shelf.begins c.carry_out.new.shelf) (g.H.Shelf.put_calls c.carry_out.new.shelf) (g.H.Shelf.faults c.carry_out.new.shelf) (g.H.Shelf.put_faults c.carry_out.new.shelf) (g.H.Shelf.blamed c.carry_out.new.shelf)) c.carry_out.ensures.given_once c.carry_out.ensures.put_once c.carry_out.ensures.missing c.carry_out.ensures.begun_in_turn c.carry_out.ensures.blames
+    answers_batches _ _ _ _ _ _ _ _ _ _ _ (question_of words) c.carry_out.ensures.carried _ _ _ _ (shelf_counts (g.H.Shelf.begins c.args.shelf.now) (g.H.Shelf.put_calls c.args.shelf.now) (g.H.Shelf.faults c.args.shelf.now) (g.H.Shelf.put_faults c.args.shelf.now) (g.H.Shelf.blamed c.args.shelf.now)) (shelf_counts (g.H.Shelf.begins c.carry_out.new.shelf) (g.H.Shelf.put_calls c.carry_out.new.shelf) (g.H.Shelf.faults c.carry_out.new.shelf) (g.H.Shelf.put_faults c.carry_out.new.shelf) (g.H.Shelf.blamed c.carry_out.new.shelf)) c.carry_out.ensures.given_once c.carry_out.ensures.put_once c.carry_out.ensures.missing c.carry_out.ensures.begun
 
 pub returns-in-Some-clause-complete_batch : goal.returns-in-Some-clause-complete_batch
 returns-in-Some-clause-complete_batch g c =

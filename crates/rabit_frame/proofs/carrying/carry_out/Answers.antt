@@ -1,5 +1,5 @@
 use Rattle.std.proofs.Common.{inl, inr}
-use Rattle.rabit_frame.proofs.EndLemmas.{says_each, shows_reply, shows_result, says_at_write_fault, puts_by_status}
+use Rattle.rabit_frame.proofs.EndLemmas.{says_each, shows_reply, shows_result, says_at_write_fault, puts_by_status, begun_by_status}
 use Rattle.rabit_frame.proofs.carrying.carry_out.Goals as goal
 
 pub returns-clause-exact : goal.returns-clause-exact
@@ -16,3 +16,6 @@ returns-clause-at_write_fault g c seven = says_at_write_fault _ _ _ _ _ _ _ _ _ 
 
 pub returns-clause-put_once : goal.returns-clause-put_once
 returns-clause-put_once g c = puts_by_status _ _ _ _ _ c.ending_of-ending.result _ c.ending_of-ending.ensures.put_once (elim c.say.ensures.said [ inl whole ↦ inl whole.0 | inr front ↦ inr front.0 ])
+
+pub returns-clause-begun : goal.returns-clause-begun
+returns-clause-begun g c = begun_by_status _ _ _ _ _ c.ending_of-ending.result _ c.ending_of-ending.ensures.begun (elim c.say.ensures.said [ inl whole ↦ inl whole.0 | inr front ↦ inr front.0 ])

@@ -1,6 +1,6 @@
 use Rattle.std.proofs.Common.{inl, refl}
 use Rattle.rabit_frame.specs.declared.parts.Ending.TheVariants as ending
-use Rattle.rabit_frame.proofs.EndLemmas.{puts_by_status}
+use Rattle.rabit_frame.proofs.EndLemmas.{puts_by_status, begun_by_status}
 use Rattle.rabit_frame.proofs.carrying.carry_out_unsaid.Goals as goal
 
 pub returns-in-Reached-clause-put_once : goal.returns-in-Reached-clause-put_once
@@ -14,3 +14,6 @@ returns-in-WriteFault-clause-put_once g c = puts_by_status _ _ _ _ _ ending.Writ
 
 pub returns-in-OutOfMemory-clause-put_once : goal.returns-in-OutOfMemory-clause-put_once
 returns-in-OutOfMemory-clause-put_once g c = puts_by_status _ _ _ _ _ ending.OutOfMemory 8 c.in-OutOfMemory.ensures.put_once (inl refl)
+
+pub returns-in-Reached-clause-begun : goal.returns-in-Reached-clause-begun
+returns-in-Reached-clause-begun g c = begun_by_status _ _ _ _ _ (ending.Reached c.in-Reached.reply) _ c.in-Reached.ensures.begun (inl c.number.ensures)

@@ -1,10 +1,11 @@
-use Rattle.std.proofs.Common.{inl, inr, arith, sym, ◌≡◌, ◌≤◌, ◌∙◌, ℕ, List, length, rules, subst, Option, OnErr}
+use Rattle.std.proofs.Common.{sym, ◌≡◌, ◌≤◌, ◌∙◌, ℕ, List, length, rules, subst, Option, OnErr}
 use Rattle.rabit_frame.specs.Files.{Output}
 use Rattle.shelf_io.specs.Shelf.{FileMap}
 use Rattle.shelf_io.specs.Counts.{Rose}
-use Rattle.rabit_frame.specs.Reading.{AllBegun}
+use Rattle.rabit_frame.specs.Statuses.{status_number}
 use Rattle.rabit_frame.specs.Ending.{BeforeAndAfter, filed, IsCutShort, PutEach, PutFront}
-use Rattle.rabit_frame.proofs.EndLemmas.{may_plain, on_error, ends_unread, ends_refused, ends_reached, ends_cut}
+use Rattle.rabit_frame.specs.Carrying.{BegunByStatus}
+use Rattle.rabit_frame.proofs.EndLemmas.{on_error, ends_unread, ends_refused, ends_reached, ends_cut, begun_reached, begun_cut, begun_unread, begun_refused}
 use Rattle.rabit_frame.proofs.carrying.ending_of.Goals as goal
 
 pub returns-in-Err-ReadFault-clause-ends : goal.returns-in-Err-ReadFault-clause-ends
@@ -42,16 +43,6 @@ returns-clause-ends g c =
     let none = w.faults_stay ∙ e.no_read_fault (λ is. cc) in
     ends_cut _ _ held between held' _ _ _ _ c.in-Ok.reply e.right e.may e.files_stay (subst P c.as_slice.ensures (failed _ w.cut)) (subst Q c.as_slice.ensures (failed _ w.some)) none (subst R e.puts_stay (failed _ w.failed))
 
--- a reply with a status up to 2 is one to all files
-pub returns-in-Ok-put_all-clause-all_begun : goal.returns-in-Ok-put_all-clause-all_begun
-returns-in-Ok-put_all-clause-all_begun g c low =
-    let w = c.in-Ok-put_all.ensures in
-    let begins = g.H.Shelf.begins c.args.shelf.now in
-    elim c.in-Ok.ensures.all_begun [
-      | inl stop ↦ absurd (let high = (may_plain _ _ stop).0 in omega arith)
-      | inr all ↦ subst (AllBegun (g.W.Work.inputs c.args.work.now) begins) (sym w.begins_stay) all
-    ]
-
 pub returns-in-Ok-put_all-clause-put_once : goal.returns-in-Ok-put_all-clause-put_once
 returns-in-Ok-put_all-clause-put_once g c =
     let e = c.in-Ok.ensures in
@@ -75,3 +66,28 @@ returns-in-Err-ReadFault-clause-put_once g c = c.in-Err-ReadFault.ensures.put_ca
 
 pub returns-in-Err-OutOfMemory-clause-put_once : goal.returns-in-Err-OutOfMemory-clause-put_once
 returns-in-Err-OutOfMemory-clause-put_once g c = c.in-Err-OutOfMemory.ensures.put_calls_stay
+
+pub returns-in-Ok-put_all-clause-begun : goal.returns-in-Ok-put_all-clause-begun
+returns-in-Ok-put_all-clause-begun g c =
+    let e = c.in-Ok.ensures in
+    let inputs = g.W.Work.inputs c.args.work.now in
+    let held : Option FileMap = g.H.Shelf.held c.args.shelf.now in
+    let before : ℕ = g.H.Shelf.begins c.args.shelf.now in
+    let P : ℕ → Type 0 = λ n. BegunByStatus inputs (status_number c.in-Ok.reply.status) held (g.H.Shelf.blamed c.put_all.new.shelf) before n in
+    subst P (sym c.in-Ok-put_all.ensures.begins_stay) (begun_reached _ _ _ _ _ c.in-Ok.reply e.all_begun e.begun_for_reply)
+
+pub returns-clause-begun : goal.returns-clause-begun
+returns-clause-begun g c =
+    let inputs = g.W.Work.inputs c.args.work.now in
+    let held : Option FileMap = g.H.Shelf.held c.args.shelf.now in
+    let before : ℕ = g.H.Shelf.begins c.args.shelf.now in
+    let failed = λ (P : Type 0) (h : OnErr c.put_all.result P). on_error P c.put_all.result c.in-Err._failed c.in-Err.is h in
+    let P : ℕ → Type 0 = λ n. BegunByStatus inputs 7 held (g.H.Shelf.blamed c.put_all.new.shelf) before n in
+    let Q : List Output → Type 0 = λ ps. 1 ≤ length ps in
+    subst P (sym c.put_all.ensures.begins_stay) (begun_cut _ _ _ _ _ c.in-Ok.reply c.in-Ok.ensures.all_begun (subst Q c.as_slice.ensures (failed _ c.put_all.ensures.some)))
+
+pub returns-in-Err-ReadFault-clause-begun : goal.returns-in-Err-ReadFault-clause-begun
+returns-in-Err-ReadFault-clause-begun g c = begun_unread _ _ _ _ _ (c.in-Err-ReadFault.ensures.begun_to_blamed (search rules))
+
+pub returns-in-Err-OutOfMemory-clause-begun : goal.returns-in-Err-OutOfMemory-clause-begun
+returns-in-Err-OutOfMemory-clause-begun g c = begun_refused _ _ _ _ _ c.in-Err-OutOfMemory.ensures.begun_in_turn

@@ -13,7 +13,7 @@ returns-clause-after c =
       greatest = (
         c.in_ok-ranks.ranks.triples,
         ranks.greatest,
-        related_pairs c.args.automaton.now c.args.sight.letters c.in_ok-ranks.ranks c.in_ok-rel.rel.pairs ranks.size ranks.labels ranks.letters ranks.greatest c.in_ok-rel.ensures.pairs,
+        related_pairs c.args.automaton.now c.args.sight.letters c.in_ok-ranks.ranks c.in_ok-rel.rel.pairs ranks.states ranks.labels ranks.letters ranks.greatest c.in_ok-rel.ensures.pairs,
       );
       joined = c.in_ok-joined.ensures.joined;
       quotient = c.in_ok-joined.ensures.quotient;
@@ -26,13 +26,13 @@ returns-clause-entry c =
     let found = c.in_ok-ranks.ranks in
     let ranks = c.in_ok-ranks.ensures in
     let rel = c.in_ok-rel.rel in
-    let same = related_pairs A n found rel.pairs ranks.size ranks.labels ranks.letters ranks.greatest c.in_ok-rel.ensures.pairs in (
+    let same = related_pairs A n found rel.pairs ranks.states ranks.labels ranks.letters ranks.greatest c.in_ok-rel.ensures.pairs in (
       found,
       c.in_ok-joined.joined.classes,
       refl,
       record {
         valid = ranks.valid;
-        on_states = ranks.size;
+        on_states = ranks.states;
         on_labels = ranks.labels;
         announced = ranks.letters;
         greatest = ranks.greatest;

@@ -1,7 +1,7 @@
 use Rattle.std.proofs.Common.{◌≡◌, ◌+◌, ◌<◌, ◌++◌, ◌∷◌, [], List, ℕ, length, ◌==◌, refl, sym, ap, ◌∙◌, subst, arith}
 use Rattle.std.proofs.lemmas.Bool.{eqb-true}
 use Rattle.cert_value.specs.declared.types.Row.{Row}
-use Rattle.cert_text.specs.Lines.{joined_runs}
+use Rattle.cert_line.specs.Lines.{joined_runs}
 use Rattle.relation_rows.specs.Rows.{HoldsFrom, AreRows}
 use Rattle.relation_rows.proofs.RowLemmas.{rows_more, rows_same, some_from_test}
 use Rattle.relation_rows.proofs.rows.rows_of.Goals.{then-not-is_empty+in_ok-runs+in_ok-push, else-not-is_empty}

@@ -1,4 +1,4 @@
-use Rattle.std.proofs.Common.{◌+◌, ◌<◌, ◌++◌, length-append, length-take, take, arith, rules}
+use Rattle.std.proofs.Common.{◌+◌, ◌<◌, ◌≤◌, ◌++◌, length, length-append, length-take, take, subst, append_assoc, arith, rules}
 use Rattle.shelf_io.proofs.LoadLemmas.{Consumes-append, passes}
 use Rattle.shelf_io.proofs.pouring.pour_rest.Goals as goal
 
@@ -18,7 +18,8 @@ pub pieces-preserved : goal.pieces-preserved
 pieces-preserved g c =
     let i = c.pieces.invariant in
     let (bytes, given, many, eaten) = i.5 in
-    let piece = take c.in_ok-count.count c.take.new.buf in (
+    let piece = take c.in_ok-count.count c.take.new.buf in
+    let long : length piece ≤ c.in_ok-count.count = omega (arith, length-take c.in_ok-count.count c.take.new.buf) in (
       search rules,
       search rules,
       search rules,
@@ -28,7 +29,8 @@ pieces-preserved g c =
         bytes ++ piece,
         Consumes-append _ _ _ bytes piece given c.in_ok-count.ensures.moves.0,
         grind (arith, length-append, length-take),
-        g.met.E.Eat.eats_more c.args.eater.now c.pieces.eater c.feed.new.self bytes piece eaten c.in_ok-feed.ensures.eaten,
+        λ terms before room. subst (g.E.Eat.eaten terms c.feed.new.self) (append_assoc before bytes piece)
+            (c.in_ok-feed.ensures.eaten terms (before ++ bytes) (eaten terms before room, omega (arith, room.1, length-append before bytes, many, long, c.if-cap-fed.false, i.2))),
       ),
       search rules,
       search rules,

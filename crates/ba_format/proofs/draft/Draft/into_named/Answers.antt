@@ -4,8 +4,8 @@ use Rattle.ba_format.specs.Faults.{names_of, labels_of, transitions_of, acceptin
 use Rattle.ba_format.proofs.NamedLemmas.{parts_of, initial_zero, opens_some, transitions_given, accepting_given}
 use Rattle.ba_format.proofs.draft.Draft.into_named.Goals as goal
 
-pub built-requires : goal.built-requires
-built-requires c =
+pub of_parts-requires : goal.of_parts-requires
+of_parts-requires c =
     let draft = c.args.self in
     let entries = c.requires.entries in
     let s = c.requires.stands in

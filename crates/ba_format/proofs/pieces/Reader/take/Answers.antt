@@ -1,22 +1,22 @@
 use Rattle.std.proofs.Common.{◌≡◌, ◌∙◌, ◌++◌, Result, Err, MatchResult, sym, ap, subst, rules}
 use Rattle.std.specs.List.{before_first}
-use Rattle.ba_format.specs.Grammar.{is_newline}
+use Rattle.text_lines.specs.Cut.{is_newline, IsUnfinished}
 use Rattle.ba_format.specs.declared.parts.Limits.{Limits}
 use Rattle.ba_format.specs.declared.parts.ReadFault.{ReadFault}
-use Rattle.ba_format.specs.Pieces.{IsUnfinished, AreTaken, TellsFirstFault}
-use Rattle.ba_format.proofs.PieceLemmas.{has_on, unfinished_on, before_on, after_on}
+use Rattle.ba_format.specs.Pieces.{AreTaken, TellsFirstFault}
+use Rattle.text_lines.proofs.CutLemmas.{has_on, unfinished_on, before_on, after_on}
 use Rattle.ba_format.proofs.pieces.Reader.take.Goals as goal
 
 pub returns-in_default-clause-taken : goal.returns-in_default-clause-taken
 returns-in_default-clause-taken c = λ text u short none.
     let is = c.in_ok-extend_from_slice.ensures.items in
-    (subst (AreTaken c.args.self.now.lines text) (sym is) u, subst IsUnfinished (sym is) (unfinished_on c.args.self.now.line.items c.args.piece.now none c.in_default.ensures))
+    (subst (AreTaken c.args.self.now.lines text) (sym is) u, subst IsUnfinished (sym is) (unfinished_on c.args.self.now.line.items c.args.piece.now none c.in_default.ensures.cut))
 
 pub returns-in_err-take-clause-taken : goal.returns-in_err-take-clause-taken
 returns-in_err-take-clause-taken c = λ text u short none.
     let line = c.args.self.now.line.items in
     let piece = c.args.piece.now in
-    let (has, first, after) = c.in-Some.ensures in
+    let (has, first, after) = c.in-Some.ensures.first in
     let is : c.as_slice.result.now ≡ before_first is_newline (line ++ piece) =
     c.as_slice.ensures.value ∙ c.in_ok-extend_from_slice-2.ensures.items ∙ ap (λ l. line ++ l) first ∙ sym (before_on line piece none) in
     let e : c.from_residual-in_err-take.result ≡ Err c.in_err-take.field-0.0 = search rules in
@@ -27,7 +27,7 @@ pub returns-clause-taken : goal.returns-clause-taken
 returns-clause-taken c = λ text u short none.
     let line = c.args.self.now.line.items in
     let piece = c.args.piece.now in
-    let (has, first, after) = c.in-Some.ensures in
+    let (has, first, after) = c.in-Some.ensures.first in
     let is : c.as_slice.result.now ≡ before_first is_newline (line ++ piece) =
     c.as_slice.ensures.value ∙ c.in_ok-extend_from_slice-2.ensures.items ∙ ap (λ l. line ++ l) first ∙ sym (before_on line piece none) in
     let taken = c.in_ok-take.ensures.taken text (line ++ piece) u short (has_on line piece none has) is in

@@ -1,6 +1,6 @@
 use Rattle.std.proofs.Common.{◌≡◌, ◌==◌, length, false, Err, refl, subst}
 use Rattle.cert_text.specs.declared.faults.CertReadFault.TheVariants.{Text}
-use Rattle.cert_text.specs.declared.faults.TextKind.TheVariants.{Trailing}
+use Rattle.cert_line.specs.declared.faults.TextKind.TheVariants.{Trailing}
 use Rattle.cross_text.specs.Reads.{Left, Ends}
 use Rattle.cross_text.proofs.ReadsLemmas.{over_one}
 use Rattle.cross_text.proofs.lines.Lines.finish.Goals as goal

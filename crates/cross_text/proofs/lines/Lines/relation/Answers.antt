@@ -1,7 +1,7 @@
 use Rattle.std.proofs.Common.{[]}
 use Rattle.std.proofs.lemmas.Result.{err_from_is_err_and}
 use Rattle.cert_value.specs.declared.keywords.Keyword.TheVariants as keyword
-use Rattle.cert_text.specs.Lines.{number_in}
+use Rattle.cert_line.specs.Lines.{number_in}
 use Rattle.cert_text.specs.Grammar.{next_line, read_rows}
 use Rattle.cross_text.proofs.ReadsLemmas.{then_reads, first_stops}
 use Rattle.cross_text.proofs.lines.Lines.relation.Goals as goal

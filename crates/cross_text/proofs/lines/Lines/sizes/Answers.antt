@@ -1,7 +1,7 @@
 use Rattle.std.proofs.Common.{Err, sym, ap, subst}
 use Rattle.std.proofs.lemmas.Result.{err_from_is_err_and}
-use Rattle.cert_text.specs.declared.lines.Sizes.{Sizes}
-use Rattle.cert_text.specs.Lines.{sizes_in}
+use Rattle.cert_line.specs.declared.lines.Sizes.{Sizes}
+use Rattle.cert_line.specs.Lines.{sizes_in}
 use Rattle.cert_value.specs.Tokens.{tokens_of}
 use Rattle.cert_text.specs.declared.faults.CertReadFault.{CertReadFault}
 use Rattle.cert_text.specs.Grammar.{next_line}

@@ -1,6 +1,6 @@
 use Rattle.std.proofs.Common.{◌≡◌, ℕ, ◌-◌, ◌<◌, ◌≤◌, Option, None, List, [], length, take, Contains, sym, ap, ◌∙◌, subst, arith}
 use Rattle.std.proofs.lemmas.List.{get_or_default}
-use Rattle.auto_core.specs.Delayed.{AreAnnounced}
+use Rattle.auto_core.specs.Delayed.{IsTripleWord}
 use Rattle.delayed_sim.specs.declared.entries.Entry.{Entry}
 use Rattle.delayed_sim.specs.declared.delayed.RankedTriple.{RankedTriple}
 use Rattle.delayed_sim.specs.Rankings.{Triple, ranked_triple, AreTriplesGiven}
@@ -8,16 +8,16 @@ use Rattle.delayed_sim.specs.Stored.{entry_triples, IsPutIn}
 use Rattle.delayed_sim.proofs.BuildLemmas.{IsFilled, given, filled_none, filled_more, filled_lacks, filled_all, filled_range}
 use Rattle.delayed_sim.proofs.delayed.Delayed.build.Goals as goal
 
--- The letters of a given triple are announced.
-given_letters : (states labels n : ℕ) (triples : List RankedTriple) (i : ℕ) → AreTriplesGiven states labels n triples → i < length triples → AreAnnounced labels n (given triples i).ahead
+-- The word of a given triple is one.
+given_letters : (states labels n : ℕ) (triples : List RankedTriple) (i : ℕ) → AreTriplesGiven states labels n triples → i < length triples → IsTripleWord labels n (given triples i).ahead
 given_letters states labels n triples i range i_in =
     let x = given triples i in
     (range x.left x.ahead x.right x.rank (i, i_in, get_or_default triples i x (ranked_triple 0 [] 0 None) i_in)).0
 
 -- The first letters of the three are those.
-first_letters : (labels n : ℕ) (b word : List ℕ) → AreAnnounced labels n b → take (length b) word ≡ b → take (n - 1) word ≡ b
-first_letters labels n b word announced is =
-    let len = announced.0 in
+first_letters : (labels n : ℕ) (b word : List ℕ) → IsTripleWord labels n b → take (length b) word ≡ b → take (n - 1) word ≡ b
+first_letters labels n b word is_word is =
+    let len = is_word.0 in
     let count : n - 1 ≡ length b = omega arith in
     ap (λ i. take i word) count ∙ is
 
@@ -32,8 +32,8 @@ entry_with p word q o = record { left = p; ahead = word; right = q; rank = o }
 
 pub padded-requires : goal.padded-requires
 padded-requires c =
-    let announced = given_letters c.args.states c.args.labels c.args.letters c.args.triples.now c.loop-i.i c.requires.in_range c.loop-i-test.true in
-    let len = announced.0 in
+    let is_word = given_letters c.args.states c.args.labels c.args.letters c.args.triples.now c.loop-i.i c.requires.in_range c.loop-i-test.true in
+    let len = is_word.0 in
     let upto = c.requires.upto in
     let same : c.index-triples-i.result ≡ given c.args.triples.now c.loop-i.i = c.index-triples-i.is ∙ get_or_default c.args.triples.now c.loop-i.i c.index-triples-i.result (ranked_triple 0 [] 0 None) c.loop-i-test.true in
     omega (arith, ap (λ (l : List ℕ). length l) c.as_slice.ensures, ap (λ (x : RankedTriple). length x.ahead) same)
@@ -53,8 +53,8 @@ put_in-requires-clause-lacks c = λ rank has.
     let word = c.padded.result in
     let same : c.index-triples-i.result ≡ x = c.index-triples-i.is ∙ get_or_default c.args.triples.now c.loop-i.i c.index-triples-i.result (ranked_triple 0 [] 0 None) c.loop-i-test.true in
     let T = entry_triples n c.loop-i.held.items in
-    let announced = given_letters c.args.states c.args.labels n triples i c.requires.in_range c.loop-i-test.true in
-    let letters : take (n - 1) word ≡ x.ahead = first_letters c.args.labels n x.ahead word announced (subst (λ (l : List ℕ). take (length l) word ≡ l) (c.as_slice.ensures ∙ ap (λ (y : RankedTriple). y.ahead) same) c.padded.ensures) in
+    let is_word = given_letters c.args.states c.args.labels n triples i c.requires.in_range c.loop-i-test.true in
+    let letters : take (n - 1) word ≡ x.ahead = first_letters c.args.labels n x.ahead word is_word (subst (λ (l : List ℕ). take (length l) word ≡ l) (c.as_slice.ensures ∙ ap (λ (y : RankedTriple). y.ahead) same) c.padded.ensures) in
     filled_lacks triples i T rank c.requires.different c.loop-i-test.true c.loop-i.invariant (subst (λ (b : List ℕ). Contains T (x.left, b, x.right, rank)) letters
     (subst (λ (z : RankedTriple). Contains T (z.left, take (n - 1) word, z.right, rank)) same has))
 
@@ -66,8 +66,8 @@ loop-i-preserved c =
     let x = given triples i in
     let word = c.padded.result in
     let same : c.index-triples-i.result ≡ x = c.index-triples-i.is ∙ get_or_default c.args.triples.now c.loop-i.i c.index-triples-i.result (ranked_triple 0 [] 0 None) c.loop-i-test.true in
-    let announced = given_letters c.args.states c.args.labels n triples i c.requires.in_range c.loop-i-test.true in
-    let letters : take (n - 1) word ≡ x.ahead = first_letters c.args.labels n x.ahead word announced (subst (λ (l : List ℕ). take (length l) word ≡ l) (c.as_slice.ensures ∙ ap (λ (y : RankedTriple). y.ahead) same) c.padded.ensures) in
+    let is_word = given_letters c.args.states c.args.labels n triples i c.requires.in_range c.loop-i-test.true in
+    let letters : take (n - 1) word ≡ x.ahead = first_letters c.args.labels n x.ahead word is_word (subst (λ (l : List ℕ). take (length l) word ≡ l) (c.as_slice.ensures ∙ ap (λ (y : RankedTriple). y.ahead) same) c.padded.ensures) in
     let e : Entry = entry_with x.left word x.right x.rank in
     filled_more n triples i c.loop-i.held.items c.put_in.new.entries.items e c.loop-i.invariant (with_letters x.left (take (n - 1) word) x.ahead x.right x.rank letters)
     (subst (λ (z : RankedTriple). IsPutIn n c.loop-i.held.items c.put_in.new.entries.items (entry_with z.left word z.right z.rank)) same c.in_ok-put_in.ensures)

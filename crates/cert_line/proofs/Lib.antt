@@ -1,0 +1,9 @@
+pub mod ShapeLemmas
+pub mod PairLemmas
+pub mod NumberFacts
+pub mod StraightLemmas
+pub mod ShapeFacts
+pub mod RunFacts
+pub mod LineFacts
+pub mod HeadFacts
+pub mod OriginFacts

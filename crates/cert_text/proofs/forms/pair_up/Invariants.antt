@@ -1,9 +1,0 @@
-use Rattle.std.proofs.Common.{◌≡◌, length}
-use Rattle.cert_text.specs.Forms.{pair_up}
-use Rattle.cert_text.proofs.forms.pair_up.Given as goal
-
-abbrev pub invariant-loop-first : goal.invariant-loop-first
-invariant-loop-first l = pair_up l.tokens ≡ pair_up l.fn.all
-
-abbrev pub decreases-loop-first : goal.decreases-loop-first
-decreases-loop-first l = length l.tokens

@@ -1,8 +1,0 @@
-use Rattle.std.proofs.Common.{◌≡◌, ◌++◌, ◌-◌, map, take}
-use Rattle.cert_value.specs.Tokens.{tokens_of}
-use Rattle.cert_text.specs.Forms.{values_from, value}
-use Rattle.cert_text.proofs.forms.values_in.Given as goal
-
-abbrev pub invariant-loop-value : goal.invariant-loop-value
-invariant-loop-value l =
-    l.values ++ take (l.fn.count - l._value) (map value l.tokens) ≡ take l.fn.count (values_from l.fn.number (tokens_of l.fn.line))

@@ -1,5 +1,0 @@
-use Rattle.delayed_sim.proofs.BoardLemmas.{HasRowsOf}
-use Rattle.delayed_sim.proofs.board.Board.of_relation.Given as goal
-
-abbrev pub invariant-loop-x : goal.invariant-loop-x
-invariant-loop-x l = HasRowsOf l.rel l.words l.table.items l.width l.x

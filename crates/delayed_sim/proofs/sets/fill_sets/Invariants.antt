@@ -1,5 +1,0 @@
-use Rattle.delayed_sim.specs.Before.{IsSetTable}
-use Rattle.delayed_sim.proofs.sets.fill_sets.Given as goal
-
-abbrev pub invariant-loop-number : goal.invariant-loop-number
-invariant-loop-number l = IsSetTable l.automaton l.width l.number l.sets

@@ -1,5 +1,0 @@
-use Rattle.delayed_sim.proofs.SetLemmas.{set_digits}
-use Rattle.delayed_sim.proofs.sets.set_in.Goals as goal
-
-pub returns-clause-digits : goal.returns-clause-digits
-returns-clause-digits c = λ i i_in. set_digits c.args.ends.now c.args.four i i_in

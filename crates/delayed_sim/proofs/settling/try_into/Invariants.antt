@@ -1,7 +1,0 @@
-use Rattle.delayed_sim.specs.Settling.{IsPlaceUnderWay, Tries}
-use Rattle.delayed_sim.proofs.SettleLemmas.{HasAnswered}
-use Rattle.delayed_sim.proofs.settling.try_into.Given as goal
-
-abbrev pub invariant-loop-i : goal.invariant-loop-i
-invariant-loop-i l =
-    Tries l.places l.automaton l.fn.board l.board l.fn.marks l.marks l.any × IsPlaceUnderWay l.places l.automaton l.to l.ends l.board l.marks × HasAnswered l.places l.automaton l.to l.before l.board l.marks l.i

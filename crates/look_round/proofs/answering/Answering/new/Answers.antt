@@ -1,0 +1,30 @@
+use Rattle.std.proofs.Common.{◌≡◌, ℕ, ◌+◌, ◌<◌, ◌≤◌, inl, inr, sym, ◌∙◌, subst, arith}
+use Rattle.std.proofs.lemmas.Bool.{cases_eq}
+use Rattle.auto_core.specs.Game.{Holds}
+use Rattle.look_round.specs.Answering.{AreAnswersTo}
+use Rattle.look_round.proofs.AnsweringLemmas.{answers_kept}
+use Rattle.look_round.proofs.answering.Answering.new.Goals as goal
+
+pub loop-t-preserved : goal.loop-t-preserved
+loop-t-preserved g c =
+    let M = g.S.Side.goes c.args.side.now c.args.automaton.now in
+    let ok = g.S.Side.keeps c.args.side.now c.args.automaton.now in
+    let W = Holds c.args.rel.now.pairs in
+    let e = c.refresh.ensures in
+    let h = c.loop-t.invariant in
+    let kept = e.kept in
+    let upto = h.1 in (
+      e.width ∙ h.0,
+      omega arith,
+      λ p p_in p_kept. elim (cases_eq p c.loop-t.t) [
+        | inl same ↦ subst (λ x. AreAnswersTo M ok W c.refresh.new.self x) (sym same) (e.here (omega arith))
+        | inr apart ↦ answers_kept M ok W c.loop-t.made c.refresh.new.self p e.labels e.width (λ x x_in. e.others p x x_in apart) (h.2 p (omega arith) (omega arith))
+      ],
+    )
+
+pub returns : goal.returns
+returns g c =
+    let h = c.loop-t.invariant in
+    let upto = h.1 in
+    let count = c.states-count.ensures.count in
+    record { width = h.0; each = λ p p_kept. h.2 p (omega (arith, c.loop-t-test.false, c.loop-t.auto.t-end)) p_kept }
