@@ -1,0 +1,11 @@
+pub mod BlockList
+pub mod Segments
+pub mod Ownership
+pub mod SegmentLends
+pub mod Chunks
+pub mod Laid
+pub mod StoreLends
+pub mod PoolContents
+pub mod Links
+pub mod Backing
+pub mod PoolLends
