@@ -27,7 +27,7 @@ use Rattle.ba_format.proofs.NamedLemmas.{initial_zero, parts_of, within_limits}
 -- ---- putting different things in order
 
 -- Some order of the list in which R holds of each element and each later one.
-abbrev InOrder : {X : Type 0} → (X → X → Type 0) → List X → Type 0
+abbrev pub InOrder : {X : Type 0} → (X → X → Type 0) → List X → Type 0
 InOrder {X} R xs = (ys : List X) × IsPermutation xs ys × AllPairs R ys
 
 module _ {X : Type 0} (R : X → X → Type 0) where
@@ -54,7 +54,7 @@ module _ {X : Type 0} (R : X → X → Type 0) (chain : (x y z : X) → R x y �
         )
   ]
 
-  put_in_order : (xs : List X) → AllPairs (λ a b. a ≡ b → ⊥) xs → InOrder R xs
+  pub put_in_order : (xs : List X) → AllPairs (λ a b. a ≡ b → ⊥) xs → InOrder R xs
   put_in_order [] h = ([], IsPermutation-refl [], λ i j d lt short. absurd (omega arith))
   put_in_order (x ∷ xs) h =
       let rest = put_in_order xs (tail_pairs (λ a b. a ≡ b → ⊥) x xs h) in
@@ -65,16 +65,16 @@ module _ {X : Type 0} (R : X → X → Type 0) (chain : (x y z : X) → R x y �
       unlike : Contains xs x → ⊥
       unlike (k, lt, e) = head_pairs (λ a b. a ≡ b → ⊥) x xs h k x lt (sym e)
 
-different_from : {X : Type 0} (xs : List X) → (HasRepeat xs → ⊥) → AllPairs (λ a b. a ≡ b → ⊥) xs
+pub different_from : {X : Type 0} (xs : List X) → (HasRepeat xs → ⊥) → AllPairs (λ a b. a ≡ b → ⊥) xs
 different_from xs none i j d lt short e =
     let first : i < length xs = omega arith in
     none (i, j, (λ same. omega arith), first, short, λ d'. get_or_default xs i d' d first ∙ e ∙ get_or_default xs j d d' short)
 
-either_less : (a b : ℕ) → (a ≡ b → ⊥) → (a < b) ⊎ (b < a)
+pub either_less : (a b : ℕ) → (a ≡ b → ⊥) → (a < b) ⊎ (b < a)
 either_less a b n = elim (cases_lt a b) [ inl lt ↦ inl lt | inr le ↦ elim (cases_lt b a) [ inl lt ↦ inr lt | inr ge ↦ absurd (n (omega arith)) ] ]
 
 -- two different transitions: one stands before the other
-either_before : (t u : Trans) → (t ≡ u → ⊥) → IsBefore t u ⊎ IsBefore u t
+pub either_before : (t u : Trans) → (t ≡ u → ⊥) → IsBefore t u ⊎ IsBefore u t
 either_before t u n = elim (cases_eq t.source u.source) [
   | inr differ ↦ elim (either_less t.source u.source differ) [ inl lt ↦ inl (inl lt) | inr lt ↦ inr (inl lt) ]
   | inl s ↦ elim (cases_eq t.label u.label) [

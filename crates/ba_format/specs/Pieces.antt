@@ -52,5 +52,5 @@ abbrev pub HasRead : Reader → Limits → List ℕ → Type 0
 HasRead reader limits bytes = HasComeTo reader.progress reader.lines reader.line.items limits bytes
 
 -- The machine refused memory.
-abbrev pub WasRefused : Reader → Type 0
-WasRefused reader = reader.progress ≡ Refused
+abbrev pub ReaderLacksMemory : Reader → Type 0
+ReaderLacksMemory reader = reader.progress ≡ Refused

@@ -7,7 +7,7 @@ ghost use Rattle.ba_format.specs.declared.parts.BaFault.{BaFault as AFault};
 ghost use Rattle.ba_format.specs.declared.parts.Limits.{Limits as TheLimits};
 ghost use Rattle.ba_format.specs.Faults.{fault_of};
 ghost use Rattle.ba_format.specs.Reading.{Reads, IsWithinLimits};
-ghost use Rattle.ba_format.specs.Pieces.{AreTaken, TellsFirstFault, HasRead, WasRefused};
+ghost use Rattle.ba_format.specs.Pieces.{AreTaken, TellsFirstFault, HasRead, ReaderLacksMemory};
 
 use crate::draft::{Draft, Opening, Refusal};
 use crate::lines::trimmed;
@@ -175,9 +175,9 @@ impl Reader {
     /// answers want of memory from then on.
     pub fn feed(&mut self, piece: &[u8]) -> Result<(), Memory>
         ensures read { (limits : TheLimits) (bytes : List ℕ) → HasRead self.old limits bytes → length bytes + length piece.now ≤ 2 ^ 24 → HasRead self.new limits (bytes ++ piece.now) }
-        ensures refused { OnErr result (WasRefused self.new) }
-        ensures not_refused { OnOk result (WasRefused self.new → WasRefused self.old) }
-        ensures stays_refused { WasRefused self.old → IsErr result }
+        ensures refused { OnErr result (ReaderLacksMemory self.new) }
+        ensures not_refused { OnOk result (ReaderLacksMemory self.new → ReaderLacksMemory self.old) }
+        ensures stays_refused { ReaderLacksMemory self.old → IsErr result }
     {
         match self.progress {
             Progress::Faulty(_) => return Ok(()),
@@ -204,7 +204,7 @@ impl Reader {
         ensures within { (limits : TheLimits) (bytes : List ℕ) → HasRead self limits bytes → length bytes ≤ 2 ^ 24 → IfOk result (IsWithinLimits limits) }
         ensures fault { (limits : TheLimits) (bytes : List ℕ) → HasRead self limits bytes → length bytes ≤ 2 ^ 24 → (fault : AFault) → result ≡ Err (ReadFault.Ba fault) → fault_of bytes limits ≡ Some fault }
         ensures found { (limits : TheLimits) (bytes : List ℕ) → HasRead self limits bytes → length bytes ≤ 2 ^ 24 → (fault : AFault) → fault_of bytes limits ≡ Some fault → (result ≡ Err (ReadFault.Ba fault)) ⊎ (result ≡ Err ReadFault.Memory) }
-        ensures refused { WasRefused self → result ≡ Err ReadFault.Memory }
+        ensures refused { ReaderLacksMemory self → result ≡ Err ReadFault.Memory }
     {
         match self.progress {
             Progress::Faultless => self.lines.end(self.alloc, self.line.as_slice()),

@@ -10,16 +10,16 @@ use Rattle.cert_text.specs.declared.machine.State.{State}
 use Rattle.cert_text.specs.declared.machine.State.TheVariants as state
 use Rattle.cert_text.specs.declared.pieces.Lines.{Lines}
 use Rattle.cert_line.specs.Agrees.{Agrees}
-use Rattle.text_lines.specs.Cut.{is_newline, IsUnfinished, IsCut}
+use Rattle.text_lines.specs.Cut.{is_newline, IsUnfinished, IsLineCut}
 use Rattle.text_lines.proofs.CutLemmas.{none_in}
 use Rattle.cert_text.specs.Grammar.{lines_of, read_lines, reading, told_at, after}
 use Rattle.cert_text.specs.Told.{located}
 use Rattle.cert_text.specs.Machine.{step, at_end}
-use Rattle.cert_text.specs.Pieces.{Leads, AreTaken, TellsFirstFault}
+use Rattle.cert_text.specs.Pieces.{LeadsByLines, AreCertLinesTaken, TellsFirstCertFault}
 use Rattle.cert_text.proofs.ResumeState.{resume, state_law}
 use Rattle.cert_text.proofs.ReadLemmas.{stops, is_over}
 
-pub cut_lines : (text line rest more : List ℕ) → IsCut text line rest → lines_of (text ++ more) ≡ tokens_of line ∷ lines_of (rest ++ more)
+pub cut_lines : (text line rest more : List ℕ) → IsLineCut text line rest → lines_of (text ++ more) ≡ tokens_of line ∷ lines_of (rest ++ more)
 cut_lines text line rest more cut =
     ap (λ xs. lines_of (xs ++ more)) cut.1
     ∙ ap lines_of (append_assoc line (10 ∷ rest) more)
@@ -30,7 +30,7 @@ one_line line none = ap (λ parts. map tokens_of parts) (slice_split_none is_new
 
 -- the first line among the lines of the text
 pub first_lines : {X : Type 0} (bytes : List ℕ) (line rest : X → List ℕ) (r : Option X)
-    → MatchOption r (IsUnfinished bytes) (λ x. IsCut bytes (line x) (rest x))
+    → MatchOption r (IsUnfinished bytes) (λ x. IsLineCut bytes (line x) (rest x))
     → MatchOption r (lines_of bytes ≡ tokens_of bytes ∷ []) (λ x. lines_of bytes ≡ tokens_of (line x) ∷ lines_of (rest x))
 first_lines bytes line rest None none = one_line bytes none
 first_lines bytes line rest (Some x) cut =
@@ -38,12 +38,12 @@ first_lines bytes line rest (Some x) cut =
 
 -- ---- lines that lead on
 
-Leads-on : (s t u : State) (lines : List Line) (line : Line) → Leads s lines t → step t line ≡ Ok u → Leads s (lines ++ line ∷ []) u
-Leads-on s t u [] line same e = (u, ap (λ z. step z line) same ∙ e, refl)
-Leads-on s t u (l ∷ ls) line (next, first, later) e = (next, first, Leads-on next t u ls line later e)
+LeadsByLines-on : (s t u : State) (lines : List Line) (line : Line) → LeadsByLines s lines t → step t line ≡ Ok u → LeadsByLines s (lines ++ line ∷ []) u
+LeadsByLines-on s t u [] line same e = (u, ap (λ z. step z line) same ∙ e, refl)
+LeadsByLines-on s t u (l ∷ ls) line (next, first, later) e = (next, first, LeadsByLines-on next t u ls line later e)
 
 -- the reading goes on from the state that the lines lead to
-resumes : (s t : State) (lines : List Line) (line : Line) (rest : List Line) → Leads s lines t → resume s (lines ++ line ∷ rest) ≡ resume t (line ∷ rest)
+resumes : (s t : State) (lines : List Line) (line : Line) (rest : List Line) → LeadsByLines s lines t → resume s (lines ++ line ∷ rest) ≡ resume t (line ∷ rest)
 resumes s t [] line rest same = ap (λ z. resume z (line ∷ rest)) same
 resumes s t (l ∷ []) line rest (next, first, same) =
     state_law s l line rest ∙ ap (λ r. after r resume (l ∷ line ∷ rest) (line ∷ rest)) first ∙ ap (λ z. resume z (line ∷ rest)) same
@@ -54,11 +54,11 @@ resumes s t (l ∷ m ∷ ms) line rest (next, first, later) =
 -- ---- lines taken
 
 -- before any line
-pub taken_none : (lines : Lines) → lines.state ≡ state.Heading → lines.number ≡ 1 → AreTaken lines [] []
+pub taken_none : (lines : Lines) → lines.state ≡ state.Heading → lines.number ≡ 1 → AreCertLinesTaken lines [] []
 taken_none lines heading one = record { said = []; leads = sym heading; whole = λ more. refl; number = one; few = omega arith }
 
 -- the next piece follows
-pub taken_then : (lines : Lines) (text rest piece : List ℕ) → AreTaken lines text rest → AreTaken lines (text ++ piece) (rest ++ piece)
+pub taken_then : (lines : Lines) (text rest piece : List ℕ) → AreCertLinesTaken lines text rest → AreCertLinesTaken lines (text ++ piece) (rest ++ piece)
 taken_then lines text rest piece u = record {
   said = u.said;
   leads = u.leads;
@@ -69,7 +69,7 @@ taken_then lines text rest piece u = record {
 }
 
 -- the line that comes next
-module _ (lines : Lines) (text rest : List ℕ) (u : AreTaken lines text rest) (line left : List ℕ) (cut : IsCut rest line left) where
+module _ (lines : Lines) (text rest : List ℕ) (u : AreCertLinesTaken lines text rest) (line left : List ℕ) (cut : IsLineCut rest line left) where
   whole_line : (more : List ℕ) → lines_of (text ++ more) ≡ u.said ++ tokens_of line ∷ lines_of (left ++ more)
   whole_line more = u.whole more ∙ ap (λ ls. u.said ++ ls) (cut_lines rest line left more cut)
 
@@ -80,16 +80,16 @@ module _ (lines : Lines) (text rest : List ℕ) (u : AreTaken lines text rest) (
   pub one_more : length text ≤ 2 ^ 30 → min (lines.number + 1) 4294967295 ≡ lines.number + 1
   one_more short = min-eq_left (omega (arith, u.few, u.number, short))
 
-  pub taken_line : (new : Lines) → step lines.state (tokens_of line) ≡ Ok new.state → new.number ≡ lines.number + 1 → AreTaken new text left
+  pub taken_line : (new : Lines) → step lines.state (tokens_of line) ≡ Ok new.state → new.number ≡ lines.number + 1 → AreCertLinesTaken new text left
   taken_line new takes count = record {
     said = u.said ++ tokens_of line ∷ [];
-    leads = Leads-on state.Heading lines.state new.state u.said (tokens_of line) u.leads takes;
+    leads = LeadsByLines-on state.Heading lines.state new.state u.said (tokens_of line) u.leads takes;
     whole = λ more. whole_line more ∙ sym (append_assoc u.said (tokens_of line ∷ []) (lines_of (left ++ more)));
     number = omega (arith, count, u.number, length-append u.said (tokens_of line ∷ []));
     few = omega (arith, u.few, shorter, length-append u.said (tokens_of line ∷ []));
   }
 
-  pub taken_fault : (fault : LineFault) → Agrees (step lines.state (tokens_of line)) (Err fault) → TellsFirstFault text (located lines.number fault)
+  pub taken_fault : (fault : LineFault) → Agrees (step lines.state (tokens_of line)) (Err fault) → TellsFirstCertFault text (located lines.number fault)
   taken_fault (line_fault.Memory) a = tt
   taken_fault (line_fault.Text kind) a = λ more.
       let same = sym (resumes state.Heading lines.state u.said (tokens_of line) (lines_of (left ++ more)) u.leads) ∙ ap read_lines (sym (whole_line more)) in
@@ -97,7 +97,7 @@ module _ (lines : Lines) (text rest : List ℕ) (u : AreTaken lines text rest) (
       (let all = ap length (whole_line more) in omega (arith, all, u.number, length-append u.said (tokens_of line ∷ lines_of (left ++ more)))) a
 
 -- the bytes are over
-pub taken_over : (lines : Lines) (text line : List ℕ) → AreTaken lines text line → IsUnfinished line → reading text ≡ told_at lines.number (at_end lines.state (tokens_of line))
+pub taken_over : (lines : Lines) (text line : List ℕ) → AreCertLinesTaken lines text line → IsUnfinished line → reading text ≡ told_at lines.number (at_end lines.state (tokens_of line))
 taken_over lines text line u none =
     let last = one_line line none in
     let all : lines_of text ≡ u.said ++ lines_of line =

@@ -39,7 +39,7 @@ use Rattle.cert_value.specs.WellFormed.{blocks_due, rank_key, key_before}
 use Rattle.std.specs.List.{slice_get}
 use Rattle.cert_line.specs.Lines.{Said, number_in, numbers_in, ascending_in, row_in, rank_row_in, gone_by_in, first_head_in, second_head_in}
 use Rattle.cert_text.specs.Grammar.{ReadOutcome, Stopped, Then, after, next_line, read_rows, read_block, read_rank_rows, read_rank_block, read_blocks, read_classes, read_first_rest, read_first_steps, read_grounds, read_second_rest, read_second_steps, read_first_log, read_second_log}
-use Rattle.cert_text.specs.Machine.{map_said, on_or, rows_due, step_block, last_key, rank_rows_due, step_ranks, blocks_left, with_block, first_started, step_first, first_left, with_first, step_first_log, rel_due, with_forward, with_backward, with_delayed, second_started, step_second, second_left, with_second, step_second_log}
+use Rattle.cert_text.specs.Machine.{map_said, on_or, rows_due, step_block, last_key, rank_rows_due, step_ranks, blocks_left, with_rel_block, first_started, step_first, first_left, with_first, step_first_log, rel_due, with_forward, with_backward, with_delayed, second_started, step_second, second_left, with_second, step_second_log}
 
 -- How a state reads on, and what a step reads on.
 abbrev pub Resume : Type 0 → Type 0 → Type 0
@@ -179,8 +179,8 @@ blocks_law v pair look gone blocks (suc k) next lines =
 with_block_law : (v : ℕ) (pair look : ℕ) (gone : List GoneBy) (blocks : List RelBlock) (later : ℕ) (next : Then FirstStep)
     (s : Step BlockState RelBlock) (lines : List Line)
     → on_step (resume_block v) (block_of_cut v pair look gone blocks later next) s lines
-    ≡ on_step (resume_first v) next (with_block pair look gone blocks later s) lines
-unfolding with_block
+    ≡ on_step (resume_first v) next (with_rel_block pair look gone blocks later s) lines
+unfolding with_rel_block
 with_block_law v pair look gone blocks later next (More at) lines = refl
 with_block_law v pair look gone blocks later next (Whole b) lines = blocks_law v pair look gone (blocks ++ b ∷ []) later next lines
 
@@ -207,7 +207,7 @@ first_law v (first_state.Gone pair look) next line other rest =
     (λ gone lines. blocks_law v pair look gone [] (blocks_due pair) next lines) (line ∷ other ∷ rest) (other ∷ rest)
 first_law v (first_state.Blocks pair look gone blocks later at) next line other rest =
     block_law v at (block_of_cut v pair look gone blocks later next) line other rest
-    ∙ arm (with_block pair look gone blocks later) (step_block v at line)
+    ∙ arm (with_rel_block pair look gone blocks later) (step_block v at line)
     (on_step (resume_block v) (block_of_cut v pair look gone blocks later next)) (on_step (resume_first v) next)
     (with_block_law v pair look gone blocks later next) (line ∷ other ∷ rest) (other ∷ rest)
 

@@ -97,9 +97,9 @@ blocks_left pair look gone blocks n =
     on_or n (Whole (first.Cut pair look gone blocks))
     (λ later. More (first_state.Blocks pair look gone blocks later block.Count))
 
-unfoldable pub with_block : ℕ → ℕ → List GoneBy → List RelBlock → ℕ → Step BlockState RelBlock → Step FirstState FirstStep
-with_block pair look gone blocks later (More at) = More (first_state.Blocks pair look gone blocks later at)
-with_block pair look gone blocks later (Whole b) = blocks_left pair look gone (blocks ++ b ∷ []) later
+unfoldable pub with_rel_block : ℕ → ℕ → List GoneBy → List RelBlock → ℕ → Step BlockState RelBlock → Step FirstState FirstStep
+with_rel_block pair look gone blocks later (More at) = More (first_state.Blocks pair look gone blocks later at)
+with_rel_block pair look gone blocks later (Whole b) = blocks_left pair look gone (blocks ++ b ∷ []) later
 
 unfoldable pub first_started : FirstHead → Step FirstState FirstStep
 first_started (first_head.Trim kept) = Whole (first.Trim kept)
@@ -113,7 +113,7 @@ step_first v (first_state.Classes) line =
 step_first v (first_state.Gone pair look) line =
     map_said (λ gone. blocks_left pair look gone [] (blocks_due pair)) (gone_by_in line)
 step_first v (first_state.Blocks pair look gone blocks later at) line =
-    map_said (with_block pair look gone blocks later) (step_block v at line)
+    map_said (with_rel_block pair look gone blocks later) (step_block v at line)
 
 -- The first log.
 unfoldable pub first_left : List FirstStep → ℕ → Step FirstLog (List FirstStep)

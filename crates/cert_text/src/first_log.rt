@@ -3,7 +3,7 @@
 ghost use Rattle.std.specs.Prelude.{◌≡◌, ◌+◌, ◌∷◌, [], ◌++◌, drop};
 ghost use Rattle.cert_value.specs.Tokens.{tokens_of};
 ghost use Rattle.cert_line.specs.Agrees.{Agrees};
-ghost use Rattle.cert_text.specs.Machine.{blocks_left, with_block, first_started, step_first, first_left, with_first, step_first_log, step_block, map_said};
+ghost use Rattle.cert_text.specs.Machine.{blocks_left, with_rel_block, first_started, step_first, first_left, with_first, step_first_log, step_block, map_said};
 
 use crate::blocks::{BlockState, step_block};
 use crate::parts::{Step, pushed};
@@ -97,7 +97,7 @@ fn first_started(head: FirstHead) -> Step<FirstState, FirstStep>
 }
 
 /// The next line of a relation of a cut.
-#[tactic(auto, unfolding(crate::specs::Machine::with_block))]
+#[tactic(auto, unfolding(crate::specs::Machine::with_rel_block))]
 fn next_in_cut(
     alloc: Global,
     version: u32,
@@ -109,7 +109,7 @@ fn next_in_cut(
     at: BlockState,
     line: &[u8],
 ) -> Result<Step<FirstState, FirstStep>, LineFault>
-    ensures { Agrees (map_said (with_block pair look gone blocks later) (step_block version at (tokens_of line.now))) result }
+    ensures { Agrees (map_said (with_rel_block pair look gone blocks later) (step_block version at (tokens_of line.now))) result }
 {
     match step_block(alloc, version, at, line) {
         Ok(Step::More(at)) => Ok(Step::More(FirstState::Blocks {

@@ -6,11 +6,11 @@ ghost use Rattle.cert_value.specs.Text.{text as text_of};
 ghost use Rattle.cert_value.specs.WellFormed.{WellFormed};
 ghost use Rattle.cert_text.specs.declared.faults.TextFault.{TextFault as AFault};
 ghost use Rattle.cert_text.specs.declared.faults.CertReadFault.TheVariants as fault;
-ghost use Rattle.text_lines.specs.Cut.{IsUnfinished, IsCut};
+ghost use Rattle.text_lines.specs.Cut.{IsUnfinished, IsLineCut};
 ghost use Rattle.cert_text.specs.Grammar.{reading};
 ghost use Rattle.cert_text.specs.Told.{Told};
 ghost use Rattle.cert_text.specs.Law.{FirstFault};
-ghost use Rattle.cert_text.specs.Pieces.{AreTaken, TellsFirstFault, HasRead, WasRefused};
+ghost use Rattle.cert_text.specs.Pieces.{AreCertLinesTaken, TellsFirstCertFault, HasReadCert, CertReaderLacksMemory};
 
 use crate::faults::{CertReadFault, TextFault};
 use crate::machine::{State, next_state};
@@ -33,10 +33,10 @@ impl Lines {
     /// Takes the line, the next of the text, without its LF.
     fn take(&mut self, alloc: Global, line: &[u8]) -> Result<(), CertReadFault>
         ensures taken { (text rest after : List ℕ)
-            → AreTaken self.old text rest
+            → AreCertLinesTaken self.old text rest
             → length text ≤ 2 ^ 30
-            → IsCut rest line.now after
-            → MatchResult result (λ _. AreTaken self.new text after) (TellsFirstFault text) }
+            → IsLineCut rest line.now after
+            → MatchResult result (λ _. AreCertLinesTaken self.new text after) (TellsFirstCertFault text) }
     {
         let state = mem::replace(&mut self.state, State::Heading);
         match next_state(alloc, state, line) {
@@ -53,9 +53,9 @@ impl Lines {
     fn take_whole<'p>(&mut self, alloc: Global, piece: &'p [u8]) -> Result<&'p [u8], CertReadFault>
         ensures unfinished { IfOk result (λ rest. IsUnfinished rest.now) }
         ensures taken { (text : List ℕ)
-            → AreTaken self.old text piece.now
+            → AreCertLinesTaken self.old text piece.now
             → length text ≤ 2 ^ 30
-            → MatchResult result (λ rest. AreTaken self.new text rest.now) (TellsFirstFault text) }
+            → MatchResult result (λ rest. AreCertLinesTaken self.new text rest.now) (TellsFirstCertFault text) }
     {
         let mut rest = piece;
         while let Some((line, after)) = first_line(rest) {
@@ -67,7 +67,7 @@ impl Lines {
 
     /// What comes of the text that ends with this line.
     fn end(self, line: &[u8]) -> Result<Cert, CertReadFault>
-        ensures { (text : List ℕ) → AreTaken self text line.now → IsUnfinished line.now → Told (reading text) result }
+        ensures { (text : List ℕ) → AreCertLinesTaken self text line.now → IsUnfinished line.now → Told (reading text) result }
     {
         at_end(self.state, line, self.number)
     }
@@ -100,7 +100,7 @@ pub struct CertReader {
 impl CertReader {
     /// A reader before the first piece. It takes no memory yet.
     pub fn new(alloc: Global) -> Result<CertReader, Memory>
-        ensures { IfOk result (λ reader. HasRead reader []) }
+        ensures { IfOk result (λ reader. HasReadCert reader []) }
     {
         Ok(CertReader {
             alloc,
@@ -117,10 +117,10 @@ impl CertReader {
     fn take_lines(&mut self, piece: &[u8]) -> Result<(), CertReadFault>
         ensures progress { self.new.progress ≡ self.old.progress }
         ensures taken { (text : List ℕ)
-            → AreTaken self.old.lines text piece.now
+            → AreCertLinesTaken self.old.lines text piece.now
             → length text ≤ 2 ^ 30
             → self.old.line.items ≡ []
-            → MatchResult result (λ _. AreTaken self.new.lines text self.new.line.items × IsUnfinished self.new.line.items) (TellsFirstFault text) }
+            → MatchResult result (λ _. AreCertLinesTaken self.new.lines text self.new.line.items × IsUnfinished self.new.line.items) (TellsFirstCertFault text) }
     {
         let rest = self.lines.take_whole(self.alloc, piece)?;
         self.line.extend_from_slice(rest)?;
@@ -131,10 +131,10 @@ impl CertReader {
     fn take(&mut self, piece: &[u8]) -> Result<(), CertReadFault>
         ensures progress { self.new.progress ≡ self.old.progress }
         ensures taken { (text : List ℕ)
-            → AreTaken self.old.lines text (self.old.line.items ++ piece.now)
+            → AreCertLinesTaken self.old.lines text (self.old.line.items ++ piece.now)
             → length text ≤ 2 ^ 30
             → IsUnfinished self.old.line.items
-            → MatchResult result (λ _. AreTaken self.new.lines text self.new.line.items × IsUnfinished self.new.line.items) (TellsFirstFault text) }
+            → MatchResult result (λ _. AreCertLinesTaken self.new.lines text self.new.line.items × IsUnfinished self.new.line.items) (TellsFirstCertFault text) }
     {
         if self.line.is_empty() {
             return self.take_lines(piece);
@@ -152,10 +152,10 @@ impl CertReader {
     /// Takes the next piece of the text. After a first fault it only counts as read. Where memory is refused, now or before, the reader
     /// answers want of memory from then on.
     pub fn feed(&mut self, piece: &[u8]) -> Result<(), Memory>
-        ensures read { (bytes : List ℕ) → HasRead self.old bytes → length bytes + length piece.now ≤ 2 ^ 30 → HasRead self.new (bytes ++ piece.now) }
-        ensures refused { OnErr result (WasRefused self.new) }
-        ensures not_refused { OnOk result (WasRefused self.new → WasRefused self.old) }
-        ensures stays_refused { WasRefused self.old → IsErr result }
+        ensures read { (bytes : List ℕ) → HasReadCert self.old bytes → length bytes + length piece.now ≤ 2 ^ 30 → HasReadCert self.new (bytes ++ piece.now) }
+        ensures refused { OnErr result (CertReaderLacksMemory self.new) }
+        ensures not_refused { OnOk result (CertReaderLacksMemory self.new → CertReaderLacksMemory self.old) }
+        ensures stays_refused { CertReaderLacksMemory self.old → IsErr result }
     {
         match self.progress {
             Progress::Faulty(_) => return Ok(()),
@@ -177,8 +177,8 @@ impl CertReader {
 
     /// What the pieces come to.
     fn told(self) -> Result<Cert, CertReadFault>
-        ensures told { (bytes : List ℕ) → HasRead self bytes → Told (reading bytes) result }
-        ensures refused { WasRefused self → result ≡ Err fault.Memory }
+        ensures told { (bytes : List ℕ) → HasReadCert self bytes → Told (reading bytes) result }
+        ensures refused { CertReaderLacksMemory self → result ≡ Err fault.Memory }
     {
         match self.progress {
             Progress::Faultless => self.lines.end(self.line.as_slice()),
@@ -189,16 +189,16 @@ impl CertReader {
 
     /// The certificate whose text the pieces are, or the first fault of their text.
     pub fn finish(self) -> Result<Cert, CertReadFault>
-        ensures found { (bytes : List ℕ) → HasRead self bytes → IfOk result (λ c. WellFormed c × (bytes ≡ text_of c)) }
-        ensures only { (bytes : List ℕ) → HasRead self bytes → (c : ACert)
+        ensures found { (bytes : List ℕ) → HasReadCert self bytes → IfOk result (λ c. WellFormed c × (bytes ≡ text_of c)) }
+        ensures only { (bytes : List ℕ) → HasReadCert self bytes → (c : ACert)
             → WellFormed c
             → bytes ≡ text_of c
             → (result ≡ Ok c) ⊎ (result ≡ Err fault.Memory) }
-        ensures fault { (bytes : List ℕ) → HasRead self bytes → (f : AFault) → result ≡ Err (fault.Text f) → FirstFault bytes f }
-        ensures first { (bytes : List ℕ) → HasRead self bytes → (f : AFault)
+        ensures fault { (bytes : List ℕ) → HasReadCert self bytes → (f : AFault) → result ≡ Err (fault.Text f) → FirstFault bytes f }
+        ensures first { (bytes : List ℕ) → HasReadCert self bytes → (f : AFault)
             → FirstFault bytes f
             → (result ≡ Err (fault.Text f)) ⊎ (result ≡ Err fault.Memory) }
-        ensures refused { WasRefused self → result ≡ Err fault.Memory }
+        ensures refused { CertReaderLacksMemory self → result ≡ Err fault.Memory }
     {
         self.told()
     }

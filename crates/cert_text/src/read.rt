@@ -2,7 +2,7 @@
 
 ghost use Rattle.std.specs.Prelude.{◌≡◌, ◌==◌, ◌≤◌, ◌^◌, ◌∷◌, [], ℕ, length, position, ◌<◌, ◌⊎◌, Ok, Err, MatchOption, IfSome, IfOk};
 ghost use Rattle.cert_value.specs.Tokens.{tokens_of};
-ghost use Rattle.text_lines.specs.Cut.{IsUnfinished, IsCut};
+ghost use Rattle.text_lines.specs.Cut.{IsUnfinished, IsLineCut};
 ghost use Rattle.cert_text.specs.Grammar.{lines_of, told_at};
 ghost use Rattle.cert_text.specs.Told.{Told, located};
 ghost use Rattle.cert_text.specs.Machine.{done_cert, at_end};
@@ -26,7 +26,7 @@ pub fn first_line(bytes: &[u8]) -> Option<(&[u8], &[u8])>
     ensures cut { MatchOption result
         (lines_of bytes.now ≡ tokens_of bytes.now ∷ [])
         (λ cut. lines_of bytes.now ≡ tokens_of cut.0.now ∷ lines_of cut.1.now) }
-    ensures ends { MatchOption result (IsUnfinished bytes.now) (λ cut. IsCut bytes.now cut.0.now cut.1.now) }
+    ensures ends { MatchOption result (IsUnfinished bytes.now) (λ cut. IsLineCut bytes.now cut.0.now cut.1.now) }
     ensures shorter { IfSome result (λ cut. length cut.1.now < length bytes.now) }
 {
     split_line(bytes)

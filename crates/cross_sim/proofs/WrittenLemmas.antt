@@ -14,7 +14,7 @@ use Rattle.relation_rows.proofs.SameRowsLemmas.{one_rows}
 use Rattle.cross_text.specs.declared.types.Cross.{Cross}
 use Rattle.cross_sim.specs.Cross.{IsGreatestSideBySide}
 use Rattle.cross_sim.specs.Rules.{HasCrossSizes, pairs_across}
-use Rattle.cross_sim.specs.Written.{IsGreatestCross, CrossIsOne, GreatestCrossKeepsRules}
+use Rattle.cross_sim.specs.Written.{IsCrossOfGreatest, CrossIsOne, GreatestCrossKeepsRules}
 use Rattle.cross_sim.proofs.CrossLemmas.{raised_back}
 use Rattle.cross_sim.proofs.CheckLemmas.{rows_formed}
 
@@ -53,7 +53,7 @@ pub cross_made :
     → cross.look ≡ look
     → IsGreatestSideBySide pair.first pair.second look R
     → AreRows (HoldsFrom R pair.first.states pair.second.states) pair.first.states cross.rows
-    → IsGreatestCross pair look cross
+    → IsCrossOfGreatest pair look cross
 cross_made pair look R cross first second labels upto sizes look_is g are = record {
   formed = and_from (is_short cross.first_states) _ (lt-ltb cross.first_states 1000000000 (omega (arith, sizes.0)))
       (and_from (is_short cross.second_states) _ (lt-ltb cross.second_states 1000000000 (omega (arith, sizes.1)))

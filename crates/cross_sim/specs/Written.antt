@@ -8,7 +8,7 @@ use Rattle.cross_sim.specs.Rules.{HasCrossSizes, pairs_across, KeepsCrossRules}
 
 -- The cross relation that is written: it has a text, the sizes of the two automata and this lookahead, and its pairs are the greatest that
 -- are stable across.
-pub record IsGreatestCross (pair : Joined) (look : ℕ) (cross : Cross) : Type 0 where
+pub record IsCrossOfGreatest (pair : Joined) (look : ℕ) (cross : Cross) : Type 0 where
   pub formed : CrossFormed cross
   pub sizes : HasCrossSizes pair cross
   pub look_is : cross.look ≡ look
@@ -16,7 +16,7 @@ pub record IsGreatestCross (pair : Joined) (look : ℕ) (cross : Cross) : Type 0
 
 -- There is one at most.
 abbrev pub CrossIsOne : Type 0
-CrossIsOne = (pair : Joined) (look : ℕ) (c d : Cross) → IsGreatestCross pair look c → IsGreatestCross pair look d → c ≡ d
+CrossIsOne = (pair : Joined) (look : ℕ) (c d : Cross) → IsCrossOfGreatest pair look c → IsCrossOfGreatest pair look d → c ≡ d
 
 -- If it holds the pair of the initial states, it breaks no rule.
 abbrev pub GreatestCrossKeepsRules : Type 0
@@ -24,7 +24,7 @@ GreatestCrossKeepsRules =
     (pair : Joined) (look : ℕ) (cross : Cross)
     → 1 ≤ look
     → look ≤ 6
-    → IsGreatestCross pair look cross
+    → IsCrossOfGreatest pair look cross
     → Holds (pairs_across cross) pair.first.initial pair.second.initial
     → KeepsCrossRules pair cross
 
@@ -36,4 +36,4 @@ GreatestCrossIsThere =
     → pair.second.states ≤ 512
     → length pair.labels ≤ 512
     → look ≤ 6
-    → (cross : Cross) × IsGreatestCross pair look cross
+    → (cross : Cross) × IsCrossOfGreatest pair look cross

@@ -23,7 +23,7 @@ impl Side for Across {
 
     ghost goes = { λ _ A. Moves A };
 
-    ghost keeps = { λ s A. MatchesAcross s.first_states A };
+    ghost matches = { λ s A. MatchesAcross s.first_states A };
 
     ghost seen = { λ _ t. t };
 

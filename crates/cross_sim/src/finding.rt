@@ -4,7 +4,7 @@ ghost use Rattle.std.specs.Prelude.{◌≡◌, ◌+◌, ◌^◌, ◌<◌, ◌≤
 ghost use Rattle.auto_core.specs.Game.{Holds};
 ghost use Rattle.cross_text.specs.declared.types.Cross.{Cross};
 ghost use Rattle.cross_sim.specs.Rules.{pairs_across};
-ghost use Rattle.cross_sim.specs.Written.{IsGreatestCross};
+ghost use Rattle.cross_sim.specs.Written.{IsCrossOfGreatest};
 
 use crate::across::Across;
 use crate::simulation::{leave_across, side_by_side};
@@ -26,10 +26,10 @@ pub fn find_cross(alloc: Global, pair: &Joined, look: u32) -> Result<Option<Cros
     requires second_labels { pair.now.second.labels ≡ length pair.now.labels }
     requires look_from { 1 ≤ look }
     requires look_upto { look ≤ 6 }
-    ensures of { IfOk result (λ found. IfSome found (IsGreatestCross pair.now look)) }
+    ensures of { IfOk result (λ found. IfSome found (IsCrossOfGreatest pair.now look)) }
     ensures has { IfOk result (λ found. IfSome found (λ cross. Holds (pairs_across cross) pair.now.first.initial pair.now.second.initial)) }
     ensures lacks { IfOk result (λ found. found ≡ None → (cross : Cross)
-        → IsGreatestCross pair.now look cross
+        → IsCrossOfGreatest pair.now look cross
         → Holds (pairs_across cross) pair.now.first.initial pair.now.second.initial
         → ⊥) }
 {

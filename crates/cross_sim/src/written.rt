@@ -4,7 +4,7 @@ ghost use Rattle.std.specs.Prelude.{◌≡◌, ◌+◌, ◌≤◌, ◌↔◌, le
 ghost use Rattle.auto_core.specs.Game.{Holds};
 ghost use Rattle.cross_sim.specs.Cross.{IsGreatestSideBySide};
 ghost use Rattle.cross_sim.specs.Rules.{pairs_across};
-ghost use Rattle.cross_sim.specs.Written.{IsGreatestCross};
+ghost use Rattle.cross_sim.specs.Written.{IsCrossOfGreatest};
 
 use auto_core::Memory;
 use ba_format::Joined;
@@ -21,7 +21,7 @@ pub fn cross_of(alloc: Global, pair: &Joined, look: u32, rel: &Rel) -> Result<Cr
     requires second_few { pair.now.second.states ≤ 512 }
     requires labels { length pair.now.labels ≤ 512 }
     requires look_upto { look ≤ 6 }
-    ensures of { IfOk result (IsGreatestCross pair.now look) }
+    ensures of { IfOk result (IsCrossOfGreatest pair.now look) }
     ensures initial { IfOk result (λ cross.
         Holds rel.now.pairs pair.now.first.initial (pair.now.first.states + pair.now.second.initial)
         ↔ Holds (pairs_across cross) pair.now.first.initial pair.now.second.initial) }

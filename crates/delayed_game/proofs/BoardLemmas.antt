@@ -211,8 +211,12 @@ pub rows_have :
     → HasRowsOf R words table w m
     → (x q : ℕ)
     → x < m
-    → Holds R.pairs (x / words) q
-    → Holds (table_pairing table w m R.size).pairs x q
-rows_have R words table w m valid room h x q x_in held =
-    let lt = (valid.in_range (x / words) q held).1 in
-    cell_held table w m R.size x q x_in lt ((h x q x_in (omega arith)).1 held)
+    → Holds (table_pairing table w m R.size).pairs x q ↔ Holds R.pairs (x / words) q
+rows_have R words table w m valid room h x q x_in = (
+  λ there.
+      let (left, right, cell) = held_cell table w m R.size x q there in
+      (h x q x_in (omega arith)).0 cell,
+  λ held.
+      let lt = (valid.in_range (x / words) q held).1 in
+      cell_held table w m R.size x q x_in lt ((h x q x_in (omega arith)).1 held),
+)

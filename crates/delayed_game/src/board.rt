@@ -51,7 +51,7 @@ impl Board {
         ensures places { IfOk result (λ b. b.places ≡ rel.now.size * words) }
         ensures states { IfOk result (λ b. b.states ≡ rel.now.size) }
         ensures valid { IfOk result IsPairing }
-        ensures pairs { IfOk result (λ b. (x q : ℕ) → x < rel.now.size * words → Holds rel.now.pairs (x / words) q → Holds b.pairs x q) }
+        ensures pairs { IfOk result (λ b. (x q : ℕ) → x < rel.now.size * words → Holds b.pairs x q ↔ Holds rel.now.pairs (x / words) q) }
     {
         let states = rel.size();
         let places = states * words;

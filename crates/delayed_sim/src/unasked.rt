@@ -17,7 +17,7 @@ impl Side for Unasked {
 
     ghost goes = { λ _ A. Moves A };
 
-    ghost keeps = { λ _ _. AsksNothing };
+    ghost matches = { λ _ _. AsksNothing };
 
     ghost seen = { λ _ t. t };
 

@@ -1,12 +1,13 @@
 -- The greatest forward relation, and when it is a preorder.
-use Rattle.std.proofs.Common.{◌≡◌, ℕ, zero, suc, ◌<◌, ◌≤◌, inl, inr, Bool, true, false, cond, ◌==◌, List, [], ◌∷◌, ◌++◌, refl, sym, ap, ◌∙◌, subst, arith}
-use Rattle.std.proofs.lemmas.Bool.{eqb-true, eq-eqb, cases_eq}
+use Rattle.std.proofs.Common.{◌≡◌, ℕ, ◌≤◌, inl, inr, Bool, true, false, cond, ◌==◌, List, [], ◌∷◌, ◌++◌, refl, sym, ap, ◌∙◌, subst, arith}
+use Rattle.std.proofs.lemmas.Bool.{eqb-true, eq-eqb}
 use Rattle.std.proofs.lemmas.List.Elements.{Contains-append_left, Contains-append_right, Contains-append_cases}
 use Rattle.auto_core.proofs.PathLemmas.{Contains-here, Contains-later, Contains-cons_cases, none_in_nil}
 use Rattle.auto_core.proofs.MoveLemmas.{move_in_range}
 use Rattle.auto_core.specs.Automaton.{Automaton, IsAutomaton, Moves}
 use Rattle.auto_core.specs.Run.{Path}
 use Rattle.auto_core.specs.Game.{MatchesForward, Answers, Round, Holds, ArePairsBelow, StableForward}
+use Rattle.look_game.proofs.SameLemmas.{same_below, same_holds, same_has}
 use Rattle.path_laws.proofs.AppliedLemmas.{followed_forward}
 use Rattle.direct_sim.specs.Preorders.{GreatestForwardIsOne, GreatestForwardIsFollowed, GreatestFollowsMoves, GreatestForwardIsReflexive, GreatestIsPreorder}
 
@@ -15,30 +16,6 @@ greatest_is_one A k S T s t p q = (λ h. t.has_each S s.in_range s.stable p q h,
 
 pub greatest_is_followed : GreatestForwardIsFollowed
 greatest_is_followed A k S some s p q close = followed_forward A k S some s.stable p q close
-
--- the pairs of equal numbers below n
-same_below : ℕ → List (ℕ × ℕ)
-same_below zero = []
-same_below (suc n) = (n, n) ∷ same_below n
-
-same_holds : (n p q : ℕ) → Holds (same_below n) p q → (p ≡ q) × (p < n)
-unfolding same_below
-same_holds zero p q h = absurd (none_in_nil (p, q) h)
-same_holds (suc n) p q h = elim (Contains-cons_cases (n, n) (p, q) (same_below n) h) [
-  | inl e ↦
-      let left : n ≡ p = ap (λ (x : ℕ × ℕ). x.0) e in
-      let right : n ≡ q = ap (λ (x : ℕ × ℕ). x.1) e in
-      (sym left ∙ right, omega arith)
-  | inr later ↦ let is = same_holds n p q later in let lt = is.1 in (is.0, omega arith)
-]
-
-same_has : (n p : ℕ) → p < n → Holds (same_below n) p p
-unfolding same_below
-same_has zero p lt = absurd (omega arith)
-same_has (suc n) p lt = elim (cases_eq p n) [
-  | inl e ↦ Contains-here (n, n) (p, p) (same_below n) (ap (λ x. (x, x)) (sym e))
-  | inr apart ↦ Contains-later (n, n) (p, p) (same_below n) (same_has n p (omega arith))
-]
 
 -- each path is answered by itself
 answered_by_itself :

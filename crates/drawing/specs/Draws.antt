@@ -8,10 +8,10 @@ unfoldable pub generator_of : ℕ → Lcg
 generator_of seed = started 64 multiplier_64 seed (increment_of 64 54)
 
 -- The generator after n draws.
-unfoldable pub after : ℕ → Lcg → Lcg
-after zero g = g
-after (suc n) g = (pcg32 (after n g)).1
+unfoldable pub lcg_after : ℕ → Lcg → Lcg
+lcg_after zero g = g
+lcg_after (suc n) g = (pcg32 (lcg_after n g)).1
 
 -- The draw that comes after n others.
 unfoldable pub draw_at : ℕ → ℕ → ℕ
-draw_at seed n = (pcg32 (after n (generator_of seed))).0
+draw_at seed n = (pcg32 (lcg_after n (generator_of seed))).0

@@ -40,19 +40,19 @@ no_blocks bs = refl
 is_live_blocks : (ms : List Bool) (bs : List (List ℕ)) (m : map.FinMap nat_cmp (List ℕ)) → ((q : ℕ) → live_at ms bs q ≡ map.get m q) → live_blocks ms bs ≡ m
 is_live_blocks ms bs m same = same_map nat_cmp_total nat_cmp-IsAntisymmetric (live_blocks ms bs) m (λ q. get-live_blocks ms bs q ∙ same q)
 
-get-inserted_same : (m : map.FinMap nat_cmp (List ℕ)) (h : ℕ) (v : List ℕ) → map.get (map.insert m h v) h ≡ Some v
+pub get-inserted_same : (m : map.FinMap nat_cmp (List ℕ)) (h : ℕ) (v : List ℕ) → map.get (map.insert m h v) h ≡ Some v
 get-inserted_same m h v = grind (gets, rules)
 
-get-inserted_other : (m : map.FinMap nat_cmp (List ℕ)) (h : ℕ) (v : List ℕ) (q : ℕ) → q ≢ h → map.get (map.insert m h v) q ≡ map.get m q
+pub get-inserted_other : (m : map.FinMap nat_cmp (List ℕ)) (h : ℕ) (v : List ℕ) (q : ℕ) → q ≢ h → map.get (map.insert m h v) q ≡ map.get m q
 get-inserted_other m h v q apart = grind (gets, rules, arith)
 
-get-removed_same : (m : map.FinMap nat_cmp (List ℕ)) (h : ℕ) → map.get (map.remove m h) h ≡ None
+pub get-removed_same : (m : map.FinMap nat_cmp (List ℕ)) (h : ℕ) → map.get (map.remove m h) h ≡ None
 get-removed_same m h = grind (gets, rules)
 
-get-removed_other : (m : map.FinMap nat_cmp (List ℕ)) (h q : ℕ) → q ≢ h → map.get (map.remove m h) q ≡ map.get m q
+pub get-removed_other : (m : map.FinMap nat_cmp (List ℕ)) (h q : ℕ) → q ≢ h → map.get (map.remove m h) q ≡ map.get m q
 get-removed_other m h q apart = grind (gets, rules, arith)
 
--- BlockList of which only the h-th differs, which is live with the words v, are the map with it put in.
+-- Blocks of which only the h-th differs, which is live with the words v, are the map with it put in.
 inserted : (ms ns : List Bool) (bs cs : List (List ℕ)) (h : ℕ) (v : List ℕ) → live_at ns cs h ≡ Some v → ((q : ℕ) → q ≢ h → live_at ns cs q ≡ live_at ms bs q) → live_blocks ns cs ≡ map.insert (live_blocks ms bs) h v
 inserted ms ns bs cs h v here others =
     is_live_blocks ns cs (map.insert (live_blocks ms bs) h v)

@@ -18,8 +18,8 @@ unfoldable pub live_blocks : List Bool → List (List ℕ) → map.FinMap nat_cm
 live_blocks ms bs = live_blocks_from 0 ms bs
 
 -- The contents that the fields stand for.
-abbrev pub contents_of : Inside → PoolContents
-contents_of p = record { size = p.store.size; blocks = live_blocks p.marks.items p.store.blocks; spare = p.spare }
+abbrev pub pool_contents : Inside → PoolContents
+pool_contents p = record { size = p.store.size; blocks = live_blocks p.marks.items p.store.blocks; spare = p.spare }
 
 -- The fields fit one another. Each block that was ever given out has a mark, which tells whether it is live; those that were given back are linked.
 pub record IsPool (p : Inside) : Type 0 where

@@ -33,9 +33,9 @@ impl Model for Pool {
 
     ghost coded = { pool_code };
 
-    ghost use Rattle.graph_pool.specs.Backing.{contents_of, IsPool};
+    ghost use Rattle.graph_pool.specs.Backing.{pool_contents, IsPool};
 
-    ghost view = { contents_of };
+    ghost view = { pool_contents };
 
     ghost invariant = { IsPool };
 }

@@ -8,7 +8,7 @@ use Rattle.std.specs.Int.Bits.{and_lt}
 use Rattle.auto_core.specs.Rows.{HasBit, bit_of}
 use Rattle.auto_core.proofs.BitLemmas.{bit_past}
 use Rattle.row_steps.proofs.WordLemmas.{bit_and_tests}
-use Rattle.graph_rows.specs.Covering.{IsAnswered, AreOwnAnswers}
+use Rattle.graph_rows.specs.Covering.{IsTargetAnswered, AreOwnAnswers}
 
 -- rows that meet, as an arc to a related state
 pub meeting_arcs :
@@ -97,19 +97,19 @@ pub word_answered :
     → get_or others word 0 < 2 ^ 64
     → themselves < 2 ^ 64
     → AreOwnAnswers S word themselves
-    → ((j : ℕ) → HasBit (bit_and (get_or targets word 0) (bit_not w64 (bit_and (get_or others word 0) themselves)) ∷ []) j → IsAnswered S (HasBit others) (word * 64 + j))
+    → ((j : ℕ) → HasBit (bit_and (get_or targets word 0) (bit_not w64 (bit_and (get_or others word 0) themselves)) ∷ []) j → IsTargetAnswered S (HasBit others) (word * 64 + j))
     → (t : ℕ)
     → t / 64 ≡ word
     → HasBit targets t
-    → IsAnswered S (HasBit others) t
+    → IsTargetAnswered S (HasBit others) t
 word_answered S targets others word themselves fits own_fits own rest t in_word bit =
     let j : ℕ = t % 64 in
     let below : j < 64 = omega arith in
     let is : t ≡ word * 64 + j = omega (arith, in_word) in
     let here : HasBit (get_or targets word 0 ∷ []) j = word_has targets word j below (subst (λ k. HasBit targets k) is bit) in
-    let answer : IsAnswered S (HasBit others) (word * 64 + j) =
+    let answer : IsTargetAnswered S (HasBit others) (word * 64 + j) =
     elim (left_or_taken (get_or targets word 0) (get_or others word 0) themselves j fits own_fits below here) [
       | inl left ↦ rest j left
       | inr (other, itself) ↦ (word * 64 + j, bit_in_row others word j other, own j itself)
     ] in
-    subst (λ k. IsAnswered S (HasBit others) k) (sym is) answer
+    subst (λ k. IsTargetAnswered S (HasBit others) k) (sym is) answer

@@ -3,16 +3,16 @@ use Rattle.std.specs.Prelude.{◌≡◌, ℕ, ◌+◌, ◌*◌, ◌/◌, [], ◌
 use Rattle.auto_core.specs.Rows.{HasBit}
 
 -- An arc to t has an answer among the states of Q: one that S relates t to.
-abbrev pub IsAnswered : (ℕ → ℕ → Type 0) → (ℕ → Type 0) → ℕ → Type 0
-IsAnswered S Q t = (u : ℕ) × Q u × S t u
+abbrev pub IsTargetAnswered : (ℕ → ℕ → Type 0) → (ℕ → Type 0) → ℕ → Type 0
+IsTargetAnswered S Q t = (u : ℕ) × Q u × S t u
 
 -- Each arc of R has an answer in Q, from the same state.
 abbrev pub AnswersArcs : (ℕ → ℕ → Type 0) → (ℕ → ℕ → Type 0) → (ℕ → ℕ → Type 0) → Type 0
-AnswersArcs S R Q = (s t : ℕ) → R s t → IsAnswered S (Q s) t
+AnswersArcs S R Q = (s t : ℕ) → R s t → IsTargetAnswered S (Q s) t
 
 -- Each arc of R to a state of the word with this number, 64 states to a word, has an answer in Q.
 abbrev pub AnswersWord : (ℕ → ℕ → Type 0) → (ℕ → ℕ → Type 0) → (ℕ → ℕ → Type 0) → ℕ → Type 0
-AnswersWord S R Q word = (s t : ℕ) → t / 64 ≡ word → R s t → IsAnswered S (Q s) t
+AnswersWord S R Q word = (s t : ℕ) → t / 64 ≡ word → R s t → IsTargetAnswered S (Q s) t
 
 -- The bits are of states of the word that S relates to themselves.
 abbrev pub AreOwnAnswers : (ℕ → ℕ → Type 0) → ℕ → ℕ → Type 0

@@ -6,7 +6,7 @@ ghost use Rattle.auto_core.specs.Reach.{IsTable, Arc};
 ghost use Rattle.auto_core.specs.Game.{Holds};
 ghost use Rattle.auto_core.specs.Graph.{Covers};
 ghost use Rattle.graph_rows.specs.Block.{width_of, block_graph, IsFormed};
-ghost use Rattle.graph_rows.specs.Covering.{AnswersArcs, AnswersWord, AreOwnAnswers, IsAnswered, LacksAnswer};
+ghost use Rattle.graph_rows.specs.Covering.{AnswersArcs, AnswersWord, AreOwnAnswers, IsTargetAnswered, LacksAnswer};
 
 use crate::block;
 use auto_core::rows;
@@ -101,7 +101,7 @@ fn are_answered(order: &Rel, word: usize, targets: u64, others: &[u64]) -> bool
     requires states_fit { order.now.size < 2 ^ 32 }
     requires width { length others.now ≡ width_of order.now.size }
     requires states { (j : ℕ) → HasBit (targets ∷ []) j → word * 64 + j < order.now.size }
-    ensures { IsTrue result ↔ ((j : ℕ) → HasBit (targets ∷ []) j → IsAnswered (Holds order.now.pairs) (HasBit others.now) (word * 64 + j)) }
+    ensures { IsTrue result ↔ ((j : ℕ) → HasBit (targets ∷ []) j → IsTargetAnswered (Holds order.now.pairs) (HasBit others.now) (word * 64 + j)) }
 {
     let row = [targets];
     let mut at = 0;

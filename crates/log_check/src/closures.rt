@@ -29,8 +29,8 @@ pub(crate) fn stable_closure<S: Side>(
     requires look_upto { look ≤ 6 }
     requires below { IsBlockBelow automaton.now.states block.now }
     ensures { IfOk result (λ found. MatchOption found
-        (Stable (S.goes side.now automaton.now) (S.goes side.now automaton.now) (S.keeps side.now automaton.now) look (Holds (pairs_of block.now)) → ⊥)
-        (λ rel. Stable (S.goes side.now automaton.now) (S.goes side.now automaton.now) (S.keeps side.now automaton.now) look (Holds (pairs_of block.now))
+        (Stable (S.goes side.now automaton.now) (S.goes side.now automaton.now) (S.matches side.now automaton.now) look (Holds (pairs_of block.now)) → ⊥)
+        (λ rel. Stable (S.goes side.now automaton.now) (S.goes side.now automaton.now) (S.matches side.now automaton.now) look (Holds (pairs_of block.now))
         × IsClosureOf automaton.now.states (Holds (pairs_of block.now)) rel)) }
 {
     let mut rel = relation_of(alloc, automaton.states(), block)?;

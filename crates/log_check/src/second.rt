@@ -56,7 +56,7 @@ fn merge_by_side<S: Side>(
     ensures tells { Tells
         (rule_at 1 item (IsBlockIn automaton.now look block.now)
         ∷ rule_at 3 item (AreClassesFor automaton.now numbers.now)
-        ∷ rule_at 4 item (Stable (S.goes side.now automaton.now) (S.goes side.now automaton.now) (S.keeps side.now automaton.now) look (Holds (pairs_of block.now)))
+        ∷ rule_at 4 item (Stable (S.goes side.now automaton.now) (S.goes side.now automaton.now) (S.matches side.now automaton.now) look (Holds (pairs_of block.now)))
         ∷ rule_at 6 item (RelatesMembers automaton.now numbers.now (pairs_of block.now))
         ∷ []) result }
     ensures leads { IfOk result (IsQuotient automaton.now numbers.now) }

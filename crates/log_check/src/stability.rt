@@ -25,7 +25,7 @@ fn is_pair_stable<S: Side>(
     requires made { scratch.old ≡ record { states = automaton.now.states; look = look } }
     requires left { p < automaton.now.states }
     requires right { q < automaton.now.states }
-    ensures told { IsTrue result ↔ IsPairStable (S.goes side.now automaton.now) (S.keeps side.now automaton.now) look (Holds rel.now.pairs) p q }
+    ensures told { IsTrue result ↔ IsPairStable (S.goes side.now automaton.now) (S.matches side.now automaton.now) look (Holds rel.now.pairs) p q }
     ensures scratch { scratch.new ≡ scratch.old }
 {
     if !rel.get(p, q) {
@@ -48,7 +48,7 @@ fn is_row_stable<S: Side>(
     requires equal { rel.now.size ≡ automaton.now.states }
     requires made { scratch.old ≡ record { states = automaton.now.states; look = look } }
     requires left { p < automaton.now.states }
-    ensures told { IsTrue result ↔ IsRowStable (S.goes side.now automaton.now) (S.keeps side.now automaton.now) look (Holds rel.now.pairs) automaton.now.states p }
+    ensures told { IsTrue result ↔ IsRowStable (S.goes side.now automaton.now) (S.matches side.now automaton.now) look (Holds rel.now.pairs) automaton.now.states p }
     ensures scratch { scratch.new ≡ scratch.old }
 {
     for q in 0..automaton.states() {
@@ -71,7 +71,7 @@ pub fn is_stable<S: Side>(
     requires look_upto { look ≤ 6 }
     requires equal { rel.now.size ≡ automaton.now.states }
     ensures { IfOk result (λ told. IsTrue told
-        ↔ Stable (S.goes side.now automaton.now) (S.goes side.now automaton.now) (S.keeps side.now automaton.now) look (Holds rel.now.pairs)) }
+        ↔ Stable (S.goes side.now automaton.now) (S.goes side.now automaton.now) (S.matches side.now automaton.now) look (Holds rel.now.pairs)) }
 {
     let mut scratch = Scratch::new(alloc, automaton, look)?;
     for p in 0..rel.size() {

@@ -4,3 +4,4 @@ pub mod NearLemmas
 pub mod VisitLemmas
 pub mod AskedLemmas
 pub mod PlayLemmas
+pub mod SameLemmas

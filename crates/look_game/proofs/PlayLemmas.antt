@@ -18,7 +18,7 @@ module _ {S : Type 0} {G : Ghosts S} where
     look = look;
     takes = λ valid.
         let M = G.goes p.side.now p.automaton.now in
-        let ok = G.keeps p.side.now p.automaton.now in
+        let ok = G.matches p.side.now p.automaton.now in
         let P : Relation → Type 0 = λ R. TakesAway M ok p.look p.rel R in
         subst P (sym rel) (takes_none M ok p.look p.rel valid);
   }
@@ -34,9 +34,9 @@ module _ {S : Type 0} {G : Ghosts S} where
     takes = λ valid.
         let one = first.takes valid in
         let two = second.takes one.valid in
-        let P : Bor S → Type 0 = λ s. TakesAway (G.goes s.now q.automaton.now) (G.keeps s.now q.automaton.now) q.look q.rel r.rel in
-        let Q : Bor Automaton → Type 0 = λ a. TakesAway (G.goes p.side.now a.now) (G.keeps p.side.now a.now) q.look q.rel r.rel in
-        let T : ℕ → Type 0 = λ k. TakesAway (G.goes p.side.now p.automaton.now) (G.keeps p.side.now p.automaton.now) k q.rel r.rel in
-        takes_then (G.goes p.side.now p.automaton.now) (G.keeps p.side.now p.automaton.now) p.look p.rel q.rel r.rel one
+        let P : Bor S → Type 0 = λ s. TakesAway (G.goes s.now q.automaton.now) (G.matches s.now q.automaton.now) q.look q.rel r.rel in
+        let Q : Bor Automaton → Type 0 = λ a. TakesAway (G.goes p.side.now a.now) (G.matches p.side.now a.now) q.look q.rel r.rel in
+        let T : ℕ → Type 0 = λ k. TakesAway (G.goes p.side.now p.automaton.now) (G.matches p.side.now p.automaton.now) k q.rel r.rel in
+        takes_then (G.goes p.side.now p.automaton.now) (G.matches p.side.now p.automaton.now) p.look p.rel q.rel r.rel one
         (subst T first.look (subst Q first.automaton (subst P first.side two)));
   }

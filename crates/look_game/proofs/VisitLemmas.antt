@@ -1,5 +1,5 @@
 -- Visiting a row: its lost pairs are found, and then taken away.
-use Rattle.std.proofs.Common.{◌≡◌, ℕ, ◌+◌, ◌<◌, ◌≤◌, ◌↔◌, inl, inr, Bool, true, false, List, length, refl, sym, ◌∙◌, subst, arith}
+use Rattle.std.proofs.Common.{◌≡◌, ℕ, ◌+◌, ◌<◌, ◌≤◌, ◌↔◌, ◌⊎◌, inl, inr, Bool, true, false, List, length, refl, sym, ◌∙◌, subst, arith}
 use Rattle.std.proofs.lemmas.Bool.{cases_eq, cases_lt, false≢true}
 use Rattle.auto_core.specs.Rows.{bit_of, HasBit}
 use Rattle.auto_core.specs.Game.{Round, Holds}
@@ -207,6 +207,21 @@ module _ (M : ℕ → ℕ → ℕ → Type 0) (ok : ℕ → ℕ → Type 0) (k p
         round_near M ok (Holds old.pairs) (Holds new.pairs) k p q
         (λ u v reached is. (takes.pairs u v).1 (is, λ e. absurd (free (subst (λ x. IsReachedWithin M k p x) e reached))))
         (stays_round q stays)
+
+-- what a row was related to is what it is related to and what it has lost
+pub related_or_lost :
+    (p : ℕ) (lost : List ℕ) (old new : Relation)
+    → TakesRow p lost old new
+    → ((q : ℕ) → HasBit lost q → Holds old.pairs p q)
+    → (q : ℕ)
+    → Holds old.pairs p q ↔ (Holds new.pairs p q ⊎ HasBit lost q)
+related_or_lost p lost old new takes were q = (
+  λ held. elim (bit_cases (bit_of lost q)) [
+    | inl bit ↦ inr bit
+    | inr clear ↦ inl ((takes.pairs p q).1 (held, λ _ bit. false≢true (sym clear ∙ bit)))
+  ],
+  λ either. elim either [ inl is ↦ ((takes.pairs p q).0 is).0 | inr bit ↦ were q bit ],
+)
 
 -- a row that is as it was answers as it did
 pub answers_same :

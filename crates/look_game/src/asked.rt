@@ -45,7 +45,7 @@ pub fn may_stay<S: Side>(
     requires right { pair.right < automaton.now.states }
     ensures { IfOk result (λ may. may ≡ false → (T : List (ℕ × ℕ))
         → ArePairsBelow automaton.now.states automaton.now.states T
-        → Stable (S.goes side.now automaton.now) (S.goes side.now automaton.now) (S.keeps side.now automaton.now) look (Holds T)
+        → Stable (S.goes side.now automaton.now) (S.goes side.now automaton.now) (S.matches side.now automaton.now) look (Holds T)
         → Holds T pair.left pair.right
         → ⊥) }
 {

@@ -7,7 +7,7 @@ ghost use Rattle.bit_rel.specs.Relation.{IsRelation};
 ghost use Rattle.look_game.specs.Taking.{TakesAway, TakesSome, HasRounds, HasStable};
 ghost use Rattle.look_game.specs.Asked.{IsLost, IsNeverKept};
 ghost use Rattle.look_game.specs.Near.{IsFarFrom, HasOtherRounds};
-ghost use Rattle.look_game.specs.Visiting.{IsReady};
+ghost use Rattle.look_game.specs.Visiting.{IsRoomFor};
 
 use crate::asked::{Pair, is_lost, may_stay};
 use crate::near;
@@ -36,16 +36,16 @@ fn pass<S: Side>(
     requires made { scratch.old ≡ record { states = automaton.now.states; look = look } }
     requires marks_len { length marks.now ≡ (automaton.now.states + 63) / 64 }
     requires changed_len { length changed.old ≡ (automaton.now.states + 63) / 64 }
-    requires others { HasOtherRounds (S.goes side.now automaton.now) (S.keeps side.now automaton.now) look rel.old marks.now }
-    requires ready { IsReady (S.goes side.now automaton.now) (S.keeps side.now automaton.now) (Holds rel.old.pairs) automaton.now.states visits.old }
-    ensures takes { TakesAway (S.goes side.now automaton.now) (S.keeps side.now automaton.now) look rel.old rel.new }
+    requires others { HasOtherRounds (S.goes side.now automaton.now) (S.matches side.now automaton.now) look rel.old marks.now }
+    requires ready { IsRoomFor (S.goes side.now automaton.now) (S.matches side.now automaton.now) (Holds rel.old.pairs) automaton.now.states visits.old }
+    ensures takes { TakesAway (S.goes side.now automaton.now) (S.matches side.now automaton.now) look rel.old rel.new }
     ensures some { result ≡ true → TakesSome rel.old rel.new }
-    ensures none { result ≡ false → (p : ℕ) → HasRounds (S.goes side.now automaton.now) (S.keeps side.now automaton.now) look rel.new p }
+    ensures none { result ≡ false → (p : ℕ) → HasRounds (S.goes side.now automaton.now) (S.matches side.now automaton.now) look rel.new p }
     ensures apart { (p : ℕ)
         → IsFarFrom (S.goes side.now automaton.now) look changed.new p
-        → HasRounds (S.goes side.now automaton.now) (S.keeps side.now automaton.now) look rel.new p }
+        → HasRounds (S.goes side.now automaton.now) (S.matches side.now automaton.now) look rel.new p }
     ensures scratch { scratch.new ≡ scratch.old }
-    ensures ready { IsReady (S.goes side.now automaton.now) (S.keeps side.now automaton.now) (Holds rel.new.pairs) automaton.now.states visits.new }
+    ensures ready { IsRoomFor (S.goes side.now automaton.now) (S.matches side.now automaton.now) (Holds rel.new.pairs) automaton.now.states visits.new }
 {
     rows::clear_row(changed);
     let mut any = false;
@@ -83,9 +83,9 @@ fn settle<S: Side>(
     requires marks_len { length marks.old ≡ (automaton.now.states + 63) / 64 }
     requires changed_len { length changed.old ≡ (automaton.now.states + 63) / 64 }
     requires spare_len { length spare.old ≡ (automaton.now.states + 63) / 64 }
-    requires ready { IsReady (S.goes side.now automaton.now) (S.keeps side.now automaton.now) (Holds rel.old.pairs) automaton.now.states visits.old }
-    ensures takes { TakesAway (S.goes side.now automaton.now) (S.keeps side.now automaton.now) look rel.old rel.new }
-    ensures rounds { result ≡ true → (p : ℕ) → HasRounds (S.goes side.now automaton.now) (S.keeps side.now automaton.now) look rel.new p }
+    requires ready { IsRoomFor (S.goes side.now automaton.now) (S.matches side.now automaton.now) (Holds rel.old.pairs) automaton.now.states visits.old }
+    ensures takes { TakesAway (S.goes side.now automaton.now) (S.matches side.now automaton.now) look rel.old rel.new }
+    ensures rounds { result ≡ true → (p : ℕ) → HasRounds (S.goes side.now automaton.now) (S.matches side.now automaton.now) look rel.new p }
     ensures lost { result ≡ false → IsLost rel.new.pairs asked }
 {
     mark_below(marks, rel.size());
@@ -112,10 +112,10 @@ fn greatest_within<S: Side>(
     requires look_upto { look ≤ 6 }
     requires asked_states { IfSome asked (λ pair. (pair.left < automaton.now.states) × (pair.right < automaton.now.states)) }
     requires size { first.size ≡ automaton.now.states }
-    requires stable { HasStable (S.goes side.now automaton.now) (S.keeps side.now automaton.now) look automaton.now.states first.pairs }
+    requires stable { HasStable (S.goes side.now automaton.now) (S.matches side.now automaton.now) look automaton.now.states first.pairs }
     ensures size { IfOk result (λ found. IfSome found (λ r. r.size ≡ automaton.now.states)) }
-    ensures greatest { IfOk result (λ found. IfSome found (λ r. IsGreatest (S.goes side.now automaton.now) (S.goes side.now automaton.now) (S.keeps side.now automaton.now) look automaton.now.states automaton.now.states r.pairs)) }
-    ensures none { IfOk result (λ found. found ≡ None → IsNeverKept (S.goes side.now automaton.now) (S.keeps side.now automaton.now) look automaton.now.states asked) }
+    ensures greatest { IfOk result (λ found. IfSome found (λ r. IsGreatest (S.goes side.now automaton.now) (S.goes side.now automaton.now) (S.matches side.now automaton.now) look automaton.now.states automaton.now.states r.pairs)) }
+    ensures none { IfOk result (λ found. found ≡ None → IsNeverKept (S.goes side.now automaton.now) (S.matches side.now automaton.now) look automaton.now.states asked) }
 {
     if is_lost(&first, asked) {
         return Ok(None);
@@ -153,9 +153,9 @@ fn found<S: Side>(
     requires look_from { 1 ≤ look }
     requires look_upto { look ≤ 6 }
     requires size { first.size ≡ automaton.now.states }
-    requires stable { HasStable (S.goes side.now automaton.now) (S.keeps side.now automaton.now) look automaton.now.states first.pairs }
+    requires stable { HasStable (S.goes side.now automaton.now) (S.matches side.now automaton.now) look automaton.now.states first.pairs }
     ensures size { IfOk result (λ r. r.size ≡ automaton.now.states) }
-    ensures greatest { IfOk result (λ r. IsGreatest (S.goes side.now automaton.now) (S.goes side.now automaton.now) (S.keeps side.now automaton.now) look automaton.now.states automaton.now.states r.pairs) }
+    ensures greatest { IfOk result (λ r. IsGreatest (S.goes side.now automaton.now) (S.goes side.now automaton.now) (S.matches side.now automaton.now) look automaton.now.states automaton.now.states r.pairs) }
 {
     match greatest_within(alloc, side, automaton, look, None, first)? {
         Some(rel) => Ok(rel),
@@ -174,7 +174,7 @@ pub fn greatest<S: Side>(
     requires look_from { 1 ≤ look }
     requires look_upto { look ≤ 6 }
     ensures size { IfOk result (λ r. r.size ≡ automaton.now.states) }
-    ensures greatest { IfOk result (λ r. IsGreatest (S.goes side.now automaton.now) (S.goes side.now automaton.now) (S.keeps side.now automaton.now) look automaton.now.states automaton.now.states r.pairs) }
+    ensures greatest { IfOk result (λ r. IsGreatest (S.goes side.now automaton.now) (S.goes side.now automaton.now) (S.matches side.now automaton.now) look automaton.now.states automaton.now.states r.pairs) }
 {
     let first = bound(alloc, side, automaton)?;
     found(alloc, side, automaton, look, first)
@@ -194,11 +194,11 @@ pub fn greatest_with<S: Side>(
     requires left { left < automaton.now.states }
     requires right { right < automaton.now.states }
     ensures size { IfOk result (λ found. IfSome found (λ r. r.size ≡ automaton.now.states)) }
-    ensures greatest { IfOk result (λ found. IfSome found (λ r. IsGreatest (S.goes side.now automaton.now) (S.goes side.now automaton.now) (S.keeps side.now automaton.now) look automaton.now.states automaton.now.states r.pairs)) }
+    ensures greatest { IfOk result (λ found. IfSome found (λ r. IsGreatest (S.goes side.now automaton.now) (S.goes side.now automaton.now) (S.matches side.now automaton.now) look automaton.now.states automaton.now.states r.pairs)) }
     ensures has { IfOk result (λ found. IfSome found (λ r. Holds r.pairs left right)) }
     ensures lacks { IfOk result (λ found. found ≡ None → (T : List (ℕ × ℕ))
         → ArePairsBelow automaton.now.states automaton.now.states T
-        → Stable (S.goes side.now automaton.now) (S.goes side.now automaton.now) (S.keeps side.now automaton.now) look (Holds T)
+        → Stable (S.goes side.now automaton.now) (S.goes side.now automaton.now) (S.matches side.now automaton.now) look (Holds T)
         → Holds T left right
         → ⊥) }
 {
@@ -220,21 +220,21 @@ pub fn greatest_with<S: Side>(
 }
 
 /// The greatest relation at lookahead 1, sought inside the one at a larger lookahead: what is stable at lookahead 1 is stable at each.
-pub fn greatest_near<S: Side>(
+pub fn greatest_at_one<S: Side>(
     alloc: Global,
     side: &S,
     automaton: &Auto,
     look: u32,
-    far: Rel,
+    wider: Rel,
 ) -> Result<Rel, Memory>
     requires look { 1 ≤ look }
-    requires size { far.size ≡ automaton.now.states }
-    requires far { IsGreatest (S.goes side.now automaton.now) (S.goes side.now automaton.now) (S.keeps side.now automaton.now) look automaton.now.states automaton.now.states far.pairs }
+    requires size { wider.size ≡ automaton.now.states }
+    requires wider { IsGreatest (S.goes side.now automaton.now) (S.goes side.now automaton.now) (S.matches side.now automaton.now) look automaton.now.states automaton.now.states wider.pairs }
     ensures size { IfOk result (λ r. r.size ≡ automaton.now.states) }
-    ensures greatest { IfOk result (λ r. IsGreatest (S.goes side.now automaton.now) (S.goes side.now automaton.now) (S.keeps side.now automaton.now) 1 automaton.now.states automaton.now.states r.pairs) }
+    ensures greatest { IfOk result (λ r. IsGreatest (S.goes side.now automaton.now) (S.goes side.now automaton.now) (S.matches side.now automaton.now) 1 automaton.now.states automaton.now.states r.pairs) }
 {
     if look == 1 {
-        return Ok(far);
+        return Ok(wider);
     }
-    found(alloc, side, automaton, 1, far)
+    found(alloc, side, automaton, 1, wider)
 }

@@ -8,5 +8,5 @@ mod near;
 mod rounds;
 mod visiting;
 
-pub use game::{greatest, greatest_near, greatest_with};
+pub use game::{greatest, greatest_at_one, greatest_with};
 pub use rounds::greatest_by_rounds;

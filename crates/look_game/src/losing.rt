@@ -272,7 +272,7 @@ pub fn played_on<S: Side>(
     requires left { pair.left < automaton.now.states }
     requires right { pair.right < automaton.now.states }
     requires size { rel.size ≡ automaton.now.states }
-    ensures { IfOk result (TakesAway (S.goes side.now automaton.now) (S.keeps side.now automaton.now) look rel) }
+    ensures { IfOk result (TakesAway (S.goes side.now automaton.now) (S.matches side.now automaton.now) look rel) }
 {
     let mut play = Play::new(alloc, side, automaton, look, rel)?;
     play.deepen(pair)?;

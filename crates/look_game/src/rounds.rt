@@ -13,7 +13,7 @@ use std::alloc::Global;
 fn match_row<S: Side>(side: &S, automaton: &Auto, rel: &mut Rel, p: u32)
     requires state { p < automaton.now.states }
     requires equal { rel.old.size ≡ automaton.now.states }
-    ensures { AddsMatching (S.keeps side.now automaton.now) automaton.now.states p rel.old rel.new }
+    ensures { AddsMatching (S.matches side.now automaton.now) automaton.now.states p rel.old rel.new }
 {
     for q in 0..rel.size() {
         if side.matched(automaton, p, q) {
@@ -24,7 +24,7 @@ fn match_row<S: Side>(side: &S, automaton: &Auto, rel: &mut Rel, p: u32)
 
 /// All pairs that match.
 pub fn matching<S: Side>(alloc: Global, side: &S, automaton: &Auto) -> Result<Rel, Memory>
-    ensures { IfOk result (IsMatching (S.keeps side.now automaton.now) automaton.now.states) }
+    ensures { IfOk result (IsMatching (S.matches side.now automaton.now) automaton.now.states) }
 {
     let mut rel = Rel::empty(alloc, automaton.states())?;
     for p in 0..automaton.states() {
@@ -34,7 +34,7 @@ pub fn matching<S: Side>(alloc: Global, side: &S, automaton: &Auto) -> Result<Re
 }
 
 /// Takes away the pairs of `p` that do not have their round, and tells whether there were any.
-fn visit_row<S: Side>(
+fn play_row<S: Side>(
     side: &S,
     automaton: &Auto,
     look: u32,
@@ -47,10 +47,10 @@ fn visit_row<S: Side>(
     requires equal { rel.old.size ≡ automaton.now.states }
     requires made { scratch.old ≡ record { states = automaton.now.states; look = look } }
     requires state { p < automaton.now.states }
-    ensures takes { TakesAway (S.goes side.now automaton.now) (S.keeps side.now automaton.now) look rel.old rel.new }
+    ensures takes { TakesAway (S.goes side.now automaton.now) (S.matches side.now automaton.now) look rel.old rel.new }
     ensures some { result ≡ true → TakesSome rel.old rel.new }
     ensures same { result ≡ false → rel.new ≡ rel.old }
-    ensures rounds { result ≡ false → HasRounds (S.goes side.now automaton.now) (S.keeps side.now automaton.now) look rel.new p }
+    ensures rounds { result ≡ false → HasRounds (S.goes side.now automaton.now) (S.matches side.now automaton.now) look rel.new p }
     ensures scratch { scratch.new ≡ scratch.old }
 {
     let mut changed = false;
@@ -77,14 +77,14 @@ fn pass<S: Side>(
     requires look_upto { look ≤ 6 }
     requires equal { rel.old.size ≡ automaton.now.states }
     requires made { scratch.old ≡ record { states = automaton.now.states; look = look } }
-    ensures takes { TakesAway (S.goes side.now automaton.now) (S.keeps side.now automaton.now) look rel.old rel.new }
+    ensures takes { TakesAway (S.goes side.now automaton.now) (S.matches side.now automaton.now) look rel.old rel.new }
     ensures some { result ≡ true → TakesSome rel.old rel.new }
-    ensures rounds { result ≡ false → (p : ℕ) → HasRounds (S.goes side.now automaton.now) (S.keeps side.now automaton.now) look rel.new p }
+    ensures rounds { result ≡ false → (p : ℕ) → HasRounds (S.goes side.now automaton.now) (S.matches side.now automaton.now) look rel.new p }
     ensures scratch { scratch.new ≡ scratch.old }
 {
     let mut changed = false;
     for p in 0..rel.size() {
-        if visit_row(side, automaton, look, rel, scratch, p) {
+        if play_row(side, automaton, look, rel, scratch, p) {
             changed = true;
         }
     }
@@ -102,7 +102,7 @@ pub fn greatest_by_rounds<S: Side>(
     requires look_from { 1 ≤ look }
     requires look_upto { look ≤ 6 }
     ensures size { IfOk result (λ r. r.size ≡ automaton.now.states) }
-    ensures greatest { IfOk result (λ r. IsGreatest (S.goes side.now automaton.now) (S.goes side.now automaton.now) (S.keeps side.now automaton.now) look automaton.now.states automaton.now.states r.pairs) }
+    ensures greatest { IfOk result (λ r. IsGreatest (S.goes side.now automaton.now) (S.goes side.now automaton.now) (S.matches side.now automaton.now) look automaton.now.states automaton.now.states r.pairs) }
 {
     let mut rel = matching(alloc, side, automaton)?;
     let mut scratch = Scratch::new(alloc, automaton, look)?;

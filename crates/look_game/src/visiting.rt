@@ -7,7 +7,7 @@ ghost use Rattle.bit_rel.specs.Relation.{IsRelation};
 ghost use Rattle.look_round.specs.Answering.{AreAnswers};
 ghost use Rattle.look_game.specs.Near.{IsReachedWithin};
 ghost use Rattle.look_game.specs.Taking.{TakesAway, TakesSome, KeepsOthers, HasRounds};
-ghost use Rattle.look_game.specs.Visiting.{IsReady, TakesRow};
+ghost use Rattle.look_game.specs.Visiting.{IsRoomFor, TakesRow};
 
 use auto_core::{Auto, Memory, rows};
 use bit_rel::Rel;
@@ -39,16 +39,16 @@ fn find_lost<S: Side>(
     requires look_upto { look ≤ 6 }
     requires equal { rel.now.size ≡ automaton.now.states }
     requires made { scratch.old ≡ record { states = automaton.now.states; look = look } }
-    requires answers { AreAnswers (S.goes side.now automaton.now) (S.keeps side.now automaton.now) (Holds rel.now.pairs) automaton.now.states answering.now }
+    requires answers { AreAnswers (S.goes side.now automaton.now) (S.matches side.now automaton.now) (Holds rel.now.pairs) automaton.now.states answering.now }
     requires state { p < automaton.now.states }
     requires few { automaton.now.states < 2 ^ 32 }
     requires rest_len { length rest.now ≡ (automaton.now.states + 63) / 64 }
     requires rest { (q : ℕ) → HasBit rest.now q → q < automaton.now.states }
     requires lost { length lost.old ≡ (automaton.now.states + 63) / 64 }
     ensures lost { (q : ℕ) → HasBit lost.new q → HasBit rest.now q
-        × (Round (S.goes side.now automaton.now) (S.goes side.now automaton.now) (S.keeps side.now automaton.now) look (Holds rel.now.pairs) p q → ⊥) }
+        × (Round (S.goes side.now automaton.now) (S.goes side.now automaton.now) (S.matches side.now automaton.now) look (Holds rel.now.pairs) p q → ⊥) }
     ensures rounds { (q : ℕ) → HasBit rest.now q → (HasBit lost.new q → ⊥)
-        → Round (S.goes side.now automaton.now) (S.goes side.now automaton.now) (S.keeps side.now automaton.now) look (Holds rel.now.pairs) p q }
+        → Round (S.goes side.now automaton.now) (S.goes side.now automaton.now) (S.matches side.now automaton.now) look (Holds rel.now.pairs) p q }
     ensures len { length lost.new ≡ length lost.old }
     ensures scratch { scratch.new ≡ scratch.old }
 {
@@ -93,7 +93,7 @@ impl Visits {
         rel: &Rel,
     ) -> Result<Visits, Memory>
         requires equal { rel.now.size ≡ automaton.now.states }
-        ensures { IfOk result (IsReady (S.goes side.now automaton.now) (S.keeps side.now automaton.now) (Holds rel.now.pairs) automaton.now.states) }
+        ensures { IfOk result (IsRoomFor (S.goes side.now automaton.now) (S.matches side.now automaton.now) (Holds rel.now.pairs) automaton.now.states) }
     {
         let width = rows::words_for(automaton.states());
         Ok(Visits {
@@ -112,7 +112,7 @@ fn try_row<S: Side>(
     rel: &mut Rel,
     scratch: &mut Scratch,
     p: u32,
-    answering: &Answering,
+    answering: &mut Answering,
     rest: &mut [u64],
     lost: &mut [u64],
 ) -> bool
@@ -123,23 +123,26 @@ fn try_row<S: Side>(
     requires state { p < automaton.now.states }
     requires few { automaton.now.states < 2 ^ 32 }
     requires valid { IsRelation rel.old }
-    requires answers { AreAnswers (S.goes side.now automaton.now) (S.keeps side.now automaton.now) (Holds rel.old.pairs) automaton.now.states answering.now }
+    requires answers { AreAnswers (S.goes side.now automaton.now) (S.matches side.now automaton.now) (Holds rel.old.pairs) automaton.now.states answering.old }
     requires rest { length rest.old ≡ (automaton.now.states + 63) / 64 }
     requires lost { length lost.old ≡ (automaton.now.states + 63) / 64 }
-    ensures takes { TakesAway (S.goes side.now automaton.now) (S.keeps side.now automaton.now) look rel.old rel.new }
+    ensures takes { TakesAway (S.goes side.now automaton.now) (S.matches side.now automaton.now) look rel.old rel.new }
     ensures some { result ≡ true → TakesSome rel.old rel.new }
     ensures same { result ≡ false → rel.new ≡ rel.old }
-    ensures rounds { result ≡ false → HasRounds (S.goes side.now automaton.now) (S.keeps side.now automaton.now) look rel.new p }
+    ensures rounds { result ≡ false → HasRounds (S.goes side.now automaton.now) (S.matches side.now automaton.now) look rel.new p }
     ensures others { KeepsOthers p rel.old rel.new }
     ensures apart { (IsReachedWithin (S.goes side.now automaton.now) look p p → ⊥)
-        → HasRounds (S.goes side.now automaton.now) (S.keeps side.now automaton.now) look rel.new p }
+        → HasRounds (S.goes side.now automaton.now) (S.matches side.now automaton.now) look rel.new p }
+    ensures answers { AreAnswers (S.goes side.now automaton.now) (S.matches side.now automaton.now) (Holds rel.new.pairs) automaton.now.states answering.new }
     ensures scratch { scratch.new ≡ scratch.old }
 {
     answering.unanswered(side, automaton, rel, p, rest);
     find_lost(
         side, automaton, rel, answering, look, p, rest, lost, scratch,
     );
-    take_lost(rel, p, lost)
+    let changed = take_lost(rel, p, lost);
+    answering.forget(side, automaton, rel, p, lost);
+    changed
 }
 
 /// Takes away the pairs of `p` that do not have their round, and tells whether there were any.
@@ -159,30 +162,26 @@ pub fn visit_row<S: Side>(
     requires state { p < automaton.now.states }
     requires few { automaton.now.states < 2 ^ 32 }
     requires valid { IsRelation rel.old }
-    requires ready { IsReady (S.goes side.now automaton.now) (S.keeps side.now automaton.now) (Holds rel.old.pairs) automaton.now.states visits.old }
-    ensures takes { TakesAway (S.goes side.now automaton.now) (S.keeps side.now automaton.now) look rel.old rel.new }
+    requires ready { IsRoomFor (S.goes side.now automaton.now) (S.matches side.now automaton.now) (Holds rel.old.pairs) automaton.now.states visits.old }
+    ensures takes { TakesAway (S.goes side.now automaton.now) (S.matches side.now automaton.now) look rel.old rel.new }
     ensures some { result ≡ true → TakesSome rel.old rel.new }
     ensures same { result ≡ false → rel.new ≡ rel.old }
-    ensures rounds { result ≡ false → HasRounds (S.goes side.now automaton.now) (S.keeps side.now automaton.now) look rel.new p }
+    ensures rounds { result ≡ false → HasRounds (S.goes side.now automaton.now) (S.matches side.now automaton.now) look rel.new p }
     ensures others { KeepsOthers p rel.old rel.new }
     ensures apart { (IsReachedWithin (S.goes side.now automaton.now) look p p → ⊥)
-        → HasRounds (S.goes side.now automaton.now) (S.keeps side.now automaton.now) look rel.new p }
+        → HasRounds (S.goes side.now automaton.now) (S.matches side.now automaton.now) look rel.new p }
     ensures scratch { scratch.new ≡ scratch.old }
-    ensures ready { IsReady (S.goes side.now automaton.now) (S.keeps side.now automaton.now) (Holds rel.new.pairs) automaton.now.states visits.new }
+    ensures ready { IsRoomFor (S.goes side.now automaton.now) (S.matches side.now automaton.now) (Holds rel.new.pairs) automaton.now.states visits.new }
 {
-    if try_row(
+    try_row(
         side,
         automaton,
         look,
         rel,
         scratch,
         p,
-        &visits.answering,
+        &mut visits.answering,
         &mut visits.rest,
         &mut visits.lost,
-    ) {
-        visits.answering.refresh(side, automaton, rel, p);
-        return true;
-    }
-    false
+    )
 }

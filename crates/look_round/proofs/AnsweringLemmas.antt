@@ -9,9 +9,9 @@ use Rattle.std.proofs.lemmas.List.{get_or_default}
 use Rattle.std.proofs.lemmas.Nat.{mul-add-lt, same_from_place}
 use Rattle.auto_core.proofs.BitLemmas.{bit_past}
 use Rattle.auto_core.specs.Rows.{bit_of, cell_of, HasBit, HasCell}
-use Rattle.auto_core.specs.Run.{PathBy}
 use Rattle.auto_core.specs.Game.{Round}
 use Rattle.look_round.specs.declared.moves.Move.{Move}
+use Rattle.row_steps.specs.Walks.{IsNextBit}
 use Rattle.look_round.specs.Sides.{move}
 use Rattle.look_round.specs.declared.answering.Answering.{Answering}
 use Rattle.look_round.specs.Answering.{IsAnsweredAtOnce, AreAnswersTo}
@@ -133,6 +133,107 @@ all_arrived moves goes old now l w t n lists all h a q a_in q_in = (
         let (j, j_in, is) = (lists a q).1 go in
         inr (j, omega arith, get_or_default moves j (move 0 0) (move a q) j_in ∙ is)
   ]),
+)
+
+-- For each letter row t has lost of the old cells those of the first n moves of the list of which P does not hold; the other rows are the same.
+pub record HasClearedUpto (moves : List Move) (P : ℕ → ℕ → Type 0) (old now : List ℕ) (l w t n : ℕ) : Type 0 where
+  pub here : (a q : ℕ) → a < l → q < w * 64
+      → HasCell now (l * w) t (col w a q) ↔ (HasCell old (l * w) t (col w a q) × ((j : ℕ) → j < n → get_or moves j (move 0 0) ≡ move a q → P a q))
+  pub others : (s c : ℕ) → c < l * w * 64 → ¬ (s ≡ t) → cell_of now (l * w) s c ≡ cell_of old (l * w) s c
+
+pub none_cleared : (moves : List Move) (P : ℕ → ℕ → Type 0) (old : List ℕ) (l w t : ℕ) → HasClearedUpto moves P old old l w t 0
+none_cleared moves P old l w t = record {
+  here = λ a q a_in q_in. (λ h. (h, λ j j_in. absurd (omega arith)), λ h. h.0);
+  others = λ s c c_in apart. refl;
+}
+
+-- P does not hold of the next move, and its cell is cleared
+pub arrival_cleared :
+    (moves : List Move) (P : ℕ → ℕ → Type 0) (old now new : List ℕ) (l w t n : ℕ) (m : Move)
+    → HasClearedUpto moves P old now l w t n
+    → m ≡ get_or moves n (move 0 0)
+    → m.label < l
+    → m.to < w * 64
+    → (P m.label m.to → ⊥)
+    → cell_of new (l * w) t (col w m.label m.to) ≡ false
+    → ((s c : ℕ) → c < l * w * 64 → ¬ ((s ≡ t) × (c ≡ col w m.label m.to)) → cell_of new (l * w) s c ≡ cell_of now (l * w) s c)
+    → HasClearedUpto moves P old new l w t (n + 1)
+arrival_cleared moves P old now new l w t n m h is label_in to_in none clear same = record {
+  here = λ a q a_in q_in. (
+    λ cell. elim (cases_eq (col w a q) (col w m.label m.to)) [
+      | inl e ↦ absurd (false≢true (sym clear ∙ ap (λ c. cell_of new (l * w) t c) (sym e) ∙ cell))
+      | inr apart ↦
+          let was = (h.here a q a_in q_in).0 (sym (same t (col w a q) (column_fits l w a q a_in q_in) (λ x. apart x.1)) ∙ cell) in (
+            was.0,
+            λ j j_in e. elim (cases_eq j n) [
+              | inl f ↦
+                  let here : m ≡ move a q = is ∙ ap (λ i. get_or moves i (move 0 0)) (sym f) ∙ e in
+                  absurd (apart (sym (ap (λ (x : Move). col w x.label x.to) here)))
+              | inr before ↦ was.1 j (omega arith) e
+            ],
+          )
+    ],
+    λ both. elim (cases_eq (col w a q) (col w m.label m.to)) [
+      | inl e ↦
+          let parts = same_column w a q m.label m.to q_in to_in e in
+          let here : get_or moves n (move 0 0) ≡ move a q = sym is ∙ ap (λ x. move x m.to) (sym parts.0) ∙ ap (λ y. move a y) (sym parts.1) in
+          let holds : P a q = both.1 n (omega arith) here in
+          absurd (none (subst (λ x. P x m.to) parts.0 (subst (λ y. P a y) parts.1 holds)))
+      | inr apart ↦
+          same t (col w a q) (column_fits l w a q a_in q_in) (λ x. apart x.1) ∙ (h.here a q a_in q_in).1 (both.0, λ j j_in e. both.1 j (omega arith) e)
+    ],
+  );
+  others = λ s c c_in apart. same s c c_in (λ x. apart x.0) ∙ h.others s c c_in apart;
+}
+
+-- the next move is by none of the letters, or P holds of it
+pub arrival_left :
+    (moves : List Move) (P : ℕ → ℕ → Type 0) (old now : List ℕ) (l w t n : ℕ) (m : Move)
+    → HasClearedUpto moves P old now l w t n
+    → m ≡ get_or moves n (move 0 0)
+    → (m.label < l → P m.label m.to)
+    → HasClearedUpto moves P old now l w t (n + 1)
+arrival_left moves P old now l w t n m h is holds = record {
+  here = λ a q a_in q_in. (
+    λ cell.
+        let was = (h.here a q a_in q_in).0 cell in (
+          was.0,
+          λ j j_in e. elim (cases_eq j n) [
+            | inl f ↦
+                let here : m ≡ move a q = is ∙ ap (λ i. get_or moves i (move 0 0)) (sym f) ∙ e in
+                let Q : Move → Type 0 = λ x. x.label < l → P x.label x.to in
+                subst Q here holds a_in
+            | inr before ↦ was.1 j (omega arith) e
+          ],
+        ),
+    λ both. (h.here a q a_in q_in).1 (both.0, λ j j_in e. both.1 j (omega arith) e),
+  );
+  others = h.others;
+}
+
+-- all moves have been tried
+pub all_cleared :
+    (moves : List Move) (goes : ℕ → ℕ → Type 0) (P : ℕ → ℕ → Type 0) (old now : List ℕ) (l w t n : ℕ)
+    → ((a q : ℕ) → Contains moves (move a q) ↔ goes q a)
+    → n ≡ length moves
+    → HasClearedUpto moves P old now l w t n
+    → (a q : ℕ)
+    → a < l
+    → q < w * 64
+    → HasCell now (l * w) t (col w a q) ↔ (HasCell old (l * w) t (col w a q) × (goes q a → P a q))
+all_cleared moves goes P old now l w t n lists all h a q a_in q_in = (
+  λ cell.
+      let was = (h.here a q a_in q_in).0 cell in (
+        was.0,
+        λ go.
+            let (j, j_in, is) = (lists a q).1 go in
+            was.1 j (omega arith) (get_or_default moves j (move 0 0) (move a q) j_in ∙ is),
+      ),
+  λ both. (h.here a q a_in q_in).1
+      ((
+        both.0,
+        λ j j_in e. both.1 ((lists a q).0 (j, omega arith, get_or_default moves j (move a q) (move 0 0) (omega arith) ∙ e)),
+      )),
 )
 
 pub bit_cases : (b : Bool) → (b ≡ true) ⊎ (b ≡ false)
@@ -307,6 +408,72 @@ module _ (M : ℕ → ℕ → ℕ → Type 0) (ok W : ℕ → ℕ → Type 0) wh
       let here : get_or moves j (move 0 0) ≡ move a r = get_or_default moves j (move 0 0) (move a r) j_in ∙ is in
       let P : Move → Type 0 = λ x. IsAnsweredAtOnce M ok W x.label x.to q in
       subst P here (h q j bit (omega arith))
+
+module _ (M : ℕ → ℕ → ℕ → Type 0) (ok W : ℕ → ℕ → Type 0) (lost : List ℕ) where
+  -- t is related to r, or has lost it and r is not below n.
+  abbrev pub WasRelatedFrom : ℕ → ℕ → ℕ → Type 0
+  WasRelatedFrom n t r = W t r ⊎ (HasBit lost r × (n ≤ r))
+
+  -- For each letter the cells of row t have all states that answer a move by it to t at once, and some that did so by a lost state from n on; the
+  -- other rows are those of the old table.
+  pub record HasForgottenUpto (old now : List ℕ) (l w t n : ℕ) : Type 0 where
+    pub all : (a q : ℕ) → a < l → q < w * 64 → IsAnsweredAtOnce M ok W a t q → HasCell now (l * w) t (col w a q)
+    pub only : (a q : ℕ) → a < l → q < w * 64 → HasCell now (l * w) t (col w a q) → IsAnsweredAtOnce M ok (WasRelatedFrom n) a t q
+    pub others : (s c : ℕ) → c < l * w * 64 → ¬ (s ≡ t) → cell_of now (l * w) s c ≡ cell_of old (l * w) s c
+
+  pub none_forgotten :
+      (old : List ℕ) (l w t : ℕ)
+      → ((a q : ℕ) → a < l → q < w * 64 → HasCell old (l * w) t (col w a q) ↔ IsAnsweredAtOnce M ok (λ p r. W p r ⊎ HasBit lost r) a t q)
+      → HasForgottenUpto old old l w t 0
+  none_forgotten old l w t before = record {
+    all = λ a q a_in q_in (r, go, match, is). (before a q a_in q_in).1 (r, go, match, inl is);
+    only = λ a q a_in q_in cell.
+        let (r, go, match, is) = (before a q a_in q_in).0 cell in
+        (r, go, match, elim is [ inl held ↦ inl held | inr bit ↦ inr (bit, omega arith) ]);
+    others = λ s c c_in apart. refl;
+  }
+
+  -- the next lost state
+  pub one_forgotten :
+      (old now new : List ℕ) (l w t n r : ℕ)
+      → HasForgottenUpto old now l w t n
+      → IsNextBit lost n r
+      → ((a q : ℕ) → a < l → q < w * 64 → HasCell new (l * w) t (col w a q) ↔ (HasCell now (l * w) t (col w a q) × (M q a r → IsAnsweredAtOnce M ok W a t q)))
+      → ((s c : ℕ) → c < l * w * 64 → ¬ (s ≡ t) → cell_of new (l * w) s c ≡ cell_of now (l * w) s c)
+      → HasForgottenUpto old new l w t (r + 1)
+  one_forgotten old now new l w t n r h next cleared same = record {
+    all = λ a q a_in q_in answer. (cleared a q a_in q_in).1 (h.all a q a_in q_in answer, λ go. answer);
+    only = λ a q a_in q_in cell.
+        let both = (cleared a q a_in q_in).0 cell in
+        let (s, go, match, is) = h.only a q a_in q_in both.0 in
+        elim is [
+          | inl held ↦ (s, go, match, inl held)
+          | inr (bit, from) ↦ elim (cases_eq s r) [
+            | inl e ↦ let (x, moves, fits, held) = both.1 (subst (M q a) e go) in (x, moves, fits, inl held)
+            | inr apart ↦ elim (cases_lt s r) [
+              | inl before ↦ absurd (false≢true (sym (next.none_between s from before) ∙ bit))
+              | inr after ↦ (s, go, match, inr (bit, omega arith))
+            ]
+          ]
+        ];
+    others = λ s c c_in apart. same s c c_in apart ∙ h.others s c c_in apart;
+  }
+
+  -- no lost state is left
+  pub all_forgotten :
+      (old now : List ℕ) (l w t n : ℕ)
+      → HasForgottenUpto old now l w t n
+      → ((r : ℕ) → n ≤ r → bit_of lost r ≡ false)
+      → (a q : ℕ)
+      → a < l
+      → q < w * 64
+      → HasCell now (l * w) t (col w a q) ↔ IsAnsweredAtOnce M ok W a t q
+  all_forgotten old now l w t n h none a q a_in q_in = (
+    λ cell.
+        let (s, go, match, is) = h.only a q a_in q_in cell in
+        (s, go, match, elim is [ inl held ↦ held | inr (bit, from) ↦ absurd (false≢true (sym (none s from) ∙ bit)) ]),
+    λ answer. h.all a q a_in q_in answer,
+  )
 
 -- other rows are as they were
 pub answers_kept :

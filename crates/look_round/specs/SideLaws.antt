@@ -10,7 +10,7 @@ use Rattle.auto_core.specs.Game.{BackwardMoves}
 use Rattle.auto_core.proofs.MemberLemmas.{map_has, map_from, filter_has, filter_from}
 use Rattle.auto_core.proofs.PathLemmas.{Contains-here, Contains-later, Contains-cons_cases, none_in_nil}
 use Rattle.look_round.specs.declared.moves.Move.{Move}
-use Rattle.look_round.specs.Sides.{move, move_of, forward_moves, turned_move, backward_moves, turned}
+use Rattle.look_round.specs.Sides.{move, move_of, forward_moves, turned_move, backward_moves, turned_trans}
 
 -- the transitions out of p as moves
 abbrev out_of : List Trans → ℕ → List Move
@@ -77,5 +77,5 @@ pub forward_sees : (A : Automaton) (p a q : ℕ) → Moves A p a q ↔ ((t : Tra
 forward_sees A p a q = (λ m. (trans p a q, m, refl), λ (t, there, is). subst (Contains A.transitions) is there)
 
 -- p moves backward by a to q exactly where this is a transition turned round.
-pub backward_sees : (A : Automaton) (p a q : ℕ) → BackwardMoves A p a q ↔ ((t : Trans) × Contains A.transitions t × (turned t ≡ trans p a q))
-backward_sees A p a q = (λ m. (trans q a p, m, refl), λ (t, there, is). subst (Contains A.transitions) (ap turned is) there)
+pub backward_sees : (A : Automaton) (p a q : ℕ) → BackwardMoves A p a q ↔ ((t : Trans) × Contains A.transitions t × (turned_trans t ≡ trans p a q))
+backward_sees A p a q = (λ m. (trans q a p, m, refl), λ (t, there, is). subst (Contains A.transitions) (ap turned_trans is) there)

@@ -26,5 +26,5 @@ abbrev pub backward_moves : Automaton → ℕ → List Move
 backward_moves A p = map turned_move (filter (λ (t : Trans). t.target == p) A.transitions)
 
 -- The transition turned round.
-abbrev pub turned : Trans → Trans
-turned t = record { source = t.target; label = t.label; target = t.source }
+abbrev pub turned_trans : Trans → Trans
+turned_trans t = record { source = t.target; label = t.label; target = t.source }

@@ -4,12 +4,13 @@ use Rattle.auto_core.specs.Rows.{cell_of, HasBit, HasCell}
 use Rattle.auto_core.specs.Game.{Stable, Holds, ArePairsBelow, IsWithin}
 use Rattle.bit_rel.specs.Relation.{Relation, IsRelation}
 
--- From p the moves M go on by the letters of the word through states each of which matches the one that stands beside its letter.
+-- An *asked word* is a list of letters, each with the state that the one it leads to has to match. From p the moves M go on by the letters of such a word, through
+-- states that match.
 abbrev pub GoesByWord : (ℕ → ℕ → ℕ → Type 0) → (ℕ → ℕ → Type 0) → ℕ → List (ℕ × ℕ) → Type 0
 GoesByWord M ok p [] = Unit {0}
 GoesByWord M ok p (x ∷ w) = (r : ℕ) × M p x.0 r × ok x.1 r × GoesByWord M ok r w
 
--- Column i of the table is on just those of the n states that have one word.
+-- Column i of the table is on just those of the n states that have one asked word.
 abbrev pub IsColumn : (ℕ → ℕ → ℕ → Type 0) → (ℕ → ℕ → Type 0) → ℕ → List ℕ → ℕ → ℕ → Type 0
 IsColumn M ok n table width i = (w : List (ℕ × ℕ)) × ((q : ℕ) → q < n → HasCell table width i q ↔ GoesByWord M ok q w)
 
@@ -21,7 +22,7 @@ AreColumns M ok n table width count = (i : ℕ) → i < count → IsColumn M ok 
 abbrev pub AreMatches : (ℕ → ℕ → Type 0) → ℕ → List ℕ → ℕ → ℕ → Type 0
 AreMatches ok n table width m = (p q : ℕ) → p < m → q < width * 64 → HasCell table width p q ↔ ((q < n) × ok p q)
 
--- Each of the first lanes is on just those of the n states that have one word; lane j of state q is bit j of word q.
+-- Each of the first lanes is on just those of the n states that have one asked word; lane j of state q is bit j of the 64 bits at place q.
 abbrev pub AreLanes : (ℕ → ℕ → ℕ → Type 0) → (ℕ → ℕ → Type 0) → ℕ → List ℕ → ℕ → Type 0
 AreLanes M ok n lanes used = (j : ℕ) → j < used → (w : List (ℕ × ℕ)) × ((q : ℕ) → q < n → HasCell lanes 1 q j ↔ GoesByWord M ok q w)
 

@@ -8,7 +8,7 @@ ghost use Rattle.look_round.specs.Answering.{IsAnsweredAtOnce, AreAnswersTo, Are
 
 use crate::answering::Answering;
 use crate::moves::Move;
-use crate::replies::clear_table_row;
+use crate::replies::{clear_table_row, has_reply_in};
 use crate::sides::Side;
 use auto_core::{Auto, Memory, rows};
 use bit_rel::Rel;
@@ -18,8 +18,8 @@ use std::alloc::Global;
 /// At most so many words are kept.
 const MOST_WORDS: usize = 4194304;
 
-/// The column of a letter and a state in a row.
-fn column(labels: u32, width: usize, label: u32, state: u32) -> usize
+/// The place of a letter and a state in a row.
+fn place_in_row(labels: u32, width: usize, label: u32, state: u32) -> usize
     requires label { label < labels }
     requires state { state < width * 64 }
     requires few { labels * width < 2 ^ 32 }
@@ -51,7 +51,7 @@ fn mark_arrivals<S: Side>(
     for at in 0..side.arrivals(automaton, r) {
         let m = side.nth_arrival(automaton, r, at);
         if m.label < labels {
-            let place = column(labels, width, m.label, m.to);
+            let place = place_in_row(labels, width, m.label, m.to);
             rows::set_cell(table, labels as usize * width, t as usize, place);
         }
     }
@@ -75,7 +75,7 @@ fn write_answers<S: Side>(
     requires row { t * (labels * width) + labels * width ≤ length table.old }
     ensures here { (a q : ℕ) → a < labels → q < width * 64
         → HasCell table.new (labels * width) t (a * width * 64 + q)
-        ↔ IsAnsweredAtOnce (S.goes side.now automaton.now) (S.keeps side.now automaton.now) (Holds rel.now.pairs) a t q }
+        ↔ IsAnsweredAtOnce (S.goes side.now automaton.now) (S.matches side.now automaton.now) (Holds rel.now.pairs) a t q }
     ensures others { (s c : ℕ) → c < labels * width * 64 → ¬ (s ≡ t) → cell_of table.new (labels * width) s c ≡ cell_of table.old (labels * width) s c }
 {
     clear_table_row(table, labels as usize * width, t as usize);
@@ -84,6 +84,76 @@ fn write_answers<S: Side>(
         if side.matched(automaton, t, r as u32) {
             mark_arrivals(side, automaton, t, r as u32, table, labels, width);
         }
+        at = r + 1;
+    }
+}
+
+/// Clears in row `t` of the table, for each letter, the states from which a move by it leads to `r` and that do not answer the move to `t` at once.
+fn clear_arrivals<S: Side>(
+    side: &S,
+    automaton: &Auto,
+    rel: &Rel,
+    t: u32,
+    r: u32,
+    table: &mut [u64],
+    labels: u32,
+    width: usize,
+)
+    requires equal { rel.now.size ≡ automaton.now.states }
+    requires left { t < automaton.now.states }
+    requires right { r < automaton.now.states }
+    requires width { width ≡ (automaton.now.states + 63) / 64 }
+    requires few { labels * width < 2 ^ 32 }
+    requires row { t * (labels * width) + labels * width ≤ length table.old }
+    ensures here { (a q : ℕ) → a < labels → q < width * 64
+        → HasCell table.new (labels * width) t (a * width * 64 + q)
+        ↔ (HasCell table.old (labels * width) t (a * width * 64 + q)
+        × (S.goes side.now automaton.now q a r → IsAnsweredAtOnce (S.goes side.now automaton.now) (S.matches side.now automaton.now) (Holds rel.now.pairs) a t q)) }
+    ensures others { (s c : ℕ) → c < labels * width * 64 → ¬ (s ≡ t) → cell_of table.new (labels * width) s c ≡ cell_of table.old (labels * width) s c }
+{
+    for at in 0..side.arrivals(automaton, r) {
+        let m = side.nth_arrival(automaton, r, at);
+        let step = Move {
+            label: m.label,
+            to: t,
+        };
+        if m.label < labels && !has_reply_in(side, automaton, m.to, step, rel.row(t)) {
+            let place = place_in_row(labels, width, m.label, m.to);
+            rows::clear_cell(table, labels as usize * width, t as usize, place);
+        }
+    }
+}
+
+/// Makes row `t` of the table right, which was so before `t` lost its pairs with those of the row `lost`.
+fn forget_lost<S: Side>(
+    side: &S,
+    automaton: &Auto,
+    rel: &Rel,
+    t: u32,
+    lost: &[u64],
+    table: &mut [u64],
+    labels: u32,
+    width: usize,
+)
+    requires equal { rel.now.size ≡ automaton.now.states }
+    requires state { t < automaton.now.states }
+    requires states { automaton.now.states < 2 ^ 32 }
+    requires width { width ≡ (automaton.now.states + 63) / 64 }
+    requires few { labels * width < 2 ^ 32 }
+    requires row { t * (labels * width) + labels * width ≤ length table.old }
+    requires lost { length lost.now ≡ width }
+    requires below { (r : ℕ) → HasBit lost.now r → r < automaton.now.states }
+    requires before { (a q : ℕ) → a < labels → q < width * 64
+        → HasCell table.old (labels * width) t (a * width * 64 + q)
+        ↔ IsAnsweredAtOnce (S.goes side.now automaton.now) (S.matches side.now automaton.now) (λ p r. Holds rel.now.pairs p r ⊎ HasBit lost.now r) a t q }
+    ensures here { (a q : ℕ) → a < labels → q < width * 64
+        → HasCell table.new (labels * width) t (a * width * 64 + q)
+        ↔ IsAnsweredAtOnce (S.goes side.now automaton.now) (S.matches side.now automaton.now) (Holds rel.now.pairs) a t q }
+    ensures others { (s c : ℕ) → c < labels * width * 64 → ¬ (s ≡ t) → cell_of table.new (labels * width) s c ≡ cell_of table.old (labels * width) s c }
+{
+    let mut at = 0;
+    while let Some(r) = next_bit(lost, at) {
+        clear_arrivals(side, automaton, rel, t, r as u32, table, labels, width);
         at = r + 1;
     }
 }
@@ -153,7 +223,7 @@ impl Answering {
         rel: &Rel,
     ) -> Result<Answering, Memory>
         requires equal { rel.now.size ≡ automaton.now.states }
-        ensures { IfOk result (AreAnswers (S.goes side.now automaton.now) (S.keeps side.now automaton.now) (Holds rel.now.pairs) automaton.now.states) }
+        ensures { IfOk result (AreAnswers (S.goes side.now automaton.now) (S.matches side.now automaton.now) (Holds rel.now.pairs) automaton.now.states) }
     {
         let count = automaton.states();
         let width = rows::words_for(count);
@@ -165,7 +235,7 @@ impl Answering {
     }
 
     /// Makes the row of the state right, if it has one.
-    pub fn refresh<S: Side>(&mut self, side: &S, automaton: &Auto, rel: &Rel, t: u32)
+    fn refresh<S: Side>(&mut self, side: &S, automaton: &Auto, rel: &Rel, t: u32)
         requires state { t < automaton.now.states }
         requires states { automaton.now.states < 2 ^ 32 }
         requires equal { rel.now.size ≡ automaton.now.states }
@@ -173,7 +243,7 @@ impl Answering {
         ensures width { self.new.width ≡ self.old.width }
         ensures kept { self.new.kept ≡ self.old.kept }
         ensures here { t < self.old.kept
-            → AreAnswersTo (S.goes side.now automaton.now) (S.keeps side.now automaton.now) (Holds rel.now.pairs) self.new t }
+            → AreAnswersTo (S.goes side.now automaton.now) (S.matches side.now automaton.now) (Holds rel.now.pairs) self.new t }
         ensures labels { self.new.labels ≡ self.old.labels }
         ensures others { (s c : ℕ) → c < self.old.labels * self.old.width * 64 → ¬ (s ≡ t)
             → cell_of self.new.table.items (self.old.labels * self.old.width) s c ≡ cell_of self.old.table.items (self.old.labels * self.old.width) s c }
@@ -200,7 +270,7 @@ impl Answering {
     }
 
     /// The states that answer the move at once.
-    fn row_of(&self, step: Move) -> &[u64]
+    pub(crate) fn row_of(&self, step: Move) -> &[u64]
         requires to { step.to < self.now.kept }
         requires label { step.label < self.now.labels }
         ensures len { length result.now ≡ self.now.width }
@@ -230,6 +300,39 @@ impl Answering {
         false
     }
 
+    /// Makes the row of the state right, if it has one and it was so before the state lost its pairs with those of the row `lost`.
+    pub fn forget<S: Side>(&mut self, side: &S, automaton: &Auto, rel: &Rel, t: u32, lost: &[u64])
+        requires state { t < automaton.now.states }
+        requires states { automaton.now.states < 2 ^ 32 }
+        requires equal { rel.now.size ≡ automaton.now.states }
+        requires width { self.old.width ≡ (automaton.now.states + 63) / 64 }
+        requires lost { length lost.now ≡ (automaton.now.states + 63) / 64 }
+        requires below { (r : ℕ) → HasBit lost.now r → r < automaton.now.states }
+        requires before { t < self.old.kept
+            → AreAnswersTo (S.goes side.now automaton.now) (S.matches side.now automaton.now) (λ p r. Holds rel.now.pairs p r ⊎ HasBit lost.now r) self.old t }
+        ensures width { self.new.width ≡ self.old.width }
+        ensures kept { self.new.kept ≡ self.old.kept }
+        ensures here { t < self.old.kept
+            → AreAnswersTo (S.goes side.now automaton.now) (S.matches side.now automaton.now) (Holds rel.now.pairs) self.new t }
+        ensures labels { self.new.labels ≡ self.old.labels }
+        ensures others { (s c : ℕ) → c < self.old.labels * self.old.width * 64 → ¬ (s ≡ t)
+            → cell_of self.new.table.items (self.old.labels * self.old.width) s c ≡ cell_of self.old.table.items (self.old.labels * self.old.width) s c }
+    {
+        if t >= self.kept {
+            return;
+        }
+        forget_lost(
+            side,
+            automaton,
+            rel,
+            t,
+            lost,
+            &mut self.table,
+            self.labels,
+            self.width,
+        );
+    }
+
     /// Clears the row's states that do not answer the move at once, or all where that is not known.
     fn keep_answering<S: Side>(
         &self,
@@ -239,11 +342,11 @@ impl Answering {
         step: Move,
         row: &mut [u64],
     )
-        requires answers { AreAnswers (S.goes side.now automaton.now) (S.keeps side.now automaton.now) (Holds rel.now.pairs) automaton.now.states self.now }
+        requires answers { AreAnswers (S.goes side.now automaton.now) (S.matches side.now automaton.now) (Holds rel.now.pairs) automaton.now.states self.now }
         requires row { length row.old ≡ self.now.width }
         ensures { (q : ℕ) → q < self.now.width * 64
             → HasBit row.new q
-            → HasBit row.old q × IsAnsweredAtOnce (S.goes side.now automaton.now) (S.keeps side.now automaton.now) (Holds rel.now.pairs) step.label step.to q }
+            → HasBit row.old q × IsAnsweredAtOnce (S.goes side.now automaton.now) (S.matches side.now automaton.now) (Holds rel.now.pairs) step.label step.to q }
     {
         if self.has_row(step) {
             and_row(row, self.width, 0, self.row_of(step));
@@ -263,12 +366,12 @@ impl Answering {
     )
         requires state { p < automaton.now.states }
         requires equal { rel.now.size ≡ automaton.now.states }
-        requires answers { AreAnswers (S.goes side.now automaton.now) (S.keeps side.now automaton.now) (Holds rel.now.pairs) automaton.now.states self.now }
+        requires answers { AreAnswers (S.goes side.now automaton.now) (S.matches side.now automaton.now) (Holds rel.now.pairs) automaton.now.states self.now }
         requires rest { length rest.old ≡ (automaton.now.states + 63) / 64 }
         ensures related { (q : ℕ) → HasBit rest.new q → Holds rel.now.pairs p q }
         ensures answered { (q : ℕ) → Holds rel.now.pairs p q → (HasBit rest.new q → ⊥)
             → (a r : ℕ) → S.goes side.now automaton.now p a r
-            → IsAnsweredAtOnce (S.goes side.now automaton.now) (S.keeps side.now automaton.now) (Holds rel.now.pairs) a r q }
+            → IsAnsweredAtOnce (S.goes side.now automaton.now) (S.matches side.now automaton.now) (Holds rel.now.pairs) a r q }
     {
         let related = rel.row(p);
         rest.copy_from_slice(related);

@@ -149,7 +149,7 @@ fn bound_in<S: Side>(
     requires lanes { length lanes.old ≡ automaton.now.states }
     requires found { length found.old ≡ automaton.now.states }
     requires made { length made.old ≡ 64 * width }
-    ensures { IfOk result (IsBound (S.goes side.now automaton.now) (S.keeps side.now automaton.now) automaton.now.states) }
+    ensures { IfOk result (IsBound (S.goes side.now automaton.now) (S.matches side.now automaton.now) automaton.now.states) }
 {
     let count = automaton.states();
     let kinds = match_rows(alloc, side, automaton, table, ends, width)?;
@@ -163,7 +163,7 @@ fn bound_in<S: Side>(
 /// A relation of pairs that match which has inside each list that is stable at some lookahead: the pairs whose right state has each of
 /// some short words that the left state has.
 pub fn bound<S: Side>(alloc: Global, side: &S, automaton: &Auto) -> Result<Rel, Memory>
-    ensures { IfOk result (IsBound (S.goes side.now automaton.now) (S.keeps side.now automaton.now) automaton.now.states) }
+    ensures { IfOk result (IsBound (S.goes side.now automaton.now) (S.matches side.now automaton.now) automaton.now.states) }
 {
     let count = automaton.states();
     let width = rows::words_for(count);

@@ -16,7 +16,7 @@ const MOST_KINDS: usize = 4;
 fn match_row<S: Side>(side: &S, automaton: &Auto, p: u32, row: &mut [u64])
     requires state { p < automaton.now.states }
     requires len { length row.old ≡ (automaton.now.states + 63) / 64 }
-    ensures { (q : ℕ) → HasBit row.new q ↔ ((q < automaton.now.states) × S.keeps side.now automaton.now p q) }
+    ensures { (q : ℕ) → HasBit row.new q ↔ ((q < automaton.now.states) × S.matches side.now automaton.now p q) }
 {
     rows::clear_row(row);
     for q in 0..automaton.states() {
@@ -30,7 +30,7 @@ fn match_row<S: Side>(side: &S, automaton: &Auto, p: u32, row: &mut [u64])
 fn find_kind<S: Side>(side: &S, automaton: &Auto, kinds: &[u32], p: u32) -> Option<u32>
     requires state { p < automaton.now.states }
     requires kinds { All (λ s. s < automaton.now.states) kinds.now }
-    ensures { IfSome result (λ s. Contains kinds.now s × S.keeps side.now automaton.now p s × S.keeps side.now automaton.now s p) }
+    ensures { IfSome result (λ s. Contains kinds.now s × S.matches side.now automaton.now p s × S.matches side.now automaton.now s p) }
 {
     for s in kinds {
         if side.matched(automaton, p, *s) && side.matched(automaton, *s, p) {
@@ -55,8 +55,8 @@ fn write_matches<S: Side>(
     requires width { width ≡ (automaton.now.states + 63) / 64 }
     requires table { length table.now ≡ automaton.now.states * width }
     requires row { length row.old ≡ width }
-    requires before { AreMatches (S.keeps side.now automaton.now) automaton.now.states table.now width p }
-    ensures { (q : ℕ) → q < width * 64 → HasBit row.new q ↔ ((q < automaton.now.states) × S.keeps side.now automaton.now p q) }
+    requires before { AreMatches (S.matches side.now automaton.now) automaton.now.states table.now width p }
+    ensures { (q : ℕ) → q < width * 64 → HasBit row.new q ↔ ((q < automaton.now.states) × S.matches side.now automaton.now p q) }
 {
     match find_kind(side, automaton, kinds, p) {
         Some(s) => {
@@ -83,7 +83,7 @@ pub(crate) fn match_rows<S: Side>(
     requires width { width ≡ (automaton.now.states + 63) / 64 }
     requires table { length table.old ≡ automaton.now.states * width }
     requires row { length row.old ≡ width }
-    ensures matches { IfOk result (λ _. AreMatches (S.keeps side.now automaton.now) automaton.now.states table.new width automaton.now.states) }
+    ensures matches { IfOk result (λ _. AreMatches (S.matches side.now automaton.now) automaton.now.states table.new width automaton.now.states) }
     ensures kinds { IfOk result (λ v. All (λ s. s < automaton.now.states) v.items) }
 {
     let mut kinds = Vec::new(alloc);

@@ -19,7 +19,7 @@ use std::alloc::Global;
 const MOST_LISTED: usize = 64;
 
 /// So many states may be looked at in one round, or as many as there are.
-const MOST_LOOKED_AT: usize = 512;
+const MOST_LOOKED_AT: usize = 8192;
 
 /// What is known of a round.
 #[derive(Clone, Copy, Debug, PartialEq, Eq)]
@@ -38,7 +38,7 @@ fn one_answers<S: Side>(side: &S, automaton: &Auto, rel: &Rel, step: Move, from:
     requires step { step.to < automaton.now.states }
     requires from { All (λ q. q < automaton.now.states) from.now }
     ensures { IsTrue result
-        ↔ ((r : ℕ) × HasReplyFrom (S.goes side.now automaton.now) (S.keeps side.now automaton.now) step.label step.to (Contains from.now) r × Holds rel.now.pairs step.to r) }
+        ↔ ((r : ℕ) × HasReplyFrom (S.goes side.now automaton.now) (S.matches side.now automaton.now) step.label step.to (Contains from.now) r × Holds rel.now.pairs step.to r) }
 {
     for i in 0..from.len() {
         if has_reply_in(side, automaton, from[i], step, rel.row(step.to)) {
@@ -58,11 +58,11 @@ fn one_meets<S: Side>(
     from: &[u32],
 ) -> bool
     requires equal { rel.now.size ≡ automaton.now.states }
-    requires answers { AreAnswers (S.goes side.now automaton.now) (S.keeps side.now automaton.now) (Holds rel.now.pairs) automaton.now.states answering.now }
+    requires answers { AreAnswers (S.goes side.now automaton.now) (S.matches side.now automaton.now) (Holds rel.now.pairs) automaton.now.states answering.now }
     requires step { step.to < automaton.now.states }
     requires from { All (λ q. q < automaton.now.states) from.now }
     ensures { IsTrue result
-        ↔ ((r : ℕ) × HasReplyFrom (S.goes side.now automaton.now) (S.keeps side.now automaton.now) step.label step.to (Contains from.now) r × Holds rel.now.pairs step.to r) }
+        ↔ ((r : ℕ) × HasReplyFrom (S.goes side.now automaton.now) (S.matches side.now automaton.now) step.label step.to (Contains from.now) r × Holds rel.now.pairs step.to r) }
 {
     if answering.has_row(step) {
         return answering.has_one(step, from);
@@ -90,7 +90,7 @@ fn list_replies<S: Side>(
     ensures listed { length replies.new.items ≤ 64
         → (r : ℕ)
         → Contains replies.new.items r
-        ↔ (Contains replies.old.items r ⊎ IsReply (S.goes side.now automaton.now) (S.keeps side.now automaton.now) step.label step.to from r) }
+        ↔ (Contains replies.old.items r ⊎ IsReply (S.goes side.now automaton.now) (S.matches side.now automaton.now) step.label step.to from r) }
 {
     for at in 0..side.moves(automaton, from) {
         let reply = side.nth(automaton, from, at);
@@ -114,7 +114,7 @@ fn replies_to<S: Side>(
     ensures listed { length result.items ≤ 64
         → (r : ℕ)
         → Contains result.items r
-        ↔ HasReplyFrom (S.goes side.now automaton.now) (S.keeps side.now automaton.now) step.label step.to (Contains from.now) r }
+        ↔ HasReplyFrom (S.goes side.now automaton.now) (S.matches side.now automaton.now) step.label step.to (Contains from.now) r }
 {
     let mut replies = SmallVec::new(alloc);
     for i in 0..from.len() {
@@ -140,13 +140,13 @@ fn told_after<S: Side>(
     requires valid { IsAutomaton automaton.now }
     requires left { 1 ≤ left }
     requires step { step.to < automaton.now.states }
-    requires answers { AreAnswers (S.goes side.now automaton.now) (S.keeps side.now automaton.now) (Holds rel.now.pairs) automaton.now.states answering.now }
+    requires answers { AreAnswers (S.goes side.now automaton.now) (S.matches side.now automaton.now) (Holds rel.now.pairs) automaton.now.states answering.now }
     requires equal { rel.now.size ≡ automaton.now.states }
     requires from { All (λ q. q < automaton.now.states) from.now }
     ensures holds { result ≡ Told.Holds
-        → RoundAfter (S.goes side.now automaton.now) (S.keeps side.now automaton.now) (Holds rel.now.pairs) left step.label step.to (Contains from.now) }
+        → RoundAfter (S.goes side.now automaton.now) (S.matches side.now automaton.now) (Holds rel.now.pairs) left step.label step.to (Contains from.now) }
     ensures fails { result ≡ Told.Fails
-        → RoundAfter (S.goes side.now automaton.now) (S.keeps side.now automaton.now) (Holds rel.now.pairs) left step.label step.to (Contains from.now)
+        → RoundAfter (S.goes side.now automaton.now) (S.matches side.now automaton.now) (Holds rel.now.pairs) left step.label step.to (Contains from.now)
         → ⊥ }
 {
     if one_meets(side, automaton, rel, answering, step, from) {
@@ -192,13 +192,13 @@ fn told_from<S: Side>(
     requires valid { IsAutomaton automaton.now }
     requires left { 1 ≤ left }
     requires state { p < automaton.now.states }
-    requires answers { AreAnswers (S.goes side.now automaton.now) (S.keeps side.now automaton.now) (Holds rel.now.pairs) automaton.now.states answering.now }
+    requires answers { AreAnswers (S.goes side.now automaton.now) (S.matches side.now automaton.now) (Holds rel.now.pairs) automaton.now.states answering.now }
     requires equal { rel.now.size ≡ automaton.now.states }
     requires from { All (λ q. q < automaton.now.states) from.now }
     ensures holds { result ≡ Told.Holds
-        → RoundFrom (S.goes side.now automaton.now) (S.keeps side.now automaton.now) (Holds rel.now.pairs) left p (Contains from.now) }
+        → RoundFrom (S.goes side.now automaton.now) (S.matches side.now automaton.now) (Holds rel.now.pairs) left p (Contains from.now) }
     ensures fails { result ≡ Told.Fails
-        → RoundFrom (S.goes side.now automaton.now) (S.keeps side.now automaton.now) (Holds rel.now.pairs) left p (Contains from.now)
+        → RoundFrom (S.goes side.now automaton.now) (S.matches side.now automaton.now) (Holds rel.now.pairs) left p (Contains from.now)
         → ⊥ }
 {
     for at in 0..side.moves(automaton, p) {
@@ -230,12 +230,12 @@ pub(crate) fn told_by_lists<S: Side>(
     q: u32,
 ) -> Told
     requires look { 1 ≤ look }
-    requires answers { AreAnswers (S.goes side.now automaton.now) (S.keeps side.now automaton.now) (Holds rel.now.pairs) automaton.now.states answering.now }
+    requires answers { AreAnswers (S.goes side.now automaton.now) (S.matches side.now automaton.now) (Holds rel.now.pairs) automaton.now.states answering.now }
     requires equal { rel.now.size ≡ automaton.now.states }
     requires left { p < automaton.now.states }
     requires right { q < automaton.now.states }
-    ensures holds { result ≡ Told.Holds → Round (S.goes side.now automaton.now) (S.goes side.now automaton.now) (S.keeps side.now automaton.now) look (Holds rel.now.pairs) p q }
-    ensures fails { result ≡ Told.Fails → Round (S.goes side.now automaton.now) (S.goes side.now automaton.now) (S.keeps side.now automaton.now) look (Holds rel.now.pairs) p q → ⊥ }
+    ensures holds { result ≡ Told.Holds → Round (S.goes side.now automaton.now) (S.goes side.now automaton.now) (S.matches side.now automaton.now) look (Holds rel.now.pairs) p q }
+    ensures fails { result ≡ Told.Fails → Round (S.goes side.now automaton.now) (S.goes side.now automaton.now) (S.matches side.now automaton.now) look (Holds rel.now.pairs) p q → ⊥ }
 {
     let mut room = MOST_LOOKED_AT.max(automaton.states() as usize);
     told_from(

@@ -25,7 +25,7 @@ pub fn clear_table_row(table: &mut [u64], width: usize, row: usize)
 pub fn is_reply<S: Side>(side: &S, automaton: &Auto, step: Move, reply: Move) -> bool
     requires step { step.to < automaton.now.states }
     requires reply { reply.to < automaton.now.states }
-    ensures { IsTrue result ↔ ((reply.label ≡ step.label) × S.keeps side.now automaton.now step.to reply.to) }
+    ensures { IsTrue result ↔ ((reply.label ≡ step.label) × S.matches side.now automaton.now step.to reply.to) }
 {
     if reply.label == step.label {
         side.matched(automaton, step.to, reply.to)
@@ -39,7 +39,7 @@ pub fn has_reply_in<S: Side>(side: &S, automaton: &Auto, from: u32, step: Move, 
     requires from { from < automaton.now.states }
     requires step { step.to < automaton.now.states }
     requires row { length row.now ≡ (automaton.now.states + 63) / 64 }
-    ensures { IsTrue result ↔ ((r : ℕ) × IsReply (S.goes side.now automaton.now) (S.keeps side.now automaton.now) step.label step.to from r × HasBit row.now r) }
+    ensures { IsTrue result ↔ ((r : ℕ) × IsReply (S.goes side.now automaton.now) (S.matches side.now automaton.now) step.label step.to from r × HasBit row.now r) }
 {
     for at in 0..side.moves(automaton, from) {
         let reply = side.nth(automaton, from, at);
@@ -66,7 +66,7 @@ pub fn one_has_reply_in<S: Side>(
     requires width { width ≡ (automaton.now.states + 63) / 64 }
     requires row { length row.now ≡ width }
     ensures { IsTrue result
-        ↔ ((r : ℕ) × HasReplyFrom (S.goes side.now automaton.now) (S.keeps side.now automaton.now) step.label step.to (HasReply table.now automaton.now.states width place) r × HasBit row.now r) }
+        ↔ ((r : ℕ) × HasReplyFrom (S.goes side.now automaton.now) (S.matches side.now automaton.now) step.label step.to (HasReply table.now automaton.now.states width place) r × HasBit row.now r) }
 {
     let mut at = 0;
     while let Some(q) = next_bit(rows::row_at(table, width, place), at) {
@@ -97,7 +97,7 @@ fn add_replies<S: Side>(
     requires room { automaton.now.states ≤ width * 64 }
     ensures here { (r : ℕ) → r < width * 64
         → HasCell table.new width row r
-        ↔ (HasCell table.old width row r ⊎ IsReply (S.goes side.now automaton.now) (S.keeps side.now automaton.now) step.label step.to from r) }
+        ↔ (HasCell table.old width row r ⊎ IsReply (S.goes side.now automaton.now) (S.matches side.now automaton.now) step.label step.to from r) }
     ensures others { (i r : ℕ) → r < width * 64 → ¬ (i ≡ row) → cell_of table.new width i r ≡ cell_of table.old width i r }
 {
     for at in 0..side.moves(automaton, from) {
@@ -124,7 +124,7 @@ fn step_replies<S: Side>(
     requires width { width ≡ (automaton.now.states + 63) / 64 }
     ensures next { (r : ℕ)
         → HasReply table.new automaton.now.states width (place + 1) r
-        ↔ HasReplyFrom (S.goes side.now automaton.now) (S.keeps side.now automaton.now) step.label step.to (HasReply table.old automaton.now.states width place) r }
+        ↔ HasReplyFrom (S.goes side.now automaton.now) (S.matches side.now automaton.now) step.label step.to (HasReply table.old automaton.now.states width place) r }
     ensures others { (i r : ℕ) → r < width * 64 → ¬ (i ≡ place + 1) → cell_of table.new width i r ≡ cell_of table.old width i r }
 {
     clear_table_row(table, width, place + 1);
@@ -157,10 +157,10 @@ pub fn step_into<S: Side>(
     requires row { length row.now ≡ width }
     requires states { (q : ℕ) → HasBit row.now q → q < automaton.now.states }
     ensures told { IsTrue result
-        ↔ ((r : ℕ) × HasReplyFrom (S.goes side.now automaton.now) (S.keeps side.now automaton.now) step.label step.to (HasReply table.old automaton.now.states width place) r × HasBit row.now r) }
+        ↔ ((r : ℕ) × HasReplyFrom (S.goes side.now automaton.now) (S.matches side.now automaton.now) step.label step.to (HasReply table.old automaton.now.states width place) r × HasBit row.now r) }
     ensures next { (r : ℕ)
         → HasReply table.new automaton.now.states width (place + 1) r
-        ↔ HasReplyFrom (S.goes side.now automaton.now) (S.keeps side.now automaton.now) step.label step.to (HasReply table.old automaton.now.states width place) r }
+        ↔ HasReplyFrom (S.goes side.now automaton.now) (S.matches side.now automaton.now) step.label step.to (HasReply table.old automaton.now.states width place) r }
     ensures others { (i r : ℕ) → r < width * 64 → ¬ (i ≡ place + 1) → cell_of table.new width i r ≡ cell_of table.old width i r }
 {
     step_replies(side, automaton, step, table, width, place);

@@ -5,7 +5,7 @@ ghost use Rattle.auto_core.specs.Automaton.{IsAutomaton};
 ghost use Rattle.auto_core.specs.Game.{Round, Holds};
 ghost use Rattle.look_round.specs.Answering.{AreAnswers};
 ghost use Rattle.look_round.specs.Known.{AreKnown};
-ghost use Rattle.look_round.specs.Replies.{HasReply, RoundFrom, RoundAfter, HasRows, KeepsRows};
+ghost use Rattle.look_round.specs.Replies.{HasReply, HasReplyFrom, RoundFrom, RoundAfter, HasRows, KeepsRows};
 
 use crate::answering::Answering;
 use crate::known::{is_known, note};
@@ -16,7 +16,42 @@ use crate::scratch::Scratch;
 use crate::sides::Side;
 use auto_core::{Auto, rows};
 use bit_rel::Rel;
+use row_steps::next_bit;
 use smallvec::SmallVec;
+
+/// Tells whether it is known that a state of row `place` of the table answers the step by a related one.
+fn is_met<S: Side>(
+    side: &S,
+    automaton: &Auto,
+    rel: &Rel,
+    answering: &Answering,
+    step: Move,
+    table: &[u64],
+    width: usize,
+    place: usize,
+) -> bool
+    requires answers { AreAnswers (S.goes side.now automaton.now) (S.matches side.now automaton.now) (Holds rel.now.pairs) automaton.now.states answering.now }
+    requires here { place * width + width ≤ length table.now }
+    requires width { width ≡ (automaton.now.states + 63) / 64 }
+    ensures { IsTrue result
+        → ((r : ℕ) × HasReplyFrom (S.goes side.now automaton.now) (S.matches side.now automaton.now) step.label step.to (HasReply table.now automaton.now.states width place) r × Holds rel.now.pairs step.to r) }
+{
+    if !answering.has_row(step) {
+        return false;
+    }
+    let answers = answering.row_of(step);
+    let mut at = 0;
+    while let Some(q) = next_bit(rows::row_at(table, width, place), at) {
+        if q >= automaton.states() as usize {
+            return false;
+        }
+        if rows::has_bit(answers, q) {
+            return true;
+        }
+        at = q + 1;
+    }
+    false
+}
 
 /// Tells whether Spoiler's paths of `left` moves, or shorter ones to a dead end, are answered where their first move is `step`.
 /// The path holds Spoiler's moves before, and row `path.len()` of `sets` the states where Duplicator may be.
@@ -25,6 +60,7 @@ fn step_answered<S: Side>(
     side: &S,
     automaton: &Auto,
     rel: &Rel,
+    answering: &Answering,
     left: u32,
     step: Move,
     path: &mut SmallVec<Move, 6>,
@@ -37,6 +73,7 @@ fn step_answered<S: Side>(
     requires valid { IsAutomaton automaton.now }
     requires left { 1 ≤ left }
     requires step { step.to < automaton.now.states }
+    requires answers { AreAnswers (S.goes side.now automaton.now) (S.matches side.now automaton.now) (Holds rel.now.pairs) automaton.now.states answering.now }
     requires equal { rel.now.size ≡ automaton.now.states }
     requires width { width ≡ (automaton.now.states + 63) / 64 }
     requires path { length path.old.items + left ≤ path.old.capacity }
@@ -44,13 +81,13 @@ fn step_answered<S: Side>(
     requires letters { left < length letters.old }
     requires held { HasRows held.old width left }
     requires known { HasRows known.old width left }
-    requires answered { AreKnown (S.goes side.now automaton.now) (S.keeps side.now automaton.now) (Holds rel.now.pairs) automaton.now.states width letters.old held.old known.old }
+    requires answered { AreKnown (S.goes side.now automaton.now) (S.matches side.now automaton.now) (Holds rel.now.pairs) automaton.now.states width letters.old held.old known.old }
     ensures told { IsTrue result
-        ↔ RoundAfter (S.goes side.now automaton.now) (S.keeps side.now automaton.now) (Holds rel.now.pairs) left step.label step.to (HasReply sets.old automaton.now.states width (length path.old.items)) }
+        ↔ RoundAfter (S.goes side.now automaton.now) (S.matches side.now automaton.now) (Holds rel.now.pairs) left step.label step.to (HasReply sets.old automaton.now.states width (length path.old.items)) }
     ensures path { path.new.items ≡ path.old.items }
     ensures capacity { path.new.capacity ≡ path.old.capacity }
     ensures kept { KeepsRows sets.old sets.new width (length path.old.items) }
-    ensures answered { AreKnown (S.goes side.now automaton.now) (S.keeps side.now automaton.now) (Holds rel.now.pairs) automaton.now.states width letters.new held.new known.new }
+    ensures answered { AreKnown (S.goes side.now automaton.now) (S.matches side.now automaton.now) (Holds rel.now.pairs) automaton.now.states width letters.new held.new known.new }
 {
     let place = path.len();
     if is_known(
@@ -62,6 +99,9 @@ fn step_answered<S: Side>(
         step,
         rows::row_at(sets, width, place),
     ) {
+        return true;
+    }
+    if is_met(side, automaton, rel, answering, step, sets, width, place) {
         return true;
     }
     let related = rel.row(step.to);
@@ -79,6 +119,7 @@ fn step_answered<S: Side>(
         side,
         automaton,
         rel,
+        answering,
         left - 1,
         step.to,
         path,
@@ -111,6 +152,7 @@ fn round_from<S: Side>(
     side: &S,
     automaton: &Auto,
     rel: &Rel,
+    answering: &Answering,
     left: u32,
     p: u32,
     path: &mut SmallVec<Move, 6>,
@@ -123,6 +165,7 @@ fn round_from<S: Side>(
     requires valid { IsAutomaton automaton.now }
     requires left { 1 ≤ left }
     requires state { p < automaton.now.states }
+    requires answers { AreAnswers (S.goes side.now automaton.now) (S.matches side.now automaton.now) (Holds rel.now.pairs) automaton.now.states answering.now }
     requires equal { rel.now.size ≡ automaton.now.states }
     requires width { width ≡ (automaton.now.states + 63) / 64 }
     requires path { length path.old.items + left ≤ path.old.capacity }
@@ -130,18 +173,18 @@ fn round_from<S: Side>(
     requires letters { left < length letters.old }
     requires held { HasRows held.old width left }
     requires known { HasRows known.old width left }
-    requires answered { AreKnown (S.goes side.now automaton.now) (S.keeps side.now automaton.now) (Holds rel.now.pairs) automaton.now.states width letters.old held.old known.old }
+    requires answered { AreKnown (S.goes side.now automaton.now) (S.matches side.now automaton.now) (Holds rel.now.pairs) automaton.now.states width letters.old held.old known.old }
     ensures told { IsTrue result
-        ↔ RoundFrom (S.goes side.now automaton.now) (S.keeps side.now automaton.now) (Holds rel.now.pairs) left p (HasReply sets.old automaton.now.states width (length path.old.items)) }
+        ↔ RoundFrom (S.goes side.now automaton.now) (S.matches side.now automaton.now) (Holds rel.now.pairs) left p (HasReply sets.old automaton.now.states width (length path.old.items)) }
     ensures path { path.new.items ≡ path.old.items }
     ensures capacity { path.new.capacity ≡ path.old.capacity }
     ensures kept { KeepsRows sets.old sets.new width (length path.old.items) }
-    ensures answered { AreKnown (S.goes side.now automaton.now) (S.keeps side.now automaton.now) (Holds rel.now.pairs) automaton.now.states width letters.new held.new known.new }
+    ensures answered { AreKnown (S.goes side.now automaton.now) (S.matches side.now automaton.now) (Holds rel.now.pairs) automaton.now.states width letters.new held.new known.new }
 {
     for at in 0..side.moves(automaton, p) {
         let step = side.nth(automaton, p, at);
         if !step_answered(
-            side, automaton, rel, left, step, path, sets, letters, held, known, width,
+            side, automaton, rel, answering, left, step, path, sets, letters, held, known, width,
         ) {
             return false;
         }
@@ -153,6 +196,7 @@ fn whole_round<S: Side>(
     side: &S,
     automaton: &Auto,
     rel: &Rel,
+    answering: &Answering,
     look: u32,
     p: u32,
     q: u32,
@@ -163,6 +207,7 @@ fn whole_round<S: Side>(
     known: &mut [u64],
 ) -> bool
     requires look { 1 ≤ look }
+    requires answers { AreAnswers (S.goes side.now automaton.now) (S.matches side.now automaton.now) (Holds rel.now.pairs) automaton.now.states answering.now }
     requires equal { rel.now.size ≡ automaton.now.states }
     requires left { p < automaton.now.states }
     requires right { q < automaton.now.states }
@@ -172,7 +217,7 @@ fn whole_round<S: Side>(
     requires held { length held.old ≡ (look + 1) * ((automaton.now.states + 63) / 64) }
     requires known { length known.old ≡ (look + 1) * ((automaton.now.states + 63) / 64) }
     ensures told { IsTrue result
-        ↔ Round (S.goes side.now automaton.now) (S.goes side.now automaton.now) (S.keeps side.now automaton.now) look (Holds rel.now.pairs) p q }
+        ↔ Round (S.goes side.now automaton.now) (S.goes side.now automaton.now) (S.matches side.now automaton.now) look (Holds rel.now.pairs) p q }
     ensures capacity { path.new.capacity ≡ path.old.capacity }
 {
     let width = rows::words_for(automaton.states());
@@ -181,7 +226,7 @@ fn whole_round<S: Side>(
     rows::set_cell(sets, width, 0, q as usize);
     rows::clear_row(known);
     round_from(
-        side, automaton, rel, look, p, path, sets, letters, held, known, width,
+        side, automaton, rel, answering, look, p, path, sets, letters, held, known, width,
     )
 }
 
@@ -204,7 +249,7 @@ pub fn round_holds<S: Side>(
     requires left { p < automaton.now.states }
     requires right { q < automaton.now.states }
     ensures told { IsTrue result
-        ↔ Round (S.goes side.now automaton.now) (S.goes side.now automaton.now) (S.keeps side.now automaton.now) look (Holds rel.now.pairs) p q }
+        ↔ Round (S.goes side.now automaton.now) (S.goes side.now automaton.now) (S.matches side.now automaton.now) look (Holds rel.now.pairs) p q }
     ensures scratch { scratch.new ≡ scratch.old }
 {
     let none = Answering::none(scratch.alloc, automaton);
@@ -225,12 +270,12 @@ pub fn round_holds_by<S: Side>(
     requires look_from { 1 ≤ look }
     requires look_upto { look ≤ 6 }
     requires equal { rel.now.size ≡ automaton.now.states }
-    requires answers { AreAnswers (S.goes side.now automaton.now) (S.keeps side.now automaton.now) (Holds rel.now.pairs) automaton.now.states answering.now }
+    requires answers { AreAnswers (S.goes side.now automaton.now) (S.matches side.now automaton.now) (Holds rel.now.pairs) automaton.now.states answering.now }
     requires made { scratch.old ≡ record { states = automaton.now.states; look = look } }
     requires left { p < automaton.now.states }
     requires right { q < automaton.now.states }
     ensures told { IsTrue result
-        ↔ Round (S.goes side.now automaton.now) (S.goes side.now automaton.now) (S.keeps side.now automaton.now) look (Holds rel.now.pairs) p q }
+        ↔ Round (S.goes side.now automaton.now) (S.goes side.now automaton.now) (S.matches side.now automaton.now) look (Holds rel.now.pairs) p q }
     ensures scratch { scratch.new ≡ scratch.old }
 {
     match told_by_lists(scratch.alloc, side, automaton, rel, answering, look, p, q) {
@@ -240,6 +285,7 @@ pub fn round_holds_by<S: Side>(
             side,
             automaton,
             rel,
+            answering,
             look,
             p,
             q,

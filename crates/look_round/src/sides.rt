@@ -5,7 +5,7 @@ ghost use Rattle.auto_core.specs.Automaton.{Automaton, IsAutomaton, Moves, trans
 ghost use Rattle.auto_core.specs.Game.{BackwardMoves, MatchesForward, MatchesBackward};
 ghost use Rattle.auto_core.specs.declared.parts.Trans.{Trans};
 ghost use Rattle.look_round.specs.declared.moves.Move.{Move};
-ghost use Rattle.look_round.specs.Sides.{move, forward_moves, backward_moves, turned};
+ghost use Rattle.look_round.specs.Sides.{move, forward_moves, backward_moves, turned_trans};
 ghost use Rattle.path_laws.proofs.MatchLemmas.{forward_trans, backward_trans};
 ghost use Rattle.look_round.specs.SideLaws.{forward_lists, forward_stays, forward_sees, backward_lists, backward_stays, backward_sees};
 
@@ -18,7 +18,7 @@ pub trait Side {
 
     ghost goes: { Self → Automaton → ℕ → ℕ → ℕ → Type 0 };
 
-    ghost keeps: { Self → Automaton → ℕ → ℕ → Type 0 };
+    ghost matches: { Self → Automaton → ℕ → ℕ → Type 0 };
 
     ghost seen: { Self → Trans → Trans };
 
@@ -59,7 +59,7 @@ pub trait Side {
     fn matched(&self, automaton: &Auto, p: u32, q: u32) -> bool
         requires left { p < automaton.now.states }
         requires right { q < automaton.now.states }
-        ensures { IsTrue result ↔ keeps self.now automaton.now p q };
+        ensures { IsTrue result ↔ matches self.now automaton.now p q };
 
     ghost stays: { (s : Self) (A : Automaton) → IsAutomaton A → (p a q : ℕ) → goes s A p a q → q < A.states };
 
@@ -69,7 +69,7 @@ pub trait Side {
 
     ghost arrives: { (s : Self) (A : Automaton) (p a q : ℕ) → Contains (arriving s A q) (move a p) ↔ goes s A p a q };
 
-    ghost joins: { (s : Self) (A : Automaton) (p q r : ℕ) → keeps s A p q → keeps s A q r → keeps s A p r };
+    ghost joins: { (s : Self) (A : Automaton) (p q r : ℕ) → matches s A p q → matches s A q r → matches s A p r };
 }
 
 /// Tells whether `q` is accepting if `p` is.
@@ -94,7 +94,7 @@ impl Side for Forward {
 
     ghost goes = { λ _ A. Moves A };
 
-    ghost keeps = { λ _ A. MatchesForward A A };
+    ghost matches = { λ _ A. MatchesForward A A };
 
     ghost seen = { λ _ t. t };
 
@@ -149,9 +149,9 @@ impl Side for Backward {
 
     ghost goes = { λ _ A. BackwardMoves A };
 
-    ghost keeps = { λ _ A. MatchesBackward A A };
+    ghost matches = { λ _ A. MatchesBackward A A };
 
-    ghost seen = { λ _ t. turned t };
+    ghost seen = { λ _ t. turned_trans t };
 
     ghost arriving = { λ _ A p. forward_moves A p };
 

@@ -141,16 +141,16 @@ fn lengthen_by<S: Side>(
     requires valid { IsAutomaton automaton.now }
     requires width { width ≡ (automaton.now.states + 63) / 64 }
     requires size { length asked.now ≡ width }
-    requires asked { (r : ℕ) → r < width * 64 → HasBit asked.now r ↔ ((r < automaton.now.states) × S.keeps side.now automaton.now kind r) }
+    requires asked { (r : ℕ) → r < width * 64 → HasBit asked.now r ↔ ((r < automaton.now.states) × S.matches side.now automaton.now kind r) }
     requires lanes_len { length lanes.now ≡ automaton.now.states }
-    requires lanes { AreLanes (S.goes side.now automaton.now) (S.keeps side.now automaton.now) automaton.now.states lanes.now used }
+    requires lanes { AreLanes (S.goes side.now automaton.now) (S.matches side.now automaton.now) automaton.now.states lanes.now used }
     requires used { used ≤ 64 }
     requires room { length columns.old ≡ room * width }
     requires count { count ≤ room }
-    requires columns { AreColumns (S.goes side.now automaton.now) (S.keeps side.now automaton.now) automaton.now.states columns.old width count }
+    requires columns { AreColumns (S.goes side.now automaton.now) (S.matches side.now automaton.now) automaton.now.states columns.old width count }
     requires found { length found.old ≡ automaton.now.states }
     requires made { length made.old ≡ 64 * width }
-    ensures columns { AreColumns (S.goes side.now automaton.now) (S.keeps side.now automaton.now) automaton.now.states columns.new width result }
+    ensures columns { AreColumns (S.goes side.now automaton.now) (S.matches side.now automaton.now) automaton.now.states columns.new width result }
     ensures room { result ≤ room }
 {
     let mut count = count;
@@ -181,17 +181,17 @@ fn lengthen<S: Side>(
     requires valid { IsAutomaton automaton.now }
     requires width { width ≡ (automaton.now.states + 63) / 64 }
     requires size { length matches.now ≡ automaton.now.states * width }
-    requires matches { AreMatches (S.keeps side.now automaton.now) automaton.now.states matches.now width automaton.now.states }
+    requires matches { AreMatches (S.matches side.now automaton.now) automaton.now.states matches.now width automaton.now.states }
     requires kinds { All (λ s. s < automaton.now.states) kinds.now }
     requires lanes_len { length lanes.now ≡ automaton.now.states }
-    requires lanes { AreLanes (S.goes side.now automaton.now) (S.keeps side.now automaton.now) automaton.now.states lanes.now used }
+    requires lanes { AreLanes (S.goes side.now automaton.now) (S.matches side.now automaton.now) automaton.now.states lanes.now used }
     requires used { used ≤ 64 }
     requires room { length columns.old ≡ room * width }
     requires count { count ≤ room }
-    requires columns { AreColumns (S.goes side.now automaton.now) (S.keeps side.now automaton.now) automaton.now.states columns.old width count }
+    requires columns { AreColumns (S.goes side.now automaton.now) (S.matches side.now automaton.now) automaton.now.states columns.old width count }
     requires found { length found.old ≡ automaton.now.states }
     requires made { length made.old ≡ 64 * width }
-    ensures columns { AreColumns (S.goes side.now automaton.now) (S.keeps side.now automaton.now) automaton.now.states columns.new width result }
+    ensures columns { AreColumns (S.goes side.now automaton.now) (S.matches side.now automaton.now) automaton.now.states columns.new width result }
     ensures room { result ≤ room }
 {
     let mut count = count;
@@ -309,15 +309,15 @@ fn walk_columns<S: Side>(
     requires few { width < 2 ^ 32 }
     requires width { width ≡ (automaton.now.states + 63) / 64 }
     requires size { length matches.now ≡ automaton.now.states * width }
-    requires matches { AreMatches (S.keeps side.now automaton.now) automaton.now.states matches.now width automaton.now.states }
+    requires matches { AreMatches (S.matches side.now automaton.now) automaton.now.states matches.now width automaton.now.states }
     requires kinds { All (λ s. s < automaton.now.states) kinds.now }
     requires room { length columns.old ≡ room * width }
     requires count { count ≤ room }
-    requires columns { AreColumns (S.goes side.now automaton.now) (S.keeps side.now automaton.now) automaton.now.states columns.old width count }
+    requires columns { AreColumns (S.goes side.now automaton.now) (S.matches side.now automaton.now) automaton.now.states columns.old width count }
     requires lanes { length lanes.old ≡ automaton.now.states }
     requires found { length found.old ≡ automaton.now.states }
     requires made { length made.old ≡ 64 * width }
-    ensures columns { AreColumns (S.goes side.now automaton.now) (S.keeps side.now automaton.now) automaton.now.states columns.new width result }
+    ensures columns { AreColumns (S.goes side.now automaton.now) (S.matches side.now automaton.now) automaton.now.states columns.new width result }
     ensures room { result ≤ room }
 {
     let all = kinds.len() < 2;
@@ -368,7 +368,7 @@ pub(crate) fn write_columns<S: Side>(
     requires valid { IsAutomaton automaton.now }
     requires width { width ≡ (automaton.now.states + 63) / 64 }
     requires size { length matches.now ≡ automaton.now.states * width }
-    requires matches { AreMatches (S.keeps side.now automaton.now) automaton.now.states matches.now width automaton.now.states }
+    requires matches { AreMatches (S.matches side.now automaton.now) automaton.now.states matches.now width automaton.now.states }
     requires kinds { All (λ s. s < automaton.now.states) kinds.now }
     requires few { width < 2 ^ 32 }
     requires some { 1 ≤ room }
@@ -377,7 +377,7 @@ pub(crate) fn write_columns<S: Side>(
     requires lanes { length lanes.old ≡ automaton.now.states }
     requires found { length found.old ≡ automaton.now.states }
     requires made { length made.old ≡ 64 * width }
-    ensures columns { AreColumns (S.goes side.now automaton.now) (S.keeps side.now automaton.now) automaton.now.states columns.new width result }
+    ensures columns { AreColumns (S.goes side.now automaton.now) (S.matches side.now automaton.now) automaton.now.states columns.new width result }
     ensures room { result ≤ room }
 {
     mark_below(ends, automaton.states());

@@ -7,7 +7,7 @@ abbrev pub places_of : Inside → ℕ
 places_of r = r.places
 
 -- A table and four rows for so many places.
-pub record HasRoom (r : Inside) : Type 0 where
+pub record HasLoopRoom (r : Inside) : Type 0 where
   pub turned : length r.turned.items ≡ r.places * ((r.places + 63) / 64)
   pub settled : length r.settled.items ≡ (r.places + 63) / 64
   pub component : length r.component.items ≡ (r.places + 63) / 64

@@ -27,11 +27,11 @@ impl Model for Room {
 
     ghost Value = { ℕ };
 
-    ghost use Rattle.loop_rows.specs.Room.{places_of, HasRoom};
+    ghost use Rattle.loop_rows.specs.Room.{places_of, HasLoopRoom};
 
     ghost view = { places_of };
 
-    ghost invariant = { HasRoom };
+    ghost invariant = { HasLoopRoom };
 }
 
 /// Marks the places from which one is reached that a flagged arc leads out of and back to, in rows and a table for the work.

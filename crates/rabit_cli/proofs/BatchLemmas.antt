@@ -208,14 +208,14 @@ known_append (Some x) a b = ap Some (append_assoc x a b)
 
 -- ---- the calls of one question
 
-pub made_calls : (q : Question) (status : ℕ) (held : Option FileMap) (calls calls' : ShelfCounts)
+pub made_calls : (q : Question) (status : ℕ) (held held' : Option FileMap) (calls calls' : ShelfCounts)
     → BegunByStatus (question_inputs q) status held calls'.blamed calls.begins calls'.begins
-    → PutsByStatus (MeansQuestion q) (question_inputs q) status held calls.puts calls'.puts
+    → PutsByStatus (MeansQuestion q) (question_inputs q) status held held' calls.puts calls'.puts
     → (status ≡ 6 → Rose calls.read_faults calls'.read_faults) → (status ≢ 6 → calls'.read_faults ≡ calls.read_faults)
     → (status ≡ 7 → Rose calls.put_faults calls'.put_faults) → (status ≢ 7 → calls'.put_faults ≡ calls.put_faults)
-    → IfSome held (λ files. MadeCalls q status files calls calls')
-made_calls q status None calls calls' begun puts read no_read put no_put = tt
-made_calls q status (Some files) calls calls' begun puts read no_read put no_put = record {
+    → IfSome held (λ files. MadeCalls q status files held' calls calls')
+made_calls q status None held' calls calls' begun puts read no_read put no_put = tt
+made_calls q status (Some files) held' calls calls' begun puts read no_read put no_put = record {
   begun = begun;
   put_once = puts;
   read_fault = read;
@@ -254,7 +254,7 @@ each_none number held held' sent give gives read put missed calls stays = record
     none (Some files) = λ there. refl
 
 module _ (q : Question) (number : ℕ) (held between : Option FileMap) (read read1 put put1 missed missed1 : ℕ) (calls calls1 : ShelfCounts) (e : Ending) (ends : EndsSo (MeansQuestion q) (question_inputs q) e held between read read1 put put1)
-    (counts : IfSome held (λ files. MissedInTurn files (question_inputs q) missed missed1)) (made : IfSome held (λ files. MadeCalls q (status_of e) files calls calls1)) where
+    (counts : IfSome held (λ files. MissedInTurn files (question_inputs q) missed missed1)) (made : IfSome held (λ files. MadeCalls q (status_of e) files between calls calls1)) where
   read_more : (statuses : List ℕ) (read' : ℕ) → RoseBy (times 6 statuses) read1 read' → RoseBy (times 6 (status_of e ∷ statuses)) read read'
   read_more statuses read' rest = rose_by 6 (status_of e) statuses read read1 read' (λ is. ends.read_fault (ends_unread e is)) (λ other. ends.no_read_fault (λ is. other (ap status_of is))) rest
 
@@ -270,12 +270,12 @@ module _ (q : Question) (number : ℕ) (held between : Option FileMap) (read rea
   turn_more : (questions : List Question) (statuses : List ℕ) (held' : Option FileMap) (calls' : ShelfCounts) → BeforeAndAfter between held' (λ files files'. LeaveInTurn questions statuses files files' calls1 calls') → BeforeAndAfter held held' (λ files files'. LeaveInTurn (q ∷ questions) (status_of e ∷ statuses) files files' calls calls')
   turn_more questions statuses held' calls' rest = go held ends.leaves made
     where
-      go : (h : Option FileMap) → BeforeAndAfter h between (λ files files'. Leaves (MeansQuestion q) (question_inputs q) e files files') → IfSome h (λ files. MadeCalls q (status_of e) files calls calls1)
+      go : (h : Option FileMap) → BeforeAndAfter h between (λ files files'. Leaves (MeansQuestion q) (question_inputs q) e files files') → IfSome h (λ files. MadeCalls q (status_of e) files between calls calls1)
           → BeforeAndAfter h held' (λ files files'. LeaveInTurn (q ∷ questions) (status_of e ∷ statuses) files files' calls calls')
       go None none b = subst (λ (m : Option FileMap). BeforeAndAfter m held' (λ files files'. LeaveInTurn questions statuses files files' calls1 calls')) none rest
       go (Some files) (mid, is, left) b =
           let (files', is', later) = subst (λ (m : Option FileMap). BeforeAndAfter m held' (λ files files'. LeaveInTurn questions statuses files files' calls1 calls')) is rest in
-          (files', is', (mid, calls1, (e, left, refl), b, later))
+          (files', is', (mid, calls1, (e, left, refl), subst (λ m. MadeCalls q (status_of e) files m calls calls1) is b, later))
 
   missed_more : (questions : List Question) (missed' : ℕ) → IfSome between (λ files. All (AutomataAreThere files) questions → missed' ≡ missed1) → IfSome held (λ files. All (AutomataAreThere files) (q ∷ questions) → missed' ≡ missed)
   missed_more questions missed' rest = go held ends.leaves counts
@@ -377,8 +377,8 @@ unread_status list held held' status sent sent' give give' read read' put put' c
     ]
 
 -- and nothing is put
-pub puts_none : (list : List ℕ) (status : ℕ) (held : Option FileMap) (before now : ℕ) → IsStatusOfNoneAsked status → PutsByStatus NoReply (batch_inputs list) status held before now → now ≡ before
-puts_none list status held before now known puts = elim known [
+pub puts_none : (list : List ℕ) (status : ℕ) (held held' : Option FileMap) (before now : ℕ) → IsStatusOfNoneAsked status → PutsByStatus NoReply (batch_inputs list) status held held' before now → now ≡ before
+puts_none list status held held' before now known puts = elim known [
   | inl six ↦ puts.read_fault six
   | inr more ↦ elim more [
     | inl eight ↦ puts.memory eight

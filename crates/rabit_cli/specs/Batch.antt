@@ -78,9 +78,9 @@ shelf_counts begins puts read_faults put_faults blamed = record { begins = begin
 
 -- The calls that a question made, which ended with this status: it began just the files that the status needs, each once, and put those of its reply
 -- once each, up to one that was refused. A read failed just where the status is 6, of the last file that was begun, and a put just where it is 7.
-pub record MadeCalls (q : Question) (status : ℕ) (files : FileMap) (calls calls' : ShelfCounts) : Type 0 where
+pub record MadeCalls (q : Question) (status : ℕ) (files : FileMap) (held' : Option FileMap) (calls calls' : ShelfCounts) : Type 0 where
   pub begun : BegunByStatus (question_inputs q) status (Some files) calls'.blamed calls.begins calls'.begins
-  pub put_once : PutsByStatus (MeansQuestion q) (question_inputs q) status (Some files) calls.puts calls'.puts
+  pub put_once : PutsByStatus (MeansQuestion q) (question_inputs q) status (Some files) held' calls.puts calls'.puts
   pub read_fault : status ≡ 6 → Rose calls.read_faults calls'.read_faults
   pub no_read_fault : status ≢ 6 → calls'.read_faults ≡ calls.read_faults
   pub write_fault : status ≡ 7 → Rose calls.put_faults calls'.put_faults
@@ -95,7 +95,7 @@ LeaveInTurn (q ∷ questions) (status ∷ statuses) files files' calls calls' =
     (between : FileMap)
     × (middle : ShelfCounts)
     × LeavesQuestion q status files between
-    × MadeCalls q status files calls middle
+    × MadeCalls q status files (Some between) calls middle
     × LeaveInTurn questions statuses between files' middle calls'
 
 -- The first questions, one for each status, were asked so, each of the files that the one before it left, and each status up to 2 shows what that of

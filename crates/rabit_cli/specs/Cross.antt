@@ -13,7 +13,7 @@ use Rattle.cross_text.specs.declared.types.Cross.{Cross}
 use Rattle.cross_text.specs.Text.{cross_text}
 use Rattle.cross_sim.specs.declared.faults.CrossRefusal.{CrossRefusal}
 use Rattle.cross_sim.specs.Rules.{pairs_across, KeepsCrossRules, BreaksCrossRule}
-use Rattle.cross_sim.specs.Written.{IsGreatestCross}
+use Rattle.cross_sim.specs.Written.{IsCrossOfGreatest}
 use Rattle.rabit_frame.specs.declared.parts.FileKind.TheVariants as kind
 use Rattle.rabit_frame.specs.declared.parts.Value.{Value}
 use Rattle.rabit_frame.specs.declared.parts.Value.TheVariants as value
@@ -40,7 +40,7 @@ HasInitialPair pair cross = Holds (pairs_across cross) pair.first.initial pair.s
 abbrev pub IsCrossReply : List ℕ → ℕ → Joined → Reply → Type 0
 IsCrossReply name look pair r =
     (cross : Cross)
-    × IsGreatestCross pair look cross
+    × IsCrossOfGreatest pair look cross
     × ((HasInitialPair pair cross × (r ≡ reply_with status.Done by_simulation_text (cross_put name cross ∷ [])))
     ⊎ ((HasInitialPair pair cross → ⊥) × (r ≡ only_said status.NoRelation no_relation_text)))
 
@@ -53,7 +53,7 @@ MeansCross name look values r =
 
 -- The two files read as this pair of automata, and this is their greatest cross relation, which has the pair of the initial states.
 abbrev pub IsCrossOfFiles : FileMap → List ℕ → List ℕ → ℕ → Joined → Cross → Type 0
-IsCrossOfFiles files a b look pair cross = ReadsPair files a b pair × IsGreatestCross pair look cross × HasInitialPair pair cross
+IsCrossOfFiles files a b look pair cross = ReadsPair files a b pair × IsCrossOfGreatest pair look cross × HasInitialPair pair cross
 
 -- The name holds the whole text of it, and all other files are as before.
 abbrev pub HoldsCross : FileMap → List ℕ → List ℕ → List ℕ → ℕ → FileMap → Type 0
@@ -91,7 +91,7 @@ IsCrossStatus files a b look status =
     (pair : Joined)
     × (cross : Cross)
     × ReadsPair files a b pair
-    × IsGreatestCross pair look cross
+    × IsCrossOfGreatest pair look cross
     × ((HasInitialPair pair cross × (status ≡ 0)) ⊎ ((HasInitialPair pair cross → ⊥) × (status ≡ 10)))
 
 -- ---- `cross-check`

@@ -137,7 +137,7 @@ fn texts_read_by_the_rules(rt: HostRuntime) -> Result<(), Fail> {
 }
 
 /// What a text reads as.
-fn named(alloc: Global, text: &[u8]) -> Result<Named, Fail>
+pub(crate) fn named(alloc: Global, text: &[u8]) -> Result<Named, Fail>
     ensures { IfOk result (IsWithinLimits (record { states = 3; labels = 2; transitions = 4 })) }
 {
     if text.len() > 1000 {

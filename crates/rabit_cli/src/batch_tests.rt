@@ -44,6 +44,25 @@ fn a_question_ends_no_batch_and_a_refused_line_does(rt: HostRuntime) -> Result<(
 }
 
 #[test]
+fn lists_of_no_questions_and_of_names_without_files(rt: HostRuntime) -> Result<(), Fail> {
+    let alloc = rt.alloc();
+    let rows = [
+        ("", 0, ""),
+        ("A A\n", 11, "list line 1\n"),
+        ("A X D\n", 0, "1 6\n"),
+        ("A A C\nA X D\n", 0, "1 0\n2 6\n"),
+    ];
+    for (list, status, printed) in rows {
+        let files = [("A", ONE_A), ("D", OLDER), ("L", list)];
+        let mut shelf = shelf_of(alloc, &files, &[])?;
+        let said = says(alloc, &["batch", "L"], &mut shelf, &[], printed)?;
+        assert_eq!(rt; said, (status, true), "{list:?}");
+        assert!(rt; holds(alloc, &mut shelf, "D", OLDER));
+    }
+    Ok(())
+}
+
+#[test]
 fn no_file_is_begun_after_a_refused_line(rt: HostRuntime) -> Result<(), Fail> {
     let alloc = rt.alloc();
     let files = [("A", ONE_A), ("L", "A A C\nA A D\nA A C\n")];

@@ -2,6 +2,7 @@
 
 ghost use Rattle.std.specs.Prelude.{◌≡◌, ◌≤◌, ◌^◌, length};
 
+use crate::include_tests::ONE_YES;
 use cert_text::{CertReadFault, TextKind, read_cert, well_formed, write_cert};
 use std::alloc::Global;
 
@@ -41,9 +42,7 @@ fn read_back(alloc: Global, text: &[u8]) -> Answer {
 #[test]
 fn reads_whole_files(rt: HostRuntime) {
     let alloc = rt.alloc();
-    let one =
-        b"rabit-cert 1 buchi yes\nsizes 1 1 1\nlog1 0\nlog2 0\nrel 1\nrow 0 0\nelements 1\nlive base 0\ncover 0\nstep 0 0\nend\n";
-    assert_eq!(rt; read_back(alloc, one), Answer::Same);
+    assert_eq!(rt; read_back(alloc, ONE_YES.as_bytes()), Answer::Same);
     let ring =
         b"rabit-cert 1 buchi yes\nsizes 2 2 2\nlog1 0\nlog2 0\nrel 2\nrow 0 0\nrow 1 1\nelements 4\nlive base 0\nlive base 1\nlive next 0 1\nlive next 1 0\ncover 0 1\nstep 0 2\nstep 1 3\nstep 2 0\nstep 3 1\nend\n";
     assert_eq!(rt; read_back(alloc, ring), Answer::Same);

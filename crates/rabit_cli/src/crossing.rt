@@ -5,7 +5,7 @@ ghost use Rattle.ba_format.specs.declared.parts.Joined.{Joined as AJoined};
 ghost use Rattle.ba_format.specs.Reading.{IsWithinLimits};
 ghost use Rattle.ba_format.specs.Joining.{IsJoined};
 ghost use Rattle.decide.specs.Laws.{CanDecide};
-ghost use Rattle.cross_sim.specs.Written.{IsGreatestCross};
+ghost use Rattle.cross_sim.specs.Written.{IsCrossOfGreatest};
 ghost use Rattle.rabit_frame.specs.Reading.{AreOfKinds, only_said, reply_with};
 ghost use Rattle.rabit_cli.specs.Files.{first_limits, second_limits};
 ghost use Rattle.rabit_cli.specs.Include.{pair_inputs};

@@ -81,9 +81,14 @@ fn the_first_fault_decides(rt: HostRuntime) -> Result<(), Fail> {
     let alloc = rt.alloc();
     let files = [("A", "a,[0]-[1]\n"), ("B", ONLY_B), ("C", RING_NO)];
     for command in ["include", "check"] {
+        // a fault of the text is told after the file's end: the third call finds it, and may fail
+        let mut failing = shelf_of(alloc, &files, &[2])?;
+        let words = [command, "A", "B", "C"];
+        let said = says(alloc, &words, &mut failing, &[], "read fault\n")?;
+        assert_eq!(rt; said, (6, true));
+
         // each file is read in three calls, so the fifth call is the first `take` of the second file
         let mut shelf = shelf_of(alloc, &files, &[4])?;
-        let words = [command, "A", "B", "C"];
         let said = says(alloc, &words, &mut shelf, &[], "file 1 line 1: Shape\n")?;
         assert_eq!(rt; said, (4, true));
 

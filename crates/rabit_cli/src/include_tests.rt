@@ -1,10 +1,11 @@
 //! The decision of an inclusion on files in memory: what it prints, the certificate that it leaves, and what a check says of that.
 
 use crate::search_tests::looped_ring;
+use crate::shrink_tests;
 use crate::tests::{list_of, numbers_of, words_of};
 use crate::top::run;
 use auto_core::{List, Memory};
-use shelf_io::{File, MemShelf, MemSink, load};
+use shelf_io::{File, LoadFault, MemShelf, MemSink, load};
 use std::alloc::Global;
 use std::test::Fail;
 
@@ -23,6 +24,10 @@ const A_ONCE: &str = "[0]\na,[0]->[1]\n[1]\n";
 
 /// Two states, each left by a letter of its own.
 pub const PAIR: &str = "a,[5]->[7]\nb,[7]->[5]\n";
+
+/// The certificate of one state and one letter.
+pub const ONE_YES: &str =
+    "rabit-cert 1 buchi yes\nsizes 1 1 1\nlog1 0\nlog2 0\nrel 1\nrow 0 0\nelements 1\nlive base 0\ncover 0\nstep 0 0\nend\n";
 
 /// A shelf with the two files, with room for a certificate.
 pub fn shelf_of(
@@ -105,11 +110,7 @@ fn a_check_says_what_the_decision_said(rt: HostRuntime) -> Result<(), Fail> {
 fn certificates_are_written_whole(rt: HostRuntime) -> Result<(), Fail> {
     let alloc = rt.alloc();
     let rows = [
-        (
-            ONE_A,
-            ONE_A,
-            "rabit-cert 1 buchi yes\nsizes 1 1 1\nlog1 0\nlog2 0\nrel 1\nrow 0 0\nelements 1\nlive base 0\ncover 0\nstep 0 0\nend\n",
-        ),
+        (ONE_A, ONE_A, ONE_YES),
         (
             TWO_LETTERS,
             ONE_A,
@@ -162,6 +163,33 @@ fn failing_calls_of_a_decision_are_told(rt: HostRuntime) -> Result<(), Fail> {
             );
         }
     }
+    Ok(())
+}
+
+#[test]
+fn each_call_that_fails_before_the_put_changes_no_file(rt: HostRuntime) -> Result<(), Fail> {
+    let alloc = rt.alloc();
+    // each of the two files is begun and then taken in two calls, and the put is the seventh call
+    for call in 0..7 {
+        let mut shelf = shelf_of(alloc, ONE_A, ONE_A, &[call])?;
+        let (status, printed) = if call < 6 {
+            (6, "read fault\n")
+        } else {
+            (7, "write fault\n")
+        };
+        assert_eq!(rt;
+            answers(alloc, "include", &mut shelf, &[], printed)?,
+            (status, true)
+        );
+        for name in ["A", "B"] {
+            assert!(rt; shrink_tests::holds(alloc, &mut shelf, name, ONE_A));
+        }
+        let missing = load(alloc, &mut shelf, "C", 1000).err();
+        assert_eq!(rt; missing, Some(LoadFault::Failed));
+    }
+    let mut shelf = shelf_of(alloc, ONE_A, ONE_A, &[])?;
+    assert_eq!(rt; answers(alloc, "include", &mut shelf, &[0], "")?, (7, true));
+    assert!(rt; holds(alloc, &mut shelf, ONE_YES));
     Ok(())
 }
 

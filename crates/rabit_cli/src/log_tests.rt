@@ -1,18 +1,16 @@
-//! Certificates over reduced automata: those that a decision writes, and with a line changed so that each rule of logs is broken in turn.
+//! Certificates over reduced automata: those that a decision writes.
 
 use crate::include_tests::{answers, holds, shelf_of};
-use crate::tests::check;
+use crate::tests::{ONE_A, check};
 use crate::yes_tests::with_lines;
 use std::alloc::Global;
 use std::test::Fail;
 
-const ONE_A: &str = "[0]\na,[0]->[0]\n[0]\n";
-
 /// Two states in turn, of which the delayed relation makes one.
-const TURNS: &str = "[0]\na,[0]->[1]\na,[1]->[0]\n[0]\n";
+pub const TURNS: &str = "[0]\na,[0]->[1]\na,[1]->[0]\n[0]\n";
 
 /// The certificate for one state and the turns.
-const MERGED: [&str; 16] = [
+pub const MERGED: [&str; 16] = [
     "rabit-cert 1 buchi yes\n",
     "sizes 1 2 1\n",
     "log1 0\n",
@@ -32,13 +30,13 @@ const MERGED: [&str; 16] = [
 ];
 
 /// State 1 is below state 2, so that the way to it goes, then its loop, and then the state.
-const BRANCHES: &str =
+pub const BRANCHES: &str =
     "[0]\na,[0]->[1]\na,[0]->[2]\nb,[1]->[1]\nb,[2]->[2]\nc,[2]->[2]\n[1]\n[2]\n";
 
-const BRANCH: &str = "[0]\na,[0]->[1]\nb,[1]->[1]\nc,[1]->[1]\n[1]\n";
+pub const BRANCH: &str = "[0]\na,[0]->[1]\nb,[1]->[1]\nc,[1]->[1]\n[1]\n";
 
 /// The certificate for the branches and the one branch.
-const CUT: [&str; 31] = [
+pub const CUT: [&str; 31] = [
     "rabit-cert 1 buchi yes\n",
     "sizes 3 2 3\n",
     "log1 3\n",
@@ -110,86 +108,5 @@ fn decisions_write_their_logs(rt: HostRuntime) -> Result<(), Fail> {
         )?,
         (5, true)
     );
-    Ok(())
-}
-
-#[test]
-fn one_changed_line_of_a_cut_or_trim_breaks_its_rule(rt: HostRuntime) -> Result<(), Fail> {
-    let alloc = rt.alloc();
-    let cases = [
-        (1, "sizes 3 2 2\n", "certificate item 0: rule 1\n"),
-        (4, "gone 0 9\n", "certificate item 1: rule 1\n"),
-        (3, "cut 1 7\n", "certificate item 1: rule 1\n"),
-        (19, "trim 0\n", "certificate item 3: rule 2\n"),
-        (7, "row 1 0 1 2\n", "certificate item 1: rule 4\n"),
-        (4, "gone 1 0\n", "certificate item 1: rule 7\n"),
-        (4, "gone 0 0\n", "certificate item 1: rule 8\n"),
-        (22, "row 0 0 1\n", "certificate item 4: rule 9\n"),
-        (26, "live next 1 1\n", "certificate item 6: rule 10\n"),
-        (26, "live next 0 0\n", "certificate item 6: rule 11\n"),
-        (27, "cover 0 1\n", "certificate item 7: rule 13\n"),
-        (29, "step 1 1 0\n", "certificate item 9: rule 14\n"),
-    ];
-    for (place, line, printed) in cases {
-        let text = with_lines(alloc, &CUT, &[(place, line)])?;
-        assert_eq!(rt;
-            check(alloc, BRANCHES, BRANCH, text.as_str(), printed)?,
-            (5, true)
-        );
-    }
-    let under = with_lines(alloc, &CUT, &[(26, "under 0 base 1\n"), (29, "")])?;
-    assert_eq!(rt;
-        check(
-            alloc,
-            BRANCHES,
-            BRANCH,
-            under.as_str(),
-            "certificate item 6: rule 12\n"
-        )?,
-        (5, true)
-    );
-    Ok(())
-}
-
-#[test]
-fn one_changed_line_of_a_merge_breaks_its_rule(rt: HostRuntime) -> Result<(), Fail> {
-    let alloc = rt.alloc();
-    let cases = [
-        (
-            5,
-            "classes 1 0\n",
-            8,
-            "row 1 0 1 1 2\n",
-            "certificate item 1: rule 3\n",
-        ),
-        (
-            7,
-            "row 0 0 1 1 1\n",
-            8,
-            "row 1 0 1 1 2\n",
-            "certificate item 1: rule 5\n",
-        ),
-        (
-            7,
-            "row 0 0 1\n",
-            8,
-            "row 1 1 2\n",
-            "certificate item 1: rule 6\n",
-        ),
-        (
-            5,
-            "classes 0 1\n",
-            8,
-            "row 1 0 1 1 2\n",
-            "certificate item 2: rule 9\n",
-        ),
-    ];
-    for (place, line, other, new, printed) in cases {
-        let text = with_lines(alloc, &MERGED, &[(place, line), (other, new)])?;
-        assert_eq!(rt;
-            check(alloc, ONE_A, TURNS, text.as_str(), printed)?,
-            (5, true)
-        );
-    }
     Ok(())
 }

@@ -52,13 +52,13 @@ mod automaton_text_tests;
 #[cfg(test)]
 mod batch_tests;
 #[cfg(test)]
-mod certificate_tests;
-#[cfg(test)]
 mod certificate_text_tests;
 #[cfg(test)]
 mod combine_tests;
 #[cfg(test)]
 mod cross_tests;
+#[cfg(test)]
+mod damage_tests;
 #[cfg(test)]
 mod equality_tests;
 #[cfg(test)]
@@ -73,6 +73,8 @@ mod include_tests;
 mod list_tests;
 #[cfg(test)]
 mod log_tests;
+#[cfg(test)]
+mod piece_tests;
 #[cfg(test)]
 mod property_tests;
 #[cfg(test)]

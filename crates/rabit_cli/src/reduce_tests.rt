@@ -1,10 +1,11 @@
 //! The reduction of an automaton in a file in memory: what it prints, and what it leaves.
 
+use crate::include_tests::says;
 use crate::search_tests::looped_ring;
-use crate::tests::{USAGE, answers, numbers_of, shelf_of, words_of};
+use crate::tests::{USAGE, answers, list_of, numbers_of, shelf_of, words_of};
 use crate::top::run;
-use auto_core::Memory;
-use shelf_io::{MemSink, load};
+use auto_core::{List, Memory};
+use shelf_io::{File, MemShelf, MemSink, load};
 use std::alloc::Global;
 use std::test::Fail;
 
@@ -151,11 +152,38 @@ fn other_words_and_failing_calls_are_told(rt: HostRuntime) -> Result<(), Fail> {
         answers(alloc, &["reduce", "A"], &files, &[], &[0], "")?,
         (7, true)
     );
+    // a fault that can't be told stays a fault
+    assert_eq!(rt;
+        answers(alloc, &["reduce", "A"], &[("A", "")], &[], &[0], "")?,
+        (4, true)
+    );
     // one file is loaded once and the text is given at once, so further calls that would fail are none
     let reduced = "[0]\na,[0]->[1]\nb,[1]->[0]\n[0]\n[1]\n";
     assert_eq!(rt;
         answers(alloc, &["reduce", "A"], &files, &[3], &[1], reduced)?,
         (0, true)
+    );
+    Ok(())
+}
+
+#[test]
+fn a_file_that_is_one_byte_too_long_is_told(rt: HostRuntime) -> Result<(), Fail> {
+    let alloc = rt.alloc();
+    // the first byte is a fault, which is not what is told
+    let mut bytes = list_of(alloc, &[1])?;
+    for _byte in 0..16_777_216u32 {
+        bytes.push(b'a')?;
+    }
+    let mut held = List::new(alloc);
+    held.push(File {
+        name: list_of(alloc, b"A")?,
+        bytes,
+    })?;
+    let mut shelf = MemShelf::new(alloc, held, 0, 65536, numbers_of(alloc, &[])?)?;
+    let told = "file 1 line 0: Long\n";
+    assert_eq!(rt;
+        says(alloc, &["reduce", "A"], &mut shelf, &[], told)?,
+        (4, true)
     );
     Ok(())
 }

@@ -1,15 +1,16 @@
 //! Certificates of inclusion: valid ones, and one line changed so that each rule in turn is the first that is broken.
 
-use crate::tests::check;
+use crate::include_tests::ONE_YES;
+use crate::tests::{ONE_A, check};
 use auto_core::Memory;
 use std::alloc::Global;
 use std::test::Fail;
 
 /// Both automata: two states, each left by a letter of its own, and all accepting.
-const PAIR: &str = "a,[5]->[7]\nb,[7]->[5]\n";
+pub const PAIR: &str = "a,[5]->[7]\nb,[7]->[5]\n";
 
 /// The lines of a valid certificate for the pair and itself.
-const LINES: [&str; 18] = [
+pub const LINES: [&str; 18] = [
     "rabit-cert 1 buchi yes\n",
     "sizes 2 2 2\n",
     "log1 0\n",
@@ -58,9 +59,10 @@ fn valid_certificates_show_inclusion(rt: HostRuntime) -> Result<(), Fail> {
         (0, true)
     );
     let loops = "[0]\na,[0]->[0]\n[0]\n";
-    let one =
-        "rabit-cert 1 buchi yes\nsizes 1 1 1\nlog1 0\nlog2 0\nrel 1\nrow 0 0\nelements 1\nlive base 0\ncover 0\nstep 0 0\nend\n";
-    assert_eq!(rt; check(alloc, loops, loops, one, "included\n")?, (0, true));
+    assert_eq!(rt;
+        check(alloc, loops, loops, ONE_YES, "included\n")?,
+        (0, true)
+    );
     let two =
         "rabit-cert 1 buchi yes\nsizes 1 1 1\nlog1 0\nlog2 0\nrel 1\nrow 0 0\nelements 2\nunder 1 base 0\nlive next 0 0\ncover 1\nstep 1 1\nend\n";
     assert_eq!(rt; check(alloc, loops, loops, two, "included\n")?, (0, true));
@@ -182,6 +184,41 @@ fn other_files_are_told_too(rt: HostRuntime) -> Result<(), Fail> {
 }
 
 #[test]
+fn a_text_may_promise_more_than_it_has(rt: HostRuntime) -> Result<(), Fail> {
+    let alloc = rt.alloc();
+    let promise = "rabit-cert 1 buchi yes\nsizes 1 1 1\nlog1 999999999\n";
+    assert_eq!(rt;
+        check(
+            alloc,
+            ONE_A,
+            ONE_A,
+            promise,
+            "certificate line 4: Truncated\n"
+        )?,
+        (5, true)
+    );
+    Ok(())
+}
+
+#[test]
+fn many_elements_may_be_under_one(rt: HostRuntime) -> Result<(), Fail> {
+    let alloc = rt.alloc();
+    let mut text = String::new(alloc);
+    text.push_str(
+        "rabit-cert 1 buchi yes\nsizes 1 1 1\nlog1 0\nlog2 0\nrel 1\nrow 0 0\nelements 100000\nlive base 0\n",
+    )?;
+    for parent in 0..99_999u32 {
+        write!(text, "under 0 next {parent} 0\n")?;
+    }
+    text.push_str("cover 0\nstep 0 0\nend\n")?;
+    assert_eq!(rt;
+        check(alloc, ONE_A, ONE_A, text.as_str(), "included\n")?,
+        (0, true)
+    );
+    Ok(())
+}
+
+#[test]
 fn an_empty_relation_orders_nothing(rt: HostRuntime) -> Result<(), Fail> {
     let alloc = rt.alloc();
     let text = with_lines(alloc, &LINES, &[(4, "rel 0\n"), (5, ""), (6, "")])?;
@@ -193,20 +230,6 @@ fn an_empty_relation_orders_nothing(rt: HostRuntime) -> Result<(), Fail> {
             text.as_str(),
             "certificate item 6: rule 13\n"
         )?,
-        (5, true)
-    );
-    Ok(())
-}
-
-#[test]
-fn pairs_without_a_lasso_are_named(rt: HostRuntime) -> Result<(), Fail> {
-    let alloc = rt.alloc();
-    let both = "[0]\na,[0]->[0]\nb,[0]->[0]\n[0]\n";
-    let one = "[0]\na,[0]->[0]\n[0]\n";
-    let text =
-        "rabit-cert 1 buchi yes\nsizes 1 1 2\nlog1 0\nlog2 0\nrel 1\nrow 0 0\nelements 1\nlive base 1\ncover 0 0\nstep 0 0 0\nend\n";
-    assert_eq!(rt;
-        check(alloc, both, one, text, "certificate item 2: rule 15\n")?,
         (5, true)
     );
     Ok(())

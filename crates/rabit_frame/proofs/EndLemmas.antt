@@ -330,8 +330,8 @@ module _ (means : List Value → Reply → Type 0) (inputs : List Input) (held h
           both_map held held' (λ files files'. files' ≡ files) Left (λ files files' left. left_other files files' (omega arith) (λ e. omega arith) left) ends.leaves
 
 -- the puts by the ending are those by its status, be its text sent or not
-module _ (means : List Value → Reply → Type 0) (inputs : List Input) (held : Option FileMap) (before now : ℕ) where
-  none_put : (status n : ℕ) → ¬ IsOwn n → ¬ (n ≡ 7) → status ≡ n → now ≡ before → PutsByStatus means inputs status held before now
+module _ (means : List Value → Reply → Type 0) (inputs : List Input) (held held' : Option FileMap) (before now : ℕ) where
+  none_put : (status n : ℕ) → ¬ IsOwn n → ¬ (n ≡ 7) → status ≡ n → now ≡ before → PutsByStatus means inputs status held held' before now
   none_put status n other not is same = record {
     own = λ own. absurd (other (subst IsOwn is own));
     write_fault = λ seven. absurd (not (sym is ∙ seven));
@@ -339,7 +339,7 @@ module _ (means : List Value → Reply → Type 0) (inputs : List Input) (held :
     memory = λ eight. same;
   }
 
-  all_put : (r : Reply) (status : ℕ) → IsReplyOf means inputs held r → PutEach r.puts before now → status ≡ status_number r.status → PutsByStatus means inputs status held before now
+  all_put : (r : Reply) (status : ℕ) → IsReplyOf means inputs held r → PutEach r.puts before now → status ≡ status_number r.status → PutsByStatus means inputs status held held' before now
   all_put r status right each is =
       let own = own_number r.status in record {
         own = λ mine. (r, right, sym is, each);
@@ -348,7 +348,7 @@ module _ (means : List Value → Reply → Type 0) (inputs : List Input) (held :
         memory = λ eight. absurd (own.2 (sym is ∙ eight));
       }
 
-  at_seven : (r : Reply) (status : ℕ) → IsReplyOf means inputs held r → PutEach r.puts before now ⊎ PutFront r.puts before now → status ≡ 7 → PutsByStatus means inputs status held before now
+  at_seven : (r : Reply) (status : ℕ) → IsReplyOf means inputs held r → PutEach r.puts before now ⊎ PutFront r.puts held held' before now → status ≡ 7 → PutsByStatus means inputs status held held' before now
   at_seven r status right put is = record {
     own = λ own. absurd (own.1 is);
     write_fault = λ seven. (r, right, put);
@@ -356,7 +356,7 @@ module _ (means : List Value → Reply → Type 0) (inputs : List Input) (held :
     memory = λ eight. absurd (omega arith);
   }
 
-  pub puts_by_status : (e : Ending) (status : ℕ) → PutsOnce means inputs e held before now → (status ≡ status_of e) ⊎ (status ≡ status_unsent e) → PutsByStatus means inputs status held before now
+  pub puts_by_status : (e : Ending) (status : ℕ) → PutsOnce means inputs e held held' before now → (status ≡ status_of e) ⊎ (status ≡ status_unsent e) → PutsByStatus means inputs status held held' before now
   puts_by_status (ending.Reached r) status (right, each) is =
       elim is [
         | inl sent ↦ all_put r status right each sent

@@ -74,16 +74,16 @@ LeavesAtWriteFault means inputs sent sent' give_faults give_faults' put_faults p
     ⊎ (Rose put_faults put_faults' × IsCutShort files r.puts files' × SaysOnly write_line 7 sent sent' give_faults give_faults'))
 
 -- What a command that ended so has put, by the count of puts: the files of its reply once each, at a write fault up to one of them, and else none.
-abbrev pub PutsOnce : (List Value → Reply → Type 0) → List Input → Ending → Option FileMap → ℕ → ℕ → Type 0
-PutsOnce means inputs (ending.Reached r) held before now = IsReplyOf means inputs held r × PutEach r.puts before now
-PutsOnce means inputs (ending.WriteFault) held before now = (r : Reply) × IsReplyOf means inputs held r × PutFront r.puts before now
-PutsOnce means inputs (ending.ReadFault) held before now = now ≡ before
-PutsOnce means inputs (ending.OutOfMemory) held before now = now ≡ before
+abbrev pub PutsOnce : (List Value → Reply → Type 0) → List Input → Ending → Option FileMap → Option FileMap → ℕ → ℕ → Type 0
+PutsOnce means inputs (ending.Reached r) held held' before now = IsReplyOf means inputs held r × PutEach r.puts before now
+PutsOnce means inputs (ending.WriteFault) held held' before now = (r : Reply) × IsReplyOf means inputs held r × PutFront r.puts held held' before now
+PutsOnce means inputs (ending.ReadFault) held held' before now = now ≡ before
+PutsOnce means inputs (ending.OutOfMemory) held held' before now = now ≡ before
 
 -- The same by its status. At a write fault all of the files were put where the sink refused the text.
-pub record PutsByStatus (means : List Value → Reply → Type 0) (inputs : List Input) (status : ℕ) (held : Option FileMap) (before now : ℕ) : Type 0 where
+pub record PutsByStatus (means : List Value → Reply → Type 0) (inputs : List Input) (status : ℕ) (held held' : Option FileMap) (before now : ℕ) : Type 0 where
   pub own : IsOwn status → (r : Reply) × IsReplyOf means inputs held r × (status_number r.status ≡ status) × PutEach r.puts before now
-  pub write_fault : status ≡ 7 → (r : Reply) × IsReplyOf means inputs held r × (PutEach r.puts before now ⊎ PutFront r.puts before now)
+  pub write_fault : status ≡ 7 → (r : Reply) × IsReplyOf means inputs held r × (PutEach r.puts before now ⊎ PutFront r.puts held held' before now)
   pub read_fault : status ≡ 6 → now ≡ before
   pub memory : status ≡ 8 → now ≡ before
 

@@ -43,10 +43,20 @@ abbrev pub PutEach : List Output → ℕ → ℕ → Type 0
 PutEach [] before now = now ≡ before
 PutEach (p ∷ ps) before now = PutEach ps (counted before) now
 
--- Each up to one of them was put once, and none after it.
-abbrev pub PutFront : List Output → ℕ → ℕ → Type 0
-PutFront [] before now = ⊥
-PutFront (p ∷ ps) before now = (now ≡ counted before) ⊎ PutFront ps (counted before) now
+-- The files after this one was written, where the shelf tells its files.
+abbrev pub with_file : Option FileMap → Output → Option FileMap
+with_file None p = None
+with_file (Some files) p = Some (map.insert files p.name p.bytes)
+
+-- The put of this file failed: it holds a front of its bytes or what was there, and the others stay.
+abbrev pub FailsToPut : Output → Option FileMap → Option FileMap → Type 0
+FailsToPut p None held' = held' ≡ None
+FailsToPut p (Some files) held' = (held' ≡ Some files) ⊎ ((n : ℕ) × (held' ≡ Some (map.insert files p.name (take n p.bytes))))
+
+-- Each up to one of them was put once, and none after it: the put of that one failed, and those before it are written.
+abbrev pub PutFront : List Output → Option FileMap → Option FileMap → ℕ → ℕ → Type 0
+PutFront [] held held' before now = ⊥
+PutFront (p ∷ ps) held held' before now = (FailsToPut p held held' × (now ≡ counted before)) ⊎ PutFront ps (with_file held p) held' (counted before) now
 
 -- A shelf that tells its files tells them afterwards too, and then this holds of those before and those after.
 abbrev pub BeforeAndAfter : Option FileMap → Option FileMap → (FileMap → FileMap → Type 0) → Type 0

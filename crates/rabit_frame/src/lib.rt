@@ -2,10 +2,12 @@
 #![tactic(auto)]
 
 mod carrying;
+mod intake;
 mod lines;
 mod parts;
 mod putting;
 mod reading;
+mod stopping;
 mod work;
 
 pub use carrying::{carry_out, carry_out_unsaid, read_alone, say};

@@ -12,7 +12,7 @@ pub fn put_all<H: Shelf>(shelf: &mut H, puts: &[Put<'_>]) -> Result<(), Failed>
     ensures written { OnOk result (BeforeAndAfter (H.held shelf.old) (H.held shelf.new) (λ files files'. files' ≡ filed files puts.now)) }
     ensures cut { OnErr result (BeforeAndAfter (H.held shelf.old) (H.held shelf.new) (λ files files'. IsCutShort files puts.now files')) }
     ensures put_each { OnOk result (PutEach puts.now (H.put_calls shelf.old) (H.put_calls shelf.new)) }
-    ensures put_front { OnErr result (PutFront puts.now (H.put_calls shelf.old) (H.put_calls shelf.new)) }
+    ensures put_front { OnErr result (PutFront puts.now (H.held shelf.old) (H.held shelf.new) (H.put_calls shelf.old) (H.put_calls shelf.new)) }
     ensures some { OnErr result (1 ≤ length puts.now) }
     ensures failed { OnErr result (Rose (H.put_faults shelf.old) (H.put_faults shelf.new)) }
     ensures done { OnOk result (H.put_faults shelf.new ≡ H.put_faults shelf.old) }

@@ -1,17 +1,16 @@
 //! The files of a command, read in turn.
 
-ghost use Rattle.std.specs.Prelude.{◌≡◌, ◌≤◌, List as Items, length, IfOk, IfErr, IfSome, MatchResult, Err};
+ghost use Rattle.std.specs.Prelude.{◌≡◌, ◌≢◌, ◌≤◌, List as Items, length, IfOk, IfErr, IfSome, IsErrOf, Err};
 ghost use Rattle.shelf_io.specs.Counts.{Rose, counted};
+ghost use Rattle.shelf_io.specs.Load.{HoldsMoreThan};
 ghost use Rattle.shelf_io.specs.Shelf.{CountsMissing, IsBlamed};
-ghost use Rattle.rabit_frame.specs.Lines.{kind_name, text_kind_name, file_line, certificate_line, list_line};
-ghost use Rattle.rabit_frame.specs.Reading.{most_bytes, long_reply, only_said, ReadsAs, HasFault, IsOfKind, FileReads, FileStops, StopInTurn, MissedInTurn, BegunInTurn, AllBegun, BegunForReply, BegunToBlamed, MayStopAt, MayStop, HaltsBy, AddsRead};
+ghost use Rattle.rabit_frame.specs.Reading.{most_bytes, IsOfKind, FileReads, FileStops, StopInTurn, MissedInTurn, BegunInTurn, AllBegun, BegunForReply, BegunToBlamed, MayStopAt, MayStop, HaltsBy, AddsRead};
+ghost use Rattle.rabit_frame.specs.Intake.{IsTakenIn};
 
-use crate::lines;
-use crate::parts::{FileKind, Halt, Reply, Slot, Status, Value};
-use auto_core::{List, Memory};
-use ba_format::{BaFault, ReadFault};
-use cert_text::{CertReadFault, TextFault};
-use equal_batch::ListFault;
+use crate::intake::Intake;
+use crate::parts::{FileKind, Halt, Slot, Value};
+use crate::stopping::{halted, long_reply};
+use auto_core::List;
 use shelf_io::{LoadFault, Shelf};
 use std::alloc::Global;
 
@@ -27,92 +26,27 @@ fn most_bytes(kind: FileKind) -> u64
     }
 }
 
-/// What is said of a bad line of a list of questions.
-fn list_reply(alloc: Global, line: u32) -> Result<Reply<'static>, Memory>
-    ensures { IfOk result (λ reply. reply ≡ only_said Status.BadList (list_line line)) }
+/// Takes the file in, piece by piece to its end, or tells why not.
+fn take_in<H: Shelf>(alloc: Global, shelf: &mut H, slot: &Slot<'_>) -> Result<Intake, LoadFault>
+    ensures taken { IfOk result (IsTakenIn (H.held shelf.old) slot.now) }
+    ensures long_file { IsErrOf result LoadFault.Long → HoldsMoreThan (H.held shelf.old) slot.now.name (most_bytes slot.now.kind) }
+    ensures failed { IsErrOf result LoadFault.Failed → Rose (H.faults shelf.old) (H.faults shelf.new) }
+    ensures only_failed { result ≢ Err LoadFault.Failed → H.faults shelf.new ≡ H.faults shelf.old }
+    ensures files_stay { H.held shelf.new ≡ H.held shelf.old }
+    ensures puts_stay { H.put_faults shelf.new ≡ H.put_faults shelf.old }
+    ensures put_calls_stay { H.put_calls shelf.new ≡ H.put_calls shelf.old }
+    ensures counts_missing { CountsMissing (H.held shelf.old) slot.now.name (H.missed shelf.old) (H.missed shelf.new) }
+    ensures counts_begin { H.begins shelf.new ≡ counted (H.begins shelf.old) }
+    ensures blames { IsErrOf result LoadFault.Failed → IfSome (H.held shelf.old) (λ files. IsBlamed files slot.now.name (H.blamed shelf.new)) }
 {
-    let text = lines::list_text(alloc, line)?;
-    Ok(Reply::saying(alloc, Status::BadList, text))
-}
-
-/// What is said of a file with more bytes.
-fn long_reply(alloc: Global, kind: FileKind) -> Result<Reply<'static>, Memory>
-    ensures { IfOk result (λ reply. reply ≡ long_reply kind) }
-{
-    match kind {
-        FileKind::Automaton { number, .. } => {
-            let text = lines::file_text(alloc, number, 0, "Long")?;
-            Ok(Reply::saying(alloc, Status::BadFile, text))
-        },
-        FileKind::Certificate | FileKind::Cross => {
-            let text = lines::certificate_text(alloc, 0, "Long")?;
-            Ok(Reply::saying(alloc, Status::BadCertificate, text))
-        },
-        FileKind::Questions => list_reply(alloc, 0),
+    let mut intake = Intake::new(alloc, slot.kind);
+    match shelf_io::pour(alloc, shelf, slot.name, most_bytes(slot.kind), &mut intake) {
+        Ok(_) => Ok(intake),
+        Err(fault) => Err(fault),
     }
 }
 
-/// What is said of a fault in the automaton's file with this number.
-fn file_reply(alloc: Global, number: u32, fault: BaFault) -> Result<Reply<'static>, Memory>
-    ensures { IfOk result (λ reply. reply ≡ only_said Status.BadFile (file_line number fault.line (kind_name fault.kind))) }
-{
-    let text = lines::file_fault(alloc, number, fault.line, fault.kind)?;
-    Ok(Reply::saying(alloc, Status::BadFile, text))
-}
-
-/// What is said of a fault in a certificate's text.
-fn certificate_reply(alloc: Global, fault: TextFault) -> Result<Reply<'static>, Memory>
-    ensures { IfOk result (λ reply. reply ≡ only_said Status.BadCertificate (certificate_line fault.line (text_kind_name fault.kind))) }
-{
-    let text = lines::certificate_fault(alloc, fault.line, fault.kind)?;
-    Ok(Reply::saying(alloc, Status::BadCertificate, text))
-}
-
-/// The reading stops with the reply, or for want of the memory that it takes.
-fn halted(reply: Result<Reply<'static>, Memory>) -> Halt
-    ensures { MatchResult reply.entry (λ r. result ≡ Halt.Stopped r) (λ _. result ≡ Halt.OutOfMemory) }
-{
-    match reply {
-        Ok(reply) => Halt::Stopped(reply),
-        Err(_refused) => Halt::OutOfMemory,
-    }
-}
-
-/// What the bytes read as, or the fault that they have.
-fn value_of(alloc: Global, kind: FileKind, bytes: &[u8]) -> Result<Value, Halt>
-    requires { length bytes.now ≤ most_bytes kind }
-    ensures read { IfOk result (ReadsAs kind bytes.now) }
-    ensures fits { IfOk result (IsOfKind kind) }
-    ensures fault { IfErr result (HaltsBy (HasFault kind bytes.now)) }
-    ensures no_read_fault { ¬ (result ≡ Err Halt.ReadFault) }
-{
-    match kind {
-        FileKind::Automaton { number, limits } => {
-            match ba_format::read(alloc, bytes, &limits) {
-                Ok(named) => Ok(Value::Automaton(named)),
-                Err(ReadFault::Ba(fault)) => Err(halted(file_reply(alloc, number, fault))),
-                Err(ReadFault::Memory) => Err(Halt::OutOfMemory),
-            }
-        },
-        FileKind::Certificate => match cert_text::read_cert(alloc, bytes) {
-            Ok(cert) => Ok(Value::Certificate(cert)),
-            Err(CertReadFault::Text(fault)) => Err(halted(certificate_reply(alloc, fault))),
-            Err(CertReadFault::Memory) => Err(Halt::OutOfMemory),
-        },
-        FileKind::Cross => match cross_text::read_cross(alloc, bytes) {
-            Ok(cross) => Ok(Value::Cross(cross)),
-            Err(CertReadFault::Text(fault)) => Err(halted(certificate_reply(alloc, fault))),
-            Err(CertReadFault::Memory) => Err(Halt::OutOfMemory),
-        },
-        FileKind::Questions => match equal_batch::read_list(alloc, bytes) {
-            Ok(questions) => Ok(Value::Questions(questions)),
-            Err(ListFault::Line(line)) => Err(halted(list_reply(alloc, line))),
-            Err(ListFault::Memory) => Err(Halt::OutOfMemory),
-        },
-    }
-}
-
-/// Loads the file and reads it, or tells what ends the reading.
+/// Reads the file, or tells what ends the reading. Its own fault is told after its end.
 pub(crate) fn read_one<H: Shelf>(
     alloc: Global,
     shelf: &mut H,
@@ -131,15 +65,15 @@ pub(crate) fn read_one<H: Shelf>(
     ensures counts_begin { H.begins shelf.new ≡ counted (H.begins shelf.old) }
     ensures blames { result ≡ Err Halt.ReadFault → IfSome (H.held shelf.old) (λ files. IsBlamed files slot.now.name (H.blamed shelf.new)) }
 {
-    match shelf_io::load(alloc, shelf, slot.name, most_bytes(slot.kind)) {
-        Ok(bytes) => value_of(alloc, slot.kind, bytes.as_slice()),
+    match take_in(alloc, shelf, slot) {
+        Ok(intake) => intake.finish(alloc),
         Err(LoadFault::Failed) => Err(Halt::ReadFault),
         Err(LoadFault::Long) => Err(halted(long_reply(alloc, slot.kind))),
         Err(LoadFault::Memory) => Err(Halt::OutOfMemory),
     }
 }
 
-/// Loads and reads the files, each before the next is begun, and appends what they read as; or tells what ends the reading.
+/// Reads the files, each before the next is begun, and appends what they read as; or tells what ends the reading.
 pub fn read_all<H: Shelf>(
     alloc: Global,
     shelf: &mut H,

@@ -9,5 +9,5 @@ use Rattle.reduce_loop.specs.Logs.{IsRelationOf}
 pub record AreGreatestOn (A : Automaton) (k : ℕ) (known : Known) : Type 0 where
   pub forward : IfSome known.forward (IsRelationOf A (IsGreatestForward A k))
   pub backward : IfSome known.backward (IsRelationOf A (IsGreatestBackward A k))
-  pub near_forward : IfSome known.near_forward (IsRelationOf A (IsGreatestForward A 1))
-  pub near_backward : IfSome known.near_backward (IsRelationOf A (IsGreatestBackward A 1))
+  pub forward_at_one : IfSome known.forward_at_one (IsRelationOf A (IsGreatestForward A 1))
+  pub backward_at_one : IfSome known.backward_at_one (IsRelationOf A (IsGreatestBackward A 1))

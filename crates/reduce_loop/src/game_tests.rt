@@ -5,7 +5,7 @@ use crate::tests::step;
 use auto_core::{Auto, List, Memory, Trans};
 use bit_rel::Rel;
 use look_game::{greatest, greatest_by_rounds};
-use look_round::Forward;
+use look_round::{Backward, Forward};
 use std::alloc::Global;
 use std::test::Fail;
 
@@ -29,12 +29,15 @@ fn same(rel: &Rel, other: &Rel) -> bool {
     rel.size() == other.size()
 }
 
-/// The number of pairs of the greatest relation; None where both ways do not give the same, or the lookahead is none.
+/// The number of pairs of the greatest forward relation; None where both ways do not give the same, forward or backward, or the lookahead is
+/// none.
 fn pairs(alloc: Global, automaton: &Auto, look: u32) -> Result<Option<u64>, Memory> {
     if 1 <= look && look <= 6 {
         let rel = greatest(alloc, &Forward, automaton, look)?;
         let plain = greatest_by_rounds(alloc, &Forward, automaton, look)?;
-        if same(&rel, &plain) {
+        let back = greatest(alloc, &Backward, automaton, look)?;
+        let plain_back = greatest_by_rounds(alloc, &Backward, automaton, look)?;
+        if same(&rel, &plain) && same(&back, &plain_back) {
             return Ok(Some(pairs_in(&rel)));
         }
     }

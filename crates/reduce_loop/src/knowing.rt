@@ -7,28 +7,28 @@ ghost use Rattle.reduce_loop.specs.Logs.{IsRelationOf, IsBackOf, IsAheadOf};
 
 use auto_core::{Auto, Memory};
 use bit_rel::Rel;
-use look_game::greatest_near;
+use look_game::greatest_at_one;
 use look_round::{Backward, Forward};
 use std::alloc::Global;
 
-/// The greatest relations of an automaton that were found so far, at the lookahead of the reduction and at lookahead 1.
+/// The greatest relations of an automaton that were found so wider, at the lookahead of the reduction and at lookahead 1.
 #[derive(Debug, Drop)]
 pub(crate) struct Known {
     pub(crate) forward: Option<Rel>,
     pub(crate) backward: Option<Rel>,
-    pub(crate) near_forward: Option<Rel>,
-    pub(crate) near_backward: Option<Rel>,
+    pub(crate) forward_at_one: Option<Rel>,
+    pub(crate) backward_at_one: Option<Rel>,
 }
 
 /// Nothing is known.
 pub(crate) fn nothing_known() -> Known
-    ensures { result ≡ record { forward = None; backward = None; near_forward = None; near_backward = None } }
+    ensures { result ≡ record { forward = None; backward = None; forward_at_one = None; backward_at_one = None } }
 {
     Known {
         forward: None,
         backward: None,
-        near_forward: None,
-        near_backward: None,
+        forward_at_one: None,
+        backward_at_one: None,
     }
 }
 
@@ -78,54 +78,54 @@ pub(crate) fn backward(
 
 /// The greatest forward relation at lookahead 1, which is kept. It is sought inside the one at the lookahead of the reduction, which is
 /// kept too.
-fn near_forward(
+fn forward_at_one(
     alloc: Global,
     automaton: &Auto,
     kept: &mut Option<Rel>,
-    far: &mut Option<Rel>,
+    wider: &mut Option<Rel>,
     look: u32,
 ) -> Result<Rel, Memory>
     requires look_from { 1 ≤ look }
     requires look_upto { look ≤ 6 }
     requires known { IfSome kept.old (IsRelationOf automaton.now (IsGreatestForward automaton.now 1)) }
-    requires far { IfSome far.old (IsRelationOf automaton.now (IsGreatestForward automaton.now look)) }
+    requires wider { IfSome wider.old (IsRelationOf automaton.now (IsGreatestForward automaton.now look)) }
     ensures greatest { IfOk result (IsRelationOf automaton.now (IsGreatestForward automaton.now 1)) }
     ensures known { IfOk result (λ _. IfSome kept.new (IsRelationOf automaton.now (IsGreatestForward automaton.now 1))) }
-    ensures far { IfOk result (λ _. IfSome far.new (IsRelationOf automaton.now (IsGreatestForward automaton.now look))) }
+    ensures wider { IfOk result (λ _. IfSome wider.new (IsRelationOf automaton.now (IsGreatestForward automaton.now look))) }
 {
     match kept {
         Some(rel) => return rel.copied(alloc),
         None => {}
     }
-    let found = forward(alloc, automaton, far, look)?;
-    let rel = greatest_near(alloc, &Forward, automaton, look, found)?;
+    let found = forward(alloc, automaton, wider, look)?;
+    let rel = greatest_at_one(alloc, &Forward, automaton, look, found)?;
     *kept = Some(rel.copied(alloc)?);
     Ok(rel)
 }
 
 /// The greatest backward relation at lookahead 1, which is kept. It is sought inside the one at the lookahead of the reduction, which is
 /// kept too.
-fn near_backward(
+fn backward_at_one(
     alloc: Global,
     automaton: &Auto,
     kept: &mut Option<Rel>,
-    far: &mut Option<Rel>,
+    wider: &mut Option<Rel>,
     look: u32,
 ) -> Result<Rel, Memory>
     requires look_from { 1 ≤ look }
     requires look_upto { look ≤ 6 }
     requires known { IfSome kept.old (IsRelationOf automaton.now (IsGreatestBackward automaton.now 1)) }
-    requires far { IfSome far.old (IsRelationOf automaton.now (IsGreatestBackward automaton.now look)) }
+    requires wider { IfSome wider.old (IsRelationOf automaton.now (IsGreatestBackward automaton.now look)) }
     ensures greatest { IfOk result (IsRelationOf automaton.now (IsGreatestBackward automaton.now 1)) }
     ensures known { IfOk result (λ _. IfSome kept.new (IsRelationOf automaton.now (IsGreatestBackward automaton.now 1))) }
-    ensures far { IfOk result (λ _. IfSome far.new (IsRelationOf automaton.now (IsGreatestBackward automaton.now look))) }
+    ensures wider { IfOk result (λ _. IfSome wider.new (IsRelationOf automaton.now (IsGreatestBackward automaton.now look))) }
 {
     match kept {
         Some(rel) => return rel.copied(alloc),
         None => {}
     }
-    let found = backward(alloc, automaton, far, look)?;
-    let rel = greatest_near(alloc, &Backward, automaton, look, found)?;
+    let found = backward(alloc, automaton, wider, look)?;
+    let rel = greatest_at_one(alloc, &Backward, automaton, look, found)?;
     *kept = Some(rel.copied(alloc)?);
     Ok(rel)
 }
@@ -146,10 +146,10 @@ pub(crate) fn back_of(
 {
     match pair {
         1 => Ok(None),
-        4 => Ok(Some(near_backward(
+        4 => Ok(Some(backward_at_one(
             alloc,
             automaton,
-            &mut known.near_backward,
+            &mut known.backward_at_one,
             &mut known.backward,
             look,
         )?)),
@@ -173,10 +173,10 @@ pub(crate) fn ahead_of(
 {
     match pair {
         2 => Ok(None),
-        3 => Ok(Some(near_forward(
+        3 => Ok(Some(forward_at_one(
             alloc,
             automaton,
-            &mut known.near_forward,
+            &mut known.forward_at_one,
             &mut known.forward,
             look,
         )?)),

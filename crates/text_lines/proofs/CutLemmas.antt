@@ -8,7 +8,7 @@ use Rattle.std.proofs.lemmas.List.Sums.{prefix_len-le-length, split_at_first, fa
 use Rattle.std.proofs.lemmas.List.Elements.{All-nil, All-cons, All-head, All-tail}
 use Rattle.std.proofs.lemmas.Grind.{common_steps}
 use Rattle.std.proofs.lemmas.Bool.{cases_Bool, eqb-true, eq-eqb, ltb-false, ltb-true, false≢true}
-use Rattle.text_lines.specs.Cut.{is_newline, HasNewline, IsUnfinished, IsCut}
+use Rattle.text_lines.specs.Cut.{is_newline, HasNewline, IsUnfinished, IsLineCut}
 
 -- ---- where the first line ends
 
@@ -91,7 +91,7 @@ unfinished_all (x ∷ xs) all =
     let rest = unfinished_all xs (All-tail (λ b. is_newline b ≡ false) x xs all) in
     rw f (omega (arith, rest))
 
-pub cut_of : (text : List ℕ) → HasNewline text → IsCut text (before_first is_newline text) (after_first is_newline text)
+pub cut_of : (text : List ℕ) → HasNewline text → IsLineCut text (before_first is_newline text) (after_first is_newline text)
 cut_of text has =
     let front : All (λ b. is_newline b ≡ false) (before_first is_newline text) =
     λ k d m. let k' = fails_before_first is_newline text k d (grind (arith, common_steps)) in grind (arith, common_steps) in
@@ -100,13 +100,13 @@ cut_of text has =
       split_at_first is_newline text 0 has ∙ ap (λ b. before_first is_newline text ++ b ∷ after_first is_newline text) lf,
     )
 
-pub cut_some : (text : List ℕ) (at : ℕ) → position is_newline text ≡ Some at → IsCut text (take at text) (take (length text - (at + 1)) (drop (at + 1) text))
+pub cut_some : (text : List ℕ) (at : ℕ) → position is_newline text ≡ Some at → IsLineCut text (take at text) (take (length text - (at + 1)) (drop (at + 1) text))
 cut_some text at e =
     let (has, same) = has_from text at e in
-    let cut = subst (λ n. IsCut text (take n text) (drop (n + 1) text)) same (cut_of text has) in
+    let cut = subst (λ n. IsLineCut text (take n text) (drop (n + 1) text)) same (cut_of text has) in
     let all = take_all (length text - (at + 1)) (drop (at + 1) text) (omega (arith, length-drop (at + 1) text)) in
-    subst (IsCut text (take at text)) (sym all) cut
+    subst (IsLineCut text (take at text)) (sym all) cut
 
-pub cut_on : (line more first rest : List ℕ) → IsUnfinished line → IsCut more first rest → IsCut (line ++ more) (line ++ first) rest
+pub cut_on : (line more first rest : List ℕ) → IsUnfinished line → IsLineCut more first rest → IsLineCut (line ++ more) (line ++ first) rest
 cut_on line more first rest none cut =
     (unfinished_on line first none cut.0, ap (λ xs. line ++ xs) cut.1 ∙ sym (append_assoc line first (10 ∷ rest)))

@@ -15,5 +15,5 @@ abbrev pub IsUnfinished : List ℕ → Type 0
 IsUnfinished text = position_or_len is_newline text ≡ length text
 
 -- The text begins with this line, and goes on with the rest after the line's LF.
-abbrev pub IsCut : List ℕ → List ℕ → List ℕ → Type 0
-IsCut text line rest = IsUnfinished line × (text ≡ line ++ 10 ∷ rest)
+abbrev pub IsLineCut : List ℕ → List ℕ → List ℕ → Type 0
+IsLineCut text line rest = IsUnfinished line × (text ≡ line ++ 10 ∷ rest)

@@ -2,7 +2,7 @@
 
 ghost use Rattle.std.specs.Prelude.{◌≡◌, ◌<◌, length, position, IfSome, MatchOption};
 ghost use Rattle.std.specs.List.{before_first, after_first};
-ghost use Rattle.text_lines.specs.Cut.{is_newline, HasNewline, IsUnfinished, IsCut};
+ghost use Rattle.text_lines.specs.Cut.{is_newline, HasNewline, IsUnfinished, IsLineCut};
 
 /// Where the first LF of the text stands.
 fn place_of_newline(text: &[u8]) -> Option<usize>
@@ -13,7 +13,7 @@ fn place_of_newline(text: &[u8]) -> Option<usize>
 
 /// The first line of a text, without its LF, if it ends, and what stands after the LF.
 pub fn split_line(text: &[u8]) -> Option<(&[u8], &[u8])>
-    ensures cut { MatchOption result (IsUnfinished text.now) (λ parts. IsCut text.now parts.0.now parts.1.now) }
+    ensures cut { MatchOption result (IsUnfinished text.now) (λ parts. IsLineCut text.now parts.0.now parts.1.now) }
     ensures first { IfSome result (λ parts. HasNewline text.now × (parts.0.now ≡ before_first is_newline text.now) × (parts.1.now ≡ after_first is_newline text.now)) }
     ensures shorter { IfSome result (λ parts. length parts.1.now < length text.now) }
 {

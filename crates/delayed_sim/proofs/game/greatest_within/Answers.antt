@@ -63,7 +63,7 @@ returns-clause-greatest c =
     let ranks = c.in_ok-ranks.ranks.items in
     let T : RankedTriples = entry_triples n c.in_ok-entries.entries.items in
     let listed : ListsTriplesBefore A.labels n S ranks S.places 0 T = listed_here A n c.labels-labels.result S c.deref.result.now ranks T c.labels-labels.ensures.count c.deref.ensures.value c.in_ok-entries.ensures in
-    left_over A c.args.places.now n c.word_count.result c.args.first.now c.in_ok-board.board S ranks T c.requires.from c.requires.valid c.requires.places is c.requires.equal c.requires.first c.in_ok-board.ensures.places c.in_ok-board.ensures.states c.in_ok-board.ensures.pairs c.in_ok-ranks.ensures listed
+    left_over A c.args.places.now n c.word_count.result c.args.first.now c.in_ok-board.board S ranks T c.requires.from c.requires.valid c.requires.places is c.requires.equal c.requires.first c.in_ok-board.ensures.places c.in_ok-board.ensures.states (λ x q x_in. (c.in_ok-board.ensures.pairs x q x_in).1) c.in_ok-ranks.ensures listed
 
 pub invariant_of-result : goal.invariant_of-result
 invariant_of-result c =
@@ -74,7 +74,7 @@ invariant_of-result c =
     let ranks = c.in_ok-ranks.ranks.items in
     let T : RankedTriples = entry_triples n c.in_ok-entries.entries.items in
     let listed : ListsTriplesBefore A.labels n S ranks S.places 0 T = listed_here A n c.labels-labels.result S c.deref.result.now ranks T c.labels-labels.ensures.count c.deref.ensures.value c.in_ok-entries.ensures in
-    let all = left_over A c.args.places.now n c.word_count.result c.args.first.now c.in_ok-board.board S ranks T c.requires.from c.requires.valid c.requires.places is c.requires.equal c.requires.first c.in_ok-board.ensures.places c.in_ok-board.ensures.states c.in_ok-board.ensures.pairs c.in_ok-ranks.ensures listed in
+    let all = left_over A c.args.places.now n c.word_count.result c.args.first.now c.in_ok-board.board S ranks T c.requires.from c.requires.valid c.requires.places is c.requires.equal c.requires.first c.in_ok-board.ensures.places c.in_ok-board.ensures.states (λ x q x_in. (c.in_ok-board.ensures.pairs x q x_in).1) c.in_ok-ranks.ensures listed in
     record {
       letters_from = c.requires.from;
       letters_upto = c.requires.upto;
@@ -91,7 +91,7 @@ returns-clause-valid c =
     let ranks = c.in_ok-ranks.ranks.items in
     let T : RankedTriples = entry_triples n c.in_ok-entries.entries.items in
     let listed : ListsTriplesBefore A.labels n S ranks S.places 0 T = listed_here A n c.labels-labels.result S c.deref.result.now ranks T c.labels-labels.ensures.count c.deref.ensures.value c.in_ok-entries.ensures in
-    let all = left_over A c.args.places.now n c.word_count.result c.args.first.now c.in_ok-board.board S ranks T c.requires.from c.requires.valid c.requires.places is c.requires.equal c.requires.first c.in_ok-board.ensures.places c.in_ok-board.ensures.states c.in_ok-board.ensures.pairs c.in_ok-ranks.ensures listed in
+    let all = left_over A c.args.places.now n c.word_count.result c.args.first.now c.in_ok-board.board S ranks T c.requires.from c.requires.valid c.requires.places is c.requires.equal c.requires.first c.in_ok-board.ensures.places c.in_ok-board.ensures.states (λ x q x_in. (c.in_ok-board.ensures.pairs x q x_in).1) c.in_ok-ranks.ensures listed in
     record {
       letters_from = c.requires.from;
       letters_upto = c.requires.upto;

@@ -3,20 +3,20 @@ use Rattle.std.specs.List.{range_with_len}
 use Rattle.std.proofs.lemmas.List.FromFn.{map-range_with_len_more}
 use Rattle.rand_pcg.specs.Lcg.{started}
 use Rattle.rand_pcg.specs.Pcg.{multiplier_64, pcg32}
-use Rattle.drawing.specs.Draws.{draw_at, after, generator_of}
+use Rattle.drawing.specs.Draws.{draw_at, lcg_after, generator_of}
 use Rattle.drawing.proofs.generator.draws.Goals as goal
 
 pub loop-at-init : goal.loop-at-init
-unfolding after generator_of
+unfolding lcg_after generator_of
 loop-at-init c = (c.new-generator.ensures ∙ ap (λ s. started 64 multiplier_64 s 109) c.from.ensures, c.new-draws.ensures.items)
 
 pub loop-at-preserved : goal.loop-at-preserved
-unfolding after draw_at
+unfolding lcg_after draw_at
 loop-at-preserved c =
     let n : ℕ = c.loop-at._at in
-    let here : c.loop-at.generator ≡ after n (generator_of c.args.seed) = c.loop-at.invariant.0 in
+    let here : c.loop-at.generator ≡ lcg_after n (generator_of c.args.seed) = c.loop-at.invariant.0 in
     let drawn = c.next_word.ensures ∙ ap pcg32 here in (
-      ap (λ p. p.1) drawn ∙ sym (ap (λ k. after k (generator_of c.args.seed)) (add-one n)),
+      ap (λ p. p.1) drawn ∙ sym (ap (λ k. lcg_after k (generator_of c.args.seed)) (add-one n)),
       c.in_ok-push.ensures.items ∙ ap (λ w. c.loop-at.draws.items ++ w ∷ []) (ap (λ p. p.0) drawn) ∙ ap (λ l. l ++ draw_at c.args.seed n ∷ []) c.loop-at.invariant.1
           ∙ sym (map-range_with_len_more (draw_at c.args.seed) 0 n n (zero-add n)),
     )

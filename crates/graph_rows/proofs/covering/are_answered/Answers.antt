@@ -2,7 +2,7 @@ use Rattle.std.proofs.Common.{◌≡◌, ◌*◌, ◌+◌, ◌<◌, ◌≤◌, �
 use Rattle.std.proofs.lemmas.Bool.{cases_eq, cases_lt, false≢true}
 use Rattle.auto_core.specs.Rows.{HasBit, bit_of}
 use Rattle.auto_core.specs.Game.{Holds}
-use Rattle.graph_rows.specs.Covering.{IsAnswered}
+use Rattle.graph_rows.specs.Covering.{IsTargetAnswered}
 use Rattle.graph_rows.proofs.covering.are_answered.Goals as goal
 
 pub loop-bit-init : goal.loop-bit-init
@@ -22,10 +22,10 @@ loop-bit-preserved c =
     let near : bit < 64 = search rules in
     let between : (k : ℕ) → c.loop-bit.at ≤ k → k < bit → bit_of (c.args.targets ∷ []) k ≡ false = search rules in
     let met : c.meets.result ≡ true = search rules in
-    let here : IsAnswered (Holds c.args.order.now.pairs) (HasBit c.args.others.now) (c.args.word * 64 + bit) = (let (u, other, wanted) = c.meets.ensures.0 met in (u, other, (c.row.ensures.bits u).0 wanted)) in (
+    let here : IsTargetAnswered (Holds c.args.order.now.pairs) (HasBit c.args.others.now) (c.args.word * 64 + bit) = (let (u, other, wanted) = c.meets.ensures.0 met in (u, other, (c.row.ensures.bits u).0 wanted)) in (
       λ j below own.
           elim (cases_eq j bit) [
-            | inl e ↦ subst (λ k. IsAnswered (Holds c.args.order.now.pairs) (HasBit c.args.others.now) (c.args.word * 64 + k)) (sym e) here
+            | inl e ↦ subst (λ k. IsTargetAnswered (Holds c.args.order.now.pairs) (HasBit c.args.others.now) (c.args.word * 64 + k)) (sym e) here
             | inr n ↦
                 elim (cases_lt j c.loop-bit.at) [
                   | inl before ↦ c.loop-bit.invariant.0 j before own

@@ -4,7 +4,7 @@ use Rattle.std.proofs.lemmas.Bool.{cases_eq, false≢true}
 use Rattle.auto_core.specs.Rows.{HasBit}
 use Rattle.auto_core.specs.Reach.{Arc}
 use Rattle.auto_core.specs.Game.{Holds}
-use Rattle.graph_rows.specs.Covering.{IsAnswered}
+use Rattle.graph_rows.specs.Covering.{IsTargetAnswered}
 use Rattle.graph_rows.proofs.ArcLemmas.{row_marks}
 use Rattle.graph_rows.proofs.CoveringLemmas.{bit_below, bit_in_row, kept_bit, word_answered}
 use Rattle.graph_rows.proofs.covering.is_word_answered.Goals as goal
@@ -38,7 +38,7 @@ returns-then-not-are_answered c =
     let kept : ℕ = bit_not w64 (bit_and (get_or others word 0) c.own_answers-themselves.result) in (
       λ told. absurd (false≢true told),
       λ all.
-          let every : (j : ℕ) → HasBit (bit_and (get_or targets word 0) kept ∷ []) j → IsAnswered (Holds c.args.order.now.pairs) (HasBit others) (word * 64 + j) = λ j bit.
+          let every : (j : ℕ) → HasBit (bit_and (get_or targets word 0) kept ∷ []) j → IsTargetAnswered (Holds c.args.order.now.pairs) (HasBit others) (word * 64 + j) = λ j bit.
           let below = bit_below (bit_and (get_or targets word 0) kept) j bit in
           let in_word : (word * 64 + j) / 64 ≡ word = omega (arith, below) in
           let arc : Arc c.args.own.now n w row (word * 64 + j) =
@@ -67,8 +67,8 @@ loop-row-preserved c = λ s t below in_word arc.
           let here : Arc c.args.own.now n w row t = subst (λ k. Arc c.args.own.now n w k t) e arc in
           let bit : HasBit targets t = (row_marks c.args.own.now targets n w row c.requires.own in_row c.row_at.ensures.bits c.row_at.ensures.outside t).1 here in
           let (u, other, rel) = word_answered S targets others word c.own_answers-themselves.result fits own_fits c.own_answers-themselves.ensures (c.are_answered.ensures.0 told) t in_word bit in
-          let answer : IsAnswered S (Arc c.args.others.now n w row) t = (u, (row_marks c.args.others.now others n w row c.requires.others in_row c.row_at-other_targets.ensures.bits c.row_at-other_targets.ensures.outside u).0 other, rel) in
-          subst (λ k. IsAnswered S (Arc c.args.others.now n w k) t) (sym e) answer
+          let answer : IsTargetAnswered S (Arc c.args.others.now n w row) t = (u, (row_marks c.args.others.now others n w row c.requires.others in_row c.row_at-other_targets.ensures.bits c.row_at-other_targets.ensures.outside u).0 other, rel) in
+          subst (λ k. IsTargetAnswered S (Arc c.args.others.now n w k) t) (sym e) answer
       | inr other ↦ c.loop-row.invariant s t (omega arith) in_word arc
     ]
 

@@ -3,7 +3,7 @@ use Rattle.auto_core.specs.Rows.{bit_of, cell_of}
 use Rattle.auto_core.specs.Reach.{Arc, HasFlaggedCycle}
 use Rattle.graph_laws.proofs.AppliedLemmas.{lassos_are_cycles}
 use Rattle.graph_rows.specs.Block.{width_of, joined_plane, past_plane}
-use Rattle.lasso_test.proofs.EntryLemmas.{row_marks}
+use Rattle.graph_rows.proofs.ArcLemmas.{row_marks}
 use Rattle.lasso_test.proofs.passing.passes.Goals as goal
 
 pub returns-clause-told : goal.returns-clause-told

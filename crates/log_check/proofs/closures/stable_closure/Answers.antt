@@ -10,7 +10,7 @@ pub returns-then-not-branch : goal.returns-then-not-branch
 returns-then-not-branch g c =
     let A = c.args.automaton.now in
     let M = g.S.Side.goes c.args.side.now A in
-    let ok = g.S.Side.keeps c.args.side.now A in
+    let ok = g.S.Side.matches c.args.side.now A in
     let pairs = pairs_of c.args.block.now in
     let same : IsBlockRelation A.states c.args.block.now c.in_ok-rel.rel = search rules in
     let is : c.in_ok-is_stable.field-0 ≡ false = search rules in
@@ -20,7 +20,7 @@ pub returns : goal.returns
 returns g c =
     let A = c.args.automaton.now in
     let M = g.S.Side.goes c.args.side.now A in
-    let ok = g.S.Side.keeps c.args.side.now A in
+    let ok = g.S.Side.matches c.args.side.now A in
     let pairs = pairs_of c.args.block.now in
     let same : IsBlockRelation A.states c.args.block.now c.in_ok-rel.rel = search rules in
     let is : c.in_ok-is_stable.field-0 ≡ true = search rules in (

@@ -16,7 +16,7 @@ returns-then-not-joins_members-clause-tells g c =
     let rel = c.in-Some-2.rel in
     let named : IsBlockIn A c.args.look c.args.block.now = search rules in
     let classed : (c.in-Some.classes ≡ c.args.numbers.now) × AreClassesFor A c.args.numbers.now = search rules in
-    let stable : Stable M M (g.S.Side.keeps c.args.side.now A) c.args.look R × IsClosureOf A.states R rel = search rules in
+    let stable : Stable M M (g.S.Side.matches c.args.side.now A) c.args.look R × IsClosureOf A.states R rel = search rules in
     let is : c.joins_members.result ≡ false = search rules in
     inr (
       named,
@@ -40,7 +40,7 @@ returns-clause-tells g c =
     let rel = c.in-Some-2.rel in
     let named : IsBlockIn A c.args.look c.args.block.now = search rules in
     let classed : (c.in-Some.classes ≡ c.args.numbers.now) × AreClassesFor A c.args.numbers.now = search rules in
-    let stable : Stable M M (g.S.Side.keeps c.args.side.now A) c.args.look R × IsClosureOf A.states R rel = search rules in
+    let stable : Stable M M (g.S.Side.matches c.args.side.now A) c.args.look R × IsClosureOf A.states R rel = search rules in
     let is : c.joins_members.result ≡ true = search rules in
     let joined : JoinsMembers c.args.numbers.now rel rel.size = subst (λ (l : List ℕ). JoinsMembers l rel rel.size) classed.0 (c.joins_members.ensures.0 is) in
     (named, (classed.1, (stable.0, (joins_from A c.args.numbers.now R rel stable.1 joined, tt))))

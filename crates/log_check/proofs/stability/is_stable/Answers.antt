@@ -15,7 +15,7 @@ returns-then-not-is_row_stable g c =
 pub loop-p-preserved : goal.loop-p-preserved
 loop-p-preserved g c =
     let is : c.is_row_stable.result ≡ true = search rules in (
-      below_more (IsRowStable (g.S.Side.goes c.args.side.now c.args.automaton.now) (g.S.Side.keeps c.args.side.now c.args.automaton.now) c.args.look (Holds c.args.rel.now.pairs) c.args.automaton.now.states)
+      below_more (IsRowStable (g.S.Side.goes c.args.side.now c.args.automaton.now) (g.S.Side.matches c.args.side.now c.args.automaton.now) c.args.look (Holds c.args.rel.now.pairs) c.args.automaton.now.states)
           c.loop-p.p c.loop-p.invariant.0 (c.is_row_stable.ensures.told.0 is),
       c.is_row_stable.ensures.scratch ∙ c.loop-p.invariant.1,
     )
@@ -24,7 +24,7 @@ pub returns : goal.returns
 returns g c =
     let n : ℕ = c.args.automaton.now.states in
     let below : ArePairsBelow n n c.args.rel.now.pairs = subst (λ m. ArePairsBelow m m c.args.rel.now.pairs) c.requires.equal c.size-p-end.ensures.valid.in_range in (
-      λ told. stable_from_rows (g.S.Side.goes c.args.side.now c.args.automaton.now) (g.S.Side.keeps c.args.side.now c.args.automaton.now) c.args.look c.args.rel.now.pairs n below
+      λ told. stable_from_rows (g.S.Side.goes c.args.side.now c.args.automaton.now) (g.S.Side.matches c.args.side.now c.args.automaton.now) c.args.look c.args.rel.now.pairs n below
           (λ p p_in. c.loop-p.invariant.0 p (omega (arith, c.size-p-end.ensures.count, c.requires.equal))),
       λ stable. refl,
     )

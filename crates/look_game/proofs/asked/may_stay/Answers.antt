@@ -5,7 +5,7 @@ use Rattle.look_game.proofs.asked.may_stay.Goals as goal
 pub returns : goal.returns
 returns g c = λ e T below stable held.
     let M = g.S.Side.goes c.args.side.now c.args.automaton.now in
-    let ok = g.S.Side.keeps c.args.side.now c.args.automaton.now in
+    let ok = g.S.Side.matches c.args.side.now c.args.automaton.now in
     let k = c.args.look in
     let n = c.args.automaton.now.states in
     let all = matching_has_stable M ok k n c.in_ok-all.all c.in_ok-all.ensures in

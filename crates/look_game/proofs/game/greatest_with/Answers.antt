@@ -6,13 +6,13 @@ use Rattle.look_game.proofs.game.greatest_with.Goals as goal
 
 pub greatest_within-requires-clause-stable : goal.greatest_within-requires-clause-stable
 greatest_within-requires-clause-stable g c =
-    bound_has_stable (g.S.Side.goes c.args.side.now c.args.automaton.now) (g.S.Side.keeps c.args.side.now c.args.automaton.now) c.args.look c.args.automaton.now.states c.in_ok-first.first
+    bound_has_stable (g.S.Side.goes c.args.side.now c.args.automaton.now) (g.S.Side.matches c.args.side.now c.args.automaton.now) c.args.look c.args.automaton.now.states c.in_ok-first.first
     c.requires.look_from c.in_ok-first.ensures
 
 pub returns-else-get-clause-lacks : goal.returns-else-get-clause-lacks
 returns-else-get-clause-lacks g c = λ _ T below stable held.
     let M = g.S.Side.goes c.args.side.now c.args.automaton.now in
-    let ok = g.S.Side.keeps c.args.side.now c.args.automaton.now in
+    let ok = g.S.Side.matches c.args.side.now c.args.automaton.now in
     let n = c.args.automaton.now.states in
     let is : IsGreatest M M ok c.args.look n n c.in-Some.rel.pairs = search rules in
     let there : Holds c.in-Some.rel.pairs c.args.left c.args.right = is.has_each T below stable c.args.left c.args.right held in

@@ -7,11 +7,11 @@ use Rattle.look_game.proofs.rounds.match_row.Goals as goal
 use Rattle.look_game.proofs.rounds.match_row.Goals.{then-matched, else-matched}
 
 pub loop-q-init : goal.loop-q-init
-loop-q-init g c = add_none (g.S.Side.keeps c.args.side.now c.args.automaton.now) c.args.p c.args.rel.now c.size-q-end.ensures.valid
+loop-q-init g c = add_none (g.S.Side.matches c.args.side.now c.args.automaton.now) c.args.p c.args.rel.now c.size-q-end.ensures.valid
 
 pub loop-q-preserved : goal.loop-q-preserved
 loop-q-preserved g c =
-    let ok = g.S.Side.keeps c.args.side.now c.args.automaton.now in
+    let ok = g.S.Side.matches c.args.side.now c.args.automaton.now in
     let q = c.loop-q.q in
     let p = c.args.p in
     let old = c.args.rel.now in
@@ -25,7 +25,7 @@ loop-q-preserved g c =
 
 pub returns : goal.returns
 returns g c =
-    let ok = g.S.Side.keeps c.args.side.now c.args.automaton.now in
+    let ok = g.S.Side.matches c.args.side.now c.args.automaton.now in
     let all : c.loop-q.q ≡ c.args.automaton.now.states = omega (arith, c.loop-q-test.false, c.loop-q.auto.q-end, c.size-q-end.ensures.count, c.requires.equal) in
     let P : ℕ → Type 0 = λ n. AddsMatching ok n c.args.p c.args.rel.now c.loop-q.rel in
     subst P all c.loop-q.invariant

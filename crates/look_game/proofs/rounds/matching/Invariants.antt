@@ -3,4 +3,4 @@ use Rattle.look_game.proofs.RowLemmas.{HasRowsUpto}
 use Rattle.look_game.proofs.rounds.matching.Given as goal
 
 abbrev pub invariant-loop-p : goal.invariant-loop-p
-invariant-loop-p g l = IsRelation l.rel × HasRowsUpto (g.S.Side.keeps l.side l.automaton) l.automaton.states l.p l.rel
+invariant-loop-p g l = IsRelation l.rel × HasRowsUpto (g.S.Side.matches l.side l.automaton) l.automaton.states l.p l.rel

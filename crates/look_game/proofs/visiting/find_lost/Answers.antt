@@ -7,7 +7,7 @@ use Rattle.look_game.proofs.visiting.find_lost.Goals.{then-not-round_holds_by, e
 
 pub loop-q-init : goal.loop-q-init
 loop-q-init g c =
-    let P : ℕ → Type 0 = λ q. Round (g.S.Side.goes c.args.side.now c.args.automaton.now) (g.S.Side.goes c.args.side.now c.args.automaton.now) (g.S.Side.keeps c.args.side.now c.args.automaton.now) c.args.look (Holds c.args.rel.now.pairs) c.args.p q in
+    let P : ℕ → Type 0 = λ q. Round (g.S.Side.goes c.args.side.now c.args.automaton.now) (g.S.Side.goes c.args.side.now c.args.automaton.now) (g.S.Side.matches c.args.side.now c.args.automaton.now) c.args.look (Holds c.args.rel.now.pairs) c.args.p q in
     (refl, omega (arith, c.requires.lost, c.clear_row.auto.row), none_tried c.args.rest.now c.clear_row.new.row P c.clear_row.ensures, omega arith)
 
 pub round_holds_by-requires-clause-right : goal.round_holds_by-requires-clause-right
@@ -21,7 +21,7 @@ loop-q-smaller g c =
 
 pub loop-q-preserved : goal.loop-q-preserved
 loop-q-preserved g c =
-    let P : ℕ → Type 0 = λ q. Round (g.S.Side.goes c.args.side.now c.args.automaton.now) (g.S.Side.goes c.args.side.now c.args.automaton.now) (g.S.Side.keeps c.args.side.now c.args.automaton.now) c.args.look (Holds c.args.rel.now.pairs) c.args.p q in
+    let P : ℕ → Type 0 = λ q. Round (g.S.Side.goes c.args.side.now c.args.automaton.now) (g.S.Side.goes c.args.side.now c.args.automaton.now) (g.S.Side.matches c.args.side.now c.args.automaton.now) c.args.look (Holds c.args.rel.now.pairs) c.args.p q in
     let q = c.in-Some.q in
     let next = c.in-Some.ensures.found in
     let below = c.requires.rest q next.here in

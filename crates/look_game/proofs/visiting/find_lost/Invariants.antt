@@ -7,7 +7,7 @@ abbrev pub invariant-loop-q : goal.invariant-loop-q
 invariant-loop-q g l =
     (l.scratch ≡ l.fn.scratch)
     × (length l.lost ≡ (l.automaton.states + 63) / 64)
-    × AreTried l.rest l.lost (λ q. Round (g.S.Side.goes l.side l.automaton) (g.S.Side.goes l.side l.automaton) (g.S.Side.keeps l.side l.automaton) l.look (Holds l.rel.pairs) l.p q) l.at
+    × AreTried l.rest l.lost (λ q. Round (g.S.Side.goes l.side l.automaton) (g.S.Side.goes l.side l.automaton) (g.S.Side.matches l.side l.automaton) l.look (Holds l.rel.pairs) l.p q) l.at
     × (l.at ≤ l.automaton.states)
 
 abbrev pub decreases-loop-q : goal.decreases-loop-q

@@ -1,4 +1,4 @@
-use Rattle.std.proofs.Common.{◌≡◌, ℕ, ◌+◌, ◌*◌, ◌<◌, true, List, length, subst, sym, ◌∙◌, arith}
+use Rattle.std.proofs.Common.{◌≡◌, ℕ, ◌+◌, ◌*◌, true, List, length, subst, sym, ◌∙◌, arith}
 use Rattle.auto_core.specs.Rows.{cell_of}
 use Rattle.look_round.proofs.AnsweringLemmas.{HasArrivalsUpto, arrival_marked, arrival_passed, all_arrived}
 use Rattle.look_round.proofs.answers.mark_arrivals.Goals as goal
@@ -19,7 +19,7 @@ loop-at-preserved g c =
     elim c.if-m-labels.branch [
       | then-m-labels b ↦
           let to_in = c.nth_arrival-m.ensures.in_range in
-          let is = b.column-place.ensures.is in
+          let is = b.place_in_row-place.ensures.is in
           subst P (sym b.table-is)
           (arrival_marked moves old now b.set_cell.new.table l w t n m c.loop-at.invariant c.nth_arrival-m.ensures.item b.if-m-labels.true (omega arith)
           (subst (λ x. cell_of b.set_cell.new.table (l * w) t x ≡ true) is b.set_cell.ensures.here)

@@ -58,7 +58,7 @@ loop-r-preserved g c =
     let A = c.args.automaton.now in
     let s = c.args.side.now in
     let M = g.S.Side.goes s A in
-    let ok = g.S.Side.keeps s A in
+    let ok = g.S.Side.matches s A in
     let W = Holds c.args.rel.now.pairs in
     let l = c.args.labels in
     let w = c.args.width in
@@ -83,6 +83,6 @@ loop-r-preserved g c =
 pub returns-clause-here : goal.returns-clause-here
 returns-clause-here g c =
     let M = g.S.Side.goes c.args.side.now c.args.automaton.now in
-    let ok = g.S.Side.keeps c.args.side.now c.args.automaton.now in
+    let ok = g.S.Side.matches c.args.side.now c.args.automaton.now in
     answers_done M ok (Holds c.args.rel.now.pairs) c.args.table.now c.loop-r.table c.args.labels c.args.width c.args.t c.loop-r.at c.loop-r.invariant.0
     (λ x from is. false≢true (sym (c.in_default.ensures.none x from) ∙ (c.row.ensures.bits x).1 is))

@@ -9,7 +9,7 @@ loop-q-init g c = λ k. (λ h. absurd (false≢true (sym (c.clear_row.ensures k)
 
 pub loop-q-preserved : goal.loop-q-preserved
 loop-q-preserved g c =
-    let ok : ℕ → Type 0 = λ q. g.S.Side.keeps c.args.side.now c.args.automaton.now c.args.p q in
+    let ok : ℕ → Type 0 = λ q. g.S.Side.matches c.args.side.now c.args.automaton.now c.args.p q in
     let now = c.loop-q.row in
     let q = c.loop-q.q in
     let P : List ℕ → Type 0 = λ row. MarksUpto ok row (q + 1) in
@@ -20,7 +20,7 @@ loop-q-preserved g c =
 
 pub returns : goal.returns
 returns g c =
-    let ok : ℕ → Type 0 = λ q. g.S.Side.keeps c.args.side.now c.args.automaton.now c.args.p q in
+    let ok : ℕ → Type 0 = λ q. g.S.Side.matches c.args.side.now c.args.automaton.now c.args.p q in
     let all : c.loop-q.q ≡ c.args.automaton.now.states = omega (arith, c.loop-q-test.false, c.loop-q.auto.q-end, c.states-q-end.ensures.count) in
     let P : ℕ → Type 0 = λ n. MarksUpto ok c.loop-q.row n in
     subst P all c.loop-q.invariant

@@ -2,4 +2,4 @@ use Rattle.row_steps.proofs.MarkLemmas.{MarksUpto}
 use Rattle.look_round.proofs.kinds.match_row.Given as goal
 
 abbrev pub invariant-loop-q : goal.invariant-loop-q
-invariant-loop-q g l = MarksUpto (λ q. g.S.Side.keeps l.side l.automaton l.p q) l.row l.q
+invariant-loop-q g l = MarksUpto (λ q. g.S.Side.matches l.side l.automaton l.p q) l.row l.q

@@ -9,7 +9,7 @@ later xs p h k d k_in = let lt = h k d k_in in omega arith
 
 pub loop-p-preserved : goal.loop-p-preserved
 loop-p-preserved g c =
-    let ok = g.S.Side.keeps c.args.side.now c.args.automaton.now in
+    let ok = g.S.Side.matches c.args.side.now c.args.automaton.now in
     let p = c.loop-p.p in
     let h = c.loop-p.invariant in
     let items = c.loop-p.kinds.items in

@@ -1,10 +1,9 @@
-use Rattle.std.proofs.Common.{rules, arith, ◌≡◌, ℕ, ◌+◌, ◌-◌, ◌<◌, ◌≤◌, ◌↔◌, List, [], ◌∷◌, ◌++◌, length, get_or, take, Contains, inl, inr, refl, sym, ap, ◌∙◌, subst, take_all}
+use Rattle.std.proofs.Common.{arith, ◌≡◌, ℕ, ◌+◌, ◌-◌, ◌<◌, ◌≤◌, ◌↔◌, List, [], ◌∷◌, ◌++◌, length, take, Contains, inl, inr, sym, ap, ◌∙◌, subst, take_all}
 use Rattle.std.proofs.lemmas.Bool.{iff_false}
 use Rattle.std.proofs.lemmas.List.{take_more, get_or_default}
 use Rattle.auto_core.specs.Game.{Holds, IsDead}
-use Rattle.look_round.specs.declared.moves.Move.{Move}
 use Rattle.look_round.specs.Sides.{move}
-use Rattle.look_round.specs.Replies.{HasReplyFrom, RoundFrom, RoundAfter}
+use Rattle.look_round.specs.Replies.{HasReplyFrom, RoundFrom}
 use Rattle.look_round.proofs.RoundLemmas.{from_moves, to_move, met, ended, goes_on}
 use Rattle.look_round.proofs.RoundLoop.{dead_from, alive_from}
 use Rattle.look_round.proofs.ListedLemmas.{AllAnswered, one_more_answered}
@@ -15,7 +14,7 @@ told_from-loop-at-preserved g t c =
     let A = c.args.automaton.now in
     let s = c.args.side.now in
     let M = g.S.Side.goes s A in
-    let ok = g.S.Side.keeps s A in
+    let ok = g.S.Side.matches s A in
     let W = Holds c.args.rel.now.pairs in
     let moves = g.S.Side.list s A c.args.p in
     let D : ℕ → Type 0 = Contains c.args.from.now in
@@ -31,7 +30,7 @@ told_from-returns-in-Fails-clause-fails g t c = λ e h.
     let A = c.args.automaton.now in
     let s = c.args.side.now in
     let M = g.S.Side.goes s A in
-    let ok = g.S.Side.keeps s A in
+    let ok = g.S.Side.matches s A in
     let W = Holds c.args.rel.now.pairs in
     let moves = g.S.Side.list s A c.args.p in
     let m = c.nth-step.result in
@@ -46,7 +45,7 @@ told_from-returns-clause-holds g t c = λ e.
     let A = c.args.automaton.now in
     let s = c.args.side.now in
     let M = g.S.Side.goes s A in
-    let ok = g.S.Side.keeps s A in
+    let ok = g.S.Side.matches s A in
     let W = Holds c.args.rel.now.pairs in
     let moves = g.S.Side.list s A c.args.p in
     let D : ℕ → Type 0 = Contains c.args.from.now in
@@ -57,7 +56,7 @@ told_from-returns-clause-holds g t c = λ e.
 pub told_after-returns-then-one_meets-clause-holds : goal.told_after-returns-then-one_meets-clause-holds
 told_after-returns-then-one_meets-clause-holds g t c = λ e.
     let M = g.S.Side.goes c.args.side.now c.args.automaton.now in
-    let ok = g.S.Side.keeps c.args.side.now c.args.automaton.now in
+    let ok = g.S.Side.matches c.args.side.now c.args.automaton.now in
     let W = Holds c.args.rel.now.pairs in
     let a = c.args.step.label in
     let p = c.args.step.to in
@@ -68,7 +67,7 @@ told_after-returns-then-one_meets-clause-holds g t c = λ e.
 pub told_after-returns-then-left-eq1-clause-fails : goal.told_after-returns-then-left-eq1-clause-fails
 told_after-returns-then-left-eq1-clause-fails g t c = λ e h.
     let M = g.S.Side.goes c.args.side.now c.args.automaton.now in
-    let ok = g.S.Side.keeps c.args.side.now c.args.automaton.now in
+    let ok = g.S.Side.matches c.args.side.now c.args.automaton.now in
     let W = Holds c.args.rel.now.pairs in
     let a = c.args.step.label in
     let p = c.args.step.to in
@@ -83,7 +82,7 @@ told_after-returns-then-moves-eq0-clause-fails g t c = λ e h.
     let A = c.args.automaton.now in
     let s = c.args.side.now in
     let M = g.S.Side.goes s A in
-    let ok = g.S.Side.keeps s A in
+    let ok = g.S.Side.matches s A in
     let W = Holds c.args.rel.now.pairs in
     let a = c.args.step.label in
     let p = c.args.step.to in
@@ -101,7 +100,7 @@ told_after-returns-clause-holds g t c = λ e.
     let A = c.args.automaton.now in
     let s = c.args.side.now in
     let M = g.S.Side.goes s A in
-    let ok = g.S.Side.keeps s A in
+    let ok = g.S.Side.matches s A in
     let W = Holds c.args.rel.now.pairs in
     let a = c.args.step.label in
     let p = c.args.step.to in
@@ -122,7 +121,7 @@ told_after-returns-clause-fails g t c = λ e h.
     let A = c.args.automaton.now in
     let s = c.args.side.now in
     let M = g.S.Side.goes s A in
-    let ok = g.S.Side.keeps s A in
+    let ok = g.S.Side.matches s A in
     let W = Holds c.args.rel.now.pairs in
     let a = c.args.step.label in
     let p = c.args.step.to in

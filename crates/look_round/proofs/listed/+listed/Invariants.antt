@@ -1,4 +1,4 @@
-use Rattle.std.proofs.Common.{◌≡◌, ◌+◌, ◌*◌, take, Contains}
+use Rattle.std.proofs.Common.{◌+◌, ◌*◌, take, Contains}
 use Rattle.auto_core.specs.Game.{Holds}
 use Rattle.look_round.proofs.ListedLemmas.{AllAnswered}
 use Rattle.look_round.proofs.listed.+listed.Given as goal
@@ -11,4 +11,4 @@ decreases-told_after g l = 2 * l.left
 
 abbrev pub invariant-told_from-loop-at : goal.invariant-told_from-loop-at
 invariant-told_from-loop-at g l =
-    AllAnswered (g.S.Side.goes l.side l.automaton) (g.S.Side.keeps l.side l.automaton) (Holds l.rel.pairs) l.left (Contains l.from) (take l.at (g.S.Side.list l.side l.automaton l.p))
+    AllAnswered (g.S.Side.goes l.side l.automaton) (g.S.Side.matches l.side l.automaton) (Holds l.rel.pairs) l.left (Contains l.from) (take l.at (g.S.Side.list l.side l.automaton l.p))

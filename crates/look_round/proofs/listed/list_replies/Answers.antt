@@ -1,8 +1,7 @@
-use Rattle.std.proofs.Common.{◌≡◌, ℕ, ◌+◌, ◌<◌, ◌≤◌, List, [], ◌∷◌, ◌++◌, length, get_or, take, All, sym, ap, ◌∙◌, subst, arith, take_all}
+use Rattle.std.proofs.Common.{◌≡◌, ℕ, ◌+◌, ◌<◌, ◌≤◌, List, [], ◌∷◌, ◌++◌, length, take, All, sym, ap, ◌∙◌, subst, arith, take_all}
 use Rattle.std.proofs.lemmas.Bool.{iff_false}
 use Rattle.std.proofs.lemmas.List.{take_more, length_push}
 use Rattle.std.proofs.lemmas.List.Elements.{All-push}
-use Rattle.look_round.specs.declared.moves.Move.{Move}
 use Rattle.look_round.specs.Sides.{move}
 use Rattle.look_round.proofs.ListedLemmas.{IsListed, reply_listed, other_listed, all_listed}
 use Rattle.look_round.proofs.listed.list_replies.Goals as goal
@@ -11,7 +10,7 @@ use Rattle.look_round.proofs.listed.list_replies.Goals.{then-len-le-MOST_LISTED+
 pub loop-at-preserved : goal.loop-at-preserved
 loop-at-preserved g c =
     let moves = g.S.Side.list c.args.side.now c.args.automaton.now c.args.from in
-    let ok = g.S.Side.keeps c.args.side.now c.args.automaton.now in
+    let ok = g.S.Side.matches c.args.side.now c.args.automaton.now in
     let states = c.args.automaton.now.states in
     let a = c.args.step.label in
     let p = c.args.step.to in
@@ -54,6 +53,6 @@ returns-clause-listed g c =
     let s = c.args.side.now in
     let moves = g.S.Side.list s A c.args.from in
     let over : length moves ≤ c.loop-at.at = omega (arith, c.loop-at-test.false, c.moves-at-end.ensures) in
-    all_listed (g.S.Side.goes s A c.args.from) moves (g.S.Side.keeps s A) c.args.step.label c.args.step.to c.args.replies.now.items c.loop-at.replies.items
+    all_listed (g.S.Side.goes s A c.args.from) moves (g.S.Side.matches s A) c.args.step.label c.args.step.to c.args.replies.now.items c.loop-at.replies.items
     (g.met.S.Side.lists s A c.args.from)
-    (subst (λ l. IsListed l (g.S.Side.keeps s A) c.args.step.label c.args.step.to c.args.replies.now.items c.loop-at.replies.items) (take_all c.loop-at.at moves over) c.loop-at.invariant.3)
+    (subst (λ l. IsListed l (g.S.Side.matches s A) c.args.step.label c.args.step.to c.args.replies.now.items c.loop-at.replies.items) (take_all c.loop-at.at moves over) c.loop-at.invariant.3)

@@ -1,4 +1,4 @@
-use Rattle.std.proofs.Common.{◌≡◌, ℕ, ◌+◌, List, [], ◌∷◌, ◌++◌, take, slice_index_or, refl, sym, subst, take_all}
+use Rattle.std.proofs.Common.{◌≡◌, ℕ, ◌+◌, [], ◌∷◌, ◌++◌, take, slice_index_or, refl, sym, subst, take_all}
 use Rattle.std.proofs.lemmas.Bool.{iff_false, false≢true}
 use Rattle.std.proofs.lemmas.List.{take_more}
 use Rattle.std.proofs.lemmas.List.Elements.{Contains-get_or}
@@ -17,7 +17,7 @@ returns-then-has_reply_in g c =
 pub loop-i-preserved : goal.loop-i-preserved
 loop-i-preserved g c =
     let M = g.S.Side.goes c.args.side.now c.args.automaton.now in
-    let ok = g.S.Side.keeps c.args.side.now c.args.automaton.now in
+    let ok = g.S.Side.matches c.args.side.now c.args.automaton.now in
     let W = Holds c.args.rel.now.pairs in
     let from = c.args.from.now in
     let i = c.loop-i.i in
@@ -32,7 +32,7 @@ loop-i-preserved g c =
 pub returns : goal.returns
 returns g c =
     let M = g.S.Side.goes c.args.side.now c.args.automaton.now in
-    let ok = g.S.Side.keeps c.args.side.now c.args.automaton.now in
+    let ok = g.S.Side.matches c.args.side.now c.args.automaton.now in
     let W = Holds c.args.rel.now.pairs in
     let none : NoneAnswers M ok W c.args.step.label c.args.step.to c.args.from.now =
     subst (λ l. NoneAnswers M ok W c.args.step.label c.args.step.to l) (take_all c.loop-i.i c.args.from.now c.loop-i-test.false) c.loop-i.invariant in

@@ -5,4 +5,4 @@ use Rattle.look_round.proofs.listed.one_answers.Given as goal
 
 abbrev pub invariant-loop-i : goal.invariant-loop-i
 invariant-loop-i g l =
-    NoneAnswers (g.S.Side.goes l.side l.automaton) (g.S.Side.keeps l.side l.automaton) (Holds l.rel.pairs) l.step.label l.step.to (take l.i l.from)
+    NoneAnswers (g.S.Side.goes l.side l.automaton) (g.S.Side.matches l.side l.automaton) (Holds l.rel.pairs) l.step.label l.step.to (take l.i l.from)

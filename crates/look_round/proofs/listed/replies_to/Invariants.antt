@@ -7,4 +7,4 @@ invariant-loop-i g l =
     (l.replies.capacity ≡ 65)
     × (length l.replies.items ≤ 65)
     × All (λ r. r < l.automaton.states) l.replies.items
-    × ListsReplies (g.S.Side.goes l.side l.automaton) (g.S.Side.keeps l.side l.automaton) l.step.label l.step.to (take l.i l.from) l.replies.items
+    × ListsReplies (g.S.Side.goes l.side l.automaton) (g.S.Side.matches l.side l.automaton) l.step.label l.step.to (take l.i l.from) l.replies.items

@@ -5,12 +5,12 @@ use Rattle.look_round.proofs.replies.add_replies.Goals as goal
 use Rattle.look_round.proofs.replies.add_replies.Goals.{then-is_reply, else-is_reply}
 
 pub loop-at-init : goal.loop-at-init
-loop-at-init g c = no_replies (g.S.Side.list c.args.side.now c.args.automaton.now c.args.from) (g.S.Side.keeps c.args.side.now c.args.automaton.now) c.args.step.label c.args.step.to c.args.table.now c.args.width c.args.row
+loop-at-init g c = no_replies (g.S.Side.list c.args.side.now c.args.automaton.now c.args.from) (g.S.Side.matches c.args.side.now c.args.automaton.now) c.args.step.label c.args.step.to c.args.table.now c.args.width c.args.row
 
 pub loop-at-preserved : goal.loop-at-preserved
 loop-at-preserved g c =
     let moves = g.S.Side.list c.args.side.now c.args.automaton.now c.args.from in
-    let ok = g.S.Side.keeps c.args.side.now c.args.automaton.now in
+    let ok = g.S.Side.matches c.args.side.now c.args.automaton.now in
     let a = c.args.step.label in
     let p = c.args.step.to in
     let old = c.args.table.now in
@@ -35,7 +35,7 @@ returns-clause-here g c =
     let A = c.args.automaton.now in
     let s = c.args.side.now in
     let count : c.loop-at.at ≡ length (g.S.Side.list s A c.args.from) = omega (arith, c.moves-at-end.ensures) in
-    replies_done (g.S.Side.list s A c.args.from) (g.S.Side.goes s A c.args.from) (g.S.Side.keeps s A) c.args.step.label c.args.step.to
+    replies_done (g.S.Side.list s A c.args.from) (g.S.Side.goes s A c.args.from) (g.S.Side.matches s A) c.args.step.label c.args.step.to
     c.args.table.now c.loop-at.table c.args.width c.args.row c.loop-at.at (g.met.S.Side.lists s A c.args.from) c.loop-at.invariant count
 
 pub returns-clause-others : goal.returns-clause-others

@@ -43,7 +43,7 @@ loop-q-preserved g c =
       λ q r lt is reply bit. elim (cases_lt q c.loop-q.at) [
         | inl before ↦ c.loop-q.invariant.0 q r before is reply bit
         | inr from ↦ elim (cases_eq q c.in-Some.q) [
-          | inl e ↦ none (r, subst (λ x. IsReply (g.S.Side.goes c.args.side.now c.args.automaton.now) (g.S.Side.keeps c.args.side.now c.args.automaton.now) c.args.step.label c.args.step.to x r) e reply, bit)
+          | inl e ↦ none (r, subst (λ x. IsReply (g.S.Side.goes c.args.side.now c.args.automaton.now) (g.S.Side.matches c.args.side.now c.args.automaton.now) c.args.step.label c.args.step.to x r) e reply, bit)
           | inr apart ↦ not_there c.args.table.now c.row_at.result.now c.args.automaton.now.states c.args.width c.args.place q (omega arith) c.row_at.ensures.bits (next.none_between q from (omega arith)) is
         ]
       ],

@@ -14,5 +14,5 @@ abbrev pub invariant-round_from-loop-at : goal.invariant-round_from-loop-at
 invariant-round_from-loop-at g l =
     (l.path.items ≡ l.fn.path.items)
     × (l.path.capacity ≡ l.fn.path.capacity)
-    × IsAnsweredUpto (g.S.Side.goes l.side l.automaton) (g.S.Side.keeps l.side l.automaton) (Holds l.rel.pairs) (g.S.Side.list l.side l.automaton l.p) l.left l.automaton.states l.width (length l.fn.path.items) l.fn.sets l.sets l.at
-    × AreKnown (g.S.Side.goes l.side l.automaton) (g.S.Side.keeps l.side l.automaton) (Holds l.rel.pairs) l.automaton.states l.width l.letters l.held l.known
+    × IsAnsweredUpto (g.S.Side.goes l.side l.automaton) (g.S.Side.matches l.side l.automaton) (Holds l.rel.pairs) (g.S.Side.list l.side l.automaton l.p) l.left l.automaton.states l.width (length l.fn.path.items) l.fn.sets l.sets l.at
+    × AreKnown (g.S.Side.goes l.side l.automaton) (g.S.Side.matches l.side l.automaton) (Holds l.rel.pairs) l.automaton.states l.width l.letters l.held l.known

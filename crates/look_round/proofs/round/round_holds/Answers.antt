@@ -1,4 +1,4 @@
-use Rattle.std.proofs.Common.{◌≡◌, ◌<◌, arith}
+use Rattle.std.proofs.Common.{arith}
 use Rattle.look_round.proofs.round.round_holds.Goals as goal
 
 pub round_holds_by-requires-clause-answers : goal.round_holds_by-requires-clause-answers

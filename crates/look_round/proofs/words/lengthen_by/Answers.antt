@@ -8,7 +8,7 @@ loop-label-preserved g c =
     let s = c.args.side.now in
     let width = c.requires.width in
     let h = c.loop-label.invariant in (
-      columns_more (g.S.Side.goes s A) (g.S.Side.keeps s A) A.states c.loop-label.columns c.add_columns-count.new.columns c.args.lanes.now c.args.asked.now c.step_back.new.made c.args.width c.loop-label.count c.add_columns-count.result
+      columns_more (g.S.Side.goes s A) (g.S.Side.matches s A) A.states c.loop-label.columns c.add_columns-count.new.columns c.args.lanes.now c.args.asked.now c.step_back.new.made c.args.width c.loop-label.count c.add_columns-count.result
           c.args.used c.loop-label.label c.args.kind (omega arith) (λ q b r go. g.met.S.Side.stays s A c.requires.valid q b r go) c.requires.asked h.0 c.requires.lanes c.requires.used c.step_back.ensures c.add_columns-count.ensures.adds,
       c.add_columns-count.ensures.room,
     )

@@ -4,4 +4,4 @@ use Rattle.look_round.proofs.words.lengthen_by.Given as goal
 
 abbrev pub invariant-loop-label : goal.invariant-loop-label
 invariant-loop-label g l =
-    AreColumns (g.S.Side.goes l.side l.automaton) (g.S.Side.keeps l.side l.automaton) l.automaton.states l.columns l.width l.count × (l.count ≤ l.room)
+    AreColumns (g.S.Side.goes l.side l.automaton) (g.S.Side.matches l.side l.automaton) l.automaton.states l.columns l.width l.count × (l.count ≤ l.room)

@@ -9,7 +9,7 @@ lengthen-count-requires-clause-lanes g c =
     let A = c.args.automaton.now in
     let s = c.args.side.now in
     let M = g.S.Side.goes s A in
-    let ok = g.S.Side.keeps s A in
+    let ok = g.S.Side.matches s A in
     let lanes = c.fill_lanes-filled.new.lanes in
     let used = c.fill_lanes-filled.result.used in
     let n = c.states-states.result in
@@ -22,7 +22,7 @@ loop-turn-preserved g c =
     let A = c.args.automaton.now in
     let s = c.args.side.now in
     let M = g.S.Side.goes s A in
-    let ok = g.S.Side.keeps s A in
+    let ok = g.S.Side.matches s A in
     let P : List ℕ → ℕ → Type 0 = λ t n. AreColumns M ok A.states t c.args.width n × (n ≤ c.args.room) in
     elim c.if-at-count.branch [
       | then-at-count+then-count-room w ↦

@@ -40,9 +40,9 @@ returns-in-Ok g t c =
     let held' : Option FileMap = g.H.Shelf.held c.carry_each.new.shelf in
     let calls : ShelfCounts = shelf_counts (g.H.Shelf.begins c.args.shelf.now) (g.H.Shelf.put_calls c.args.shelf.now) (g.H.Shelf.faults c.args.shelf.now) (g.H.Shelf.put_faults c.args.shelf.now) (g.H.Shelf.blamed c.args.shelf.now) in
     let calls1 : ShelfCounts = shelf_counts (g.H.Shelf.begins c.answer_one-status.new.shelf) (g.H.Shelf.put_calls c.answer_one-status.new.shelf) (g.H.Shelf.faults c.answer_one-status.new.shelf) (g.H.Shelf.put_faults c.answer_one-status.new.shelf) (g.H.Shelf.blamed c.answer_one-status.new.shelf) in
-    let made : IfSome held (λ files. MadeCalls q (status_of e) files calls calls1) =
-    subst (λ s. IfSome held (λ files. MadeCalls q s files calls calls1)) (sym is)
-    (made_calls q c.answer_one-status.result held calls calls1 c.answer_one-status.ensures.begun c.answer_one-status.ensures.put_once c.answer_one-status.ensures.read_fault c.answer_one-status.ensures.no_read_fault
+    let made : IfSome held (λ files. MadeCalls q (status_of e) files (g.H.Shelf.held c.answer_one-status.new.shelf) calls calls1) =
+    subst (λ s. IfSome held (λ files. MadeCalls q s files (g.H.Shelf.held c.answer_one-status.new.shelf) calls calls1)) (sym is)
+    (made_calls q c.answer_one-status.result held (g.H.Shelf.held c.answer_one-status.new.shelf) calls calls1 c.answer_one-status.ensures.begun c.answer_one-status.ensures.put_once c.answer_one-status.ensures.read_fault c.answer_one-status.ensures.no_read_fault
     c.answer_one-status.ensures.write_fault c.answer_one-status.ensures.no_write_fault) in
     let P : List Question → Type 0 = λ xs. IsCarriedEach number xs held held' c.carry_each.result sent (g.K.Sink.sent c.carry_each.new.out) (g.K.Sink.faults c.args.out.now) (g.K.Sink.faults c.carry_each.new.out) (g.K.Sink.give_calls c.args.out.now) (g.K.Sink.give_calls c.carry_each.new.out) (g.H.Shelf.faults c.args.shelf.now) (g.H.Shelf.faults c.carry_each.new.shelf)
     (g.H.Shelf.put_faults c.args.shelf.now) (g.H.Shelf.put_faults c.carry_each.new.shelf) (g.H.Shelf.missed c.args.shelf.now) (g.H.Shelf.missed c.carry_each.new.shelf) calls (shelf_counts (g.H.Shelf.begins c.carry_each.new.shelf) (g.H.Shelf.put_calls c.carry_each.new.shelf) (g.H.Shelf.faults c.carry_each.new.shelf) (g.H.Shelf.put_faults c.carry_each.new.shelf) (g.H.Shelf.blamed c.carry_each.new.shelf)) in
@@ -66,9 +66,9 @@ returns-in-Err g t c =
     let between : Option FileMap = g.H.Shelf.held c.answer_one-status.new.shelf in
     let calls : ShelfCounts = shelf_counts (g.H.Shelf.begins c.args.shelf.now) (g.H.Shelf.put_calls c.args.shelf.now) (g.H.Shelf.faults c.args.shelf.now) (g.H.Shelf.put_faults c.args.shelf.now) (g.H.Shelf.blamed c.args.shelf.now) in
     let calls1 : ShelfCounts = shelf_counts (g.H.Shelf.begins c.answer_one-status.new.shelf) (g.H.Shelf.put_calls c.answer_one-status.new.shelf) (g.H.Shelf.faults c.answer_one-status.new.shelf) (g.H.Shelf.put_faults c.answer_one-status.new.shelf) (g.H.Shelf.blamed c.answer_one-status.new.shelf) in
-    let made : IfSome held (λ files. MadeCalls q (status_of e) files calls calls1) =
-    subst (λ s. IfSome held (λ files. MadeCalls q s files calls calls1)) (sym is)
-    (made_calls q c.answer_one-status.result held calls calls1 c.answer_one-status.ensures.begun c.answer_one-status.ensures.put_once c.answer_one-status.ensures.read_fault c.answer_one-status.ensures.no_read_fault
+    let made : IfSome held (λ files. MadeCalls q (status_of e) files (g.H.Shelf.held c.answer_one-status.new.shelf) calls calls1) =
+    subst (λ s. IfSome held (λ files. MadeCalls q s files (g.H.Shelf.held c.answer_one-status.new.shelf) calls calls1)) (sym is)
+    (made_calls q c.answer_one-status.result held (g.H.Shelf.held c.answer_one-status.new.shelf) calls calls1 c.answer_one-status.ensures.begun c.answer_one-status.ensures.put_once c.answer_one-status.ensures.read_fault c.answer_one-status.ensures.no_read_fault
     c.answer_one-status.ensures.write_fault c.answer_one-status.ensures.no_write_fault) in
     let P : List Question → Type 0 = λ xs. IsCarriedEach number xs held between 7 sent sent' (g.K.Sink.faults c.args.out.now) (g.K.Sink.faults c.give.new.self) (g.K.Sink.give_calls c.args.out.now) (g.K.Sink.give_calls c.give.new.self) (g.H.Shelf.faults c.args.shelf.now) (g.H.Shelf.faults c.answer_one-status.new.shelf)
     (g.H.Shelf.put_faults c.args.shelf.now) (g.H.Shelf.put_faults c.answer_one-status.new.shelf) (g.H.Shelf.missed c.args.shelf.now) (g.H.Shelf.missed c.answer_one-status.new.shelf) calls calls1 in

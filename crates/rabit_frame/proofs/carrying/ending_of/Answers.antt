@@ -57,9 +57,12 @@ returns-clause-put_once g c =
     let e = c.in-Ok.ensures in
     let failed = λ (P : Type 0) (h : OnErr c.put_all.result P). on_error P c.put_all.result c.in-Err._failed c.in-Err.is h in
     let now : ℕ = g.H.Shelf.put_calls c.put_all.new.shelf in
-    let P : List Output → Type 0 = λ ps. PutFront ps (g.H.Shelf.put_calls c.reply_of.new.shelf) now in
-    let Q : ℕ → Type 0 = λ n. PutFront c.in-Ok.reply.puts n now in
-    (c.in-Ok.reply, (e.may, e.right), subst Q e.put_calls_stay (subst P c.as_slice.ensures (failed _ c.put_all.ensures.put_front)))
+    let between : Option FileMap = g.H.Shelf.held c.reply_of.new.shelf in
+    let held' : Option FileMap = g.H.Shelf.held c.put_all.new.shelf in
+    let P : List Output → Type 0 = λ ps. PutFront ps between held' (g.H.Shelf.put_calls c.reply_of.new.shelf) now in
+    let Q : ℕ → Type 0 = λ n. PutFront c.in-Ok.reply.puts between held' n now in
+    let R : Option FileMap → Type 0 = λ h. PutFront c.in-Ok.reply.puts h held' (g.H.Shelf.put_calls c.args.shelf.now) now in
+    (c.in-Ok.reply, (e.may, e.right), subst R e.files_stay (subst Q e.put_calls_stay (subst P c.as_slice.ensures (failed _ c.put_all.ensures.put_front))))
 
 pub returns-in-Err-ReadFault-clause-put_once : goal.returns-in-Err-ReadFault-clause-put_once
 returns-in-Err-ReadFault-clause-put_once g c = c.in-Err-ReadFault.ensures.put_calls_stay

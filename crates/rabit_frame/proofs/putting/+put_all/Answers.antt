@@ -51,11 +51,17 @@ returns-in-Ok-clause-put_each g t c =
 pub returns-in-Ok-clause-put_front : goal.returns-in-Ok-clause-put_front
 returns-in-Ok-clause-put_front g t c =
     let first : Output = record { name = c.first.inside.name.now; bytes = c.first.inside.bytes } in
+    let held = g.H.Shelf.held c.args.shelf.now in
+    let P : List ℕ → Type 0 = λ b. Puts held first.name b c.put.result (g.H.Shelf.held c.put.new.self) in
     let split = split_at_first c.args.puts.now first c.first-item.result c.first.view_is c.first-item.is c.in-len1-up.len_at_least in
-    front_counted first (take (length c.args.puts.now - 1) (drop 1 c.args.puts.now)) c.args.puts.now c.put_all.result (g.H.Shelf.put_calls c.args.shelf.now) (g.H.Shelf.put_calls c.put.new.self) (g.H.Shelf.put_calls c.put_all.new.shelf) split c.put.ensures.counts_put c.put_all.ensures.put_front
+    front_counted held (g.H.Shelf.held c.put.new.self) (g.H.Shelf.held c.put_all.new.shelf) first (take (length c.args.puts.now - 1) (drop 1 c.args.puts.now)) c.args.puts.now c.put.result c.in-Ok.field-0 c.put_all.result (g.H.Shelf.put_calls c.args.shelf.now) (g.H.Shelf.put_calls c.put.new.self)
+    (g.H.Shelf.put_calls c.put_all.new.shelf) c.in-Ok.is (subst P c.as_slice.ensures c.put.ensures.puts) split c.put.ensures.counts_put c.put_all.ensures.put_front
 
 pub returns-in-Err-clause-put_front : goal.returns-in-Err-clause-put_front
 returns-in-Err-clause-put_front g t c =
     let first : Output = record { name = c.first.inside.name.now; bytes = c.first.inside.bytes } in
+    let held = g.H.Shelf.held c.args.shelf.now in
+    let P : List ℕ → Type 0 = λ b. Puts held first.name b c.put.result (g.H.Shelf.held c.put.new.self) in
     let split = split_at_first c.args.puts.now first c.first-item.result c.first.view_is c.first-item.is c.in-len1-up.len_at_least in
-    first_counted first (take (length c.args.puts.now - 1) (drop 1 c.args.puts.now)) c.args.puts.now (g.H.Shelf.put_calls c.args.shelf.now) (g.H.Shelf.put_calls c.put.new.self) split c.put.ensures.counts_put
+    first_counted held (g.H.Shelf.held c.put.new.self) first (take (length c.args.puts.now - 1) (drop 1 c.args.puts.now)) c.args.puts.now c.put.result c.in-Err.failed (g.H.Shelf.put_calls c.args.shelf.now) (g.H.Shelf.put_calls c.put.new.self) c.in-Err.is
+    (subst P c.as_slice.ensures c.put.ensures.puts) split c.put.ensures.counts_put

@@ -1,4 +1,4 @@
-use Rattle.std.proofs.Common.{◌≡◌, ℕ, ◌+◌, ◌*◌, ◌/◌, ◌<◌, ◌≤◌, List, rules, length, refl, sym, ap, subst, arith}
+use Rattle.std.proofs.Common.{◌≡◌, ℕ, ◌+◌, ◌*◌, ◌/◌, ◌<◌, ◌≤◌, ◌↔◌, List, rules, length, refl, sym, ap, subst, arith}
 use Rattle.std.proofs.lemmas.List.{with_items_is}
 use Rattle.std.specs.Vec.{with_items}
 use Rattle.auto_core.specs.Rows.{cell_of}
@@ -47,7 +47,7 @@ pub returns-clause-valid : goal.returns-clause-valid
 returns-clause-valid c = valid_table c.loop-x.table.items c.words_for-width.result (c.size-states.result * c.args.words) c.size-states.result
 
 pub returns-clause-pairs : goal.returns-clause-pairs
-returns-clause-pairs c = λ x q x_in held.
+returns-clause-pairs c = λ x q x_in.
     let R = c.args.rel.now in
     let w : ℕ = c.words_for-width.result in
     let words : ℕ = c.args.words in
@@ -60,4 +60,4 @@ returns-clause-pairs c = λ x q x_in held.
     let wide : w ≡ (n + 63) / 64 = c.words_for-width.ensures in
     let room : R.size ≤ w * 64 = omega arith in
     let inside : x < m = omega (arith, ap (λ s. s * words) same) in
-    subst (λ s. Holds (table_pairing t w m s).pairs x q) (sym same) (rows_have R words t w m c.size-states.ensures.valid room rows x q inside held)
+    subst (λ s. Holds (table_pairing t w m s).pairs x q ↔ Holds R.pairs (x / words) q) (sym same) (rows_have R words t w m c.size-states.ensures.valid room rows x q inside)

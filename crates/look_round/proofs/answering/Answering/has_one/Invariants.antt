@@ -1,4 +1,4 @@
-use Rattle.std.proofs.Common.{ℕ, ◌<◌, Contains, take}
+use Rattle.std.proofs.Common.{ℕ, Contains, take}
 use Rattle.auto_core.specs.Rows.{HasBit}
 use Rattle.look_round.proofs.answering.Answering.has_one.Given as goal
 

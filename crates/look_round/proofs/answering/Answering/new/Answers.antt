@@ -1,4 +1,4 @@
-use Rattle.std.proofs.Common.{◌≡◌, ℕ, ◌+◌, ◌<◌, ◌≤◌, inl, inr, sym, ◌∙◌, subst, arith}
+use Rattle.std.proofs.Common.{inl, inr, sym, ◌∙◌, subst, arith}
 use Rattle.std.proofs.lemmas.Bool.{cases_eq}
 use Rattle.auto_core.specs.Game.{Holds}
 use Rattle.look_round.specs.Answering.{AreAnswersTo}
@@ -8,7 +8,7 @@ use Rattle.look_round.proofs.answering.Answering.new.Goals as goal
 pub loop-t-preserved : goal.loop-t-preserved
 loop-t-preserved g c =
     let M = g.S.Side.goes c.args.side.now c.args.automaton.now in
-    let ok = g.S.Side.keeps c.args.side.now c.args.automaton.now in
+    let ok = g.S.Side.matches c.args.side.now c.args.automaton.now in
     let W = Holds c.args.rel.now.pairs in
     let e = c.refresh.ensures in
     let h = c.loop-t.invariant in

@@ -7,4 +7,4 @@ abbrev pub invariant-loop-t : goal.invariant-loop-t
 invariant-loop-t g l =
     (l.made.width ≡ (l.automaton.states + 63) / 64)
     × (l.made.kept ≤ l.automaton.states)
-    × ((p : ℕ) → p < l.t → p < l.made.kept → AreAnswersTo (g.S.Side.goes l.side l.automaton) (g.S.Side.keeps l.side l.automaton) (Holds l.rel.pairs) l.made p)
+    × ((p : ℕ) → p < l.t → p < l.made.kept → AreAnswersTo (g.S.Side.goes l.side l.automaton) (g.S.Side.matches l.side l.automaton) (Holds l.rel.pairs) l.made p)

@@ -1,4 +1,4 @@
-use Rattle.std.proofs.Common.{◌≡◌, ℕ, ◌+◌, inl, inr, length, sym, ◌∙◌, arith}
+use Rattle.std.proofs.Common.{◌≡◌, inl, inr, length, sym, ◌∙◌, arith}
 use Rattle.std.proofs.lemmas.Bool.{false≢true}
 use Rattle.auto_core.specs.Rows.{bit_of}
 use Rattle.auto_core.specs.Game.{Holds}
@@ -10,7 +10,7 @@ loop-at-preserved g c =
     let A = c.args.automaton.now in
     let s = c.args.side.now in
     let M = g.S.Side.goes s A in
-    let ok = g.S.Side.keeps s A in
+    let ok = g.S.Side.matches s A in
     let W = Holds c.args.rel.now.pairs in
     let new = c.keep_answering.new.row in
     let h = c.loop-at.invariant in
@@ -26,7 +26,7 @@ returns-clause-answered g c = λ q held none a r go.
     let A = c.args.automaton.now in
     let s = c.args.side.now in
     let M = g.S.Side.goes s A in
-    let ok = g.S.Side.keeps s A in
+    let ok = g.S.Side.matches s A in
     let W = Holds c.args.rel.now.pairs in
     let sure = c.loop-at.rest in
     let count : c.loop-at.at ≡ length (g.S.Side.list s A c.args.p) = omega (arith, c.moves-at-end.ensures) in

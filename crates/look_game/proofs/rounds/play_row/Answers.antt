@@ -2,17 +2,17 @@ use Rattle.std.proofs.Common.{◌+◌, Bool, refl, sym, ◌∙◌, subst, arith}
 use Rattle.std.proofs.lemmas.Bool.{iff_false}
 use Rattle.bit_rel.specs.Relation.{Relation}
 use Rattle.look_game.proofs.RowLemmas.{IsVisiting, visiting_begins, pair_taken, pair_stays}
-use Rattle.look_game.proofs.rounds.visit_row.Goals as goal
-use Rattle.look_game.proofs.rounds.visit_row.Goals.{then-get+then-not-round_holds, then-get+else-not-round_holds, else-get}
+use Rattle.look_game.proofs.rounds.play_row.Goals as goal
+use Rattle.look_game.proofs.rounds.play_row.Goals.{then-get+then-not-round_holds, then-get+else-not-round_holds, else-get}
 
 pub loop-q-init : goal.loop-q-init
 loop-q-init g c =
-    (refl, visiting_begins (g.S.Side.goes c.args.side.now c.args.automaton.now) (g.S.Side.keeps c.args.side.now c.args.automaton.now) c.args.look c.args.p c.args.rel.now c.size-q-end.ensures.valid)
+    (refl, visiting_begins (g.S.Side.goes c.args.side.now c.args.automaton.now) (g.S.Side.matches c.args.side.now c.args.automaton.now) c.args.look c.args.p c.args.rel.now c.size-q-end.ensures.valid)
 
 pub loop-q-preserved : goal.loop-q-preserved
 loop-q-preserved g c =
     let M = g.S.Side.goes c.args.side.now c.args.automaton.now in
-    let ok = g.S.Side.keeps c.args.side.now c.args.automaton.now in
+    let ok = g.S.Side.matches c.args.side.now c.args.automaton.now in
     let k = c.args.look in
     let q = c.loop-q.q in
     let p = c.args.p in

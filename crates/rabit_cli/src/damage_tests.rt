@@ -1,0 +1,163 @@
+//! Damaged certificates: whole files with a line or two changed, and what a check says of each.
+
+use crate::include_tests::PAIR;
+use crate::log_tests::{BRANCH, BRANCHES, CUT, MERGED, TURNS};
+use crate::tests::{LETTERS_NO, ONE_A, TWO_LETTERS, check};
+use crate::yes_tests::{LINES, with_lines};
+use auto_core::Memory;
+use std::alloc::Global;
+use std::test::Fail;
+
+/// The list of the pair's first two elements.
+const LISTED: [&str; 9] = [
+    "rabit-cert 1 buchi list\n",
+    "sizes 2 2 2\n",
+    "log1 0\n",
+    "log2 0\n",
+    "limit 1\n",
+    "elements 2\n",
+    "base 0\n",
+    "base 1\n",
+    "end\n",
+];
+
+/// The one element's graph is empty, so that every cover holds and no lasso is found.
+const NO_LASSO: &str =
+    "rabit-cert 1 buchi yes\nsizes 1 1 2\nlog1 0\nlog2 0\nrel 1\nrow 0 0\nelements 1\nlive base 1\ncover 0 0\nstep 0 0 0\nend\n";
+
+/// A lasso that both automata accept.
+const ACCEPTED_NO: &str = "rabit-cert 1 buchi no\nsizes 1 1 2\nprefix 0\nloop 0\nend\n";
+
+/// How many of the damages get another answer than the one beside them. A damage is the lines that change, by their numbers from 0.
+fn untold(
+    alloc: Global,
+    first: &str,
+    second: &str,
+    whole: &[&str],
+    damages: &[(&[(usize, &str)], &str)],
+) -> Result<u32, Memory> {
+    let mut untold: u32 = 0;
+    for (changes, said) in damages {
+        let text = with_lines(alloc, whole, changes)?;
+        if check(alloc, first, second, text.as_str(), said)? != (5, true) {
+            untold = untold.saturating_add(1);
+        }
+    }
+    Ok(untold)
+}
+
+/// A file of two automata that are not reduced.
+fn damaged_elements(alloc: Global) -> Result<u32, Memory> {
+    untold(
+        alloc,
+        PAIR,
+        PAIR,
+        &LINES,
+        &[
+            (
+                &[(0, "rabit-cert 3 buchi yes\n")],
+                "certificate line 1: Header\n",
+            ),
+            (&[(1, "sizes 02 2 2\n")], "certificate line 2: Number\n"),
+            (&[(7, "elements 4 4\n")], "certificate line 8: Shape\n"),
+            (&[(14, "step 2 3\n")], "certificate line 15: Order\n"),
+            (&[(17, "end")], "certificate line 18: Truncated\n"),
+            (&[(17, "end\n\n")], "certificate line 19: Trailing\n"),
+            (&[(7, "elements 3\n")], "certificate line 12: Shape\n"),
+        ],
+    )
+}
+
+/// A file whose second automaton is merged by a delayed relation.
+fn damaged_merge(alloc: Global) -> Result<u32, Memory> {
+    untold(
+        alloc,
+        ONE_A,
+        TURNS,
+        &MERGED,
+        &[
+            (&[(5, "classes 1 0\n")], "certificate item 1: rule 3\n"),
+            (&[(7, "row 0 0 1 1 1\n")], "certificate item 1: rule 5\n"),
+            (
+                &[(7, "row 0 0 1\n"), (8, "row 1 1 2\n")],
+                "certificate item 1: rule 6\n",
+            ),
+            (&[(5, "classes 0 1\n")], "certificate item 2: rule 9\n"),
+        ],
+    )
+}
+
+/// A file whose first automaton loses transitions and a state.
+fn damaged_cuts(alloc: Global) -> Result<u32, Memory> {
+    untold(
+        alloc,
+        BRANCHES,
+        BRANCH,
+        &CUT,
+        &[
+            (&[(1, "sizes 3 2 2\n")], "certificate item 0: rule 1\n"),
+            (&[(4, "gone 0 9\n")], "certificate item 1: rule 1\n"),
+            (&[(3, "cut 1 7\n")], "certificate item 1: rule 1\n"),
+            (&[(19, "trim 0\n")], "certificate item 3: rule 2\n"),
+            (&[(7, "row 1 0 1 2\n")], "certificate item 1: rule 4\n"),
+            (&[(4, "gone 1 0\n")], "certificate item 1: rule 7\n"),
+            (&[(4, "gone 0 0\n")], "certificate item 1: rule 8\n"),
+            (&[(22, "row 0 0 1\n")], "certificate item 4: rule 9\n"),
+            (&[(26, "live next 1 1\n")], "certificate item 6: rule 10\n"),
+            (&[(26, "live next 0 0\n")], "certificate item 6: rule 11\n"),
+            (
+                &[(26, "under 0 base 1\n"), (29, "")],
+                "certificate item 6: rule 12\n",
+            ),
+            (&[(27, "cover 0 1\n")], "certificate item 7: rule 13\n"),
+            (&[(29, "step 1 1 0\n")], "certificate item 9: rule 14\n"),
+        ],
+    )
+}
+
+/// A list.
+fn damaged_list(alloc: Global) -> Result<u32, Memory> {
+    untold(
+        alloc,
+        PAIR,
+        PAIR,
+        &LISTED,
+        &[
+            (&[(4, "limit 2\n")], "certificate item 1: rule 18\n"),
+            (&[(7, "base 0\n")], "certificate item 3: rule 18\n"),
+        ],
+    )
+}
+
+#[test]
+fn each_damage_is_told(rt: HostRuntime) -> Result<(), Fail> {
+    let alloc = rt.alloc();
+    assert_eq!(rt; damaged_elements(alloc)?, 0);
+    assert_eq!(rt; damaged_merge(alloc)?, 0);
+    assert_eq!(rt; damaged_cuts(alloc)?, 0);
+    assert_eq!(rt; damaged_list(alloc)?, 0);
+    for (first, second, certificate, said) in [
+        (ONE_A, ONE_A, "", "certificate line 1: Truncated\n"),
+        (
+            TWO_LETTERS,
+            ONE_A,
+            NO_LASSO,
+            "certificate item 2: rule 15\n",
+        ),
+        (
+            ONE_A,
+            TWO_LETTERS,
+            LETTERS_NO,
+            "certificate item 2: rule 16\n",
+        ),
+        (
+            TWO_LETTERS,
+            ONE_A,
+            ACCEPTED_NO,
+            "certificate item 2: rule 17\n",
+        ),
+    ] {
+        assert_eq!(rt; check(alloc, first, second, certificate, said)?, (5, true));
+    }
+    Ok(())
+}

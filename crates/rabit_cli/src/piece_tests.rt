@@ -1,0 +1,114 @@
+//! Texts in pieces and cut short: each cut of whole files, and files that come byte by byte.
+
+use crate::include_tests::{ONE_YES, says};
+use crate::log_tests::{CUT, MERGED};
+use crate::tests::{ONE_A, list_of, numbers_of};
+use crate::yes_tests::{LINES, with_lines};
+use auto_core::List;
+use cert_text::{CertReadFault, CertReader, TextKind, read_cert, write_cert};
+use cert_value::Cert;
+use shelf_io::{File, MemShelf};
+use std::alloc::Global;
+use std::test::Fail;
+
+/// The line where the text ends too early, where that is its fault.
+fn cut_short(alloc: Global, front: &[u8]) -> Option<u32> {
+    if front.len() > 1_000_000 {
+        return None;
+    }
+    match read_cert(alloc, front) {
+        Err(CertReadFault::Text(fault)) => match fault.kind {
+            TextKind::Truncated => Some(fault.line),
+            _ => None,
+        },
+        _ => None,
+    }
+}
+
+fn whole_lines(front: &[u8]) -> u32 {
+    let mut lines: u32 = 0;
+    for byte in front {
+        if *byte == 10 {
+            lines = lines.wrapping_add(1);
+        }
+    }
+    lines
+}
+
+/// Whether each proper front of the text ends too early in its last line, and the whole does not.
+fn is_truncated_everywhere(alloc: Global, bytes: &[u8]) -> bool {
+    for end in 0..bytes.len() {
+        let front = &bytes[..end];
+        if cut_short(alloc, front) != Some(whole_lines(front).wrapping_add(1)) {
+            return false;
+        }
+    }
+    cut_short(alloc, bytes).is_none()
+}
+
+#[test]
+fn every_front_of_a_certificate_is_truncated(rt: HostRuntime) -> Result<(), Fail> {
+    let alloc = rt.alloc();
+    assert!(rt; is_truncated_everywhere(alloc, ONE_YES.as_bytes()));
+    for lines in [&LINES[..], &MERGED, &CUT] {
+        let text = with_lines(alloc, lines, &[])?;
+        assert!(rt; is_truncated_everywhere(alloc, text.as_bytes()));
+    }
+    Ok(())
+}
+
+/// What the two pieces are read as.
+fn read_in_two(alloc: Global, front: &[u8], rest: &[u8]) -> Result<Cert, CertReadFault> {
+    let mut reader = CertReader::new(alloc)?;
+    reader.feed(front)?;
+    reader.feed(rest)?;
+    reader.finish()
+}
+
+/// Whether they are read as the certificate whose text they are together.
+fn reads_as_one(alloc: Global, front: &[u8], rest: &[u8], whole: &[u8]) -> bool {
+    match read_in_two(alloc, front, rest) {
+        Ok(cert) => match write_cert(alloc, &cert) {
+            Ok(written) => written.as_slice() == whole,
+            Err(_) => false,
+        },
+        Err(_) => false,
+    }
+}
+
+#[test]
+fn a_certificate_is_the_same_wherever_it_is_cut(rt: HostRuntime) -> Result<(), Fail> {
+    let alloc = rt.alloc();
+    let text = with_lines(alloc, &LINES, &[])?;
+    let whole = text.as_bytes();
+    for end in 0..whole.len() {
+        let (front, rest) = whole.split_at(end);
+        assert!(rt; reads_as_one(alloc, front, rest, whole), "{end}");
+    }
+    Ok(())
+}
+
+#[test]
+fn files_may_come_byte_by_byte(rt: HostRuntime) -> Result<(), Fail> {
+    let alloc = rt.alloc();
+    let mut held = List::new(alloc);
+    held.push(File {
+        name: list_of(alloc, b"A")?,
+        bytes: list_of(alloc, b"[0]\r\na,[0]->[0]\r\n[0]\r\n")?,
+    })?;
+    held.push(File {
+        name: list_of(alloc, b"C")?,
+        bytes: list_of(alloc, ONE_YES.as_bytes())?,
+    })?;
+    let mut shelf = MemShelf::new(alloc, held, 0, 1, numbers_of(alloc, &[])?)?;
+    assert_eq!(rt;
+        says(alloc, &["reduce", "A"], &mut shelf, &[], ONE_A)?,
+        (0, true)
+    );
+    let words = ["check", "A", "A", "C"];
+    assert_eq!(rt;
+        says(alloc, &words, &mut shelf, &[], "included\n")?,
+        (0, true)
+    );
+    Ok(())
+}
