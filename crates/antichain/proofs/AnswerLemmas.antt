@@ -1,23 +1,21 @@
 -- The answer is true.
-use Rattle.std.proofs.Common.{◌≡◌, ℕ, ◌+◌, List, length, map, sym, ap, ◌∙◌, subst, arith}
-use Rattle.std.proofs.lemmas.List.{length-map}
+use Rattle.std.proofs.Common.{◌≡◌, ℕ, ◌+◌, List, map, sym, ap, ◌∙◌, subst}
 use Rattle.auto_core.specs.Automaton.{Automaton, IsAutomaton}
 use Rattle.auto_core.specs.Accept.{SeparatesWord}
 use Rattle.auto_core.specs.Game.{Holds, IsGreatestForward}
-use Rattle.auto_core.specs.Graph.{arc_at, arcs_of}
+use Rattle.auto_core.specs.Graph.{arcs_of}
 use Rattle.auto_core.specs.Pairs.{PairSubsumes, pair_of}
 use Rattle.auto_core.specs.ClosedPairs.{ClosedPairs}
-use Rattle.auto_core.specs.Outcome.{At, Entry, Closed, TellsLive, arcs_in}
-use Rattle.auto_core.specs.PairOutcome.{PairSearchEnds, ArePairsListed, NoPairSubsumedBefore, pair_at, pair_rules}
+use Rattle.auto_core.specs.Outcome.{Entry, Closed, TellsLive, arcs_in}
+use Rattle.auto_core.specs.PairOutcome.{PairSearchEnds, ArePairsListed, NoPairSubsumedBefore, pair_rules}
 use Rattle.cert_value.specs.declared.types.Element.{Element}
 use Rattle.search_laws.specs.PairOutcomes.{HavePairOrigins}
-use Rattle.search_laws.proofs.PlaceLemmas.{at_some, at_within}
-use Rattle.search_laws.proofs.EntryLemmas.{arc_here}
 use Rattle.search_laws.proofs.PairOutcomeLemmas.{pair_origins_fit, closed_list_is_closed_pairs, closed_list_includes_words, live_pairs_stand_apart, apart_separates_word, limit_lists_pairs}
 use Rattle.evidence.specs.declared.parts.Closure.{Closure}
 use Rattle.antichain.specs.declared.parts.WordOutcome.{WordOutcome}
 use Rattle.antichain.specs.declared.parts.WordOutcome.TheVariants as end
-use Rattle.evidence.specs.Evidence.{marked_live, IsEvidenceOf, LiveStandApart}
+use Rattle.evidence.specs.Evidence.{marked_live, IsEvidenceOf}
+use Rattle.evidence.proofs.ApartLemmas.{live_stand_apart}
 use Rattle.evidence.proofs.MarkLemmas.{marks_tell}
 use Rattle.antichain.specs.Ends.{IsWordOutcomeOf, IsWordClosing, IsTrueWordOutcome}
 
@@ -32,24 +30,11 @@ module _ (A B : Automaton) (S : List (ℕ × ℕ)) (limit : ℕ) (valid : IsAuto
     arcs_are : arcs_of A (map (λ (m : Element). m.origin) c.elements) ≡ arcs_in es
     arcs_are = ap (arcs_of A) is.origins ∙ have.arcs
 
-    arc_is : (i : ℕ) (x : Entry) → At es i x → arc_at A (arcs_of A (map (λ (m : Element). m.origin) c.elements)) i ≡ x.arc
-    arc_is i x x_is = ap (λ l. arc_at A l i) arcs_are ∙ arc_here A es i x x_is
-
-    apart : LiveStandApart (pair_rules A B S) A (map (λ (m : Element). m.origin) c.elements) (marked_live c.elements)
-    apart i j i_in j_in differ i_live j_live subsumes =
-        let size = ap length is.origins in
-        let count = length-map es (λ (x : Entry). x.origin) in
-        let x = at_some es i (omega arith) in
-        let y = at_some es j (omega arith) in
-        live_pairs_stand_apart A B S limit es ends i j x.0 y.0 differ x.1 y.1 (tells_live.stays i (at_within es i x.0 x.1) i_live) (tells_live.stays j (at_within es j y.0 y.1) j_live)
-        (subst (λ a. PairSubsumes (Holds S) (pair_of B a) (pair_of B y.0.arc)) (arc_is i x.0 x.1)
-        (subst (λ b. PairSubsumes (Holds S) (pair_at A B (map (λ (m : Element). m.origin) c.elements) i) (pair_of B b)) (arc_is j y.0 y.1) subsumes))
-
     closing : IsWordClosing A B S c
     closing = record {
       includes = closed_list_includes_words A B S limit es (marked_live c.elements) valid greatest ends tells_live;
       closed = subst (λ l. ClosedPairs A B S l (marked_live c.elements)) (sym arcs_are) (closed_list_is_closed_pairs A B S limit es (marked_live c.elements) valid greatest ends tells_live);
-      apart = apart;
+      apart = live_stand_apart A (pair_rules A B S) (λ a b. PairSubsumes (Holds S) (pair_of B a) (pair_of B b)) (λ x y is. is) es c is have.arcs (live_pairs_stand_apart A B S limit es ends);
     }
 
   pub answer_is_true : (o : WordOutcome) → IsWordOutcomeOf A B S limit o → IsTrueWordOutcome A B S limit o

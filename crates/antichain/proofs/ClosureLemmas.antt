@@ -10,7 +10,8 @@ use Rattle.cert_value.specs.declared.types.Mark.TheVariants.{Live, Under}
 use Rattle.search_laws.specs.PairOutcomes.{HavePairOrigins}
 use Rattle.search_laws.proofs.PlaceLemmas.{at_same, at_within, at_some, at_cases}
 use Rattle.search_laws.proofs.SearchLemmas.{HasClosed}
-use Rattle.search_laws.proofs.PairEntryLemmas.{start_starts, next_extends}
+use Rattle.search_laws.proofs.PlacingLemmas.{next_extends}
+use Rattle.search_laws.proofs.PairEntryLemmas.{start_starts}
 use Rattle.search_laws.proofs.PairOutcomeLemmas.{closed_end, pair_met_is_subsumed}
 use Rattle.antichain.specs.declared.parts.Held.{Held}
 use Rattle.antichain.specs.declared.family.Family.{Family}
@@ -69,7 +70,7 @@ module _ (A B : Automaton) (S : List (ℕ × ℕ)) (limit : ℕ) (valid_A : IsAu
         HasSubsumer (pair_rules A B S) es (next_entry A e x t)
     steps_have e t x live x_is lt leaves =
         let stays = whole.tells.stays e (at_within es e x x_is) live in
-        pair_met_is_subsumed A B S valid greatest es (next_entry A e x t) (has.steps e x (next_entry A e x t) x_is stays (next_extends A B S e t x lt leaves))
+        pair_met_is_subsumed A B S valid greatest es (next_entry A e x t) (has.steps e x (next_entry A e x t) x_is stays (next_extends A e t x lt leaves))
 
     pub dropped_have : (i : ℕ) (h : Held) → At f.held.items i h → slice_index_or f.live.items i false ≡ false → HasCoverer S f h
     dropped_have i h h_is gone =

@@ -1,33 +1,28 @@
 -- A family into which an element has entered.
 use Rattle.std.proofs.Common.{◌≡◌, ℕ, ◌+◌, ◌<◌, ◌⊎◌, Bool, true, false, List, [], ◌∷◌, ◌++◌, length, slice_index_or, sym, ap, ◌∙◌, subst, inl, inr, arith, length-append}
 use Rattle.std.specs.Prelude.{filter}
-use Rattle.std.proofs.lemmas.Bool.{cases_eq, cases_lt, false≢true}
-use Rattle.std.proofs.lemmas.List.{get_or_append_left, get_or-append-add}
+use Rattle.std.proofs.lemmas.Bool.{cases_eq}
 use Rattle.std.proofs.lemmas.List.Elements.{Contains-append_left, Contains-append_right, Contains-append_cases}
 use Rattle.std.proofs.lemmas.List.Kept.{IsStrictlyIncreasing-filter}
 use Rattle.auto_core.specs.Automaton.{Automaton}
-use Rattle.auto_core.specs.Outcome.{At, Entry, Rules, StaysLive, IsDropped, TellsLive}
+use Rattle.auto_core.specs.Outcome.{At, Entry, Rules, TellsLive}
+use Rattle.auto_core.specs.Pairs.{IsPairPlacedAt}
 use Rattle.auto_core.specs.PairOutcome.{pair_rules}
+use Rattle.auto_core.proofs.MemberLemmas.{filter_has, filter_from}
 use Rattle.auto_core.proofs.PathLemmas.{Contains-here, Contains-cons_cases, none_in_nil}
-use Rattle.search_laws.proofs.PlaceLemmas.{at_same, at_within, at_some, at_more, at_new, at_cases, at_before}
-use Rattle.search_laws.proofs.ListLemmas.{in_filter, filter_has}
-use Rattle.search_laws.proofs.PairEntryLemmas.{FitsBehind, origins_more}
+use Rattle.search_laws.proofs.PlaceLemmas.{at_same, at_within, at_some, at_more, at_new, at_cases}
+use Rattle.search_laws.proofs.PlacingLemmas.{FitsBehind}
+use Rattle.search_laws.proofs.PairEntryLemmas.{origins_more}
 use Rattle.antichain.specs.declared.parts.Held.{Held}
 use Rattle.antichain.specs.declared.family.Family.{Family}
 use Rattle.evidence.specs.Tables.{numbers_at}
 use Rattle.antichain.specs.Kept.{IsKept, LiesAt, AreThoseAt, IsFamily, IsSubsumedOf, HasEntered, held_pair}
 use Rattle.antichain.proofs.KeptLemmas.{to_entries, to_held}
+use Rattle.evidence.proofs.FlagLemmas.{flag_before, flag_last, flag_was, stand_more, tells_more}
 use Rattle.evidence.proofs.NumberLemmas.{at_of_contains, contains_of_at, increasing_push}
 
--- One more flag behind.
-flag_before : (flags : List Bool) (i : ℕ) → i < length flags → slice_index_or (flags ++ true ∷ []) i false ≡ slice_index_or flags i false
-flag_before flags i lt = get_or_append_left flags (true ∷ []) false i lt
-
-flag_last : (flags : List Bool) (i : ℕ) → i ≡ length flags → slice_index_or (flags ++ true ∷ []) i false ≡ true
-flag_last flags i e = let there : i ≡ length flags + 0 = omega arith in ap (λ k. slice_index_or (flags ++ true ∷ []) k false) there ∙ get_or-append-add flags (true ∷ []) 0 false
-
 module _ (A B : Automaton) (S : List (ℕ × ℕ)) (old now : Family) (es : List Entry) (h : Held) (c : Entry)
-    (family : IsFamily A B S old es) (kept : IsKept B S h c) (fits : FitsBehind A es c)
+    (family : IsFamily A B S old es) (kept : IsKept B S h c) (fits : FitsBehind A (IsPairPlacedAt A) es c)
     (state_in : h.state < A.states) (entered : HasEntered S h old now)
   where
     abbrev R : Rules Entry
@@ -52,19 +47,7 @@ module _ (A B : Automaton) (S : List (ℕ × ℕ)) (old now : Family) (es : List
     live_size = let more = length-append flags (true ∷ []) in let e = ap length entered.live in let size = flags_size in omega arith
 
     is_kept : (i : ℕ) (k : Held) (x : Entry) → At now.held.items i k → At next i x → IsKept B S k x
-    is_kept i k x k_is x_is =
-        let size = family.size in
-        elim (at_cases es c i x x_is) [
-          | inl x_old ↦
-              let within = at_within es i x x_old in
-              family.kept i k x (at_before old.held.items h i k (omega arith) (subst (λ l. At l i k) entered.held k_is)) x_old
-          | inr new ↦
-              let last : At (old.held.items ++ h ∷ []) i k = subst (λ l. At l i k) entered.held k_is in
-              elim (at_cases old.held.items h i k last) [
-                | inl k_old ↦ let within = at_within old.held.items i k k_old in let e = new.0 in absurd (omega arith)
-                | inr both ↦ subst (λ z. IsKept B S k z) (sym new.1) (subst (λ z. IsKept B S z c) (sym both.1) kept)
-              ]
-        ]
+    is_kept i k x k_is x_is = stand_more Held (IsKept B S) old.held.items es h c family.size kept family.kept i k x (subst (λ l. At l i k) entered.held k_is) x_is
 
     -- The old numbers with the state of the new element.
     among : AreThoseAt es old.live.items h.state (numbers_at old.by_state.items h.state)
@@ -96,62 +79,20 @@ module _ (A B : Automaton) (S : List (ℕ × ℕ)) (old now : Family) (es : List
           subsumes = to_held B S h k.0 c x kept k.2 subsumes;
         })
 
-    flag_was : (i : ℕ) → slice_index_or flags i false ≡ true → slice_index_or old.live.items i false ≡ true
-    flag_was i is = elim (entered.dropped.each i) [ inl same ↦ sym same ∙ is | inr gone ↦ absurd (false≢true (sym gone.0 ∙ is)) ]
-
-    stays : (i : ℕ) → i < length next → slice_index_or (flags ++ true ∷ []) i false ≡ true → StaysLive R next i
-    stays i lt is j x y later x_is y_is subsumes =
-        let size = next_size in
-        let count = flags_size in
-        let bound = at_within next j y y_is in
-        elim (at_cases es c i x x_is) [
-          | inr new ↦ let e = new.0 in absurd (omega arith)
-          | inl x_old ↦
-              let within = at_within es i x x_old in
-              let flag : slice_index_or flags i false ≡ true = sym (flag_before flags i (omega arith)) ∙ is in
-              elim (at_cases es c j y y_is) [
-                | inl y_old ↦ family.tells.stays i within (flag_was i flag) j x y later x_old y_old subsumes
-                | inr last ↦ false≢true (sym (is_dropped i x x_old (flag_was i flag) (subst (λ z. R.subsumes z x) last.1 subsumes)) ∙ flag)
-              ]
-        ]
-
-    drops : (i : ℕ) → i < length next → slice_index_or (flags ++ true ∷ []) i false ≡ false → IsDropped R next i
-    drops i lt is =
-        let size = next_size in
-        let count = flags_size in
-        elim (cases_lt i (length es)) [
-          | inr last ↦ absurd (false≢true (sym is ∙ flag_last flags i (omega arith)))
-          | inl within ↦ elim (entered.dropped.each i) [
-            | inl same ↦
-                let was : slice_index_or old.live.items i false ≡ false = sym same ∙ sym (flag_before flags i (omega arith)) ∙ is in
-                let d = family.tells.drops i within was in
-                record {
-                  place = d.place;
-                  element = d.element;
-                  by = d.by;
-                  later = d.later;
-                  is = at_more es (c ∷ []) i d.element d.is;
-                  by_is = at_more es (c ∷ []) d.place d.by d.by_is;
-                  subsumes = d.subsumes;
-                }
-            | inr gone ↦
-                let of = gone.1 in
-                let lies = dropped_is i of in
-                let k : IsKept B S of.element lies.element = family.kept i of.element lies.element of.element_is lies.is in
-                record {
-                  place = length es;
-                  element = lies.element;
-                  by = c;
-                  later = within;
-                  is = at_more es (c ∷ []) i lies.element lies.is;
-                  by_is = at_new es c;
-                  subsumes = to_entries B S h of.element c lies.element kept k of.subsumes;
-                }
-          ]
-        ]
+    each_is : (i : ℕ) → (slice_index_or flags i false ≡ slice_index_or old.live.items i false) ⊎ ((slice_index_or flags i false ≡ false) × (x : Entry) × At es i x × R.subsumes c x)
+    each_is i = elim (entered.dropped.each i) [
+      | inl same ↦ inl same
+      | inr gone ↦
+          let of = gone.1 in
+          let lies = dropped_is i of in
+          inr (gone.0, lies.element, lies.is, to_entries B S h of.element c lies.element kept (family.kept i of.element lies.element of.element_is lies.is) of.subsumes)
+    ]
 
     tells : TellsLive R next (λ i. slice_index_or now.live.items i false)
-    tells = subst (λ l. TellsLive R next (λ i. slice_index_or l i false)) (sym entered.live) (record { stays = stays; drops = drops })
+    tells = subst (λ l. TellsLive R next (λ i. slice_index_or l i false)) (sym entered.live) (tells_more R es c old.live.items flags flags_size family.tells each_is is_dropped)
+
+    flag_stood : (i : ℕ) → slice_index_or flags i false ≡ true → slice_index_or old.live.items i false ≡ true
+    flag_stood i is = flag_was R es c old.live.items flags flags_size family.tells each_is is_dropped i is
 
     -- At other states the same elements lie.
     new_lies : (p j : ℕ) → LiesAt es old.live.items p j → slice_index_or flags j false ≡ true → LiesAt next (flags ++ true ∷ []) p j
@@ -167,7 +108,7 @@ module _ (A B : Automaton) (S : List (ℕ × ℕ)) (old now : Family) (es : List
           | inl x_old ↦
               let within = at_within es j lies.element x_old in
               let flag : slice_index_or flags j false ≡ true = sym (flag_before flags j (omega arith)) ∙ lies.stays in
-              inl (flag, record { element = lies.element; is = x_old; stays = flag_was j flag; state = lies.state })
+              inl (flag, record { element = lies.element; is = x_old; stays = flag_stood j flag; state = lies.state })
           | inr new ↦ inr (new.0, sym (ap (λ (z : Entry). z.arc.to) new.1) ∙ lies.state)
         ]
 
@@ -200,9 +141,9 @@ module _ (A B : Automaton) (S : List (ℕ × ℕ)) (old now : Family) (es : List
         let count = flags_size in
         subst (AreThoseAt next (flags ++ true ∷ []) h.state) (sym entered.here) (record {
           ascending = increasing_push (filter live numbers) (length old.held.items) (IsStrictlyIncreasing-filter live numbers among.ascending)
-              (λ j has. let lies = among.only j (filter_has live numbers j has).0 in let within = at_within es j lies.element lies.is in omega arith);
+              (λ j has. let lies = among.only j (filter_from live numbers j has).0 in let within = at_within es j lies.element lies.is in omega arith);
           only = λ j has. elim (Contains-append_cases (filter live numbers) (length old.held.items ∷ []) j has) [
-            | inl before ↦ let kept_one = filter_has live numbers j before in new_lies h.state j (among.only j kept_one.0) kept_one.1
+            | inl before ↦ let kept_one = filter_from live numbers j before in new_lies h.state j (among.only j kept_one.0) kept_one.1
             | inr last ↦ elim (Contains-cons_cases (length old.held.items) j [] last) [
               | inr none ↦ absurd (none_in_nil j none)
               | inl e ↦
@@ -216,7 +157,7 @@ module _ (A B : Automaton) (S : List (ℕ × ℕ)) (old now : Family) (es : List
             ]
           ];
           all = λ j lies. elim (old_lies h.state j lies) [
-            | inl before ↦ Contains-append_left (filter live numbers) (length old.held.items ∷ []) j (in_filter live numbers j (among.all j before.1) before.0)
+            | inl before ↦ Contains-append_left (filter live numbers) (length old.held.items ∷ []) j (filter_has live numbers j (among.all j before.1) before.0)
             | inr new ↦ Contains-append_right (filter live numbers) (length old.held.items ∷ []) j (Contains-here (length old.held.items) j [] (size ∙ sym new.0))
           ];
         })

@@ -1,18 +1,19 @@
 -- The search, candidate by candidate.
-use Rattle.std.proofs.Common.{◌≡◌, ℕ, suc, ◌+◌, ◌<◌, ◌≤◌, true, false, List, [], ◌∷◌, ◌++◌, length, map, slice_index_or, refl, sym, ap, ◌∙◌, subst, inl, arith, length-append}
+use Rattle.std.proofs.Common.{◌≡◌, ℕ, ◌+◌, ◌<◌, ◌≤◌, true, false, List, [], ◌∷◌, ◌++◌, length, map, slice_index_or, refl, sym, ap, ◌∙◌, subst, inl, arith, length-append}
 use Rattle.auto_core.specs.Automaton.{Automaton, IsAutomaton, trans_at, IsOutgoing}
 use Rattle.auto_core.specs.Game.{Holds, IsGreatestForward}
-use Rattle.auto_core.specs.Graph.{WordArc, arc_at, extended_arc}
+use Rattle.auto_core.specs.Graph.{WordArc}
 use Rattle.auto_core.specs.Pairs.{PairSubsumes, PairPasses, PairFails, IsPairPlacedAt}
-use Rattle.auto_core.specs.Outcome.{At, Entry, Closed, Apart, Limit, HasSubsumer, HasNoSubsumer, PassesBefore, FirstFailing, Comes, passed_over, limit_met, told_apart, entered, turn_of_live, turn_of_dropped, done, next_entry, steps_out, arcs_in}
+use Rattle.auto_core.specs.Outcome.{At, Entry, Closed, Apart, Limit, HasSubsumer, HasNoSubsumer, PassesBefore, FirstFailing, Comes, passed_over, limit_met, told_apart, entered, done, next_entry, arcs_in}
 use Rattle.auto_core.specs.PairOutcome.{pair_entry, start_entry, pair_rules}
 use Rattle.auto_core.specs.declared.parts.Origin.TheVariants.{Start, Next}
 use Rattle.search_laws.specs.PairOutcomes.{HavePairOrigins}
-use Rattle.search_laws.proofs.PlaceLemmas.{at_within, at_some, at_more, at_new, at_before}
+use Rattle.search_laws.proofs.PlaceLemmas.{at_within, at_some, at_more, at_new, at_before, read_at}
 use Rattle.search_laws.proofs.PairLemmas.{reached_in_range, pair_subsumes_itself}
-use Rattle.search_laws.proofs.EntryLemmas.{arc_here}
-use Rattle.search_laws.proofs.PairEntryLemmas.{FitsBehind, origins_more, entry_is_reached}
-use Rattle.evidence.proofs.RangeLemmas.{extensions_from, steps_out_are}
+use Rattle.search_laws.proofs.PlacingLemmas.{FitsBehind, next_fits}
+use Rattle.search_laws.proofs.PairEntryLemmas.{pair_placing, origins_more, entry_is_reached}
+use Rattle.evidence.proofs.RangeLemmas.{extensions_from, extensions_more}
+use Rattle.evidence.proofs.TurnLemmas.{live_leads, dropped_leads}
 use Rattle.evidence.specs.Entries.{entry_of, entries_of}
 use Rattle.antichain.specs.declared.parts.Held.{Held}
 use Rattle.antichain.specs.declared.family.Family.{Family}
@@ -46,7 +47,7 @@ fits_together A B S n f es same family = record {
 }
 
 -- The candidate's state is one.
-fits_behind : (A B : Automaton) (S : List (ℕ × ℕ)) (es : List Entry) (h : Held) → IsCandidate A B S es h → FitsBehind A es (entry_of A es h.origin)
+fits_behind : (A B : Automaton) (S : List (ℕ × ℕ)) (es : List Entry) (h : Held) → IsCandidate A B S es h → FitsBehind A (IsPairPlacedAt A) es (entry_of A es h.origin)
 fits_behind A B S es h candidate = record { placed = candidate.placed; is = refl }
 
 pub candidate_in_range : (A B : Automaton) (S : List (ℕ × ℕ)) → IsAutomaton A → (es : List Entry) → HavePairOrigins A es → (h : Held) → IsCandidate A B S es h → h.state < A.states
@@ -171,40 +172,77 @@ pub next_is_candidate : (A B : Automaton) (S : List (ℕ × ℕ)) (es : List Ent
     IsCandidate A B S es h × (entry_of A es h.origin ≡ next_entry A e x t)
 next_is_candidate A B S es e t x h x_is lt leaves kept =
     let is : h.origin ≡ Next e t = kept.origin in
-    let arc : arc_at A (arcs_in es) e ≡ x.arc = arc_here A es e x x_is in
-    let same : entry_of A es h.origin ≡ next_entry A e x t = ap (entry_of A es) is ∙ ap (λ (a : WordArc). record { origin = Next e t; arc = extended_arc A a (trans_at A t) }) arc in
-    let placed : IsPairPlacedAt A (arcs_in es) (length es) (Next e t) = (at_within es e x x_is, lt, leaves ∙ sym (ap (λ (a : WordArc). a.to) arc)) in
-    (record { placed = subst (IsPairPlacedAt A (arcs_in es) (length es)) (sym is) placed; kept = subst (IsKept B S h) (sym same) kept }, same)
+    let fits = next_fits A (IsPairPlacedAt A) (pair_placing A) es e t x x_is lt leaves in
+    let same : entry_of A es h.origin ≡ next_entry A e x t = ap (entry_of A es) is ∙ ap (λ (a : WordArc). record { origin = Next e t; arc = a }) fits.is in
+    (record { placed = subst (IsPairPlacedAt A (arcs_in es) (length es)) (sym is) fits.placed; kept = subst (IsKept B S h) (sym same) kept }, same)
+
+-- The kept element h stands for this element of the family.
+pub record StandsFor (A B : Automaton) (S : List (ℕ × ℕ)) (es : List Entry) (e : ℕ) (h : Held) : Type 0 where
+  pub entry : Entry
+  pub is : At es e entry
+  pub kept : IsKept B S h entry
+
+pub stands_for : (A B : Automaton) (S : List (ℕ × ℕ)) (f : Family) (e : ℕ) (h : Held) → IsWhole A B S f → At f.held.items e h → StandsFor A B S (entries_held A f) e h
+stands_for A B S f e h whole is =
+    let within = at_within f.held.items e h is in
+    let size = whole.size in
+    let x = at_some (entries_held A f) e (omega arith) in
+    record { entry = x.0; is = x.1; kept = whole.kept e h x.0 is x.1 }
+
+pub stands_at : (A B : Automaton) (S : List (ℕ × ℕ)) (f : Family) (e : ℕ) (h : Held) → IsWhole A B S f → e < length f.held.items → h ≡ slice_index_or f.held.items e h → StandsFor A B S (entries_held A f) e h
+stands_at A B S f e h whole lt is = stands_for A B S f e h whole (read_at f.held.items e h h lt is)
+
+pub state_in_range : (A B : Automaton) (S : List (ℕ × ℕ)) → IsAutomaton A → (f : Family) (e : ℕ) (h : Held) → IsWhole A B S f → At f.held.items e h → h.state < A.states
+state_in_range A B S valid f e h whole is =
+    let x = stands_for A B S f e h whole is in
+    held_in_range A B S valid (entries_held A f) whole.origins e x.entry h x.is x.kept
+
+-- The kept element h stands for the extension of x by a transition that leaves its state, and may come behind these.
+pub record IsNext (A B : Automaton) (S : List (ℕ × ℕ)) (es : List Entry) (e t : ℕ) (x : Entry) (h : Held) : Type 0 where
+  pub within : t < length A.transitions
+  pub leaves : (trans_at A t).source ≡ x.arc.to
+  pub kept : IsKept B S h (next_entry A e x t)
+  pub candidate : IsCandidate A B S es h
+  pub is : entry_of A es h.origin ≡ next_entry A e x t
+  pub state_in : h.state < A.states
+
+pub next_stands : (A B : Automaton) (S : List (ℕ × ℕ)) → IsAutomaton A → (es : List Entry) → HavePairOrigins A es → (e t : ℕ) (from : Held) (x : Entry) (h : Held) → At es e x → IsKept B S from x →
+    (begin end : ℕ) → IsOutgoing A from.state begin end → begin ≤ t → t < end → IsKept B S h (next_entry A e x t) → IsNext A B S es e t x h
+next_stands A B S valid es have e t from x h is from_kept begin end out at_least below kept =
+    let most = out.within in
+    let lt : t < length A.transitions = omega arith in
+    let leaves : (trans_at A t).source ≡ x.arc.to = out.inside t at_least below ∙ from_kept.state in
+    let candidate = next_is_candidate A B S es e t x h is lt leaves kept in
+    record { within = lt; leaves = leaves; kept = kept; candidate = candidate.0; is = candidate.1; state_in = candidate_in_range A B S valid es have h candidate.0 }
 
 -- A turn begins.
 pub turn_begins : (A B : Automaton) (S : List (ℕ × ℕ)) (limit : ℕ) (f : Family) (turn begin end : ℕ) (x : Entry) → IsWhole A B S f → length f.held.items ≤ limit → At (entries_held A f) turn x →
     slice_index_or f.live.items turn false ≡ true → IsOutgoing A x.arc.to begin end → HasCome A B S limit f f fates.GoesOn [] (extensions_from A turn x begin end) turn (turn + 1)
-turn_begins A B S limit f turn begin end x whole few x_is live out =
-    let within = at_within (entries_held A f) turn x x_is in
-    let stays = whole.tells.stays turn within live in
-    let extensions : map (next_entry A turn x) (steps_out A x.arc.to) ≡ extensions_from A turn x begin end = ap (map (next_entry A turn x)) (steps_out_are A x.arc.to begin end out) in
-    let after : turn + 1 ≡ suc turn = omega arith in
-    record {
-      whole = whole;
-      few = λ e. few;
-      grown = λ i y is. is;
-      leads = λ o rest. turn_of_live x x_is stays
-          (subst (λ k. Comes Entry (pair_rules A B S) limit (entries_held A f) (map (next_entry A turn x) (steps_out A x.arc.to)) k o) after
-          (subst (λ l. Comes Entry (pair_rules A B S) limit (entries_held A f) l (turn + 1) o) (sym extensions) rest));
-    }
+turn_begins A B S limit f turn begin end x whole few x_is live out = record {
+  whole = whole;
+  few = λ e. few;
+  grown = λ i y is. is;
+  leads = live_leads A (pair_rules A B S) limit (entries_held A f) turn begin end x refl x_is (whole.tells.stays turn (at_within (entries_held A f) turn x x_is) live) out;
+}
 
 pub turn_passes : (A B : Automaton) (S : List (ℕ × ℕ)) (limit : ℕ) (f : Family) (turn : ℕ) → IsWhole A B S f → length f.held.items ≤ limit → turn < length f.held.items →
     slice_index_or f.live.items turn false ≡ false → HasCome A B S limit f f fates.GoesOn [] [] turn (turn + 1)
 turn_passes A B S limit f turn whole few lt gone =
     let size = whole.size in
-    let dropped = whole.tells.drops turn (omega arith) gone in
-    let after : turn + 1 ≡ suc turn = omega arith in
-    record {
-      whole = whole;
-      few = λ e. few;
-      grown = λ i y is. is;
-      leads = λ o rest. turn_of_dropped dropped (subst (λ k. Comes Entry (pair_rules A B S) limit (entries_held A f) [] k o) after rest);
-    }
+    record { whole = whole; few = λ e. few; grown = λ i y is. is; leads = dropped_leads (pair_rules A B S) limit (entries_held A f) turn (whole.tells.drops turn (omega arith) gone) }
+
+-- An extension comes after those before it.
+pub comes_next : (A B : Automaton) (S : List (ℕ × ℕ)) (limit : ℕ) (old mid now : Family) (turn t end : ℕ) (x : Entry) (h : Held) (fate : Fate) → t < end →
+    HasCome A B S limit old mid fates.GoesOn [] (extensions_from A turn x t end) turn (turn + 1) → entry_of A (entries_held A mid) h.origin ≡ next_entry A turn x t →
+    ((cs : List Entry) (k : ℕ) → HasCome A B S limit mid now fate (entry_of A (entries_held A mid) h.origin ∷ cs) cs k k) →
+    HasCome A B S limit old now fate [] (extensions_from A turn x (t + 1) end) turn (turn + 1)
+comes_next A B S limit old mid now turn t end x h fate below come is one =
+    let rest : List Entry = extensions_from A turn x (t + 1) end in
+    let before : HasCome A B S limit old mid fates.GoesOn [] (next_entry A turn x t ∷ rest) turn (turn + 1) =
+    subst (λ l. HasCome A B S limit old mid fates.GoesOn [] l turn (turn + 1)) (extensions_more A turn x t end below) come in
+    let next : HasCome A B S limit mid now fate (next_entry A turn x t ∷ rest) rest (turn + 1) (turn + 1) =
+    subst (λ y. HasCome A B S limit mid now fate (y ∷ rest) rest (turn + 1) (turn + 1)) is (one rest (turn + 1)) in
+    come_then A B S limit old mid now [] (next_entry A turn x t ∷ rest) rest turn (turn + 1) (turn + 1) fate before next
 
 -- The whole search.
 pub entries_none : (A : Automaton) (f : Family) → f.held.items ≡ [] → entries_held A f ≡ []

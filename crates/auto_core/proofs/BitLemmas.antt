@@ -1,5 +1,5 @@
 -- Bits of rows.
-use Rattle.std.proofs.Common.{◌≡◌, ℕ, ◌+◌, ◌-◌, ◌*◌, ◌/◌, ◌%◌, ◌^◌, ◌<◌, ◌≤◌, ◌⊎◌, inl, inr, ◌==◌, true, false, ◌||◌, List, length, get_or, set, refl, sym, ap, ◌∙◌, arith, max, min, bit_and, bit_or, get_or-set_same, w64}
+use Rattle.std.proofs.Common.{◌≡◌, ℕ, ◌+◌, ◌-◌, ◌*◌, ◌/◌, ◌%◌, ◌^◌, ◌<◌, ◌≤◌, ◌⊎◌, inl, inr, ◌==◌, true, false, ◌||◌, List, length, get_or, set, refl, sym, ap, ◌∙◌, subst, arith, max, min, bit_and, bit_or, get_or-set_same, w64}
 use Rattle.std.specs.Int.{bit_at, bit_not, trailing_zeros}
 use Rattle.std.proofs.lemmas.Bool.{cases_eq, cases_lt, eqb-true, eq-eqb, false≢true}
 use Rattle.std.proofs.lemmas.Bool.Decides.{nat_tests}
@@ -146,6 +146,25 @@ missing_found row other i row_fits other_fits i_in m_fits some =
       omega arith,
     )
 
+-- a word that lacks no bit of another's
+pub word_within :
+    (row other : List ℕ) (k : ℕ)
+    → get_or row k 0 < 2 ^ 64
+    → get_or other k 0 < 2 ^ 64
+    → missing (get_or row k 0) (get_or other k 0) ≡ 0
+    → (i : ℕ)
+    → i / 64 ≡ k
+    → HasBit row i
+    → HasBit other i
+word_within row other k row_fits other_fits none i at h =
+    let a : ℕ = get_or row k 0 in
+    let b : ℕ = get_or other k 0 in
+    let nothing : bit_at (missing a b) (i % 64) ≡ 0 = ap (λ n. bit_at n (i % 64)) none ∙ bit_at-zero (i % 64) in
+    let has : bit_at a (i % 64) ≡ 1 = eqb-true (bit_at a (i % 64)) 1 (subst (λ m. (bit_at (get_or row m 0) (i % 64) == 1) ≡ true) at h) in
+    let also = within_from_min (bit_at a (i % 64)) (bit_at b (i % 64)) (bit_at-lt a (i % 64)) (bit_at-lt b (i % 64))
+    (sym (missing_tests a b (i % 64) row_fits other_fits (in_word i)) ∙ nothing) has in
+    subst (λ m. (bit_at (get_or other m 0) (i % 64) == 1) ≡ true) (sym at) (eq-eqb (bit_at b (i % 64)) 1 also)
+
 pub none_missing :
     (row other : List ℕ)
     → ((i : ℕ) → get_or row i 0 < 2 ^ 64)
@@ -156,14 +175,6 @@ pub none_missing :
     → HasBit other i
 none_missing row other row_fits other_fits none i h =
     elim (cases_lt (i / 64) (length row)) [
-      | inl in_row ↦
-          let a = get_or row (i / 64) 0 in
-          let b = get_or other (i / 64) 0 in
-          let nothing : bit_at (missing a b) (i % 64) ≡ 0 =
-          ap (λ n. bit_at n (i % 64)) (none (i / 64) in_row) ∙ bit_at-zero (i % 64) in
-          let has : bit_at a (i % 64) ≡ 1 = eqb-true (bit_at a (i % 64)) 1 h in
-          let also = within_from_min (bit_at a (i % 64)) (bit_at b (i % 64)) (bit_at-lt a (i % 64)) (bit_at-lt b (i % 64))
-          (sym (missing_tests a b (i % 64) (row_fits (i / 64)) (other_fits (i / 64)) (in_word i)) ∙ nothing) has in
-          eq-eqb (bit_at b (i % 64)) 1 also
+      | inl in_row ↦ word_within row other (i / 64) (row_fits (i / 64)) (other_fits (i / 64)) (none (i / 64) in_row) i refl h
       | inr past ↦ absurd (false≢true (sym (bit_past row i past) ∙ h))
     ]

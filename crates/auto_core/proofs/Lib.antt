@@ -5,6 +5,7 @@ pub mod SuccessorLemmas
 pub mod BuildLemmas
 pub mod PathLemmas
 pub mod BitLemmas
+pub mod LaneLemmas
 pub mod ReachLemmas
 pub mod Marking
 pub mod CellLemmas

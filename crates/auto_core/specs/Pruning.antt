@@ -5,7 +5,7 @@
 --   pair 2: the source strictly below; the same target
 --   pair 3: the source below or equal; the target strictly below, at lookahead 1
 --   pair 4: the source strictly below, at lookahead 1; the target below or equal
-use Rattle.std.specs.Prelude.{◌≡◌, ℕ, ◌<◌, ◌≤◌, ◌⊎◌, ◌↔◌, List, length, Contains, Bool, if◌then◌else◌, ◌==◌}
+use Rattle.std.specs.Prelude.{◌≡◌, ℕ, ◌<◌, ◌⊎◌, ◌↔◌, List, length, Contains, if◌then◌else◌, ◌==◌}
 use Rattle.auto_core.specs.Automaton.{Automaton, IsAutomaton, Moves, trans, trans_at}
 use Rattle.auto_core.specs.Game.{Strict, Close, Holds, StableForward, StableBackward, IsGreatestForward, IsGreatestBackward}
 use Rattle.auto_core.specs.declared.parts.Trans.{Trans}

@@ -1,7 +1,9 @@
 //! Rows of bits in words of 64, and tables of such rows.
 
-ghost use Rattle.std.specs.Prelude.{◌≡◌, ◌+◌, ◌*◌, ◌/◌, ◌^◌, ◌<◌, ◌≤◌, ◌||◌, ℕ, true, false, length, IfSome, IfNone, take, drop};
-ghost use Rattle.auto_core.specs.Rows.{bit_of, cell_of, HasBit};
+ghost use Rattle.std.specs.Prelude.{◌≡◌, ◌+◌, ◌*◌, ◌/◌, ◌^◌, ◌<◌, ◌≤◌, ◌||◌, ℕ, true, false, length, slice_index, bit_or, IfSome, IfNone, take, drop};
+ghost use Rattle.auto_core.specs.Rows.{bit_of, cell_of, AreWordsOred, HasBit};
+
+use std::simd::prelude::*;
 
 /// The number of words that have room for `count` bits.
 pub fn words_for(count: u32) -> usize
@@ -45,7 +47,34 @@ pub fn clear_row(row: &mut [u64])
     }
 }
 
-/// Sets each bit that the other row of the same length has.
+/// Makes each of the first words the 'or' of it and the word of the other row, by lanes of four, and tells how many words these are: all
+/// but fewer than four.
+fn or_lanes(into: &mut [u64], from: &[u64]) -> usize
+    requires { length into.old ≡ length from.now }
+    ensures most { result ≤ length into.old }
+    ensures first { (k : ℕ) → k < result → slice_index into.new k ≡ bit_or (slice_index into.old k) (slice_index from.now k) }
+    ensures rest { (k : ℕ) → result ≤ k → slice_index into.new k ≡ slice_index into.old k }
+{
+    let mut at = 0;
+    'lanes: while into.len() - at >= 4 {
+        let lanes = u64x4::from_slice(&into[at..]) | u64x4::from_slice(&from[at..]);
+        lanes.copy_to_slice(&mut into[at..]);
+        at += 4;
+    }
+    at
+}
+
+/// Makes each word the 'or' of it and the word of the other row, which has the same length.
+pub fn or_words(into: &mut [u64], from: &[u64])
+    requires { length into.old ≡ length from.now }
+    ensures { AreWordsOred into.old from.now into.new }
+{
+    for i in or_lanes(into, from)..into.len() {
+        into[i] |= from[i];
+    }
+}
+
+/// Sets each bit that the other row of the same length has, word by word: in short rows lanes cost more than they save.
 pub fn or_into(into: &mut [u64], from: &[u64])
     requires { length into.old ≡ length from.now }
     ensures { (i : ℕ) → bit_of into.new i ≡ (bit_of into.old i || bit_of from.now i) }

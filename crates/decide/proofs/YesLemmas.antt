@@ -22,7 +22,7 @@ use Rattle.search_laws.specs.Outcomes.{HaveOrigins}
 use Rattle.search_laws.specs.PairOutcomes.{HavePairOrigins}
 use Rattle.search_laws.proofs.PlaceLemmas.{at_within, at_some}
 use Rattle.search_laws.proofs.ListLemmas.{read_map}
-use Rattle.search_laws.proofs.EntryLemmas.{arcs_size, arc_here}
+use Rattle.search_laws.proofs.PlacingLemmas.{arcs_size, arc_here}
 use Rattle.search_laws.proofs.OutcomeLemmas.{origins_fit, closed_end, closed_list_is_closed_set, closed_list_includes, live_ones_stand_apart}
 use Rattle.search_laws.proofs.PairOutcomeLemmas.{pair_origins_fit, closed_end as closed_pairs_end, closed_list_is_closed_pairs, closed_list_includes_words, live_pairs_stand_apart}
 use Rattle.cert_value.specs.declared.types.YesBody.{YesBody}

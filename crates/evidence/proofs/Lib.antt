@@ -5,3 +5,7 @@ pub mod EntriesLemmas
 pub mod StepLemmas
 pub mod MarkLemmas
 pub mod UniqueLemmas
+pub mod DropLemmas
+pub mod FlagLemmas
+pub mod TurnLemmas
+pub mod ApartLemmas

@@ -53,17 +53,43 @@ arc_before A arcs (o ∷ origins) (suc e) n lt is =
     let size = length-append arcs (x ∷ []) in
     arc_before A (arcs ++ x ∷ []) origins e n (omega arith) (omega arith)
 
+-- A rule that tells which origins may stand at a place: it looks at no arc for an origin that follows none, and an extension is
+-- by a transition that leaves an earlier arc.
+pub record IsPlacing (A : Automaton) (P : List WordArc → ℕ → Origin → Type 0) : Type 0 where
+  pub start : (arcs all : List WordArc) (e n : ℕ) → P arcs e Start → P all n Start
+  pub base : (arcs all : List WordArc) (e n t : ℕ) → P arcs e (Base t) → P all n (Base t)
+  pub leaves : (arcs : List WordArc) (e p t : ℕ) → P arcs e (Next p t) → (p < e) × (t < length A.transitions) × ((trans_at A t).source ≡ (arc_at A arcs p).to)
+  pub next : (arcs : List WordArc) (e p t : ℕ) → (p < e) × (t < length A.transitions) × ((trans_at A t).source ≡ (arc_at A arcs p).to) → P arcs e (Next p t)
+
+pub placing : (A : Automaton) → IsPlacing A (IsPlacedAt A)
+placing A = record { start = λ arcs all e n none. none; base = λ arcs all e n t lt. lt; leaves = λ arcs e p t placed. placed; next = λ arcs e p t placed. placed }
+
 -- An origin that is placed looks only at arcs before it.
-arc_same : (A : Automaton) (all front : List WordArc) (e : ℕ) (o : Origin) → IsPlacedAt A all e o → ((k : ℕ) → k < e → arc_at A all k ≡ arc_at A front k) → arc_of A front o ≡ arc_of A all o
-arc_same A all front e Start placed stays = refl
-arc_same A all front e (Base t) placed stays = refl
-arc_same A all front e (Next p t) placed stays = ap (λ x. extended_arc A x (trans_at A t)) (sym (stays p placed.0))
+module _ (A : Automaton) (P : List WordArc → ℕ → Origin → Type 0) (rule : IsPlacing A P) where
+  arc_same : (all front : List WordArc) (e : ℕ) (o : Origin) → P all e o → ((k : ℕ) → k < e → arc_at A all k ≡ arc_at A front k) → arc_of A front o ≡ arc_of A all o
+  arc_same all front e Start placed stays = refl
+  arc_same all front e (Base t) placed stays = refl
+  arc_same all front e (Next p t) placed stays = ap (λ x. extended_arc A x (trans_at A t)) (sym (stays p (rule.leaves all e p t placed).0))
+
+  pub arc_placed : (origins : List Origin) (e : ℕ) → e < length origins → P (arcs_of A origins) e (slice_index_or origins e Start) →
+      arc_at A (arcs_of A origins) e ≡ arc_of A (arcs_of A origins) (slice_index_or origins e Start)
+  arc_placed origins e lt here =
+      let r = arc_before A [] origins e e lt (omega arith) in
+      r.is ∙ arc_same (arcs_of A origins) r.front e (slice_index_or origins e Start) here r.stays
+
+-- What an arc has wherever those before it have it, all arcs of placed origins have.
+pub placed_arcs_have : (A : Automaton) (P : List WordArc → ℕ → Origin → Type 0) (rule : IsPlacing A P) (Q : WordArc → Type 0)
+    (one : (all : List WordArc) (e : ℕ) (o : Origin) → P all e o → ((p : ℕ) → p < e → Q (arc_at A all p)) → Q (arc_of A all o))
+    (origins : List Origin) → ((e : ℕ) → e < length origins → P (arcs_of A origins) e (slice_index_or origins e Start)) → (n e : ℕ) → e < n → e < length origins → Q (arc_at A (arcs_of A origins) e)
+placed_arcs_have A P rule Q one origins placed zero e below lt = absurd (omega arith)
+placed_arcs_have A P rule Q one origins placed (suc n) e below lt =
+    subst Q (sym (arc_placed A P rule origins e lt (placed e lt)))
+    (one (arcs_of A origins) e (slice_index_or origins e Start) (placed e lt)
+    (λ p before. placed_arcs_have A P rule Q one origins placed n p (omega arith) (omega arith)))
 
 pub arc_is_here : (A : Automaton) (origins : List Origin) (e : ℕ) → e < length origins → IsPlacedAt A (arcs_of A origins) e (slice_index_or origins e Start) →
     arc_at A (arcs_of A origins) e ≡ arc_of A (arcs_of A origins) (slice_index_or origins e Start)
-arc_is_here A origins e lt here =
-    let r = arc_before A [] origins e e lt (omega arith) in
-    r.is ∙ arc_same A (arcs_of A origins) r.front e (slice_index_or origins e Start) here r.stays
+arc_is_here A origins e lt here = arc_placed A (IsPlacedAt A) (placing A) origins e lt here
 
 pub arc_is : (A : Automaton) (origins : List Origin) → ArePlaced A origins → (e : ℕ) → e < length origins → arc_at A (arcs_of A origins) e ≡ arc_of A (arcs_of A origins) (slice_index_or origins e Start)
 arc_is A origins placed e lt = arc_is_here A origins e lt (placed e lt)
@@ -89,14 +115,20 @@ base_real A t lt =
     let u : Trans = trans_at A t in
     record { reads = omega arith; run = (u.target, false, move_at A t lt, (refl, refl), sym (or-false (is_accepting A u.target))) }
 
-extended_real : (A : Automaton) (x : WordArc) (t : ℕ) → IsReal A x → t < length A.transitions → (trans_at A t).source ≡ x.to → IsReal A (extended_arc A x (trans_at A t))
-extended_real A x t real lt leaves =
+-- The run of an extension.
+pub extended_runs : (A : Automaton) (x : WordArc) (t : ℕ) → Run A x.from x.word x.to x.flag → t < length A.transitions → (trans_at A t).source ≡ x.to →
+    Run A x.from (x.word ++ (trans_at A t).label ∷ []) (trans_at A t).target (x.flag || is_accepting A (trans_at A t).target)
+extended_runs A x t run lt leaves =
     let u : Trans = trans_at A t in
     let move : Moves A x.to u.label u.target = subst (λ s. Moves A s u.label u.target) leaves (move_at A t lt) in
     let last : Run A x.to (u.label ∷ []) u.target (is_accepting A u.target) = (u.target, false, move, (refl, refl), sym (or-false (is_accepting A u.target))) in
-    let size = length-append x.word (u.label ∷ []) in
+    run_join A x.from x.word x.to x.flag (u.label ∷ []) u.target (is_accepting A u.target) run last
+
+extended_real : (A : Automaton) (x : WordArc) (t : ℕ) → IsReal A x → t < length A.transitions → (trans_at A t).source ≡ x.to → IsReal A (extended_arc A x (trans_at A t))
+extended_real A x t real lt leaves =
+    let size = length-append x.word ((trans_at A t).label ∷ []) in
     let some = real.reads in
-    record { reads = omega arith; run = run_join A x.from x.word x.to x.flag (u.label ∷ []) u.target (is_accepting A u.target) real.run last }
+    record { reads = omega arith; run = extended_runs A x t real.run lt leaves }
 
 -- By the arcs before it.
 real_one : (A : Automaton) (all : List WordArc) (e : ℕ) (o : Origin) → IsPlacedAt A all e o → ((p : ℕ) → p < e → IsReal A (arc_at A all p)) → IsReal A (arc_of A all o)
@@ -104,12 +136,5 @@ real_one A all e Start placed before = absurd placed
 real_one A all e (Base t) placed before = base_real A t placed
 real_one A all e (Next p t) placed before = extended_real A (arc_at A all p) t (before p placed.0) placed.1 placed.2
 
-real_below : (A : Automaton) (origins : List Origin) → ArePlaced A origins → (n e : ℕ) → e < n → e < length origins → IsReal A (arc_at A (arcs_of A origins) e)
-real_below A origins placed zero e below lt = absurd (omega arith)
-real_below A origins placed (suc n) e below lt =
-    subst (IsReal A) (sym (arc_is A origins placed e lt))
-    (real_one A (arcs_of A origins) e (slice_index_or origins e Start) (placed e lt)
-    (λ p before. real_below A origins placed n p (omega arith) (omega arith)))
-
 pub placed_arcs_are_real : PlacedArcsAreReal
-placed_arcs_are_real A origins placed e lt = real_below A origins placed (suc e) e (omega arith) lt
+placed_arcs_are_real A origins placed e lt = placed_arcs_have A (IsPlacedAt A) (placing A) (IsReal A) (real_one A) origins placed (suc e) e (omega arith) lt

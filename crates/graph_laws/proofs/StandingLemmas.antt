@@ -1,9 +1,8 @@
 -- Graphs that give each pair the same value do the same: as what is extended, in covering and in the lasso test.
-use Rattle.std.proofs.Common.{ℕ, ◌↔◌, List, [], ◌∷◌, ◌++◌}
-use Rattle.auto_core.specs.Automaton.{Automaton}
+use Rattle.std.proofs.Common.{ℕ, ◌↔◌, [], ◌∷◌, ◌++◌}
 use Rattle.auto_core.specs.Game.{Holds}
 use Rattle.auto_core.specs.Graph.{Graph, SameGraph, graph_of, graph_of_tables, letter_graph, extended, Covers, LassoIn}
-use Rattle.graph_laws.specs.Standing.{ServeAsGraphs, TablesServeAsGraphs}
+use Rattle.graph_laws.specs.Standing.{TablesServeAsGraphs}
 use Rattle.graph_laws.proofs.GraphLemmas.{same_sym, same_trans, same_more, graph_of_letter}
 use Rattle.graph_laws.proofs.LassoLemmas.{lasso_same}
 

@@ -1,5 +1,5 @@
 -- Bits of prints, as they are set one after the other.
-use Rattle.std.proofs.Common.{◌≡◌, ℕ, ◌+◌, ◌*◌, ◌<◌, ◌^◌, ◌/◌, ◌%◌, ◌==◌, inl, inr, false, List, [], ◌∷◌, length, get_or, sym, ap, ◌∙◌, subst, arith, bit_and, w64, refl}
+use Rattle.std.proofs.Common.{◌≡◌, ℕ, ◌+◌, ◌*◌, ◌<◌, ◌^◌, ◌/◌, ◌%◌, ◌==◌, inl, inr, Bool, true, false, List, [], ◌∷◌, length, get_or, sym, ap, ◌∙◌, subst, arith, bit_and, w64, refl}
 use Rattle.std.specs.Int.{bit_at, bit_not, trailing_zeros}
 use Rattle.std.proofs.lemmas.Nat.Bits.{bit_at-zero}
 use Rattle.std.proofs.lemmas.Bool.{cases_eq, false≢true}
@@ -72,6 +72,11 @@ unmarked i bit = elim (cases_eq (i / 64) 0) [
   | inl e ↦ false≢true (sym (ap (λ k. bit_at (get_or (0 ∷ []) k 0) (i % 64) == 1) e ∙ ap (λ b. b == 1) (bit_at-zero (i % 64))) ∙ bit)
   | inr n ↦ false≢true (sym (bit_past (0 ∷ []) i (omega arith)) ∙ bit)
 ]
+
+-- A bit that is not set now was not set before, where bits that were set stay.
+pub false_before : (was is : Bool) → (was ≡ true → is ≡ true) → is ≡ false → was ≡ false
+false_before false is stays none = refl
+false_before true is stays none = absurd (false≢true (sym none ∙ stays refl))
 
 -- Words with a bit in common.
 pub words_meet : (x y : ℕ) → bit_and x y < 2 ^ 64 → ¬ (bit_and x y ≡ 0) → (q : ℕ) × HasBit (x ∷ []) q × HasBit (y ∷ []) q

@@ -1,11 +1,15 @@
--- Prints of graphs: what they say of 64 pairs of states, the same pairs for all graphs of n states.
-use Rattle.std.specs.Prelude.{◌≡◌, ℕ, ◌+◌, ◌*◌, ◌/◌, ◌%◌, ◌<◌, ◌==◌, Bool, true, false, List, [], ◌∷◌}
+-- Prints of graphs: what they say of pairs of states, the same pairs for all graphs of n states, by 64 bits.
+use Rattle.std.specs.Prelude.{◌≡◌, ℕ, ◌+◌, ◌*◌, ◌/◌, ◌%◌, ◌<◌, ◌≤◌, ◌⊎◌, ◌==◌, Bool, true, false, List, [], ◌∷◌}
 use Rattle.auto_core.specs.Rows.{HasBit, bit_of}
 use Rattle.auto_core.specs.Graph.{Graph}
 use Rattle.graph_rows.specs.Block.{block_graph}
 use Rattle.graph_rows.specs.declared.prints.Print.{Print}
 
--- The pair with the number j, and whether it is asked for past an accepting state.
+-- The bit that the pair shares with others.
+abbrev pub folded_bit : ℕ → ℕ → ℕ
+folded_bit p q = (p * 37 + q * 11) % 64
+
+-- The picked pair with the number j, and whether it is asked for past an accepting state.
 abbrev pub picked_source : ℕ → ℕ → ℕ
 picked_source n j = (j * 160 + j / 4 + 32) % n
 
@@ -20,19 +24,28 @@ abbrev pub joined_pairs : Graph → Bool → ℕ → ℕ → Type 0
 joined_pairs g false s t = g.joined s t
 joined_pairs g true s t = g.past s t
 
--- The bits of `own` are of pairs that the graph has, and the bits that `answered` has not are of pairs that it has no answer to: none
--- from the same state to a state that S relates the target to.
+-- The graph has no answer to the pair: no arc from the same state to a state that S relates the target to.
+abbrev pub HasNoAnswer : (ℕ → ℕ → Type 0) → Graph → Bool → ℕ → ℕ → Type 0
+HasNoAnswer S g past p q = (u : ℕ) → joined_pairs g past p u → S q u → ⊥
+
+-- The bit j of a print of a graph of n states is asked about the pair: about each pair that has it, up to 24 states, and else about the picked one.
+abbrev pub IsAskedAt : ℕ → ℕ → Bool → ℕ → ℕ → Type 0
+IsAskedAt n j past p q =
+    ((n ≤ 24) × (p < n) × (q < n) × (past ≡ false) × (folded_bit p q ≡ j))
+    ⊎ ((24 < n) × (past ≡ is_past j) × (p ≡ picked_source n j) × (q ≡ picked_target n j))
+
+-- A bit of `own` is asked about some pair that the graph has, and a bit that `answered` has not is asked about pairs that the graph has no answer to.
 abbrev pub HasOwn : ℕ → Graph → ℕ → Type 0
-HasOwn n g own = (j : ℕ) → HasBit (own ∷ []) j → joined_pairs g (is_past j) (picked_source n j) (picked_target n j)
+HasOwn n g own = (j : ℕ) → HasBit (own ∷ []) j → (past : Bool) × (p q : ℕ) × IsAskedAt n j past p q × joined_pairs g past p q
 
 abbrev pub HasAnswered : ℕ → (ℕ → ℕ → Type 0) → Graph → ℕ → Type 0
-HasAnswered n S g answered = (j u : ℕ) → j < 64 → bit_of (answered ∷ []) j ≡ false → joined_pairs g (is_past j) (picked_source n j) u → S (picked_target n j) u → ⊥
+HasAnswered n S g answered = (j : ℕ) (past : Bool) (p q : ℕ) → j < 64 → bit_of (answered ∷ []) j ≡ false → IsAskedAt n j past p q → HasNoAnswer S g past p q
 
 pub record IsPrint (n : ℕ) (S : ℕ → ℕ → Type 0) (block : List ℕ) (print : Print) : Type 0 where
   pub own : HasOwn n (block_graph n block) print.own
   pub answered : HasAnswered n S (block_graph n block) print.answered
 
--- The first print has a pair that the second one has no answer to.
+-- The first print has a bit that the second one has no answer at.
 pub record Misses (first second : Print) : Type 0 where
   pub at : ℕ
   pub within : at < 64

@@ -15,7 +15,7 @@ use row_steps::{meets, next_bit};
 
 /// Tells whether an arc leads from the state of the row to some state that the order relates the target to: one of `past` if
 /// `flagged` says so, else one of `joined`.
-pub(crate) fn answers(
+pub fn answers(
     order: &Rel,
     width: usize,
     row: u32,

@@ -4,11 +4,14 @@
 
 mod block;
 mod covering;
+mod lanes;
 mod letters;
 mod prints;
 mod unions;
 
 pub use block::{arc, joined, past, same, words_of};
-pub use covering::covers;
+pub use covering::{answers, covers};
+pub use lanes::or_into;
 pub use letters::{extend, letter};
 pub use prints::{Print, misses, print_of};
+pub use row_steps::subset;

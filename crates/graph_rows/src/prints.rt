@@ -1,20 +1,35 @@
 //! Prints of graphs, by which most graphs that do not cover one another are told apart at once.
 
-ghost use Rattle.std.specs.Prelude.{◌≡◌, ◌<◌, ◌≤◌, ℕ, [], ◌∷◌, true, false};
+ghost use Rattle.std.specs.Prelude.{◌≡◌, ◌<◌, ◌≤◌, ◌⊎◌, ℕ, [], ◌∷◌, length, true, false};
 ghost use Rattle.auto_core.specs.Game.{Holds};
+ghost use Rattle.auto_core.specs.Rows.{bit_of, HasBit};
 ghost use Rattle.graph_rows.specs.Block.{block_graph, IsFormed};
-ghost use Rattle.graph_rows.specs.Prints.{HasAnswered, HasOwn, IsPrint, Misses, is_past, joined_pairs, picked_source, picked_target};
+ghost use Rattle.graph_rows.specs.Prints.{HasAnswered, HasNoAnswer, HasOwn, IsPrint, Misses, folded_bit, is_past, joined_pairs, picked_source, picked_target};
 
 use crate::block;
 use crate::covering::answers;
 use auto_core::rows;
 use bit_rel::Rel;
 
-/// What a graph says of 64 pairs of states: which of them it has, and to which of them it has an answer.
+/// Up to so many states, a print tells of each pair of states.
+const MOST_FOLDED: u32 = 24;
+
+/// What a graph says of pairs of states, by 64 bits: which of them it has, and to which of them it has an answer. Of few states each pair has a bit,
+/// which it shares with others; of more states 64 pairs have a bit each.
 #[derive(Clone, Copy, Debug)]
 pub struct Print {
     pub own: u64,
     pub answered: u64,
+}
+
+/// The bit that the pair shares with others.
+fn folded(p: u32, q: u32) -> u32
+    requires left { p < 64 }
+    requires right { q < 64 }
+    ensures is { result ≡ folded_bit p q }
+    ensures few { result < 64 }
+{
+    (p * 37 + q * 11) % 64
 }
 
 /// The first state of the pair with the number `j`.
@@ -47,48 +62,112 @@ fn has_picked(order: &Rel, g: &[u64], j: u32) -> bool
     if j % 2 == 1 { value == 2 } else { value >= 1 }
 }
 
-/// Tells whether the graph has an answer to the pair with the number `j`.
-fn answers_picked(order: &Rel, g: &[u64], j: u32) -> bool
+/// Tells whether the graph has an answer to the pair of these states, past an accepting state or not.
+fn answers_pair(order: &Rel, g: &[u64], p: u32, q: u32, past: bool) -> bool
     requires formed { IsFormed order.now.size g.now }
-    requires some { 1 ≤ order.now.size }
-    requires few { j < 64 }
-    ensures { result ≡ false → (u : ℕ) → joined_pairs (block_graph order.now.size g.now) (is_past j) (picked_source order.now.size j) u → Holds order.now.pairs (picked_target order.now.size j) u → ⊥ }
+    requires left { p < order.now.size }
+    requires right { q < order.now.size }
+    ensures { result ≡ false → HasNoAnswer (Holds order.now.pairs) (block_graph order.now.size g.now) past p q }
 {
     let n = order.size();
-    answers(
-        order,
-        rows::words_for(n),
-        source_of(n, j),
-        target_of(n, j),
-        j % 2 == 1,
-        block::joined(n, g),
-        block::past(n, g),
-    )
+    let (joined, marked) = (block::joined(n, g), block::past(n, g));
+    answers(order, rows::words_for(n), p, q, past, joined, marked)
 }
 
-/// Sets the bits of the pairs that the graph has, and of those that it has an answer to.
+/// Sets the bits of the picked pairs that the graph has, and of those that it has an answer to.
 fn mark_picked(order: &Rel, g: &[u64], own: &mut [u64], answered: &mut [u64])
     requires formed { IsFormed order.now.size g.now }
-    requires some { 1 ≤ order.now.size }
+    requires many { 24 < order.now.size }
     requires own { own.old ≡ 0 ∷ [] }
     requires answered { answered.old ≡ 0 ∷ [] }
     ensures own { (x : ℕ) → own.new ≡ x ∷ [] → HasOwn order.now.size (block_graph order.now.size g.now) x }
     ensures answered { (x : ℕ) → answered.new ≡ x ∷ [] → HasAnswered order.now.size (Holds order.now.pairs) (block_graph order.now.size g.now) x }
 {
+    let n = order.size();
     for j in 0..64 {
         if has_picked(order, g, j) {
             rows::set_bit(own, j as usize);
         }
-        if answers_picked(order, g, j) {
+        if answers_pair(order, g, source_of(n, j), target_of(n, j), j % 2 == 1) {
             rows::set_bit(answered, j as usize);
         }
     }
 }
 
-/// The print of the graph.
-pub fn print_of(order: &Rel, g: &[u64]) -> Print
+/// Sets the bit of the pair, if the graph has it, and if it has an answer to it.
+fn mark_pair(order: &Rel, g: &[u64], p: u32, q: u32, own: &mut [u64], answered: &mut [u64])
     requires formed { IsFormed order.now.size g.now }
-    requires some { 1 ≤ order.now.size }
+    requires few { order.now.size ≤ 24 }
+    requires left { p < order.now.size }
+    requires right { q < order.now.size }
+    requires own { length own.old ≡ 1 }
+    requires answered { length answered.old ≡ 1 }
+    ensures own { (j : ℕ) → HasBit own.new j → HasBit own.old j ⊎ ((folded_bit p q ≡ j) × (block_graph order.now.size g.now).joined p q) }
+    ensures answered { bit_of answered.new (folded_bit p q) ≡ false → HasNoAnswer (Holds order.now.pairs) (block_graph order.now.size g.now) false p q }
+    ensures stay { (j : ℕ) → HasBit answered.old j → HasBit answered.new j }
+    ensures own_len { length own.new ≡ 1 }
+    ensures answered_len { length answered.new ≡ 1 }
+{
+    let bit = folded(p, q) as usize;
+    if block::arc(order.size(), g, p, q) >= 1 {
+        rows::set_bit(own, bit);
+    }
+    if answers_pair(order, g, p, q, false) {
+        rows::set_bit(answered, bit);
+    }
+}
+
+/// Sets the bits of the pairs of `p`, those that the graph has, and those that it has an answer to.
+fn mark_row(order: &Rel, g: &[u64], p: u32, own: &mut [u64], answered: &mut [u64])
+    requires formed { IsFormed order.now.size g.now }
+    requires few { order.now.size ≤ 24 }
+    requires left { p < order.now.size }
+    requires own { length own.old ≡ 1 }
+    requires answered { length answered.old ≡ 1 }
+    ensures own { (j : ℕ) → HasBit own.new j → HasBit own.old j ⊎ ((q : ℕ) × (q < order.now.size) × (folded_bit p q ≡ j) × (block_graph order.now.size g.now).joined p q) }
+    ensures answered { (q : ℕ) → q < order.now.size → bit_of answered.new (folded_bit p q) ≡ false → HasNoAnswer (Holds order.now.pairs) (block_graph order.now.size g.now) false p q }
+    ensures stay { (j : ℕ) → HasBit answered.old j → HasBit answered.new j }
+    ensures own_len { length own.new ≡ 1 }
+    ensures answered_len { length answered.new ≡ 1 }
+{
+    for q in 0..order.size() {
+        mark_pair(order, g, p, q, own, answered);
+    }
+}
+
+/// Sets the bits of all pairs that the graph has, and of those that it has an answer to.
+fn mark_all(order: &Rel, g: &[u64], own: &mut [u64], answered: &mut [u64])
+    requires formed { IsFormed order.now.size g.now }
+    requires few { order.now.size ≤ 24 }
+    requires own { own.old ≡ 0 ∷ [] }
+    requires answered { answered.old ≡ 0 ∷ [] }
+    ensures own { (x : ℕ) → own.new ≡ x ∷ [] → HasOwn order.now.size (block_graph order.now.size g.now) x }
+    ensures answered { (x : ℕ) → answered.new ≡ x ∷ [] → HasAnswered order.now.size (Holds order.now.pairs) (block_graph order.now.size g.now) x }
+{
+    for p in 0..order.size() {
+        mark_row(order, g, p, own, answered);
+    }
+}
+
+/// The print of a graph of few states.
+fn print_of_few(order: &Rel, g: &[u64]) -> Print
+    requires formed { IsFormed order.now.size g.now }
+    requires few { order.now.size ≤ 24 }
+    ensures { IsPrint order.now.size (Holds order.now.pairs) g.now result }
+{
+    let mut own = [0];
+    let mut answered = [0];
+    mark_all(order, g, &mut own, &mut answered);
+    Print {
+        own: own[0],
+        answered: answered[0],
+    }
+}
+
+/// The print of a graph of more states.
+fn print_of_many(order: &Rel, g: &[u64]) -> Print
+    requires formed { IsFormed order.now.size g.now }
+    requires many { 24 < order.now.size }
     ensures { IsPrint order.now.size (Holds order.now.pairs) g.now result }
 {
     let mut own = [0];
@@ -97,6 +176,18 @@ pub fn print_of(order: &Rel, g: &[u64]) -> Print
     Print {
         own: own[0],
         answered: answered[0],
+    }
+}
+
+/// The print of the graph.
+pub fn print_of(order: &Rel, g: &[u64]) -> Print
+    requires formed { IsFormed order.now.size g.now }
+    ensures { IsPrint order.now.size (Holds order.now.pairs) g.now result }
+{
+    if order.size() <= MOST_FOLDED {
+        print_of_few(order, g)
+    } else {
+        print_of_many(order, g)
     }
 }
 

@@ -68,6 +68,8 @@ mod finite_rule_tests;
 #[cfg(test)]
 mod finite_tests;
 #[cfg(test)]
+mod graph_tests;
+#[cfg(test)]
 mod include_tests;
 #[cfg(test)]
 mod list_tests;

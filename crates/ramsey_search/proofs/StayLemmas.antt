@@ -1,7 +1,7 @@
 -- The family looks the same as graphs come.
-use Rattle.std.proofs.Common.{◌≡◌, ℕ, ◌≤◌, List, refl, ap, ◌∙◌, arith}
+use Rattle.std.proofs.Common.{◌≡◌, ℕ, ◌≤◌, List, refl, sym, ap, ◌∙◌, subst, arith}
 use Rattle.std.proofs.lemmas.List.{length-map}
-use Rattle.auto_core.specs.Automaton.{Automaton}
+use Rattle.auto_core.specs.Automaton.{Automaton, IsAutomaton}
 use Rattle.auto_core.specs.Outcome.{Entry}
 use Rattle.search_laws.proofs.PlaceLemmas.{at_same, at_within, at_some, same_maps}
 use Rattle.search_laws.proofs.ListLemmas.{at_map}
@@ -10,7 +10,7 @@ use Rattle.ramsey_search.specs.declared.family.Family.{Family}
 use Rattle.shared_graphs.specs.declared.graphs.Graph.{Graph}
 use Rattle.shared_graphs.specs.Graphs.{block_at, HasGrown}
 use Rattle.ramsey_search.specs.Views.{seen, view}
-use Rattle.ramsey_search.specs.Kept.{IsFamily}
+use Rattle.ramsey_search.specs.Kept.{IsFamily, IsWhole, entries_held}
 use Rattle.shared_graphs.proofs.GraphsLemmas.{formed_there}
 
 pub view_stays : (A B : Automaton) (S : List (ℕ × ℕ)) (old now : List Graph) (f : Family) (es : List Entry) → 1 ≤ B.states → HasGrown old now → IsFamily A B S (view old f) es → view now f ≡ view old f
@@ -28,3 +28,10 @@ view_stays A B S old now f es some grown family =
   where
     seen_stays : (old now : List Graph) (h : Held) → block_at now h.graph ≡ block_at old h.graph → seen now h ≡ seen old h
     seen_stays old now h e = ap (λ l. record { origin = h.origin; arc = h.arc; graph = l }) e
+
+-- So does a whole family, which stays whole.
+pub whole_stays : (A B : Automaton) (S : List (ℕ × ℕ)) (old now : List Graph) (f : Family) → IsAutomaton B → HasGrown old now → IsWhole A B S (view old f) → (view now f ≡ view old f) × IsWhole A B S (view now f)
+whole_stays A B S old now f valid grown whole =
+    let some = valid.initial_is_state in
+    let same : view now f ≡ view old f = view_stays A B S old now f (entries_held A (view old f)) (omega arith) grown whole in
+    (same, subst (IsWhole A B S) (sym same) whole)

@@ -1,24 +1,29 @@
 -- The search, candidate by candidate.
-use Rattle.std.proofs.Common.{◌≡◌, ℕ, suc, ◌+◌, ◌-◌, ◌*◌, ◌<◌, ◌≤◌, Bool, true, false, List, [], ◌∷◌, ◌++◌, length, map, slice_index_or, refl, sym, ap, ◌∙◌, subst, arith, length-append}
+use Rattle.std.proofs.Common.{◌≡◌, ℕ, ◌+◌, ◌-◌, ◌*◌, ◌<◌, ◌≤◌, Bool, true, false, List, [], ◌∷◌, ◌++◌, length, map, slice_index_or, refl, sym, ap, ◌∙◌, subst, arith, length-append}
 use Rattle.std.specs.List.{range_with_len}
 use Rattle.auto_core.specs.Automaton.{Automaton, IsAutomaton, trans_at, IsOutgoing}
 use Rattle.auto_core.specs.Run.{Run}
 use Rattle.auto_core.specs.Game.{IsGreatestForward}
-use Rattle.auto_core.specs.Graph.{WordArc, IsPlacedAt, arc_at, extended_arc}
-use Rattle.auto_core.specs.Outcome.{At, Entry, Closed, Apart, Limit, HasSubsumer, HasNoSubsumer, PassesBefore, FirstFailing, Comes, passed_over, limit_met, told_apart, entered, turn_of_live, turn_of_dropped, done, base_entry, next_entry, steps_out, supergraph_rules, arcs_in}
+use Rattle.auto_core.specs.Graph.{WordArc, IsPlacedAt}
+use Rattle.auto_core.specs.Outcome.{At, Entry, Closed, Apart, Limit, HasSubsumer, HasNoSubsumer, PassesBefore, FirstFailing, Comes, passed_over, limit_met, told_apart, entered, done, base_entry, next_entry, supergraph_rules, arcs_in}
 use Rattle.auto_core.specs.declared.parts.Origin.TheVariants.{Base, Next}
 use Rattle.auto_core.proofs.MoveLemmas.{move_in_range}
 use Rattle.graph_rows.specs.Block.{IsFormed}
 use Rattle.search_laws.specs.Outcomes.{HaveOrigins}
-use Rattle.search_laws.proofs.PlaceLemmas.{at_within, at_some, at_more, at_new}
-use Rattle.search_laws.proofs.EntryLemmas.{FitsBehind, origins_more, entry_is_real, arc_here}
-use Rattle.evidence.proofs.RangeLemmas.{extensions_from, steps_out_are, range_more, range_over}
+use Rattle.search_laws.proofs.PlaceLemmas.{at_within, at_some, at_more, at_new, read_at}
+use Rattle.graph_laws.proofs.OriginLemmas.{placing}
+use Rattle.search_laws.proofs.PlacingLemmas.{FitsBehind, next_fits}
+use Rattle.search_laws.proofs.EntryLemmas.{origins_more, entry_is_real}
+use Rattle.evidence.proofs.RangeLemmas.{extensions_from, range_more, range_over}
+use Rattle.evidence.proofs.TurnLemmas.{live_leads, dropped_leads}
 use Rattle.evidence.specs.Entries.{entry_of, entries_of}
+use Rattle.ramsey_search.specs.declared.parts.Held.{Held}
 use Rattle.ramsey_search.specs.declared.family.Family.{Family}
 use Rattle.shared_graphs.specs.declared.graphs.Graph.{Graph}
 use Rattle.shared_graphs.specs.Graphs.{HasGrown}
-use Rattle.ramsey_search.specs.Views.{Seen, View, view}
-use Rattle.ramsey_search.proofs.StayLemmas.{view_stays}
+use Rattle.ramsey_search.specs.Views.{Seen, View, seen, view}
+use Rattle.ramsey_search.proofs.SeenLemmas.{entry_at, held_within, held_stands}
+use Rattle.ramsey_search.proofs.StayLemmas.{whole_stays}
 use Rattle.ramsey_search.specs.declared.parts.Fate.{Fate}
 use Rattle.ramsey_search.specs.declared.parts.Fate.TheVariants as fates
 use Rattle.evidence.specs.Tables.{numbers_at}
@@ -65,13 +70,16 @@ fits_together A B S n f es same family = record {
 }
 
 -- The candidate's arc is between states.
-fits_behind : (A B : Automaton) (S : List (ℕ × ℕ)) (es : List Entry) (h : Seen) → IsCandidate A B S es h → FitsBehind A es (entry_of A es h.origin)
+fits_behind : (A B : Automaton) (S : List (ℕ × ℕ)) (es : List Entry) (h : Seen) → IsCandidate A B S es h → FitsBehind A (IsPlacedAt A) es (entry_of A es h.origin)
 fits_behind A B S es h candidate = record { placed = candidate.placed; is = refl }
 
 pub candidate_in_range : (A B : Automaton) (S : List (ℕ × ℕ)) → IsAutomaton A → (es : List Entry) → HaveOrigins A es → (h : Seen) → IsCandidate A B S es h → (h.arc.from < A.states) × (h.arc.to < A.states)
 candidate_in_range A B S valid es have h candidate =
     let c : Entry = entry_of A es h.origin in
     held_in_range A B S valid (es ++ c ∷ []) (origins_more A es c have (fits_behind A B S es h candidate)) (length es) c h (at_new es c) candidate.kept
+
+pub ends_in_family : (A B : Automaton) (S : List (ℕ × ℕ)) → IsAutomaton A → (v : View) (h : Seen) → IsWhole A B S v → IsCandidate A B S (entries_held A v) h → (h.arc.from < v.states) × (h.arc.to < v.states)
+ends_in_family A B S valid v h whole candidate = subst (λ n. (h.arc.from < n) × (h.arc.to < n)) (sym whole.states) (candidate_in_range A B S valid (entries_held A v) whole.origins h candidate)
 
 -- After the candidate has entered.
 pub entered_whole : (A B : Automaton) (S : List (ℕ × ℕ)) → IsAutomaton A → IsGreatestForward B 1 S → (n : ℕ) → n ≡ B.states → (old now : View) (h : Seen) → IsWhole A B S old → IsCandidate A B S (entries_held A old) h →
@@ -101,8 +109,7 @@ come_then A B S limit old mid now cs mid_cs left turn mid_turn later fate first 
 pub come_stays : (A B : Automaton) (S : List (ℕ × ℕ)) (limit : ℕ) (before : View) (old now : List Graph) (f : Family) (cs left : List Entry) (turn later : ℕ) (fate : Fate) → IsAutomaton B → HasGrown old now →
     HasCome A B S limit before (view old f) fate cs left turn later → HasCome A B S limit before (view now f) fate cs left turn later
 come_stays A B S limit before old now f cs left turn later fate valid grown come =
-    let some = valid.initial_is_state in
-    subst (λ v. HasCome A B S limit before v fate cs left turn later) (sym (view_stays A B S old now f (entries_held A (view old f)) (omega arith) grown come.whole)) come
+    subst (λ v. HasCome A B S limit before v fate cs left turn later) (sym (whole_stays A B S old now f valid grown come.whole).0) come
 
 -- Nothing has happened yet.
 pub come_first : (A B : Automaton) (S : List (ℕ × ℕ)) (limit : ℕ) (f : View) (cs : List Entry) (turn : ℕ) → IsWhole A B S f → length f.held ≤ limit → HasCome A B S limit f f fates.GoesOn cs cs turn turn
@@ -189,40 +196,71 @@ pub next_is_candidate : (A B : Automaton) (S : List (ℕ × ℕ)) (es : List Ent
     IsCandidate A B S es h × (entry_of A es h.origin ≡ next_entry A e x t)
 next_is_candidate A B S es e t x h x_is lt leaves kept =
     let is : h.origin ≡ Next e t = kept.origin in
-    let arc : arc_at A (arcs_in es) e ≡ x.arc = arc_here A es e x x_is in
-    let same : entry_of A es h.origin ≡ next_entry A e x t = ap (entry_of A es) is ∙ ap (λ (a : WordArc). record { origin = Next e t; arc = extended_arc A a (trans_at A t) }) arc in
-    let placed : IsPlacedAt A (arcs_in es) (length es) (Next e t) = (at_within es e x x_is, lt, leaves ∙ sym (ap (λ (a : WordArc). a.to) arc)) in
-    (record { placed = subst (IsPlacedAt A (arcs_in es) (length es)) (sym is) placed; kept = subst (IsKept B S h) (sym same) kept }, same)
+    let fits = next_fits A (IsPlacedAt A) (placing A) es e t x x_is lt leaves in
+    let same : entry_of A es h.origin ≡ next_entry A e x t = ap (entry_of A es) is ∙ ap (λ (a : WordArc). record { origin = Next e t; arc = a }) fits.is in
+    (record { placed = subst (IsPlacedAt A (arcs_in es) (length es)) (sym is) fits.placed; kept = subst (IsKept B S h) (sym same) kept }, same)
+
+-- The kept element h stands for this element of the family, and for the one that is there.
+pub record StandsFor (A B : Automaton) (S : List (ℕ × ℕ)) (v : View) (e : ℕ) (h : Seen) : Type 0 where
+  pub entry : Entry
+  pub is : At (entries_held A v) e entry
+  pub kept : IsKept B S h entry
+
+pub stands_at : (A B : Automaton) (S : List (ℕ × ℕ)) (g : List Graph) (f : Family) (e : ℕ) (h : Held) → IsWhole A B S (view g f) → e < length f.held.items → h ≡ slice_index_or f.held.items e h →
+    StandsFor A B S (view g f) e (seen g h)
+stands_at A B S g f e h whole lt is =
+    let x = entry_at A B S g f whole e lt in
+    record { entry = x.0; is = x.1; kept = held_stands A B S g f whole e h x.0 (read_at f.held.items e h h lt is) x.1 }
+
+pub still_stands : (A B : Automaton) (S : List (ℕ × ℕ)) (g : List Graph) (f : Family) (e : ℕ) (h : Held) (x : Entry) → IsWhole A B S (view g f) → At (entries_held A (view g f)) e x →
+    h ≡ slice_index_or f.held.items e h → IsKept B S (seen g h) x
+still_stands A B S g f e h x whole x_is is = held_stands A B S g f whole e h x (read_at f.held.items e h h (held_within A B S g f whole e x x_is) is) x_is
+
+-- The kept element h stands for the candidate y, may come behind these, and has states at its ends.
+pub record IsComing (A B : Automaton) (S : List (ℕ × ℕ)) (es : List Entry) (y : Entry) (h : Seen) : Type 0 where
+  pub kept : IsKept B S h y
+  pub candidate : IsCandidate A B S es h
+  pub is : entry_of A es h.origin ≡ y
+  pub ends_in : (h.arc.from < A.states) × (h.arc.to < A.states)
+
+pub base_comes : (A B : Automaton) (S : List (ℕ × ℕ)) → IsAutomaton A → (es : List Entry) → HaveOrigins A es → (t : ℕ) (h : Seen) → t < length A.transitions → IsKept B S h (base_entry A t) →
+    IsComing A B S es (base_entry A t) h
+base_comes A B S valid es have t h lt kept =
+    let found = base_is_candidate A B S es t h lt kept in
+    record { kept = kept; candidate = found.0; is = found.1; ends_in = candidate_in_range A B S valid es have h found.0 }
+
+pub next_comes : (A B : Automaton) (S : List (ℕ × ℕ)) → IsAutomaton A → (es : List Entry) → HaveOrigins A es → (e t : ℕ) (x : Entry) (h : Seen) → At es e x → t < length A.transitions → (trans_at A t).source ≡ x.arc.to →
+    IsKept B S h (next_entry A e x t) → IsComing A B S es (next_entry A e x t) h
+next_comes A B S valid es have e t x h is lt leaves kept =
+    let found = next_is_candidate A B S es e t x h is lt leaves kept in
+    record { kept = kept; candidate = found.0; is = found.1; ends_in = candidate_in_range A B S valid es have h found.0 }
+
+-- A transition of the range leaves the state.
+pub step_leaves : (A : Automaton) (p begin end t : ℕ) → IsOutgoing A p begin end → begin ≤ t → t < end → (t < length A.transitions) × ((trans_at A t).source ≡ p)
+step_leaves A p begin end t out at_least below = let most = out.within in (omega arith, out.inside t at_least below)
+
+-- A candidate comes after those before it.
+pub comes_next : (A B : Automaton) (S : List (ℕ × ℕ)) (limit : ℕ) (old mid now : View) (cs rest : List Entry) (y : Entry) (turn later : ℕ) (h : Seen) (fate : Fate) →
+    HasCome A B S limit old mid fates.GoesOn cs (y ∷ rest) turn later → entry_of A (entries_held A mid) h.origin ≡ y →
+    ((ds : List Entry) (k : ℕ) → HasCome A B S limit mid now fate (entry_of A (entries_held A mid) h.origin ∷ ds) ds k k) → HasCome A B S limit old now fate cs rest turn later
+comes_next A B S limit old mid now cs rest y turn later h fate come is one =
+    come_then A B S limit old mid now cs (y ∷ rest) rest turn later later fate come (subst (λ z. HasCome A B S limit mid now fate (z ∷ rest) rest later later) is (one rest later))
 
 -- A turn begins.
 pub turn_begins : (A B : Automaton) (S : List (ℕ × ℕ)) (limit : ℕ) (f : View) (turn begin end : ℕ) (x : Entry) → IsWhole A B S f → length f.held ≤ limit → At (entries_held A f) turn x →
     slice_index_or f.live turn false ≡ true → IsOutgoing A x.arc.to begin end → HasCome A B S limit f f fates.GoesOn [] (extensions_from A turn x begin end) turn (turn + 1)
-turn_begins A B S limit f turn begin end x whole few x_is live out =
-    let within = at_within (entries_held A f) turn x x_is in
-    let stays = whole.tells.stays turn within live in
-    let extensions : map (next_entry A turn x) (steps_out A x.arc.to) ≡ extensions_from A turn x begin end = ap (map (next_entry A turn x)) (steps_out_are A x.arc.to begin end out) in
-    let after : turn + 1 ≡ suc turn = omega arith in
-    record {
-      whole = whole;
-      few = λ e. few;
-      grown = λ i y is. is;
-      leads = λ o rest. turn_of_live x x_is stays
-          (subst (λ k. Comes Entry (supergraph_rules A B S) limit (entries_held A f) (map (next_entry A turn x) (steps_out A x.arc.to)) k o) after
-          (subst (λ l. Comes Entry (supergraph_rules A B S) limit (entries_held A f) l (turn + 1) o) (sym extensions) rest));
-    }
+turn_begins A B S limit f turn begin end x whole few x_is live out = record {
+  whole = whole;
+  few = λ e. few;
+  grown = λ i y is. is;
+  leads = live_leads A (supergraph_rules A B S) limit (entries_held A f) turn begin end x refl x_is (whole.tells.stays turn (at_within (entries_held A f) turn x x_is) live) out;
+}
 
 pub turn_passes : (A B : Automaton) (S : List (ℕ × ℕ)) (limit : ℕ) (f : View) (turn : ℕ) → IsWhole A B S f → length f.held ≤ limit → turn < length f.held →
     slice_index_or f.live turn false ≡ false → HasCome A B S limit f f fates.GoesOn [] [] turn (turn + 1)
 turn_passes A B S limit f turn whole few lt gone =
     let size = whole.size in
-    let dropped = whole.tells.drops turn (omega arith) gone in
-    let after : turn + 1 ≡ suc turn = omega arith in
-    record {
-      whole = whole;
-      few = λ e. few;
-      grown = λ i y is. is;
-      leads = λ o rest. turn_of_dropped dropped (subst (λ k. Comes Entry (supergraph_rules A B S) limit (entries_held A f) [] k o) after rest);
-    }
+    record { whole = whole; few = λ e. few; grown = λ i y is. is; leads = dropped_leads (supergraph_rules A B S) limit (entries_held A f) turn (whole.tells.drops turn (omega arith) gone) }
 
 -- The whole search.
 pub entries_none : (A : Automaton) (f : View) → f.held ≡ [] → entries_held A f ≡ []

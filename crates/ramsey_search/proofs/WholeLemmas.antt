@@ -9,7 +9,8 @@ use Rattle.auto_core.specs.declared.parts.Origin.TheVariants.{Start, Base, Next}
 use Rattle.auto_core.proofs.PathLemmas.{none_in_nil}
 use Rattle.supergraph.specs.Words.{NamesWhatIsThere, NameWhatIsThere, word_at}
 use Rattle.search_laws.proofs.PlaceLemmas.{at_within}
-use Rattle.search_laws.proofs.EntryLemmas.{origins_of_none, arc_here}
+use Rattle.search_laws.proofs.PlacingLemmas.{arc_here}
+use Rattle.search_laws.proofs.EntryLemmas.{origins_of_none}
 use Rattle.ramsey_search.specs.Views.{Seen, View}
 use Rattle.evidence.specs.Tables.{numbers_at}
 use Rattle.ramsey_search.specs.Kept.{AreBetween, IsFamily, IsWhole, entries_held}

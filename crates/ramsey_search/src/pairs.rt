@@ -41,6 +41,25 @@ fn fails(
         && !answers.passes(second, graphs, x.graph, y.graph)
 }
 
+/// Tells whether it is seen at once that both pairs of the two pass.
+fn both_pass_at_sight(
+    first: &Auto,
+    second: &Auto,
+    graphs: &[Graph],
+    x: &Held,
+    y: &Held,
+    answers: &GraphPairs,
+) -> bool
+    requires x { IsFormed second.now.states (block_at graphs.now x.now.graph) }
+    requires y { IsFormed second.now.states (block_at graphs.now y.now.graph) }
+    requires told { AreLassosTold second.now graphs.now answers.now }
+    ensures x { result ≡ true → Passes first.now second.now (held_super second.now.states (seen graphs.now x.now)) (held_super second.now.states (seen graphs.now y.now)) }
+    ensures y { result ≡ true → Passes first.now second.now (held_super second.now.states (seen graphs.now y.now)) (held_super second.now.states (seen graphs.now x.now)) }
+{
+    answers.pass_at_sight(second, graphs, x.graph, y.graph)
+        && answers.pass_at_sight(second, graphs, y.graph, x.graph)
+}
+
 /// The first pair that fails of the element `new` with these elements.
 fn first_among(
     first: &Auto,
@@ -62,11 +81,13 @@ fn first_among(
     let x = &held[new as usize];
     for number in among {
         let y = &held[*number as usize];
-        if fails(first, second, graphs, x, y, answers) {
-            return Fate::Apart(new, *number);
-        }
-        if fails(first, second, graphs, y, x, answers) {
-            return Fate::Apart(*number, new);
+        if !both_pass_at_sight(first, second, graphs, x, y, answers) {
+            if fails(first, second, graphs, x, y, answers) {
+                return Fate::Apart(new, *number);
+            }
+            if fails(first, second, graphs, y, x, answers) {
+                return Fate::Apart(*number, new);
+            }
         }
     }
     Fate::GoesOn

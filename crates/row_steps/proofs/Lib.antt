@@ -1,3 +1,4 @@
+pub mod LaneLemmas
 pub mod WordLemmas
 pub mod MeetLemmas
 pub mod MarkLemmas

@@ -4,6 +4,8 @@ pub mod OrderLemmas
 pub mod UniqueLemmas
 pub mod SearchLemmas
 pub mod LiveLemmas
+pub mod PlacingLemmas
+pub mod ArcLemmas
 pub mod EntryLemmas
 pub mod OutcomeLemmas
 pub mod PairLemmas

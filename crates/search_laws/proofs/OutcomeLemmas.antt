@@ -1,20 +1,23 @@
 -- The laws of the search over supergraphs.
-use Rattle.std.proofs.Common.{◌≡◌, ℕ, ◌<◌, Bool, List, [], length, sym, ap, ◌∙◌, subst, inl, inr, arith}
+use Rattle.std.proofs.Common.{◌≡◌, ℕ, ◌<◌, Bool, List, [], length, refl, sym, ap, ◌∙◌, subst, inl, inr, arith}
 use Rattle.std.proofs.lemmas.Bool.{cases_lt}
-use Rattle.auto_core.specs.Automaton.{Automaton, IsAutomaton, trans_at}
+use Rattle.auto_core.specs.Automaton.{Automaton, IsAutomaton}
 use Rattle.auto_core.specs.Game.{Holds, IsGreatestForward}
-use Rattle.auto_core.specs.Graph.{Covers, Subsumes, Passes, WordArc, IsReal, super_of, graph_of, arc_at, arcs_of, extended_arc}
-use Rattle.auto_core.specs.Closed.{ClosedSet, IsLive, IsSubsumed}
-use Rattle.auto_core.specs.Outcome.{Outcome, Closed, Apart, Limit, At, StaysLive, HasSubsumer, TellsLive, Entry, super_entry, super_at, base_entry, next_entry, supergraph_rules, SearchEnds, origins_in, arcs_in, NoneSubsumedBefore, SameSupergraph}
+use Rattle.auto_core.specs.Graph.{Covers, Subsumes, Passes, WordArc, IsReal, super_of, graph_of, arc_at, arcs_of, IsPlacedAt}
+use Rattle.auto_core.specs.Closed.{ClosedSet}
+use Rattle.auto_core.specs.Outcome.{Outcome, Closed, Apart, Limit, HasSubsumer, TellsLive, Entry, super_entry, super_at, base_entry, supergraph_rules, SearchEnds, origins_in, arcs_in, NoneSubsumedBefore, SameSupergraph}
 use Rattle.graph_laws.proofs.GraphLemmas.{subsumes_trans, covers_between, same_refl}
+use Rattle.graph_laws.proofs.OriginLemmas.{placing}
 use Rattle.graph_laws.proofs.ClosedLemmas.{closed_set_includes, failing_pairs_separate}
 use Rattle.search_laws.specs.Outcomes.{OneOutcome, HaveOrigins, OriginsFit, ClosedListIsClosedSet, ClosedListIncludes, LiveOnesStandApart, ApartSeparates, LimitLists, LiveOnesAreEnough, GreatestIsAnOrder}
-use Rattle.search_laws.proofs.PlaceLemmas.{at_within, at_some}
+use Rattle.search_laws.proofs.PlaceLemmas.{at_some}
 use Rattle.search_laws.proofs.UniqueLemmas.{one_outcome as one_of}
 use Rattle.search_laws.proofs.SearchLemmas.{IsMet, HasClosed, HasFailed, HasMet, Ends, at_the_end}
-use Rattle.search_laws.proofs.LiveLemmas.{live_one, live_ones_are_enough as enough_of}
+use Rattle.search_laws.proofs.LiveLemmas.{live_ones_are_enough as enough_of}
 use Rattle.search_laws.proofs.OrderLemmas.{greatest_reflexive, greatest_transitive}
-use Rattle.search_laws.proofs.EntryLemmas.{FitsBehind, origins_of_none, origins_more, origins_size, arcs_size, arc_here, fits_at_the_start, fits_later, fits_after_a_turn, base_starts, next_extends, entry_is_real, entry_subsumes_itself}
+use Rattle.search_laws.proofs.PlacingLemmas.{FitsBehind, origins_size, arcs_size, arc_here, fits_later, fits_after_a_turn}
+use Rattle.search_laws.proofs.EntryLemmas.{origins_of_none, origins_more, fits_at_the_start, base_starts, entry_is_real, entry_subsumes_itself}
+use Rattle.search_laws.proofs.ArcLemmas.{AreClosed, arcs_have, fresh_arcs, arcs_closed}
 
 pub one_outcome : OneOutcome
 one_outcome A B S limit o p h k =
@@ -23,8 +26,8 @@ one_outcome A B S limit o p h k =
 -- What each end has.
 ends : (A B : Automaton) (S : List (ℕ × ℕ)) (limit : ℕ) (o : Outcome Entry) → SearchEnds A B S limit o → Ends (supergraph_rules A B S) limit (HaveOrigins A) o
 ends A B S limit o h =
-    at_the_end Entry (supergraph_rules A B S) limit (HaveOrigins A) (FitsBehind A) (origins_of_none A) (origins_more A) (fits_at_the_start A B S) (fits_later A)
-    (λ es e x c have is has. fits_after_a_turn A B S es e x c is has) o h
+    at_the_end Entry (supergraph_rules A B S) limit (HaveOrigins A) (FitsBehind A (IsPlacedAt A)) (origins_of_none A) (origins_more A) (fits_at_the_start A B S) (fits_later A (IsPlacedAt A) (placing A))
+    (λ es e x c have is has. fits_after_a_turn A (IsPlacedAt A) (placing A) es e x c is has) o h
 
 pub closed_end : (A B : Automaton) (S : List (ℕ × ℕ)) (limit : ℕ) (es : List Entry) → SearchEnds A B S limit (Closed es) → HasClosed (supergraph_rules A B S) limit (HaveOrigins A) es
 closed_end A B S limit es h = ends A B S limit (Closed es) h
@@ -51,52 +54,35 @@ met_is_subsumed A B S valid greatest es have c met = elim met [
   | inr is ↦ (is.0, c, is.1, entry_subsumes_itself A B S valid greatest c (entry_is_real A es have is.0 c is.1))
 ]
 
+-- Subsuming, of the arcs.
+abbrev Above : Automaton → List (ℕ × ℕ) → WordArc → WordArc → Type 0
+Above B S a b = Subsumes (Holds S) (super_of B a) (super_of B b)
+
 module _ (A B : Automaton) (S : List (ℕ × ℕ)) (limit : ℕ) (es : List Entry) (live : ℕ → Bool) (valid : IsAutomaton B) (greatest : IsGreatestForward B 1 S)
     (h : SearchEnds A B S limit (Closed es)) (tells : TellsLive (supergraph_rules A B S) es live)
   where
     has : HasClosed (supergraph_rules A B S) limit (HaveOrigins A) es
     has = closed_end A B S limit es h
 
-    in_place : (i : ℕ) → i < length (arcs_in es) → (x : Entry) × At es i x
-    in_place i lt = let size = arcs_size es in at_some es i (omega arith)
-
-    subsumed : (c : Entry) → IsMet (supergraph_rules A B S) es c → IsSubsumed A B S (arcs_in es) live c.arc
-    subsumed c met =
-        let one = live_one Entry (supergraph_rules A B S) (entries_join A B S greatest) es live tells c (met_is_subsumed A B S valid greatest es has.grown.sound c met) in
-        let size = arcs_size es in
-        let within = at_within es one.0 one.2.element one.2.is in (
-          one.0,
-          (omega arith, one.1),
-          subst (λ a. Subsumes (Holds S) (super_of B a) (super_of B c.arc)) (sym (arc_here A es one.0 one.2.element one.2.is)) one.2.subsumes,
-        )
-
-    stays : (e : ℕ) → IsLive (arcs_in es) live e → StaysLive (supergraph_rules A B S) es e
-    stays e is = let size = arcs_size es in let lt = is.0 in tells.stays e (omega arith) is.1
-
-    real : (e : ℕ) → e < length (arcs_in es) → IsReal A (arc_at A (arcs_in es) e)
-    real e lt = let x = in_place e lt in subst (IsReal A) (sym (arc_here A es e x.0 x.1)) (entry_is_real A es has.grown.sound e x.0 x.1)
-
-    steps : (e t : ℕ) → IsLive (arcs_in es) live e → t < length A.transitions → (trans_at A t).source ≡ (arc_at A (arcs_in es) e).to →
-        IsSubsumed A B S (arcs_in es) live (extended_arc A (arc_at A (arcs_in es) e) (trans_at A t))
-    steps e t is lt leaves =
-        let x = in_place e is.0 in
-        let here = arc_here A es e x.0 x.1 in
-        let out : (trans_at A t).source ≡ x.0.arc.to = leaves ∙ ap (λ (y : WordArc). y.to) here in
-        subst (λ y. IsSubsumed A B S (arcs_in es) live (extended_arc A y (trans_at A t))) (sym here)
-        (subsumed (next_entry A e x.0 t) (has.steps e x.0 (next_entry A e x.0 t) x.1 (stays e is) (next_extends A B S e t x.0 lt out)))
+    arcs : AreClosed A (supergraph_rules A B S) (Above B S) es live
+    arcs = arcs_closed A (supergraph_rules A B S) (Above B S) (λ x y is. is) (entries_join A B S greatest) (λ e x. refl) limit (HaveOrigins A) es live has tells
+        (met_is_subsumed A B S valid greatest es has.grown.sound)
 
     pub closed_set : ClosedSet A B S (arcs_in es) live
     closed_set = record {
       stable = greatest.stable;
-      real = real;
-      starts = λ t lt. subsumed (base_entry A t) (has.starts (base_entry A t) (base_starts A B S t lt));
-      steps = steps;
+      real = arcs_have A (IsReal A) es (entry_is_real A es has.grown.sound);
+      starts = λ t lt. arcs.subsumed (base_entry A t) (has.starts (base_entry A t) (base_starts A B S t lt));
+      steps = arcs.steps;
       passes = λ e f e_live f_live.
-          let x = in_place e e_live.0 in
-          let y = in_place f f_live.0 in
+          let size = arcs_size es in
+          let e_in = e_live.0 in
+          let f_in = f_live.0 in
+          let x = at_some es e (omega arith) in
+          let y = at_some es f (omega arith) in
           subst (λ a. Passes A B (super_of B a) (super_of B (arc_at A (arcs_in es) f))) (sym (arc_here A es e x.0 x.1))
           (subst (λ b. Passes A B (super_of B x.0.arc) (super_of B b)) (sym (arc_here A es f y.0 y.1))
-          (has.passed e f x.0 y.0 x.1 y.1 (stays e e_live) (stays f f_live)));
+          (has.passed e f x.0 y.0 x.1 y.1 (arcs.stays e e_live) (arcs.stays f f_live)));
     }
 
 pub closed_list_is_closed_set : ClosedListIsClosedSet
@@ -132,9 +118,6 @@ same_subsumes B S x y covers same = record {
   covers = covers_between (Holds S) (graph_of B x.word) (graph_of B x.word) (graph_of B x.word) (graph_of B y.word) (same_refl (graph_of B x.word)) same.graph covers;
 }
 
-super_here : (A B : Automaton) (es : List Entry) → HaveOrigins A es → (i : ℕ) (x : Entry) → At es i x → arc_at A (arcs_of A (origins_in es)) i ≡ x.arc
-super_here A B es have i x is = ap (λ l. arc_at A l i) have.arcs ∙ arc_here A es i x is
-
 pub limit_lists : LimitLists
 limit_lists A B S limit es valid greatest h =
     let size = (limit_end A B S limit es h).size in
@@ -145,19 +128,13 @@ limit_lists A B S limit es valid greatest h =
     have = (limit_end A B S limit es h).grown.sound
 
     fresh : NoneSubsumedBefore A B S (origins_in es)
-    fresh i j lt within subsumes =
-        let count = origins_size es in
-        let x = at_some es i (omega arith) in
-        let y = at_some es j (omega arith) in
-        (limit_end A B S limit es h).grown.fresh i j x.0 y.0 lt x.1 y.1
-        (subst (λ a. Subsumes (Holds S) (super_of B a) (super_of B y.0.arc)) (super_here A B es have i x.0 x.1)
-        (subst (λ b. Subsumes (Holds S) (super_at A B (origins_in es) i) (super_of B b)) (super_here A B es have j y.0 y.1) subsumes))
+    fresh = fresh_arcs A (Above B S) es have.arcs (limit_end A B S limit es h).grown.fresh
 
     differ : (i j : ℕ) → i < j → j < length (origins_in es) → SameSupergraph (super_at A B (origins_in es) i) (super_at A B (origins_in es) j) → ⊥
     differ i j lt within same =
         let count = origins_size es in
         let x = at_some es i (omega arith) in
-        let is = super_here A B es have i x.0 x.1 in
+        let is = ap (λ l. arc_at A l i) have.arcs ∙ arc_here A es i x.0 x.1 in
         let real : IsReal A x.0.arc = entry_is_real A es have i x.0 x.1 in
         let covers : Covers (Holds S) (graph_of B x.0.arc.word) (graph_of B x.0.arc.word) = (entry_subsumes_itself A B S valid greatest x.0 real).covers in
         fresh i j lt within

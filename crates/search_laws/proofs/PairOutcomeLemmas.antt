@@ -1,24 +1,24 @@
 -- The laws of the search on finite words.
-use Rattle.std.proofs.Common.{◌≡◌, ℕ, ◌<◌, Bool, List, [], length, refl, sym, ap, ◌∙◌, subst, inl, inr, arith}
+use Rattle.std.proofs.Common.{◌≡◌, ℕ, ◌<◌, Bool, List, [], length, refl, sym, subst, inl, inr, arith}
 use Rattle.std.proofs.lemmas.Bool.{cases_lt}
-use Rattle.auto_core.specs.Automaton.{Automaton, IsAutomaton, trans_at}
+use Rattle.auto_core.specs.Automaton.{Automaton, IsAutomaton}
 use Rattle.auto_core.specs.Game.{Holds, IsGreatestForward}
-use Rattle.auto_core.specs.Graph.{WordArc, arc_at, arcs_of, extended_arc}
-use Rattle.auto_core.specs.Closed.{IsLive}
-use Rattle.auto_core.specs.Outcome.{Outcome, Closed, Apart, Limit, At, StaysLive, HasSubsumer, TellsLive, Entry, next_entry, origins_in, arcs_in}
-use Rattle.auto_core.specs.Pairs.{PairSubsumes, PairPasses, pair_of, IsReached}
-use Rattle.auto_core.specs.ClosedPairs.{ClosedPairs, IsPairSubsumed}
+use Rattle.auto_core.specs.Graph.{WordArc, arc_at, arcs_of}
+use Rattle.auto_core.specs.Outcome.{Outcome, Closed, Apart, Limit, HasSubsumer, TellsLive, Entry, origins_in, arcs_in}
+use Rattle.auto_core.specs.Pairs.{PairSubsumes, PairPasses, pair_of, IsReached, IsPairPlacedAt}
+use Rattle.auto_core.specs.ClosedPairs.{ClosedPairs}
 use Rattle.auto_core.specs.PairOutcome.{pair_entry, start_entry, pair_rules, PairSearchEnds, SamePair, pair_at, NoPairSubsumedBefore}
 use Rattle.search_laws.specs.PairOutcomes.{OnePairOutcome, HavePairOrigins, PairOriginsFit, ClosedListIsClosedPairs, ClosedListIncludesWords, LivePairsStandApart, ApartSeparatesWord, LimitListsPairs, LivePairsAreEnough}
-use Rattle.search_laws.proofs.PlaceLemmas.{at_within, at_some}
+use Rattle.search_laws.proofs.PlaceLemmas.{at_some}
 use Rattle.search_laws.proofs.UniqueLemmas.{one_outcome as one_of}
 use Rattle.search_laws.proofs.SearchLemmas.{IsMet, HasClosed, HasFailed, HasMet, Ends, at_the_end}
-use Rattle.search_laws.proofs.LiveLemmas.{live_one, live_ones_are_enough as enough_of}
+use Rattle.search_laws.proofs.LiveLemmas.{live_ones_are_enough as enough_of}
 use Rattle.search_laws.proofs.OrderLemmas.{greatest_transitive}
-use Rattle.search_laws.proofs.EntryLemmas.{origins_size, arcs_size, arc_here}
+use Rattle.search_laws.proofs.PlacingLemmas.{FitsBehind, origins_size, arcs_size, arc_here, fits_later, fits_after_a_turn}
 use Rattle.search_laws.proofs.PairLemmas.{pair_trans, pair_subsumes_itself, failing_pair_separates}
 use Rattle.search_laws.proofs.ClosedPairLemmas.{closed_pairs_include}
-use Rattle.search_laws.proofs.PairEntryLemmas.{FitsBehind, origins_of_none, origins_more, fits_at_the_start, fits_later, fits_after_a_turn, start_starts, next_extends, entry_is_reached}
+use Rattle.search_laws.proofs.PairEntryLemmas.{pair_placing, origins_of_none, origins_more, fits_at_the_start, start_starts, entry_is_reached}
+use Rattle.search_laws.proofs.ArcLemmas.{AreClosed, arcs_have, fresh_arcs, arcs_closed}
 
 pub one_pair_outcome : OnePairOutcome
 one_pair_outcome A B S limit o p h k =
@@ -27,8 +27,8 @@ one_pair_outcome A B S limit o p h k =
 -- What each end has.
 ends : (A B : Automaton) (S : List (ℕ × ℕ)) (limit : ℕ) (o : Outcome Entry) → PairSearchEnds A B S limit o → Ends (pair_rules A B S) limit (HavePairOrigins A) o
 ends A B S limit o h =
-    at_the_end Entry (pair_rules A B S) limit (HavePairOrigins A) (FitsBehind A) (origins_of_none A) (origins_more A) (fits_at_the_start A B S) (fits_later A)
-    (λ es e x c have is has. fits_after_a_turn A B S es e x c is has) o h
+    at_the_end Entry (pair_rules A B S) limit (HavePairOrigins A) (FitsBehind A (IsPairPlacedAt A)) (origins_of_none A) (origins_more A) (fits_at_the_start A B S) (fits_later A (IsPairPlacedAt A) (pair_placing A))
+    (λ es e x c have is has. fits_after_a_turn A (IsPairPlacedAt A) (pair_placing A) es e x c is has) o h
 
 pub closed_end : (A B : Automaton) (S : List (ℕ × ℕ)) (limit : ℕ) (es : List Entry) → PairSearchEnds A B S limit (Closed es) → HasClosed (pair_rules A B S) limit (HavePairOrigins A) es
 closed_end A B S limit es h = ends A B S limit (Closed es) h
@@ -55,50 +55,32 @@ pair_met_is_subsumed A B S valid greatest es c met = elim met [
   | inr is ↦ (is.0, c, is.1, pair_subsumes_itself B S valid greatest c.arc)
 ]
 
+-- Subsuming, of the arcs.
+abbrev Above : Automaton → List (ℕ × ℕ) → WordArc → WordArc → Type 0
+Above B S a b = PairSubsumes (Holds S) (pair_of B a) (pair_of B b)
+
 module _ (A B : Automaton) (S : List (ℕ × ℕ)) (limit : ℕ) (es : List Entry) (live : ℕ → Bool) (valid : IsAutomaton B) (greatest : IsGreatestForward B 1 S)
     (h : PairSearchEnds A B S limit (Closed es)) (tells : TellsLive (pair_rules A B S) es live)
   where
     has : HasClosed (pair_rules A B S) limit (HavePairOrigins A) es
     has = closed_end A B S limit es h
 
-    in_place : (i : ℕ) → i < length (arcs_in es) → (x : Entry) × At es i x
-    in_place i lt = let size = arcs_size es in at_some es i (omega arith)
-
-    subsumed : (c : Entry) → IsMet (pair_rules A B S) es c → IsPairSubsumed A B S (arcs_in es) live c.arc
-    subsumed c met =
-        let one = live_one Entry (pair_rules A B S) (pair_entries_join A B S greatest) es live tells c (pair_met_is_subsumed A B S valid greatest es c met) in
-        let size = arcs_size es in
-        let within = at_within es one.0 one.2.element one.2.is in (
-          one.0,
-          (omega arith, one.1),
-          subst (λ a. PairSubsumes (Holds S) (pair_of B a) (pair_of B c.arc)) (sym (arc_here A es one.0 one.2.element one.2.is)) one.2.subsumes,
-        )
-
-    stays : (e : ℕ) → IsLive (arcs_in es) live e → StaysLive (pair_rules A B S) es e
-    stays e is = let size = arcs_size es in let lt = is.0 in tells.stays e (omega arith) is.1
-
-    reached : (e : ℕ) → e < length (arcs_in es) → IsReached A (arc_at A (arcs_in es) e)
-    reached e lt = let x = in_place e lt in subst (IsReached A) (sym (arc_here A es e x.0 x.1)) (entry_is_reached A es has.grown.sound e x.0 x.1)
-
-    steps : (e t : ℕ) → IsLive (arcs_in es) live e → t < length A.transitions → (trans_at A t).source ≡ (arc_at A (arcs_in es) e).to →
-        IsPairSubsumed A B S (arcs_in es) live (extended_arc A (arc_at A (arcs_in es) e) (trans_at A t))
-    steps e t is lt leaves =
-        let x = in_place e is.0 in
-        let here = arc_here A es e x.0 x.1 in
-        let out : (trans_at A t).source ≡ x.0.arc.to = leaves ∙ ap (λ (y : WordArc). y.to) here in
-        subst (λ y. IsPairSubsumed A B S (arcs_in es) live (extended_arc A y (trans_at A t))) (sym here)
-        (subsumed (next_entry A e x.0 t) (has.steps e x.0 (next_entry A e x.0 t) x.1 (stays e is) (next_extends A B S e t x.0 lt out)))
+    arcs : AreClosed A (pair_rules A B S) (Above B S) es live
+    arcs = arcs_closed A (pair_rules A B S) (Above B S) (λ x y is. is) (pair_entries_join A B S greatest) (λ e x. refl) limit (HavePairOrigins A) es live has tells
+        (pair_met_is_subsumed A B S valid greatest es)
 
     pub closed_pairs : ClosedPairs A B S (arcs_in es) live
     closed_pairs = record {
       stable = greatest.stable;
-      reached = reached;
-      start = subsumed (start_entry A) (has.starts (start_entry A) (start_starts A B S));
-      steps = steps;
+      reached = arcs_have A (IsReached A) es (entry_is_reached A es has.grown.sound);
+      start = arcs.subsumed (start_entry A) (has.starts (start_entry A) (start_starts A B S));
+      steps = arcs.steps;
       passes = λ e e_live.
-          let x = in_place e e_live.0 in
+          let size = arcs_size es in
+          let e_in = e_live.0 in
+          let x = at_some es e (omega arith) in
           subst (λ a. PairPasses A B (pair_of B a)) (sym (arc_here A es e x.0 x.1))
-          (has.passed e e x.0 x.0 x.1 x.1 (stays e e_live) (stays e e_live) refl);
+          (has.passed e e x.0 x.0 x.1 x.1 (arcs.stays e e_live) (arcs.stays e e_live) refl);
     }
 
 pub closed_list_is_closed_pairs : ClosedListIsClosedPairs
@@ -129,9 +111,6 @@ same_subsumes B S x y own same = record {
   members = λ q is. let r = own.members q is in (r.0, (same.members r.0).0 r.1, r.2);
 }
 
-pair_here : (A B : Automaton) (es : List Entry) → HavePairOrigins A es → (i : ℕ) (x : Entry) → At es i x → arc_at A (arcs_of A (origins_in es)) i ≡ x.arc
-pair_here A B es have i x is = ap (λ l. arc_at A l i) have.arcs ∙ arc_here A es i x is
-
 pub limit_lists_pairs : LimitListsPairs
 limit_lists_pairs A B S limit es valid greatest h =
     let size = (limit_end A B S limit es h).size in
@@ -142,13 +121,7 @@ limit_lists_pairs A B S limit es valid greatest h =
     have = (limit_end A B S limit es h).grown.sound
 
     fresh : NoPairSubsumedBefore A B S (origins_in es)
-    fresh i j lt within subsumes =
-        let count = origins_size es in
-        let x = at_some es i (omega arith) in
-        let y = at_some es j (omega arith) in
-        (limit_end A B S limit es h).grown.fresh i j x.0 y.0 lt x.1 y.1
-        (subst (λ a. PairSubsumes (Holds S) (pair_of B a) (pair_of B y.0.arc)) (pair_here A B es have i x.0 x.1)
-        (subst (λ b. PairSubsumes (Holds S) (pair_at A B (origins_in es) i) (pair_of B b)) (pair_here A B es have j y.0 y.1) subsumes))
+    fresh = fresh_arcs A (Above B S) es have.arcs (limit_end A B S limit es h).grown.fresh
 
     differ : (i j : ℕ) → i < j → j < length (origins_in es) → SamePair (pair_at A B (origins_in es) i) (pair_at A B (origins_in es) j) → ⊥
     differ i j lt within same =

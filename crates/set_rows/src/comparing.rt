@@ -1,4 +1,4 @@
-//! When one set is inside another, and the states that a relation puts below a set.
+//! When a relation puts one set below another, and the states that it puts below a set.
 
 ghost use Rattle.std.specs.Prelude.{◌≡◌, ◌+◌, ◌/◌, ◌<◌, ◌↔◌, ℕ, List, length, IsTrue};
 ghost use Rattle.auto_core.specs.Automaton.{IsAccepting};
@@ -9,19 +9,6 @@ ghost use Rattle.set_rows.specs.Sets.{IsRow, IsSubset, IsBelow, IsCovered};
 use auto_core::{Auto, rows};
 use bit_rel::Rel;
 use row_steps::meets;
-
-/// Tells whether each member of the first set is one of the second. The rows have the same length.
-pub fn subset(row: &[u64], other: &[u64]) -> bool
-    requires { length row.now ≡ length other.now }
-    ensures { IsTrue result ↔ IsSubset row.now other.now }
-{
-    for i in 0..row.len() {
-        if row[i] & !other[i] != 0 {
-            return false;
-        }
-    }
-    true
-}
 
 /// Writes the states that the order relates to some member of the row's set. Another set is a subset of what is written just
 /// where the order relates each of its members to a member of the row's set (`covering`).

@@ -5,7 +5,7 @@ use Rattle.auto_core.specs.Graph as words
 use Rattle.auto_core.specs.Outcome.{At}
 use Rattle.graph_rows.specs.declared.prints.Print.{Print}
 use Rattle.graph_rows.specs.Block.{block_graph}
-use Rattle.graph_rows.specs.Prints.{IsPrint, Misses, is_past, joined_pairs, picked_source, picked_target}
+use Rattle.graph_rows.specs.Prints.{IsPrint, Misses, joined_pairs}
 use Rattle.search_laws.proofs.PlaceLemmas.{at_cases}
 use Rattle.shared_graphs.specs.declared.graphs.Graph.{Graph}
 use Rattle.shared_graphs.specs.Graphs.{block_at}
@@ -46,8 +46,8 @@ pub misses_apart :
     → ⊥
 misses_apart n S g h first second first_is second_is misses =
     let j = misses.at in
-    missed (Holds S) (block_graph n g) (block_graph n h) (is_past j) (picked_source n j) (picked_target n j)
-    (first_is.own j misses.own) (λ u. second_is.answered j u misses.within misses.unanswered)
+    let (past, p, q, asked, has) = first_is.own j misses.own in
+    missed (Holds S) (block_graph n g) (block_graph n h) past p q has (λ u. second_is.answered j past p q misses.within misses.unanswered asked u)
 
 pub apart :
     (n : ℕ) (S : List (ℕ × ℕ)) (graphs : List Graph) (prints : List Print) (g h : ℕ)

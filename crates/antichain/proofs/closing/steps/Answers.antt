@@ -29,7 +29,6 @@ loop-element-preserved c =
     let A : Automaton = c.args.first.now in
     let B : Automaton = c.args.second.now in
     let S : List (ℕ × ℕ) = c.args.order.now.pairs in
-    let n : ℕ = c.args.order.now.size in
     let f : Family = c.args.family.now in
     let es : List Entry = entries_held A f in
     let e : ℕ = c.loop-element.element in

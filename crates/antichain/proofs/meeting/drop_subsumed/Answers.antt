@@ -11,29 +11,17 @@ use Rattle.antichain.proofs.MeetingLemmas.{AreDroppedSoFar, dropped_all, dropped
 use Rattle.antichain.proofs.meeting.drop_subsumed.Goals as goal
 use Rattle.antichain.proofs.meeting.drop_subsumed.Goals.{then-subsumes, else-subsumes}
 
-pub subsumes-requires-clause-len : goal.subsumes-requires-clause-len
-subsumes-requires-clause-len c =
+pub subsumes-requires : goal.subsumes-requires
+subsumes-requires c =
     let j : ℕ = slice_index_or c.args.among.now c.loop-number.number-index 0 in
     let is : At c.args.among.now c.loop-number.number-index j = read_at c.args.among.now c.loop-number.number-index 0 j c.loop-number-test.true refl in
     let h : Held = c.index-held-number.result in
     let there : At c.args.held.now j h = read_at c.args.held.now j h h (c.requires.there c.loop-number.number-index j is) c.index-held-number.is in
-    c.requires.new.row.len ∙ sym (c.requires.held j h there).below.len
-
-pub subsumes-requires-clause-head : goal.subsumes-requires-clause-head
-subsumes-requires-clause-head c =
-    let j : ℕ = slice_index_or c.args.among.now c.loop-number.number-index 0 in
-    let is : At c.args.among.now c.loop-number.number-index j = read_at c.args.among.now c.loop-number.number-index 0 j c.loop-number-test.true refl in
-    let h : Held = c.index-held-number.result in
-    let there : At c.args.held.now j h = read_at c.args.held.now j h h (c.requires.there c.loop-number.number-index j is) c.index-held-number.is in
-    c.requires.new.head
-
-pub subsumes-requires-clause-below_head : goal.subsumes-requires-clause-below_head
-subsumes-requires-clause-below_head c =
-    let j : ℕ = slice_index_or c.args.among.now c.loop-number.number-index 0 in
-    let is : At c.args.among.now c.loop-number.number-index j = read_at c.args.among.now c.loop-number.number-index 0 j c.loop-number-test.true refl in
-    let h : Held = c.index-held-number.result in
-    let there : At c.args.held.now j h = read_at c.args.held.now j h h (c.requires.there c.loop-number.number-index j is) c.index-held-number.is in
-    (c.requires.held j h there).below_head
+    record {
+      len = c.requires.new.row.len ∙ sym (c.requires.held j h there).below.len;
+      head = c.requires.new.head;
+      below_head = (c.requires.held j h there).below_head;
+    }
 
 pub index_mut-requires : goal.index_mut-requires
 index_mut-requires c =

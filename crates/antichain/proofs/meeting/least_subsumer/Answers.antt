@@ -9,29 +9,17 @@ use Rattle.antichain.specs.Kept.{held_pair}
 use Rattle.antichain.proofs.KeptLemmas.{subset_subsumes}
 use Rattle.antichain.proofs.meeting.least_subsumer.Goals as goal
 
-pub subsumes-requires-clause-len : goal.subsumes-requires-clause-len
-subsumes-requires-clause-len c =
+pub subsumes-requires : goal.subsumes-requires
+subsumes-requires c =
     let j : ℕ = slice_index_or c.args.among.now c.loop-number.number-index 0 in
     let is : At c.args.among.now c.loop-number.number-index j = read_at c.args.among.now c.loop-number.number-index 0 j c.loop-number-test.true refl in
     let h : Held = c.index-held-number.result in
     let there : At c.args.held.now j h = read_at c.args.held.now j h h (c.requires.there c.loop-number.number-index j is) c.index-held-number.is in
-    (c.requires.held j h there).row.len ∙ sym c.requires.new.below.len
-
-pub subsumes-requires-clause-head : goal.subsumes-requires-clause-head
-subsumes-requires-clause-head c =
-    let j : ℕ = slice_index_or c.args.among.now c.loop-number.number-index 0 in
-    let is : At c.args.among.now c.loop-number.number-index j = read_at c.args.among.now c.loop-number.number-index 0 j c.loop-number-test.true refl in
-    let h : Held = c.index-held-number.result in
-    let there : At c.args.held.now j h = read_at c.args.held.now j h h (c.requires.there c.loop-number.number-index j is) c.index-held-number.is in
-    (c.requires.held j h there).head
-
-pub subsumes-requires-clause-below_head : goal.subsumes-requires-clause-below_head
-subsumes-requires-clause-below_head c =
-    let j : ℕ = slice_index_or c.args.among.now c.loop-number.number-index 0 in
-    let is : At c.args.among.now c.loop-number.number-index j = read_at c.args.among.now c.loop-number.number-index 0 j c.loop-number-test.true refl in
-    let h : Held = c.index-held-number.result in
-    let there : At c.args.held.now j h = read_at c.args.held.now j h h (c.requires.there c.loop-number.number-index j is) c.index-held-number.is in
-    c.requires.new.below_head
+    record {
+      len = (c.requires.held j h there).row.len ∙ sym c.requires.new.below.len;
+      head = (c.requires.held j h there).head;
+      below_head = c.requires.new.below_head;
+    }
 
 pub returns-then-subsumes : goal.returns-then-subsumes
 returns-then-subsumes c =

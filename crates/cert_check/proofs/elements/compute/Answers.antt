@@ -4,7 +4,6 @@ use Rattle.auto_core.specs.Automaton.{trans_at}
 use Rattle.auto_core.specs.declared.parts.Mode.{Mode}
 use Rattle.auto_core.specs.declared.parts.Mode.TheVariants.{Buchi, Finite}
 use Rattle.auto_core.specs.declared.parts.Origin.{Origin}
-use Rattle.shared_graphs.specs.declared.graphs.Graph.{Graph}
 use Rattle.shared_graphs.specs.declared.graphs.Graphs.{Graphs}
 use Rattle.shared_graphs.specs.Graphs.{block_at}
 use Rattle.cert_value.specs.WellFormed.{is_origin}
@@ -14,6 +13,15 @@ use Rattle.cert_check.specs.declared.blocks.Numbered.{Numbered}
 use Rattle.cert_check.proofs.PlaceLemmas.{is_finite, is_buchi}
 use Rattle.cert_check.proofs.SuperLemmas.{if_ok_as}
 use Rattle.cert_check.proofs.elements.compute.Goals as goal
+use Rattle.cert_check.proofs.elements.compute.Goals.{After-element-parent}
+
+-- What the block of the parent stands for.
+parent_stands : (c : goal.After-element-parent) → StandFor c.args.mode c.args.first.now c.args.second.now c.element-parent.result.arc (block_at c.args.supers.now.graphs.graphs.items c.element-parent.result.number) (arc_at c.args.first.now (element_arcs c.args.first.now c.args.elements.now) c.in-Next.p)
+parent_stands c =
+    let p : ℕ = c.in-Next.p in
+    let earlier : p < c.args.e = subst (λ (o : Origin). HasEarlierParent c.args.e o) c.in-Next.is c.requires.earlier in
+    subst (λ (n : Numbered). StandFor c.args.mode c.args.first.now c.args.second.now n.arc (block_at c.args.supers.now.graphs.graphs.items n.number) (arc_at c.args.first.now (element_arcs c.args.first.now c.args.elements.now) p)) (sym c.element-parent.ensures)
+    (c.requires.supers.each p earlier)
 
 pub returns-in-Start-clause-numbered : goal.returns-in-Start-clause-numbered
 returns-in-Start-clause-numbered c =
@@ -38,32 +46,12 @@ returns-in-Base-clause-numbered c =
 
 pub extend-requires-clause-leaves : goal.extend-requires-clause-leaves
 extend-requires-clause-leaves c =
-    let A = c.args.first.now in
-    let B = c.args.second.now in
-    let m : Mode = c.args.mode in
-    let W : List WordArc = element_arcs A c.args.elements.now in
-    let p : ℕ = c.in-Next.p in
-    let t : ℕ = c.in-Next.t in
-    let G : List Graph = c.args.supers.now.graphs.graphs.items in
-    let earlier : p < c.args.e = subst (λ (o : Origin). HasEarlierParent c.args.e o) c.in-Next.is c.requires.earlier in
-    let parent : StandFor m A B c.element-parent.result.arc (block_at G c.element-parent.result.number) (arc_at A W p) =
-    subst (λ (n : Numbered). StandFor m A B n.arc (block_at G n.number) (arc_at A W p)) (sym c.element-parent.ensures) (c.requires.supers.each p earlier) in
-    let goes : (trans_at A t).source ≡ (arc_at A W p).to = subst (GoesOn A W) c.in-Next.is c.requires.leaves in
+    let parent = parent_stands (goal.at.extend-requires-clause-leaves c).After-element-parent in
+    let goes : (trans_at c.args.first.now c.in-Next.t).source ≡ (arc_at c.args.first.now (element_arcs c.args.first.now c.args.elements.now) c.in-Next.p).to = subst (GoesOn c.args.first.now (element_arcs c.args.first.now c.args.elements.now)) c.in-Next.is c.requires.leaves in
     goes ∙ sym (ap (λ (z : WordArc). z.to) parent.arc)
 
 pub extend-requires-clause-formed : goal.extend-requires-clause-formed
-extend-requires-clause-formed c =
-    let A = c.args.first.now in
-    let B = c.args.second.now in
-    let m : Mode = c.args.mode in
-    let W : List WordArc = element_arcs A c.args.elements.now in
-    let p : ℕ = c.in-Next.p in
-    let t : ℕ = c.in-Next.t in
-    let G : List Graph = c.args.supers.now.graphs.graphs.items in
-    let earlier : p < c.args.e = subst (λ (o : Origin). HasEarlierParent c.args.e o) c.in-Next.is c.requires.earlier in
-    let parent : StandFor m A B c.element-parent.result.arc (block_at G c.element-parent.result.number) (arc_at A W p) =
-    subst (λ (n : Numbered). StandFor m A B n.arc (block_at G n.number) (arc_at A W p)) (sym c.element-parent.ensures) (c.requires.supers.each p earlier) in
-    parent.formed
+extend-requires-clause-formed c = (parent_stands (goal.at.extend-requires-clause-formed c).After-element-parent).formed
 
 pub returns-in-Next-clause-numbered : goal.returns-in-Next-clause-numbered
 returns-in-Next-clause-numbered c =
@@ -73,14 +61,11 @@ returns-in-Next-clause-numbered c =
     let W : List WordArc = element_arcs A c.args.elements.now in
     let p : ℕ = c.in-Next.p in
     let t : ℕ = c.in-Next.t in
-    let G : List Graph = c.args.supers.now.graphs.graphs.items in
-    let earlier : p < c.args.e = subst (λ (o : Origin). HasEarlierParent c.args.e o) c.in-Next.is c.requires.earlier in
-    let parent : StandFor m A B c.element-parent.result.arc (block_at G c.element-parent.result.number) (arc_at A W p) =
-    subst (λ (n : Numbered). StandFor m A B n.arc (block_at G n.number) (arc_at A W p)) (sym c.element-parent.ensures) (c.requires.supers.each p earlier) in
+    let parent = parent_stands (goal.at.returns-in-Next-clause-numbered c).After-element-parent in
     let old : Graphs = c.args.supers.now.graphs in
     let new : Graphs = c.extend.new.graphs in
     subst (λ (o : Origin). IfOk c.extend.result (IsGraphNumbered m A B old new (arc_of A W o))) (sym c.in-Next.is)
     (if_ok_as c.extend.result
-    (λ it. (x : WordArc) → StandFor m A B c.element-parent.result.arc (block_at G c.element-parent.result.number) x → IsGraphNumbered m A B old new (extended_arc A x (trans_at A t)) it)
+    (λ it. (x : WordArc) → StandFor m A B c.element-parent.result.arc (block_at old.graphs.items c.element-parent.result.number) x → IsGraphNumbered m A B old new (extended_arc A x (trans_at A t)) it)
     (IsGraphNumbered m A B old new (extended_arc A (arc_at A W p) (trans_at A t)))
     (λ it is. is (arc_at A W p) parent) c.extend.ensures)

@@ -23,8 +23,8 @@ returns-then-not-is_turn-clause-turns c =
     let is : c.is_turn.result ≡ false = search rules in
     turns_kept ev su e n old c.requires.turns (λ turn. absurd (false≢true (sym is ∙ c.is_turn.ensures.1 turn)))
 
-pub returns-then-not-branch-clause-turns : goal.returns-then-not-branch-clause-turns
-returns-then-not-branch-clause-turns c =
+pub returns-then-not-branch : goal.returns-then-not-branch
+returns-then-not-branch c =
     let ev : YesBody = c.args.evidence.now in
     let su : Supers = c.args.supers.now in
     let e : ℕ = c.args.e in
@@ -34,21 +34,11 @@ returns-then-not-branch-clause-turns c =
     c.pair_key-key.ensures ∙ ap (λ (m : Numbered). m.arc.from ∷ m.number ∷ []) c.element-it.ensures in
     let there : has_key c.args.seen.now c.pair_key-key.result ≡ true = search rules in
     let listed : Contains (numbers_at old (held_arc su e).from) (held_number su e) = c.requires.seen c.pair_key-key.result (held_arc su e).from (held_number su e) there key_is in
-    turns_kept ev su e n old c.requires.turns (λ turn. listed)
-
-pub returns-then-not-branch-clause-seen : goal.returns-then-not-branch-clause-seen
-returns-then-not-branch-clause-seen c =
-    let ev : YesBody = c.args.evidence.now in
-    let su : Supers = c.args.supers.now in
-    let e : ℕ = c.args.e in
-    let n : ℕ = c.args.first.now.states in
-    let old : List (Vec ℕ Global) = c.args.turns.now.items in
-    let key_is : c.pair_key-key.result ≡ (held_arc su e).from ∷ held_number su e ∷ [] =
-    c.pair_key-key.ensures ∙ ap (λ (m : Numbered). m.arc.from ∷ m.number ∷ []) c.element-it.ensures in
-    let there : has_key c.args.seen.now c.pair_key-key.result ≡ true = search rules in
-    let listed : Contains (numbers_at old (held_arc su e).from) (held_number su e) = c.requires.seen c.pair_key-key.result (held_arc su e).from (held_number su e) there key_is in
-    keys_more (λ p h. Contains (numbers_at old p) h) c.args.seen.now c.is_new.new.seen c.pair_key-key.result (held_arc su e).from (held_number su e) key_is
-    c.in_ok-is_new.ensures.added listed c.requires.seen
+    record {
+      turns = turns_kept ev su e n old c.requires.turns (λ turn. listed);
+      seen = keys_more (λ p h. Contains (numbers_at old p) h) c.args.seen.now c.is_new.new.seen c.pair_key-key.result (held_arc su e).from (held_number su e) key_is
+          c.in_ok-is_new.ensures.added listed c.requires.seen;
+    }
 
 pub add_at-requires : goal.add_at-requires
 add_at-requires c =
@@ -56,7 +46,6 @@ add_at-requires c =
     let su : Supers = c.args.supers.now in
     let e : ℕ = c.args.e in
     let n : ℕ = c.args.first.now.states in
-    let old : List (Vec ℕ Global) = c.args.turns.now.items in
     let turn : IsTurn ev su e = c.is_turn.ensures.0 (search rules) in
     let ends : (held_arc su e).to < n =
     held_ends Buchi c.args.first.now c.args.second.now (held_arc su e) (held_block su e) (arc_at c.args.first.now (element_arcs c.args.first.now ev.elements) e)
@@ -64,22 +53,8 @@ add_at-requires c =
     let from : c.element-it.result.arc.from ≡ (held_arc su e).from = ap (λ (m : Numbered). m.arc.from) c.element-it.ensures in
     omega (arith, ends, from, turn.returns, c.requires.turns.count)
 
-pub returns-clause-turns : goal.returns-clause-turns
-returns-clause-turns c =
-    let ev : YesBody = c.args.evidence.now in
-    let su : Supers = c.args.supers.now in
-    let e : ℕ = c.args.e in
-    let n : ℕ = c.args.first.now.states in
-    let old : List (Vec ℕ Global) = c.args.turns.now.items in
-    let new : List (Vec ℕ Global) = c.add_at.new.lists.items in
-    let turn : IsTurn ev su e = c.is_turn.ensures.0 (search rules) in
-    let here : HasAddedAt old new c.element-it.result.arc.from c.element-it.result.number → HasAddedAt old new (held_arc su e).from (held_number su e) =
-    λ h. subst (λ (m : Numbered). HasAddedAt old new m.arc.from m.number) c.element-it.ensures h in
-    if_ok_as c.add_at.result (λ _. HasAddedAt old new c.element-it.result.arc.from c.element-it.result.number) (λ _. AreTurns ev su (e + 1) n new)
-    (λ _ added. turns_added ev su e n old new c.requires.turns turn (here added)) c.add_at.ensures
-
-pub returns-clause-seen : goal.returns-clause-seen
-returns-clause-seen c =
+pub returns : goal.returns
+returns c =
     let ev : YesBody = c.args.evidence.now in
     let su : Supers = c.args.supers.now in
     let e : ℕ = c.args.e in
@@ -91,7 +66,11 @@ returns-clause-seen c =
     let turn : IsTurn ev su e = c.is_turn.ensures.0 (search rules) in
     let here : HasAddedAt old new c.element-it.result.arc.from c.element-it.result.number → HasAddedAt old new (held_arc su e).from (held_number su e) =
     λ h. subst (λ (m : Numbered). HasAddedAt old new m.arc.from m.number) c.element-it.ensures h in
-    if_ok_as c.add_at.result (λ _. HasAddedAt old new c.element-it.result.arc.from c.element-it.result.number) (λ _. AreListedAtStates c.is_new.new.seen new)
-    (λ _ added. keys_more (λ p h. Contains (numbers_at new p) h) c.args.seen.now c.is_new.new.seen c.pair_key-key.result (held_arc su e).from (held_number su e) key_is
-    c.in_ok-is_new.ensures.added (listed_now old new (held_arc su e).from (held_number su e) (here added))
-    (λ k q h has is. listed_stay old new (held_arc su e).from (held_number su e) (here added) q h (c.requires.seen k q h has is))) c.add_at.ensures
+    record {
+      turns = if_ok_as c.add_at.result (λ _. HasAddedAt old new c.element-it.result.arc.from c.element-it.result.number) (λ _. AreTurns ev su (e + 1) n new)
+          (λ _ added. turns_added ev su e n old new c.requires.turns turn (here added)) c.add_at.ensures;
+      seen = if_ok_as c.add_at.result (λ _. HasAddedAt old new c.element-it.result.arc.from c.element-it.result.number) (λ _. AreListedAtStates c.is_new.new.seen new)
+          (λ _ added. keys_more (λ p h. Contains (numbers_at new p) h) c.args.seen.now c.is_new.new.seen c.pair_key-key.result (held_arc su e).from (held_number su e) key_is
+          c.in_ok-is_new.ensures.added (listed_now old new (held_arc su e).from (held_number su e) (here added))
+          (λ k q h has is. listed_stay old new (held_arc su e).from (held_number su e) (here added) q h (c.requires.seen k q h has is))) c.add_at.ensures;
+    }

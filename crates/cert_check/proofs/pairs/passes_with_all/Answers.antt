@@ -16,6 +16,41 @@ use Rattle.cert_check.specs.declared.elements.Supers.{Supers}
 use Rattle.cert_check.proofs.SuperLemmas.{held_ends}
 use Rattle.cert_check.proofs.PairLemmas.{keys_more, passes_told, turn_formed, turn_within, lassos_named}
 use Rattle.cert_check.proofs.pairs.passes_with_all.Goals as goal
+use Rattle.cert_check.proofs.pairs.passes_with_all.Goals.{After-deref-2, In_ok-holds}
+
+-- A number of the list is that of a turn at the state.
+turn_at : (c : goal.After-deref-2) (h : ℕ) → Contains c.deref-2.result.now h → IsTurnAt c.args.evidence.now c.args.supers.now (length c.args.evidence.now.elements) c.element-it.result.arc.to h
+turn_at c h there =
+    let A : Automaton = c.args.first.now in
+    let su : Supers = c.args.supers.now in
+    let e : ℕ = c.args.e in
+    let p : ℕ = c.element-it.result.arc.to in
+    let ends : (held_arc su e).to < A.states =
+    held_ends Buchi A c.args.second.now (held_arc su e) (held_block su e) (arc_at A (element_arcs A c.args.evidence.now.elements) e) c.initial.ensures.valid (c.requires.supers.each e c.requires.element) in
+    let to : p ≡ (held_arc su e).to = ap (λ (m : Numbered). m.arc.to) c.element-it.ensures in
+    let within : p < length c.args.turns.now = omega (arith, ends, to, c.requires.turns.count) in
+    let list : c.deref-2.result.now ≡ numbers_at c.args.turns.now p =
+    c.deref-2.ensures.value ∙ sym (numbers_is c.args.turns.now p c.index-turns-it.result within c.index-turns-it.is) in
+    c.requires.turns.only p h (subst (λ (l : List ℕ). Contains l h) list there)
+
+-- Whether the element has its lassos.
+asked : (c : goal.In_ok-holds) → IsTrue c.in_ok-holds.holds ↔ HasLassos c.args.second.now c.args.supers.now.graphs.graphs.items (held_number c.args.supers.now c.args.e) (numbers_at c.args.turns.now (held_arc c.args.supers.now c.args.e).to)
+asked c =
+    let A : Automaton = c.args.first.now in
+    let B : Automaton = c.args.second.now in
+    let ev : YesBody = c.args.evidence.now in
+    let su : Supers = c.args.supers.now in
+    let e : ℕ = c.args.e in
+    let to : ℕ = (held_arc su e).to in
+    let p : ℕ = c.element-it.result.arc.to in
+    let ends : to < A.states =
+    held_ends Buchi A B (held_arc su e) (held_block su e) (arc_at A (element_arcs A ev.elements) e) c.initial.ensures.valid (c.requires.supers.each e c.requires.element) in
+    let to_is : p ≡ to = ap (λ (m : Numbered). m.arc.to) c.element-it.ensures in
+    let within : p < length c.args.turns.now = omega (arith, ends, to_is, c.requires.turns.count) in
+    let list : c.deref-2.result.now ≡ numbers_at c.args.turns.now to =
+    c.deref-2.ensures.value ∙ sym (numbers_is c.args.turns.now p c.index-turns-it.result within c.index-turns-it.is) ∙ ap (numbers_at c.args.turns.now) to_is in
+    lassos_named B c.deref.result.now su.graphs.graphs.items c.element-it.result.number (held_number su e) c.deref-2.result.now (numbers_at c.args.turns.now to) c.in_ok-holds.holds
+    c.deref.ensures.value (ap (λ (m : Numbered). m.number) c.element-it.ensures) list c.in_ok-holds.ensures.told
 
 pub returns-then-not-branch-clause-told : goal.returns-then-not-branch-clause-told
 returns-then-not-branch-clause-told c =
@@ -61,35 +96,13 @@ bounds-turns-it c =
 
 pub has_lassos-requires-clause-others : goal.has_lassos-requires-clause-others
 has_lassos-requires-clause-others c = λ h there.
-    let A : Automaton = c.args.first.now in
-    let B : Automaton = c.args.second.now in
-    let su : Supers = c.args.supers.now in
-    let e : ℕ = c.args.e in
     let p : ℕ = c.element-it.result.arc.to in
-    let ends : (held_arc su e).to < A.states =
-    held_ends Buchi A B (held_arc su e) (held_block su e) (arc_at A (element_arcs A c.args.evidence.now.elements) e) c.initial.ensures.valid (c.requires.supers.each e c.requires.element) in
-    let to : p ≡ (held_arc su e).to = ap (λ (m : Numbered). m.arc.to) c.element-it.ensures in
-    let within : p < length c.args.turns.now = omega (arith, ends, to, c.requires.turns.count) in
-    let list : c.deref-2.result.now ≡ numbers_at c.args.turns.now p =
-    c.deref-2.ensures.value ∙ sym (numbers_is c.args.turns.now p c.index-turns-it.result within c.index-turns-it.is) in
-    let turn : IsTurnAt c.args.evidence.now su (length c.args.evidence.now.elements) p h = c.requires.turns.only p h (subst (λ (l : List ℕ). Contains l h) list there) in
-    subst (λ (l : List Graph). IsFormed B.states (block_at l h)) (sym c.deref.ensures.value) (turn_formed A B c.args.evidence.now su c.requires.supers p h turn)
+    subst (λ (l : List Graph). IsFormed c.args.second.now.states (block_at l h)) (sym c.deref.ensures.value) (turn_formed c.args.first.now c.args.second.now c.args.evidence.now c.args.supers.now c.requires.supers p h (turn_at (goal.at.has_lassos-requires-clause-others c).After-deref-2 h there))
 
 pub has_lassos-requires-clause-there : goal.has_lassos-requires-clause-there
 has_lassos-requires-clause-there c = λ h there.
-    let A : Automaton = c.args.first.now in
-    let B : Automaton = c.args.second.now in
-    let su : Supers = c.args.supers.now in
-    let e : ℕ = c.args.e in
-    let p : ℕ = c.element-it.result.arc.to in
-    let ends : (held_arc su e).to < A.states =
-    held_ends Buchi A B (held_arc su e) (held_block su e) (arc_at A (element_arcs A c.args.evidence.now.elements) e) c.initial.ensures.valid (c.requires.supers.each e c.requires.element) in
-    let to : p ≡ (held_arc su e).to = ap (λ (m : Numbered). m.arc.to) c.element-it.ensures in
-    let within : p < length c.args.turns.now = omega (arith, ends, to, c.requires.turns.count) in
-    let list : c.deref-2.result.now ≡ numbers_at c.args.turns.now p =
-    c.deref-2.ensures.value ∙ sym (numbers_is c.args.turns.now p c.index-turns-it.result within c.index-turns-it.is) in
-    let turn : IsTurnAt c.args.evidence.now su (length c.args.evidence.now.elements) p h = c.requires.turns.only p h (subst (λ (l : List ℕ). Contains l h) list there) in
-    let small : h < length su.graphs.graphs.items = turn_within A B c.args.evidence.now su c.requires.supers p h turn in
+    let turn = turn_at (goal.at.has_lassos-requires-clause-there c).After-deref-2 h there in
+    let small : h < length c.args.supers.now.graphs.graphs.items = turn_within c.args.first.now c.args.second.now c.args.evidence.now c.args.supers.now c.requires.supers c.element-it.result.arc.to h turn in
     omega (arith, small, c.requires.tests.size)
 
 pub returns-clause-told : goal.returns-clause-told
@@ -100,43 +113,21 @@ returns-clause-told c =
     let su : Supers = c.args.supers.now in
     let e : ℕ = c.args.e in
     let to : ℕ = (held_arc su e).to in
-    let p : ℕ = c.element-it.result.arc.to in
-    let ends : to < A.states =
-    held_ends Buchi A B (held_arc su e) (held_block su e) (arc_at A (element_arcs A ev.elements) e) c.initial.ensures.valid (c.requires.supers.each e c.requires.element) in
-    let to_is : p ≡ to = ap (λ (m : Numbered). m.arc.to) c.element-it.ensures in
-    let within : p < length c.args.turns.now = omega (arith, ends, to_is, c.requires.turns.count) in
-    let list : c.deref-2.result.now ≡ numbers_at c.args.turns.now to =
-    c.deref-2.ensures.value ∙ sym (numbers_is c.args.turns.now p c.index-turns-it.result within c.index-turns-it.is) ∙ ap (numbers_at c.args.turns.now) to_is in
     let live : live_in ev e ≡ true = c.is_live.ensures.0 c.if-not-is_live.false in
     let starts : (held_arc su e).from ≡ A.initial = ap (λ (m : Numbered). m.arc.from) (sym c.element-it.ensures) ∙ c.if-it-initial.false ∙ c.initial.ensures.state in
-    let asked : IsTrue c.in_ok-holds.holds ↔ HasLassos B su.graphs.graphs.items (held_number su e) (numbers_at c.args.turns.now to) =
-    lassos_named B c.deref.result.now su.graphs.graphs.items c.element-it.result.number (held_number su e) c.deref-2.result.now (numbers_at c.args.turns.now to) c.in_ok-holds.holds
-    c.deref.ensures.value (ap (λ (m : Numbered). m.number) c.element-it.ensures) list c.in_ok-holds.ensures.told in
     passes_told A B ev su c.requires.supers e (numbers_at c.args.turns.now to) c.in_ok-holds.holds c.requires.element live starts
-    (λ g. (c.requires.turns.only to g, c.requires.turns.all to g)) asked
+    (λ g. (c.requires.turns.only to g, c.requires.turns.all to g)) (asked (goal.at.returns-clause-told c).In_ok-holds)
 
 pub returns-clause-tests : goal.returns-clause-tests
 returns-clause-tests c = λ is.
-    let A : Automaton = c.args.first.now in
     let B : Automaton = c.args.second.now in
-    let ev : YesBody = c.args.evidence.now in
     let su : Supers = c.args.supers.now in
     let e : ℕ = c.args.e in
     let to : ℕ = (held_arc su e).to in
-    let p : ℕ = c.element-it.result.arc.to in
-    let ends : to < A.states =
-    held_ends Buchi A B (held_arc su e) (held_block su e) (arc_at A (element_arcs A ev.elements) e) c.initial.ensures.valid (c.requires.supers.each e c.requires.element) in
-    let to_is : p ≡ to = ap (λ (m : Numbered). m.arc.to) c.element-it.ensures in
-    let within : p < length c.args.turns.now = omega (arith, ends, to_is, c.requires.turns.count) in
-    let list : c.deref-2.result.now ≡ numbers_at c.args.turns.now to =
-    c.deref-2.ensures.value ∙ sym (numbers_is c.args.turns.now p c.index-turns-it.result within c.index-turns-it.is) ∙ ap (numbers_at c.args.turns.now) to_is in
     let key_is : c.pair_key-key.result ≡ to ∷ held_number su e ∷ [] = c.pair_key-key.ensures ∙ ap (λ (m : Numbered). m.arc.to ∷ m.number ∷ []) c.element-it.ensures in
-    let asked : IsTrue c.in_ok-holds.holds ↔ HasLassos B su.graphs.graphs.items (held_number su e) (numbers_at c.args.turns.now to) =
-    lassos_named B c.deref.result.now su.graphs.graphs.items c.element-it.result.number (held_number su e) c.deref-2.result.now (numbers_at c.args.turns.now to) c.in_ok-holds.holds
-    c.deref.ensures.value (ap (λ (m : Numbered). m.number) c.element-it.ensures) list c.in_ok-holds.ensures.told in
     record {
       passed = keys_more (λ q g. HasLassos B su.graphs.graphs.items g (numbers_at c.args.turns.now q)) c.args.tests.now.passed c.is_new.new.seen c.pair_key-key.result to (held_number su e) key_is
-          c.in_ok-is_new.ensures.added (asked.0 is) c.requires.tests.passed;
+          c.in_ok-is_new.ensures.added ((asked (goal.at.returns-clause-tests c).In_ok-holds).0 is) c.requires.tests.passed;
       loops = subst (λ (l : List Graph). AreLoops B.states l c.has_lassos.new.loops.items) c.deref.ensures.value c.in_ok-holds.ensures.loops;
       size = c.in_ok-holds.ensures.size ∙ c.requires.tests.size;
       room = c.in_ok-holds.ensures.room;

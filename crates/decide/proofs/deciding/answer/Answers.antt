@@ -3,7 +3,8 @@ use Rattle.bit_rel.specs.Relation.{Relation, IsRelation}
 use Rattle.bit_rel.proofs.TableLemmas.{valid_table}
 use Rattle.reduce_loop.specs.declared.steps.Step.{Step}
 use Rattle.reduce_loop.proofs.PassLemmas.{reduced_no_larger}
-use Rattle.decide.specs.Answer.{IsOrder}
+use Rattle.cert_value.specs.declared.types.Cert.{Cert}
+use Rattle.decide.specs.Answer.{IsOrder, IsAnswer}
 use Rattle.decide.specs.Terms.{sight_of}
 use Rattle.decide.specs.Laws.{CanDecide}
 use Rattle.decide.specs.Logs.{AreStepsOnFew, AreLogsOf}
@@ -36,8 +37,8 @@ body_of-requires-clause-few c =
     let fewer = less.states in
     omega (arith, c.in_ok-order.ensures.size, c.requires.second_parts.states)
 
-pub returns-clause-answer : goal.returns-clause-answer
-returns-clause-answer c =
+pub returns : goal.returns
+returns c =
     let pair = c.args.pair.now in
     let first = c.in_ok-first.first in
     let second = c.in_ok-second.second in
@@ -47,16 +48,11 @@ returns-clause-answer c =
     let order : IsOrder second.auto R.pairs = record { greatest = c.in_ok-order.ensures.greatest; ascending = valid.in_order } in
     let written : AreLogsOf first.log second.log logs =
     subst (λ (l : List Step). AreLogsOf l second.log logs) c.as_slice.ensures (subst (λ (l : List Step). AreLogsOf c.as_slice.result.now l logs) c.as_slice-2.ensures c.in_ok-logs.ensures) in
-    answer_made pair c.args.terms first second logs R.pairs c.in_ok-first.ensures.log c.in_ok-second.ensures.log written order
-    (record { version = c.args.terms.version; mode = c.args.terms.mode; first_states = c.states-first_states.result; second_states = c.states-second_states.result; labels = c.count.result; body = c.in_ok-body_of.field-0 })
-    refl
-    refl
-    (c.states-first_states.ensures.count, c.states-second_states.ensures.count, c.count.ensures.count)
-    c.in_ok-body_of.ensures
-
-pub returns-clause-formed : goal.returns-clause-formed
-returns-clause-formed c =
-    let can : CanDecide c.args.pair.now = record {
+    let cert : Cert = record { version = c.args.terms.version; mode = c.args.terms.mode; first_states = c.states-first_states.result; second_states = c.states-second_states.result; labels = c.count.result; body = c.in_ok-body_of.field-0 } in
+    let answer : IsAnswer pair c.args.terms cert =
+    answer_made pair c.args.terms first second logs R.pairs c.in_ok-first.ensures.log c.in_ok-second.ensures.log written order cert refl refl
+    (c.states-first_states.ensures.count, c.states-second_states.ensures.count, c.count.ensures.count) c.in_ok-body_of.ensures in
+    let can : CanDecide pair = record {
       first = c.states-first_states.ensures.valid;
       second = c.states-second_states.ensures.valid;
       first_labels = c.requires.first_labels;
@@ -65,95 +61,14 @@ returns-clause-formed c =
       first_parts = c.requires.first_parts;
       second_parts = c.requires.second_parts;
     } in
-    answers_are_formed c.args.pair.now c.args.terms _ can c.requires.bounded (returns-clause-answer c)
-
-pub returns-clause-valid : goal.returns-clause-valid
-returns-clause-valid c =
-    let can : CanDecide c.args.pair.now = record {
-      first = c.states-first_states.ensures.valid;
-      second = c.states-second_states.ensures.valid;
-      first_labels = c.requires.first_labels;
-      second_labels = c.requires.second_labels;
-      few_labels = c.requires.few_labels;
-      first_parts = c.requires.first_parts;
-      second_parts = c.requires.second_parts;
-    } in
-    answers_are_valid c.args.pair.now c.args.terms _ can c.requires.bounded (returns-clause-answer c)
-
-pub returns-clause-included : goal.returns-clause-included
-returns-clause-included c =
-    let can : CanDecide c.args.pair.now = record {
-      first = c.states-first_states.ensures.valid;
-      second = c.states-second_states.ensures.valid;
-      first_labels = c.requires.first_labels;
-      second_labels = c.requires.second_labels;
-      few_labels = c.requires.few_labels;
-      first_parts = c.requires.first_parts;
-      second_parts = c.requires.second_parts;
-    } in
-    yes_includes c.args.pair.now c.args.terms _ can c.requires.bounded (returns-clause-answer c)
-
-pub returns-clause-apart_live : goal.returns-clause-apart_live
-returns-clause-apart_live c =
-    let can : CanDecide c.args.pair.now = record {
-      first = c.states-first_states.ensures.valid;
-      second = c.states-second_states.ensures.valid;
-      first_labels = c.requires.first_labels;
-      second_labels = c.requires.second_labels;
-      few_labels = c.requires.few_labels;
-      first_parts = c.requires.first_parts;
-      second_parts = c.requires.second_parts;
-    } in
-    yes_stands_apart c.args.pair.now c.args.terms _ can c.requires.bounded (returns-clause-answer c)
-
-pub returns-clause-apart : goal.returns-clause-apart
-returns-clause-apart c =
-    let can : CanDecide c.args.pair.now = record {
-      first = c.states-first_states.ensures.valid;
-      second = c.states-second_states.ensures.valid;
-      first_labels = c.requires.first_labels;
-      second_labels = c.requires.second_labels;
-      few_labels = c.requires.few_labels;
-      first_parts = c.requires.first_parts;
-      second_parts = c.requires.second_parts;
-    } in
-    no_separates c.args.pair.now c.args.terms _ can c.requires.bounded (returns-clause-answer c)
-
-pub returns-clause-apart_word : goal.returns-clause-apart_word
-returns-clause-apart_word c =
-    let can : CanDecide c.args.pair.now = record {
-      first = c.states-first_states.ensures.valid;
-      second = c.states-second_states.ensures.valid;
-      first_labels = c.requires.first_labels;
-      second_labels = c.requires.second_labels;
-      few_labels = c.requires.few_labels;
-      first_parts = c.requires.first_parts;
-      second_parts = c.requires.second_parts;
-    } in
-    word_tells_apart c.args.pair.now c.args.terms _ can c.requires.bounded (returns-clause-answer c)
-
-pub returns-clause-listed : goal.returns-clause-listed
-returns-clause-listed c =
-    let can : CanDecide c.args.pair.now = record {
-      first = c.states-first_states.ensures.valid;
-      second = c.states-second_states.ensures.valid;
-      first_labels = c.requires.first_labels;
-      second_labels = c.requires.second_labels;
-      few_labels = c.requires.few_labels;
-      first_parts = c.requires.first_parts;
-      second_parts = c.requires.second_parts;
-    } in
-    list_is_new c.args.pair.now c.args.terms _ can c.requires.bounded (returns-clause-answer c)
-
-pub returns-clause-no_list : goal.returns-clause-no_list
-returns-clause-no_list c high =
-    let can : CanDecide c.args.pair.now = record {
-      first = c.states-first_states.ensures.valid;
-      second = c.states-second_states.ensures.valid;
-      first_labels = c.requires.first_labels;
-      second_labels = c.requires.second_labels;
-      few_labels = c.requires.few_labels;
-      first_parts = c.requires.first_parts;
-      second_parts = c.requires.second_parts;
-    } in
-    no_list_at_bound c.args.pair.now c.args.terms _ can c.requires.bounded (returns-clause-answer c) high
+    record {
+      answer = answer;
+      formed = answers_are_formed pair c.args.terms cert can c.requires.bounded answer;
+      valid = answers_are_valid pair c.args.terms cert can c.requires.bounded answer;
+      included = yes_includes pair c.args.terms cert can c.requires.bounded answer;
+      apart_live = yes_stands_apart pair c.args.terms cert can c.requires.bounded answer;
+      apart = no_separates pair c.args.terms cert can c.requires.bounded answer;
+      apart_word = word_tells_apart pair c.args.terms cert can c.requires.bounded answer;
+      listed = list_is_new pair c.args.terms cert can c.requires.bounded answer;
+      no_list = λ high. no_list_at_bound pair c.args.terms cert can c.requires.bounded answer high;
+    }

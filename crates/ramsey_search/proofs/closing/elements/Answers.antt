@@ -18,7 +18,6 @@ use Rattle.ramsey_search.proofs.closing.elements.Goals.{then-index, else-index}
 pub coverer-requires-clause-formed : goal.coverer-requires-clause-formed
 coverer-requires-clause-formed c =
     let S : List (ℕ × ℕ) = c.args.order.now.pairs in
-    let n : ℕ = c.args.order.now.size in
     let g : List Graph = c.args.graphs.now.graphs.items in
     let f : Family = c.args.family.now in
     let v : View = view g f in
@@ -30,8 +29,6 @@ coverer-requires-clause-formed c =
     let lt : i < length f.held.items = omega arith in
     let h_is : At f.held.items i h = read_at f.held.items i h h lt c.index-element.ensures in
     let seen_h : At v.held i (seen g h) = at_map (seen g) f.held.items i h h_is in
-    let flags : length f.live.items ≡ length f.held.items = c.requires.fits.live_size ∙ length-map f.held.items (seen g) in
-    let flag : slice_index_or f.live.items i false ≡ c.index.result.now = get_or_default f.live.items i false c.index.result.now (omega arith) ∙ sym c.index.ensures in
     c.requires.fits.formed i (seen g h) seen_h
 
 pub loop-number-preserved : goal.loop-number-preserved

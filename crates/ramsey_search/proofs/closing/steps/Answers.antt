@@ -18,10 +18,28 @@ use Rattle.ramsey_search.specs.Kept.{IsWhole, entries_held}
 use Rattle.evidence.specs.Evidence.{IsStepOf}
 use Rattle.evidence.proofs.RangeLemmas.{filter_range_more}
 use Rattle.shared_graphs.proofs.GraphsLemmas.{grown_none, grown_more}
-use Rattle.ramsey_search.proofs.StayLemmas.{view_stays}
+use Rattle.ramsey_search.proofs.StayLemmas.{whole_stays}
 use Rattle.ramsey_search.proofs.SeenLemmas.{live_count}
 use Rattle.ramsey_search.proofs.closing.steps.Goals as goal
-use Rattle.ramsey_search.proofs.closing.steps.Goals.{then-index+in_ok-step_line+in_ok-push, else-index}
+use Rattle.ramsey_search.proofs.closing.steps.Goals.{then-index+in_ok-step_line+in_ok-push, else-index, In-loop-element, After-index}
+
+-- The family is as it was, with the graphs that there are by now.
+stays : (c : goal.In-loop-element) → let now = view c.loop-element.graphs.graphs.items c.args.family.now in
+    (now ≡ view c.args.graphs.now.graphs.items c.args.family.now) × IsWhole c.args.first.now c.args.second.now c.args.order.now.pairs now
+stays c =
+    whole_stays c.args.first.now c.args.second.now c.args.order.now.pairs c.args.graphs.now.graphs.items c.loop-element.graphs.graphs.items c.args.family.now c.requires.second_valid c.loop-element.invariant.grown
+    c.requires.whole
+
+-- The flag that was read.
+flag_is : (c : goal.After-index) → slice_index_or c.args.family.now.live.items c.loop-element.element false ≡ c.index.result.now
+flag_is c =
+    let f : Family = c.args.family.now in
+    let count = c.len-element-end.ensures in
+    let items : vec_len f.held ≡ length f.held.items = f.held.ok.0 in
+    let test = c.loop-element-test.true in
+    let size : length f.live.items ≡ length f.held.items =
+    live_count c.args.first.now c.args.second.now c.args.order.now.pairs c.args.graphs.now.graphs.items f c.requires.whole in
+    get_or_default f.live.items c.loop-element.element false c.index.result.now (omega arith) ∙ sym c.index.ensures
 
 pub loop-element-init : goal.loop-element-init
 loop-element-init c =
@@ -34,66 +52,23 @@ loop-element-init c =
     }
 
 pub step_line-requires-clause-whole : goal.step_line-requires-clause-whole
-step_line-requires-clause-whole c =
-    let A : Automaton = c.args.first.now in
-    let B : Automaton = c.args.second.now in
-    let S : List (ℕ × ℕ) = c.args.order.now.pairs in
-    let f : Family = c.args.family.now in
-    let g : List Graph = c.args.graphs.now.graphs.items in
-    let old : View = view g f in
-    let g_mid : List Graph = c.loop-element.graphs.graphs.items in
-    let initial = c.requires.second_valid.initial_is_state in
-    let same : view g_mid f ≡ old = view_stays A B S g g_mid f (entries_held A old) (omega arith) c.loop-element.invariant.grown c.requires.whole in
-    subst (IsWhole A B S) (sym same) c.requires.whole
+step_line-requires-clause-whole c = (stays (goal.at.step_line-requires-clause-whole c).In-loop-element).1
 
 pub step_line-requires-clause-themselves : goal.step_line-requires-clause-themselves
-step_line-requires-clause-themselves c =
-    let A : Automaton = c.args.first.now in
-    let B : Automaton = c.args.second.now in
-    let S : List (ℕ × ℕ) = c.args.order.now.pairs in
-    let n : ℕ = c.args.order.now.size in
-    let f : Family = c.args.family.now in
-    let g : List Graph = c.args.graphs.now.graphs.items in
-    let old : View = view g f in
-    let g_mid : List Graph = c.loop-element.graphs.graphs.items in
-    let initial = c.requires.second_valid.initial_is_state in
-    let same : view g_mid f ≡ old = view_stays A B S g g_mid f (entries_held A old) (omega arith) c.loop-element.invariant.grown c.requires.whole in
-    subst (LiveCoverThemselves n S) (sym same) c.requires.themselves
+step_line-requires-clause-themselves c = subst (LiveCoverThemselves c.args.order.now.size c.args.order.now.pairs) (sym (stays (goal.at.step_line-requires-clause-themselves c).In-loop-element).0) c.requires.themselves
 
 pub step_line-requires-clause-marked : goal.step_line-requires-clause-marked
 step_line-requires-clause-marked c =
-    let A : Automaton = c.args.first.now in
-    let B : Automaton = c.args.second.now in
-    let S : List (ℕ × ℕ) = c.args.order.now.pairs in
-    let n : ℕ = c.args.order.now.size in
-    let f : Family = c.args.family.now in
-    let g : List Graph = c.args.graphs.now.graphs.items in
-    let old : View = view g f in
-    let g_mid : List Graph = c.loop-element.graphs.graphs.items in
-    let initial = c.requires.second_valid.initial_is_state in
-    let same : view g_mid f ≡ old = view_stays A B S g g_mid f (entries_held A old) (omega arith) c.loop-element.invariant.grown c.requires.whole in
-    subst (λ v. AreMarked n S v (length f.held.items) c.args.marked.now) (sym same) c.requires.marked
+    subst (λ v. AreMarked c.args.order.now.size c.args.order.now.pairs v (length c.args.family.now.held.items) c.args.marked.now) (sym (stays (goal.at.step_line-requires-clause-marked c).In-loop-element).0) c.requires.marked
 
 pub step_line-requires-clause-some : goal.step_line-requires-clause-some
-step_line-requires-clause-some c =
-    λ x t x_is lt leaves.
+step_line-requires-clause-some c = λ x t x_is lt leaves.
     let A : Automaton = c.args.first.now in
-    let B : Automaton = c.args.second.now in
-    let S : List (ℕ × ℕ) = c.args.order.now.pairs in
-    let f : Family = c.args.family.now in
-    let g : List Graph = c.args.graphs.now.graphs.items in
-    let old : View = view g f in
-    let g_mid : List Graph = c.loop-element.graphs.graphs.items in
-    let initial = c.requires.second_valid.initial_is_state in
-    let same : view g_mid f ≡ old = view_stays A B S g g_mid f (entries_held A old) (omega arith) c.loop-element.invariant.grown c.requires.whole in
-    let count = c.len-element-end.ensures in
-    let items : vec_len f.held ≡ length f.held.items = f.held.ok.0 in
-    let test = c.loop-element-test.true in
-    let size : length f.live.items ≡ length f.held.items = live_count A B S g f c.requires.whole in
+    let same = (stays (goal.at.step_line-requires-clause-some c).In-loop-element).0 in
     let e : ℕ = c.loop-element.element in
-    let flag : slice_index_or f.live.items e false ≡ c.index.result.now = get_or_default f.live.items e false c.index.result.now (omega arith) ∙ sym c.index.ensures in
-    let was_is : At (entries_held A old) e x = subst (λ v. At (entries_held A v) e x) same x_is in
-    subst (λ v. HasSubsumer (supergraph_rules A B S) (entries_held A v) (next_entry A e x t)) (sym same) (c.requires.some e t x (flag ∙ c.if-index.true) was_is lt leaves)
+    let live = flag_is (goal.at.step_line-requires-clause-some c).After-index ∙ c.if-index.true in
+    subst (λ v. HasSubsumer (supergraph_rules A c.args.second.now c.args.order.now.pairs) (entries_held A v) (next_entry A e x t)) (sym same)
+    (c.requires.some e t x live (subst (λ v. At (entries_held A v) e x) same x_is) lt leaves)
 
 pub loop-element-preserved : goal.loop-element-preserved
 loop-element-preserved c =
@@ -104,14 +79,9 @@ loop-element-preserved c =
     let g : List Graph = c.args.graphs.now.graphs.items in
     let old : View = view g f in
     let g_mid : List Graph = c.loop-element.graphs.graphs.items in
-    let initial = c.requires.second_valid.initial_is_state in
-    let same : view g_mid f ≡ old = view_stays A B S g g_mid f (entries_held A old) (omega arith) c.loop-element.invariant.grown c.requires.whole in
-    let count = c.len-element-end.ensures in
-    let items : vec_len f.held ≡ length f.held.items = f.held.ok.0 in
-    let test = c.loop-element-test.true in
-    let size : length f.live.items ≡ length f.held.items = live_count A B S g f c.requires.whole in
+    let same : view g_mid f ≡ old = (stays (goal.at.loop-element-preserved c).In-loop-element).0 in
     let e : ℕ = c.loop-element.element in
-    let flag : slice_index_or f.live.items e false ≡ c.index.result.now = get_or_default f.live.items e false c.index.result.now (omega arith) ∙ sym c.index.ensures in
+    let flag = flag_is (goal.at.loop-element-preserved c).After-index in
     let live : ℕ → Bool = λ k. slice_index_or f.live.items k false in
     let before : map (λ (s : StepLine). s.element) c.loop-element.steps ≡ filter live (range_with_len 0 e) = c.loop-element.invariant.lines in
     elim c.if-index.branch [

@@ -1,4 +1,4 @@
-use Rattle.std.proofs.Common.{ℕ, ◌+◌, ◌*◌, ◌<◌, List, sym, subst}
+use Rattle.std.proofs.Common.{ℕ, ◌+◌, ◌*◌, List, sym, subst}
 use Rattle.auto_core.specs.Automaton.{Automaton}
 use Rattle.auto_core.specs.Outcome.{Entry}
 use Rattle.graph_rows.specs.Block.{IsFormed}
@@ -13,51 +13,23 @@ use Rattle.ramsey_search.specs.Kept.{entries_held, NoneSubsumes, IsFirstSubsumer
 use Rattle.ramsey_search.proofs.EqualLemmas.{equal_subsumes}
 use Rattle.ramsey_search.proofs.MeetLemmas.{none_at_all, first_subsumes}
 use Rattle.ramsey_search.proofs.SeenLemmas.{few_seen}
-use Rattle.ramsey_search.proofs.TurnLemmas.{candidate_in_range, fits_together, come_past}
+use Rattle.ramsey_search.proofs.TurnLemmas.{ends_in_family, candidate_in_range, fits_together, come_past}
 use Rattle.ramsey_search.proofs.turns.consider.Goals as goal
 
 pub least-requires-clause-from : goal.least-requires-clause-from
-least-requires-clause-from c =
-    let A : Automaton = c.args.first.now in
-    let B : Automaton = c.args.second.now in
-    let S : List (ℕ × ℕ) = c.args.order.now.pairs in
-    let graphs : List Graph = c.args.graphs.now.graphs.items in
-    let f : View = view graphs c.args.family.now in
-    let h : Seen = seen graphs c.args.new in
-    let es : List Entry = entries_held A f in
-    subst (λ n. h.arc.from < n) (sym c.requires.whole.states) (candidate_in_range A B S c.requires.first_valid es c.requires.whole.origins h c.requires.candidate).0
+least-requires-clause-from c = (ends_in_family c.args.first.now c.args.second.now c.args.order.now.pairs c.requires.first_valid (view c.args.graphs.now.graphs.items c.args.family.now) (seen c.args.graphs.now.graphs.items c.args.new) c.requires.whole c.requires.candidate).0
 
 pub least-requires-clause-to : goal.least-requires-clause-to
-least-requires-clause-to c =
-    let A : Automaton = c.args.first.now in
-    let B : Automaton = c.args.second.now in
-    let S : List (ℕ × ℕ) = c.args.order.now.pairs in
-    let graphs : List Graph = c.args.graphs.now.graphs.items in
-    let f : View = view graphs c.args.family.now in
-    let h : Seen = seen graphs c.args.new in
-    let es : List Entry = entries_held A f in
-    subst (λ n. h.arc.to < n) (sym c.requires.whole.states) (candidate_in_range A B S c.requires.first_valid es c.requires.whole.origins h c.requires.candidate).1
+least-requires-clause-to c = (ends_in_family c.args.first.now c.args.second.now c.args.order.now.pairs c.requires.first_valid (view c.args.graphs.now.graphs.items c.args.family.now) (seen c.args.graphs.now.graphs.items c.args.new) c.requires.whole c.requires.candidate).1
 
 pub least-requires-clause-fits : goal.least-requires-clause-fits
 least-requires-clause-fits c =
-    let A : Automaton = c.args.first.now in
-    let B : Automaton = c.args.second.now in
-    let S : List (ℕ × ℕ) = c.args.order.now.pairs in
-    let graphs : List Graph = c.args.graphs.now.graphs.items in
-    let f : View = view graphs c.args.family.now in
-    let h : Seen = seen graphs c.args.new in
-    let es : List Entry = entries_held A f in
-    fits_together A B S c.args.order.now.size f es c.requires.order_size c.requires.whole
+    fits_together c.args.first.now c.args.second.now c.args.order.now.pairs c.args.order.now.size (view c.args.graphs.now.graphs.items c.args.family.now) (entries_held c.args.first.now (view c.args.graphs.now.graphs.items c.args.family.now)) c.requires.order_size c.requires.whole
 
 pub least-requires-clause-formed : goal.least-requires-clause-formed
 least-requires-clause-formed c =
-    let A : Automaton = c.args.first.now in
-    let B : Automaton = c.args.second.now in
-    let S : List (ℕ × ℕ) = c.args.order.now.pairs in
     let graphs : List Graph = c.args.graphs.now.graphs.items in
-    let f : View = view graphs c.args.family.now in
     let h : Seen = seen graphs c.args.new in
-    let es : List Entry = entries_held A f in
     subst (λ n. IsFormed n h.graph) (sym c.requires.order_size) c.requires.candidate.kept.formed
 
 pub print-requires-clause-formed : goal.print-requires-clause-formed
@@ -91,31 +63,17 @@ least-requires-clause-told c =
 
 pub returns-in-Some-least-clause-answers : goal.returns-in-Some-least-clause-answers
 returns-in-Some-least-clause-answers c =
-    let A : Automaton = c.args.first.now in
-    let B : Automaton = c.args.second.now in
-    let S : List (ℕ × ℕ) = c.args.order.now.pairs in
-    let graphs : List Graph = c.args.graphs.now.graphs.items in
-    let f : View = view graphs c.args.family.now in
-    let h : Seen = seen graphs c.args.new in
-    let es : List Entry = entries_held A f in
-    let told : AreLassosTold B graphs c.look.new.self = subst (λ g. AreLassosTold B g c.look.new.self) c.deref-2.ensures.value c.look.ensures.told in
+    let told = subst (λ g. AreLassosTold c.args.second.now g c.look.new.self) c.deref-2.ensures.value c.look.ensures.told in
     record {
-      covers = subst (λ n. AreCoverings n S graphs c.least.new.told) c.requires.order_size c.least.ensures.told;
+      covers = subst (λ n. AreCoverings n c.args.order.now.pairs c.args.graphs.now.graphs.items c.least.new.told) c.requires.order_size c.least.ensures.told;
       lassos = record { glimpses = told.glimpses; room = told.room };
     }
 
 pub admit-requires-clause-answers : goal.admit-requires-clause-answers
 admit-requires-clause-answers c =
-    let A : Automaton = c.args.first.now in
-    let B : Automaton = c.args.second.now in
-    let S : List (ℕ × ℕ) = c.args.order.now.pairs in
-    let graphs : List Graph = c.args.graphs.now.graphs.items in
-    let f : View = view graphs c.args.family.now in
-    let h : Seen = seen graphs c.args.new in
-    let es : List Entry = entries_held A f in
-    let told : AreLassosTold B graphs c.look.new.self = subst (λ g. AreLassosTold B g c.look.new.self) c.deref-2.ensures.value c.look.ensures.told in
+    let told = subst (λ g. AreLassosTold c.args.second.now g c.look.new.self) c.deref-2.ensures.value c.look.ensures.told in
     record {
-      covers = subst (λ n. AreCoverings n S graphs c.least.new.told) c.requires.order_size c.least.ensures.told;
+      covers = subst (λ n. AreCoverings n c.args.order.now.pairs c.args.graphs.now.graphs.items c.least.new.told) c.requires.order_size c.least.ensures.told;
       lassos = record { glimpses = told.glimpses; room = told.room };
     }
 
