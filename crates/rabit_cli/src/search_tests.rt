@@ -8,7 +8,9 @@ use crate::files::{FIRST_LIMITS, SECOND_LIMITS, joined};
 use auto_core::{Memory, Origin};
 use ba_format::{Joined, Limits, Named, read};
 use cert_text::{Element, Mark, StepLine};
-use ramsey_search::{Outcome, search};
+use graph_pool::Pool;
+use graph_rows::words_of;
+use ramsey_search::{Outcome, search, search_in};
 use std::alloc::Global;
 use std::test::Fail;
 
@@ -229,5 +231,82 @@ fn larger_searches_close(rt: HostRuntime) -> Result<(), Fail> {
     assert!(rt; includes(alloc, B_THEN_A, GUESS)?);
     let text = looped_ring(alloc, 30)?;
     assert!(rt; includes(alloc, text.as_str(), text.as_str())?);
+    Ok(())
+}
+
+/// Whether all of these words are ones.
+fn are_ones(words: &[u64]) -> bool {
+    for word in words {
+        if *word != u64::MAX {
+            return false;
+        }
+    }
+    true
+}
+
+/// How many of these elements are live.
+fn live_among(elements: &[Element]) -> u64 {
+    elements
+        .iter()
+        .filter(|element| element.mark == Mark::Live)
+        .count() as u64
+}
+
+/// Whether both have the same step lines.
+fn are_same_steps(steps: &[StepLine], others: &[StepLine]) -> bool {
+    for (step, other) in steps.iter().zip(others) {
+        if step.element != other.element {
+            return false;
+        }
+        if step.by.as_slice() != other.by.as_slice() {
+            return false;
+        }
+    }
+    steps.len() == others.len()
+}
+
+/// Whether both searches close with the same evidence, in which at most so many elements are live.
+fn close_alike(one: Outcome, other: Outcome, most: u64) -> bool {
+    let Outcome::Closed(one) = one else {
+        return false;
+    };
+    let Outcome::Closed(other) = other else {
+        return false;
+    };
+    live_among(one.elements.as_slice()) <= most
+        && one.elements.as_slice() == other.elements.as_slice()
+        && one.cover.as_slice() == other.cover.as_slice()
+        && are_same_steps(one.steps.as_slice(), other.steps.as_slice())
+}
+
+/// Whether a search of the text's automaton in itself, in a pool with one block of ones, leaves that block as it was and alone, leaves a
+/// free block for each live element, and closes as a search in a pool of its own does.
+fn leaves_a_block_of_ones(alloc: Global, text: &str) -> Result<bool, Memory> {
+    let pair = pair_of(alloc, text, text)?;
+    let order = direct_sim::relation(alloc, &pair.second, 1)?;
+    let mut pool = Pool::new(alloc, words_of(pair.second.states()));
+    let ones = pool.add()?;
+    if !pool.is_live(ones) {
+        return Ok(false);
+    }
+    pool.block_mut(ones).fill(u64::MAX);
+    if pool.live() != 1 {
+        return Ok(false);
+    }
+    let lent = search_in(alloc, &mut pool, &pair.first, &pair.second, &order, 20000)?;
+    let own = search(alloc, &pair.first, &pair.second, &order, 20000)?;
+    Ok(
+        pool.live() == 1
+            && pool.is_live(ones)
+            && are_ones(pool.block(ones))
+            && close_alike(lent, own, pool.free()),
+    )
+}
+
+#[test]
+fn lent_pools_keep_their_blocks(rt: HostRuntime) -> Result<(), Fail> {
+    let alloc = rt.alloc();
+    let text = looped_ring(alloc, 30)?;
+    assert!(rt; leaves_a_block_of_ones(alloc, text.as_str())?);
     Ok(())
 }

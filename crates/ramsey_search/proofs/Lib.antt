@@ -12,3 +12,4 @@ pub mod ClosureLemmas
 pub mod AnswerLemmas
 pub mod ClosingLemmas
 pub mod WholeLemmas
+pub mod ShareLemmas

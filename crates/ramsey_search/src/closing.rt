@@ -7,6 +7,8 @@ ghost use Rattle.auto_core.specs.Game.{IsGreatestForward};
 ghost use Rattle.auto_core.specs.Outcome.{At, Closed, Entry, HasSubsumer, IsLeastSubsumer, SearchEnds, base_entry, next_entry, supergraph_rules};
 ghost use Rattle.graph_rows.specs.Block.{IsFormed};
 ghost use Rattle.cert_value.specs.declared.types.StepLine.{StepLine};
+ghost use Rattle.cert_value.specs.declared.types.Element.{Element};
+ghost use Rattle.cert_value.specs.WellFormed.{is_live};
 ghost use Rattle.ramsey_search.specs.declared.parts.Held.{Held};
 ghost use Rattle.shared_graphs.specs.Graphs.{HasGrown, IsStock, block_at};
 ghost use Rattle.shared_graphs.specs.GraphPairs.{AreCoverings};
@@ -246,7 +248,8 @@ pub(crate) fn closure(
     requires few { length family.now.held.items < 2 ^ 32 }
     requires stock { IsStock second.now graphs.old }
     requires told { AreCoverings second.now.states order.now.pairs graphs.old.graphs.items told.old }
-    ensures { IfOk result (IsEvidenceOf (supergraph_rules first.now second.now order.now.pairs) (entries_held first.now (view graphs.old.graphs.items family.now))) }
+    ensures evidence { IfOk result (IsEvidenceOf (supergraph_rules first.now second.now order.now.pairs) (entries_held first.now (view graphs.old.graphs.items family.now))) }
+    ensures live { IfOk result (λ c. map (λ (x : Element). is_live x.mark) c.elements ≡ family.now.live.items) }
 {
     let elements = elements(alloc, order, graphs, told, family)?;
     let cover = cover(alloc, first, second, order, graphs, told, family, &elements)?;

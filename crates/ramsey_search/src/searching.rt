@@ -1,17 +1,29 @@
 //! The search from its question to its outcome.
 
-ghost use Rattle.std.specs.Prelude.{◌≡◌, ◌<◌, ◌≤◌, length, map, IfOk};
+ghost use Rattle.std.specs.Prelude.{◌≡◌, ◌+◌, ◌*◌, ◌^◌, ◌<◌, ◌≤◌, [], length, map, IfOk};
+ghost use Rattle.std.specs.FinMap as finite;
+ghost use Rattle.std.specs.List.{count_by};
+ghost use Rattle.auto_core.specs.Automaton.{IsAutomaton};
 ghost use Rattle.auto_core.specs.Game.{IsGreatestForward};
+ghost use Rattle.graph_rows.specs.Block.{width_of};
+ghost use Rattle.shared_graphs.specs.Graphs.{IsStock};
+ghost use Rattle.shared_graphs.specs.GraphPairs.{AreGraphPairs};
 ghost use Rattle.supergraph.specs.Words.{NameWhatIsThere, word_at};
 ghost use Rattle.ramsey_search.specs.declared.parts.Held.{Held};
-ghost use Rattle.ramsey_search.specs.Ends.{IsOutcomeOf, IsTrueOutcome};
+ghost use Rattle.ramsey_search.specs.Views.{view};
+ghost use Rattle.ramsey_search.specs.Kept.{IsWhole};
+ghost use Rattle.ramsey_search.specs.ElementBlocks.{SamePool};
+ghost use Rattle.ramsey_search.specs.Ends.{IsOutcomeOf, IsTrueOutcome, HasRoomFor};
 
 use crate::closing::closure;
+use crate::element_blocks::ElementBlocks;
 use crate::family::Family;
 use crate::parts::{Fate, Held, Outcome};
 use crate::turns::run;
 use auto_core::{Auto, Lasso, List, Memory, Origin};
 use bit_rel::Rel;
+use graph_pool::Pool;
+use graph_rows::words_of;
 use shared_graphs::{GraphPairs, Graphs};
 use std::alloc::Global;
 use supergraph::word_of;
@@ -47,6 +59,94 @@ fn lasso_of(
     })
 }
 
+/// Searches with what is there at the start, and tells how the search ends.
+fn outcome_of(
+    alloc: Global,
+    first: &Auto,
+    second: &Auto,
+    order: &Rel,
+    limit: u32,
+    graphs: &mut Graphs,
+    family: &mut Family,
+    answers: &mut GraphPairs,
+    blocks: &mut ElementBlocks,
+) -> Result<Outcome, Memory>
+    requires first_valid { IsAutomaton first.now }
+    requires second_valid { IsAutomaton second.now }
+    requires greatest { IsGreatestForward second.now 1 order.now.pairs }
+    requires order_size { order.now.size ≡ second.now.states }
+    requires few { limit ≤ 100000 }
+    requires whole { IsWhole first.now second.now order.now.pairs (view graphs.old.graphs.items family.old) }
+    requires none { family.old.held.items ≡ [] }
+    requires stock { IsStock second.now graphs.old }
+    requires answers { AreGraphPairs second.now order.now.pairs graphs.old.graphs.items answers.old }
+    requires blocks { (blocks.old.has ≡ []) × (blocks.old.words ≡ []) }
+    requires size { blocks.old.size ≡ 2 * second.now.states * width_of second.now.states }
+    requires room { finite.len blocks.old.rest + limit + 2 < 2 ^ 32 }
+    ensures answer { IfOk result (IsOutcomeOf first.now second.now order.now.pairs limit) }
+    ensures truth { IfOk result (IsTrueOutcome first.now second.now order.now.pairs limit) }
+    ensures pool { SamePool blocks.old blocks.new }
+    ensures blocks { IfOk result (λ outcome. HasRoomFor outcome (count_by (λ b. b) blocks.new.has)) }
+{
+    let fate = run(alloc, first, second, order, limit, graphs, family, answers)?;
+    match fate {
+        Fate::GoesOn => {
+            blocks.add_live(&graphs.graphs, &family.held, &family.live)?;
+            let told = &mut answers.covers;
+            let closure = closure(alloc, first, second, order, graphs, told, family)?;
+            Ok(Outcome::Closed(closure))
+        }
+        Fate::Apart(x, y) => {
+            let origins = origins_of(alloc, &family.held)?;
+            Ok(Outcome::Apart(lasso_of(alloc, first, origins.as_slice(), x, y)?))
+        }
+        Fate::Full => Ok(Outcome::Limit(origins_of(alloc, &family.held)?)),
+    }
+}
+
+/// The search with the blocks of this pool: where it closes, each live element gets one for its graph. At the end all are given back, so
+/// the live blocks of the pool are as before, whatever comes; a closed search leaves as many free blocks as it has live elements.
+pub fn search_in(
+    alloc: Global,
+    pool: &mut Pool,
+    first: &Auto,
+    second: &Auto,
+    order: &Rel,
+    limit: u32,
+) -> Result<Outcome, Memory>
+    requires labels { first.now.labels ≡ second.now.labels }
+    requires order_size { order.now.size ≡ second.now.states }
+    requires greatest { IsGreatestForward second.now 1 order.now.pairs }
+    requires some { 1 ≤ limit }
+    requires few { limit ≤ 100000 }
+    requires size { pool.old.size ≡ 2 * second.now.states * width_of second.now.states }
+    requires room { finite.len pool.old.blocks + limit + 2 < 2 ^ 32 }
+    ensures answer { IfOk result (IsOutcomeOf first.now second.now order.now.pairs limit) }
+    ensures truth { IfOk result (IsTrueOutcome first.now second.now order.now.pairs limit) }
+    ensures size { pool.new.size ≡ pool.old.size }
+    ensures blocks { pool.new.blocks ≡ pool.old.blocks }
+    ensures free { IfOk result (λ outcome. HasRoomFor outcome pool.new.spare) }
+{
+    let mut family = Family::new(alloc, first.states())?;
+    let mut graphs = Graphs::new(alloc)?;
+    let mut answers = GraphPairs::new(alloc, second.states())?;
+    let mut blocks = ElementBlocks::new(alloc);
+    blocks.exchange(pool);
+    let outcome = outcome_of(
+        alloc,
+        first,
+        second,
+        order,
+        limit,
+        &mut graphs,
+        &mut family,
+        &mut answers,
+        &mut blocks,
+    );
+    *pool = blocks.into_pool();
+    outcome
+}
+
 /// Searches for a closed set of supergraphs, with at most so many elements. The order is the greatest forward relation at
 /// lookahead 1 of the second automaton.
 pub fn search(
@@ -64,29 +164,6 @@ pub fn search(
     ensures answer { IfOk result (IsOutcomeOf first.now second.now order.now.pairs limit) }
     ensures truth { IfOk result (IsTrueOutcome first.now second.now order.now.pairs limit) }
 {
-    let mut family = Family::new(alloc, first.states())?;
-    let mut graphs = Graphs::new(alloc)?;
-    let mut answers = GraphPairs::new(alloc, second.states())?;
-    let fate = run(
-        alloc,
-        first,
-        second,
-        order,
-        limit,
-        &mut graphs,
-        &mut family,
-        &mut answers,
-    )?;
-    match fate {
-        Fate::GoesOn => {
-            let told = &mut answers.covers;
-            let closure = closure(alloc, first, second, order, &mut graphs, told, &family)?;
-            Ok(Outcome::Closed(closure))
-        }
-        Fate::Apart(x, y) => {
-            let origins = origins_of(alloc, &family.held)?;
-            Ok(Outcome::Apart(lasso_of(alloc, first, origins.as_slice(), x, y)?))
-        }
-        Fate::Full => Ok(Outcome::Limit(origins_of(alloc, &family.held)?)),
-    }
+    let mut pool = Pool::new(alloc, words_of(second.states()));
+    search_in(alloc, &mut pool, first, second, order, limit)
 }

@@ -18,7 +18,7 @@ use Rattle.ramsey_search.proofs.TurnLemmas.{held_in_range, fits_together}
 use Rattle.ramsey_search.proofs.ClosureLemmas.{starts_have, steps_have, dropped_have, live_cover_themselves}
 use Rattle.evidence.specs.Evidence.{IsStepOf}
 use Rattle.evidence.specs.declared.parts.Closure.{Closure}
-use Rattle.ramsey_search.proofs.ClosingLemmas.{closure_is}
+use Rattle.ramsey_search.proofs.ClosingLemmas.{closure_is, marked_flags}
 use Rattle.ramsey_search.proofs.closing.closure.Goals as goal
 
 pub elements-requires : goal.elements-requires
@@ -93,8 +93,11 @@ returns c =
     let stays = whole_stays A B S g c.cover.new.graphs.graphs.items f c.requires.second_valid c.in_ok-cover.ensures.grown c.requires.whole in
     let closure : Closure = record { elements = c.in_ok-elements.elements; cover = c.in_ok-cover.cover; steps = c.in_ok-steps.steps } in
     let count : length f.held.items ≡ length (view g f).held = sym (length-map f.held.items (seen g)) in
-    closure_is A B S c.requires.closed.0 c.requires.first_valid c.requires.second_valid c.requires.greatest (view g f) c.requires.whole c.requires.closed.1 n c.requires.order_size closure
-    (subst (λ k. AreMarked n S (view g f) k c.in_ok-elements.elements) count c.in_ok-elements.ensures.elements)
-    c.in_ok-cover.ensures.size c.in_ok-cover.ensures.each
-    (c.in_ok-steps.ensures.lines ∙ ap (λ k. filter (λ e. slice_index_or f.live.items e false) (range_with_len 0 k)) count)
-    (λ k l is. subst (λ w. IsStepOf (supergraph_rules A B S) (entries_held A w) l) stays.0 (c.in_ok-steps.ensures.each k l is))
+    let marked : AreMarked n S (view g f) (length (view g f).held) c.in_ok-elements.elements = subst (λ k. AreMarked n S (view g f) k c.in_ok-elements.elements) count c.in_ok-elements.ensures.elements in
+    record {
+      evidence = closure_is A B S c.requires.closed.0 c.requires.first_valid c.requires.second_valid c.requires.greatest (view g f) c.requires.whole c.requires.closed.1 n c.requires.order_size closure
+          marked c.in_ok-cover.ensures.size c.in_ok-cover.ensures.each
+          (c.in_ok-steps.ensures.lines ∙ ap (λ k. filter (λ e. slice_index_or f.live.items e false) (range_with_len 0 k)) count)
+          (λ k l is. subst (λ w. IsStepOf (supergraph_rules A B S) (entries_held A w) l) stays.0 (c.in_ok-steps.ensures.each k l is));
+      live = marked_flags n S (view g f) c.in_ok-elements.elements (c.requires.whole.live_size ∙ sym c.requires.whole.size) marked;
+    }
