@@ -8,7 +8,6 @@ use Rattle.delayed_game.specs.Across.{HoldsPlacePair}
 use Rattle.delayed_game.specs.Pairings.{Pairing, IsPairing, IsNarrowed, Loses}
 use Rattle.delayed_game.proofs.BoardLemmas.{fewer_pairs}
 use Rattle.row_steps.specs.Walks.{IsNextBit}
-use Rattle.delayed_game.specs.Before.{LeadsTo}
 use Rattle.delayed_game.specs.Settling.{AnswersAll, Shrinks, IsFiltered, IsAnsweredIn, IsAnsweredInto, IsAnsweredBesides, IsPlaceUnderWay, Tries}
 
 -- what a bit of the row of p says of a pair
@@ -174,15 +173,15 @@ module _ (L A : Automaton) where
     leaves = λ X right inside. second.leaves X right (first.leaves X right inside);
   }
 
-  -- the pairs of p went from whose right state no move by the letter a answers one of p to p'
+  -- the pairs of p went from whose right state no move by the letter a answers one of p to p' by a pair of an older relation
   pub filter_shrinks :
-      (R S : Pairing) (p a p' : ℕ) (row ends : List ℕ) (changed : Bool)
+      (old R S : Pairing) (p a p' : ℕ) (row : List ℕ) (changed : Bool)
       → Moves L p a p'
-      → ((q : ℕ) → Holds R.pairs p' q → HasBit ends q)
-      → ((q : ℕ) → HasBit row q ↔ LeadsTo A a ends q)
+      → ((q : ℕ) → Holds R.pairs p' q → Holds old.pairs p' q)
+      → ((q : ℕ) → Holds R.pairs p q → HasBit row q ↔ IsAnsweredIn A (Holds old.pairs) q a p')
       → IsFiltered R S p (λ q. HasBit row q) changed
       → Shrinks L A R S
-  filter_shrinks R S p a p' row ends changed move inside_ends leads f = record {
+  filter_shrinks old R S p a p' row changed move within answers f = record {
     places = f.places;
     states = f.states;
     valid = f.valid;
@@ -191,7 +190,7 @@ module _ (L A : Automaton) where
       inside r s h,
       λ e.
           let answer = right.answers p s a p' (subst (λ x. HoldsPlacePair X x s) e h) move in
-          (leads s).1 (answer.0, answer.1, inside_ends answer.0 (inside p' answer.0 answer.2)),
+          (answers s (subst (λ x. Holds R.pairs x s) e (inside r s h))).1 (answer.0, answer.1, within answer.0 (inside p' answer.0 answer.2)),
     );
   }
 
@@ -254,39 +253,31 @@ module _ (L A : Automaton) where
 
   -- Rows that lost pairs are marked: moves to the others stay answered.
   pub under_way_stays :
-      (to : ℕ) (ends : List ℕ) (R S : Pairing) (marks marks' : List ℕ)
-      → IsPlaceUnderWay L A to ends R marks
+      (to : ℕ) (old R S : Pairing) (marks marks' : List ℕ)
+      → IsPlaceUnderWay L A to old R marks
       → ((p q : ℕ) → Holds S.pairs p q → Holds R.pairs p q)
       → ((x : ℕ) → bit_of marks' x ≡ false → (bit_of marks x ≡ false) × ((q : ℕ) → Holds R.pairs x q → Holds S.pairs x q))
-      → IsPlaceUnderWay L A to ends S marks'
-  under_way_stays to ends R S marks marks' h within marked = record {
+      → IsPlaceUnderWay L A to old S marks'
+  under_way_stays to old R S marks marks' h within marked = record {
     others = λ x x_in apart clear. let m = marked x clear in into_stays R S x within m.1 (h.others x x_in apart m.0);
-    inside = λ q held. h.inside q (within to q held);
-    still = λ clear q bit. let m = marked to clear in m.1 q (h.still m.0 q bit);
+    still = λ clear q held. let m = marked to clear in m.1 q (h.still m.0 q held);
   }
 
--- The first n moves into the state are answered, if it is not marked.
-abbrev pub HasAnswered : Automaton → Automaton → ℕ → List ℕ → Pairing → List ℕ → ℕ → Type 0
-HasAnswered L A to ns R marks n =
-    bit_of marks to ≡ false → (k q : ℕ) → k < n → Holds R.pairs (trans_at L (get_or ns k 0)).source q → IsAnsweredIn A (Holds R.pairs) q (trans_at L (get_or ns k 0)).label to
+-- The first n moves into the state are answered by pairs of an older relation.
+abbrev pub HasAnswered : Automaton → Automaton → ℕ → List ℕ → Pairing → Pairing → ℕ → Type 0
+HasAnswered L A to ns old R n =
+    (k q : ℕ) → k < n → Holds R.pairs (trans_at L (get_or ns k 0)).source q → IsAnsweredIn A (Holds old.pairs) q (trans_at L (get_or ns k 0)).label to
 
--- The row of the i-th move's source was filtered; rows that lost pairs are marked.
+-- The row of the i-th move's source was filtered.
 pub answered_more :
-    (L A : Automaton) (to : ℕ) (ns ends row : List ℕ) (R S : Pairing) (marks marks' : List ℕ) (i : ℕ) (b : Bool)
-    → HasAnswered L A to ns R marks i
-    → IsPlaceUnderWay L A to ends R marks
+    (L A : Automaton) (to : ℕ) (ns row : List ℕ) (old R S : Pairing) (i : ℕ) (b : Bool)
+    → HasAnswered L A to ns old R i
     → IsFiltered R S (trans_at L (get_or ns i 0)).source (λ q. HasBit row q) b
-    → ((q : ℕ) → HasBit row q ↔ LeadsTo A (trans_at L (get_or ns i 0)).label ends q)
-    → ((x : ℕ) → bit_of marks' x ≡ false → (bit_of marks x ≡ false) × ((q : ℕ) → Holds R.pairs x q → Holds S.pairs x q))
-    → HasAnswered L A to ns S marks' (i + 1)
-answered_more L A to ns ends row R S marks marks' i b h way f leads marked clear k q lt held =
-    let m = marked to clear in
-    elim (cases_eq k i) [
-      | inl e ↦
-          let here : Holds S.pairs (trans_at L (get_or ns i 0)).source q = subst (λ j. Holds S.pairs (trans_at L (get_or ns j 0)).source q) e held in
-          let answer = (leads q).0 (((f.pairs (trans_at L (get_or ns i 0)).source q).0 here).1 refl) in
-          subst (λ j. IsAnsweredIn A (Holds S.pairs) q (trans_at L (get_or ns j 0)).label to) (sym e) (answer.0, answer.1, m.1 answer.0 (way.still m.0 answer.0 answer.2))
-      | inr apart ↦
-          let answer = h m.0 k q (omega arith) ((f.pairs (trans_at L (get_or ns k 0)).source q).0 held).0 in
-          (answer.0, answer.1, m.1 answer.0 answer.2)
-    ]
+    → ((q : ℕ) → Holds R.pairs (trans_at L (get_or ns i 0)).source q → HasBit row q ↔ IsAnsweredIn A (Holds old.pairs) q (trans_at L (get_or ns i 0)).label to)
+    → HasAnswered L A to ns old S (i + 1)
+answered_more L A to ns row old R S i b h f answers k q lt held = elim (cases_eq k i) [
+  | inl e ↦
+      let both = (f.pairs (trans_at L (get_or ns i 0)).source q).0 (subst (λ j. Holds S.pairs (trans_at L (get_or ns j 0)).source q) e held) in
+      subst (λ j. IsAnsweredIn A (Holds old.pairs) q (trans_at L (get_or ns j 0)).label to) (sym e) ((answers q both.0).0 (both.1 refl))
+  | inr apart ↦ h k q (omega arith) ((f.pairs (trans_at L (get_or ns k 0)).source q).0 held).0
+]

@@ -1,8 +1,8 @@
 -- Taking pairs away that can be in no right relation.
-use Rattle.std.specs.Prelude.{◌≡◌, ℕ, ◌<◌, ◌≤◌, ◌↔◌, Bool, false, true, List, length, Some}
+use Rattle.std.specs.Prelude.{◌≡◌, ℕ, ◌*◌, ◌<◌, ◌≤◌, ◌↔◌, Bool, false, true, List, length, Some}
 use Rattle.auto_core.specs.Automaton.{Automaton, Moves, IsAccepting}
 use Rattle.auto_core.specs.Game.{Holds, IsWithin}
-use Rattle.auto_core.specs.Rows.{bit_of, HasBit}
+use Rattle.auto_core.specs.Rows.{bit_of, HasBit, HasCell}
 use Rattle.delayed_game.specs.Across.{RankedPlacePairs, HoldsPlacePair, IsRightAcross}
 use Rattle.delayed_game.specs.Pairings.{Pairing, IsPairing}
 use Rattle.delayed_game.specs.Levels.{rank_in_table}
@@ -47,12 +47,17 @@ IsAnsweredInto L A R y = (x a q : ℕ) → Moves L x a y → R x q → IsAnswere
 abbrev pub IsAnsweredBesides : Automaton → Automaton → (ℕ → ℕ → Type 0) → List ℕ → Type 0
 IsAnsweredBesides L A R marks = (y : ℕ) → y < L.states → bit_of marks y ≡ false → IsAnsweredInto L A R y
 
--- While the moves to one place are tried: moves to the other places are answered, if they are not marked, and the row `ends` has the pairs of this place,
--- and no more as long as it is not marked.
-pub record IsPlaceUnderWay (L A : Automaton) (to : ℕ) (ends : List ℕ) (R : Pairing) (marks : List ℕ) : Type 0 where
+-- In the table the rows of the places in `tried` have states alone, and each move to one of these places is answered by a move to a state that
+-- its row has.
+pub record AreKept (L A : Automaton) (w : ℕ) (kept tried : List ℕ) (R : Pairing) : Type 0 where
+  pub columns : (y q : ℕ) → y < L.states → HasBit tried y → q < w * 64 → HasCell kept w y q → q < A.states
+  pub answered : (x a y q : ℕ) → y < L.states → HasBit tried y → Moves L x a y → Holds R.pairs x q → IsAnsweredIn A (HasCell kept w) q a y
+
+-- While the moves to one place are tried: moves to the other places are answered, if they are not marked, and this place lost no pair as long as
+-- it is not marked.
+pub record IsPlaceUnderWay (L A : Automaton) (to : ℕ) (old R : Pairing) (marks : List ℕ) : Type 0 where
   pub others : (x : ℕ) → x < L.states → ¬ (x ≡ to) → bit_of marks x ≡ false → IsAnsweredInto L A (Holds R.pairs) x
-  pub inside : (q : ℕ) → Holds R.pairs to q → HasBit ends q
-  pub still : bit_of marks to ≡ false → (q : ℕ) → HasBit ends q → Holds R.pairs to q
+  pub still : bit_of marks to ≡ false → (q : ℕ) → Holds old.pairs to q → Holds R.pairs to q
 
 -- Pairs went, but none that is in a right relation inside the old one; `any` tells whether any went, and else the marks stay. No mark went.
 pub record Tries (L A : Automaton) (old new : Pairing) (marks marks' : List ℕ) (any : Bool) : Type 0 where

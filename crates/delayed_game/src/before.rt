@@ -41,7 +41,7 @@ pub fn mark_before(automaton: &Auto, right: u32, made: &mut [u64], width: usize)
 }
 
 /// Marks the states from which a move leads to a state of `ends`, each in the row of the move's letter.
-fn mark_ends(automaton: &Auto, ends: &[u64], made: &mut [u64], width: usize)
+pub fn mark_ends(automaton: &Auto, ends: &[u64], made: &mut [u64], width: usize)
     requires valid { IsAutomaton automaton.now }
     requires ends { (q : ℕ) → HasBit ends.now q → q < automaton.now.states }
     requires width { width ≡ (automaton.now.states + 63) / 64 }

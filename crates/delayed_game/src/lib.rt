@@ -4,6 +4,7 @@
 mod before;
 mod board;
 mod levels;
+mod mending;
 mod pairs;
 mod playing;
 mod sets;

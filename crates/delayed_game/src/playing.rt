@@ -5,7 +5,7 @@ ghost use Rattle.auto_core.specs.Automaton.{IsAutomaton};
 ghost use Rattle.auto_core.specs.Game.{Holds};
 ghost use Rattle.delayed_game.specs.Before.{AreSetsIfAny};
 ghost use Rattle.delayed_game.specs.Pairings.{IsPairing};
-ghost use Rattle.delayed_game.specs.Settling.{HasSomeRank, IsAnsweredBesides, IsFiltered, Drops};
+ghost use Rattle.delayed_game.specs.Settling.{AreKept, HasSomeRank, IsAnsweredBesides, IsFiltered, Drops};
 ghost use Rattle.delayed_game.specs.Played.{IsPlayed};
 
 use crate::board::Board;
@@ -81,8 +81,8 @@ fn drop_unranked(places: &Auto, board: &mut Board, ranks: &[u32], marks: &mut [u
     any
 }
 
-/// Takes pairs away until the relation with its least ranks is right, and writes these ranks into the table, which has none yet. `ends`
-/// and `row` are room for one row, `made` for a row for each letter.
+/// Takes pairs away until the relation with its least ranks is right, and writes these ranks into the table, which has none yet. `row`
+/// is room for one row, `made` for a row for each letter.
 fn rank_or_drop(
     alloc: Global,
     places: &Auto,
@@ -91,7 +91,8 @@ fn rank_or_drop(
     board: &mut Board,
     ranks: &mut [u32],
     marks: &mut [u64],
-    ends: &mut [u64],
+    kept: &mut [u64],
+    tried: &mut [u64],
     made: &mut [u64],
     width: usize,
     row: &mut [u64],
@@ -108,19 +109,21 @@ fn rank_or_drop(
     requires clear { (i : ℕ) → slice_index ranks.old i ≡ 0 }
     requires marks_len { length marks.old ≡ (places.now.states + 63) / 64 }
     requires width { width ≡ (automaton.now.states + 63) / 64 }
-    requires ends_len { length ends.old ≡ width }
+    requires kept_len { length kept.old ≡ places.now.states * width }
+    requires tried_len { length tried.old ≡ (places.now.states + 63) / 64 }
     requires made_len { length made.old ≡ automaton.now.labels * width }
     requires row_len { length row.old ≡ width }
+    requires kept { AreKept places.now automaton.now width kept.old tried.old board.old }
     requires besides { IsAnsweredBesides places.now automaton.now (Holds board.old.pairs) marks.old }
     ensures { IfOk result (λ _. IsPlayed places.now automaton.now board.old board.new ranks.new) }
 {
     settle(
-        places, automaton, sets, board, marks, ends, made, width, row,
+        places, automaton, sets, board, marks, kept, tried, made, width, row,
     );
     least_ranks(alloc, places, automaton, sets, board, ranks)?;
     'turns: while drop_unranked(places, board, ranks, marks) {
         settle(
-            places, automaton, sets, board, marks, ends, made, width, row,
+            places, automaton, sets, board, marks, kept, tried, made, width, row,
         );
         clear_ranks(ranks);
         least_ranks(alloc, places, automaton, sets, board, ranks)?;
@@ -128,8 +131,8 @@ fn rank_or_drop(
     Ok(())
 }
 
-/// Takes pairs away until the relation with its least ranks is right, and gives these ranks. `ends` and `row` are room for one row, `made`
-/// for a row for each letter.
+/// Takes pairs away until the relation with its least ranks is right, and gives these ranks. `row` is room for one row, `made` for a row
+/// for each letter.
 fn ranks_left(
     alloc: Global,
     places: &Auto,
@@ -137,7 +140,8 @@ fn ranks_left(
     sets: &[u64],
     board: &mut Board,
     marks: &mut [u64],
-    ends: &mut [u64],
+    kept: &mut [u64],
+    tried: &mut [u64],
     made: &mut [u64],
     width: usize,
     row: &mut [u64],
@@ -152,15 +156,17 @@ fn ranks_left(
     requires valid { IsPairing board.old }
     requires marks_len { length marks.old ≡ (places.now.states + 63) / 64 }
     requires width { width ≡ (automaton.now.states + 63) / 64 }
-    requires ends_len { length ends.old ≡ width }
+    requires kept_len { length kept.old ≡ places.now.states * width }
+    requires tried_len { length tried.old ≡ (places.now.states + 63) / 64 }
     requires made_len { length made.old ≡ automaton.now.labels * width }
     requires row_len { length row.old ≡ width }
+    requires kept { AreKept places.now automaton.now width kept.old tried.old board.old }
     requires besides { IsAnsweredBesides places.now automaton.now (Holds board.old.pairs) marks.old }
     ensures { IfOk result (λ v. IsPlayed places.now automaton.now board.old board.new v.items) }
 {
     let mut ranks = no_ranks(alloc, places.states(), automaton.states())?;
     rank_or_drop(
-        alloc, places, automaton, sets, board, &mut ranks, marks, ends, made, width, row,
+        alloc, places, automaton, sets, board, &mut ranks, marks, kept, tried, made, width, row,
     )?;
     Ok(ranks)
 }
@@ -200,12 +206,14 @@ pub fn play(
 {
     let width = rows::words_for(automaton.states());
     let mut marks = vec![in alloc; 0; rows::words_for(places.states())]?;
-    let mut ends = vec![in alloc; 0; width]?;
+    let mut kept = vec![in alloc; 0; places.states() as usize * width]?;
+    let mut tried = vec![in alloc; 0; rows::words_for(places.states())]?;
     let mut made = vec![in alloc; 0; automaton.labels() as usize * width]?;
     let mut row = vec![in alloc; 0; width]?;
     let sets = sets_if_many(alloc, board, automaton, width)?;
     mark_below(&mut marks, places.states());
     ranks_left(
-        alloc, places, automaton, &sets, board, &mut marks, &mut ends, &mut made, width, &mut row,
+        alloc, places, automaton, &sets, board, &mut marks, &mut kept, &mut tried, &mut made,
+        width, &mut row,
     )
 }

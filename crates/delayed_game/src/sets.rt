@@ -1,4 +1,4 @@
-//! The states before each set of four neighbouring states, in a table: the states before a row of many are found four at a time.
+//! The states before each set of four neighbouring states, in a table: the states before a row of many are found sixteen at a time.
 
 ghost use Rattle.std.specs.Prelude.{◌≡◌, ◌+◌, ◌*◌, ◌/◌, ◌^◌, ◌<◌, ◌≤◌, ◌↔◌, ◌⊎◌, ◌==◌, ◌||◌, ℕ, true, false, length, IfOk};
 ghost use Rattle.std.specs.Int.{bit_at};
@@ -6,7 +6,7 @@ ghost use Rattle.auto_core.specs.Automaton.{IsAutomaton};
 ghost use Rattle.auto_core.specs.Rows.{bit_of, HasBit, HasCell};
 ghost use Rattle.delayed_game.specs.Before.{LeadsTo, LeadsToSet, LeadsToFour, IsSetTable, AreSetsIfAny};
 
-use crate::before::mark_before;
+use crate::before::{mark_before, mark_ends};
 use crate::board::bits_in;
 use auto_core::{Auto, Memory, rows};
 use row_steps::{next_bit, write_row};
@@ -130,27 +130,8 @@ fn or_each_into(into: &mut [u64], first: &[u64], second: &[u64], third: &[u64], 
     }
 }
 
-/// Marks the states from which a move leads to a state of `ends`, each in the row of the move's letter, by the table of sets, four states
+/// Marks the states from which a move leads to a state of `ends`, each in the row of the move's letter, by the table of sets, sixteen states
 /// at once.
-fn mark_by_fours(automaton: &Auto, sets: &[u64], ends: &[u64], made: &mut [u64], width: usize)
-    requires valid { IsAutomaton automaton.now }
-    requires width { width ≡ (automaton.now.states + 63) / 64 }
-    requires sets { IsSetTable automaton.now width (width * 256) sets.now }
-    requires ends { (q : ℕ) → HasBit ends.now q → q < automaton.now.states }
-    requires ends_len { length ends.now ≡ width }
-    requires made { length made.old ≡ automaton.now.labels * width }
-    ensures { (a q : ℕ) → q < width * 64 → HasCell made.new width a q ↔ (HasCell made.old width a q ⊎ LeadsTo automaton.now a ends.now q) }
-{
-    let mut at = 0;
-    while let Some(right) = next_bit(ends, at) {
-        let four = right / 4;
-        let row = row_of_four(automaton, sets, ends, four, width);
-        rows::or_into(made, row);
-        at = four * 4 + 4;
-    }
-}
-
-/// The same, sixteen states at once.
 fn mark_by_sixteens(automaton: &Auto, sets: &[u64], ends: &[u64], made: &mut [u64], width: usize)
     requires valid { IsAutomaton automaton.now }
     requires width { width ≡ (automaton.now.states + 63) / 64 }
@@ -172,12 +153,13 @@ fn mark_by_sixteens(automaton: &Auto, sets: &[u64], ends: &[u64], made: &mut [u6
     }
 }
 
-/// Tells whether the row has many of the states: more than one of eight.
-fn has_many(row: &[u64], states: u32) -> bool {
-    bits_in(row) > states as usize / 8
+/// Tells whether the row has so many states that it is quicker to look at sixteen at once: more in a word than half as many as it has words.
+fn has_many(row: &[u64]) -> bool {
+    bits_in(row) / row.len().max(1) > row.len() / 2
 }
 
-/// Marks the states from which a move leads to a state of `ends`, each in the row of the move's letter, by the table of sets.
+/// Marks the states from which a move leads to a state of `ends`, each in the row of the move's letter, by the table of sets
+/// where they are many.
 pub fn mark_ends_by(automaton: &Auto, sets: &[u64], ends: &[u64], made: &mut [u64], width: usize)
     requires valid { IsAutomaton automaton.now }
     requires width { width ≡ (automaton.now.states + 63) / 64 }
@@ -187,9 +169,9 @@ pub fn mark_ends_by(automaton: &Auto, sets: &[u64], ends: &[u64], made: &mut [u6
     requires made { length made.old ≡ automaton.now.labels * width }
     ensures { (a q : ℕ) → q < width * 64 → HasCell made.new width a q ↔ (HasCell made.old width a q ⊎ LeadsTo automaton.now a ends.now q) }
 {
-    if has_many(ends, automaton.states()) {
+    if has_many(ends) {
         mark_by_sixteens(automaton, sets, ends, made, width);
     } else {
-        mark_by_fours(automaton, sets, ends, made, width);
+        mark_ends(automaton, ends, made, width);
     }
 }

@@ -5,6 +5,7 @@ use Rattle.delayed_game.specs.Pairings.{Pairing}
 use Rattle.delayed_game.proofs.BoardLemmas.{no_more_pairs}
 use Rattle.delayed_game.specs.Settling.{AnswersAll, Drops, HasSomeRank, Shrinks}
 use Rattle.delayed_game.specs.Boards.{AreLeastRanks}
+use Rattle.delayed_game.proofs.MendLemmas.{kept_stays}
 use Rattle.delayed_game.proofs.SettleLemmas.{shrinks_then}
 use Rattle.delayed_game.proofs.GreatestLemmas.{drops_shrinks, drops_besides}
 use Rattle.delayed_game.proofs.playing.rank_or_drop.Goals as goal
@@ -14,6 +15,10 @@ settle-requires-in-turns-clause-besides c =
     let L = c.args.places.now in
     let A = c.args.automaton.now in
     drops_besides L A c.turns.board.states c.turns.ranks c.turns.board c.drop_unranked.new.board c.turns.marks c.drop_unranked.new.marks (λ p a p' move. (move_in_range L c.requires.over p a p' move).1) c.turns.invariant.2 c.drop_unranked.ensures.drops
+
+pub settle-requires-in-turns-clause-kept : goal.settle-requires-in-turns-clause-kept
+settle-requires-in-turns-clause-kept c =
+    kept_stays c.args.places.now c.args.automaton.now c.args.width c.turns.kept c.turns.tried c.turns.board c.drop_unranked.new.board c.drop_unranked.ensures.drops.within c.turns.invariant.4
 
 pub turns-smaller : goal.turns-smaller
 turns-smaller c =
@@ -36,6 +41,7 @@ turns-preserved c =
       c.settle-in-turns.ensures.unmarked,
       c.settle-in-turns.ensures.answered,
       c.in_ok-least_ranks-2.ensures,
+      c.settle-in-turns.ensures.kept,
     )
 
 pub returns : goal.returns

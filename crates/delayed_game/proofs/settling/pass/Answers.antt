@@ -12,6 +12,7 @@ loop-to-init c = (
   λ yes. absurd (false≢true yes),
   λ no x from x_in. absurd (omega (arith, c.states-to.ensures.count)),
   c.requires.besides,
+  c.requires.kept,
 )
 
 pub try_into-requires-clause-others : goal.try_into-requires-clause-others
@@ -28,6 +29,7 @@ loop-to-preserved-then-try_into c =
       λ yes. omega arith,
       λ no. absurd (false≢true (sym no)),
       c.try_into.ensures.answered,
+      c.try_into.ensures.kept,
     )
 
 pub loop-to-preserved-else-try_into : goal.loop-to-preserved-else-try_into
@@ -49,6 +51,7 @@ loop-to-preserved-else-try_into c =
         | inr apart ↦ c.clear_bit.ensures.others x apart ∙ h.3 no x (omega arith) x_in
       ],
       c.try_into.ensures.answered,
+      c.try_into.ensures.kept,
     )
 
 pub loop-to-preserved : goal.loop-to-preserved
@@ -65,4 +68,5 @@ loop-to-preserved c =
         | inr apart ↦ h.3 no x (omega arith) x_in
       ],
       h.4,
+      h.5,
     )
