@@ -12,7 +12,7 @@ use cert_value::{Keyword, RankBlock, RankRow, RelBlock, Row};
 use std::alloc::Global;
 
 /// What is due in a relation.
-#[derive(Debug, Drop)]
+#[derive(Drop)]
 pub(crate) enum BlockState {
     /// The number of its rows.
     Count,
@@ -72,7 +72,7 @@ pub(crate) fn step_block(
 }
 
 /// What is due in a relation with ranks.
-#[derive(Debug, Drop)]
+#[derive(Drop)]
 pub(crate) enum RankState {
     /// The number of its rows.
     Count,

@@ -15,7 +15,7 @@ use cert_value::{Body, Element, Keyword, RelBlock, StepLine, is_live};
 use std::alloc::Global;
 
 /// What is due of a yes after its logs.
-#[derive(Debug, Drop)]
+#[derive(Drop)]
 pub(crate) enum YesState {
     /// The order.
     Order(BlockState),
@@ -53,7 +53,7 @@ pub(crate) enum YesState {
 }
 
 /// What is due of a list after its logs.
-#[derive(Debug, Drop)]
+#[derive(Drop)]
 pub(crate) enum ListState {
     /// The limit.
     Limit,
@@ -71,7 +71,7 @@ pub(crate) enum ListState {
 }
 
 /// What is due of a no.
-#[derive(Debug, Drop)]
+#[derive(Drop)]
 pub(crate) enum NoState {
     /// The prefix of a lasso.
     Prefix,

@@ -13,7 +13,7 @@ use cert_value::{FirstStep, GoneBy, Keyword, RelBlock, blocks_due};
 use std::alloc::Global;
 
 /// What is due in a step of the first log.
-#[derive(Debug, Drop)]
+#[derive(Drop)]
 pub(crate) enum FirstState {
     /// Its head.
     Head,
@@ -39,7 +39,7 @@ pub(crate) enum FirstState {
 }
 
 /// What is due in the first log.
-#[derive(Debug, Drop)]
+#[derive(Drop)]
 pub(crate) enum FirstLog {
     /// The number of its steps.
     Count,

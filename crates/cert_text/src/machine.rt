@@ -16,7 +16,7 @@ use cert_value::{Body, Cert, FirstStep, Form, Keyword, ListBody, SecondStep, Yes
 use std::alloc::Global;
 
 /// What the first two lines say.
-#[derive(Clone, Copy, Debug, PartialEq, Eq)]
+#[derive(Clone, Copy)]
 pub(crate) struct Opening {
     /// The version.
     pub(crate) version: u32,
@@ -29,7 +29,7 @@ pub(crate) struct Opening {
 }
 
 /// What is due, with what was read.
-#[derive(Debug, Drop)]
+#[derive(Drop)]
 pub(crate) enum State {
     /// The first line.
     Heading,
@@ -175,7 +175,11 @@ fn next_yes(
                 steps: closed.steps,
             }),
         )),
-        Err(fault) => Err(fault),
+        Err(fault) => {
+            drop(first);
+            drop(second);
+            Err(fault)
+        }
     }
 }
 
@@ -202,7 +206,11 @@ fn next_list(
                 elements: limited.elements,
             }),
         )),
-        Err(fault) => Err(fault),
+        Err(fault) => {
+            drop(first);
+            drop(second);
+            Err(fault)
+        }
     }
 }
 
@@ -229,8 +237,14 @@ pub(crate) fn next_state(alloc: Global, state: State, line: &[u8]) -> Result<Sta
         ),
         State::End(cert) => match word_in(Keyword::End, line) {
             Ok(()) => Ok(State::Done(cert)),
-            Err(fault) => Err(fault),
+            Err(fault) => {
+                drop(cert);
+                Err(fault)
+            }
         },
-        State::Done(_) => Err(LineFault::Text(TextKind::Trailing)),
+        State::Done(cert) => {
+            drop(cert);
+            Err(LineFault::Text(TextKind::Trailing))
+        }
     }
 }

@@ -8,7 +8,7 @@ use cert_line::LineFault;
 use cert_value::{Element, RelBlock, StepLine};
 
 /// What comes of a line: there is more to read, or the part is whole.
-#[derive(Debug, Drop)]
+#[derive(Drop)]
 pub(crate) enum Step<S: Drop, X: Drop> {
     /// There is more to read.
     More(S),
@@ -17,7 +17,7 @@ pub(crate) enum Step<S: Drop, X: Drop> {
 }
 
 /// What a yes has after its logs.
-#[derive(Debug, Drop)]
+#[derive(Drop)]
 pub(crate) struct Closed {
     /// The order.
     pub(crate) order: RelBlock,
@@ -30,7 +30,7 @@ pub(crate) struct Closed {
 }
 
 /// What a list has after its logs.
-#[derive(Debug, Drop)]
+#[derive(Drop)]
 pub(crate) struct Limited {
     /// The limit.
     pub(crate) limit: u32,

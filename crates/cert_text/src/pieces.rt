@@ -41,7 +41,7 @@ impl Lines {
         let state = mem::replace(&mut self.state, State::Heading);
         match next_state(alloc, state, line) {
             Ok(next) => {
-                self.state = next;
+                drop(mem::replace(&mut self.state, next));
                 self.number = self.number.saturating_add(1);
                 Ok(())
             }

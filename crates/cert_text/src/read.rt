@@ -48,7 +48,10 @@ fn done_cert(state: State) -> Option<Cert>
 {
     match state {
         State::Done(cert) => Some(cert),
-        _ => None,
+        other => {
+            drop(other);
+            None
+        }
     }
 }
 
@@ -90,6 +93,9 @@ pub fn read_cert(alloc: Global, bytes: &[u8]) -> Result<Cert, CertReadFault>
     let mut reader = CertReader::new(alloc)?;
     match reader.feed(bytes) {
         Ok(()) => reader.finish(),
-        Err(_refused) => Err(CertReadFault::Memory),
+        Err(_refused) => {
+            drop(reader);
+            Err(CertReadFault::Memory)
+        }
     }
 }

@@ -15,7 +15,7 @@ use cert_value::{Grounds, Keyword, SecondStep};
 use std::alloc::Global;
 
 /// What is due in a step of the second log.
-#[derive(Debug, Drop)]
+#[derive(Drop)]
 pub(crate) enum SecondState {
     /// Its head.
     Head,
@@ -53,7 +53,7 @@ pub(crate) enum SecondState {
 }
 
 /// What is due in the second log.
-#[derive(Debug, Drop)]
+#[derive(Drop)]
 pub(crate) enum SecondLog {
     /// The number of its steps.
     Count,

@@ -90,15 +90,8 @@ fn step_answered<S: Side>(
     ensures answered { AreKnown (S.goes side.now automaton.now) (S.matches side.now automaton.now) (Holds rel.now.pairs) automaton.now.states width letters.new held.new known.new }
 {
     let place = path.len();
-    if is_known(
-        letters,
-        held,
-        known,
-        width,
-        left,
-        step,
-        rows::row_at(sets, width, place),
-    ) {
+    let row = rows::row_at(sets, width, place);
+    if is_known(letters, held, known, width, left, step, row) {
         return true;
     }
     if is_met(side, automaton, rel, answering, step, sets, width, place) {
@@ -114,34 +107,18 @@ fn step_answered<S: Side>(
     if side.moves(automaton, step.to) == 0 {
         return false;
     }
+    let fewer = left - 1;
+    let to = step.to;
     path.push_reserved(step);
     let answered = round_from(
-        side,
-        automaton,
-        rel,
-        answering,
-        left - 1,
-        step.to,
-        path,
-        sets,
-        letters,
-        held,
-        known,
-        width,
+        side, automaton, rel, answering, fewer, to, path, sets, letters, held, known, width,
     );
     path.pop();
     if !answered {
         return false;
     }
-    note(
-        letters,
-        held,
-        known,
-        width,
-        left,
-        step,
-        rows::row_at(sets, width, place),
-    );
+    let row = rows::row_at(sets, width, place);
+    note(letters, held, known, width, left, step, row);
     true
 }
 

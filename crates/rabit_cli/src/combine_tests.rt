@@ -1,10 +1,10 @@
 //! The union and the intersection of two automata in files in memory: what they print, and what they leave.
 
 use crate::fault_tests::many_lines;
-use crate::tests::{ONLY_B, USAGE, answers, numbers_of, shelf_of, words_of};
-use crate::top::run;
+use crate::include_tests::says;
+use crate::shrink_tests::holds;
+use crate::tests::{ONLY_B, USAGE, answers, shelf_of};
 use auto_core::Memory;
-use shelf_io::{MemSink, load};
 use std::alloc::Global;
 use std::test::Fail;
 
@@ -18,66 +18,45 @@ const TURNS: &str = "[0]\na,[0]->[1]\na,[1]->[0]\n[0]\n";
 /// What they print of ONE_A and ONLY_B.
 const A_OR_B: &str = "[0]\na,[0]->[1]\nb,[0]->[2]\na,[1]->[1]\nb,[2]->[2]\n[1]\n[2]\n";
 
-/// The status of the command on the two files, and whether just this text was sent.
+/// The status of the words on the two files, and whether just this text was sent.
 fn combines(
     alloc: Global,
-    command: &str,
+    words: &[&str],
     first: &str,
     second: &str,
     printed: &str,
 ) -> Result<(u8, bool), Memory> {
-    let files = [("A", first), ("B", second)];
-    answers(alloc, &[command, "A", "B"], &files, &[], &[], printed)
-}
-
-/// The same over finite words.
-fn combines_words(
-    alloc: Global,
-    command: &str,
-    first: &str,
-    second: &str,
-    printed: &str,
-) -> Result<(u8, bool), Memory> {
-    let files = [("A", first), ("B", second)];
-    let words = [command, "A", "--finite", "B"];
-    answers(alloc, &words, &files, &[], &[], printed)
+    answers(
+        alloc,
+        words,
+        &[("A", first), ("B", second)],
+        &[],
+        &[],
+        printed,
+    )
 }
 
 #[test]
-fn the_union_is_printed(rt: HostRuntime) -> Result<(), Fail> {
+fn what_is_made_is_printed(rt: HostRuntime) -> Result<(), Fail> {
     let alloc = rt.alloc();
-    assert_eq!(rt; combines(alloc, "union", ONE_A, ONLY_B, A_OR_B)?, (0, true));
     let at_once = "[0]\na,[0]->[1]\nb,[0]->[2]\na,[1]->[1]\nb,[2]->[2]\n[0]\n[1]\n[2]\n";
-    assert_eq!(rt;
-        combines_words(alloc, "union", ONE_A, ONLY_B, at_once)?,
-        (0, true)
-    );
-    Ok(())
-}
-
-#[test]
-fn the_intersection_is_printed(rt: HostRuntime) -> Result<(), Fail> {
-    let alloc = rt.alloc();
-    let rows = [
+    let in_turn = "[0]\na,[0]->[1]\na,[1]->[2]\na,[2]->[3]\na,[3]->[2]\n[0]\n[3]\n";
+    let rows: [(&[&str], &str, &str, &str); 5] = [
+        (&["union", "A", "B"], ONE_A, ONLY_B, A_OR_B),
+        (&["union", "A", "--finite", "B"], ONE_A, ONLY_B, at_once),
+        (&["intersect", "A", "B"], TWO_LETTERS, TURNS, in_turn),
+        // no letter is read by both
+        (&["intersect", "A", "B"], ONE_A, ONLY_B, "[0]\n[0]\n"),
         (
+            &["intersect", "A", "--finite", "B"],
             TWO_LETTERS,
             TURNS,
-            "[0]\na,[0]->[1]\na,[1]->[2]\na,[2]->[3]\na,[3]->[2]\n[0]\n[3]\n",
+            TURNS,
         ),
-        // no letter is read by both
-        (ONE_A, ONLY_B, "[0]\n[0]\n"),
     ];
-    for (first, second, printed) in rows {
-        assert_eq!(rt;
-            combines(alloc, "intersect", first, second, printed)?,
-            (0, true)
-        );
+    for (words, first, second, printed) in rows {
+        assert_eq!(rt; combines(alloc, words, first, second, printed)?, (0, true));
     }
-    let finite = "[0]\na,[0]->[1]\na,[1]->[0]\n[0]\n";
-    assert_eq!(rt;
-        combines_words(alloc, "intersect", TWO_LETTERS, TURNS, finite)?,
-        (0, true)
-    );
     Ok(())
 }
 
@@ -98,27 +77,33 @@ fn too_large_results_are_told(rt: HostRuntime) -> Result<(), Fail> {
     let alloc = rt.alloc();
     let first = ring(alloc, 512)?;
     let second = ring(alloc, 511)?;
-    assert_eq!(rt;
-        combines(
-            alloc,
+    let most = many_lines(alloc, 2047, 0)?;
+    let rows: [(&str, &str, &str, &[u64], &str); 3] = [
+        (
             "intersect",
             first.as_str(),
             second.as_str(),
-            "too large\n"
-        )?,
-        (12, true)
-    );
-    let most = many_lines(alloc, 2047, 0)?;
-    assert_eq!(rt;
-        combines(alloc, "union", most.as_str(), ONE_A, "too large\n")?,
-        (12, true)
-    );
-    // the status stays where the sink refuses the line
-    let files = [("A", most.as_str()), ("B", ONE_A)];
-    assert_eq!(rt;
-        answers(alloc, &["union", "A", "B"], &files, &[], &[0], "")?,
-        (12, true)
-    );
+            &[],
+            "too large\n",
+        ),
+        ("union", most.as_str(), ONE_A, &[], "too large\n"),
+        // the status stays where the sink refuses the line
+        ("union", most.as_str(), ONE_A, &[0], ""),
+    ];
+    for (command, one, other, sink_fails, printed) in rows {
+        let files = [("A", one), ("B", other)];
+        assert_eq!(rt;
+            answers(
+                alloc,
+                &[command, "A", "B"],
+                &files,
+                &[],
+                sink_fails,
+                printed
+            )?,
+            (12, true)
+        );
+    }
     Ok(())
 }
 
@@ -141,7 +126,7 @@ fn faults_and_limits_of_both_files_are_told(rt: HostRuntime) -> Result<(), Fail>
     for command in ["union", "intersect"] {
         for (first, second, printed) in rows {
             assert_eq!(rt;
-                combines(alloc, command, first, second, printed)?,
+                combines(alloc, &[command, "A", "B"], first, second, printed)?,
                 (4, true)
             );
         }
@@ -153,32 +138,27 @@ fn faults_and_limits_of_both_files_are_told(rt: HostRuntime) -> Result<(), Fail>
 fn other_words_and_failing_calls_are_told(rt: HostRuntime) -> Result<(), Fail> {
     let alloc = rt.alloc();
     let files = [("A", ONE_A), ("B", ONLY_B)];
-    let unasked: [&[&str]; 4] = [
-        &["union", "A"],
-        &["intersect", "A", "B", "A"],
-        &["union", "A", "B", "--look", "2"],
-        &["intersect", "A", "B", "--finite", "--finite"],
+    let rows: [(&[&str], &[u64], &[u64], &str, u8); 7] = [
+        (&["union", "A"], &[], &[], USAGE, 3),
+        (&["intersect", "A", "B", "A"], &[], &[], USAGE, 3),
+        (&["union", "A", "B", "--look", "2"], &[], &[], USAGE, 3),
+        (
+            &["intersect", "A", "B", "--finite", "--finite"],
+            &[],
+            &[],
+            USAGE,
+            3,
+        ),
+        (&["union", "A", "X"], &[], &[], "read fault\n", 6),
+        (&["union", "A", "B"], &[4], &[], "read fault\n", 6),
+        (&["union", "A", "B"], &[], &[0], "", 7),
     ];
-    for words in unasked {
-        assert_eq!(rt; answers(alloc, words, &files, &[], &[], USAGE)?, (3, true));
+    for (words, fails, sink_fails, printed, status) in rows {
+        assert_eq!(rt;
+            answers(alloc, words, &files, fails, sink_fails, printed)?,
+            (status, true)
+        );
     }
-    let words = ["union", "A", "B"];
-    assert_eq!(rt;
-        answers(
-            alloc,
-            &["union", "A", "X"],
-            &files,
-            &[],
-            &[],
-            "read fault\n"
-        )?,
-        (6, true)
-    );
-    assert_eq!(rt;
-        answers(alloc, &words, &files, &[4], &[], "read fault\n")?,
-        (6, true)
-    );
-    assert_eq!(rt; answers(alloc, &words, &files, &[], &[0], "")?, (7, true));
     Ok(())
 }
 
@@ -187,15 +167,12 @@ fn both_files_stay(rt: HostRuntime) -> Result<(), Fail> {
     let alloc = rt.alloc();
     let files = [("A", ONE_A), ("B", ONLY_B)];
     let mut shelf = shelf_of(alloc, &files, &[])?;
-    let mut out = MemSink::new(alloc, 1000, numbers_of(alloc, &[])?)?;
-    let words = words_of(alloc, &["union", "A", "B"])?;
-    assert_eq!(rt; run(alloc, &words, &mut shelf, &mut out), 0);
+    assert_eq!(rt;
+        says(alloc, &["union", "A", "B"], &mut shelf, &[], A_OR_B)?,
+        (0, true)
+    );
     for (name, text) in files {
-        let kept = match load(alloc, &mut shelf, name, 1000) {
-            Ok(bytes) => bytes.as_slice() == text.as_bytes(),
-            Err(_) => false,
-        };
-        assert!(rt; kept);
+        assert!(rt; holds(alloc, &mut shelf, name, text));
     }
     Ok(())
 }

@@ -82,57 +82,39 @@ fn other_files_break_rules_of_words(rt: HostRuntime) -> Result<(), Fail> {
     let alloc = rt.alloc();
     // the initial state of the second accepts nothing
     let silent = "[0]\na,[0]->[0]\n[1]\n";
-    let text = with_lines(
-        alloc,
-        &LINES,
-        &[(1, "sizes 2 2 1\n"), (3, "log2 1\ntrim 0\n")],
-    )?;
-    assert_eq!(rt;
-        check(
-            alloc,
-            TURNS,
-            silent,
-            text.as_str(),
-            "certificate item 3: rule 15\n"
-        )?,
-        (5, true)
-    );
-    let text = with_lines(
-        alloc,
-        &LINES,
-        &[
-            (1, "sizes 2 2 1\n"),
-            (4, "rel 2\n"),
-            (5, "row 0 0 1\nrow 1 1\n"),
-        ],
-    )?;
-    assert_eq!(rt;
-        check(
-            alloc,
-            TURNS,
-            TURNS,
-            text.as_str(),
-            "certificate item 1: rule 9\n"
-        )?,
-        (5, true)
-    );
     // a state of the first is left that is of no use for words
     let further = "[0]\na,[0]->[1]\na,[1]->[0]\na,[0]->[2]\n[0]\n";
-    let text = with_lines(
-        alloc,
-        &LINES,
-        &[(1, "sizes 3 1 1\n"), (2, "log1 1\ntrim 0\n")],
-    )?;
-    assert_eq!(rt;
-        check(
-            alloc,
+    let rows: [(&str, &str, &[(usize, &str)], &str); 3] = [
+        (
+            TURNS,
+            silent,
+            &[(1, "sizes 2 2 1\n"), (3, "log2 1\ntrim 0\n")],
+            "certificate item 3: rule 15\n",
+        ),
+        (
+            TURNS,
+            TURNS,
+            &[
+                (1, "sizes 2 2 1\n"),
+                (4, "rel 2\n"),
+                (5, "row 0 0 1\nrow 1 1\n"),
+            ],
+            "certificate item 1: rule 9\n",
+        ),
+        (
             further,
             ONE_A,
-            text.as_str(),
-            "certificate item 1: rule 2\n"
-        )?,
-        (5, true)
-    );
+            &[(1, "sizes 3 1 1\n"), (2, "log1 1\ntrim 0\n")],
+            "certificate item 1: rule 2\n",
+        ),
+    ];
+    for (first, second, changes, printed) in rows {
+        let text = with_lines(alloc, &LINES, changes)?;
+        assert_eq!(rt;
+            check(alloc, first, second, text.as_str(), printed)?,
+            (5, true)
+        );
+    }
     Ok(())
 }
 

@@ -37,34 +37,9 @@ fn order(alloc: Global) -> Result<Rel, Memory>
     direct_sim::preorder(alloc, &automaton, 1)
 }
 
-/// The values of the arcs from state 0 to both states that stay of those of a letter which leads there, with these states accepting.
-fn left_of(alloc: Global, accepting: &[u32]) -> Result<(u8, u8), Memory> {
-    let order = order(alloc)?;
-    let automaton = automaton_of(alloc, &[step(0, 0), step(0, 1)], accepting)?;
-    let mut block = vec![in alloc; 0; graph_rows::words_of(2)]?;
-    graph_rows::letter(&automaton, 0, &mut block);
-    supergraph::minimise(&order, &mut block);
-    Ok((
-        graph_rows::arc(2, &block, 0, 0),
-        graph_rows::arc(2, &block, 0, 1),
-    ))
-}
-
 #[test]
 fn the_order_relates_the_first_state_to_the_second(rt: HostRuntime) -> Result<(), Fail> {
     let order = order(rt.alloc())?;
     assert_eq!(rt; (order.get(0, 1), order.get(1, 0)), (true, false));
-    Ok(())
-}
-
-#[test]
-fn an_arc_goes_for_one_of_its_value(rt: HostRuntime) -> Result<(), Fail> {
-    assert_eq!(rt; left_of(rt.alloc(), &[])?, (0, 1));
-    Ok(())
-}
-
-#[test]
-fn an_arc_of_greater_value_stays(rt: HostRuntime) -> Result<(), Fail> {
-    assert_eq!(rt; left_of(rt.alloc(), &[0])?, (2, 1));
     Ok(())
 }

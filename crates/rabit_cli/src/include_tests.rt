@@ -2,10 +2,10 @@
 
 use crate::search_tests::looped_ring;
 use crate::shrink_tests;
-use crate::tests::{list_of, numbers_of, words_of};
+use crate::tests::{numbers_of, words_of};
 use crate::top::run;
-use auto_core::{List, Memory};
-use shelf_io::{File, LoadFault, MemShelf, MemSink, load};
+use auto_core::Memory;
+use shelf_io::{LoadFault, MemShelf, MemSink, load};
 use std::alloc::Global;
 use std::test::Fail;
 
@@ -36,16 +36,8 @@ pub fn shelf_of(
     second: &str,
     fails: &[u64],
 ) -> Result<MemShelf, Memory> {
-    let mut held = List::new(alloc);
-    held.push(File {
-        name: list_of(alloc, b"A")?,
-        bytes: list_of(alloc, first.as_bytes())?,
-    })?;
-    held.push(File {
-        name: list_of(alloc, b"B")?,
-        bytes: list_of(alloc, second.as_bytes())?,
-    })?;
-    MemShelf::new(alloc, held, 1_000_000, 65536, numbers_of(alloc, fails)?)
+    let files = [("A", first), ("B", second)];
+    shrink_tests::shelf_of(alloc, &files, fails)
 }
 
 /// The status of the words on the shelf's files, and whether just this text was sent.
@@ -75,10 +67,7 @@ pub fn answers(
 
 /// Whether the shelf holds just this text under the certificate's name.
 pub fn holds(alloc: Global, shelf: &mut MemShelf, certificate: &str) -> bool {
-    match load(alloc, shelf, "C", 1_000_000) {
-        Ok(bytes) => bytes.as_slice() == certificate.as_bytes(),
-        Err(_) => false,
-    }
+    shrink_tests::holds(alloc, shelf, "C", certificate)
 }
 
 #[test]

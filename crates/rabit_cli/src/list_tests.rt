@@ -39,16 +39,14 @@ const WORDS: [&str; 9] = [
 #[test]
 fn valid_lists_say_their_limit(rt: HostRuntime) -> Result<(), Fail> {
     let alloc = rt.alloc();
-    let text = with_lines(alloc, &LIST, &[])?;
-    assert_eq!(rt;
-        check(alloc, PAIR, PAIR, text.as_str(), "limit 3\n")?,
-        (2, true)
-    );
-    let text = with_lines(alloc, &WORDS, &[])?;
-    assert_eq!(rt;
-        check(alloc, PAIR, PAIR, text.as_str(), "limit 1\n")?,
-        (2, true)
-    );
+    let rows = [(&LIST[..], "limit 3\n"), (&WORDS[..], "limit 1\n")];
+    for (lines, printed) in rows {
+        let text = with_lines(alloc, lines, &[])?;
+        assert_eq!(rt;
+            check(alloc, PAIR, PAIR, text.as_str(), printed)?,
+            (2, true)
+        );
+    }
     Ok(())
 }
 

@@ -2,12 +2,10 @@
 
 use crate::include_tests::{ONE_YES, says};
 use crate::log_tests::{CUT, MERGED};
-use crate::tests::{ONE_A, list_of, numbers_of};
+use crate::tests::{ONE_A, shelf_with};
 use crate::yes_tests::{LINES, with_lines};
-use auto_core::List;
 use cert_text::{CertReadFault, CertReader, TextKind, read_cert, write_cert};
 use cert_value::Cert;
-use shelf_io::{File, MemShelf};
 use std::alloc::Global;
 use std::test::Fail;
 
@@ -91,24 +89,14 @@ fn a_certificate_is_the_same_wherever_it_is_cut(rt: HostRuntime) -> Result<(), F
 #[test]
 fn files_may_come_byte_by_byte(rt: HostRuntime) -> Result<(), Fail> {
     let alloc = rt.alloc();
-    let mut held = List::new(alloc);
-    held.push(File {
-        name: list_of(alloc, b"A")?,
-        bytes: list_of(alloc, b"[0]\r\na,[0]->[0]\r\n[0]\r\n")?,
-    })?;
-    held.push(File {
-        name: list_of(alloc, b"C")?,
-        bytes: list_of(alloc, ONE_YES.as_bytes())?,
-    })?;
-    let mut shelf = MemShelf::new(alloc, held, 0, 1, numbers_of(alloc, &[])?)?;
-    assert_eq!(rt;
-        says(alloc, &["reduce", "A"], &mut shelf, &[], ONE_A)?,
-        (0, true)
-    );
-    let words = ["check", "A", "A", "C"];
-    assert_eq!(rt;
-        says(alloc, &words, &mut shelf, &[], "included\n")?,
-        (0, true)
-    );
+    let files = [("A", "[0]\r\na,[0]->[0]\r\n[0]\r\n"), ("C", ONE_YES)];
+    let mut shelf = shelf_with(alloc, &files, 0, 1, &[])?;
+    let rows: [(&[&str], &str); 2] = [
+        (&["reduce", "A"], ONE_A),
+        (&["check", "A", "A", "C"], "included\n"),
+    ];
+    for (words, printed) in rows {
+        assert_eq!(rt; says(alloc, words, &mut shelf, &[], printed)?, (0, true));
+    }
     Ok(())
 }

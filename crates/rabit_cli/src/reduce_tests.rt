@@ -2,10 +2,10 @@
 
 use crate::include_tests::says;
 use crate::search_tests::looped_ring;
-use crate::tests::{USAGE, answers, list_of, numbers_of, shelf_of, words_of};
-use crate::top::run;
+use crate::shrink_tests::holds;
+use crate::tests::{USAGE, answers, list_of, shelf_of};
 use auto_core::{List, Memory};
-use shelf_io::{File, MemShelf, MemSink, load};
+use shelf_io::{File, MemShelf};
 use std::alloc::Global;
 use std::test::Fail;
 
@@ -50,29 +50,24 @@ fn reduces(
 #[test]
 fn the_reduced_automaton_is_printed(rt: HostRuntime) -> Result<(), Fail> {
     let alloc = rt.alloc();
-    let rows = [
-        (PAIR, "[0]\na,[0]->[1]\nb,[1]->[0]\n[0]\n[1]\n"),
-        ("[0]\n", "[0]\n[1]\n"),
-        ("[0]\r\na,[0]->[0]\r\n[0]\r\n", "[0]\na,[0]->[0]\n[0]\n"),
-        (ALIKE, "[0]\na,[0]->[1]\nb,[1]->[1]\n[1]\n"),
-        (TURNS, "[0]\na,[0]->[0]\n[0]\n"),
-    ];
-    for (text, printed) in rows {
-        assert_eq!(rt; reduces(alloc, &[], text, printed)?, (0, true));
-    }
-    assert_eq!(rt;
-        reduces(alloc, &["--look", "1"], FAR_ALIKE, FAR_ALIKE)?,
-        (0, true)
-    );
-    assert_eq!(rt;
-        reduces(alloc, &["--look", "2"], FAR_ALIKE, FAR_ALIKE_PRUNED)?,
-        (0, true)
-    );
     let ring = looped_ring(alloc, 30)?;
-    assert_eq!(rt;
-        reduces(alloc, &[], ring.as_str(), ring.as_str())?,
-        (0, true)
-    );
+    let rows: [(&[&str], &str, &str); 8] = [
+        (&[], PAIR, "[0]\na,[0]->[1]\nb,[1]->[0]\n[0]\n[1]\n"),
+        (&[], "[0]\n", "[0]\n[1]\n"),
+        (
+            &[],
+            "[0]\r\na,[0]->[0]\r\n[0]\r\n",
+            "[0]\na,[0]->[0]\n[0]\n",
+        ),
+        (&[], ALIKE, "[0]\na,[0]->[1]\nb,[1]->[1]\n[1]\n"),
+        (&[], TURNS, "[0]\na,[0]->[0]\n[0]\n"),
+        (&["--look", "1"], FAR_ALIKE, FAR_ALIKE),
+        (&["--look", "2"], FAR_ALIKE, FAR_ALIKE_PRUNED),
+        (&[], ring.as_str(), ring.as_str()),
+    ];
+    for (option, text, printed) in rows {
+        assert_eq!(rt; reduces(alloc, option, text, printed)?, (0, true));
+    }
     Ok(())
 }
 
@@ -113,73 +108,80 @@ fn loops(alloc: Global, count: u32) -> Result<String, Memory> {
 fn faults_and_limits_of_the_file_are_told(rt: HostRuntime) -> Result<(), Fail> {
     let alloc = rt.alloc();
     let most = states(alloc, 2048)?;
-    assert_eq!(rt;
-        reduces(alloc, &[], most.as_str(), "[0]\n[1]\n")?,
-        (0, true)
-    );
     let more = states(alloc, 2049)?;
     let letters = loops(alloc, 257)?;
     let rows = [
-        ("[0]\n[1]\na,[0]->[1]\n", "file 1 line 3: TwoInitial\n"),
-        ("a,[0]-[1]\n", "file 1 line 1: Shape\n"),
-        ("", "file 1 line 0: Empty\n"),
-        (more.as_str(), "file 1 line 2049: TooManyStates\n"),
-        (letters.as_str(), "file 1 line 258: TooManyLabels\n"),
+        (most.as_str(), "[0]\n[1]\n", 0),
+        ("[0]\n[1]\na,[0]->[1]\n", "file 1 line 3: TwoInitial\n", 4),
+        ("a,[0]-[1]\n", "file 1 line 1: Shape\n", 4),
+        ("", "file 1 line 0: Empty\n", 4),
+        (more.as_str(), "file 1 line 2049: TooManyStates\n", 4),
+        (letters.as_str(), "file 1 line 258: TooManyLabels\n", 4),
     ];
-    for (text, printed) in rows {
-        assert_eq!(rt; reduces(alloc, &[], text, printed)?, (4, true));
+    for (text, printed, status) in rows {
+        assert_eq!(rt; reduces(alloc, &[], text, printed)?, (status, true));
     }
     Ok(())
 }
 
 #[test]
-fn other_words_and_failing_calls_are_told(rt: HostRuntime) -> Result<(), Fail> {
+fn other_words_ask_nothing(rt: HostRuntime) -> Result<(), Fail> {
     let alloc = rt.alloc();
-    for look in ["0", "7", "", "10", "a"] {
-        assert_eq!(rt; reduces(alloc, &["--look", look], PAIR, USAGE)?, (3, true));
+    let rows = [
+        ("--look", "0"),
+        ("--look", "7"),
+        ("--look", ""),
+        ("--look", "10"),
+        ("--look", "a"),
+        ("--deep", "1"),
+    ];
+    for (name, value) in rows {
+        assert_eq!(rt; reduces(alloc, &[name, value], PAIR, USAGE)?, (3, true));
     }
-    assert_eq!(rt; reduces(alloc, &["--deep", "1"], PAIR, USAGE)?, (3, true));
-    let files = [("A", PAIR)];
-    assert_eq!(rt;
-        answers(alloc, &["reduce", "X"], &files, &[], &[], "read fault\n")?,
-        (6, true)
-    );
-    assert_eq!(rt;
-        answers(alloc, &["reduce", "A"], &files, &[1], &[], "read fault\n")?,
-        (6, true)
-    );
-    assert_eq!(rt;
-        answers(alloc, &["reduce", "A"], &files, &[], &[0], "")?,
-        (7, true)
-    );
-    // a fault that can't be told stays a fault
-    assert_eq!(rt;
-        answers(alloc, &["reduce", "A"], &[("A", "")], &[], &[0], "")?,
-        (4, true)
-    );
-    // one file is loaded once and the text is given at once, so further calls that would fail are none
+    Ok(())
+}
+
+#[test]
+fn failing_calls_are_told(rt: HostRuntime) -> Result<(), Fail> {
+    let alloc = rt.alloc();
     let reduced = "[0]\na,[0]->[1]\nb,[1]->[0]\n[0]\n[1]\n";
-    assert_eq!(rt;
-        answers(alloc, &["reduce", "A"], &files, &[3], &[1], reduced)?,
-        (0, true)
-    );
+    let rows: [(&str, &str, &[u64], &[u64], &str, u8); 5] = [
+        ("X", PAIR, &[], &[], "read fault\n", 6),
+        ("A", PAIR, &[1], &[], "read fault\n", 6),
+        ("A", PAIR, &[], &[0], "", 7),
+        // a fault that can't be told stays a fault
+        ("A", "", &[], &[0], "", 4),
+        // one file is loaded once and the text is given at once, so further calls that would fail are none
+        ("A", PAIR, &[3], &[1], reduced, 0),
+    ];
+    for (name, text, fails, sink_fails, printed, status) in rows {
+        let files = [("A", text)];
+        assert_eq!(rt;
+            answers(alloc, &["reduce", name], &files, fails, sink_fails, printed)?,
+            (status, true)
+        );
+    }
     Ok(())
 }
 
-#[test]
-fn a_file_that_is_one_byte_too_long_is_told(rt: HostRuntime) -> Result<(), Fail> {
-    let alloc = rt.alloc();
+/// A file with one byte more than is read.
+fn too_long(alloc: Global) -> Result<List<u8>, Memory> {
     // the first byte is a fault, which is not what is told
     let mut bytes = list_of(alloc, &[1])?;
     for _byte in 0..16_777_216u32 {
         bytes.push(b'a')?;
     }
+    Ok(bytes)
+}
+
+#[test]
+fn a_file_that_is_one_byte_too_long_is_told(rt: HostRuntime) -> Result<(), Fail> {
+    let alloc = rt.alloc();
     let mut held = List::new(alloc);
-    held.push(File {
-        name: list_of(alloc, b"A")?,
-        bytes,
-    })?;
-    let mut shelf = MemShelf::new(alloc, held, 0, 65536, numbers_of(alloc, &[])?)?;
+    let name = list_of(alloc, b"A")?;
+    let bytes = too_long(alloc)?;
+    held.push(File { name, bytes })?;
+    let mut shelf = MemShelf::new(alloc, held, 0, 65536, List::new(alloc))?;
     let told = "file 1 line 0: Long\n";
     assert_eq!(rt;
         says(alloc, &["reduce", "A"], &mut shelf, &[], told)?,
@@ -192,13 +194,11 @@ fn a_file_that_is_one_byte_too_long_is_told(rt: HostRuntime) -> Result<(), Fail>
 fn the_file_stays(rt: HostRuntime) -> Result<(), Fail> {
     let alloc = rt.alloc();
     let mut shelf = shelf_of(alloc, &[("A", PAIR)], &[])?;
-    let mut out = MemSink::new(alloc, 1000, numbers_of(alloc, &[])?)?;
-    let words = words_of(alloc, &["reduce", "A"])?;
-    assert_eq!(rt; run(alloc, &words, &mut shelf, &mut out), 0);
-    let kept = match load(alloc, &mut shelf, "A", 1000) {
-        Ok(bytes) => bytes.as_slice() == PAIR.as_bytes(),
-        Err(_) => false,
-    };
-    assert!(rt; kept);
+    let reduced = "[0]\na,[0]->[1]\nb,[1]->[0]\n[0]\n[1]\n";
+    assert_eq!(rt;
+        says(alloc, &["reduce", "A"], &mut shelf, &[], reduced)?,
+        (0, true)
+    );
+    assert!(rt; holds(alloc, &mut shelf, "A", PAIR));
     Ok(())
 }

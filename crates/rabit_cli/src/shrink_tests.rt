@@ -2,9 +2,9 @@
 
 use crate::fault_tests::many_lines;
 use crate::include_tests::{PAIR, says};
-use crate::tests::{ONLY_B, RING, RING_NO, USAGE, list_of, numbers_of};
-use auto_core::{List, Memory};
-use shelf_io::{File, MemShelf, load};
+use crate::tests::{ONLY_B, RING, RING_NO, USAGE, shelf_with};
+use auto_core::Memory;
+use shelf_io::{MemShelf, load};
 use std::alloc::Global;
 use std::test::Fail;
 
@@ -27,13 +27,7 @@ const YES: &str =
 
 /// A shelf with these files, and with room for one more.
 pub fn shelf_of(alloc: Global, files: &[(&str, &str)], fails: &[u64]) -> Result<MemShelf, Memory> {
-    let mut held = List::new(alloc);
-    for (name, text) in files {
-        let name = list_of(alloc, name.as_bytes())?;
-        let bytes = list_of(alloc, text.as_bytes())?;
-        held.push(File { name, bytes })?;
-    }
-    MemShelf::new(alloc, held, 1_000_000, 65536, numbers_of(alloc, fails)?)
+    shelf_with(alloc, files, 1_000_000, 65536, fails)
 }
 
 /// Whether the shelf holds just this text under the name.
@@ -114,22 +108,16 @@ fn a_first_file_may_be_large(rt: HostRuntime) -> Result<(), Fail> {
     let alloc = rt.alloc();
     let most = many_lines(alloc, 2048, 0)?;
     let more = many_lines(alloc, 2049, 0)?;
-    let certificate = "certificate item 0: rule 1\n";
-    assert_eq!(rt;
-        shrinks(alloc, most.as_str(), ONE_A, SHORT_NO, certificate, "")?,
-        (5, true, false)
-    );
-    assert_eq!(rt;
-        shrinks(
-            alloc,
-            more.as_str(),
-            ONE_A,
-            SHORT_NO,
-            "file 1 line 2049: TooManyStates\n",
-            ""
-        )?,
-        (4, true, false)
-    );
+    let rows = [
+        (most.as_str(), "certificate item 0: rule 1\n", 5),
+        (more.as_str(), "file 1 line 2049: TooManyStates\n", 4),
+    ];
+    for (first, printed, status) in rows {
+        assert_eq!(rt;
+            shrinks(alloc, first, ONE_A, SHORT_NO, printed, "")?,
+            (status, true, false)
+        );
+    }
     Ok(())
 }
 
@@ -141,18 +129,24 @@ fn other_certificates_have_nothing_to_shrink(rt: HostRuntime) -> Result<(), Fail
         shrinks(alloc, ONE_A, ONE_A, YES, told, "")?,
         (13, true, false)
     );
-    // a list
-    let files = [("A", PAIR), ("B", PAIR)];
-    let mut shelf = shelf_of(alloc, &files, &[])?;
-    let include = ["include", "A", "B", "C", "--limit", "1"];
-    assert_eq!(rt;
-        says(alloc, &include, &mut shelf, &[], "limit 1\n")?,
-        (2, true)
-    );
-    let words = ["shrink", "A", "B", "C", "D"];
-    assert_eq!(rt; says(alloc, &words, &mut shelf, &[], told)?, (13, true));
-    // the status stays where the sink refuses the line
-    assert_eq!(rt; says(alloc, &words, &mut shelf, &[0], "")?, (13, true));
+    // a list; the status stays where the sink refuses the line
+    let mut shelf = shelf_of(alloc, &[("A", PAIR), ("B", PAIR)], &[])?;
+    let rows: [(&[&str], &[u64], &str, u8); 3] = [
+        (
+            &["include", "A", "B", "C", "--limit", "1"],
+            &[],
+            "limit 1\n",
+            2,
+        ),
+        (&["shrink", "A", "B", "C", "D"], &[], told, 13),
+        (&["shrink", "A", "B", "C", "D"], &[0], "", 13),
+    ];
+    for (words, sink_fails, printed, status) in rows {
+        assert_eq!(rt;
+            says(alloc, words, &mut shelf, sink_fails, printed)?,
+            (status, true)
+        );
+    }
     Ok(())
 }
 
@@ -219,11 +213,22 @@ fn the_shorter_certificate_may_take_the_place_of_the_longer(rt: HostRuntime) -> 
     let files = [("A", TWO_LETTERS), ("B", ONE_A), ("C", LONG_NO)];
     let told = "not included\nprefix:\nloop: b\n";
     let mut shelf = shelf_of(alloc, &files, &[])?;
-    let words = ["shrink", "A", "B", "C", "C"];
-    assert_eq!(rt; says(alloc, &words, &mut shelf, &[], told)?, (1, true));
-    let check = ["check", "A", "B", "C"];
-    assert_eq!(rt; says(alloc, &check, &mut shelf, &[], told)?, (1, true));
+    let asked: [&[&str]; 2] = [&["shrink", "A", "B", "C", "C"], &["check", "A", "B", "C"]];
+    for words in asked {
+        assert_eq!(rt; says(alloc, words, &mut shelf, &[], told)?, (1, true));
+    }
     assert!(rt; holds(alloc, &mut shelf, "C", SHORT_NO));
+    Ok(())
+}
+
+#[test]
+fn other_words_ask_nothing(rt: HostRuntime) -> Result<(), Fail> {
+    let alloc = rt.alloc();
+    let mut shelf = shelf_of(
+        alloc,
+        &[("A", TWO_LETTERS), ("B", ONE_A), ("C", LONG_NO)],
+        &[],
+    )?;
     let unasked: [&[&str]; 3] = [
         &["shrink", "A", "B", "C"],
         &["shrink", "A", "B", "C", "D", "A"],

@@ -38,9 +38,12 @@ pub(crate) fn numbers_of(alloc: Global, numbers: &[u64]) -> Result<List<u64>, Me
     Ok(list)
 }
 
-pub(crate) fn shelf_of(
+/// A shelf with these files, which gives pieces of so many bytes and has room for more.
+pub(crate) fn shelf_with(
     alloc: Global,
     files: &[(&str, &str)],
+    room: u64,
+    piece: u32,
     fails: &[u64],
 ) -> Result<MemShelf, Memory> {
     let mut held = List::new(alloc);
@@ -49,7 +52,16 @@ pub(crate) fn shelf_of(
         let bytes = list_of(alloc, text.as_bytes())?;
         held.push(File { name, bytes })?;
     }
-    MemShelf::new(alloc, held, 0, 65536, numbers_of(alloc, fails)?)
+    MemShelf::new(alloc, held, room, piece.max(1), numbers_of(alloc, fails)?)
+}
+
+/// A shelf with these files, which has no room for more.
+pub(crate) fn shelf_of(
+    alloc: Global,
+    files: &[(&str, &str)],
+    fails: &[u64],
+) -> Result<MemShelf, Memory> {
+    shelf_with(alloc, files, 0, 65536, fails)
 }
 
 pub(crate) fn words_of(alloc: Global, words: &[&str]) -> Result<Vec<String>, Memory> {
@@ -90,26 +102,21 @@ pub(crate) fn check(
 #[test]
 fn a_lasso_that_separates_is_printed(rt: HostRuntime) -> Result<(), Fail> {
     let alloc = rt.alloc();
-    assert_eq!(rt;
-        check(
-            alloc,
-            RING,
-            ONLY_B,
-            RING_NO,
-            "not included\nprefix:\nloop: a\n"
-        )?,
-        (1, true)
-    );
-    assert_eq!(rt;
-        check(
-            alloc,
+    let rows = [
+        (RING, ONLY_B, RING_NO, "not included\nprefix:\nloop: a\n"),
+        (
             TWO_LETTERS,
             ONE_A,
             LETTERS_NO,
-            "not included\nprefix: b\nloop: b\n"
-        )?,
-        (1, true)
-    );
+            "not included\nprefix: b\nloop: b\n",
+        ),
+    ];
+    for (first, second, certificate, printed) in rows {
+        assert_eq!(rt;
+            check(alloc, first, second, certificate, printed)?,
+            (1, true)
+        );
+    }
     Ok(())
 }
 
@@ -117,66 +124,39 @@ fn a_lasso_that_separates_is_printed(rt: HostRuntime) -> Result<(), Fail> {
 fn other_ends_have_their_status(rt: HostRuntime) -> Result<(), Fail> {
     let alloc = rt.alloc();
     let list = "rabit-cert 1 buchi list\nsizes 1 1 1\nlog1 0\nlog2 0\nlimit 1\nelements 0\nend\n";
-    assert_eq!(rt;
-        check(alloc, ONE_A, ONE_A, list, "certificate item 1: rule 18\n")?,
-        (5, true)
-    );
-    assert_eq!(rt;
-        check(alloc, ONE_A, ONE_A, RING_NO, "certificate item 0: rule 1\n")?,
-        (5, true)
-    );
-    assert_eq!(rt;
-        check(alloc, "a,[0]-[1]\n", ONE_A, list, "file 1 line 1: Shape\n")?,
-        (4, true)
-    );
-    assert_eq!(rt;
-        check(alloc, ONE_A, "", list, "file 2 line 0: Empty\n")?,
-        (4, true)
-    );
-    let shape = [("A", "a,[0]-[1]\n"), ("B", ONE_A)];
-    assert_eq!(rt;
-        answers(
-            alloc,
-            &["check", "A", "X", "X"],
-            &shape,
-            &[],
-            &[],
-            "file 1 line 1: Shape\n"
-        )?,
-        (4, true)
-    );
-    assert_eq!(rt;
-        answers(
-            alloc,
-            &["check", "B", "A", "X"],
-            &shape,
-            &[],
-            &[],
-            "file 2 line 1: Shape\n"
-        )?,
-        (4, true)
-    );
-    assert_eq!(rt;
-        check(alloc, ONE_A, ONE_A, "", "certificate line 1: Truncated\n")?,
-        (5, true)
-    );
-    let files = [("A", RING), ("B", ONLY_B), ("C", RING_NO)];
-    assert_eq!(rt;
-        answers(
-            alloc,
-            &["check", "X", "B", "C"],
-            &files,
-            &[],
-            &[],
-            "read fault\n"
-        )?,
-        (6, true)
-    );
-    assert_eq!(rt;
-        answers(alloc, &["check", "A", "B"], &files, &[], &[], USAGE)?,
-        (3, true)
-    );
-    assert_eq!(rt; answers(alloc, &[], &files, &[], &[], USAGE)?, (3, true));
+    let rows = [
+        (ONE_A, ONE_A, list, "certificate item 1: rule 18\n", 5),
+        (ONE_A, ONE_A, RING_NO, "certificate item 0: rule 1\n", 5),
+        ("a,[0]-[1]\n", ONE_A, list, "file 1 line 1: Shape\n", 4),
+        (ONE_A, "", list, "file 2 line 0: Empty\n", 4),
+        (ONE_A, ONE_A, "", "certificate line 1: Truncated\n", 5),
+    ];
+    for (first, second, certificate, printed, status) in rows {
+        assert_eq!(rt;
+            check(alloc, first, second, certificate, printed)?,
+            (status, true)
+        );
+    }
+    Ok(())
+}
+
+#[test]
+fn a_faulty_file_goes_before_a_missing_one(rt: HostRuntime) -> Result<(), Fail> {
+    let alloc = rt.alloc();
+    let files = [("A", "a,[0]-[1]\n"), ("B", ONE_A), ("C", RING_NO)];
+    let rows: [(&[&str], &str, u8); 5] = [
+        (&["check", "A", "X", "X"], "file 1 line 1: Shape\n", 4),
+        (&["check", "B", "A", "X"], "file 2 line 1: Shape\n", 4),
+        (&["check", "X", "B", "C"], "read fault\n", 6),
+        (&["check", "A", "B"], USAGE, 3),
+        (&[], USAGE, 3),
+    ];
+    for (words, printed, status) in rows {
+        assert_eq!(rt;
+            answers(alloc, words, &files, &[], &[], printed)?,
+            (status, true)
+        );
+    }
     Ok(())
 }
 
@@ -192,29 +172,18 @@ fn failing_calls_of_the_outside_are_told(rt: HostRuntime) -> Result<(), Fail> {
             (6, true)
         );
     }
-    assert_eq!(rt;
-        answers(
-            alloc,
-            &words,
-            &files,
-            &[9],
-            &[],
-            "not included\nprefix:\nloop: a\n"
-        )?,
-        (1, true)
-    );
-    assert_eq!(rt;
-        answers(
-            alloc,
-            &words,
-            &files,
-            &[],
-            &[1],
-            "not included\nprefix:\nloop: a\n"
-        )?,
-        (1, true)
-    );
-    assert_eq!(rt; answers(alloc, &words, &files, &[], &[0], "")?, (7, true));
+    let told = "not included\nprefix:\nloop: a\n";
+    let rows: [(&[u64], &[u64], &str, u8); 3] = [
+        (&[9], &[], told, 1),
+        (&[], &[1], told, 1),
+        (&[], &[0], "", 7),
+    ];
+    for (fails, sink_fails, printed, status) in rows {
+        assert_eq!(rt;
+            answers(alloc, &words, &files, fails, sink_fails, printed)?,
+            (status, true)
+        );
+    }
     Ok(())
 }
 

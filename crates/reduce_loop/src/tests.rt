@@ -1,9 +1,7 @@
 //! What no clause says: that the call succeeds, and what small automata become.
 
-ghost use Rattle.std.specs.Prelude.{◌≤◌};
-
 use crate::reduce;
-use auto_core::{Auto, Memory, Mode, Trans};
+use auto_core::{Auto, List, Memory, Mode, Trans};
 use std::alloc::Global;
 use std::test::Fail;
 
@@ -16,71 +14,122 @@ pub(crate) fn step(source: u32, label: u32, target: u32) -> Trans {
     }
 }
 
-/// How many states and transitions are left, and how many steps changed something.
+/// A small automaton, whose initial state is 0.
+pub(crate) struct Small<'a> {
+    /// How many states it has.
+    pub(crate) states: u32,
+    /// How many labels it has.
+    pub(crate) labels: u32,
+    /// Its transitions: source, label and target.
+    pub(crate) moves: &'a [(u32, u32, u32)],
+    /// Its accepting states.
+    pub(crate) accepting: &'a [u32],
+}
+
+/// The automaton; want of memory for one that is not small.
+pub(crate) fn built(alloc: Global, small: &Small<'_>) -> Result<Auto, Fail> {
+    let mut moves = List::new(alloc);
+    for (source, label, target) in small.moves {
+        moves.push(step(*source, *label, *target))?;
+    }
+    if moves.as_slice().len() > 1000 {
+        return Err(Memory)?;
+    }
+    Ok(Auto::build(
+        alloc,
+        small.states,
+        small.labels,
+        0,
+        moves.as_slice(),
+        small.accepting,
+    )?)
+}
+
+/// How many states and transitions are left, and how many steps changed something; None for another lookahead.
 fn counts(
     alloc: Global,
-    automaton: &Auto,
+    small: &Small<'_>,
     mode: Mode,
     look: u32,
-) -> Result<(u32, usize, usize), Memory>
-    requires few { automaton.now.states ≤ 65535 }
-    requires look_from { 1 ≤ look }
-    requires look_upto { look ≤ 6 }
-{
-    let reduced = reduce(alloc, automaton, mode, look)?;
-    Ok((
+) -> Result<Option<(u32, usize, usize)>, Fail> {
+    let automaton = built(alloc, small)?;
+    if automaton.states() > 100 || look < 1 || look > 6 {
+        return Ok(None);
+    }
+    let reduced = reduce(alloc, &automaton, mode, look)?;
+    Ok(Some((
         reduced.auto.states(),
         reduced.auto.transitions().len(),
         reduced.log.as_slice().len(),
-    ))
+    )))
 }
+
+/// Two states that do the same, and one that is of no use.
+const FORK: Small<'static> = Small {
+    states: 4,
+    labels: 2,
+    moves: &[(0, 0, 1), (0, 0, 2), (1, 1, 1), (2, 1, 2), (0, 1, 3)],
+    accepting: &[1, 2],
+};
+
+/// Two states that are reached alike, and lead on by different letters.
+const ALIKE: Small<'static> = Small {
+    states: 4,
+    labels: 3,
+    moves: &[(0, 0, 1), (0, 0, 2), (1, 1, 3), (2, 2, 3), (3, 0, 3)],
+    accepting: &[3],
+};
+
+/// A transition with a better one, and the state that it leads to.
+const BETTER: Small<'static> = Small {
+    states: 3,
+    labels: 3,
+    moves: &[(0, 0, 1), (0, 0, 2), (1, 1, 1), (2, 1, 2), (2, 2, 2)],
+    accepting: &[1, 2],
+};
+
+/// Two states in turn, one of them accepting: the delayed relation alone joins them.
+const TURNS: Small<'static> = Small {
+    states: 2,
+    labels: 1,
+    moves: &[(0, 0, 1), (1, 0, 0)],
+    accepting: &[0],
+};
+
+/// Nothing to do.
+const LOOP: Small<'static> = Small {
+    states: 1,
+    labels: 1,
+    moves: &[(0, 0, 0)],
+    accepting: &[0],
+};
+
+/// An accepting state on no cycle.
+const STILL: Small<'static> = Small {
+    states: 1,
+    labels: 0,
+    moves: &[],
+    accepting: &[0],
+};
 
 #[test]
 fn small_automata_are_reduced(rt: HostRuntime) -> Result<(), Fail> {
     let alloc = rt.alloc();
-    // two states that do the same, and one that is of no use
-    let moves = [
-        step(0, 0, 1),
-        step(0, 0, 2),
-        step(1, 1, 1),
-        step(2, 1, 2),
-        step(0, 1, 3),
+    let rows = [
+        (&FORK, Mode::Buchi, 1, (2, 2, 2)),
+        (&FORK, Mode::Finite, 3, (2, 2, 2)),
+        (&ALIKE, Mode::Buchi, 1, (3, 4, 1)),
+        (&ALIKE, Mode::Finite, 2, (3, 4, 1)),
+        (&BETTER, Mode::Buchi, 1, (2, 3, 3)),
+        (&BETTER, Mode::Finite, 2, (2, 3, 3)),
+        (&TURNS, Mode::Buchi, 3, (1, 1, 1)),
+        (&TURNS, Mode::Finite, 3, (2, 2, 0)),
+        (&LOOP, Mode::Buchi, 6, (1, 1, 0)),
+        (&STILL, Mode::Buchi, 2, (1, 0, 1)),
+        (&STILL, Mode::Finite, 2, (1, 0, 0)),
     ];
-    let fork = Auto::build(alloc, 4, 2, 0, &moves, &[1, 2])?;
-    assert_eq!(rt; counts(alloc, &fork, Mode::Buchi, 1)?, (2, 2, 2));
-    assert_eq!(rt; counts(alloc, &fork, Mode::Finite, 3)?, (2, 2, 2));
-    // two states that are reached alike, and lead on by different letters
-    let moves = [
-        step(0, 0, 1),
-        step(0, 0, 2),
-        step(1, 1, 3),
-        step(2, 2, 3),
-        step(3, 0, 3),
-    ];
-    let alike = Auto::build(alloc, 4, 3, 0, &moves, &[3])?;
-    assert_eq!(rt; counts(alloc, &alike, Mode::Buchi, 1)?, (3, 4, 1));
-    assert_eq!(rt; counts(alloc, &alike, Mode::Finite, 2)?, (3, 4, 1));
-    // a transition with a better one, and the state that it led to
-    let moves = [
-        step(0, 0, 1),
-        step(0, 0, 2),
-        step(1, 1, 1),
-        step(2, 1, 2),
-        step(2, 2, 2),
-    ];
-    let better = Auto::build(alloc, 3, 3, 0, &moves, &[1, 2])?;
-    assert_eq!(rt; counts(alloc, &better, Mode::Buchi, 1)?, (2, 3, 3));
-    assert_eq!(rt; counts(alloc, &better, Mode::Finite, 2)?, (2, 3, 3));
-    // two states in turn, one of them accepting: the delayed relation alone joins them
-    let turns = Auto::build(alloc, 2, 1, 0, &[step(0, 0, 1), step(1, 0, 0)], &[0])?;
-    assert_eq!(rt; counts(alloc, &turns, Mode::Buchi, 3)?, (1, 1, 1));
-    assert_eq!(rt; counts(alloc, &turns, Mode::Finite, 3)?, (2, 2, 0));
-    // nothing to do
-    let loops = Auto::build(alloc, 1, 1, 0, &[step(0, 0, 0)], &[0])?;
-    assert_eq!(rt; counts(alloc, &loops, Mode::Buchi, 6)?, (1, 1, 0));
-    // an accepting state on no cycle
-    let still = Auto::build(alloc, 1, 0, 0, &[], &[0])?;
-    assert_eq!(rt; counts(alloc, &still, Mode::Buchi, 2)?, (1, 0, 1));
-    assert_eq!(rt; counts(alloc, &still, Mode::Finite, 2)?, (1, 0, 0));
+    for (small, mode, look, left) in rows {
+        assert_eq!(rt; counts(alloc, small, mode, look)?, Some(left));
+    }
     Ok(())
 }

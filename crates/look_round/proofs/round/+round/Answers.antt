@@ -188,7 +188,7 @@ step_answered-returns-then-is_known-clause-told g t c =
     let near : p < w * 64 = omega (arith, c.requires.step) in
     let known = c.is_known.ensures c.if-is_known.true in
     let P : ℕ → Type 0 = λ x. RoundAfter M ok W c.args.left a p (HasReply c.args.sets.now n w x) in
-    let answered = known_answered M ok W n w room c.args.letters.now c.args.held.now c.args.known.now c.args.sets.now c.row_at.result.now c.args.left c.len-place.result a p near c.requires.answered known.0 known.1 c.row_at.ensures.bits in
+    let answered = known_answered M ok W n w room c.args.letters.now c.args.held.now c.args.known.now c.args.sets.now c.row_at-row.result.now c.args.left c.len-place.result a p near c.requires.answered known.0 known.1 c.row_at-row.ensures.bits in
     (λ h. subst P c.len-place.ensures.value answered, λ h. refl)
 
 pub step_answered-returns-then-not-answered-clause-told : goal.step_answered-returns-then-not-answered-clause-told
@@ -293,8 +293,8 @@ step_answered-returns-clause-answered g t c =
     let P2 : ℕ → Type 0 = λ x. RoundAfter M ok W c.args.left a p (HasReply old n w x) in
     let here : RoundAfter M ok W c.args.left a p (HasReply old n w place) = subst P2 (sym value) answered in
     let now : RoundAfter M ok W c.args.left a p D = after_same M ok W (HasReply old n w place) D (λ q. (same q).1) c.args.left a p here in
-    known_more M ok W n w room c.round_from-answered.new.letters c.round_from-answered.new.held c.round_from-answered.new.known c.note.new.letters c.note.new.held c.note.new.known sets c.row_at-2.result.now
-    c.args.left place a p c.round_from-answered.ensures.answered c.note.ensures c.row_at-2.ensures.bits now
+    known_more M ok W n w room c.round_from-answered.new.letters c.round_from-answered.new.held c.round_from-answered.new.known c.note.new.letters c.note.new.held c.note.new.known sets c.row_at-row-2.result.now
+    c.args.left place a p c.round_from-answered.ensures.answered c.note.ensures c.row_at-row-2.ensures.bits now
 
 pub step_answered-returns-then-not-answered-clause-kept : goal.step_answered-returns-then-not-answered-clause-kept
 step_answered-returns-then-not-answered-clause-kept g t c =

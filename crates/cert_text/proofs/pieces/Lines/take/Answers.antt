@@ -1,4 +1,4 @@
-use Rattle.std.proofs.Common.{◌∙◌, sym, ap, subst, Err}
+use Rattle.std.proofs.Common.{◌∙◌, sym, ap, subst, Ok, Err}
 use Rattle.cert_value.specs.Tokens.{tokens_of}
 use Rattle.cert_line.specs.Agrees.{Agrees}
 use Rattle.cert_text.specs.Machine.{step}
@@ -9,7 +9,8 @@ use Rattle.cert_text.proofs.pieces.Lines.take.Goals as goal
 pub returns-in-Ok : goal.returns-in-Ok
 returns-in-Ok c = record {
   taken = λ text rest after u short cut.
-      let takes = ap (λ s. step s (tokens_of c.args.line.now)) (sym c.replace-state.ensures.value) ∙ c.in-Ok.ensures in
+      let made = ap (λ s. step s (tokens_of c.args.line.now)) (sym c.replace-state.ensures.value) ∙ c.in-Ok.ensures in
+      let takes = made ∙ ap Ok (sym c.replace.ensures.after) in
       taken_line c.args.self.now text rest u c.args.line.now after cut _ takes
       (c.saturating_add-self.ensures ∙ one_more c.args.self.now text rest u c.args.line.now after cut short);
 }
