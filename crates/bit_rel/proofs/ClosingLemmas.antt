@@ -296,6 +296,87 @@ pub alone_adds :
 alone_adds table w via alone p q q_in =
     alone_tests (cell_of table w via q) (cell_of table w p q) (cell_of table w p via) (λ h. ap (λ x. cell_of table w p x) (alone q q_in h))
 
+-- a place that is related to all that `via` is related to gets nothing from it
+pub passed_adds :
+    (table : List ℕ) (w p via : ℕ)
+    → ((q : ℕ) → q < w * 64 → HasCell table w via q → HasCell table w p q)
+    → (q : ℕ)
+    → q < w * 64
+    → cell_of table w p q ≡ (cell_of table w p q || (cell_of table w p via && cell_of table w via q))
+passed_adds table w p via has q near = adds (cell_of table w p q) (cell_of table w p via) (cell_of table w via q) (has q near)
+  where
+    adds : (here way b : Bool) → (b ≡ true → here ≡ true) → here ≡ (here || (way && b))
+    adds true way b more = refl
+    adds false true true more = absurd (false≢true (more refl))
+    adds false true false more = refl
+    adds false false b more = refl
+
+-- The rows before p are passed through `via`, and the others are as they were.
+abbrev pub ArePassedUpto : List ℕ → List ℕ → ℕ → ℕ → ℕ → Type 0
+ArePassedUpto old now w via p =
+    ((r q : ℕ) → r < p → q < w * 64 → cell_of now w r q ≡ (cell_of old w r q || (cell_of old w r via && cell_of old w via q)))
+    × ((r q : ℕ) → p ≤ r → q < w * 64 → cell_of now w r q ≡ cell_of old w r q)
+
+-- the row of `via` stays
+via_kept : (old now : List ℕ) (w via p : ℕ) → HasCell old w via via → ArePassedUpto old now w via p → (q : ℕ) → q < w * 64 → cell_of now w via q ≡ cell_of old w via q
+via_kept old now w via p itself passed q near = elim (cases_lt via p) [
+  | inl below ↦ passed.0 via q below near ∙ own_twice (cell_of old w via via) (cell_of old w via q) itself
+  | inr from ↦ passed.1 via q from near
+]
+  where
+    own_twice : (own b : Bool) → own ≡ true → (b || (own && b)) ≡ b
+    own_twice true true e = refl
+    own_twice true false e = refl
+    own_twice false b e = absurd (false≢true e)
+
+-- one more row is passed through `via`
+pub passed_more :
+    (old now new : List ℕ) (w via p : ℕ)
+    → HasCell old w via via
+    → via < w * 64
+    → ArePassedUpto old now w via p
+    → ((q : ℕ) → q < w * 64 → cell_of new w p q ≡ (cell_of now w p q || (cell_of now w p via && cell_of now w via q)))
+    → ((r q : ℕ) → q < w * 64 → ¬ (r ≡ p) → cell_of new w r q ≡ cell_of now w r q)
+    → ArePassedUpto old new w via (p + 1)
+passed_more old now new w via p itself via_near passed here others = (
+  λ r q r_in near. elim (cases_eq r p) [
+    | inl e ↦ subst (λ x. cell_of new w x q ≡ (cell_of old w x q || (cell_of old w x via && cell_of old w via q))) (sym e) (row q near)
+    | inr apart ↦ others r q near apart ∙ passed.0 r q (omega arith) near
+  ],
+  λ r q from near. others r q near (λ e. omega arith) ∙ passed.1 r q (omega arith) near,
+)
+  where
+    row : (q : ℕ) → q < w * 64 → cell_of new w p q ≡ (cell_of old w p q || (cell_of old w p via && cell_of old w via q))
+    row q near =
+        here q near
+        ∙ ap (λ b. b || (cell_of now w p via && cell_of now w via q)) (passed.1 p q (omega arith) near)
+        ∙ ap (λ b. cell_of old w p q || (b && cell_of now w via q)) (passed.1 p via (omega arith) via_near)
+        ∙ ap (λ b. cell_of old w p q || (cell_of old w p via && b)) (via_kept old now w via p itself passed q near)
+
+-- what is above `via` in a table that is closed by way of earlier places was passed by all that are related to it
+pub passed_above :
+    (old now : List ℕ) (count w p above via : ℕ)
+    → IsTable old count w
+    → p < count
+    → via < count
+    → HasCell old w via via
+    → ((m p q : ℕ) → m < via → Arc old count w p m → Arc old count w m q → Arc old count w p q)
+    → ((q : ℕ) → q < w * 64 → HasCell old w via q → HasCell old w above q)
+    → ArePassedUpto old now w via p
+    → above < via
+    → HasCell now w p above
+    → (q : ℕ)
+    → q < w * 64
+    → HasCell now w via q
+    → HasCell now w p q
+passed_above old now count w p above via t p_in via_in itself through is passed lt at q near h =
+    let room = t.room in
+    let was : HasCell old w via q = sym (via_kept old now w via p itself passed q near) ∙ h in
+    let q_in : q < count = t.columns via q via_in near was in
+    let p_above : HasCell old w p above = sym (passed.1 p above (omega arith) (omega arith)) ∙ at in
+    let arc : Arc old count w p q = through above p q lt (p_in, omega arith, p_above) (omega arith, q_in, is q near was) in
+    passed.1 p q (omega arith) near ∙ arc.2
+
 -- a cell whose word is zero
 pub clear_word : (table : List ℕ) (w p q : ℕ) → get_or table (p * w + q / 64) 0 ≡ 0 → HasCell table w p q → ⊥
 clear_word table w p q e h =

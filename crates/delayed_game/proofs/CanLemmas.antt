@@ -1,9 +1,11 @@
 -- The ranks that pairs can have.
-use Rattle.std.proofs.Common.{◌≡◌, ℕ, zero, suc, ◌≤◌, inl, inr, Bool, true, false, Option, None, Some, sym, ap, ◌∙◌, subst, arith}
+use Rattle.std.proofs.Common.{◌≡◌, ℕ, zero, suc, ◌<◌, ◌≤◌, List, inl, inr, Bool, true, false, Option, None, Some, sym, ap, ◌∙◌, subst, arith}
 use Rattle.std.proofs.lemmas.Bool.{cases_eq, false≢true}
 use Rattle.auto_core.specs.Automaton.{Automaton, IsAccepting}
 use Rattle.delayed_game.specs.Across.{RankedPlacePairs, HoldsPlacePair, HasPlacePairRank, IsRightAcross}
+use Rattle.delayed_game.specs.Boards.{AreLeastRanks}
 use Rattle.delayed_game.specs.Levels.{CanHave}
+use Rattle.delayed_game.specs.Settling.{HasSomeRank}
 
 module _ (L A : Automaton) (R : ℕ → ℕ → Type 0) where
   pub can_holds : (r p q : ℕ) → CanHave L A R r p q → R p q
@@ -51,16 +53,45 @@ module _ (L A : Automaton) (R : ℕ → ℕ → Type 0) where
     ],
   )
 
--- a relation of the same pairs
-pub can_same : (L A : Automaton) (R S : ℕ → ℕ → Type 0) → ((p q : ℕ) → R p q → S p q) → (r p q : ℕ) → CanHave L A R r p q → CanHave L A S r p q
-can_same L A R S more zero p q h = (more p q h.0, h.1)
-can_same L A R S more (suc r) p q h = (
-  more p q h.0,
+-- a relation that has each pair that can have a rank
+pub can_stays :
+    (L A : Automaton) (R S : ℕ → ℕ → Type 0) → ((r p q : ℕ) → CanHave L A R r p q → S p q) → (r p q : ℕ) → CanHave L A R r p q → CanHave L A S r p q
+can_stays L A R S each zero p q h = (each 0 p q h, h.1)
+can_stays L A R S each (suc r) p q h = (
+  each (suc r) p q h,
   elim h.1 [
     | inl accepting ↦ inl accepting
-    | inr answers ↦ inr (λ a p' move. let answer = answers a p' move in (answer.0, answer.1, can_same L A R S more r p' answer.0 answer.2))
+    | inr answers ↦ inr (λ a p' move. let answer = answers a p' move in (answer.0, answer.1, can_stays L A R S each r p' answer.0 answer.2))
   ],
 )
+
+-- a relation of the same pairs
+pub can_same : (L A : Automaton) (R S : ℕ → ℕ → Type 0) → ((p q : ℕ) → R p q → S p q) → (r p q : ℕ) → CanHave L A R r p q → CanHave L A S r p q
+can_same L A R S more = can_stays L A R S (λ r p q h. more p q (can_holds L A R r p q h))
+
+-- where no pair goes that has a rank, the least ranks stay
+pub least_stays :
+    (L A : Automaton) (R S : ℕ → ℕ → Type 0) (ranks : List ℕ)
+    → ((p q : ℕ) → R p q → (p < L.states) × (q < A.states))
+    → ((p q : ℕ) → S p q → R p q)
+    → ((p q : ℕ) → p < L.states → q < A.states → HasSomeRank ranks A.states p q → S p q)
+    → AreLeastRanks L A R ranks
+    → AreLeastRanks L A S ranks
+least_stays L A R S ranks inside within ranked was = record {
+  len = was.len;
+  each = λ p q r p_in q_in is.
+      let least = was.each p q r p_in q_in is in
+      record {
+        can = stays r p q least.can;
+        least = λ s can. least.least s (can_same L A S R within s p q can);
+      };
+  all = λ p q r p_in q_in can. was.all p q r p_in q_in (can_same L A S R within r p q can);
+}
+  where
+    stays : (r p q : ℕ) → CanHave L A R r p q → CanHave L A S r p q
+    stays = can_stays L A R S (λ r p q can.
+        let range = inside p q (can_holds L A R r p q can) in
+        ranked p q range.0 range.1 (was.all p q r range.0 range.1 can))
 
 -- a place of the table has one rank at most
 pub none_is_some : (o : Option ℕ) (r : ℕ) → o ≡ None → o ≡ Some r → ⊥

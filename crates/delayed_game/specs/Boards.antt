@@ -1,7 +1,7 @@
 -- What is known on the way to the least ranks, level by level.
 use Rattle.std.specs.Prelude.{◌≡◌, ℕ, ◌+◌, ◌*◌, ◌/◌, ◌<◌, ◌≤◌, ◌⊎◌, ◌↔◌, None, Some, List, length}
 use Rattle.auto_core.specs.Automaton.{Automaton, Moves, trans_at}
-use Rattle.auto_core.specs.Game.{Holds}
+use Rattle.auto_core.specs.Game.{ArePairsBelow, Holds, IsWithin}
 use Rattle.auto_core.specs.Rows.{HasCell}
 use Rattle.delayed_game.specs.Pairings.{Pairing, IsPairing}
 use Rattle.delayed_game.specs.Levels.{rank_in_table, CanHave, IsLeastRank}
@@ -54,3 +54,7 @@ pub record AreLeastRanks (L A : Automaton) (R : ℕ → ℕ → Type 0) (ranks :
   pub len : length ranks ≡ L.states * A.states
   pub each : (p q r : ℕ) → p < L.states → q < A.states → rank_in_table ranks A.states p q ≡ Some r → IsLeastRank L A R p q r
   pub all : (p q r : ℕ) → p < L.states → q < A.states → CanHave L A R r p q → (s : ℕ) × (rank_in_table ranks A.states p q ≡ Some s)
+
+-- The table has the least ranks of the pairs of a list, which has those of R.
+abbrev pub HadLeastRanks : Automaton → Automaton → Pairing → List ℕ → Type 0
+HadLeastRanks L A R ranks = (S : List (ℕ × ℕ)) × ArePairsBelow L.states A.states S × IsWithin R.pairs S × AreLeastRanks L A (Holds S) ranks

@@ -4,6 +4,7 @@ ghost use Rattle.std.specs.Prelude.{◌≡◌, ◌<◌, ◌≤◌, ◌↔◌, �
 ghost use Rattle.auto_core.specs.Automaton.{IsAutomaton};
 ghost use Rattle.auto_core.specs.Game.{Holds};
 ghost use Rattle.delayed_game.specs.Before.{AreSetsIfAny};
+ghost use Rattle.delayed_game.specs.Boards.{AreLeastRanks, HadLeastRanks};
 ghost use Rattle.delayed_game.specs.Pairings.{IsPairing};
 ghost use Rattle.delayed_game.specs.Settling.{AreKept, HasSomeRank, IsAnsweredBesides, IsFiltered, Drops};
 ghost use Rattle.delayed_game.specs.Played.{IsPlayed};
@@ -81,6 +82,64 @@ fn drop_unranked(places: &Auto, board: &mut Board, ranks: &[u32], marks: &mut [u
     any
 }
 
+/// Tells whether the relation has each pair of the place that has a rank.
+fn has_ranked(board: &Board, ranks: &[u32], p: u32) -> bool
+    requires left { p < board.now.places }
+    requires len { length ranks.now ≡ board.now.places * board.now.states }
+    ensures { result ≡ true → (q : ℕ) → q < board.now.states → HasSomeRank ranks.now board.now.states p q → Holds board.now.pairs p q }
+{
+    let row = board.row(p);
+    for q in 0..board.states() {
+        if ranks[place(board.places(), board.states(), p, q)] != 0 {
+            if !rows::has_bit(row, q as usize) {
+                return false;
+            }
+        }
+    }
+    true
+}
+
+/// Tells whether the relation has each pair that has a rank.
+fn has_each_ranked(board: &Board, ranks: &[u32]) -> bool
+    requires len { length ranks.now ≡ board.now.places * board.now.states }
+    ensures { result ≡ true → (p q : ℕ) → p < board.now.places → q < board.now.states
+        → HasSomeRank ranks.now board.now.states p q → Holds board.now.pairs p q }
+{
+    for p in 0..board.places() {
+        if !has_ranked(board, ranks, p) {
+            return false;
+        }
+    }
+    true
+}
+
+/// Writes the least ranks of the relation into the table, which has those of a relation that had its pairs and perhaps more: they are the same
+/// where no pair went that has a rank.
+fn rank_anew(
+    alloc: Global,
+    places: &Auto,
+    automaton: &Auto,
+    sets: &[u64],
+    board: &Board,
+    ranks: &mut [u32],
+) -> Result<(), Memory>
+    requires few { places.now.states * automaton.now.states + 2 < 2 ^ 32 }
+    requires over { IsAutomaton places.now }
+    requires labels { places.now.labels ≡ automaton.now.labels }
+    requires sound { IsAutomaton automaton.now }
+    requires sets { AreSetsIfAny automaton.now ((automaton.now.states + 63) / 64) sets.now }
+    requires rows { board.now.places ≡ places.now.states }
+    requires columns { board.now.states ≡ automaton.now.states }
+    requires ranks { HadLeastRanks places.now automaton.now board.now ranks.old }
+    ensures { IfOk result (λ _. AreLeastRanks places.now automaton.now (Holds board.now.pairs) ranks.new) }
+{
+    if has_each_ranked(board, ranks) {
+        return Ok(());
+    }
+    clear_ranks(ranks);
+    least_ranks(alloc, places, automaton, sets, board, ranks)
+}
+
 /// Takes pairs away until the relation with its least ranks is right, and writes these ranks into the table, which has none yet. `row`
 /// is room for one row, `made` for a row for each letter.
 fn rank_or_drop(
@@ -125,8 +184,7 @@ fn rank_or_drop(
         settle(
             places, automaton, sets, board, marks, kept, tried, made, width, row,
         );
-        clear_ranks(ranks);
-        least_ranks(alloc, places, automaton, sets, board, ranks)?;
+        rank_anew(alloc, places, automaton, sets, board, ranks)?;
     }
     Ok(())
 }

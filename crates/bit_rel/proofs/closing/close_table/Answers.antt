@@ -4,7 +4,7 @@ use Rattle.bit_rel.proofs.closing.close_table.Goals as goal
 
 pub loop-via-init : goal.loop-via-init
 loop-via-init c =
-    begin_closing c.args.table.now c.relate_selves.new.table c.args.count c.args.width c.requires (search rules) c.relate_selves.ensures
+    begin_closing c.args.table.now c.relate_selves.new.table c.args.count c.args.width c.requires.table (search rules) c.relate_selves.ensures
 
 pub loop-via-preserved : goal.loop-via-preserved
 loop-via-preserved c =

@@ -20,6 +20,19 @@ pub settle-requires-in-turns-clause-kept : goal.settle-requires-in-turns-clause-
 settle-requires-in-turns-clause-kept c =
     kept_stays c.args.places.now c.args.automaton.now c.args.width c.turns.kept c.turns.tried c.turns.board c.drop_unranked.new.board c.drop_unranked.ensures.drops.within c.turns.invariant.4
 
+pub rank_anew-requires-clause-ranks : goal.rank_anew-requires-clause-ranks
+rank_anew-requires-clause-ranks c =
+    let h = c.turns.invariant in
+    let L = c.args.places.now in
+    let A = c.args.automaton.now in
+    let places : c.turns.board.places ≡ L.states = h.0.places ∙ c.requires.rows in
+    let size : c.turns.board.states ≡ A.states = h.0.states ∙ c.requires.columns in (
+      c.turns.board.pairs,
+      λ p q held. let range = h.0.valid.in_range p q held in (omega (arith, range.0), omega (arith, range.1)),
+      λ p q held. c.drop_unranked.ensures.drops.within p q (c.settle-in-turns.ensures.shrinks.within p q held),
+      h.3,
+    )
+
 pub turns-smaller : goal.turns-smaller
 turns-smaller c =
     let fell = c.drop_unranked.ensures.some c.turns-test.true in
@@ -40,7 +53,7 @@ turns-preserved c =
       shrinks_then L A c.args.board.now c.drop_unranked.new.board c.settle-in-turns.new.board (shrinks_then L A c.args.board.now c.turns.board c.drop_unranked.new.board h.0 dropped) c.settle-in-turns.ensures.shrinks,
       c.settle-in-turns.ensures.unmarked,
       c.settle-in-turns.ensures.answered,
-      c.in_ok-least_ranks-2.ensures,
+      c.in_ok-rank_anew.ensures,
       c.settle-in-turns.ensures.kept,
     )
 
