@@ -6,6 +6,7 @@ pub mod RoundLoop
 pub mod IncomingLemmas
 pub mod HavingLemmas
 pub mod ColumnLemmas
+pub mod CompareLemmas
 pub mod LaneLemmas
 pub mod BoundLemmas
 pub mod KnownLemmas

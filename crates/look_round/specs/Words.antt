@@ -45,6 +45,10 @@ abbrev pub IsRowNarrowed : List ℕ → List ℕ → ℕ → List ℕ → ℕ �
 IsRowNarrowed old now width columns p n =
     (q : ℕ) → q < width * 64 → HasCell now width p q ↔ (HasCell old width p q × ((k : ℕ) → k < n → HasCell columns width k p → HasCell columns width k q))
 
+-- Row q of the table `had` is on just those of the first n columns that are on q.
+abbrev pub HasColumns : List ℕ → ℕ → ℕ → List ℕ → ℕ → ℕ → Type 0
+HasColumns columns width n had span q = (k : ℕ) → k < span * 64 → HasCell had span q k ↔ ((k < n) × HasCell columns width k q)
+
 -- The relation is on n states and holds the pairs of the table's n rows.
 pub record HoldsTable (table : List ℕ) (n width : ℕ) (R : Relation) : Type 0 where
   pub size : R.size ≡ n

@@ -6,6 +6,7 @@ ghost use Rattle.auto_core.specs.Game.{Holds};
 ghost use Rattle.bit_rel.specs.Relation.{IsRelation};
 ghost use Rattle.look_round.specs.Words.{HoldsTable, IsBound, IsRowNarrowed};
 
+use crate::comparing::compare;
 use crate::kinds::match_rows;
 use crate::sides::Side;
 use crate::words::write_columns;
@@ -22,6 +23,12 @@ const MOST_WORDS: u32 = 2064;
 
 /// After so many words each it is asked whether a row is left with its own place alone.
 const WORDS_BETWEEN: usize = 8;
+
+/// By so many words rows are narrowed before it is seen how many places they have left.
+const FIRST_WORDS: usize = 64;
+
+/// Rows have many places left if they have so many.
+const MANY_LEFT: usize = 64;
 
 /// Tells whether the row has no bit but its own.
 fn has_no_other(row: &[u64], own: usize) -> bool
@@ -81,7 +88,7 @@ fn narrow_row(table: &mut [u64], width: usize, p: usize, columns: &[u64], words:
 }
 
 /// Takes from each row what a column has not that has the row's own place.
-fn narrow(table: &mut [u64], count: u32, width: usize, columns: &[u64], words: usize)
+fn narrow_each(table: &mut [u64], count: u32, width: usize, columns: &[u64], words: usize)
     requires table { length table.old ≡ count * width }
     requires room { count ≤ width * 64 }
     requires few { width < 2 ^ 32 }
@@ -91,6 +98,41 @@ fn narrow(table: &mut [u64], count: u32, width: usize, columns: &[u64], words: u
     for p in 0..count as usize {
         narrow_row(table, width, p, columns, words);
     }
+}
+
+/// Tells whether the rows have few places left.
+fn has_few_left(table: &[u64], count: u32) -> bool {
+    let mut left: usize = 0;
+    for i in 0..table.len() {
+        left = left.saturating_add(table[i].count_ones() as usize);
+    }
+    left / MANY_LEFT < count as usize
+}
+
+/// Takes from each row what a column has not that has the row's own place: by the first columns; by the others where few places are left;
+/// and else by comparing the columns that places have.
+fn narrow(
+    alloc: Global,
+    table: &mut [u64],
+    count: u32,
+    width: usize,
+    columns: &[u64],
+    words: usize,
+) -> Result<(), Memory>
+    requires table { length table.old ≡ count * width }
+    requires states { (p q : ℕ) → p < count → q < width * 64 → HasCell table.old width p q → q < count }
+    requires room { count ≤ width * 64 }
+    requires few { width < 2 ^ 32 }
+    requires some { words < 2 ^ 32 }
+    requires columns { words * width ≤ length columns.now }
+    ensures { IfOk result (λ _. (p : ℕ) → p < count → IsRowNarrowed table.old table.new width columns.now p words) }
+{
+    narrow_each(table, count, width, columns, words.min(FIRST_WORDS));
+    if has_few_left(table, count) {
+        narrow_each(table, count, width, columns, words);
+        return Ok(());
+    }
+    compare(alloc, table, count, width, columns, words)
 }
 
 /// Adds the pairs of `p` with the states of the row.
@@ -144,6 +186,7 @@ fn bound_in<S: Side>(
     requires width { width ≡ (automaton.now.states + 63) / 64 }
     requires table { length table.old ≡ automaton.now.states * width }
     requires some { 1 ≤ room }
+    requires few { room < 2 ^ 32 }
     requires columns { length columns.old ≡ room * width }
     requires ends { length ends.old ≡ width }
     requires lanes { length lanes.old ≡ automaton.now.states }
@@ -156,7 +199,7 @@ fn bound_in<S: Side>(
     let words = write_columns(
         side, automaton, table, &kinds, columns, width, room, letters, ends, lanes, found, made,
     );
-    narrow(table, count, width, columns, words);
+    narrow(alloc, table, count, width, columns, words)?;
     relation_of(alloc, table, count, width)
 }
 

@@ -4,6 +4,7 @@
 mod answering;
 mod answers;
 mod bounding;
+mod comparing;
 mod kinds;
 mod known;
 mod listed;

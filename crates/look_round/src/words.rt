@@ -13,7 +13,7 @@ use row_steps::{mark_below, next_bit, write_row};
 const LANES: usize = 64;
 
 /// Marks place `at` in each of the first `count` rows that a bit of `row` names.
-fn mark_down(table: &mut [u64], width: usize, count: usize, at: usize, row: &[u64])
+pub(crate) fn mark_down(table: &mut [u64], width: usize, count: usize, at: usize, row: &[u64])
     requires table { length table.old ≡ count * width }
     requires place { at < width * 64 }
     requires few { length row.now < 2 ^ 32 }

@@ -1,5 +1,5 @@
 use Rattle.look_round.proofs.ColumnLemmas.{AreRowsNarrowed}
-use Rattle.look_round.proofs.bounding.narrow.Given as goal
+use Rattle.look_round.proofs.bounding.narrow_each.Given as goal
 
 abbrev pub invariant-loop-p : goal.invariant-loop-p
 invariant-loop-p l = AreRowsNarrowed l.fn.table l.table l.width l.columns l.words l.p

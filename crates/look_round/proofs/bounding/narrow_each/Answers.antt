@@ -1,6 +1,6 @@
 use Rattle.std.proofs.Common.{refl, arith}
 use Rattle.look_round.proofs.ColumnLemmas.{rows_narrowed_more}
-use Rattle.look_round.proofs.bounding.narrow.Goals as goal
+use Rattle.look_round.proofs.bounding.narrow_each.Goals as goal
 
 pub loop-p-init : goal.loop-p-init
 loop-p-init c = (λ r r_in. absurd (omega arith), λ r q r_from near. refl)

@@ -1,0 +1,6 @@
+use Rattle.std.proofs.Common.{◌≡◌, length}
+use Rattle.look_round.proofs.ColumnLemmas.{AreRowsNarrowed}
+use Rattle.look_round.proofs.comparing.keep_each_above.Given as goal
+
+abbrev pub invariant-loop-p : goal.invariant-loop-p
+invariant-loop-p l = AreRowsNarrowed l.fn.table l.table l.width l.columns l.words l.p × (length l.row ≡ l.width)
