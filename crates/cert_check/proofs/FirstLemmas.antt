@@ -5,9 +5,6 @@ use Rattle.std.specs.Str.{bytes_eq}
 use Rattle.std.proofs.lemmas.Slice.Eq.{bytes_eq-Decides}
 use Rattle.std.proofs.lemmas.Bool.{cases_lt, false≢true}
 use Rattle.std.proofs.lemmas.List.{get_or_append_left, get_or_push}
-use Rattle.search_laws.proofs.ListLemmas.{read_map}
-use Rattle.search_laws.proofs.PlaceLemmas.{read_at}
-use Rattle.shared_graphs.specs.declared.graphs.Graph.{Graph}
 use Rattle.shared_graphs.specs.Graphs.{block_at}
 use Rattle.cert_check.specs.Firsts.{known_by, IsBlockKnown, AreFirsts}
 
@@ -43,19 +40,15 @@ known_now old new block number none updates = record {
     cases : (b : List ℕ) → ((block ≡ b) × (known_by new b ≡ Some number)) ⊎ ((block ≡ b → ⊥) × (known_by new b ≡ known_by old b))
     cases b = by b (bytes_eq block b) (bytes_eq-Decides block b) (updates b)
 
--- The block of the graph that stands there.
-pub block_is : (graphs : List Graph) (k : ℕ) (g : Graph) → k < length graphs → g ≡ slice_index_or graphs k g → block_at graphs k ≡ g.block.items
-block_is graphs k g lt is = read_map (λ (x : Graph). x.block.items) graphs k g [] (read_at graphs k g g lt is)
-
 -- One graph more.
-pub held_more : (graphs : List Graph) (old new : BTreeMap (Bor (List ℕ)) ℕ) (k first : ℕ) → ((b : List ℕ) (m : ℕ) → known_by old b ≡ Some m → block_at graphs m ≡ b) →
+pub held_more : (graphs : List (List ℕ)) (old new : BTreeMap (Bor (List ℕ)) ℕ) (k first : ℕ) → ((b : List ℕ) (m : ℕ) → known_by old b ≡ Some m → block_at graphs m ≡ b) →
     IsBlockKnown old new (block_at graphs k) k first → (b : List ℕ) (m : ℕ) → known_by new b ≡ Some m → block_at graphs m ≡ b
 held_more graphs old new k first held known b m is = elim (known.only b m is) [
   | inl was ↦ held b m was
   | inr (same, last) ↦ ap (block_at graphs) last ∙ sym same
 ]
 
-pub told_more : (graphs : List Graph) (old new : BTreeMap (Bor (List ℕ)) ℕ) (firsts next : List ℕ) (k first : ℕ) → length firsts ≡ k →
+pub told_more : (graphs : List (List ℕ)) (old new : BTreeMap (Bor (List ℕ)) ℕ) (firsts next : List ℕ) (k first : ℕ) → length firsts ≡ k →
     ((j : ℕ) → j < k → known_by old (block_at graphs j) ≡ Some (slice_index_or firsts j 0)) → IsBlockKnown old new (block_at graphs k) k first → next ≡ firsts ++ first ∷ [] →
     (j : ℕ) → j < k + 1 → known_by new (block_at graphs j) ≡ Some (slice_index_or next j 0)
 told_more graphs old new firsts next k first size told known next_is j lt = elim (cases_lt j k) [
@@ -68,7 +61,7 @@ told_more graphs old new firsts next k first size told known next_is j lt = elim
       (known.here ∙ ap Some (sym (ap (λ l. slice_index_or l k 0) next_is ∙ get_or_push firsts first 0 k size)))
 ]
 
-pub firsts_told : (graphs : List Graph) (known : BTreeMap (Bor (List ℕ)) ℕ) (firsts : List ℕ) → ((b : List ℕ) (m : ℕ) → known_by known b ≡ Some m → block_at graphs m ≡ b) →
+pub firsts_told : (graphs : List (List ℕ)) (known : BTreeMap (Bor (List ℕ)) ℕ) (firsts : List ℕ) → ((b : List ℕ) (m : ℕ) → known_by known b ≡ Some m → block_at graphs m ≡ b) →
     ((j : ℕ) → j < length graphs → known_by known (block_at graphs j) ≡ Some (slice_index_or firsts j 0)) → AreFirsts graphs firsts
 firsts_told graphs known firsts held told j k j_in k_in = (
   λ same. sym (held (block_at graphs j) (slice_index_or firsts j 0) (told j j_in)) ∙ ap (block_at graphs) same ∙ held (block_at graphs k) (slice_index_or firsts k 0) (told k k_in),

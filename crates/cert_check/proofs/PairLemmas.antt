@@ -8,7 +8,6 @@ use Rattle.auto_core.specs.Graph.{WordArc, LassoIn, IsTested, super_of, graph_of
 use Rattle.auto_core.specs.Closed.{IsLive}
 use Rattle.auto_core.specs.declared.parts.Mode.TheVariants.{Buchi}
 use Rattle.graph_rows.specs.Block.{block_graph, IsFormed}
-use Rattle.shared_graphs.specs.declared.graphs.Graph.{Graph}
 use Rattle.shared_graphs.specs.Graphs.{block_at}
 use Rattle.evidence.specs.Tables.{numbers_at}
 use Rattle.cert_value.specs.declared.types.YesBody.{YesBody}
@@ -149,7 +148,7 @@ module _ (A B : Automaton) (evidence : YesBody) (supers : Supers) (are : AreSupe
   turn_within p g at = subst (λ k. k < length supers.graphs.graphs.items) at.graph (are.within at.element at.turn.is)
 
 -- Lassos of graphs with other names.
-pub lassos_named : (B : Automaton) (graphs known : List Graph) (g k : ℕ) (others list : List ℕ) (told : Bool) → graphs ≡ known → g ≡ k → others ≡ list →
+pub lassos_named : (B : Automaton) (graphs known : List (List ℕ)) (g k : ℕ) (others list : List ℕ) (told : Bool) → graphs ≡ known → g ≡ k → others ≡ list →
     ((told ≡ true) ↔ HasLassos B graphs g others) → (told ≡ true) ↔ HasLassos B known k list
 lassos_named B graphs known g k others list told a b c asked =
     subst (λ l. (told ≡ true) ↔ HasLassos B known k l) c

@@ -27,21 +27,19 @@ use Rattle.cert_value.specs.declared.types.Element.{Element}
 use Rattle.cert_value.specs.declared.types.YesBody.{YesBody}
 use Rattle.log_check.specs.Blocks.{IsBlockRelation}
 use Rattle.cert_check.specs.Inclusion.{element_arcs, starts_of, extensions_of, SubsumesIn}
-use Rattle.shared_graphs.specs.declared.memo.Memo.{Memo}
-use Rattle.shared_graphs.specs.declared.graphs.Graph.{Graph}
 use Rattle.shared_graphs.specs.declared.graphs.Graphs.{Graphs}
 use Rattle.shared_graphs.specs.Memo.{AllTold}
-use Rattle.shared_graphs.specs.Graphs.{block_at, HasGrown, HasNumber, IsGraphOf, IsStock, FitsLetter, FitsStep}
+use Rattle.shared_graphs.specs.Graphs.{block_at, AsTheyAre, HasGrown, HasNumber, IsGraphOf, IsStock}
 use Rattle.shared_graphs.specs.GraphPairs.{FitsCovering}
-use Rattle.shared_graphs.proofs.GraphsLemmas.{letters_stay, steps_stay, coverings_stay}
-use Rattle.cert_check.specs.Supers.{held_arc, held_number, held_block, no_arc, IsBlock, IsArcIn, HasWord, StandFor, IsGraphNumbered, IsLonger, AreSupers, IsEvidenceOrder}
+use Rattle.shared_graphs.proofs.GraphsLemmas.{coverings_stay}
+use Rattle.cert_check.specs.Supers.{block_len, held_arc, held_number, held_block, no_arc, IsBlock, IsStockIn, IsArcIn, HasWord, StandFor, IsGraphNumbered, IsLonger, AreSupers, IsEvidenceOrder}
 use Rattle.cert_check.specs.declared.blocks.Numbered.{Numbered}
 use Rattle.cert_check.specs.declared.elements.Supers.{Supers}
 use Rattle.cert_check.specs.declared.orders.Order.{Order}
 
 -- More graphs.
 module _ (m : Mode) (A B : Automaton) (elements : List Element) (n : ℕ) (old new : Supers) (arcs : new.arcs.items ≡ old.arcs.items) (numbers : new.numbers.items ≡ old.numbers.items)
-    (stock : IsStock B new.graphs) (grown : HasGrown old.graphs.graphs.items new.graphs.graphs.items) where
+    (stock : IsStockIn m B new.graphs) (grown : HasGrown old.graphs.graphs.items new.graphs.graphs.items) where
   number_stays : (e : ℕ) → held_number new e ≡ held_number old e
   number_stays e = ap (λ xs. slice_index_or xs e 0) numbers
 
@@ -166,18 +164,14 @@ longer_stands m A B from arc old block x t valid lt is keeps formed word stands 
     }
 
 -- A graph that was given a number, in finite mode a set.
-stock_stays : (B : Automaton) (old new : Graphs) (block : List ℕ) (k : ℕ) → IsStock B old → HasNumber block old new k → IsStock B new
-stock_stays B old new block k stock has = record {
-  letters = subst (λ (l : Memo). AllTold (FitsLetter B new.graphs.items) l.told.items) (sym has.letters)
-      (letters_stay old.graphs.items new.graphs.items has.grown B old.letters.told.items stock.letters);
-  steps = subst (λ (l : Memo). AllTold (FitsStep B new.graphs.items) l.told.items) (sym has.steps)
-      (steps_stay old.graphs.items new.graphs.items has.grown B old.steps.told.items stock.steps);
-}
+pub stock_at_first : (m : Mode) (B : Automaton) (graphs : Graphs) → graphs.graphs.size ≡ block_len m B.states → (graphs.graphs.size ≡ block_len Buchi B.states → IsStock B AsTheyAre graphs) → IsStockIn m B graphs
+stock_at_first Buchi B graphs size stock = stock size
+stock_at_first Finite B graphs size stock = size
 
-pub start_numbered : (A B : Automaton) (old new : Graphs) (arc : Arc) (row : List ℕ) (k : ℕ) → IsStock B old → HasNumber row old new k → StandFor Finite A B arc row (start_arc A) →
+pub start_numbered : (A B : Automaton) (old new : Graphs) (arc : Arc) (row : List ℕ) (k : ℕ) → IsStockIn Finite B new → HasNumber row old new k → StandFor Finite A B arc row (start_arc A) →
     IsGraphNumbered Finite A B old new (start_arc A) (record { arc = arc; number = k })
 start_numbered A B old new arc row k stock has stands = record {
-  stock = stock_stays B old new row k stock has;
+  stock = stock;
   grown = has.grown;
   within = has.there.within;
   stands = subst (λ b. StandFor Finite A B arc b (start_arc A)) (sym has.there.is) stands;
@@ -185,37 +179,37 @@ start_numbered A B old new arc row k stock has stands = record {
 
 pub base_numbered : (A B : Automaton) (old new : Graphs) (arc : Arc) (t k : ℕ) →
     with_word arc ((trans_at A t).label ∷ []) ≡ base_arc A (trans_at A t) → IsReal A (with_word arc ((trans_at A t).label ∷ [])) →
-    IsStock B new → HasGrown old.graphs.items new.graphs.items → IsGraphOf B (letter_graph B (trans_at A t).label) new.graphs.items k →
+    IsStock B AsTheyAre new → HasGrown old.graphs.items new.graphs.items → IsGraphOf B AsTheyAre (letter_graph B (trans_at A t).label) new.graphs.items k →
     IsGraphNumbered Buchi A B old new (base_arc A (trans_at A t)) (record { arc = arc; number = k })
 base_numbered A B old new arc t k is real stock grown graph = record {
   stock = stock;
   grown = grown;
   within = graph.within;
-  stands = base_stands A B arc (block_at new.graphs.items k) t is real graph.block.formed graph.block.same;
+  stands = base_stands A B arc (block_at new.graphs.items k) t is real graph.block.formed graph.block.stands;
 }
 
-pub set_longer : (B : Automaton) (old new : Graphs) (n a k : ℕ) (row : List ℕ) → IsStock B old → HasNumber row old new k → IsRow B.states row →
+pub set_longer : (B : Automaton) (old new : Graphs) (n a k : ℕ) (row : List ℕ) → IsStockIn Finite B new → HasNumber row old new k → IsRow B.states row →
     ((q : ℕ) → HasBit row q ↔ set_after B (HasBit (block_at old.graphs.items n)) a q) → IsLonger Finite B old new n a k
 set_longer B old new n a k row stock has formed after = record {
-  stock = stock_stays B old new row k stock has;
+  stock = stock;
   grown = has.grown;
   within = has.there.within;
   formed = subst (IsRow B.states) (sym has.there.is) formed;
   word = λ w h. subst (λ b. HasWord Finite B b (w ++ a ∷ [])) (sym has.there.is) (longer_set B (block_at old.graphs.items n) row w a after h);
 }
 
-graph_longer : (B : Automaton) (old new : Graphs) (n a k : ℕ) → IsStock B new → HasGrown old.graphs.items new.graphs.items →
-    IsGraphOf B (extended B (block_graph B.states (block_at old.graphs.items n)) a) new.graphs.items k → IsLonger Buchi B old new n a k
+graph_longer : (B : Automaton) (old new : Graphs) (n a k : ℕ) → IsStock B AsTheyAre new → HasGrown old.graphs.items new.graphs.items →
+    IsGraphOf B AsTheyAre (extended B (block_graph B.states (block_at old.graphs.items n)) a) new.graphs.items k → IsLonger Buchi B old new n a k
 graph_longer B old new n a k stock grown graph = record {
   stock = stock;
   grown = grown;
   within = graph.within;
   formed = graph.block.formed;
-  word = λ w h. longer_graph B (block_at old.graphs.items n) (block_at new.graphs.items k) w a graph.block.same h;
+  word = λ w h. longer_graph B (block_at old.graphs.items n) (block_at new.graphs.items k) w a graph.block.stands h;
 }
 
-pub after_longer : {E : Type 0} (B : Automaton) (old new : Graphs) (n a : ℕ) (r : Result ℕ E) → IfOk r (λ _. IsStock B new) → IfOk r (λ _. HasGrown old.graphs.items new.graphs.items) →
-    IfOk r (IsGraphOf B (extended B (block_graph B.states (block_at old.graphs.items n)) a) new.graphs.items) → IfOk r (IsLonger Buchi B old new n a)
+pub after_longer : {E : Type 0} (B : Automaton) (old new : Graphs) (n a : ℕ) (r : Result ℕ E) → IfOk r (λ _. IsStock B AsTheyAre new) → IfOk r (λ _. HasGrown old.graphs.items new.graphs.items) →
+    IfOk r (IsGraphOf B AsTheyAre (extended B (block_graph B.states (block_at old.graphs.items n)) a) new.graphs.items) → IfOk r (IsLonger Buchi B old new n a)
 after_longer B old new n a (Ok k) stock grown graph = graph_longer B old new n a k stock grown graph
 after_longer B old new n a (Err e) stock grown graph = tt
 
@@ -342,13 +336,13 @@ any_ok (Err e) P p = tt
 
 -- The certificate's relation, and what is remembered of the graphs by it: with a list of the graphs under another name, after an answer
 -- was noted, and with more graphs.
-pub order_told : (B : Automaton) (evidence : YesBody) (graphs known : List Graph) (order : Order) → known ≡ graphs → IsEvidenceOrder B evidence graphs order →
+pub order_told : (B : Automaton) (evidence : YesBody) (graphs known : List (List ℕ)) (order : Order) → known ≡ graphs → IsEvidenceOrder B evidence graphs order →
     AllTold (FitsCovering order.rel.size order.rel.pairs known) order.covers.told.items
 order_told B evidence graphs known order same is =
     subst (λ l. AllTold (FitsCovering order.rel.size order.rel.pairs l) order.covers.told.items) (sym same)
     (subst (λ n. AllTold (FitsCovering n order.rel.pairs graphs) order.covers.told.items) (sym is.relation.size) is.covers)
 
-pub order_kept : (B : Automaton) (evidence : YesBody) (graphs known : List Graph) (old new : Order) → known ≡ graphs → new.rel ≡ old.rel → IsEvidenceOrder B evidence graphs old →
+pub order_kept : (B : Automaton) (evidence : YesBody) (graphs known : List (List ℕ)) (old new : Order) → known ≡ graphs → new.rel ≡ old.rel → IsEvidenceOrder B evidence graphs old →
     AllTold (FitsCovering old.rel.size old.rel.pairs known) new.covers.told.items → IsEvidenceOrder B evidence graphs new
 order_kept B evidence graphs known old new same rel is told = record {
   relation = subst (IsBlockRelation B.states evidence.order) (sym rel) is.relation;
@@ -357,7 +351,7 @@ order_kept B evidence graphs known old new same rel is told = record {
       (subst (λ l. AllTold (FitsCovering old.rel.size old.rel.pairs l) new.covers.told.items) same told));
 }
 
-pub order_grown : (B : Automaton) (evidence : YesBody) (old now : List Graph) (order : Order) → HasGrown old now → IsEvidenceOrder B evidence old order → IsEvidenceOrder B evidence now order
+pub order_grown : (B : Automaton) (evidence : YesBody) (old now : List (List ℕ)) (order : Order) → HasGrown old now → IsEvidenceOrder B evidence old order → IsEvidenceOrder B evidence now order
 order_grown B evidence old now order grown is = record {
   relation = is.relation;
   covers = coverings_stay old now grown B.states order.rel.pairs order.covers.told.items is.covers;

@@ -4,7 +4,6 @@ use Rattle.std.specs.Borrow.{Bor}
 use Rattle.std.specs.BTreeMap.{BTreeMap, get_by}
 use Rattle.std.specs.Cmp.Lexicographic.{slice_cmp}
 use Rattle.std.specs.Ordering.{nat_cmp}
-use Rattle.shared_graphs.specs.declared.graphs.Graph.{Graph}
 use Rattle.shared_graphs.specs.Graphs.{block_at}
 
 -- The number that the block is known by.
@@ -18,6 +17,6 @@ pub record IsBlockKnown (old new : BTreeMap (Bor (List ℕ)) ℕ) (block : List 
   pub only : (b : List ℕ) (k : ℕ) → known_by new b ≡ Some k → (known_by old b ≡ Some k) ⊎ ((b ≡ block) × (k ≡ number))
 
 -- Two graphs have one first number just where they have the same block.
-abbrev pub AreFirsts : List Graph → List ℕ → Type 0
+abbrev pub AreFirsts : List (List ℕ) → List ℕ → Type 0
 AreFirsts graphs firsts =
     (j k : ℕ) → j < length graphs → k < length graphs → (slice_index_or firsts j 0 ≡ slice_index_or firsts k 0) ↔ (block_at graphs j ≡ block_at graphs k)

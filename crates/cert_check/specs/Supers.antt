@@ -13,11 +13,10 @@ use Rattle.graph_rows.specs.Block.{width_of, block_graph, IsFormed}
 use Rattle.set_rows.specs.Sets.{IsRow}
 use Rattle.supergraph.specs.declared.arcs.Arc.{Arc}
 use Rattle.supergraph.specs.Stands.{with_word}
-use Rattle.shared_graphs.specs.declared.graphs.Graph.{Graph}
 use Rattle.shared_graphs.specs.declared.graphs.Graphs.{Graphs}
 use Rattle.shared_graphs.specs.Memo.{AllTold}
 use Rattle.shared_graphs.specs.GraphPairs.{FitsCovering}
-use Rattle.shared_graphs.specs.Graphs.{block_at, HasGrown, IsStock}
+use Rattle.shared_graphs.specs.Graphs.{block_at, AsTheyAre, HasGrown, IsStock}
 use Rattle.cert_value.specs.declared.types.Element.{Element}
 use Rattle.cert_value.specs.declared.types.YesBody.{YesBody}
 use Rattle.log_check.specs.Blocks.{IsBlockRelation}
@@ -40,6 +39,11 @@ abbrev pub IsBlock : Mode → ℕ → List ℕ → Type 0
 IsBlock Buchi n block = IsFormed n block
 IsBlock Finite n block = IsRow n block
 
+-- The blocks are those of graphs, in finite mode of sets, and what is remembered of graphs is so.
+abbrev pub IsStockIn : Mode → Automaton → Graphs → Type 0
+IsStockIn Buchi B graphs = IsStock B AsTheyAre graphs
+IsStockIn Finite B graphs = graphs.graphs.size ≡ block_len Finite B.states
+
 -- What is asked of an arc: a run has it, in finite mode only that it ends in a state.
 abbrev pub IsArcIn : Mode → Automaton → WordArc → Type 0
 IsArcIn Buchi A x = IsReal A x
@@ -59,7 +63,7 @@ pub record StandFor (mode : Mode) (A B : Automaton) (held : Arc) (block : List �
 
 -- The graph with this number, in finite mode the set, stands with the arc for x. The graphs that were there are there still.
 pub record IsGraphNumbered (mode : Mode) (A B : Automaton) (old now : Graphs) (x : WordArc) (numbered : Numbered) : Type 0 where
-  pub stock : IsStock B now
+  pub stock : IsStockIn mode B now
   pub grown : HasGrown old.graphs.items now.graphs.items
   pub within : numbered.number < length now.graphs.items
   pub stands : StandFor mode A B numbered.arc (block_at now.graphs.items numbered.number) x
@@ -67,7 +71,7 @@ pub record IsGraphNumbered (mode : Mode) (A B : Automaton) (old now : Graphs) (x
 -- The graph with the number k, in finite mode the set, is that of a word with this label behind it where the one with the number n is
 -- the word's. The graphs that were there are there still.
 pub record IsLonger (mode : Mode) (B : Automaton) (old now : Graphs) (n label k : ℕ) : Type 0 where
-  pub stock : IsStock B now
+  pub stock : IsStockIn mode B now
   pub grown : HasGrown old.graphs.items now.graphs.items
   pub within : k < length now.graphs.items
   pub formed : IsBlock mode B.states (block_at now.graphs.items k)
@@ -93,7 +97,7 @@ held_block supers e = block_at supers.graphs.graphs.items (held_number supers e)
 pub record AreSupers (mode : Mode) (A B : Automaton) (elements : List Element) (n : ℕ) (supers : Supers) : Type 0 where
   pub count : length supers.arcs.items ≡ n
   pub size : length supers.numbers.items ≡ n
-  pub stock : IsStock B supers.graphs
+  pub stock : IsStockIn mode B supers.graphs
   pub within : (e : ℕ) → e < n → held_number supers e < length supers.graphs.graphs.items
   pub each : (e : ℕ) → e < n → StandFor mode A B (held_arc supers e) (held_block supers e) (arc_at A (element_arcs A elements) e)
 
@@ -128,6 +132,6 @@ abbrev pub HasKey : BTreeSet Key → Key → Type 0
 HasKey seen key = has_key seen key ≡ true
 
 -- The relation is the certificate's, and what is remembered of graphs that cover others by it is so.
-pub record IsEvidenceOrder (B : Automaton) (evidence : YesBody) (graphs : List Graph) (order : Order) : Type 0 where
+pub record IsEvidenceOrder (B : Automaton) (evidence : YesBody) (graphs : List (List ℕ)) (order : Order) : Type 0 where
   pub relation : IsBlockRelation B.states evidence.order order.rel
   pub covers : AllTold (FitsCovering B.states order.rel.pairs graphs) order.covers.told.items

@@ -5,7 +5,6 @@ use Rattle.std.specs.BTreeSet.{BTreeSet}
 use Rattle.auto_core.specs.Automaton.{Automaton}
 use Rattle.auto_core.specs.Graph.{LassoIn}
 use Rattle.graph_rows.specs.Block.{block_graph}
-use Rattle.shared_graphs.specs.declared.graphs.Graph.{Graph}
 use Rattle.shared_graphs.specs.Graphs.{block_at}
 use Rattle.shared_graphs.specs.Looping.{IsLoopRow}
 use Rattle.evidence.specs.Tables.{numbers_at}
@@ -47,17 +46,17 @@ abbrev pub AreListedAtStates : BTreeSet Key → List (Vec ℕ Global) → Type 0
 AreListedAtStates seen turns = (key : Key) (p g : ℕ) → HasKey seen key → key ≡ p ∷ g ∷ [] → Contains (numbers_at turns p) g
 
 -- The graph has a lasso with each of the others, from the second automaton's initial state.
-abbrev pub HasLassos : Automaton → List Graph → ℕ → List ℕ → Type 0
+abbrev pub HasLassos : Automaton → List (List ℕ) → ℕ → List ℕ → Type 0
 HasLassos B graphs g others =
     (h : ℕ) → Contains others h → LassoIn (block_graph B.states (block_at graphs g)) (block_graph B.states (block_at graphs h)) B.initial
 
 -- The table has for each graph no row, or that of the states from which the graph has a loop.
-abbrev pub AreLoops : ℕ → List Graph → List (Vec ℕ Global) → Type 0
+abbrev pub AreLoops : ℕ → List (List ℕ) → List (Vec ℕ Global) → Type 0
 AreLoops n graphs loops = (h : ℕ) → (numbers_at loops h ≡ []) ⊎ IsLoopRow n (block_graph n (block_at graphs h)) (numbers_at loops h)
 
 -- What is remembered of tests is so: each key is that of a state and a graph that has a lasso with each of those listed at the state. There
 -- is room for further tests.
-pub record AreTests (B : Automaton) (graphs : List Graph) (turns : List (Vec ℕ Global)) (tests : Tests) : Type 0 where
+pub record AreTests (B : Automaton) (graphs : List (List ℕ)) (turns : List (Vec ℕ Global)) (tests : Tests) : Type 0 where
   pub passed : (key : Key) (p g : ℕ) → HasKey tests.passed key → key ≡ p ∷ g ∷ [] → HasLassos B graphs g (numbers_at turns p)
   pub loops : AreLoops B.states graphs tests.loops.items
   pub size : length tests.loops.items ≡ length graphs

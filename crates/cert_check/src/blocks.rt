@@ -7,18 +7,18 @@ ghost use Rattle.auto_core.specs.Graph.{WordArc, start_arc, base_arc, extended_a
 ghost use Rattle.auto_core.specs.declared.parts.Mode.TheVariants.{Buchi, Finite};
 ghost use Rattle.cert_check.specs.Inclusion.{SubsumesIn};
 ghost use Rattle.shared_graphs.specs.Memo.{AllTold};
-ghost use Rattle.shared_graphs.specs.Graphs.{block_at, IsStock};
+ghost use Rattle.shared_graphs.specs.Graphs.{block_at};
 ghost use Rattle.shared_graphs.specs.GraphPairs.{FitsCovering};
 ghost use Rattle.auto_core.specs.Rows.{HasBit};
 ghost use Rattle.auto_core.specs.Pairs.{set_after};
 ghost use Rattle.set_rows.specs.Sets.{IsRow};
 ghost use Rattle.supergraph.specs.Stands.{with_word};
-ghost use Rattle.cert_check.specs.Supers.{block_len, IsBlock, StandFor, IsLonger, IsGraphNumbered};
+ghost use Rattle.cert_check.specs.Supers.{block_len, IsBlock, IsStockIn, StandFor, IsLonger, IsGraphNumbered};
 
 use crate::orders::Order;
 use auto_core::{Auto, Memory, Mode, rows};
 use bit_rel::Rel;
-use shared_graphs::{Graph, Graphs, block_of};
+use shared_graphs::{GraphBlocks, Graphs};
 use std::alloc::Global;
 use supergraph::Arc;
 
@@ -65,29 +65,23 @@ pub fn start(
     second: &Auto,
     graphs: &mut Graphs,
 ) -> Result<Numbered, Memory>
-    requires { IsStock second.now graphs.old }
+    requires { IsStockIn Finite second.now graphs.old }
     ensures { IfOk result (IsGraphNumbered Finite first.now second.now graphs.old graphs.new (start_arc first.now)) }
 {
     let set = start_set(alloc, second)?;
-    let number = graphs.number_of(set)?;
+    let number = graphs.number_of(&set)?;
     let arc = empty_arc(first);
     Ok(Numbered { arc, number })
 }
 
 /// The arc of the transition, with its letter's graph.
-pub fn base(
-    alloc: Global,
-    first: &Auto,
-    second: &Auto,
-    t: u32,
-    graphs: &mut Graphs,
-) -> Result<Numbered, Memory>
+pub fn base(first: &Auto, second: &Auto, t: u32, graphs: &mut Graphs) -> Result<Numbered, Memory>
     requires number { t < length first.now.transitions }
-    requires stock { IsStock second.now graphs.old }
+    requires stock { IsStockIn Buchi second.now graphs.old }
     ensures { IfOk result (IsGraphNumbered Buchi first.now second.now graphs.old graphs.new (base_arc first.now (trans_at first.now t))) }
 {
     let label = first.transitions()[t as usize].label;
-    let number = graphs.letter(alloc, second, label)?;
+    let number = graphs.letter(second, label)?;
     let arc = supergraph::base(first, t);
     Ok(Numbered { arc, number })
 }
@@ -111,12 +105,12 @@ fn longer_set(
     label: u32,
     graphs: &mut Graphs,
 ) -> Result<u32, Memory>
-    requires stock { IsStock second.now graphs.old }
+    requires stock { IsStockIn Finite second.now graphs.old }
     requires formed { IsRow second.now.states (block_at graphs.old.graphs.items number) }
     ensures { IfOk result (IsLonger Finite second.now graphs.old graphs.new number label) }
 {
-    let set = set_behind(alloc, second, block_of(&graphs.graphs, number), label)?;
-    graphs.number_of(set)
+    let set = set_behind(alloc, second, graphs.graphs.block(number as usize), label)?;
+    graphs.number_of(&set)
 }
 
 /// The number of what a word with one letter more leads to, from that of what the word does.
@@ -128,7 +122,7 @@ fn longer(
     label: u32,
     graphs: &mut Graphs,
 ) -> Result<u32, Memory>
-    requires stock { IsStock second.now graphs.old }
+    requires stock { IsStockIn mode second.now graphs.old }
     requires formed { IsBlock mode second.now.states (block_at graphs.old.graphs.items number) }
     ensures { IfOk result (IsLonger mode second.now graphs.old graphs.new number label) }
 {
@@ -150,7 +144,7 @@ pub fn extend(
 ) -> Result<Numbered, Memory>
     requires number { t < length first.now.transitions }
     requires leaves { (trans_at first.now t).source ≡ from.arc.to }
-    requires stock { IsStock second.now graphs.old }
+    requires stock { IsStockIn mode second.now graphs.old }
     requires formed { IsBlock mode second.now.states (block_at graphs.old.graphs.items from.number) }
     ensures { IfOk result (λ longer. (x : WordArc) → StandFor mode first.now second.now from.arc (block_at graphs.old.graphs.items from.number) x
         → IsGraphNumbered mode first.now second.now graphs.old graphs.new (extended_arc first.now x (trans_at first.now t)) longer) }
@@ -172,14 +166,20 @@ fn subsumes_set(order: &Rel, x: &Arc, set: &[u64], y: &Arc, other: &[u64]) -> bo
 }
 
 /// Tells whether the first arc with its graph, in finite mode with its set, subsumes the second.
-pub fn subsumes(mode: Mode, order: &mut Order, graphs: &[Graph], x: &Numbered, y: &Numbered) -> bool
-    requires first { IsBlock mode order.old.rel.size (block_at graphs.now x.now.number) }
-    requires second { IsBlock mode order.old.rel.size (block_at graphs.now y.now.number) }
-    requires covers { AllTold (FitsCovering order.old.rel.size order.old.rel.pairs graphs.now) order.old.covers.told.items }
+pub fn subsumes(
+    mode: Mode,
+    order: &mut Order,
+    graphs: &GraphBlocks,
+    x: &Numbered,
+    y: &Numbered,
+) -> bool
+    requires first { IsBlock mode order.old.rel.size (block_at graphs.now.items x.now.number) }
+    requires second { IsBlock mode order.old.rel.size (block_at graphs.now.items y.now.number) }
+    requires covers { AllTold (FitsCovering order.old.rel.size order.old.rel.pairs graphs.now.items) order.old.covers.told.items }
     ensures relation { order.new.rel ≡ order.old.rel }
-    ensures covers { AllTold (FitsCovering order.old.rel.size order.old.rel.pairs graphs.now) order.new.covers.told.items }
+    ensures covers { AllTold (FitsCovering order.old.rel.size order.old.rel.pairs graphs.now.items) order.new.covers.told.items }
     ensures told { (A B : Automaton) (v w : WordArc) → B.states ≡ order.old.rel.size
-        → StandFor mode A B x.now.arc (block_at graphs.now x.now.number) v → StandFor mode A B y.now.arc (block_at graphs.now y.now.number) w
+        → StandFor mode A B x.now.arc (block_at graphs.now.items x.now.number) v → StandFor mode A B y.now.arc (block_at graphs.now.items y.now.number) w
         → IsTrue result ↔ SubsumesIn mode B order.old.rel.pairs v w }
 {
     match mode {
@@ -195,9 +195,9 @@ pub fn subsumes(mode: Mode, order: &mut Order, graphs: &[Graph], x: &Numbered, y
         Mode::Finite => subsumes_set(
             &order.rel,
             &x.arc,
-            block_of(graphs, x.number),
+            graphs.block(x.number as usize),
             &y.arc,
-            block_of(graphs, y.number),
+            graphs.block(y.number as usize),
         ),
     }
 }

@@ -134,7 +134,6 @@ pub fn check_under(
 
 /// Tells whether the element `j` is over the arc of the transition.
 fn is_over_letter(
-    alloc: Global,
     first: &Auto,
     second: &Auto,
     evidence: &YesBody,
@@ -151,7 +150,7 @@ fn is_over_letter(
     ensures supers { IfOk result (λ _. AreSupers Buchi first.now second.now evidence.now.elements (length evidence.now.elements) supers.new) }
     ensures order { IfOk result (λ _. IsEvidenceOrder second.now evidence.now supers.new.graphs.graphs.items order.new) }
 {
-    let base = blocks::base(alloc, first, second, t, &mut supers.graphs)?;
+    let base = blocks::base(first, second, t, &mut supers.graphs)?;
     Ok(is_over(
         Mode::Buchi,
         first,
@@ -166,7 +165,6 @@ fn is_over_letter(
 
 /// Tells whether the elements of the cover are over the arcs of one letter.
 fn covers_letters(
-    alloc: Global,
     first: &Auto,
     second: &Auto,
     evidence: &YesBody,
@@ -186,9 +184,7 @@ fn covers_letters(
         return Ok(false);
     }
     for t in 0..count {
-        if !is_over_letter(
-            alloc, first, second, evidence, order, supers, cover[t], t as u32,
-        )? {
+        if !is_over_letter(first, second, evidence, order, supers, cover[t], t as u32)? {
             return Ok(false);
         }
     }
@@ -246,7 +242,7 @@ fn covers_all(
     ensures order { IfOk result (λ _. IsEvidenceOrder second.now evidence.now supers.new.graphs.graphs.items order.new) }
 {
     match mode {
-        Mode::Buchi => covers_letters(alloc, first, second, evidence, order, supers),
+        Mode::Buchi => covers_letters(first, second, evidence, order, supers),
         Mode::Finite => covers_start(alloc, first, second, evidence, order, supers),
     }
 }

@@ -5,14 +5,15 @@ ghost use Rattle.auto_core.specs.Graph.{arc_of};
 ghost use Rattle.cert_value.specs.WellFormed.{is_origin};
 ghost use Rattle.log_check.specs.Checks.{AllHold, FirstBroken, Tells, checks_of_each};
 ghost use Rattle.cert_check.specs.Inclusion.{element_arcs, NamesOrigin, NamesElement, HasEarlierParent, GoesOn, no_element, element_checks};
-ghost use Rattle.cert_check.specs.Supers.{held, held_block, IsGraphNumbered, AreSupers};
+ghost use Rattle.cert_check.specs.Supers.{block_len, held, held_block, IsGraphNumbered, AreSupers};
 
 use crate::blocks;
 use crate::blocks::Numbered;
-use auto_core::{Auto, List, Memory, Mode, Origin};
+use auto_core::{Auto, List, Memory, Mode, Origin, rows};
 use cert_value::{Element, Mark};
+use graph_pool::Pool;
 use log_check::{CheckFault, Refusal};
-use shared_graphs::{Graphs, block_of};
+use shared_graphs::Graphs;
 use std::alloc::Global;
 use supergraph::Arc;
 
@@ -27,13 +28,25 @@ pub struct Supers {
     pub graphs: Graphs,
 }
 
+/// How many words there are for the graph of a word, in finite mode for its set.
+fn words_in(mode: Mode, states: u32) -> usize
+    requires { 0 < states }
+    ensures words { result ≡ block_len mode states }
+    ensures some { 0 < result }
+{
+    match mode {
+        Mode::Buchi => graph_rows::words_of(states),
+        Mode::Finite => rows::words_for(states),
+    }
+}
+
 impl Supers {
     /// The block of the element with this number.
     pub fn block(&self, e: usize) -> &[u64]
         requires { e < length self.now.numbers.items }
         ensures { result.now ≡ held_block self.now e }
     {
-        block_of(&self.graphs.graphs, self.numbers[e])
+        self.graphs.graphs.block(self.numbers[e] as usize)
     }
 
     /// The arc of the element with this number, and the number of its graph.
@@ -154,7 +167,7 @@ fn compute(
 {
     match origin {
         Origin::Start => blocks::start(alloc, first, second, &mut supers.graphs),
-        Origin::Base(t) => blocks::base(alloc, first, second, *t, &mut supers.graphs),
+        Origin::Base(t) => blocks::base(first, second, *t, &mut supers.graphs),
         Origin::Next(p, t) => {
             let parent = supers.element(*p as usize);
             blocks::extend(alloc, mode, first, second, parent, *t, &mut supers.graphs)
@@ -255,10 +268,11 @@ pub fn checked_elements(
     ensures tells { Tells (checks_of_each (element_checks first.now elements.now item) 0 elements.now) result }
     ensures supers { IfOk result (AreSupers mode first.now second.now elements.now (length elements.now)) }
 {
+    let mut pool = Pool::new(alloc, words_in(mode, second.states()));
     let mut supers = Supers {
         arcs: Vec::new(alloc),
         numbers: Vec::new(alloc),
-        graphs: Graphs::new(alloc)?,
+        graphs: Graphs::new(alloc, &mut pool)?,
     };
     fill(alloc, mode, first, second, elements, item, &mut supers)?;
     Ok(supers)

@@ -4,7 +4,7 @@ ghost use Rattle.std.specs.Prelude.{◌≡◌, length, IfOk};
 ghost use Rattle.cert_check.specs.Firsts.{IsBlockKnown, AreFirsts};
 
 use auto_core::Memory;
-use shared_graphs::Graph;
+use shared_graphs::GraphBlocks;
 use std::alloc::Global;
 use std::collections::BTreeMap;
 
@@ -26,14 +26,14 @@ fn known_number<'a>(
 }
 
 /// For each graph the number of the first one with the same block.
-pub fn first_numbers(alloc: Global, graphs: &[Graph]) -> Result<Vec<u64>, Memory>
-    ensures size { IfOk result (λ firsts. length firsts.items ≡ length graphs.now) }
-    ensures firsts { IfOk result (λ firsts. AreFirsts graphs.now firsts.items) }
+pub fn first_numbers(alloc: Global, graphs: &GraphBlocks) -> Result<Vec<u64>, Memory>
+    ensures size { IfOk result (λ firsts. length firsts.items ≡ length graphs.now.items) }
+    ensures firsts { IfOk result (λ firsts. AreFirsts graphs.now.items firsts.items) }
 {
     let mut known = BTreeMap::new(alloc);
     let mut firsts = Vec::new(alloc);
     for k in 0..graphs.len() {
-        let first = known_number(&mut known, &graphs[k].block, k as u64)?;
+        let first = known_number(&mut known, graphs.block(k), k as u64)?;
         firsts.push(first)?;
     }
     Ok(firsts)

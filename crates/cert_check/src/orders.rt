@@ -1,8 +1,7 @@
 //! The relation of a certificate of inclusion: whether it names states, and whether it is stable.
 
-ghost use Rattle.std.specs.Prelude.{List, IfOk};
+ghost use Rattle.std.specs.Prelude.{ℕ, List, IfOk};
 ghost use Rattle.log_check.specs.Checks.{Tells};
-ghost use Rattle.shared_graphs.specs.declared.graphs.Graph.{Graph};
 ghost use Rattle.cert_check.specs.Inclusion.{order_checks};
 ghost use Rattle.cert_check.specs.Supers.{IsEvidenceOrder};
 
@@ -32,7 +31,7 @@ pub fn checked_order(
     item: u32,
 ) -> Result<Order, CheckFault>
     ensures tells { Tells (order_checks second.now evidence.now item) result }
-    ensures order { IfOk result (λ order. (graphs : List Graph) → IsEvidenceOrder second.now evidence.now graphs order) }
+    ensures order { IfOk result (λ order. (graphs : List (List ℕ)) → IsEvidenceOrder second.now evidence.now graphs order) }
 {
     let states = second.states();
     if !is_block_below(states, &evidence.order) {

@@ -19,7 +19,7 @@ use auto_core::{Auto, Memory};
 use cert_value::YesBody;
 use lasso_test::{Scratch, enters, passes};
 use log_check::{CheckFault, Refusal};
-use shared_graphs::{Graph, block_of, marked_row};
+use shared_graphs::{GraphBlocks, marked_row};
 use std::alloc::Global;
 use std::collections::BTreeSet;
 
@@ -148,47 +148,47 @@ fn is_rare(states: u32, asked: &mut [u32], h: u32) -> bool {
 fn mark_loops(
     alloc: Global,
     states: u32,
-    graphs: &[Graph],
+    graphs: &GraphBlocks,
     h: u32,
     loops: &mut Vec<Vec<u64>>,
     scratch: &mut Scratch,
 ) -> Result<(), Memory>
-    requires formed { IsFormed states (block_at graphs.now h) }
+    requires formed { IsFormed states (block_at graphs.now.items h) }
     requires there { h < length loops.old.items }
-    requires loops { AreLoops states graphs.now loops.old.items }
+    requires loops { AreLoops states graphs.now.items loops.old.items }
     requires room { scratch.old ≡ states }
-    ensures loops { IfOk result (λ _. AreLoops states graphs.now loops.new.items) }
-    ensures here { IfOk result (λ _. IsLoopRow states (block_graph states (block_at graphs.now h)) (numbers_at loops.new.items h)) }
+    ensures loops { IfOk result (λ _. AreLoops states graphs.now.items loops.new.items) }
+    ensures here { IfOk result (λ _. IsLoopRow states (block_graph states (block_at graphs.now.items h)) (numbers_at loops.new.items h)) }
     ensures size { length loops.new.items ≡ length loops.old.items }
     ensures room { scratch.new ≡ states }
 {
     if loops[h as usize].len() > 0 {
         return Ok(());
     }
-    let row = marked_row(alloc, states, block_of(graphs, h), scratch)?;
+    let row = marked_row(alloc, states, graphs.block(h as usize), scratch)?;
     loops[h as usize] = row;
     Ok(())
 }
 
-/// Tells whether the graph has a lasso with the other one, from the second automaton's initial state.
+/// Tells whether the graph of the block has a lasso with the other one, from the second automaton's initial state.
 fn has_lasso(
     alloc: Global,
     second: &Auto,
-    graphs: &[Graph],
-    g: u32,
+    graphs: &GraphBlocks,
+    block: &[u64],
     h: u32,
     asked: &mut [u32],
     loops: &mut Vec<Vec<u64>>,
     scratch: &mut Scratch,
 ) -> Result<bool, Memory>
-    requires formed { IsFormed second.now.states (block_at graphs.now g) }
-    requires other { IsFormed second.now.states (block_at graphs.now h) }
+    requires formed { IsFormed second.now.states block.now }
+    requires other { IsFormed second.now.states (block_at graphs.now.items h) }
     requires there { h < length loops.old.items }
-    requires loops { AreLoops second.now.states graphs.now loops.old.items }
+    requires loops { AreLoops second.now.states graphs.now.items loops.old.items }
     requires room { scratch.old ≡ second.now.states }
     ensures told { IfOk result (λ is. IsTrue is
-        ↔ LassoIn (block_graph second.now.states (block_at graphs.now g)) (block_graph second.now.states (block_at graphs.now h)) second.now.initial) }
-    ensures loops { IfOk result (λ _. AreLoops second.now.states graphs.now loops.new.items) }
+        ↔ LassoIn (block_graph second.now.states block.now) (block_graph second.now.states (block_at graphs.now.items h)) second.now.initial) }
+    ensures loops { IfOk result (λ _. AreLoops second.now.states graphs.now.items loops.new.items) }
     ensures size { length loops.new.items ≡ length loops.old.items }
     ensures room { scratch.new ≡ second.now.states }
 {
@@ -196,44 +196,40 @@ fn has_lasso(
     if is_rare(states, asked, h) {
         return Ok(passes(
             states,
-            block_of(graphs, g),
-            block_of(graphs, h),
+            block,
+            graphs.block(h as usize),
             second.initial(),
             scratch,
         ));
     }
     mark_loops(alloc, states, graphs, h, loops, scratch)?;
-    Ok(enters(
-        states,
-        block_of(graphs, g),
-        second.initial(),
-        &loops[h as usize],
-    ))
+    Ok(enters(states, block, second.initial(), &loops[h as usize]))
 }
 
 /// Tells whether the graph has a lasso with each of the others, from the second automaton's initial state.
 fn has_lassos(
     alloc: Global,
     second: &Auto,
-    graphs: &[Graph],
+    graphs: &GraphBlocks,
     g: u32,
     others: &[u32],
     asked: &mut [u32],
     loops: &mut Vec<Vec<u64>>,
     scratch: &mut Scratch,
 ) -> Result<bool, Memory>
-    requires formed { IsFormed second.now.states (block_at graphs.now g) }
-    requires others { (h : ℕ) → Contains others.now h → IsFormed second.now.states (block_at graphs.now h) }
+    requires formed { IsFormed second.now.states (block_at graphs.now.items g) }
+    requires others { (h : ℕ) → Contains others.now h → IsFormed second.now.states (block_at graphs.now.items h) }
     requires there { (h : ℕ) → Contains others.now h → h < length loops.old.items }
-    requires loops { AreLoops second.now.states graphs.now loops.old.items }
+    requires loops { AreLoops second.now.states graphs.now.items loops.old.items }
     requires room { scratch.old ≡ second.now.states }
-    ensures told { IfOk result (λ is. IsTrue is ↔ HasLassos second.now graphs.now g others.now) }
-    ensures loops { IfOk result (λ _. AreLoops second.now.states graphs.now loops.new.items) }
+    ensures told { IfOk result (λ is. IsTrue is ↔ HasLassos second.now graphs.now.items g others.now) }
+    ensures loops { IfOk result (λ _. AreLoops second.now.states graphs.now.items loops.new.items) }
     ensures size { length loops.new.items ≡ length loops.old.items }
     ensures room { scratch.new ≡ second.now.states }
 {
+    let block = graphs.block(g as usize);
     for h in others {
-        if !has_lasso(alloc, second, graphs, g, *h, asked, loops, scratch)? {
+        if !has_lasso(alloc, second, graphs, block, *h, asked, loops, scratch)? {
             return Ok(false);
         }
     }

@@ -6,8 +6,8 @@ use Rattle.std.proofs.lemmas.Bool.{cases_eq, false≢true}
 use Rattle.auto_core.specs.Rows.{HasBit, bit_of}
 use Rattle.auto_core.proofs.BitLemmas.{missing_found, bit_past}
 use Rattle.row_steps.proofs.MeetLemmas.{meet_found}
-use Rattle.graph_rows.specs.declared.prints.Print.{Print}
-use Rattle.graph_rows.specs.Prints.{Misses}
+use Rattle.graph_rows.specs.declared.prints.PairBits.{PairBits}
+use Rattle.graph_rows.specs.Prints.{MissesAt}
 
 pub own_more :
     (P : ℕ → Type 0) (old now : List ℕ) (j : ℕ)
@@ -51,12 +51,12 @@ rest_kept Q row j here all i below none = elim (cases_eq i j) [
 ]
 
 pub missed :
-    (first second : Print)
+    (first second : PairBits)
     → first.own < 2 ^ 64
     → second.answered < 2 ^ 64
     → bit_and first.own (bit_not w64 second.answered) < 2 ^ 64
     → ¬ (bit_and first.own (bit_not w64 second.answered) ≡ 0)
-    → Misses first second
+    → MissesAt first second
 missed first second own_fits answered_fits fits some =
     let found = missing_found (first.own ∷ []) (second.answered ∷ []) 0 own_fits answered_fits (omega arith) fits some in
     let below = found.2 in

@@ -1,8 +1,9 @@
--- Prints of graphs: what they say of pairs of states, the same pairs for all graphs of n states, by 64 bits.
+-- Prints of graphs: what they say of pairs of states, the same pairs for all graphs of n states, by bits.
 use Rattle.std.specs.Prelude.{◌≡◌, ℕ, ◌+◌, ◌*◌, ◌/◌, ◌%◌, ◌<◌, ◌≤◌, ◌⊎◌, ◌==◌, Bool, true, false, List, [], ◌∷◌}
 use Rattle.auto_core.specs.Rows.{HasBit, bit_of}
 use Rattle.auto_core.specs.Graph.{Graph}
 use Rattle.graph_rows.specs.Block.{block_graph}
+use Rattle.graph_rows.specs.declared.prints.PairBits.{PairBits}
 use Rattle.graph_rows.specs.declared.prints.Print.{Print}
 
 -- The bit that the pair shares with others.
@@ -28,26 +29,37 @@ joined_pairs g true s t = g.past s t
 abbrev pub HasNoAnswer : (ℕ → ℕ → Type 0) → Graph → Bool → ℕ → ℕ → Type 0
 HasNoAnswer S g past p q = (u : ℕ) → joined_pairs g past p u → S q u → ⊥
 
--- The bit j of a print of a graph of n states is asked about the pair: about each pair that has it, up to 24 states, and else about the picked one.
-abbrev pub IsAskedAt : ℕ → ℕ → Bool → ℕ → ℕ → Type 0
-IsAskedAt n j past p q =
-    ((n ≤ 24) × (p < n) × (q < n) × (past ≡ false) × (folded_bit p q ≡ j))
-    ⊎ ((24 < n) × (past ≡ is_past j) × (p ≡ picked_source n j) × (q ≡ picked_target n j))
+-- The bit j is asked about the picked pair with this number.
+abbrev pub IsPicked : ℕ → ℕ → Bool → ℕ → ℕ → Type 0
+IsPicked n j past p q = (1 ≤ n) × (past ≡ is_past j) × (p ≡ picked_source n j) × (q ≡ picked_target n j)
+
+-- The bit j is asked about each pair that has it, up to 24 states.
+abbrev pub IsFolded : ℕ → ℕ → Bool → ℕ → ℕ → Type 0
+IsFolded n j past p q = (n ≤ 24) × (p < n) × (q < n) × (past ≡ false) × (folded_bit p q ≡ j)
 
 -- A bit of `own` is asked about some pair that the graph has, and a bit that `answered` has not is asked about pairs that the graph has no answer to.
-abbrev pub HasOwn : ℕ → Graph → ℕ → Type 0
-HasOwn n g own = (j : ℕ) → HasBit (own ∷ []) j → (past : Bool) × (p q : ℕ) × IsAskedAt n j past p q × joined_pairs g past p q
+abbrev pub HasOwn : (ℕ → Bool → ℕ → ℕ → Type 0) → Graph → ℕ → Type 0
+HasOwn IsAsked g own = (j : ℕ) → HasBit (own ∷ []) j → (past : Bool) × (p q : ℕ) × IsAsked j past p q × joined_pairs g past p q
 
-abbrev pub HasAnswered : ℕ → (ℕ → ℕ → Type 0) → Graph → ℕ → Type 0
-HasAnswered n S g answered = (j : ℕ) (past : Bool) (p q : ℕ) → j < 64 → bit_of (answered ∷ []) j ≡ false → IsAskedAt n j past p q → HasNoAnswer S g past p q
+abbrev pub HasAnswered : (ℕ → Bool → ℕ → ℕ → Type 0) → (ℕ → ℕ → Type 0) → Graph → ℕ → Type 0
+HasAnswered IsAsked S g answered =
+    (j : ℕ) (past : Bool) (p q : ℕ) → j < 64 → bit_of (answered ∷ []) j ≡ false → IsAsked j past p q → HasNoAnswer S g past p q
+
+pub record AreBitsOf (IsAsked : ℕ → Bool → ℕ → ℕ → Type 0) (S : ℕ → ℕ → Type 0) (g : Graph) (bits : PairBits) : Type 0 where
+  pub own : HasOwn IsAsked g bits.own
+  pub answered : HasAnswered IsAsked S g bits.answered
 
 pub record IsPrint (n : ℕ) (S : ℕ → ℕ → Type 0) (block : List ℕ) (print : Print) : Type 0 where
-  pub own : HasOwn n (block_graph n block) print.own
-  pub answered : HasAnswered n S (block_graph n block) print.answered
+  pub picked : AreBitsOf (IsPicked n) S (block_graph n block) print.picked
+  pub folded : AreBitsOf (IsFolded n) S (block_graph n block) print.folded
 
--- The first print has a bit that the second one has no answer at.
-pub record Misses (first second : Print) : Type 0 where
+-- The first has a bit that the second one has no answer at.
+pub record MissesAt (first second : PairBits) : Type 0 where
   pub at : ℕ
   pub within : at < 64
   pub own : HasBit (first.own ∷ []) at
   pub unanswered : bit_of (second.answered ∷ []) at ≡ false
+
+-- By the picked pairs, or by the folded ones.
+abbrev pub Misses : Print → Print → Type 0
+Misses first second = MissesAt first.picked second.picked ⊎ MissesAt first.folded second.folded

@@ -13,5 +13,5 @@ pub use block::{arc, joined, past, same, words_of};
 pub use covering::{answers, covers};
 pub use lanes::or_into;
 pub use letters::{extend, letter};
-pub use prints::{Print, misses, print_of};
+pub use prints::{PairBits, Print, misses, print_of};
 pub use row_steps::subset;

@@ -4,7 +4,7 @@ ghost use Rattle.std.specs.Prelude.{◌≡◌, ◌<◌, ◌≤◌, ◌⊎◌, �
 ghost use Rattle.auto_core.specs.Game.{Holds};
 ghost use Rattle.auto_core.specs.Rows.{bit_of, HasBit};
 ghost use Rattle.graph_rows.specs.Block.{block_graph, IsFormed};
-ghost use Rattle.graph_rows.specs.Prints.{HasAnswered, HasNoAnswer, HasOwn, IsPrint, Misses, folded_bit, is_past, joined_pairs, picked_source, picked_target};
+ghost use Rattle.graph_rows.specs.Prints.{AreBitsOf, HasAnswered, HasNoAnswer, HasOwn, IsFolded, IsPicked, IsPrint, Misses, MissesAt, folded_bit, is_past, joined_pairs, picked_source, picked_target};
 
 use crate::block;
 use crate::covering::answers;
@@ -14,12 +14,20 @@ use bit_rel::Rel;
 /// Up to so many states, a print tells of each pair of states.
 const MOST_FOLDED: u32 = 24;
 
-/// What a graph says of pairs of states, by 64 bits: which of them it has, and to which of them it has an answer. Of few states each pair has a bit,
-/// which it shares with others; of more states 64 pairs have a bit each.
+/// What a graph says of pairs of states by 64 bits, each of which is asked about some pairs: which of them it has, and to which of them it has an
+/// answer.
 #[derive(Clone, Copy, Debug)]
-pub struct Print {
+pub struct PairBits {
     pub own: u64,
     pub answered: u64,
+}
+
+/// What a graph says of pairs of states: of 64 that are picked, by a bit each; and, where there are few states, of each pair, by a bit that it
+/// shares with others.
+#[derive(Clone, Copy, Debug)]
+pub struct Print {
+    pub picked: PairBits,
+    pub folded: PairBits,
 }
 
 /// The bit that the pair shares with others.
@@ -77,11 +85,11 @@ fn answers_pair(order: &Rel, g: &[u64], p: u32, q: u32, past: bool) -> bool
 /// Sets the bits of the picked pairs that the graph has, and of those that it has an answer to.
 fn mark_picked(order: &Rel, g: &[u64], own: &mut [u64], answered: &mut [u64])
     requires formed { IsFormed order.now.size g.now }
-    requires many { 24 < order.now.size }
+    requires some { 1 ≤ order.now.size }
     requires own { own.old ≡ 0 ∷ [] }
     requires answered { answered.old ≡ 0 ∷ [] }
-    ensures own { (x : ℕ) → own.new ≡ x ∷ [] → HasOwn order.now.size (block_graph order.now.size g.now) x }
-    ensures answered { (x : ℕ) → answered.new ≡ x ∷ [] → HasAnswered order.now.size (Holds order.now.pairs) (block_graph order.now.size g.now) x }
+    ensures own { (x : ℕ) → own.new ≡ x ∷ [] → HasOwn (IsPicked order.now.size) (block_graph order.now.size g.now) x }
+    ensures answered { (x : ℕ) → answered.new ≡ x ∷ [] → HasAnswered (IsPicked order.now.size) (Holds order.now.pairs) (block_graph order.now.size g.now) x }
 {
     let n = order.size();
     for j in 0..64 {
@@ -141,39 +149,45 @@ fn mark_all(order: &Rel, g: &[u64], own: &mut [u64], answered: &mut [u64])
     requires few { order.now.size ≤ 24 }
     requires own { own.old ≡ 0 ∷ [] }
     requires answered { answered.old ≡ 0 ∷ [] }
-    ensures own { (x : ℕ) → own.new ≡ x ∷ [] → HasOwn order.now.size (block_graph order.now.size g.now) x }
-    ensures answered { (x : ℕ) → answered.new ≡ x ∷ [] → HasAnswered order.now.size (Holds order.now.pairs) (block_graph order.now.size g.now) x }
+    ensures own { (x : ℕ) → own.new ≡ x ∷ [] → HasOwn (IsFolded order.now.size) (block_graph order.now.size g.now) x }
+    ensures answered { (x : ℕ) → answered.new ≡ x ∷ [] → HasAnswered (IsFolded order.now.size) (Holds order.now.pairs) (block_graph order.now.size g.now) x }
 {
     for p in 0..order.size() {
         mark_row(order, g, p, own, answered);
     }
 }
 
-/// The print of a graph of few states.
-fn print_of_few(order: &Rel, g: &[u64]) -> Print
+/// The bits of the picked pairs.
+fn picked_bits(order: &Rel, g: &[u64]) -> PairBits
     requires formed { IsFormed order.now.size g.now }
-    requires few { order.now.size ≤ 24 }
-    ensures { IsPrint order.now.size (Holds order.now.pairs) g.now result }
+    ensures { AreBitsOf (IsPicked order.now.size) (Holds order.now.pairs) (block_graph order.now.size g.now) result }
 {
+    if order.size() == 0 {
+        return PairBits {
+            own: 0,
+            answered: 0,
+        };
+    }
     let mut own = [0];
     let mut answered = [0];
-    mark_all(order, g, &mut own, &mut answered);
-    Print {
+    mark_picked(order, g, &mut own, &mut answered);
+    PairBits {
         own: own[0],
         answered: answered[0],
     }
 }
 
-/// The print of a graph of more states.
-fn print_of_many(order: &Rel, g: &[u64]) -> Print
+/// The bits that all pairs of few states share.
+fn folded_bits(order: &Rel, g: &[u64]) -> PairBits
     requires formed { IsFormed order.now.size g.now }
-    requires many { 24 < order.now.size }
-    ensures { IsPrint order.now.size (Holds order.now.pairs) g.now result }
+    ensures { AreBitsOf (IsFolded order.now.size) (Holds order.now.pairs) (block_graph order.now.size g.now) result }
 {
     let mut own = [0];
     let mut answered = [0];
-    mark_picked(order, g, &mut own, &mut answered);
-    Print {
+    if order.size() <= MOST_FOLDED {
+        mark_all(order, g, &mut own, &mut answered);
+    }
+    PairBits {
         own: own[0],
         answered: answered[0],
     }
@@ -184,16 +198,22 @@ pub fn print_of(order: &Rel, g: &[u64]) -> Print
     requires formed { IsFormed order.now.size g.now }
     ensures { IsPrint order.now.size (Holds order.now.pairs) g.now result }
 {
-    if order.size() <= MOST_FOLDED {
-        print_of_few(order, g)
-    } else {
-        print_of_many(order, g)
+    Print {
+        picked: picked_bits(order, g),
+        folded: folded_bits(order, g),
     }
+}
+
+/// Tells whether the second graph has no answer at a bit that the first has.
+fn misses_at(first: &PairBits, second: &PairBits) -> bool
+    ensures { result ≡ true → MissesAt first.now second.now }
+{
+    first.own & !second.answered != 0
 }
 
 /// Tells whether the second graph has no answer to a pair that the first has: then the first does not cover the second.
 pub fn misses(first: &Print, second: &Print) -> bool
     ensures { result ≡ true → Misses first.now second.now }
 {
-    first.own & !second.answered != 0
+    misses_at(&first.picked, &second.picked) || misses_at(&first.folded, &second.folded)
 }

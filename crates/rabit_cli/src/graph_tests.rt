@@ -1,7 +1,8 @@
 //! Graphs of words, called directly: the arcs that stay when a graph is minimised.
 
-ghost use Rattle.std.specs.Prelude.{◌≡◌, ◌^◌, ◌<◌, length, IfOk};
+ghost use Rattle.std.specs.Prelude.{◌≡◌, ◌*◌, ◌^◌, ◌<◌, length, IfOk};
 ghost use Rattle.bit_rel.specs.Relation.{IsPreorder};
+ghost use Rattle.graph_rows.specs.Block.{width_of};
 
 use auto_core::{Auto, Memory, Trans};
 use bit_rel::Rel;
@@ -37,9 +38,45 @@ fn order(alloc: Global) -> Result<Rel, Memory>
     direct_sim::preorder(alloc, &automaton, 1)
 }
 
+/// Minimises the letter's graph in the block, and tells the values of the arcs from state 0 to both states that stay.
+fn minimised(order: &Rel, automaton: &Auto, block: &mut [u64]) -> (u8, u8)
+    requires order { IsPreorder order.now.size order.now.pairs }
+    requires size { order.now.size ≡ 2 }
+    requires states { automaton.now.states ≡ order.now.size }
+    requires room { length block.old ≡ 2 * automaton.now.states * width_of automaton.now.states }
+{
+    graph_rows::letter(automaton, 0, block);
+    supergraph::minimise(order, block);
+    let states = order.size();
+    (
+        graph_rows::arc(states, block, 0, 0),
+        graph_rows::arc(states, block, 0, 1),
+    )
+}
+
+/// The values of the arcs from state 0 to both states that stay of those of a letter which leads there, with these states accepting.
+fn left_of(alloc: Global, accepting: &[u32]) -> Result<(u8, u8), Memory> {
+    let order = order(alloc)?;
+    let automaton = automaton_of(alloc, &[step(0, 0), step(0, 1)], accepting)?;
+    let mut block = vec![in alloc; 0; graph_rows::words_of(automaton.states())]?;
+    Ok(minimised(&order, &automaton, &mut block))
+}
+
 #[test]
 fn the_order_relates_the_first_state_to_the_second(rt: HostRuntime) -> Result<(), Fail> {
     let order = order(rt.alloc())?;
     assert_eq!(rt; (order.get(0, 1), order.get(1, 0)), (true, false));
+    Ok(())
+}
+
+#[test]
+fn an_arc_goes_for_one_of_its_value(rt: HostRuntime) -> Result<(), Fail> {
+    assert_eq!(rt; left_of(rt.alloc(), &[])?, (0, 1));
+    Ok(())
+}
+
+#[test]
+fn an_arc_of_greater_value_stays(rt: HostRuntime) -> Result<(), Fail> {
+    assert_eq!(rt; left_of(rt.alloc(), &[0])?, (2, 1));
     Ok(())
 }

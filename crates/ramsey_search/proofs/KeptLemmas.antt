@@ -1,55 +1,62 @@
 -- Kept graphs and words' graphs cover each other.
-use Rattle.std.proofs.Common.{◌≡◌, ℕ, List, [], ◌∷◌, ◌++◌, sym, ap, ◌∙◌, arith}
+use Rattle.std.proofs.Common.{◌≡◌, ℕ, List, [], ◌∷◌, ◌++◌, sym, ap, ◌∙◌}
 use Rattle.auto_core.specs.Automaton.{Automaton, IsAutomaton, trans_at}
 use Rattle.auto_core.specs.Game.{Holds, IsGreatestForward}
 use Rattle.auto_core.specs.Graph.{Graph, SameGraph, Supergraph, Covers, Subsumes, WordArc, graph_of, letter_graph, extended, base_arc, extended_arc}
 use Rattle.auto_core.specs.Outcome.{Entry, super_entry, base_entry, next_entry}
 use Rattle.auto_core.specs.declared.parts.Origin.TheVariants.{Base, Next}
-use Rattle.graph_laws.proofs.GraphLemmas.{same_refl, same_sym, same_trans, graph_of_letter, graph_of_more, covers_between, covers_extended, subsumes_trans}
-use Rattle.graph_rows.specs.Block.{IsFormed, block_graph}
+use Rattle.graph_laws.proofs.GraphLemmas.{same_refl, same_sym, graph_of_letter, graph_of_more, covers_between, covers_extended, covers_trans, subsumes_trans}
+use Rattle.bit_rel.specs.Relation.{IsPreorder}
+use Rattle.graph_rows.specs.Block.{block_graph}
 use Rattle.supergraph.specs.Stands.{with_word}
-use Rattle.search_laws.proofs.OrderLemmas.{greatest_transitive}
-use Rattle.search_laws.proofs.EntryLemmas.{word_covers_itself}
+use Rattle.search_laws.proofs.OrderLemmas.{greatest_reflexive, greatest_transitive}
+use Rattle.shared_graphs.specs.Graphs.{IsBlockOf, MinimisedBy}
 use Rattle.ramsey_search.specs.Kept.{IsKept, HeldSubsumes, held_super}
 use Rattle.ramsey_search.specs.Views.{Seen}
 
-pub base_kept : (A B : Automaton) (S : List (ℕ × ℕ)) → IsAutomaton B → IsGreatestForward B 1 S → (t : ℕ) (h : Seen) → h.origin ≡ Base t →
-    with_word h.arc ((trans_at A t).label ∷ []) ≡ base_arc A (trans_at A t) → IsFormed B.states h.graph →
-    SameGraph (block_graph B.states h.graph) (letter_graph B (trans_at A t).label) → IsKept B S h (base_entry A t)
-base_kept A B S valid greatest t h origin arc formed same =
+pub base_kept : (A B : Automaton) (S : List (ℕ × ℕ)) (t : ℕ) (h : Seen) → h.origin ≡ Base t → with_word h.arc ((trans_at A t).label ∷ []) ≡ base_arc A (trans_at A t) →
+    IsBlockOf B (MinimisedBy S) (letter_graph B (trans_at A t).label) h.graph → IsKept B S h (base_entry A t)
+base_kept A B S t h origin arc is =
     let a : ℕ = (trans_at A t).label in
     let w : List ℕ = a ∷ [] in
     let block : Graph = block_graph B.states h.graph in
-    let own : Covers (Holds S) (graph_of B w) (graph_of B w) = word_covers_itself B S valid greatest w (omega arith) in
-    let stands : SameGraph (graph_of B w) block = same_trans (graph_of B w) (letter_graph B a) block (graph_of_letter B a) (same_sym block (letter_graph B a) same) in
+    let word_is : SameGraph (letter_graph B a) (graph_of B w) = same_sym (graph_of B w) (letter_graph B a) (graph_of_letter B a) in
     record {
       origin = origin;
       arc = arc;
-      formed = formed;
-      covers = covers_between (Holds S) (graph_of B w) (graph_of B w) block (graph_of B w) stands (same_refl (graph_of B w)) own;
-      covered = covers_between (Holds S) (graph_of B w) (graph_of B w) (graph_of B w) block (same_refl (graph_of B w)) stands own;
+      formed = is.formed;
+      minimal = is.stands.minimal;
+      covers = covers_between (Holds S) block (letter_graph B a) block (graph_of B w) (same_refl block) word_is is.stands.cover.back;
+      covered = covers_between (Holds S) (letter_graph B a) block (graph_of B w) block word_is (same_refl block) is.stands.cover.forth;
     }
 
 pub next_kept : (A B : Automaton) (S : List (ℕ × ℕ)) → IsGreatestForward B 1 S → (e t : ℕ) (from h : Seen) (x : Entry) → IsKept B S from x → h.origin ≡ Next e t →
-    ((w : List ℕ) → with_word h.arc (w ++ (trans_at A t).label ∷ []) ≡ extended_arc A (with_word from.arc w) (trans_at A t)) → IsFormed B.states h.graph →
-    SameGraph (block_graph B.states h.graph) (extended B (block_graph B.states from.graph) (trans_at A t).label) → IsKept B S h (next_entry A e x t)
-next_kept A B S greatest e t from h x kept origin arc formed same =
+    ((w : List ℕ) → with_word h.arc (w ++ (trans_at A t).label ∷ []) ≡ extended_arc A (with_word from.arc w) (trans_at A t)) →
+    IsBlockOf B (MinimisedBy S) (extended B (block_graph B.states from.graph) (trans_at A t).label) h.graph → IsKept B S h (next_entry A e x t)
+next_kept A B S greatest e t from h x kept origin arc is =
     let a : ℕ = (trans_at A t).label in
     let w : List ℕ = x.arc.word in
     let block : Graph = block_graph B.states h.graph in
     let old : Graph = block_graph B.states from.graph in
-    let word_is : SameGraph (extended B (graph_of B w) a) (graph_of B (w ++ a ∷ [])) =
-    same_sym (graph_of B (w ++ a ∷ [])) (extended B (graph_of B w) a) (graph_of_more B w a) in
-    let block_is : SameGraph (extended B old a) block = same_sym block (extended B old a) same in
+    let longer : Graph = graph_of B (w ++ a ∷ []) in
+    let joins = covers_trans (Holds S) (greatest_transitive B S greatest) in
+    let word_is : SameGraph (extended B (graph_of B w) a) longer = same_sym longer (extended B (graph_of B w) a) (graph_of_more B w a) in
     record {
       origin = origin;
       arc = arc w ∙ ap (λ y. extended_arc A y (trans_at A t)) kept.arc;
-      formed = formed;
-      covers = covers_between (Holds S) (extended B old a) (extended B (graph_of B w) a) block (graph_of B (w ++ a ∷ [])) block_is word_is
-          (covers_extended B (Holds S) greatest.stable old (graph_of B w) a kept.covers);
-      covered = covers_between (Holds S) (extended B (graph_of B w) a) (extended B old a) (graph_of B (w ++ a ∷ [])) block word_is block_is
-          (covers_extended B (Holds S) greatest.stable (graph_of B w) old a kept.covered);
+      formed = is.formed;
+      minimal = is.stands.minimal;
+      covers = joins block (extended B old a) longer is.stands.cover.back
+          (covers_between (Holds S) (extended B old a) (extended B (graph_of B w) a) (extended B old a) longer (same_refl (extended B old a)) word_is
+          (covers_extended B (Holds S) greatest.stable old (graph_of B w) a kept.covers));
+      covered = joins longer (extended B old a) block
+          (covers_between (Holds S) (extended B (graph_of B w) a) (extended B old a) longer (extended B old a) word_is (same_refl (extended B old a))
+          (covers_extended B (Holds S) greatest.stable (graph_of B w) old a kept.covered)) is.stands.cover.forth;
     }
+
+-- The greatest relation is one by which graphs may be minimised.
+pub greatest_preorder : (B : Automaton) (S : List (ℕ × ℕ)) → IsAutomaton B → IsGreatestForward B 1 S → IsPreorder B.states S
+greatest_preorder B S valid greatest = record { in_range = greatest.in_range; reflexive = greatest_reflexive B S valid greatest; transitive = greatest_transitive B S greatest }
 
 -- The kept supergraph and that of the entry subsume each other.
 pub kept_above : (B : Automaton) (S : List (ℕ × ℕ)) (h : Seen) (x : Entry) → IsKept B S h x → Subsumes (Holds S) (held_super B.states h) (super_entry B x)

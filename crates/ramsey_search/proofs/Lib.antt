@@ -12,4 +12,3 @@ pub mod ClosureLemmas
 pub mod AnswerLemmas
 pub mod ClosingLemmas
 pub mod WholeLemmas
-pub mod ShareLemmas

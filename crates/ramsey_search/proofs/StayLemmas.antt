@@ -7,13 +7,12 @@ use Rattle.search_laws.proofs.PlaceLemmas.{at_same, at_within, at_some, same_map
 use Rattle.search_laws.proofs.ListLemmas.{at_map}
 use Rattle.ramsey_search.specs.declared.parts.Held.{Held}
 use Rattle.ramsey_search.specs.declared.family.Family.{Family}
-use Rattle.shared_graphs.specs.declared.graphs.Graph.{Graph}
 use Rattle.shared_graphs.specs.Graphs.{block_at, HasGrown}
 use Rattle.ramsey_search.specs.Views.{seen, view}
 use Rattle.ramsey_search.specs.Kept.{IsFamily, IsWhole, entries_held}
 use Rattle.shared_graphs.proofs.GraphsLemmas.{formed_there}
 
-pub view_stays : (A B : Automaton) (S : List (ℕ × ℕ)) (old now : List Graph) (f : Family) (es : List Entry) → 1 ≤ B.states → HasGrown old now → IsFamily A B S (view old f) es → view now f ≡ view old f
+pub view_stays : (A B : Automaton) (S : List (ℕ × ℕ)) (old now : List (List ℕ)) (f : Family) (es : List Entry) → 1 ≤ B.states → HasGrown old now → IsFamily A B S (view old f) es → view now f ≡ view old f
 view_stays A B S old now f es some grown family =
     ap (λ l. record { states = f.states; held = l; live = f.live.items; ends = f.ends.items })
     (same_maps (seen now) (seen old) f.held.items f.held.items refl (λ i x y x_is y_is.
@@ -26,11 +25,11 @@ view_stays A B S old now f es some grown family =
     let there = formed_there B.states old x.graph some kept.formed in
     seen_stays old now x (grown.same x.graph there) ∙ ap (seen old) one))
   where
-    seen_stays : (old now : List Graph) (h : Held) → block_at now h.graph ≡ block_at old h.graph → seen now h ≡ seen old h
+    seen_stays : (old now : List (List ℕ)) (h : Held) → block_at now h.graph ≡ block_at old h.graph → seen now h ≡ seen old h
     seen_stays old now h e = ap (λ l. record { origin = h.origin; arc = h.arc; graph = l }) e
 
 -- So does a whole family, which stays whole.
-pub whole_stays : (A B : Automaton) (S : List (ℕ × ℕ)) (old now : List Graph) (f : Family) → IsAutomaton B → HasGrown old now → IsWhole A B S (view old f) → (view now f ≡ view old f) × IsWhole A B S (view now f)
+pub whole_stays : (A B : Automaton) (S : List (ℕ × ℕ)) (old now : List (List ℕ)) (f : Family) → IsAutomaton B → HasGrown old now → IsWhole A B S (view old f) → (view now f ≡ view old f) × IsWhole A B S (view now f)
 whole_stays A B S old now f valid grown whole =
     let some = valid.initial_is_state in
     let same : view now f ≡ view old f = view_stays A B S old now f (entries_held A (view old f)) (omega arith) grown whole in

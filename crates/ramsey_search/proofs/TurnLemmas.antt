@@ -19,7 +19,6 @@ use Rattle.evidence.proofs.TurnLemmas.{live_leads, dropped_leads}
 use Rattle.evidence.specs.Entries.{entry_of, entries_of}
 use Rattle.ramsey_search.specs.declared.parts.Held.{Held}
 use Rattle.ramsey_search.specs.declared.family.Family.{Family}
-use Rattle.shared_graphs.specs.declared.graphs.Graph.{Graph}
 use Rattle.shared_graphs.specs.Graphs.{HasGrown}
 use Rattle.ramsey_search.specs.Views.{Seen, View, seen, view}
 use Rattle.ramsey_search.proofs.SeenLemmas.{entry_at, held_within, held_stands}
@@ -106,7 +105,7 @@ come_then A B S limit old mid now cs mid_cs left turn mid_turn later fate first 
 }
 
 -- The search has come as far when more graphs are there.
-pub come_stays : (A B : Automaton) (S : List (ℕ × ℕ)) (limit : ℕ) (before : View) (old now : List Graph) (f : Family) (cs left : List Entry) (turn later : ℕ) (fate : Fate) → IsAutomaton B → HasGrown old now →
+pub come_stays : (A B : Automaton) (S : List (ℕ × ℕ)) (limit : ℕ) (before : View) (old now : List (List ℕ)) (f : Family) (cs left : List Entry) (turn later : ℕ) (fate : Fate) → IsAutomaton B → HasGrown old now →
     HasCome A B S limit before (view old f) fate cs left turn later → HasCome A B S limit before (view now f) fate cs left turn later
 come_stays A B S limit before old now f cs left turn later fate valid grown come =
     subst (λ v. HasCome A B S limit before v fate cs left turn later) (sym (whole_stays A B S old now f valid grown come.whole).0) come
@@ -206,13 +205,13 @@ pub record StandsFor (A B : Automaton) (S : List (ℕ × ℕ)) (v : View) (e : �
   pub is : At (entries_held A v) e entry
   pub kept : IsKept B S h entry
 
-pub stands_at : (A B : Automaton) (S : List (ℕ × ℕ)) (g : List Graph) (f : Family) (e : ℕ) (h : Held) → IsWhole A B S (view g f) → e < length f.held.items → h ≡ slice_index_or f.held.items e h →
+pub stands_at : (A B : Automaton) (S : List (ℕ × ℕ)) (g : List (List ℕ)) (f : Family) (e : ℕ) (h : Held) → IsWhole A B S (view g f) → e < length f.held.items → h ≡ slice_index_or f.held.items e h →
     StandsFor A B S (view g f) e (seen g h)
 stands_at A B S g f e h whole lt is =
     let x = entry_at A B S g f whole e lt in
     record { entry = x.0; is = x.1; kept = held_stands A B S g f whole e h x.0 (read_at f.held.items e h h lt is) x.1 }
 
-pub still_stands : (A B : Automaton) (S : List (ℕ × ℕ)) (g : List Graph) (f : Family) (e : ℕ) (h : Held) (x : Entry) → IsWhole A B S (view g f) → At (entries_held A (view g f)) e x →
+pub still_stands : (A B : Automaton) (S : List (ℕ × ℕ)) (g : List (List ℕ)) (f : Family) (e : ℕ) (h : Held) (x : Entry) → IsWhole A B S (view g f) → At (entries_held A (view g f)) e x →
     h ≡ slice_index_or f.held.items e h → IsKept B S (seen g h) x
 still_stands A B S g f e h x whole x_is is = held_stands A B S g f whole e h x (read_at f.held.items e h h (held_within A B S g f whole e x x_is) is) x_is
 

@@ -6,6 +6,7 @@ use Rattle.auto_core.specs.Game.{Holds}
 use Rattle.auto_core.specs.Graph.{Supergraph, Covers, Subsumes, Passes, Fails, graph_of}
 use Rattle.auto_core.specs.Outcome.{At, Entry, Outcome, Closed, Apart, Limit, Comes, SearchEnds, TellsLive, PassesBefore, FirstFailing, supergraph_rules}
 use Rattle.graph_rows.specs.Block.{IsFormed, block_graph}
+use Rattle.supergraph.specs.Minimal.{IsMinimal}
 use Rattle.supergraph.specs.Stands.{with_word, with_graph}
 use Rattle.search_laws.specs.Outcomes.{HaveOrigins}
 use Rattle.auto_core.specs.Graph.{IsPlacedAt}
@@ -19,11 +20,13 @@ use Rattle.ramsey_search.specs.declared.parts.Fate.{Fate}
 use Rattle.ramsey_search.specs.declared.parts.Fate.TheVariants as fates
 use Rattle.ramsey_search.specs.Views.{View}
 
--- The kept element stands for x: it has its origin and its arc, and its graph and that of x's word cover each other.
+-- The kept element stands for x: it has its origin and its arc, no arc of its graph is dominated, and the graph and that of x's word cover
+-- each other.
 pub record IsKept (B : Automaton) (S : List (ℕ × ℕ)) (h : Seen) (x : Entry) : Type 0 where
   pub origin : h.origin ≡ x.origin
   pub arc : with_word h.arc x.arc.word ≡ x.arc
   pub formed : IsFormed B.states h.graph
+  pub minimal : IsMinimal (Holds S) (block_graph B.states h.graph)
   pub covers : Covers (Holds S) (block_graph B.states h.graph) (graph_of B x.arc.word)
   pub covered : Covers (Holds S) (graph_of B x.arc.word) (block_graph B.states h.graph)
 

@@ -5,7 +5,6 @@ use Rattle.auto_core.specs.declared.parts.Origin.{Origin}
 use Rattle.supergraph.specs.declared.arcs.Arc.{Arc}
 use Rattle.ramsey_search.specs.declared.parts.Held.{Held}
 use Rattle.ramsey_search.specs.declared.family.Family.{Family}
-use Rattle.shared_graphs.specs.declared.graphs.Graph.{Graph}
 use Rattle.shared_graphs.specs.Graphs.{block_at}
 
 -- A kept element with the block of its graph.
@@ -22,8 +21,8 @@ pub record View : Type 0 where
   pub ends : List (Vec ℕ Global)
 
 -- The kept element, its block by its number among these graphs.
-abbrev pub seen : List Graph → Held → Seen
+abbrev pub seen : List (List ℕ) → Held → Seen
 seen graphs h = record { origin = h.origin; arc = h.arc; graph = block_at graphs h.graph }
 
-abbrev pub view : List Graph → Family → View
+abbrev pub view : List (List ℕ) → Family → View
 view graphs f = record { states = f.states; held = map (seen graphs) f.held.items; live = f.live.items; ends = f.ends.items }

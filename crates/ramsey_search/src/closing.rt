@@ -10,7 +10,8 @@ ghost use Rattle.cert_value.specs.declared.types.StepLine.{StepLine};
 ghost use Rattle.cert_value.specs.declared.types.Element.{Element};
 ghost use Rattle.cert_value.specs.WellFormed.{is_live};
 ghost use Rattle.ramsey_search.specs.declared.parts.Held.{Held};
-ghost use Rattle.shared_graphs.specs.Graphs.{HasGrown, IsStock, block_at};
+ghost use Rattle.shared_graphs.specs.GraphBlocks.{SamePool};
+ghost use Rattle.shared_graphs.specs.Graphs.{HasGrown, IsStock, MinimisedBy, block_at};
 ghost use Rattle.shared_graphs.specs.GraphPairs.{AreCoverings};
 ghost use Rattle.ramsey_search.specs.Views.{seen, view};
 ghost use Rattle.ramsey_search.specs.Kept.{FitsTogether, IsWhole, entries_held};
@@ -132,9 +133,10 @@ fn cover(
     requires themselves { LiveCoverThemselves order.now.size order.now.pairs (view graphs.old.graphs.items family.now) }
     requires marked { AreMarked order.now.size order.now.pairs (view graphs.old.graphs.items family.now) (length family.now.held.items) marked.now }
     requires some { (t : ℕ) → t < length first.now.transitions → HasSubsumer (supergraph_rules first.now second.now order.now.pairs) (entries_held first.now (view graphs.old.graphs.items family.now)) (base_entry first.now t) }
-    requires stock { IsStock second.now graphs.old }
+    requires stock { IsStock second.now (MinimisedBy order.now.pairs) graphs.old }
     requires told { AreCoverings second.now.states order.now.pairs graphs.old.graphs.items told.old }
-    ensures stock { IfOk result (λ _. IsStock second.now graphs.new) }
+    ensures pool { SamePool graphs.old.graphs graphs.new.graphs }
+    ensures stock { IfOk result (λ _. IsStock second.now (MinimisedBy order.now.pairs) graphs.new) }
     ensures told { IfOk result (λ _. AreCoverings second.now.states order.now.pairs graphs.new.graphs.items told.new) }
     ensures grown { IfOk result (λ _. HasGrown graphs.old.graphs.items graphs.new.graphs.items) }
     ensures size { IfOk result (λ cover. length cover ≡ length first.now.transitions) }
@@ -142,7 +144,7 @@ fn cover(
 {
     let mut cover = List::new(alloc);
     for t in 0..first.transitions().len() as u32 {
-        let start = base_candidate(alloc, first, second, t, graphs)?;
+        let start = base_candidate(first, second, order, t, graphs)?;
         cover.push(marked_coverer(order, graphs, told, family, marked, &start))?;
     }
     Ok(cover)
@@ -170,9 +172,10 @@ fn step_line(
     requires marked { AreMarked order.now.size order.now.pairs (view graphs.old.graphs.items family.now) (length family.now.held.items) marked.now }
     requires some { (x : Entry) (t : ℕ) → At (entries_held first.now (view graphs.old.graphs.items family.now)) element x → t < length first.now.transitions → (trans_at first.now t).source ≡ x.arc.to
         → HasSubsumer (supergraph_rules first.now second.now order.now.pairs) (entries_held first.now (view graphs.old.graphs.items family.now)) (next_entry first.now element x t) }
-    requires stock { IsStock second.now graphs.old }
+    requires stock { IsStock second.now (MinimisedBy order.now.pairs) graphs.old }
     requires told { AreCoverings second.now.states order.now.pairs graphs.old.graphs.items told.old }
-    ensures stock { IfOk result (λ _. IsStock second.now graphs.new) }
+    ensures pool { SamePool graphs.old.graphs graphs.new.graphs }
+    ensures stock { IfOk result (λ _. IsStock second.now (MinimisedBy order.now.pairs) graphs.new) }
     ensures told { IfOk result (λ _. AreCoverings second.now.states order.now.pairs graphs.new.graphs.items told.new) }
     ensures grown { IfOk result (λ _. HasGrown graphs.old.graphs.items graphs.new.graphs.items) }
     ensures step { IfOk result (IsStepOf (supergraph_rules first.now second.now order.now.pairs) (entries_held first.now (view graphs.old.graphs.items family.now))) }
@@ -182,7 +185,7 @@ fn step_line(
     let out = first.outgoing(from.arc.to);
     let mut by = List::new(alloc);
     for t in out.begin..out.end {
-        let next = next_candidate(alloc, first, second, element, from, t, graphs)?;
+        let next = next_candidate(alloc, first, second, order, element, from, t, graphs)?;
         by.push(marked_coverer(order, graphs, told, family, marked, &next))?;
     }
     Ok(StepLine { element, by })
@@ -210,9 +213,10 @@ fn steps(
     requires some { (e t : ℕ) (x : Entry) → slice_index_or family.now.live.items e false ≡ true → At (entries_held first.now (view graphs.old.graphs.items family.now)) e x → t < length first.now.transitions
         → (trans_at first.now t).source ≡ x.arc.to
         → HasSubsumer (supergraph_rules first.now second.now order.now.pairs) (entries_held first.now (view graphs.old.graphs.items family.now)) (next_entry first.now e x t) }
-    requires stock { IsStock second.now graphs.old }
+    requires stock { IsStock second.now (MinimisedBy order.now.pairs) graphs.old }
     requires told { AreCoverings second.now.states order.now.pairs graphs.old.graphs.items told.old }
-    ensures stock { IfOk result (λ _. IsStock second.now graphs.new) }
+    ensures pool { SamePool graphs.old.graphs graphs.new.graphs }
+    ensures stock { IfOk result (λ _. IsStock second.now (MinimisedBy order.now.pairs) graphs.new) }
     ensures told { IfOk result (λ _. AreCoverings second.now.states order.now.pairs graphs.new.graphs.items told.new) }
     ensures grown { IfOk result (λ _. HasGrown graphs.old.graphs.items graphs.new.graphs.items) }
     ensures lines { IfOk result (λ steps. map (λ (l : StepLine). l.element) steps ≡ filter (λ e. slice_index_or family.now.live.items e false) (range_with_len 0 (length family.now.held.items))) }
@@ -246,8 +250,10 @@ pub(crate) fn closure(
     requires whole { IsWhole first.now second.now order.now.pairs (view graphs.old.graphs.items family.now) }
     requires closed { (limit : ℕ) × SearchEnds first.now second.now order.now.pairs limit (Closed (entries_held first.now (view graphs.old.graphs.items family.now))) }
     requires few { length family.now.held.items < 2 ^ 32 }
-    requires stock { IsStock second.now graphs.old }
+    requires stock { IsStock second.now (MinimisedBy order.now.pairs) graphs.old }
     requires told { AreCoverings second.now.states order.now.pairs graphs.old.graphs.items told.old }
+    ensures pool { SamePool graphs.old.graphs graphs.new.graphs }
+    ensures grown { IfOk result (λ _. HasGrown graphs.old.graphs.items graphs.new.graphs.items) }
     ensures evidence { IfOk result (IsEvidenceOf (supergraph_rules first.now second.now order.now.pairs) (entries_held first.now (view graphs.old.graphs.items family.now))) }
     ensures live { IfOk result (λ c. map (λ (x : Element). is_live x.mark) c.elements ≡ family.now.live.items) }
 {

@@ -15,28 +15,28 @@ use crate::parts::Held;
 use auto_core::Memory;
 use bit_rel::Rel;
 use graph_rows::Print;
-use shared_graphs::{Coverings, Graph};
+use shared_graphs::{Coverings, GraphBlocks};
 use std::alloc::Global;
 use supergraph::Arc;
 
 /// Tells whether the element subsumes the arc with the graph, which has this print.
 fn subsumes_arc(
     order: &Rel,
-    graphs: &[Graph],
+    graphs: &GraphBlocks,
     told: &mut Coverings,
     element: &Held,
     arc: &Arc,
     graph: u32,
     print: &Option<Print>,
 ) -> bool
-    requires first { IsFormed order.now.size (block_at graphs.now element.now.graph) }
-    requires second { IsFormed order.now.size (block_at graphs.now graph) }
-    requires told { AreCoverings order.now.size order.now.pairs graphs.now told.old }
-    requires print { IfSome print.now (IsPrint order.now.size (Holds order.now.pairs) (block_at graphs.now graph)) }
-    ensures told { AreCoverings order.now.size order.now.pairs graphs.now told.new }
+    requires first { IsFormed order.now.size (block_at graphs.now.items element.now.graph) }
+    requires second { IsFormed order.now.size (block_at graphs.now.items graph) }
+    requires told { AreCoverings order.now.size order.now.pairs graphs.now.items told.old }
+    requires print { IfSome print.now (IsPrint order.now.size (Holds order.now.pairs) (block_at graphs.now.items graph)) }
+    ensures told { AreCoverings order.now.size order.now.pairs graphs.now.items told.new }
     ensures subsumes { IsTrue result
-        ↔ Subsumes (Holds order.now.pairs) (with_graph element.now.arc (block_graph order.now.size (block_at graphs.now element.now.graph)))
-        (with_graph arc.now (block_graph order.now.size (block_at graphs.now graph))) }
+        ↔ Subsumes (Holds order.now.pairs) (with_graph element.now.arc (block_graph order.now.size (block_at graphs.now.items element.now.graph)))
+        (with_graph arc.now (block_graph order.now.size (block_at graphs.now.items graph))) }
 {
     if told.misses_second(order, graphs, element.graph, graph, print) {
         return false;
@@ -47,20 +47,20 @@ fn subsumes_arc(
 /// Tells whether the new one, whose graph has this print, subsumes the element.
 fn subsumes_element(
     order: &Rel,
-    graphs: &[Graph],
+    graphs: &GraphBlocks,
     told: &mut Coverings,
     new: &Held,
     print: &Option<Print>,
     element: &Held,
 ) -> bool
-    requires first { IsFormed order.now.size (block_at graphs.now new.now.graph) }
-    requires second { IsFormed order.now.size (block_at graphs.now element.now.graph) }
-    requires told { AreCoverings order.now.size order.now.pairs graphs.now told.old }
-    requires print { IfSome print.now (IsPrint order.now.size (Holds order.now.pairs) (block_at graphs.now new.now.graph)) }
-    ensures told { AreCoverings order.now.size order.now.pairs graphs.now told.new }
+    requires first { IsFormed order.now.size (block_at graphs.now.items new.now.graph) }
+    requires second { IsFormed order.now.size (block_at graphs.now.items element.now.graph) }
+    requires told { AreCoverings order.now.size order.now.pairs graphs.now.items told.old }
+    requires print { IfSome print.now (IsPrint order.now.size (Holds order.now.pairs) (block_at graphs.now.items new.now.graph)) }
+    ensures told { AreCoverings order.now.size order.now.pairs graphs.now.items told.new }
     ensures subsumes { IsTrue result
-        ↔ Subsumes (Holds order.now.pairs) (with_graph new.now.arc (block_graph order.now.size (block_at graphs.now new.now.graph)))
-        (with_graph element.now.arc (block_graph order.now.size (block_at graphs.now element.now.graph))) }
+        ↔ Subsumes (Holds order.now.pairs) (with_graph new.now.arc (block_graph order.now.size (block_at graphs.now.items new.now.graph)))
+        (with_graph element.now.arc (block_graph order.now.size (block_at graphs.now.items element.now.graph))) }
 {
     if told.misses_first(order, graphs, new.graph, element.graph, print) {
         return false;
@@ -78,7 +78,7 @@ fn subsumes_element(
 /// The first of these elements that subsumes the arc with the graph.
 pub(crate) fn least_subsumer(
     order: &Rel,
-    graphs: &[Graph],
+    graphs: &GraphBlocks,
     told: &mut Coverings,
     held: &[Held],
     among: &[u32],
@@ -86,12 +86,12 @@ pub(crate) fn least_subsumer(
     graph: u32,
 ) -> Option<u32>
     requires there { AreThere among.now (length held.now) }
-    requires formed { AreFormed order.now.size (map (seen graphs.now) held.now) }
-    requires graph { IsFormed order.now.size (block_at graphs.now graph) }
-    requires told { AreCoverings order.now.size order.now.pairs graphs.now told.old }
-    ensures told { AreCoverings order.now.size order.now.pairs graphs.now told.new }
-    ensures found { let x = with_graph arc.now (block_graph order.now.size (block_at graphs.now graph)) in
-        let held = map (seen graphs.now) held.now in
+    requires formed { AreFormed order.now.size (map (seen graphs.now.items) held.now) }
+    requires graph { IsFormed order.now.size (block_at graphs.now.items graph) }
+    requires told { AreCoverings order.now.size order.now.pairs graphs.now.items told.old }
+    ensures told { AreCoverings order.now.size order.now.pairs graphs.now.items told.new }
+    ensures found { let x = with_graph arc.now (block_graph order.now.size (block_at graphs.now.items graph)) in
+        let held = map (seen graphs.now.items) held.now in
         MatchOption result (NoneSubsumes order.now.size order.now.pairs held among.now x) (IsFirstSubsumer order.now.size order.now.pairs held among.now x) }
 {
     let print = told.print_at(order, graphs, graph);
@@ -107,7 +107,7 @@ pub(crate) fn least_subsumer(
 /// Drops those of these elements that the new one subsumes.
 pub(crate) fn drop_subsumed(
     order: &Rel,
-    graphs: &[Graph],
+    graphs: &GraphBlocks,
     told: &mut Coverings,
     held: &[Held],
     among: &[u32],
@@ -115,12 +115,12 @@ pub(crate) fn drop_subsumed(
     live: &mut Vec<bool>,
 )
     requires there { AreThere among.now (length held.now) }
-    requires formed { AreFormed order.now.size (map (seen graphs.now) held.now) }
-    requires graph { IsFormed order.now.size (block_at graphs.now new.now.graph) }
+    requires formed { AreFormed order.now.size (map (seen graphs.now.items) held.now) }
+    requires graph { IsFormed order.now.size (block_at graphs.now.items new.now.graph) }
     requires flags { vec_len live.old ≡ length held.now }
-    requires told { AreCoverings order.now.size order.now.pairs graphs.now told.old }
-    ensures told { AreCoverings order.now.size order.now.pairs graphs.now told.new }
-    ensures dropped { AreDropped order.now.size order.now.pairs (map (seen graphs.now) held.now) among.now (held_super order.now.size (seen graphs.now new.now)) live.old.items live.new.items }
+    requires told { AreCoverings order.now.size order.now.pairs graphs.now.items told.old }
+    ensures told { AreCoverings order.now.size order.now.pairs graphs.now.items told.new }
+    ensures dropped { AreDropped order.now.size order.now.pairs (map (seen graphs.now.items) held.now) among.now (held_super order.now.size (seen graphs.now.items new.now)) live.old.items live.new.items }
 {
     let print = told.print_at(order, graphs, new.graph);
     for number in among {

@@ -15,23 +15,23 @@ ghost use Rattle.ramsey_search.specs.Kept.{AllPass, AreFormed, AreThere, AreTold
 use crate::family::Family;
 use crate::parts::{Fate, Held};
 use auto_core::Auto;
-use shared_graphs::{Graph, GraphPairs, Graphs};
+use shared_graphs::{GraphBlocks, GraphPairs, Graphs};
 
 /// Tells whether the pair fails: it is tested, and its graphs have no lasso.
 fn fails(
     first: &Auto,
     second: &Auto,
-    graphs: &[Graph],
+    graphs: &GraphBlocks,
     x: &Held,
     y: &Held,
     answers: &mut GraphPairs,
 ) -> bool
-    requires first { IsFormed second.now.states (block_at graphs.now x.now.graph) }
-    requires second { IsFormed second.now.states (block_at graphs.now y.now.graph) }
-    requires told { AreLassosTold second.now graphs.now answers.old }
-    ensures fails { result ≡ true → Fails first.now second.now (held_super second.now.states (seen graphs.now x.now)) (held_super second.now.states (seen graphs.now y.now)) }
-    ensures passes { result ≡ false → Passes first.now second.now (held_super second.now.states (seen graphs.now x.now)) (held_super second.now.states (seen graphs.now y.now)) }
-    ensures told { AreLassosTold second.now graphs.now answers.new }
+    requires first { IsFormed second.now.states (block_at graphs.now.items x.now.graph) }
+    requires second { IsFormed second.now.states (block_at graphs.now.items y.now.graph) }
+    requires told { AreLassosTold second.now graphs.now.items answers.old }
+    ensures fails { result ≡ true → Fails first.now second.now (held_super second.now.states (seen graphs.now.items x.now)) (held_super second.now.states (seen graphs.now.items y.now)) }
+    ensures passes { result ≡ false → Passes first.now second.now (held_super second.now.states (seen graphs.now.items x.now)) (held_super second.now.states (seen graphs.now.items y.now)) }
+    ensures told { AreLassosTold second.now graphs.now.items answers.new }
     ensures covers { answers.new.covers ≡ answers.old.covers }
 {
     x.arc.from == first.initial()
@@ -45,16 +45,16 @@ fn fails(
 fn both_pass_at_sight(
     first: &Auto,
     second: &Auto,
-    graphs: &[Graph],
+    graphs: &GraphBlocks,
     x: &Held,
     y: &Held,
     answers: &GraphPairs,
 ) -> bool
-    requires x { IsFormed second.now.states (block_at graphs.now x.now.graph) }
-    requires y { IsFormed second.now.states (block_at graphs.now y.now.graph) }
-    requires told { AreLassosTold second.now graphs.now answers.now }
-    ensures x { result ≡ true → Passes first.now second.now (held_super second.now.states (seen graphs.now x.now)) (held_super second.now.states (seen graphs.now y.now)) }
-    ensures y { result ≡ true → Passes first.now second.now (held_super second.now.states (seen graphs.now y.now)) (held_super second.now.states (seen graphs.now x.now)) }
+    requires x { IsFormed second.now.states (block_at graphs.now.items x.now.graph) }
+    requires y { IsFormed second.now.states (block_at graphs.now.items y.now.graph) }
+    requires told { AreLassosTold second.now graphs.now.items answers.now }
+    ensures x { result ≡ true → Passes first.now second.now (held_super second.now.states (seen graphs.now.items x.now)) (held_super second.now.states (seen graphs.now.items y.now)) }
+    ensures y { result ≡ true → Passes first.now second.now (held_super second.now.states (seen graphs.now.items y.now)) (held_super second.now.states (seen graphs.now.items x.now)) }
 {
     answers.pass_at_sight(second, graphs, x.graph, y.graph)
         && answers.pass_at_sight(second, graphs, y.graph, x.graph)
@@ -64,7 +64,7 @@ fn both_pass_at_sight(
 fn first_among(
     first: &Auto,
     second: &Auto,
-    graphs: &[Graph],
+    graphs: &GraphBlocks,
     held: &[Held],
     among: &[u32],
     new: u32,
@@ -72,10 +72,10 @@ fn first_among(
 ) -> Fate
     requires new { new < length held.now }
     requires there { AreThere among.now (length held.now) }
-    requires formed { AreFormed second.now.states (map (seen graphs.now) held.now) }
-    requires told { AreLassosTold second.now graphs.now answers.old }
-    ensures failing { (it : Held) → At held.now new it → AreTold first.now second.now second.now.states (map (seen graphs.now) held.now) among.now new (seen graphs.now it) result }
-    ensures told { AreLassosTold second.now graphs.now answers.new }
+    requires formed { AreFormed second.now.states (map (seen graphs.now.items) held.now) }
+    requires told { AreLassosTold second.now graphs.now.items answers.old }
+    ensures failing { (it : Held) → At held.now new it → AreTold first.now second.now second.now.states (map (seen graphs.now.items) held.now) among.now new (seen graphs.now.items it) result }
+    ensures told { AreLassosTold second.now graphs.now.items answers.new }
     ensures covers { answers.new.covers ≡ answers.old.covers }
 {
     let x = &held[new as usize];

@@ -2,21 +2,20 @@
 
 ghost use Rattle.std.specs.Prelude.{◌≡◌, ◌+◌, ◌*◌, ◌^◌, ◌<◌, ◌≤◌, [], length, map, IfOk};
 ghost use Rattle.std.specs.FinMap as finite;
-ghost use Rattle.std.specs.List.{count_by};
 ghost use Rattle.auto_core.specs.Automaton.{IsAutomaton};
 ghost use Rattle.auto_core.specs.Game.{IsGreatestForward};
 ghost use Rattle.graph_rows.specs.Block.{width_of};
-ghost use Rattle.shared_graphs.specs.Graphs.{IsStock};
+ghost use Rattle.shared_graphs.specs.GraphBlocks.{SamePool};
+ghost use Rattle.shared_graphs.specs.Graphs.{IsStock, MinimisedBy};
 ghost use Rattle.shared_graphs.specs.GraphPairs.{AreGraphPairs};
 ghost use Rattle.supergraph.specs.Words.{NameWhatIsThere, word_at};
 ghost use Rattle.ramsey_search.specs.declared.parts.Held.{Held};
 ghost use Rattle.ramsey_search.specs.Views.{view};
 ghost use Rattle.ramsey_search.specs.Kept.{IsWhole};
-ghost use Rattle.ramsey_search.specs.ElementBlocks.{SamePool};
 ghost use Rattle.ramsey_search.specs.Ends.{IsOutcomeOf, IsTrueOutcome, HasRoomFor};
 
 use crate::closing::closure;
-use crate::element_blocks::ElementBlocks;
+use crate::element_blocks::give_blocks;
 use crate::family::Family;
 use crate::parts::{Fate, Held, Outcome};
 use crate::turns::run;
@@ -69,7 +68,6 @@ fn outcome_of(
     graphs: &mut Graphs,
     family: &mut Family,
     answers: &mut GraphPairs,
-    blocks: &mut ElementBlocks,
 ) -> Result<Outcome, Memory>
     requires first_valid { IsAutomaton first.now }
     requires second_valid { IsAutomaton second.now }
@@ -78,22 +76,19 @@ fn outcome_of(
     requires few { limit ≤ 100000 }
     requires whole { IsWhole first.now second.now order.now.pairs (view graphs.old.graphs.items family.old) }
     requires none { family.old.held.items ≡ [] }
-    requires stock { IsStock second.now graphs.old }
+    requires stock { IsStock second.now (MinimisedBy order.now.pairs) graphs.old }
     requires answers { AreGraphPairs second.now order.now.pairs graphs.old.graphs.items answers.old }
-    requires blocks { (blocks.old.has ≡ []) × (blocks.old.words ≡ []) }
-    requires size { blocks.old.size ≡ 2 * second.now.states * width_of second.now.states }
-    requires room { finite.len blocks.old.rest + limit + 2 < 2 ^ 32 }
     ensures answer { IfOk result (IsOutcomeOf first.now second.now order.now.pairs limit) }
     ensures truth { IfOk result (IsTrueOutcome first.now second.now order.now.pairs limit) }
-    ensures pool { SamePool blocks.old blocks.new }
-    ensures blocks { IfOk result (λ outcome. HasRoomFor outcome (count_by (λ b. b) blocks.new.has)) }
+    ensures pool { SamePool graphs.old.graphs graphs.new.graphs }
+    ensures blocks { IfOk result (λ outcome. HasRoomFor outcome (length graphs.new.graphs.items)) }
 {
     let fate = run(alloc, first, second, order, limit, graphs, family, answers)?;
     match fate {
         Fate::GoesOn => {
-            blocks.add_live(&graphs.graphs, &family.held, &family.live)?;
             let told = &mut answers.covers;
             let closure = closure(alloc, first, second, order, graphs, told, family)?;
+            give_blocks(alloc, &mut graphs.graphs, &family.held, &family.live)?;
             Ok(Outcome::Closed(closure))
         }
         Fate::Apart(x, y) => {
@@ -104,8 +99,9 @@ fn outcome_of(
     }
 }
 
-/// The search with the blocks of this pool: where it closes, each live element gets one for its graph. At the end all are given back, so
-/// the live blocks of the pool are as before, whatever comes; a closed search leaves as many free blocks as it has live elements.
+/// The search with its graphs in blocks of this pool; where it closes, each live element comes to have a block of its own. At the end all
+/// are given back, so the live blocks of the pool are as before, whatever comes; a closed search leaves as many free blocks as it has live
+/// elements.
 pub fn search_in(
     alloc: Global,
     pool: &mut Pool,
@@ -128,10 +124,8 @@ pub fn search_in(
     ensures free { IfOk result (λ outcome. HasRoomFor outcome pool.new.spare) }
 {
     let mut family = Family::new(alloc, first.states())?;
-    let mut graphs = Graphs::new(alloc)?;
     let mut answers = GraphPairs::new(alloc, second.states())?;
-    let mut blocks = ElementBlocks::new(alloc);
-    blocks.exchange(pool);
+    let mut graphs = Graphs::new(alloc, pool)?;
     let outcome = outcome_of(
         alloc,
         first,
@@ -141,9 +135,8 @@ pub fn search_in(
         &mut graphs,
         &mut family,
         &mut answers,
-        &mut blocks,
     );
-    *pool = blocks.into_pool();
+    *pool = graphs.into_pool();
     outcome
 }
 

@@ -5,7 +5,8 @@ ghost use Rattle.auto_core.specs.Automaton.{IsAutomaton};
 ghost use Rattle.auto_core.specs.Game.{IsGreatestForward};
 ghost use Rattle.auto_core.specs.Outcome.{At, Entry, HasNoSubsumer, supergraph_rules};
 ghost use Rattle.evidence.specs.Entries.{entry_of};
-ghost use Rattle.shared_graphs.specs.Graphs.{IsStock};
+ghost use Rattle.shared_graphs.specs.GraphBlocks.{SamePool};
+ghost use Rattle.shared_graphs.specs.Graphs.{IsStock, MinimisedBy};
 ghost use Rattle.shared_graphs.specs.GraphPairs.{AreGraphPairs};
 ghost use Rattle.ramsey_search.specs.Views.{seen, view};
 ghost use Rattle.ramsey_search.specs.Kept.{HasCome, HasEnded, IsCandidate, IsWhole, entries_held};
@@ -110,15 +111,16 @@ fn try_starts(
     requires order_size { order.now.size ≡ second.now.states }
     requires whole { IsWhole first.now second.now order.now.pairs (view graphs.old.graphs.items family.old) }
     requires none { family.old.held.items ≡ [] }
-    requires stock { IsStock second.now graphs.old }
+    requires stock { IsStock second.now (MinimisedBy order.now.pairs) graphs.old }
     requires answers { AreGraphPairs second.now order.now.pairs graphs.old.graphs.items answers.old }
+    ensures pool { SamePool graphs.old.graphs graphs.new.graphs }
     ensures come { IfOk result (λ fate. HasCome first.now second.now order.now.pairs limit (view graphs.old.graphs.items family.old) (view graphs.new.graphs.items family.new) fate
         (supergraph_rules first.now second.now order.now.pairs).starts [] 0 0) }
-    ensures stock { IfOk result (λ _. IsStock second.now graphs.new) }
+    ensures stock { IfOk result (λ _. IsStock second.now (MinimisedBy order.now.pairs) graphs.new) }
     ensures answers { IfOk result (λ _. AreGraphPairs second.now order.now.pairs graphs.new.graphs.items answers.new) }
 {
     for t in 0..first.transitions().len() as u32 {
-        let new = base_candidate(alloc, first, second, t, graphs)?;
+        let new = base_candidate(first, second, order, t, graphs)?;
         let fate = consider(
             alloc, first, second, order, limit, new, graphs, family, answers,
         )?;
@@ -150,10 +152,11 @@ fn try_turn(
     requires whole { IsWhole first.now second.now order.now.pairs (view graphs.old.graphs.items family.old) }
     requires turn { turn < length family.old.held.items }
     requires few { length family.old.held.items ≤ limit }
-    requires stock { IsStock second.now graphs.old }
+    requires stock { IsStock second.now (MinimisedBy order.now.pairs) graphs.old }
     requires answers { AreGraphPairs second.now order.now.pairs graphs.old.graphs.items answers.old }
+    ensures pool { SamePool graphs.old.graphs graphs.new.graphs }
     ensures come { IfOk result (λ fate. HasCome first.now second.now order.now.pairs limit (view graphs.old.graphs.items family.old) (view graphs.new.graphs.items family.new) fate [] [] turn (turn + 1)) }
-    ensures stock { IfOk result (λ _. IsStock second.now graphs.new) }
+    ensures stock { IfOk result (λ _. IsStock second.now (MinimisedBy order.now.pairs) graphs.new) }
     ensures answers { IfOk result (λ _. AreGraphPairs second.now order.now.pairs graphs.new.graphs.items answers.new) }
 {
     if !family.live[turn as usize] {
@@ -162,7 +165,7 @@ fn try_turn(
     let out = first.outgoing(family.held[turn as usize].arc.to);
     for t in out.begin..out.end {
         let from = family.held[turn as usize];
-        let new = next_candidate(alloc, first, second, turn, &from, t, graphs)?;
+        let new = next_candidate(alloc, first, second, order, turn, &from, t, graphs)?;
         let fate = consider(
             alloc, first, second, order, limit, new, graphs, family, answers,
         )?;
@@ -191,12 +194,13 @@ pub(crate) fn run(
     requires order_size { order.now.size ≡ second.now.states }
     requires whole { IsWhole first.now second.now order.now.pairs (view graphs.old.graphs.items family.old) }
     requires none { family.old.held.items ≡ [] }
-    requires stock { IsStock second.now graphs.old }
+    requires stock { IsStock second.now (MinimisedBy order.now.pairs) graphs.old }
     requires answers { AreGraphPairs second.now order.now.pairs graphs.old.graphs.items answers.old }
+    ensures pool { SamePool graphs.old.graphs graphs.new.graphs }
     ensures whole { IfOk result (λ fate. IsWhole first.now second.now order.now.pairs (view graphs.new.graphs.items family.new)) }
     ensures few { IfOk result (λ fate. fate ≡ Fate.GoesOn → length family.new.held.items ≤ limit) }
     ensures ended { IfOk result (λ fate. HasEnded first.now second.now order.now.pairs limit fate (entries_held first.now (view graphs.new.graphs.items family.new))) }
-    ensures stock { IfOk result (λ _. IsStock second.now graphs.new) }
+    ensures stock { IfOk result (λ _. IsStock second.now (MinimisedBy order.now.pairs) graphs.new) }
     ensures answers { IfOk result (λ _. AreGraphPairs second.now order.now.pairs graphs.new.graphs.items answers.new) }
 {
     let fate = try_starts(alloc, first, second, order, limit, graphs, family, answers)?;

@@ -12,7 +12,6 @@ use Rattle.auto_core.proofs.BitLemmas.{bit_past}
 use Rattle.graph_rows.specs.Block.{IsFormed, block_graph}
 use Rattle.search_laws.proofs.PlaceLemmas.{at_cases}
 use Rattle.lasso_test.proofs.LoopLemmas.{blocks_enter}
-use Rattle.shared_graphs.specs.declared.graphs.Graph.{Graph}
 use Rattle.shared_graphs.specs.declared.glimpses.Glimpse.{Glimpse}
 use Rattle.shared_graphs.specs.Graphs.{block_at}
 use Rattle.shared_graphs.specs.Glimpses.{AreGlimpses, IsGlimpse, MeetAtSight}
@@ -37,7 +36,7 @@ no_bit q bit = elim (cases_eq (q / 64) 0) [
 
 -- One glimpse more.
 pub glimpses_more :
-    (B : Automaton) (graphs : List Graph) (old now : List Glimpse) (glimpse : Glimpse)
+    (B : Automaton) (graphs : List (List ℕ)) (old now : List Glimpse) (glimpse : Glimpse)
     → now ≡ old ++ glimpse ∷ []
     → length old < length graphs
     → IsGlimpse B (block_graph B.states (block_at graphs (length old))) glimpse
@@ -61,7 +60,7 @@ at_put (y ∷ xs) (suc h) c (suc i) x p = elim (at_put xs h c i x p) [ inl was �
 
 -- Another glimpse of a graph.
 pub glimpse_set :
-    (B : Automaton) (graphs : List Graph) (old : List Glimpse) (h : ℕ) (glimpse : Glimpse)
+    (B : Automaton) (graphs : List (List ℕ)) (old : List Glimpse) (h : ℕ) (glimpse : Glimpse)
     → h < length graphs
     → IsGlimpse B (block_graph B.states (block_at graphs h)) glimpse
     → AreGlimpses B graphs old
@@ -75,7 +74,7 @@ glimpse_set B graphs old h glimpse within is all k x x_is =
     ]
 
 pub seen_lasso :
-    (B : Automaton) (graphs : List Graph) (glimpses : List Glimpse) (g h : ℕ)
+    (B : Automaton) (graphs : List (List ℕ)) (glimpses : List Glimpse) (g h : ℕ)
     → IsFormed B.states (block_at graphs h)
     → AreGlimpses B graphs glimpses
     → MeetAtSight glimpses g h

@@ -1,27 +1,27 @@
 -- Graphs that are there stay as others come, and what is remembered of them stays so.
-use Rattle.std.proofs.Common.{◌≡◌, ℕ, zero, suc, ◌*◌, ◌<◌, ◌≤◌, ◌↔◌, List, [], ◌∷◌, ◌++◌, length, map, slice_index_or, Option, refl, sym, ap, ◌∙◌, subst, inl, inr, arith, length-append}
+use Rattle.std.specs.declared.alloc.Global.{Global}
+use Rattle.std.proofs.Common.{Vec, ◌≡◌, ℕ, zero, suc, ◌*◌, ◌<◌, ◌≤◌, ◌↔◌, List, [], ◌∷◌, ◌++◌, length, slice_index_or, Option, refl, sym, ap, ◌∙◌, subst, inl, inr, arith, length-append}
 use Rattle.std.specs.Prelude.{IsTrue}
 use Rattle.auto_core.specs.Game.{Holds}
 use Rattle.std.proofs.lemmas.Bool.{cases_lt}
-use Rattle.std.proofs.lemmas.List.{get_or_append_left, get_or_past, length-map, map-append}
+use Rattle.std.proofs.lemmas.List.{get_or_append_left, get_or_past}
+use lib.Seq.{get_or-append_seam}
 use Rattle.auto_core.specs.Automaton.{Automaton}
 use Rattle.auto_core.specs.Graph as words
-use Rattle.auto_core.specs.Outcome.{At}
 use Rattle.graph_rows.specs.declared.prints.Print.{Print}
 use Rattle.graph_rows.specs.Prints.{IsPrint}
 use Rattle.graph_rows.specs.Block.{IsFormed, block_graph, width_of}
-use Rattle.search_laws.proofs.PlaceLemmas.{at_new}
-use Rattle.search_laws.proofs.ListLemmas.{read_map}
 use Rattle.shared_graphs.specs.declared.memo.Answer.{Answer}
 use Rattle.shared_graphs.specs.declared.memo.Answer.TheVariants.{Number, Truth}
 use Rattle.shared_graphs.specs.declared.memo.Told.{Told}
 use Rattle.shared_graphs.specs.declared.memo.Memo.{Memo}
-use Rattle.shared_graphs.specs.declared.graphs.Graph.{Graph}
 use Rattle.shared_graphs.specs.declared.graphs.Graphs.{Graphs}
 use Rattle.shared_graphs.specs.declared.coverings.Coverings.{Coverings}
 use Rattle.shared_graphs.specs.declared.graph_pairs.GraphPairs.{GraphPairs}
 use Rattle.shared_graphs.specs.Memo.{AllTold, NothingTold, HasAnswer, HasNoOther, HasNoted}
-use Rattle.shared_graphs.specs.Graphs.{block_at, IsBlockOf, IsThere, HasGrown, IsGraphOf, HasAddedGraph, HasNumber, FitsLetter, FitsStep}
+use Rattle.shared_graphs.specs.GraphBlocks.{SamePool}
+use Rattle.graph_laws.proofs.GraphLemmas.{covers_between, same_refl}
+use Rattle.shared_graphs.specs.Graphs.{block_at, AsTheyAre, IsBlockOf, IsMinimised, IsStock, IsThere, HasGrown, IsGraphOf, HasAddedGraph, HasNumber, FitsLetter, FitsStep, Keeping, MinimisedBy, StandsFor, kept_under}
 use Rattle.shared_graphs.specs.GraphPairs.{FitsCovering, ArePrints, AreCoverings, AreGraphPairs}
 use Rattle.shared_graphs.specs.declared.glimpses.Glimpse.{Glimpse}
 use Rattle.shared_graphs.specs.Glimpses.{AreGlimpses, IsGlimpse}
@@ -54,68 +54,67 @@ told_still fits old now none all k t is =
     (subst (λ m. fits t.first m was.answer) (sym second) (subst (λ m. fits m was.second was.answer) (sym first) (all j was was_is)))
 
 -- One more graph.
-pub grown_none : (graphs : List Graph) → HasGrown graphs graphs
+pub grown_none : (graphs : List (List ℕ)) → HasGrown graphs graphs
 grown_none graphs = record { size = omega arith; same = λ k lt. refl }
 
-pub grown_more : (old mid now : List Graph) → HasGrown old mid → HasGrown mid now → HasGrown old now
+pub grown_more : (old mid now : List (List ℕ)) → HasGrown old mid → HasGrown mid now → HasGrown old now
 grown_more old mid now first second =
     let one = first.size in
     let two = second.size in
     record { size = omega arith; same = λ k lt. second.same k (omega arith) ∙ first.same k lt }
 
-abbrev words_in : Graph → List ℕ
-words_in g = g.block.items
+pub grown_by : (old now : List (List ℕ)) (block : List ℕ) → now ≡ old ++ block ∷ [] → HasGrown old now
+grown_by old now block more =
+    let total = ap length more in
+    let count = length-append old (block ∷ []) in
+    record { size = omega arith; same = λ k lt. ap (λ l. slice_index_or l k []) more ∙ get_or_append_left old (block ∷ []) [] k lt }
 
 pub has_number : (block : List ℕ) (old now : Graphs) (number : ℕ) → HasAddedGraph block old now number → HasNumber block old now number
 has_number block old now number added =
-    let more = length-append old.graphs.items (added.new ∷ []) in
+    let more = length-append old.graphs.items (block ∷ []) in
     let total = ap length added.graphs in
     let count = added.number_is in
-    let last : At now.graphs.items number added.new = subst (λ l. At l number added.new) (sym added.graphs) (subst (λ k. At (old.graphs.items ++ added.new ∷ []) k added.new) (sym count) (at_new old.graphs.items added.new)) in
-    let size = length-map old.graphs.items words_in in
     record {
-      there = record { within = omega arith; is = read_map words_in now.graphs.items number added.new [] last ∙ added.block_is };
-      grown = record {
-        size = omega arith;
-        same = λ k lt.
-            ap (λ l. slice_index_or (map words_in l) k []) added.graphs
-            ∙ ap (λ l. slice_index_or l k []) (map-append words_in old.graphs.items (added.new ∷ []))
-            ∙ get_or_append_left (map words_in old.graphs.items) (map words_in (added.new ∷ [])) [] k (omega arith);
+      there = record {
+        within = omega arith;
+        is = ap (λ l. slice_index_or l number []) added.graphs ∙ ap (λ k. slice_index_or (old.graphs.items ++ block ∷ []) k []) count ∙ get_or-append_seam old.graphs.items block [] [];
       };
+      grown = grown_by old.graphs.items now.graphs.items block added.graphs;
       letters = added.letters;
       steps = added.steps;
+      rows = added.rows;
     }
 
 pub was_number : (block : List ℕ) (g : Graphs) (number : ℕ) → IsThere g.graphs.items block number → HasNumber block g g number
-was_number block g number there = record { there = there; grown = grown_none g.graphs.items; letters = refl; steps = refl }
+was_number block g number there = record { there = there; grown = grown_none g.graphs.items; letters = refl; steps = refl; rows = refl }
 
 -- A graph that is there stays.
-module _ (old now : List Graph) (grown : HasGrown old now) where
-  pub graph_stays : (B : Automaton) (graph : words.Graph) (k : ℕ) → IsGraphOf B graph old k → IsGraphOf B graph now k
-  graph_stays B graph k is =
+module _ (old now : List (List ℕ)) (grown : HasGrown old now) where
+  pub graph_stays : (B : Automaton) (keeping : Keeping) (graph : words.Graph) (k : ℕ) → IsGraphOf B keeping graph old k → IsGraphOf B keeping graph now k
+  graph_stays B keeping graph k is =
       let size = grown.size in
       let within = is.within in
       record {
         within = omega arith;
         block = record {
           formed = subst (IsFormed B.states) (sym (grown.same k within)) is.block.formed;
-          same = subst (λ l. words.SameGraph (block_graph B.states l) graph) (sym (grown.same k within)) is.block.same;
+          stands = subst (λ l. StandsFor keeping (block_graph B.states l) graph) (sym (grown.same k within)) is.block.stands;
         };
       }
 
-  letter_stays : (B : Automaton) (none label : ℕ) (a : Answer) → FitsLetter B old none label a → FitsLetter B now none label a
-  letter_stays B none label (Number k) is = graph_stays B (words.letter_graph B label) k is
-  letter_stays B none label (Truth so) is = tt
+  letter_stays : (B : Automaton) (keeping : Keeping) (under label : ℕ) (a : Answer) → FitsLetter B keeping old under label a → FitsLetter B keeping now under label a
+  letter_stays B keeping under label (Number k) is = graph_stays B (kept_under keeping under) (words.letter_graph B label) k is
+  letter_stays B keeping under label (Truth so) is = tt
 
-  step_stays : (B : Automaton) (from label : ℕ) (a : Answer) → FitsStep B old from label a → FitsStep B now from label a
-  step_stays B from label (Number k) is =
+  step_stays : (B : Automaton) (keeping : Keeping) (from label : ℕ) (a : Answer) → FitsStep B keeping old from label a → FitsStep B keeping now from label a
+  step_stays B keeping from label (Number k) is =
       let size = grown.size in
       let within = is.0 in (
         omega arith,
-        graph_stays B (words.extended B (block_graph B.states (block_at now from)) label) k
-            (subst (λ l. IsGraphOf B (words.extended B (block_graph B.states l) label) old k) (sym (grown.same from within)) is.1),
+        graph_stays B keeping (words.extended B (block_graph B.states (block_at now from)) label) k
+            (subst (λ l. IsGraphOf B keeping (words.extended B (block_graph B.states l) label) old k) (sym (grown.same from within)) is.1),
       )
-  step_stays B from label (Truth so) is = tt
+  step_stays B keeping from label (Truth so) is = tt
 
   covering_stays : (n : ℕ) (S : List (ℕ × ℕ)) (g h : ℕ) (a : Answer) → FitsCovering n S old g h a → FitsCovering n S now g h a
   covering_stays n S g h (Number k) is = tt
@@ -129,11 +128,11 @@ module _ (old now : List Graph) (grown : HasGrown old now) where
             (subst (λ l. IsTrue so ↔ words.Covers (Holds S) (block_graph n (block_at old g)) (block_graph n l)) (sym (grown.same h second)) is.2),
       )
 
-  pub letters_stay : (B : Automaton) (told : List (Option Told)) → AllTold (FitsLetter B old) told → AllTold (FitsLetter B now) told
-  letters_stay B told = told_as (FitsLetter B old) (FitsLetter B now) told (letter_stays B)
+  pub letters_stay : (B : Automaton) (keeping : Keeping) (told : List (Option Told)) → AllTold (FitsLetter B keeping old) told → AllTold (FitsLetter B keeping now) told
+  letters_stay B keeping told = told_as (FitsLetter B keeping old) (FitsLetter B keeping now) told (letter_stays B keeping)
 
-  pub steps_stay : (B : Automaton) (told : List (Option Told)) → AllTold (FitsStep B old) told → AllTold (FitsStep B now) told
-  steps_stay B told = told_as (FitsStep B old) (FitsStep B now) told (step_stays B)
+  pub steps_stay : (B : Automaton) (keeping : Keeping) (told : List (Option Told)) → AllTold (FitsStep B keeping old) told → AllTold (FitsStep B keeping now) told
+  steps_stay B keeping told = told_as (FitsStep B keeping old) (FitsStep B keeping now) told (step_stays B keeping)
 
   pub coverings_stay : (n : ℕ) (S : List (ℕ × ℕ)) (told : List (Option Told)) → AllTold (FitsCovering n S old) told → AllTold (FitsCovering n S now) told
   coverings_stay n S told = told_as (FitsCovering n S old) (FitsCovering n S now) told (covering_stays n S)
@@ -159,42 +158,64 @@ module _ (old now : List Graph) (grown : HasGrown old now) where
     lassos = record { glimpses = glimpses_stay B answers.glimpses.items are.lassos.glimpses; room = are.lassos.room };
   }
 
--- One more extension is remembered, of a graph that was there, whose number was given, once the table has no other ones.
-pub step_noted :
-    (B : Automaton) (old mid : Graphs) (from label k : ℕ) (block : List ℕ) (steps now : List (Option Told))
-    → AllTold (FitsStep B old.graphs.items) old.steps.told.items
-    → HasNumber block old mid k
-    → IsBlockOf B (words.extended B (block_graph B.states (block_at old.graphs.items from)) label) block
-    → from < length old.graphs.items
-    → HasNoOther mid.steps.told.items steps
-    → HasNoted from label (Number k) steps now
-    → AllTold (FitsStep B mid.graphs.items) now
-step_noted B old mid from label k block steps now all has is within none noted =
-    let size = has.grown.size in
-    let same = has.grown.same from within in
-    let G : List ℕ → words.Graph = λ l. words.extended B (block_graph B.states l) label in
-    let before : AllTold (FitsStep B mid.graphs.items) mid.steps.told.items =
-    subst (λ (m : Memo). AllTold (FitsStep B mid.graphs.items) m.told.items) (sym has.steps)
-    (steps_stay old.graphs.items mid.graphs.items has.grown B old.steps.told.items all) in
-    told_more (FitsStep B mid.graphs.items) steps now from label (Number k) (told_still (FitsStep B mid.graphs.items) mid.steps.told.items steps none before) (
-      omega arith,
-      record {
-        within = has.there.within;
-        block = record {
-          formed = subst (IsFormed B.states) (sym has.there.is) is.formed;
-          same = subst (λ l. words.SameGraph (block_graph B.states l) (G (block_at mid.graphs.items from))) (sym has.there.is) (subst (λ l. words.SameGraph (block_graph B.states block) (G l)) (sym same) is.same);
+-- What is remembered stays so as the fresh block is written, and as it gets a number.
+pub stock_written : (B : Automaton) (keeping : Keeping) (old now : Graphs) → IsStock B keeping old → SamePool old.graphs now.graphs → now.graphs.items ≡ old.graphs.items → now.letters ≡ old.letters → now.steps ≡ old.steps
+    → length now.rows.items ≡ old.graphs.size → IsStock B keeping now
+stock_written B keeping old now stock pool items letters steps rows = record {
+  some = stock.some;
+  size = pool.0 ∙ stock.size;
+  rows = rows ∙ sym pool.0;
+  letters = subst (λ l. AllTold (FitsLetter B keeping l) now.letters.told.items) (sym items)
+      (subst (λ (m : Memo). AllTold (FitsLetter B keeping old.graphs.items) m.told.items) (sym letters) stock.letters);
+  steps = subst (λ l. AllTold (FitsStep B keeping l) now.steps.told.items) (sym items)
+      (subst (λ (m : Memo). AllTold (FitsStep B keeping old.graphs.items) m.told.items) (sym steps) stock.steps);
+}
+
+pub stock_numbered : (B : Automaton) (keeping : Keeping) (old now : Graphs) (block : List ℕ) (k : ℕ) → IsStock B keeping old → SamePool old.graphs now.graphs → HasNumber block old now k → IsStock B keeping now
+stock_numbered B keeping old now block k stock pool has = record {
+  some = stock.some;
+  size = pool.0 ∙ stock.size;
+  rows = ap (λ (v : Vec ℕ Global). length v.items) has.rows ∙ stock.rows ∙ sym pool.0;
+  letters = subst (λ (m : Memo). AllTold (FitsLetter B keeping now.graphs.items) m.told.items) (sym has.letters) (letters_stay old.graphs.items now.graphs.items has.grown B keeping old.letters.told.items stock.letters);
+  steps = subst (λ (m : Memo). AllTold (FitsStep B keeping now.graphs.items) m.told.items) (sym has.steps) (steps_stay old.graphs.items now.graphs.items has.grown B keeping old.steps.told.items stock.steps);
+}
+
+-- The graph with the number is the one whose block got it.
+pub graph_numbered : (B : Automaton) (keeping : Keeping) (graph : words.Graph) (block : List ℕ) (old now : Graphs) (k : ℕ) → HasNumber block old now k → IsBlockOf B keeping graph block
+    → IsGraphOf B keeping graph now.graphs.items k
+graph_numbered B keeping graph block old now k has is = record { within = has.there.within; block = subst (IsBlockOf B keeping graph) (sym has.there.is) is }
+
+-- One more extension is remembered, of a graph that was there, once its own number was given and the table has no other ones.
+pub step_more : (B : Automaton) (keeping : Keeping) (now : Graphs) (from label k : ℕ) (steps noted : List (Option Told)) → IsStock B keeping now → from < length now.graphs.items
+    → IsGraphOf B keeping (words.extended B (block_graph B.states (block_at now.graphs.items from)) label) now.graphs.items k → HasNoOther now.steps.told.items steps → HasNoted from label (Number k) steps noted
+    → AllTold (FitsStep B keeping now.graphs.items) noted
+step_more B keeping now from label k steps noted stock within is none has =
+    told_more (FitsStep B keeping now.graphs.items) steps noted from label (Number k) (told_still (FitsStep B keeping now.graphs.items) now.steps.told.items steps none stock.steps) (within, is) has
+
+-- A block whose graph is minimised stands for the same graph as before.
+pub block_minimised : (B : Automaton) (S : List (ℕ × ℕ)) (n : ℕ) (graph : words.Graph) (old now : List ℕ) → n ≡ B.states → IsBlockOf B AsTheyAre graph old → IsFormed n now
+    → IsMinimised S (block_graph n now) (block_graph n old) → IsBlockOf B (MinimisedBy S) graph now
+block_minimised B S n graph old now size is formed least =
+    let before : words.Graph = block_graph B.states old in
+    let after : words.Graph = block_graph B.states now in
+    let same : IsMinimised S after before = subst (λ k. IsMinimised S (block_graph k now) (block_graph k old)) size least in
+    record {
+      formed = subst (λ k. IsFormed k now) size formed;
+      stands = record {
+        cover = record {
+          forth = covers_between (Holds S) before after graph after is.stands (same_refl after) same.cover.forth;
+          back = covers_between (Holds S) after before after graph (same_refl after) is.stands same.cover.back;
         };
-      },
-    )
-    noted
+        minimal = same.minimal;
+      };
+    }
 
 -- A formed block is that of a graph that is there.
-pub formed_there : (n : ℕ) (graphs : List Graph) (k : ℕ) → 1 ≤ n → IsFormed n (block_at graphs k) → k < length graphs
+pub formed_there : (n : ℕ) (graphs : List (List ℕ)) (k : ℕ) → 1 ≤ n → IsFormed n (block_at graphs k) → k < length graphs
 formed_there n graphs k some formed = elim (cases_lt k (length graphs)) [
   | inl within ↦ within
   | inr past ↦
-      let size = length-map graphs words_in in
-      let none : block_at graphs k ≡ [] = get_or_past (map words_in graphs) k [] (omega arith) in
+      let none : block_at graphs k ≡ [] = get_or_past graphs k [] (omega arith) in
       let len : 2 * n * width_of n ≡ 0 = sym formed.len ∙ ap length none in
       let width : 1 ≤ width_of n = omega arith in
       absurd (positive (2 * n) (width_of n) (omega arith) width len)

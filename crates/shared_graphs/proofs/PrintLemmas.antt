@@ -3,17 +3,17 @@ use Rattle.std.proofs.Common.{◌≡◌, ℕ, ◌<◌, Bool, true, false, List, 
 use Rattle.auto_core.specs.Game.{Holds}
 use Rattle.auto_core.specs.Graph as words
 use Rattle.auto_core.specs.Outcome.{At}
+use Rattle.graph_rows.specs.declared.prints.PairBits.{PairBits}
 use Rattle.graph_rows.specs.declared.prints.Print.{Print}
 use Rattle.graph_rows.specs.Block.{block_graph}
-use Rattle.graph_rows.specs.Prints.{IsPrint, Misses, joined_pairs}
+use Rattle.graph_rows.specs.Prints.{AreBitsOf, IsFolded, IsPicked, IsPrint, Misses, MissesAt, joined_pairs}
 use Rattle.search_laws.proofs.PlaceLemmas.{at_cases}
-use Rattle.shared_graphs.specs.declared.graphs.Graph.{Graph}
 use Rattle.shared_graphs.specs.Graphs.{block_at}
 use Rattle.shared_graphs.specs.GraphPairs.{ArePrints, AreToldApart}
 
 -- One print more.
 pub prints_more :
-    (n : ℕ) (S : List (ℕ × ℕ)) (graphs : List Graph) (old now : List Print) (print : Print)
+    (n : ℕ) (S : List (ℕ × ℕ)) (graphs : List (List ℕ)) (old now : List Print) (print : Print)
     → now ≡ old ++ print ∷ []
     → length old < length graphs
     → IsPrint n (Holds S) (block_at graphs (length old)) print
@@ -37,6 +37,18 @@ missed :
 missed S g h false s t has none c = let (u, arc, rel) = c.joined s t has in none u arc rel
 missed S g h true s t has none c = let (u, arc, rel) = c.past s t has in none u arc rel
 
+bits_apart :
+    (IsAsked : ℕ → Bool → ℕ → ℕ → Type 0) (S : ℕ → ℕ → Type 0) (g h : words.Graph) (first second : PairBits)
+    → AreBitsOf IsAsked S g first
+    → AreBitsOf IsAsked S h second
+    → MissesAt first second
+    → words.Covers S g h
+    → ⊥
+bits_apart IsAsked S g h first second first_is second_is misses =
+    let j = misses.at in
+    let (past, p, q, asked, has) = first_is.own j misses.own in
+    missed S g h past p q has (λ u. second_is.answered j past p q misses.within misses.unanswered asked u)
+
 pub misses_apart :
     (n : ℕ) (S : List (ℕ × ℕ)) (g h : List ℕ) (first second : Print)
     → IsPrint n (Holds S) g first
@@ -44,13 +56,13 @@ pub misses_apart :
     → Misses first second
     → words.Covers (Holds S) (block_graph n g) (block_graph n h)
     → ⊥
-misses_apart n S g h first second first_is second_is misses =
-    let j = misses.at in
-    let (past, p, q, asked, has) = first_is.own j misses.own in
-    missed (Holds S) (block_graph n g) (block_graph n h) past p q has (λ u. second_is.answered j past p q misses.within misses.unanswered asked u)
+misses_apart n S g h first second first_is second_is misses = elim misses [
+  | inl at ↦ bits_apart (IsPicked n) (Holds S) (block_graph n g) (block_graph n h) first.picked second.picked first_is.picked second_is.picked at
+  | inr at ↦ bits_apart (IsFolded n) (Holds S) (block_graph n g) (block_graph n h) first.folded second.folded first_is.folded second_is.folded at
+]
 
 pub apart :
-    (n : ℕ) (S : List (ℕ × ℕ)) (graphs : List Graph) (prints : List Print) (g h : ℕ)
+    (n : ℕ) (S : List (ℕ × ℕ)) (graphs : List (List ℕ)) (prints : List Print) (g h : ℕ)
     → ArePrints n S graphs prints
     → AreToldApart prints g h
     → words.Covers (Holds S) (block_graph n (block_at graphs g)) (block_graph n (block_at graphs h))

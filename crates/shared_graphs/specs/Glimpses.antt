@@ -6,7 +6,6 @@ use Rattle.auto_core.specs.Outcome.{At}
 use Rattle.auto_core.specs.Rows.{HasBit}
 use Rattle.graph_rows.specs.Block.{block_graph}
 use Rattle.lasso_test.specs.Loops.{HasLoop}
-use Rattle.shared_graphs.specs.declared.graphs.Graph.{Graph}
 use Rattle.shared_graphs.specs.declared.glimpses.Glimpse.{Glimpse}
 use Rattle.shared_graphs.specs.Graphs.{block_at}
 use Rattle.shared_graphs.specs.Looping.{IsLoopRow}
@@ -19,7 +18,7 @@ pub record IsGlimpse (B : Automaton) (graph : words.Graph) (glimpse : Glimpse) :
   pub row : (glimpse.row.items ≡ []) ⊎ IsLoopRow B.states graph glimpse.row.items
 
 -- Each glimpse is that of the graph with its number.
-abbrev pub AreGlimpses : Automaton → List Graph → List Glimpse → Type 0
+abbrev pub AreGlimpses : Automaton → List (List ℕ) → List Glimpse → Type 0
 AreGlimpses B graphs glimpses = (k : ℕ) (x : Glimpse) → At glimpses k x → (k < length graphs) × IsGlimpse B (block_graph B.states (block_at graphs k)) x
 
 -- The first graph enters a state from which the second has a loop, both by their glimpses.

@@ -9,7 +9,6 @@ use Rattle.graph_rows.specs.declared.prints.Print.{Print}
 use Rattle.graph_rows.specs.Prints.{IsPrint, Misses}
 use Rattle.shared_graphs.specs.declared.memo.Answer.{Answer}
 use Rattle.shared_graphs.specs.declared.memo.Answer.TheVariants.{Number, Truth}
-use Rattle.shared_graphs.specs.declared.graphs.Graph.{Graph}
 use Rattle.shared_graphs.specs.declared.coverings.Coverings.{Coverings}
 use Rattle.shared_graphs.specs.declared.graph_pairs.GraphPairs.{GraphPairs}
 use Rattle.shared_graphs.specs.Graphs.{block_at}
@@ -17,22 +16,22 @@ use Rattle.shared_graphs.specs.Glimpses.{AreGlimpses}
 use Rattle.shared_graphs.specs.Memo.{AllTold}
 
 -- The answer tells whether the first graph covers the second.
-abbrev pub FitsCovering : ℕ → List (ℕ × ℕ) → List Graph → ℕ → ℕ → Answer → Type 0
+abbrev pub FitsCovering : ℕ → List (ℕ × ℕ) → List (List ℕ) → ℕ → ℕ → Answer → Type 0
 FitsCovering n S graphs g h (Number k) = Unit {0}
 FitsCovering n S graphs g h (Truth is) =
     (g < length graphs) × (h < length graphs) × (IsTrue is ↔ Covers (Holds S) (block_graph n (block_at graphs g)) (block_graph n (block_at graphs h)))
 
 -- The glimpses are those of the graphs, and there is room for the lasso test.
-pub record AreLassosTold (B : Automaton) (graphs : List Graph) (answers : GraphPairs) : Type 0 where
+pub record AreLassosTold (B : Automaton) (graphs : List (List ℕ)) (answers : GraphPairs) : Type 0 where
   pub glimpses : AreGlimpses B graphs answers.glimpses.items
   pub room : answers.scratch ≡ B.states
 
 -- Each print is that of the graph with its number.
-abbrev pub ArePrints : ℕ → List (ℕ × ℕ) → List Graph → List Print → Type 0
+abbrev pub ArePrints : ℕ → List (ℕ × ℕ) → List (List ℕ) → List Print → Type 0
 ArePrints n S graphs prints = (k : ℕ) (print : Print) → At prints k print → (k < length graphs) × IsPrint n (Holds S) (block_at graphs k) print
 
 -- What is remembered of coverings is so.
-pub record AreCoverings (n : ℕ) (S : List (ℕ × ℕ)) (graphs : List Graph) (c : Coverings) : Type 0 where
+pub record AreCoverings (n : ℕ) (S : List (ℕ × ℕ)) (graphs : List (List ℕ)) (c : Coverings) : Type 0 where
   pub prints : ArePrints n S graphs c.prints.items
   pub told : AllTold (FitsCovering n S graphs) c.told.told.items
 
@@ -45,6 +44,6 @@ pub record AreToldApart (prints : List Print) (g h : ℕ) : Type 0 where
   pub misses : Misses first second
 
 -- All that is remembered of pairs is so.
-pub record AreGraphPairs (B : Automaton) (S : List (ℕ × ℕ)) (graphs : List Graph) (answers : GraphPairs) : Type 0 where
+pub record AreGraphPairs (B : Automaton) (S : List (ℕ × ℕ)) (graphs : List (List ℕ)) (answers : GraphPairs) : Type 0 where
   pub covers : AreCoverings B.states S graphs answers.covers
   pub lassos : AreLassosTold B graphs answers

@@ -6,12 +6,11 @@ ghost use Rattle.auto_core.specs.Graph.{Covers, Subsumes};
 ghost use Rattle.graph_rows.specs.Block.{block_graph, IsFormed};
 ghost use Rattle.graph_rows.specs.Prints.{IsPrint};
 ghost use Rattle.supergraph.specs.Stands.{with_graph};
-ghost use Rattle.shared_graphs.specs.declared.graphs.Graph.{Graph};
 ghost use Rattle.shared_graphs.specs.Graphs.{block_at};
 ghost use Rattle.shared_graphs.specs.Memo.{AllTold};
 ghost use Rattle.shared_graphs.specs.GraphPairs.{AreCoverings, AreToldApart, FitsCovering};
 
-use crate::graphs::{Graph, block_of};
+use crate::graph_blocks::GraphBlocks;
 use crate::memo::{Answer, Memo};
 use auto_core::Memory;
 use bit_rel::Rel;
@@ -30,25 +29,25 @@ pub struct Coverings {
 }
 
 /// Tells whether graphs with both numbers are there.
-pub(crate) fn are_there(graphs: &[Graph], g: u32, h: u32) -> bool
-    ensures { result ≡ true → (g < length graphs.now) × (h < length graphs.now) }
+pub(crate) fn are_there(graphs: &GraphBlocks, g: u32, h: u32) -> bool
+    ensures { result ≡ true → (g < length graphs.now.items) × (h < length graphs.now.items) }
 {
     (g as usize) < graphs.len() && (h as usize) < graphs.len()
 }
 
 /// Tells whether the first graph covers the second.
-fn covers(order: &Rel, graphs: &[Graph], told: &mut Memo, g: u32, h: u32) -> bool
-    requires first { IsFormed order.now.size (block_at graphs.now g) }
-    requires second { IsFormed order.now.size (block_at graphs.now h) }
-    requires told { AllTold (FitsCovering order.now.size order.now.pairs graphs.now) told.old.told.items }
-    ensures told { AllTold (FitsCovering order.now.size order.now.pairs graphs.now) told.new.told.items }
+fn covers(order: &Rel, graphs: &GraphBlocks, told: &mut Memo, g: u32, h: u32) -> bool
+    requires first { IsFormed order.now.size (block_at graphs.now.items g) }
+    requires second { IsFormed order.now.size (block_at graphs.now.items h) }
+    requires told { AllTold (FitsCovering order.now.size order.now.pairs graphs.now.items) told.old.told.items }
+    ensures told { AllTold (FitsCovering order.now.size order.now.pairs graphs.now.items) told.new.told.items }
     ensures covers { IsTrue result
-        ↔ Covers (Holds order.now.pairs) (block_graph order.now.size (block_at graphs.now g)) (block_graph order.now.size (block_at graphs.now h)) }
+        ↔ Covers (Holds order.now.pairs) (block_graph order.now.size (block_at graphs.now.items g)) (block_graph order.now.size (block_at graphs.now.items h)) }
 {
     if let Some(Answer::Truth(holds)) = told.find(g, h) {
         return holds;
     }
-    let holds = graph_rows::covers(order, block_of(graphs, g), block_of(graphs, h));
+    let holds = graph_rows::covers(order, graphs.block(g as usize), graphs.block(h as usize));
     if are_there(graphs, g, h) {
         told.note(g, h, Answer::Truth(holds));
     }
@@ -65,20 +64,20 @@ fn fits(x: &Arc, y: &Arc) -> bool
 /// Tells whether `x` with the graph `g` subsumes `y` with the graph `h`.
 pub fn subsumes(
     order: &Rel,
-    graphs: &[Graph],
+    graphs: &GraphBlocks,
     told: &mut Memo,
     x: &Arc,
     g: u32,
     y: &Arc,
     h: u32,
 ) -> bool
-    requires first { IsFormed order.now.size (block_at graphs.now g) }
-    requires second { IsFormed order.now.size (block_at graphs.now h) }
-    requires told { AllTold (FitsCovering order.now.size order.now.pairs graphs.now) told.old.told.items }
-    ensures told { AllTold (FitsCovering order.now.size order.now.pairs graphs.now) told.new.told.items }
+    requires first { IsFormed order.now.size (block_at graphs.now.items g) }
+    requires second { IsFormed order.now.size (block_at graphs.now.items h) }
+    requires told { AllTold (FitsCovering order.now.size order.now.pairs graphs.now.items) told.old.told.items }
+    ensures told { AllTold (FitsCovering order.now.size order.now.pairs graphs.now.items) told.new.told.items }
     ensures subsumes { IsTrue result
-        ↔ Subsumes (Holds order.now.pairs) (with_graph x.now (block_graph order.now.size (block_at graphs.now g)))
-        (with_graph y.now (block_graph order.now.size (block_at graphs.now h))) }
+        ↔ Subsumes (Holds order.now.pairs) (with_graph x.now (block_graph order.now.size (block_at graphs.now.items g)))
+        (with_graph y.now (block_graph order.now.size (block_at graphs.now.items h))) }
 {
     if !fits(x, y) {
         return false;
@@ -102,7 +101,7 @@ fn are_apart(prints: &[Print], g: u32, h: u32) -> bool
 impl Coverings {
     /// Nothing was told.
     pub fn new(alloc: Global) -> Result<Coverings, Memory>
-        ensures { IfOk result (λ c. (n : ℕ) (S : List (ℕ × ℕ)) (graphs : List Graph) → AreCoverings n S graphs c) }
+        ensures { IfOk result (λ c. (n : ℕ) (S : List (ℕ × ℕ)) (graphs : List (List ℕ)) → AreCoverings n S graphs c) }
     {
         Ok(Coverings {
             prints: Vec::new(alloc),
@@ -115,12 +114,12 @@ impl Coverings {
         &mut self,
         alloc: Global,
         order: &Rel,
-        graphs: &[Graph],
+        graphs: &GraphBlocks,
         h: u32,
     ) -> Result<(), Memory>
-        requires formed { IsFormed order.now.size (block_at graphs.now h) }
-        requires told { AreCoverings order.now.size order.now.pairs graphs.now self.old }
-        ensures told { AreCoverings order.now.size order.now.pairs graphs.now self.new }
+        requires formed { IsFormed order.now.size (block_at graphs.now.items h) }
+        requires told { AreCoverings order.now.size order.now.pairs graphs.now.items self.old }
+        ensures told { AreCoverings order.now.size order.now.pairs graphs.now.items self.new }
     {
         if h as usize != self.prints.len() {
             return Ok(());
@@ -131,14 +130,14 @@ impl Coverings {
         if order.size() == 0 {
             return Ok(());
         }
-        self.prints.push(print_of(order, block_of(graphs, h)))?;
+        self.prints.push(print_of(order, graphs.block(h as usize)))?;
         Ok(())
     }
 
     /// The print of the graph, if it was taken.
-    pub fn print_at(&self, order: &Rel, graphs: &[Graph], h: u32) -> Option<Print>
-        requires told { AreCoverings order.now.size order.now.pairs graphs.now self.now }
-        ensures { IfSome result (IsPrint order.now.size (Holds order.now.pairs) (block_at graphs.now h)) }
+    pub fn print_at(&self, order: &Rel, graphs: &GraphBlocks, h: u32) -> Option<Print>
+        requires told { AreCoverings order.now.size order.now.pairs graphs.now.items self.now }
+        ensures { IfSome result (IsPrint order.now.size (Holds order.now.pairs) (block_at graphs.now.items h)) }
     {
         if h as usize >= self.prints.len() {
             return None;
@@ -150,14 +149,14 @@ impl Coverings {
     pub fn misses_second(
         &self,
         order: &Rel,
-        graphs: &[Graph],
+        graphs: &GraphBlocks,
         g: u32,
         h: u32,
         print: &Option<Print>,
     ) -> bool
-        requires told { AreCoverings order.now.size order.now.pairs graphs.now self.now }
-        requires print { IfSome print.now (IsPrint order.now.size (Holds order.now.pairs) (block_at graphs.now h)) }
-        ensures { result ≡ true → Covers (Holds order.now.pairs) (block_graph order.now.size (block_at graphs.now g)) (block_graph order.now.size (block_at graphs.now h)) → ⊥ }
+        requires told { AreCoverings order.now.size order.now.pairs graphs.now.items self.now }
+        requires print { IfSome print.now (IsPrint order.now.size (Holds order.now.pairs) (block_at graphs.now.items h)) }
+        ensures { result ≡ true → Covers (Holds order.now.pairs) (block_graph order.now.size (block_at graphs.now.items g)) (block_graph order.now.size (block_at graphs.now.items h)) → ⊥ }
     {
         if g as usize >= self.prints.len() {
             return false;
@@ -172,14 +171,14 @@ impl Coverings {
     pub fn misses_first(
         &self,
         order: &Rel,
-        graphs: &[Graph],
+        graphs: &GraphBlocks,
         g: u32,
         h: u32,
         print: &Option<Print>,
     ) -> bool
-        requires told { AreCoverings order.now.size order.now.pairs graphs.now self.now }
-        requires print { IfSome print.now (IsPrint order.now.size (Holds order.now.pairs) (block_at graphs.now g)) }
-        ensures { result ≡ true → Covers (Holds order.now.pairs) (block_graph order.now.size (block_at graphs.now g)) (block_graph order.now.size (block_at graphs.now h)) → ⊥ }
+        requires told { AreCoverings order.now.size order.now.pairs graphs.now.items self.now }
+        requires print { IfSome print.now (IsPrint order.now.size (Holds order.now.pairs) (block_at graphs.now.items g)) }
+        ensures { result ≡ true → Covers (Holds order.now.pairs) (block_graph order.now.size (block_at graphs.now.items g)) (block_graph order.now.size (block_at graphs.now.items h)) → ⊥ }
     {
         if h as usize >= self.prints.len() {
             return false;
@@ -194,19 +193,19 @@ impl Coverings {
     pub fn subsumes(
         &mut self,
         order: &Rel,
-        graphs: &[Graph],
+        graphs: &GraphBlocks,
         x: &Arc,
         g: u32,
         y: &Arc,
         h: u32,
     ) -> bool
-        requires first { IsFormed order.now.size (block_at graphs.now g) }
-        requires second { IsFormed order.now.size (block_at graphs.now h) }
-        requires told { AreCoverings order.now.size order.now.pairs graphs.now self.old }
-        ensures told { AreCoverings order.now.size order.now.pairs graphs.now self.new }
+        requires first { IsFormed order.now.size (block_at graphs.now.items g) }
+        requires second { IsFormed order.now.size (block_at graphs.now.items h) }
+        requires told { AreCoverings order.now.size order.now.pairs graphs.now.items self.old }
+        ensures told { AreCoverings order.now.size order.now.pairs graphs.now.items self.new }
         ensures subsumes { IsTrue result
-            ↔ Subsumes (Holds order.now.pairs) (with_graph x.now (block_graph order.now.size (block_at graphs.now g)))
-            (with_graph y.now (block_graph order.now.size (block_at graphs.now h))) }
+            ↔ Subsumes (Holds order.now.pairs) (with_graph x.now (block_graph order.now.size (block_at graphs.now.items g)))
+            (with_graph y.now (block_graph order.now.size (block_at graphs.now.items h))) }
     {
         if are_apart(&self.prints, g, h) {
             return false;

@@ -8,7 +8,7 @@ ghost use Rattle.graph_rows.specs.Block.{block_graph, IsFormed};
 ghost use Rattle.shared_graphs.specs.Graphs.{block_at};
 ghost use Rattle.shared_graphs.specs.Glimpses.{AreGlimpses, IsGlimpse, MeetAtSight};
 
-use crate::graphs::{Graph, block_of};
+use crate::graph_blocks::GraphBlocks;
 use crate::looping::marked_row;
 use auto_core::{Auto, Memory, rows};
 use lasso_test::{Scratch, enters};
@@ -96,16 +96,16 @@ pub(crate) fn meet(glimpses: &[Glimpse], g: u32, h: u32) -> bool
 /// Tells whether the graphs have a lasso from the initial state, if the states with a loop are marked in the second.
 pub(crate) fn told(
     second: &Auto,
-    graphs: &[Graph],
+    graphs: &GraphBlocks,
     glimpses: &[Glimpse],
     g: u32,
     h: u32,
 ) -> Option<bool>
-    requires first { IsFormed second.now.states (block_at graphs.now g) }
-    requires second { IsFormed second.now.states (block_at graphs.now h) }
-    requires glimpses { AreGlimpses second.now graphs.now glimpses.now }
+    requires first { IsFormed second.now.states (block_at graphs.now.items g) }
+    requires second { IsFormed second.now.states (block_at graphs.now.items h) }
+    requires glimpses { AreGlimpses second.now graphs.now.items glimpses.now }
     ensures { IfSome result (λ holds. IsTrue holds
-        ↔ LassoIn (block_graph second.now.states (block_at graphs.now g)) (block_graph second.now.states (block_at graphs.now h)) second.now.initial) }
+        ↔ LassoIn (block_graph second.now.states (block_at graphs.now.items g)) (block_graph second.now.states (block_at graphs.now.items h)) second.now.initial) }
 {
     if h as usize >= glimpses.len() {
         return None;
@@ -116,7 +116,7 @@ pub(crate) fn told(
     }
     Some(enters(
         second.states(),
-        block_of(graphs, g),
+        graphs.block(g as usize),
         second.initial(),
         &glimpse.row,
     ))

@@ -4,13 +4,12 @@ ghost use Rattle.std.specs.Prelude.{◌≡◌, ◌↔◌, ℕ, List, true, IsTru
 ghost use Rattle.auto_core.specs.Automaton.{Automaton};
 ghost use Rattle.auto_core.specs.Graph.{LassoIn};
 ghost use Rattle.graph_rows.specs.Block.{block_graph, IsFormed};
-ghost use Rattle.shared_graphs.specs.declared.graphs.Graph.{Graph};
 ghost use Rattle.shared_graphs.specs.Graphs.{block_at};
 ghost use Rattle.shared_graphs.specs.GraphPairs.{AreLassosTold, AreGraphPairs};
 
 use crate::coverings::Coverings;
 use crate::glimpses::{Glimpse, glimpse_of, meet, told, unmarked};
-use crate::graphs::{Graph, block_of};
+use crate::graph_blocks::GraphBlocks;
 use auto_core::{Auto, Memory};
 use lasso_test::Scratch;
 use std::alloc::Global;
@@ -26,7 +25,7 @@ pub struct GraphPairs {
 impl GraphPairs {
     /// Nothing was told of graphs of so many states.
     pub fn new(alloc: Global, states: u32) -> Result<GraphPairs, Memory>
-        ensures { IfOk result (λ t. (B : Automaton) (S : List (ℕ × ℕ)) (graphs : List Graph) → states ≡ B.states → AreGraphPairs B S graphs t) }
+        ensures { IfOk result (λ t. (B : Automaton) (S : List (ℕ × ℕ)) (graphs : List (List ℕ)) → states ≡ B.states → AreGraphPairs B S graphs t) }
     {
         Ok(GraphPairs {
             covers: Coverings::new(alloc)?,
@@ -40,12 +39,12 @@ impl GraphPairs {
         &mut self,
         alloc: Global,
         second: &Auto,
-        graphs: &[Graph],
+        graphs: &GraphBlocks,
         h: u32,
     ) -> Result<(), Memory>
-        requires formed { IsFormed second.now.states (block_at graphs.now h) }
-        requires told { AreLassosTold second.now graphs.now self.old }
-        ensures told { AreLassosTold second.now graphs.now self.new }
+        requires formed { IsFormed second.now.states (block_at graphs.now.items h) }
+        requires told { AreLassosTold second.now graphs.now.items self.old }
+        ensures told { AreLassosTold second.now graphs.now.items self.new }
         ensures covers { self.new.covers ≡ self.old.covers }
     {
         if h as usize != self.glimpses.len() {
@@ -54,16 +53,22 @@ impl GraphPairs {
         if h as usize >= graphs.len() {
             return Ok(());
         }
-        let glimpse = unmarked(alloc, second, block_of(graphs, h));
+        let glimpse = unmarked(alloc, second, graphs.block(h as usize));
         self.glimpses.push(glimpse)?;
         Ok(())
     }
 
     /// Marks the states with a loop in the glimpse of the graph, if that was not done.
-    fn mark(&mut self, alloc: Global, second: &Auto, graphs: &[Graph], h: u32) -> Result<(), Memory>
-        requires formed { IsFormed second.now.states (block_at graphs.now h) }
-        requires told { AreLassosTold second.now graphs.now self.old }
-        ensures told { AreLassosTold second.now graphs.now self.new }
+    fn mark(
+        &mut self,
+        alloc: Global,
+        second: &Auto,
+        graphs: &GraphBlocks,
+        h: u32,
+    ) -> Result<(), Memory>
+        requires formed { IsFormed second.now.states (block_at graphs.now.items h) }
+        requires told { AreLassosTold second.now graphs.now.items self.old }
+        ensures told { AreLassosTold second.now graphs.now.items self.new }
         ensures covers { self.new.covers ≡ self.old.covers }
     {
         if h as usize >= self.glimpses.len() || h as usize >= graphs.len() {
@@ -72,7 +77,7 @@ impl GraphPairs {
         if self.glimpses[h as usize].row.len() != 0 {
             return Ok(());
         }
-        let glimpse = glimpse_of(alloc, second, block_of(graphs, h), &mut self.scratch)?;
+        let glimpse = glimpse_of(alloc, second, graphs.block(h as usize), &mut self.scratch)?;
         self.glimpses[h as usize] = glimpse;
         Ok(())
     }
@@ -82,13 +87,13 @@ impl GraphPairs {
         &mut self,
         alloc: Global,
         second: &Auto,
-        graphs: &[Graph],
+        graphs: &GraphBlocks,
         h: u32,
         is_turn: bool,
     ) -> Result<(), Memory>
-        requires formed { IsFormed second.now.states (block_at graphs.now h) }
-        requires told { AreLassosTold second.now graphs.now self.old }
-        ensures told { AreLassosTold second.now graphs.now self.new }
+        requires formed { IsFormed second.now.states (block_at graphs.now.items h) }
+        requires told { AreLassosTold second.now graphs.now.items self.old }
+        ensures told { AreLassosTold second.now graphs.now.items self.new }
         ensures covers { self.new.covers ≡ self.old.covers }
     {
         self.glimpse(alloc, second, graphs, h)?;
@@ -99,24 +104,24 @@ impl GraphPairs {
     }
 
     /// Tells whether it is seen at once that the graphs have a lasso from the initial state.
-    pub fn pass_at_sight(&self, second: &Auto, graphs: &[Graph], g: u32, h: u32) -> bool
-        requires second { IsFormed second.now.states (block_at graphs.now h) }
-        requires told { AreLassosTold second.now graphs.now self.now }
+    pub fn pass_at_sight(&self, second: &Auto, graphs: &GraphBlocks, g: u32, h: u32) -> bool
+        requires second { IsFormed second.now.states (block_at graphs.now.items h) }
+        requires told { AreLassosTold second.now graphs.now.items self.now }
         ensures { result ≡ true
-            → LassoIn (block_graph second.now.states (block_at graphs.now g)) (block_graph second.now.states (block_at graphs.now h)) second.now.initial }
+            → LassoIn (block_graph second.now.states (block_at graphs.now.items g)) (block_graph second.now.states (block_at graphs.now.items h)) second.now.initial }
     {
         meet(&self.glimpses, g, h)
     }
 
     /// Tells whether the graphs have a lasso from the initial state.
-    pub fn passes(&mut self, second: &Auto, graphs: &[Graph], g: u32, h: u32) -> bool
-        requires first { IsFormed second.now.states (block_at graphs.now g) }
-        requires second { IsFormed second.now.states (block_at graphs.now h) }
-        requires told { AreLassosTold second.now graphs.now self.old }
-        ensures told { AreLassosTold second.now graphs.now self.new }
+    pub fn passes(&mut self, second: &Auto, graphs: &GraphBlocks, g: u32, h: u32) -> bool
+        requires first { IsFormed second.now.states (block_at graphs.now.items g) }
+        requires second { IsFormed second.now.states (block_at graphs.now.items h) }
+        requires told { AreLassosTold second.now graphs.now.items self.old }
+        ensures told { AreLassosTold second.now graphs.now.items self.new }
         ensures covers { self.new.covers ≡ self.old.covers }
         ensures passes { IsTrue result
-            ↔ LassoIn (block_graph second.now.states (block_at graphs.now g)) (block_graph second.now.states (block_at graphs.now h)) second.now.initial }
+            ↔ LassoIn (block_graph second.now.states (block_at graphs.now.items g)) (block_graph second.now.states (block_at graphs.now.items h)) second.now.initial }
     {
         if self.pass_at_sight(second, graphs, g, h) {
             return true;
@@ -126,8 +131,8 @@ impl GraphPairs {
         }
         lasso_test::passes(
             second.states(),
-            block_of(graphs, g),
-            block_of(graphs, h),
+            graphs.block(g as usize),
+            graphs.block(h as usize),
             second.initial(),
             &mut self.scratch,
         )

@@ -1,14 +1,20 @@
 //! The different graphs of words, each with a number, and what letters lead to from them, remembered: many elements have one graph.
 
-ghost use Rattle.std.specs.Prelude.{◌≡◌, ◌↔◌, IsTrue, IfOk, IfSome};
+ghost use Rattle.std.specs.Prelude.{◌≡◌, ◌+◌, ◌*◌, ◌^◌, ◌<◌, ◌≤◌, [], length, IfOk, IfSome, OnErr};
+ghost use Rattle.std.specs.FinMap as map;
 ghost use Rattle.auto_core.specs.Automaton.{Automaton};
 ghost use Rattle.auto_core.specs.Graph.{letter_graph, extended};
-ghost use Rattle.graph_rows.specs.Block.{block_graph, IsFormed};
-ghost use Rattle.shared_graphs.specs.Graphs.{block_at, HasAddedGraph, HasGrown, HasNumber, IsBlockOf, IsGraphOf, IsStock, IsThere};
+ghost use Rattle.bit_rel.specs.Relation.{IsPreorder};
+ghost use Rattle.graph_rows.specs.Block.{block_graph, width_of, IsFormed};
+ghost use Rattle.shared_graphs.specs.GraphBlocks.{SamePool};
+ghost use Rattle.shared_graphs.specs.Graphs.{block_at, AsTheyAre, HasAddedGraph, HasGrown, HasNumber, IsBlockOf, IsGraphOf, IsStock, IsThere, Keeping, MinimisedBy, kept_under};
 ghost use Rattle.shared_graphs.specs.Memo.{HasNoOther};
 
+use crate::graph_blocks::{GraphBlocks, is_same};
 use crate::memo::{Answer, Memo};
 use auto_core::{Auto, Memory};
+use bit_rel::Rel;
+use graph_pool::Pool;
 use std::alloc::Global;
 
 /// How many places there are for the numbers of graphs.
@@ -22,22 +28,28 @@ const STEPS: usize = 1024;
 
 const MOST_STEPS: usize = 65536;
 
-/// A graph: its block, the mixed words of the block, and the number of the graph before it at the same place, which need not be
-/// there.
+/// Under what the numbers of letters are remembered: of their own graphs, and of those that stand for them.
+const OWN: u32 = 0;
+
+const KEPT: u32 = 1;
+
+/// The mixed words of the block of a graph, and the number of the graph before it at the same place, which need not be there.
 #[derive(Debug, Drop)]
-pub struct Graph {
-    pub block: Vec<u64>,
+pub struct Link {
     pub mixed: u64,
     pub before: u32,
 }
 
-/// The graphs by their numbers, the number of the latest at each place, the graphs of letters, and those extended by letters.
-#[derive(Debug, Drop)]
+/// The blocks of the graphs by their numbers, with links, the number of the latest at each place, the graphs of letters, those extended
+/// by letters, and room for the rows of a letter while a graph is extended.
+#[derive(Drop)]
 pub struct Graphs {
-    pub graphs: Vec<Graph>,
+    pub graphs: GraphBlocks,
+    pub links: Vec<Link>,
     pub latest: Vec<u32>,
     pub letters: Memo,
     pub steps: Memo,
+    pub rows: Vec<u64>,
 }
 
 /// The words of the block, mixed.
@@ -50,79 +62,47 @@ fn mixed_of(block: &[u64]) -> u64 {
     mixed
 }
 
-/// Tells whether both blocks are the same.
-fn is_same(block: &[u64], other: &[u64]) -> bool
-    ensures { IsTrue result ↔ block.now ≡ other.now }
-{
-    block == other
-}
-
-/// The block of the graph with this number; past the last there is none.
-pub fn block_of(graphs: &[Graph], number: u32) -> &[u64]
-    ensures { result.now ≡ block_at graphs.now number }
-{
-    if number as usize >= graphs.len() {
-        return &[];
-    }
-    &graphs[number as usize].block
-}
-
-/// The block of the graph of the letter.
-fn letter_block(alloc: Global, second: &Auto, label: u32) -> Result<Vec<u64>, Memory>
-    ensures { IfOk result (λ b. IsBlockOf second.now (letter_graph second.now label) b.items) }
-{
-    let mut block = vec![in alloc; 0; graph_rows::words_of(second.states())]?;
-    graph_rows::letter(second, label, &mut block);
-    Ok(block)
-}
-
-/// The block of the graph, extended by the letter, whose own block is given.
-fn extended_block(
-    alloc: Global,
-    second: &Auto,
-    letter: &[u64],
-    from: &[u64],
-    label: u32,
-) -> Result<Vec<u64>, Memory>
-    requires letter { IsBlockOf second.now (letter_graph second.now label) letter.now }
-    requires formed { IsFormed second.now.states from.now }
-    ensures { IfOk result (λ b. IsBlockOf second.now (extended second.now (block_graph second.now.states from.now) label) b.items) }
-{
-    let mut block = vec![in alloc; 0; graph_rows::words_of(second.states())]?;
-    graph_rows::extend(second, label, letter, from, &mut block);
-    Ok(block)
-}
-
 impl Graphs {
-    /// No graphs.
-    pub fn new(alloc: Global) -> Result<Graphs, Memory>
-        ensures { IfOk result (λ g. (B : Automaton) → IsStock B g) }
+    /// No graphs, whose blocks are to be in this pool, which is taken.
+    pub fn new(alloc: Global, pool: &mut Pool) -> Result<Graphs, Memory>
+        requires room { map.len pool.old.blocks + 1 < 2 ^ 32 }
+        ensures stock { IfOk result (λ g. (B : Automaton) (keeping : Keeping) → pool.old.size ≡ 2 * B.states * width_of B.states → IsStock B keeping g) }
+        ensures size { IfOk result (λ g. g.graphs.size ≡ pool.old.size) }
+        ensures rest { IfOk result (λ g. g.graphs.rest ≡ pool.old.blocks) }
+        ensures none { IfOk result (λ g. g.graphs.items ≡ []) }
+        ensures refused { OnErr result (pool.new ≡ pool.old) }
     {
+        let latest = vec![in alloc; u32::MAX; PLACES]?;
+        let letters = Memo::new(alloc, LETTERS)?;
+        let steps = Memo::new(alloc, STEPS)?;
+        let rows = vec![in alloc; 0; pool.words()]?;
         Ok(Graphs {
-            graphs: Vec::new(alloc),
-            latest: vec![in alloc; u32::MAX; PLACES]?,
-            letters: Memo::new(alloc, LETTERS)?,
-            steps: Memo::new(alloc, STEPS)?,
+            graphs: GraphBlocks::new(alloc, pool)?,
+            links: Vec::new(alloc),
+            latest,
+            letters,
+            steps,
+            rows,
         })
     }
 
-    /// The number of the graph with this block, if it is there.
-    fn known(&self, place: usize, mixed: u64, block: &[u64]) -> Option<u32>
-        ensures { IfSome result (IsThere self.now.graphs.items block.now) }
+    /// The number of the graph whose block is the fresh one, if it is there.
+    fn known(&self, place: usize, mixed: u64) -> Option<u32>
+        ensures { IfSome result (IsThere self.now.graphs.items self.now.graphs.fresh) }
     {
         if place >= self.latest.len() {
             return None;
         }
         let mut at = self.latest[place];
-        for _graph in 0..self.graphs.len() {
-            if at as usize >= self.graphs.len() {
+        for _graph in 0..self.links.len() {
+            if at as usize >= self.links.len() {
                 return None;
             }
-            let graph = &self.graphs[at as usize];
-            if graph.mixed == mixed && is_same(&graph.block, block) {
+            let link = &self.links[at as usize];
+            if link.mixed == mixed && self.graphs.is_fresh(at) {
                 return Some(at);
             }
-            at = graph.before;
+            at = link.before;
         }
         None
     }
@@ -132,6 +112,7 @@ impl Graphs {
         ensures graphs { self.new.graphs ≡ self.old.graphs }
         ensures letters { self.new.letters ≡ self.old.letters }
         ensures steps { self.new.steps ≡ self.old.steps }
+        ensures rows { self.new.rows ≡ self.old.rows }
     {
         if place >= self.latest.len() {
             return u32::MAX;
@@ -141,77 +122,150 @@ impl Graphs {
         before
     }
 
-    /// Adds the graph with this block, and gives its number.
-    fn add(&mut self, place: usize, mixed: u64, block: Vec<u64>) -> Result<u32, Memory>
-        ensures { IfOk result (HasAddedGraph block.items self.old self.new) }
+    /// Adds the graph whose block is the fresh one, and gives its number.
+    fn add(&mut self, place: usize, mixed: u64) -> Result<u32, Memory>
+        ensures pool { SamePool self.old.graphs self.new.graphs }
+        ensures added { IfOk result (HasAddedGraph self.old.graphs.fresh self.old self.new) }
     {
         let count = self.graphs.len();
         if count >= u32::MAX as usize {
             return Err(Memory);
         }
         let number = count as u32;
+        self.graphs.keep()?;
         let before = self.take_place(place, number);
-        self.graphs.push(Graph {
-            block,
-            mixed,
-            before,
-        })?;
+        self.links.push(Link { mixed, before })?;
         Ok(number)
+    }
+
+    /// The number of the graph whose block is the fresh one, which is added if it is not there. A block that is there already is left to
+    /// the next graph.
+    fn number_of_fresh(&mut self) -> Result<u32, Memory>
+        ensures pool { SamePool self.old.graphs self.new.graphs }
+        ensures number { IfOk result (HasNumber self.old.graphs.fresh self.old self.new) }
+    {
+        let mixed = mixed_of(self.graphs.fresh_block());
+        let place = (mixed % PLACES as u64) as usize;
+        match self.known(place, mixed) {
+            Some(number) => Ok(number),
+            None => self.add(place, mixed),
+        }
     }
 
     /// The number of the graph with this block, which is added if it is not there.
-    pub fn number_of(&mut self, block: Vec<u64>) -> Result<u32, Memory>
-        ensures { IfOk result (HasNumber block.items self.old self.new) }
+    pub fn number_of(&mut self, block: &[u64]) -> Result<u32, Memory>
+        requires { length block.now ≡ self.old.graphs.size }
+        ensures pool { SamePool self.old.graphs self.new.graphs }
+        ensures number { IfOk result (HasNumber block.now self.old self.new) }
     {
-        let mixed = mixed_of(&block);
-        let place = (mixed % PLACES as u64) as usize;
-        match self.known(place, mixed, &block) {
-            Some(number) => Ok(number),
-            None => self.add(place, mixed, block),
-        }
+        self.graphs.write(block);
+        self.number_of_fresh()
     }
 
-    /// The number of the graph of the letter.
-    pub fn letter(&mut self, alloc: Global, second: &Auto, label: u32) -> Result<u32, Memory>
-        requires { IsStock second.now self.old }
-        ensures stock { IfOk result (λ _. IsStock second.now self.new) }
+    /// Gives the graph in the fresh block its number, and remembers it as that of the letter: under `OWN` where the graph is the letter's own
+    /// one, under `KEPT` where it stands for that.
+    fn take_letter(&mut self, under: u32, label: u32) -> Result<u32, Memory>
+        ensures pool { SamePool self.old.graphs self.new.graphs }
+        ensures stock { IfOk result (λ _. (B : Automaton) (keeping : Keeping) → IsStock B keeping self.old
+            → IsBlockOf B (kept_under keeping under) (letter_graph B label) self.old.graphs.fresh → IsStock B keeping self.new) }
         ensures grown { IfOk result (λ _. HasGrown self.old.graphs.items self.new.graphs.items) }
-        ensures is { IfOk result (IsGraphOf second.now (letter_graph second.now label) self.new.graphs.items) }
+        ensures is { IfOk result (λ k. (B : Automaton) (keeping : Keeping) → IsBlockOf B keeping (letter_graph B label) self.old.graphs.fresh
+            → IsGraphOf B keeping (letter_graph B label) self.new.graphs.items k) }
     {
-        if let Some(Answer::Number(number)) = self.letters.find(0, label) {
-            return Ok(number);
-        }
-        let block = letter_block(alloc, second, label)?;
-        let number = self.number_of(block)?;
-        self.letters.note(0, label, Answer::Number(number));
+        let number = self.number_of_fresh()?;
+        self.letters.note(under, label, Answer::Number(number));
         Ok(number)
     }
 
-    /// The block of the graph with this number, extended by the letter. The letter's graph is mostly remembered.
-    fn extended(
-        &self,
-        alloc: Global,
-        second: &Auto,
-        from: u32,
-        label: u32,
-    ) -> Result<Vec<u64>, Memory>
-        requires stock { IsStock second.now self.now }
-        requires formed { IsFormed second.now.states (block_at self.now.graphs.items from) }
-        ensures { IfOk result (λ b. IsBlockOf second.now (extended second.now (block_graph second.now.states (block_at self.now.graphs.items from)) label) b.items) }
+    /// The number of the graph of the letter.
+    pub fn letter(&mut self, second: &Auto, label: u32) -> Result<u32, Memory>
+        requires { IsStock second.now AsTheyAre self.old }
+        ensures pool { SamePool self.old.graphs self.new.graphs }
+        ensures stock { IfOk result (λ _. IsStock second.now AsTheyAre self.new) }
+        ensures grown { IfOk result (λ _. HasGrown self.old.graphs.items self.new.graphs.items) }
+        ensures is { IfOk result (IsGraphOf second.now AsTheyAre (letter_graph second.now label) self.new.graphs.items) }
     {
-        let from = block_of(&self.graphs, from);
-        if let Some(Answer::Number(number)) = self.letters.find(0, label) {
-            let letter = block_of(&self.graphs, number);
-            return extended_block(alloc, second, letter, from, label);
+        if let Some(Answer::Number(number)) = self.letters.find(OWN, label) {
+            return Ok(number);
         }
-        let letter = letter_block(alloc, second, label)?;
-        extended_block(alloc, second, &letter, from, label)
+        self.graphs.write_letter(second, label);
+        self.take_letter(OWN, label)
+    }
+
+    /// Remembers the number of the graph that stands for that of the letter as that of its own graph, if it is that graph.
+    fn note_own(&mut self, second: &Auto, label: u32, number: u32)
+        requires within { number < length self.old.graphs.items }
+        requires stock { (keeping : Keeping) × IsStock second.now keeping self.old }
+        ensures graphs { self.new.graphs ≡ self.old.graphs }
+        ensures stock { (keeping : Keeping) → IsStock second.now keeping self.old → IsStock second.now keeping self.new }
+    {
+        graph_rows::letter(second, label, &mut self.rows);
+        if is_same(self.graphs.block(number as usize), &self.rows) {
+            self.letters.note(OWN, label, Answer::Number(number));
+        }
+    }
+
+    /// The number of the graph of the letter, minimised by the order.
+    pub fn minimised_letter(
+        &mut self,
+        second: &Auto,
+        order: &Rel,
+        label: u32,
+    ) -> Result<u32, Memory>
+        requires order { IsPreorder second.now.states order.now.pairs }
+        requires size { order.now.size ≡ second.now.states }
+        requires stock { IsStock second.now (MinimisedBy order.now.pairs) self.old }
+        ensures pool { SamePool self.old.graphs self.new.graphs }
+        ensures stock { IfOk result (λ _. IsStock second.now (MinimisedBy order.now.pairs) self.new) }
+        ensures grown { IfOk result (λ _. HasGrown self.old.graphs.items self.new.graphs.items) }
+        ensures is { IfOk result (IsGraphOf second.now (MinimisedBy order.now.pairs) (letter_graph second.now label) self.new.graphs.items) }
+    {
+        if let Some(Answer::Number(number)) = self.letters.find(KEPT, label) {
+            return Ok(number);
+        }
+        self.graphs.write_letter(second, label);
+        self.graphs.minimise(order);
+        let number = self.take_letter(KEPT, label)?;
+        self.note_own(second, label, number);
+        Ok(number)
+    }
+
+    /// Writes the letter's own graph beside the blocks. It is mostly remembered.
+    fn write_rows(&mut self, second: &Auto, label: u32)
+        requires { (keeping : Keeping) × IsStock second.now keeping self.old }
+        ensures graphs { self.new.graphs ≡ self.old.graphs }
+        ensures letters { self.new.letters ≡ self.old.letters }
+        ensures steps { self.new.steps ≡ self.old.steps }
+        ensures rows { IsBlockOf second.now AsTheyAre (letter_graph second.now label) self.new.rows.items }
+    {
+        if let Some(Answer::Number(number)) = self.letters.find(OWN, label) {
+            self.rows
+                .copy_from_slice(self.graphs.block(number as usize));
+        } else {
+            graph_rows::letter(second, label, &mut self.rows);
+        }
+    }
+
+    /// Writes the graph with this number, extended by the letter, into the fresh block.
+    fn write_extended(&mut self, second: &Auto, from: u32, label: u32)
+        requires stock { (keeping : Keeping) × IsStock second.now keeping self.old }
+        requires formed { IsFormed second.now.states (block_at self.old.graphs.items from) }
+        ensures pool { SamePool self.old.graphs self.new.graphs }
+        ensures items { self.new.graphs.items ≡ self.old.graphs.items }
+        ensures letters { self.new.letters ≡ self.old.letters }
+        ensures steps { self.new.steps ≡ self.old.steps }
+        ensures rows { length self.new.rows.items ≡ self.old.graphs.size }
+        ensures fresh { IsBlockOf second.now AsTheyAre (extended second.now (block_graph second.now.states (block_at self.old.graphs.items from)) label) self.new.graphs.fresh }
+    {
+        self.write_rows(second, label);
+        self.graphs.write_extension(second, label, &self.rows, from);
     }
 
     /// Makes room for more extensions, where many graphs have come.
     fn make_room(&mut self, alloc: Global) -> Result<(), Memory>
-        ensures graphs { IfOk result (λ _. self.new.graphs ≡ self.old.graphs) }
-        ensures letters { IfOk result (λ _. self.new.letters ≡ self.old.letters) }
+        ensures graphs { self.new.graphs ≡ self.old.graphs }
+        ensures letters { self.new.letters ≡ self.old.letters }
+        ensures rows { self.new.rows ≡ self.old.rows }
         ensures steps { IfOk result (λ _. HasNoOther self.old.steps.told.items self.new.steps.told.items) }
     {
         let places = self.steps.told.len();
@@ -219,6 +273,21 @@ impl Graphs {
             self.steps.grow(alloc, MOST_STEPS.min(places * 8))?;
         }
         Ok(())
+    }
+
+    /// Gives the graph in the fresh block, which stands for the graph `from` extended by the letter, its number, and remembers it.
+    fn take_step(&mut self, alloc: Global, from: u32, label: u32) -> Result<u32, Memory>
+        ensures pool { SamePool self.old.graphs self.new.graphs }
+        ensures stock { IfOk result (λ _. (B : Automaton) (keeping : Keeping) → IsStock B keeping self.old → IsFormed B.states (block_at self.old.graphs.items from)
+            → IsBlockOf B keeping (extended B (block_graph B.states (block_at self.old.graphs.items from)) label) self.old.graphs.fresh → IsStock B keeping self.new) }
+        ensures grown { IfOk result (λ _. HasGrown self.old.graphs.items self.new.graphs.items) }
+        ensures is { IfOk result (λ k. (B : Automaton) (keeping : Keeping) → IsBlockOf B keeping (extended B (block_graph B.states (block_at self.old.graphs.items from)) label) self.old.graphs.fresh
+            → IsGraphOf B keeping (extended B (block_graph B.states (block_at self.old.graphs.items from)) label) self.new.graphs.items k) }
+    {
+        let number = self.number_of_fresh()?;
+        self.make_room(alloc)?;
+        self.steps.note(from, label, Answer::Number(number));
+        Ok(number)
     }
 
     /// The number of the graph, extended by the letter.
@@ -229,22 +298,52 @@ impl Graphs {
         from: u32,
         label: u32,
     ) -> Result<u32, Memory>
-        requires stock { IsStock second.now self.old }
+        requires stock { IsStock second.now AsTheyAre self.old }
         requires formed { IsFormed second.now.states (block_at self.old.graphs.items from) }
-        ensures stock { IfOk result (λ _. IsStock second.now self.new) }
+        ensures pool { SamePool self.old.graphs self.new.graphs }
+        ensures stock { IfOk result (λ _. IsStock second.now AsTheyAre self.new) }
         ensures grown { IfOk result (λ _. HasGrown self.old.graphs.items self.new.graphs.items) }
-        ensures is { IfOk result (IsGraphOf second.now (extended second.now (block_graph second.now.states (block_at self.old.graphs.items from)) label) self.new.graphs.items) }
+        ensures is { IfOk result (IsGraphOf second.now AsTheyAre (extended second.now (block_graph second.now.states (block_at self.old.graphs.items from)) label) self.new.graphs.items) }
     {
         if let Some(Answer::Number(number)) = self.steps.find(from, label) {
             return Ok(number);
         }
-        let block = self.extended(alloc, second, from, label)?;
-        let is_there = (from as usize) < self.graphs.len();
-        let number = self.number_of(block)?;
-        if is_there {
-            self.make_room(alloc)?;
-            self.steps.note(from, label, Answer::Number(number));
+        self.write_extended(second, from, label);
+        self.take_step(alloc, from, label)
+    }
+
+    /// The number of the graph, extended by the letter and minimised by the order.
+    pub fn minimised_after(
+        &mut self,
+        alloc: Global,
+        second: &Auto,
+        order: &Rel,
+        from: u32,
+        label: u32,
+    ) -> Result<u32, Memory>
+        requires order { IsPreorder second.now.states order.now.pairs }
+        requires size { order.now.size ≡ second.now.states }
+        requires stock { IsStock second.now (MinimisedBy order.now.pairs) self.old }
+        requires formed { IsFormed second.now.states (block_at self.old.graphs.items from) }
+        ensures pool { SamePool self.old.graphs self.new.graphs }
+        ensures stock { IfOk result (λ _. IsStock second.now (MinimisedBy order.now.pairs) self.new) }
+        ensures grown { IfOk result (λ _. HasGrown self.old.graphs.items self.new.graphs.items) }
+        ensures is { IfOk result (IsGraphOf second.now (MinimisedBy order.now.pairs) (extended second.now (block_graph second.now.states (block_at self.old.graphs.items from)) label) self.new.graphs.items) }
+    {
+        if let Some(Answer::Number(number)) = self.steps.find(from, label) {
+            return Ok(number);
         }
-        Ok(number)
+        self.write_extended(second, from, label);
+        self.graphs.minimise(order);
+        self.take_step(alloc, from, label)
+    }
+
+    /// The pool, all blocks of graphs given back.
+    pub fn into_pool(self) -> Pool
+        ensures size { result.size ≡ self.graphs.size }
+        ensures blocks { result.blocks ≡ self.graphs.rest }
+        ensures free { length self.graphs.items < result.spare }
+    {
+        self.graphs.into_pool()
     }
 }

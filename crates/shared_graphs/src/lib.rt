@@ -2,7 +2,9 @@
 #![tactic(auto)]
 
 mod coverings;
+mod equality;
 mod glimpses;
+mod graph_blocks;
 mod graph_pairs;
 mod graphs;
 mod looping;
@@ -10,7 +12,8 @@ mod memo;
 
 pub use coverings::{Coverings, subsumes};
 pub use glimpses::Glimpse;
+pub use graph_blocks::GraphBlocks;
 pub use graph_pairs::GraphPairs;
-pub use graphs::{Graph, Graphs, block_of};
+pub use graphs::{Graphs, Link};
 pub use looping::marked_row;
 pub use memo::{Answer, Memo, Told};

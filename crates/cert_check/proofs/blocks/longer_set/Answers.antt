@@ -1,8 +1,7 @@
-use Rattle.std.proofs.Common.{ℕ, ◌≡◌, ◌↔◌, List, ap, ◌∙◌, subst}
+use Rattle.std.proofs.Common.{IfOk, ℕ, ◌≡◌, ◌↔◌, List, ◌∙◌, subst}
 use Rattle.auto_core.specs.Rows.{HasBit}
 use Rattle.auto_core.specs.Pairs.{set_after}
 use Rattle.auto_core.specs.declared.parts.Mode.TheVariants.{Finite}
-use Rattle.shared_graphs.specs.declared.graphs.Graph.{Graph}
 use Rattle.shared_graphs.specs.declared.graphs.Graphs.{Graphs}
 use Rattle.shared_graphs.specs.Graphs.{block_at, HasNumber}
 use Rattle.cert_check.specs.Supers.{IsLonger}
@@ -17,8 +16,9 @@ returns c =
     let n : ℕ = c.args.number in
     let a : ℕ = c.args.label in
     let row : List ℕ = c.in_ok-set.set.items in
-    let from : c.block_of.result.now ≡ block_at old.graphs.items n = c.block_of.ensures ∙ ap (λ (g : List Graph). block_at g n) c.deref.ensures.value in
+    let from : c.block.result.now ≡ block_at old.graphs.items n = c.block.ensures in
     let after : (q : ℕ) → HasBit row q ↔ set_after B (HasBit (block_at old.graphs.items n)) a q =
     subst (λ (b : List ℕ). (q : ℕ) → HasBit row q ↔ set_after B (HasBit b) a q) from c.in_ok-set.ensures.members in
     if_ok_as c.number_of.result (HasNumber row old new) (IsLonger Finite B old new n a)
-    (λ k has. set_longer B old new n a k row c.requires.stock has c.in_ok-set.ensures.row after) c.number_of.ensures
+    (λ k has. set_longer B old new n a k row (c.number_of.ensures.pool.0 ∙ c.requires.stock) has c.in_ok-set.ensures.row after)
+    (subst (λ (r : List ℕ). IfOk c.number_of.result (HasNumber r old new)) c.deref.ensures.value c.number_of.ensures.number)

@@ -16,8 +16,8 @@ returns-in-Buchi-clause-told c = λ A B v w size s t.
     let S : List (ℕ × ℕ) = c.args.order.now.rel.pairs in
     let x = c.args.x.now.arc in
     let y = c.args.y.now.arc in
-    let g : List ℕ = block_at c.args.graphs.now c.args.x.now.number in
-    let h : List ℕ = block_at c.args.graphs.now c.args.y.now.number in
+    let g : List ℕ = block_at c.args.graphs.now.items c.args.x.now.number in
+    let h : List ℕ = block_at c.args.graphs.now.items c.args.y.now.number in
     let from : StandFor Buchi A B x g v = subst (λ (m : Mode). StandFor m A B x g v) c.in-Buchi.is s in
     let to : StandFor Buchi A B y h w = subst (λ (m : Mode). StandFor m A B y h w) c.in-Buchi.is t in
     let asked : IsTrue c.subsumes.result ↔ Subsumes (Holds S) (with_graph x (block_graph B.states g)) (with_graph y (block_graph B.states h)) =
@@ -30,10 +30,10 @@ returns-in-Finite-clause-told c = λ A B v w size s t.
     let S : List (ℕ × ℕ) = c.args.order.now.rel.pairs in
     let x = c.args.x.now.arc in
     let y = c.args.y.now.arc in
-    let g : List ℕ = block_at c.args.graphs.now c.args.x.now.number in
-    let h : List ℕ = block_at c.args.graphs.now c.args.y.now.number in
-    let from : StandFor Finite A B x c.block_of.result.now v =
-    subst (λ b. StandFor Finite A B x b v) (sym c.block_of.ensures) (subst (λ (m : Mode). StandFor m A B x g v) c.in-Finite.is s) in
-    let to : StandFor Finite A B y c.block_of-in-Finite.result.now w =
-    subst (λ b. StandFor Finite A B y b w) (sym c.block_of-in-Finite.ensures) (subst (λ (m : Mode). StandFor m A B y h w) c.in-Finite.is t) in
+    let g : List ℕ = block_at c.args.graphs.now.items c.args.x.now.number in
+    let h : List ℕ = block_at c.args.graphs.now.items c.args.y.now.number in
+    let from : StandFor Finite A B x c.block.result.now v =
+    subst (λ b. StandFor Finite A B x b v) (sym c.block.ensures) (subst (λ (m : Mode). StandFor m A B x g v) c.in-Finite.is s) in
+    let to : StandFor Finite A B y c.block-in-Finite.result.now w =
+    subst (λ b. StandFor Finite A B y b w) (sym c.block-in-Finite.ensures) (subst (λ (m : Mode). StandFor m A B y h w) c.in-Finite.is t) in
     subst (λ (m : Mode). IsTrue c.subsumes_set.result ↔ SubsumesIn m B S v w) (sym c.in-Finite.is) (c.subsumes_set.ensures A B v w size from to)

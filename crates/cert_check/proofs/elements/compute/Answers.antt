@@ -8,7 +8,7 @@ use Rattle.shared_graphs.specs.declared.graphs.Graphs.{Graphs}
 use Rattle.shared_graphs.specs.Graphs.{block_at}
 use Rattle.cert_value.specs.WellFormed.{is_origin}
 use Rattle.cert_check.specs.Inclusion.{element_arcs, HasEarlierParent, GoesOn}
-use Rattle.cert_check.specs.Supers.{StandFor, IsGraphNumbered}
+use Rattle.cert_check.specs.Supers.{IsStockIn, StandFor, IsGraphNumbered}
 use Rattle.cert_check.specs.declared.blocks.Numbered.{Numbered}
 use Rattle.cert_check.proofs.PlaceLemmas.{is_finite, is_buchi}
 use Rattle.cert_check.proofs.SuperLemmas.{if_ok_as}
@@ -22,6 +22,18 @@ parent_stands c =
     let earlier : p < c.args.e = subst (λ (o : Origin). HasEarlierParent c.args.e o) c.in-Next.is c.requires.earlier in
     subst (λ (n : Numbered). StandFor c.args.mode c.args.first.now c.args.second.now n.arc (block_at c.args.supers.now.graphs.graphs.items n.number) (arc_at c.args.first.now (element_arcs c.args.first.now c.args.elements.now) p)) (sym c.element-parent.ensures)
     (c.requires.supers.each p earlier)
+
+pub start-requires : goal.start-requires
+start-requires c =
+    let m : Mode = c.args.mode in
+    let fin : m ≡ Finite = is_finite m (subst (λ (o : Origin). is_origin m o ≡ true) c.in-Start.is c.requires.begun) in
+    subst (λ (k : Mode). IsStockIn k c.args.second.now c.args.supers.now.graphs) fin c.requires.supers.stock
+
+pub base-requires-clause-stock : goal.base-requires-clause-stock
+base-requires-clause-stock c =
+    let m : Mode = c.args.mode in
+    let buchi : m ≡ Buchi = is_buchi m c.in-Base.t (subst (λ (o : Origin). is_origin m o ≡ true) c.in-Base.is c.requires.begun) in
+    subst (λ (k : Mode). IsStockIn k c.args.second.now c.args.supers.now.graphs) buchi c.requires.supers.stock
 
 pub returns-in-Start-clause-numbered : goal.returns-in-Start-clause-numbered
 returns-in-Start-clause-numbered c =

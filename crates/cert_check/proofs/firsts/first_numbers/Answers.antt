@@ -1,18 +1,16 @@
-use Rattle.std.proofs.Common.{◌≡◌, ℕ, ◌+◌, List, [], ◌∷◌, length, sym, ap, ◌∙◌, subst, arith, length-append}
-use Rattle.shared_graphs.specs.declared.graphs.Graph.{Graph}
+use Rattle.std.proofs.Common.{ℕ, ◌+◌, List, [], ◌∷◌, length, ap, ◌∙◌, subst, arith, length-append}
 use Rattle.shared_graphs.specs.Graphs.{block_at}
 use Rattle.cert_check.specs.Firsts.{IsBlockKnown}
-use Rattle.cert_check.proofs.FirstLemmas.{block_is, held_more, told_more, firsts_told}
+use Rattle.cert_check.proofs.FirstLemmas.{held_more, told_more, firsts_told}
 use Rattle.cert_check.proofs.firsts.first_numbers.Goals as goal
 
 pub loop-k-preserved : goal.loop-k-preserved
 loop-k-preserved c =
-    let G : List Graph = c.args.graphs.now in
+    let G : List (List ℕ) = c.args.graphs.now.items in
     let k : ℕ = c.loop-k.k in
     let first : ℕ = c.in_ok-first.first in
-    let block : c.deref.result.now ≡ block_at G k = c.deref.ensures.value ∙ ap (λ (g : Graph). g.block.items) (sym c.index-graphs-k.is) ∙ sym (block_is G k c.index-graphs-k.result c.loop-k-test.true c.index-graphs-k.is) in
     let known : IsBlockKnown c.loop-k.known c.known_number.new.known (block_at G k) k first =
-    subst (λ b. IsBlockKnown c.loop-k.known c.known_number.new.known b k first) block c.in_ok-first.ensures in
+    subst (λ b. IsBlockKnown c.loop-k.known c.known_number.new.known b k first) c.block.ensures c.in_ok-first.ensures in
     record {
       size = ap length c.in_ok-push.ensures.items ∙ length-append c.loop-k.firsts.items (first ∷ []) ∙ ap (λ n. n + 1) c.loop-k.invariant.size;
       held = held_more G c.loop-k.known c.known_number.new.known k first c.loop-k.invariant.held known;
@@ -21,5 +19,5 @@ loop-k-preserved c =
 
 pub returns-clause-firsts : goal.returns-clause-firsts
 returns-clause-firsts c =
-    firsts_told c.args.graphs.now c.loop-k.known c.loop-k.firsts.items c.loop-k.invariant.held
+    firsts_told c.args.graphs.now.items c.loop-k.known c.loop-k.firsts.items c.loop-k.invariant.held
     (λ j lt. c.loop-k.invariant.told j (omega (arith, lt, c.loop-k-test.false)))

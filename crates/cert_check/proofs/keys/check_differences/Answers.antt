@@ -7,7 +7,6 @@ use Rattle.cert_check.specs.Listing.{difference_checks}
 use Rattle.cert_check.specs.declared.elements.Supers.{Supers}
 use Rattle.cert_check.specs.Supers.{held_block, key_at, Fit, has_key}
 use Rattle.cert_check.specs.Firsts.{AreFirsts}
-use Rattle.shared_graphs.specs.declared.graphs.Graph.{Graph}
 use Rattle.log_check.proofs.CheckLemmas.{more_of, broken_of}
 use Rattle.cert_check.proofs.KeyLemmas.{differs_by_keys, same_by_keys}
 use Rattle.cert_check.proofs.keys.check_differences.Goals as goal
@@ -23,9 +22,9 @@ loop-e-preserved c =
     let inv = c.loop-e.invariant in
     let lt : e < length es = omega (arith, c.loop-e-test.true, ap length c.as_slice-items.ensures) in
     let F : List ℕ = c.in_ok-firsts.firsts.items in
-    let apart : AreFirsts S.graphs.graphs.items F = subst (λ (l : List Graph). AreFirsts l F) c.deref.ensures.value c.in_ok-firsts.ensures.firsts in
+    let apart : AreFirsts S.graphs.graphs.items F = c.in_ok-firsts.ensures.firsts in
     let K : ℕ → List ℕ = key_at m S F in
-    let key_is : c.key_from-key.result ≡ K e = c.key_from-key.ensures.key ∙ ap (λ (l : List ℕ). key_at m S l e) c.deref-in-loop-e.ensures.value in
+    let key_is : c.key_from-key.result ≡ K e = c.key_from-key.ensures.key ∙ ap (λ (l : List ℕ). key_at m S l e) c.deref.ensures.value in
     let fit : Fit (held_block S e) = c.key_from-key.ensures.fits in
     let missing : has_key c.loop-e.seen c.key_from-key.result ≡ false = search rules in
     let new = differs_by_keys m A B es S c.requires.supers F apart e lt inv.fits fit
@@ -59,9 +58,9 @@ returns-then-not-branch c =
     let inv = c.loop-e.invariant in
     let lt : e < length es = omega (arith, c.loop-e-test.true, ap length c.as_slice-items.ensures) in
     let F : List ℕ = c.in_ok-firsts.firsts.items in
-    let apart : AreFirsts S.graphs.graphs.items F = subst (λ (l : List Graph). AreFirsts l F) c.deref.ensures.value c.in_ok-firsts.ensures.firsts in
+    let apart : AreFirsts S.graphs.graphs.items F = c.in_ok-firsts.ensures.firsts in
     let K : ℕ → List ℕ = key_at m S F in
-    let key_is : c.key_from-key.result ≡ K e = c.key_from-key.ensures.key ∙ ap (λ (l : List ℕ). key_at m S l e) c.deref-in-loop-e.ensures.value in
+    let key_is : c.key_from-key.result ≡ K e = c.key_from-key.ensures.key ∙ ap (λ (l : List ℕ). key_at m S l e) c.deref.ensures.value in
     let there : has_key c.loop-e.seen c.key_from-key.result ≡ true = search rules in
     let (d, before, is) = (inv.seen c.key_from-key.result).0 there in
     broken_of (difference_checks m A B es c.args.item) e es c.as_slice-items.result.now no_element (record { rule = 18; item = c.args.item + e }) c.as_slice-items.ensures c.loop-e-test.true inv.told

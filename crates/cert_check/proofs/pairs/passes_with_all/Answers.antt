@@ -2,24 +2,21 @@ use Rattle.std.proofs.Common.{ℕ, ◌≡◌, ◌<◌, ◌↔◌, ◌∷◌, [],
 use Rattle.auto_core.specs.Automaton.{Automaton}
 use Rattle.auto_core.specs.Graph.{arc_at}
 use Rattle.auto_core.specs.declared.parts.Mode.TheVariants.{Buchi}
-use Rattle.graph_rows.specs.Block.{IsFormed}
-use Rattle.shared_graphs.specs.declared.graphs.Graph.{Graph}
-use Rattle.shared_graphs.specs.Graphs.{block_at}
 use Rattle.evidence.specs.Tables.{numbers_at}
 use Rattle.evidence.proofs.TableLemmas.{numbers_is}
 use Rattle.cert_value.specs.declared.types.YesBody.{YesBody}
 use Rattle.cert_check.specs.Inclusion.{element_arcs, live_in}
 use Rattle.cert_check.specs.Supers.{held_arc, held_block, held_number, has_key}
-use Rattle.cert_check.specs.Turns.{IsTurnAt, HasLassos, AreLoops}
+use Rattle.cert_check.specs.Turns.{IsTurnAt, HasLassos}
 use Rattle.cert_check.specs.declared.blocks.Numbered.{Numbered}
 use Rattle.cert_check.specs.declared.elements.Supers.{Supers}
 use Rattle.cert_check.proofs.SuperLemmas.{held_ends}
 use Rattle.cert_check.proofs.PairLemmas.{keys_more, passes_told, turn_formed, turn_within, lassos_named}
 use Rattle.cert_check.proofs.pairs.passes_with_all.Goals as goal
-use Rattle.cert_check.proofs.pairs.passes_with_all.Goals.{After-deref-2, In_ok-holds}
+use Rattle.cert_check.proofs.pairs.passes_with_all.Goals.{After-deref, In_ok-holds}
 
 -- A number of the list is that of a turn at the state.
-turn_at : (c : goal.After-deref-2) (h : ℕ) → Contains c.deref-2.result.now h → IsTurnAt c.args.evidence.now c.args.supers.now (length c.args.evidence.now.elements) c.element-it.result.arc.to h
+turn_at : (c : goal.After-deref) (h : ℕ) → Contains c.deref.result.now h → IsTurnAt c.args.evidence.now c.args.supers.now (length c.args.evidence.now.elements) c.element-it.result.arc.to h
 turn_at c h there =
     let A : Automaton = c.args.first.now in
     let su : Supers = c.args.supers.now in
@@ -29,8 +26,8 @@ turn_at c h there =
     held_ends Buchi A c.args.second.now (held_arc su e) (held_block su e) (arc_at A (element_arcs A c.args.evidence.now.elements) e) c.initial.ensures.valid (c.requires.supers.each e c.requires.element) in
     let to : p ≡ (held_arc su e).to = ap (λ (m : Numbered). m.arc.to) c.element-it.ensures in
     let within : p < length c.args.turns.now = omega (arith, ends, to, c.requires.turns.count) in
-    let list : c.deref-2.result.now ≡ numbers_at c.args.turns.now p =
-    c.deref-2.ensures.value ∙ sym (numbers_is c.args.turns.now p c.index-turns-it.result within c.index-turns-it.is) in
+    let list : c.deref.result.now ≡ numbers_at c.args.turns.now p =
+    c.deref.ensures.value ∙ sym (numbers_is c.args.turns.now p c.index-turns-it.result within c.index-turns-it.is) in
     c.requires.turns.only p h (subst (λ (l : List ℕ). Contains l h) list there)
 
 -- Whether the element has its lassos.
@@ -47,10 +44,10 @@ asked c =
     held_ends Buchi A B (held_arc su e) (held_block su e) (arc_at A (element_arcs A ev.elements) e) c.initial.ensures.valid (c.requires.supers.each e c.requires.element) in
     let to_is : p ≡ to = ap (λ (m : Numbered). m.arc.to) c.element-it.ensures in
     let within : p < length c.args.turns.now = omega (arith, ends, to_is, c.requires.turns.count) in
-    let list : c.deref-2.result.now ≡ numbers_at c.args.turns.now to =
-    c.deref-2.ensures.value ∙ sym (numbers_is c.args.turns.now p c.index-turns-it.result within c.index-turns-it.is) ∙ ap (numbers_at c.args.turns.now) to_is in
-    lassos_named B c.deref.result.now su.graphs.graphs.items c.element-it.result.number (held_number su e) c.deref-2.result.now (numbers_at c.args.turns.now to) c.in_ok-holds.holds
-    c.deref.ensures.value (ap (λ (m : Numbered). m.number) c.element-it.ensures) list c.in_ok-holds.ensures.told
+    let list : c.deref.result.now ≡ numbers_at c.args.turns.now to =
+    c.deref.ensures.value ∙ sym (numbers_is c.args.turns.now p c.index-turns-it.result within c.index-turns-it.is) ∙ ap (numbers_at c.args.turns.now) to_is in
+    lassos_named B su.graphs.graphs.items su.graphs.graphs.items c.element-it.result.number (held_number su e) c.deref.result.now (numbers_at c.args.turns.now to) c.in_ok-holds.holds
+    refl (ap (λ (m : Numbered). m.number) c.element-it.ensures) list c.in_ok-holds.ensures.told
 
 pub returns-then-not-branch-clause-told : goal.returns-then-not-branch-clause-told
 returns-then-not-branch-clause-told c =
@@ -97,11 +94,11 @@ bounds-turns-it c =
 pub has_lassos-requires-clause-others : goal.has_lassos-requires-clause-others
 has_lassos-requires-clause-others c = λ h there.
     let p : ℕ = c.element-it.result.arc.to in
-    subst (λ (l : List Graph). IsFormed c.args.second.now.states (block_at l h)) (sym c.deref.ensures.value) (turn_formed c.args.first.now c.args.second.now c.args.evidence.now c.args.supers.now c.requires.supers p h (turn_at (goal.at.has_lassos-requires-clause-others c).After-deref-2 h there))
+    (turn_formed c.args.first.now c.args.second.now c.args.evidence.now c.args.supers.now c.requires.supers p h (turn_at (goal.at.has_lassos-requires-clause-others c).After-deref h there))
 
 pub has_lassos-requires-clause-there : goal.has_lassos-requires-clause-there
 has_lassos-requires-clause-there c = λ h there.
-    let turn = turn_at (goal.at.has_lassos-requires-clause-there c).After-deref-2 h there in
+    let turn = turn_at (goal.at.has_lassos-requires-clause-there c).After-deref h there in
     let small : h < length c.args.supers.now.graphs.graphs.items = turn_within c.args.first.now c.args.second.now c.args.evidence.now c.args.supers.now c.requires.supers c.element-it.result.arc.to h turn in
     omega (arith, small, c.requires.tests.size)
 
@@ -128,7 +125,7 @@ returns-clause-tests c = λ is.
     record {
       passed = keys_more (λ q g. HasLassos B su.graphs.graphs.items g (numbers_at c.args.turns.now q)) c.args.tests.now.passed c.is_new.new.seen c.pair_key-key.result to (held_number su e) key_is
           c.in_ok-is_new.ensures.added ((asked (goal.at.returns-clause-tests c).In_ok-holds).0 is) c.requires.tests.passed;
-      loops = subst (λ (l : List Graph). AreLoops B.states l c.has_lassos.new.loops.items) c.deref.ensures.value c.in_ok-holds.ensures.loops;
+      loops = c.in_ok-holds.ensures.loops;
       size = c.in_ok-holds.ensures.size ∙ c.requires.tests.size;
       room = c.in_ok-holds.ensures.room;
     }

@@ -42,15 +42,12 @@ loop-p-preserved c =
 pub returns-clause-own : goal.returns-clause-own
 returns-clause-own c = λ x is j bit.
     let (p, q, left, right, at, has) = c.loop-p.invariant.own j (subst (λ l. HasBit l j) (sym is) bit) in
-    (false, p, q, inl (c.requires.few, left, right, refl, at), has)
+    (false, p, q, (c.requires.few, left, right, refl, at), has)
 
 pub returns-clause-answered : goal.returns-clause-answered
 returns-clause-answered c = λ x is j past p q within none asked u has rel.
     let g : Graph = block_graph c.args.order.now.size c.args.g.now in
-    elim asked [
-      | inl (few, left, right, past_is, at) ↦
-          c.loop-p.invariant.answered p q (omega (arith, left, c.loop-p-test.false, c.size-p-end.ensures.count)) right
-          (subst (λ z. bit_of c.loop-p.answered z ≡ false) (sym at) (subst (λ l. bit_of l j ≡ false) (sym is) none)) u
-          (subst (λ b. joined_pairs g b p u) past_is has) rel
-      | inr picked ↦ absurd (omega (arith, picked.0, c.requires.few))
-    ]
+    let (few, left, right, past_is, at) = asked in
+    c.loop-p.invariant.answered p q (omega (arith, left, c.loop-p-test.false, c.size-p-end.ensures.count)) right
+    (subst (λ z. bit_of c.loop-p.answered z ≡ false) (sym at) (subst (λ l. bit_of l j ≡ false) (sym is) none)) u
+    (subst (λ b. joined_pairs g b p u) past_is has) rel

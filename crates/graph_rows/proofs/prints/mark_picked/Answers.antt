@@ -1,4 +1,4 @@
-use Rattle.std.proofs.Common.{◌≡◌, ℕ, ◌+◌, ◌<◌, inl, inr, false, length, refl, subst, sym, ap, ◌∙◌, arith}
+use Rattle.std.proofs.Common.{◌≡◌, ℕ, ◌+◌, ◌<◌, false, length, refl, subst, sym, ap, ◌∙◌, arith}
 use Rattle.auto_core.specs.Rows.{HasBit, bit_of}
 use Rattle.auto_core.specs.Game.{Holds}
 use Rattle.auto_core.specs.Graph.{Graph}
@@ -46,17 +46,14 @@ loop-j-preserved c =
 pub returns-clause-own : goal.returns-clause-own
 returns-clause-own c = λ x is j bit.
     let n : ℕ = c.args.order.now.size in
-    (is_past j, picked_source n j, picked_target n j, inr (c.requires.many, refl, refl, refl), c.loop-j.invariant.0 j (subst (λ l. HasBit l j) (sym is) bit))
+    (is_past j, picked_source n j, picked_target n j, (c.requires.some, refl, refl, refl), c.loop-j.invariant.0 j (subst (λ l. HasBit l j) (sym is) bit))
 
 pub returns-clause-answered : goal.returns-clause-answered
 returns-clause-answered c = λ x is j past p q within none asked u has rel.
     let n : ℕ = c.args.order.now.size in
     let g : Graph = block_graph n c.args.g.now in
     let S : ℕ → ℕ → Type 0 = Holds c.args.order.now.pairs in
-    elim asked [
-      | inl few ↦ absurd (omega (arith, few.0, c.requires.many))
-      | inr (many, past_is, p_is, q_is) ↦
-          c.loop-j.invariant.1 j (omega (arith, within)) (subst (λ l. bit_of l j ≡ false) (sym is) none) u
-          (subst (λ b. joined_pairs g b (picked_source n j) u) past_is (subst (λ s. joined_pairs g past s u) p_is has))
-          (subst (λ t. S t u) q_is rel)
-    ]
+    let (some, past_is, p_is, q_is) = asked in
+    c.loop-j.invariant.1 j (omega (arith, within)) (subst (λ l. bit_of l j ≡ false) (sym is) none) u
+    (subst (λ b. joined_pairs g b (picked_source n j) u) past_is (subst (λ s. joined_pairs g past s u) p_is has))
+    (subst (λ t. S t u) q_is rel)

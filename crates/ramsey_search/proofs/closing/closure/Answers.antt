@@ -7,7 +7,6 @@ use Rattle.auto_core.specs.Outcome.{At, HasSubsumer, next_entry, supergraph_rule
 use Rattle.search_laws.proofs.PlaceLemmas.{at_within}
 use Rattle.search_laws.proofs.ListLemmas.{at_map}
 use Rattle.ramsey_search.specs.declared.family.Family.{Family}
-use Rattle.shared_graphs.specs.declared.graphs.Graph.{Graph}
 use Rattle.shared_graphs.specs.GraphPairs.{AreCoverings}
 use Rattle.ramsey_search.specs.Views.{View, seen, view}
 use Rattle.ramsey_search.specs.Marks.{AreMarked, LiveCoverThemselves}
@@ -19,6 +18,7 @@ use Rattle.ramsey_search.proofs.ClosureLemmas.{starts_have, steps_have, dropped_
 use Rattle.evidence.specs.Evidence.{IsStepOf}
 use Rattle.evidence.specs.declared.parts.Closure.{Closure}
 use Rattle.ramsey_search.proofs.ClosingLemmas.{closure_is, marked_flags}
+use Rattle.shared_graphs.proofs.GraphsLemmas.{grown_more}
 use Rattle.ramsey_search.proofs.closing.closure.Goals as goal
 
 pub elements-requires : goal.elements-requires
@@ -28,7 +28,7 @@ elements-requires c =
     let S : List (ℕ × ℕ) = c.args.order.now.pairs in
     let n : ℕ = c.args.order.now.size in
     let f : Family = c.args.family.now in
-    let g : List Graph = c.args.graphs.now.graphs.items in
+    let g : List (List ℕ) = c.args.graphs.now.graphs.items in
     let v : View = view g f in
     record {
       fits = fits_together A B S n v (entries_held A v) c.requires.order_size c.requires.whole;
@@ -89,12 +89,14 @@ returns c =
     let S : List (ℕ × ℕ) = c.args.order.now.pairs in
     let n : ℕ = c.args.order.now.size in
     let f : Family = c.args.family.now in
-    let g : List Graph = c.args.graphs.now.graphs.items in
+    let g : List (List ℕ) = c.args.graphs.now.graphs.items in
     let stays = whole_stays A B S g c.cover.new.graphs.graphs.items f c.requires.second_valid c.in_ok-cover.ensures.grown c.requires.whole in
     let closure : Closure = record { elements = c.in_ok-elements.elements; cover = c.in_ok-cover.cover; steps = c.in_ok-steps.steps } in
     let count : length f.held.items ≡ length (view g f).held = sym (length-map f.held.items (seen g)) in
     let marked : AreMarked n S (view g f) (length (view g f).held) c.in_ok-elements.elements = subst (λ k. AreMarked n S (view g f) k c.in_ok-elements.elements) count c.in_ok-elements.ensures.elements in
     record {
+      pool = (c.steps.ensures.pool.0 ∙ c.cover.ensures.pool.0, c.steps.ensures.pool.1 ∙ c.cover.ensures.pool.1);
+      grown = grown_more g c.cover.new.graphs.graphs.items c.steps.new.graphs.graphs.items c.in_ok-cover.ensures.grown c.in_ok-steps.ensures.grown;
       evidence = closure_is A B S c.requires.closed.0 c.requires.first_valid c.requires.second_valid c.requires.greatest (view g f) c.requires.whole c.requires.closed.1 n c.requires.order_size closure
           marked c.in_ok-cover.ensures.size c.in_ok-cover.ensures.each
           (c.in_ok-steps.ensures.lines ∙ ap (λ k. filter (λ e. slice_index_or f.live.items e false) (range_with_len 0 k)) count)

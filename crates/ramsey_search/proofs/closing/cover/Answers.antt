@@ -1,11 +1,10 @@
-use Rattle.std.proofs.Common.{◌≡◌, ℕ, ◌<◌, List, [], ◌∷◌, ◌++◌, length, sym, ap, ◌∙◌, subst, inl, inr, arith, length-append}
+use Rattle.std.proofs.Common.{◌≡◌, ℕ, ◌<◌, List, [], ◌∷◌, ◌++◌, length, refl, sym, ap, ◌∙◌, subst, inl, inr, arith, length-append}
 use Rattle.auto_core.specs.Automaton.{Automaton}
 use Rattle.auto_core.specs.Outcome.{At, HasSubsumer, IsLeastSubsumer, base_entry, supergraph_rules}
 use Rattle.graph_rows.specs.Block.{IsFormed}
 use Rattle.search_laws.proofs.PlaceLemmas.{at_within, at_cases}
 use Rattle.ramsey_search.specs.declared.parts.Held.{Held}
 use Rattle.ramsey_search.specs.declared.family.Family.{Family}
-use Rattle.shared_graphs.specs.declared.graphs.Graph.{Graph}
 use Rattle.shared_graphs.specs.GraphPairs.{AreCoverings}
 use Rattle.ramsey_search.specs.Views.{View, seen, view}
 use Rattle.ramsey_search.specs.Marks.{AreMarked, LiveCoverThemselves}
@@ -31,15 +30,16 @@ comes c =
     let A : Automaton = c.args.first.now in
     let size : length c.transitions.result.now ≡ length A.transitions = ap length c.transitions.ensures.list in
     let test = c.loop-t-test.true in
-    let g_now : List Graph = c.base_candidate.new.graphs.graphs.items in
+    let g_now : List (List ℕ) = c.base_candidate.new.graphs.graphs.items in
     base_comes A c.args.second.now c.args.order.now.pairs c.requires.first_valid (entries_held A (view g_now c.args.family.now)) (stays c).1.origins c.loop-t.t (seen g_now c.in_ok-start.start) (omega arith)
-    (c.in_ok-start.ensures.candidate c.args.order.now.pairs c.requires.greatest)
+    c.in_ok-start.ensures.candidate
 
 pub loop-t-init : goal.loop-t-init
 loop-t-init c =
     let S : List (ℕ × ℕ) = c.args.order.now.pairs in
-    let g : List Graph = c.args.graphs.now.graphs.items in
+    let g : List (List ℕ) = c.args.graphs.now.graphs.items in
     record {
+      pool = (refl, refl);
       stock = c.requires.stock;
       told = c.requires.told;
       grown = grown_none g;
@@ -53,7 +53,7 @@ marked_coverer-requires c =
     let A : Automaton = c.args.first.now in
     let S : List (ℕ × ℕ) = c.args.order.now.pairs in
     let f : Family = c.args.family.now in
-    let g_now : List Graph = c.base_candidate.new.graphs.graphs.items in
+    let g_now : List (List ℕ) = c.base_candidate.new.graphs.graphs.items in
     let h : Held = c.in_ok-start.start in
     let size : length c.transitions.result.now ≡ length A.transitions = ap length c.transitions.ensures.list in
     let test = c.loop-t-test.true in
@@ -79,7 +79,7 @@ loop-t-preserved c =
     let A : Automaton = c.args.first.now in
     let B : Automaton = c.args.second.now in
     let S : List (ℕ × ℕ) = c.args.order.now.pairs in
-    let g_now : List Graph = c.base_candidate.new.graphs.graphs.items in
+    let g_now : List (List ℕ) = c.base_candidate.new.graphs.graphs.items in
     let old : View = view c.args.graphs.now.graphs.items c.args.family.now in
     let now : View = view g_now c.args.family.now in
     let y = base_entry A c.loop-t.t in
@@ -93,6 +93,7 @@ loop-t-preserved c =
     let more = length-append c.loop-t.cover (c.marked_coverer.result ∷ []) in
     let total = ap length pushed in
     record {
+      pool = (c.base_candidate.ensures.pool.0 ∙ c.loop-t.invariant.pool.0, c.base_candidate.ensures.pool.1 ∙ c.loop-t.invariant.pool.1);
       stock = c.in_ok-start.ensures.stock;
       told = subst (λ m. AreCoverings m S g_now c.marked_coverer.new.told) c.requires.order_size c.marked_coverer.ensures.told;
       grown = grown_more c.args.graphs.now.graphs.items c.loop-t.graphs.graphs.items g_now c.loop-t.invariant.grown c.in_ok-start.ensures.grown;

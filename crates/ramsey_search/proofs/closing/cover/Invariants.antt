@@ -1,6 +1,7 @@
 use Rattle.std.proofs.Common.{◌≡◌, ℕ, length}
 use Rattle.auto_core.specs.Outcome.{At, IsLeastSubsumer, base_entry, supergraph_rules}
-use Rattle.shared_graphs.specs.Graphs.{IsStock, HasGrown}
+use Rattle.shared_graphs.specs.GraphBlocks.{SamePool}
+use Rattle.shared_graphs.specs.Graphs.{IsStock, MinimisedBy, HasGrown}
 use Rattle.shared_graphs.specs.GraphPairs.{AreCoverings}
 use Rattle.ramsey_search.specs.Views.{view}
 use Rattle.ramsey_search.specs.Kept.{entries_held}
@@ -8,7 +9,8 @@ use Rattle.ramsey_search.proofs.closing.cover.Given as goal
 
 abbrev pub invariant-loop-t : goal.invariant-loop-t
 invariant-loop-t l = record {
-  stock : IsStock l.second l.graphs;
+  pool : SamePool l.initial.graphs.graphs l.graphs.graphs;
+  stock : IsStock l.second (MinimisedBy l.order.pairs) l.graphs;
   told : AreCoverings l.second.states l.order.pairs l.graphs.graphs.items l.told;
   grown : HasGrown l.initial.graphs.graphs.items l.graphs.graphs.items;
   size : length l.cover ≡ l.t;

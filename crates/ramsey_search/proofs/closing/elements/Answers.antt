@@ -5,7 +5,6 @@ use Rattle.cert_value.specs.declared.types.Element.{Element}
 use Rattle.search_laws.proofs.ListLemmas.{at_map}
 use Rattle.ramsey_search.specs.declared.parts.Held.{Held}
 use Rattle.ramsey_search.specs.declared.family.Family.{Family}
-use Rattle.shared_graphs.specs.declared.graphs.Graph.{Graph}
 use Rattle.shared_graphs.specs.declared.coverings.Coverings.{Coverings}
 use Rattle.shared_graphs.specs.GraphPairs.{AreCoverings}
 use Rattle.ramsey_search.specs.Views.{View, seen, view}
@@ -18,7 +17,7 @@ use Rattle.ramsey_search.proofs.closing.elements.Goals.{then-index, else-index}
 pub coverer-requires-clause-formed : goal.coverer-requires-clause-formed
 coverer-requires-clause-formed c =
     let S : List (ℕ × ℕ) = c.args.order.now.pairs in
-    let g : List Graph = c.args.graphs.now.graphs.items in
+    let g : List (List ℕ) = c.args.graphs.now.graphs.items in
     let f : Family = c.args.family.now in
     let v : View = view g f in
     let i : ℕ = c.loop-number.number in
@@ -35,7 +34,7 @@ pub loop-number-preserved : goal.loop-number-preserved
 loop-number-preserved c =
     let S : List (ℕ × ℕ) = c.args.order.now.pairs in
     let n : ℕ = c.args.order.now.size in
-    let g : List Graph = c.args.graphs.now.graphs.items in
+    let g : List (List ℕ) = c.args.graphs.now.graphs.items in
     let f : Family = c.args.family.now in
     let v : View = view g f in
     let i : ℕ = c.loop-number.number in

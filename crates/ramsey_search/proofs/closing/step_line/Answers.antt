@@ -7,7 +7,6 @@ use Rattle.cert_value.specs.declared.types.StepLine.{StepLine}
 use Rattle.search_laws.proofs.PlaceLemmas.{at_within, at_cases}
 use Rattle.ramsey_search.specs.declared.parts.Held.{Held}
 use Rattle.ramsey_search.specs.declared.family.Family.{Family}
-use Rattle.shared_graphs.specs.declared.graphs.Graph.{Graph}
 use Rattle.shared_graphs.specs.GraphPairs.{AreCoverings}
 use Rattle.ramsey_search.specs.Views.{View, seen, view}
 use Rattle.ramsey_search.specs.Marks.{AreMarked, LiveCoverThemselves}
@@ -44,8 +43,8 @@ comes c x x_is =
     let B : Automaton = c.args.second.now in
     let S : List (ℕ × ℕ) = c.args.order.now.pairs in
     let f : Family = c.args.family.now in
-    let g_mid : List Graph = c.loop-t.graphs.graphs.items in
-    let g_now : List Graph = c.next_candidate.new.graphs.graphs.items in
+    let g_mid : List (List ℕ) = c.loop-t.graphs.graphs.items in
+    let g_now : List (List ℕ) = c.next_candidate.new.graphs.graphs.items in
     let mid = whole_stays A B S c.args.graphs.now.graphs.items g_mid f c.requires.second_valid c.loop-t.invariant.grown c.requires.whole in
     let mid_is : At (entries_held A (view g_mid f)) c.args.element x = subst (λ v. At (entries_held A v) c.args.element x) (sym mid.0) x_is in
     let mid_kept : IsKept B S (seen g_mid c.index-from.result.now) x =
@@ -53,12 +52,12 @@ comes c x x_is =
     let now_is : At (entries_held A (view g_now f)) c.args.element x = subst (λ v. At (entries_held A v) c.args.element x) (sym (stays c).0) x_is in
     let step = leaves c x x_is in
     next_comes A B S c.requires.first_valid (entries_held A (view g_now f)) (stays c).1.origins c.args.element c.loop-t.t x (seen g_now c.in_ok-next.next) now_is step.0 step.1
-    (c.in_ok-next.ensures.candidate S x c.requires.greatest mid_kept)
+    (c.in_ok-next.ensures.candidate x mid_kept)
 
 pub outgoing-out-requires : goal.outgoing-out-requires
 outgoing-out-requires c =
     let A : Automaton = c.args.first.now in
-    let g : List Graph = c.args.graphs.now.graphs.items in
+    let g : List (List ℕ) = c.args.graphs.now.graphs.items in
     let from : Held = c.index-from.result.now in
     let x = stands_at A c.args.second.now c.args.order.now.pairs g c.args.family.now c.args.element from c.requires.whole c.requires.element c.index-from.ensures in
     (held_in_range A c.args.second.now c.args.order.now.pairs c.requires.first_valid (entries_held A (view g c.args.family.now)) c.requires.whole.origins c.args.element x.entry (seen g from) x.is x.kept).1
@@ -66,8 +65,9 @@ outgoing-out-requires c =
 pub loop-t-init : goal.loop-t-init
 loop-t-init c =
     let S : List (ℕ × ℕ) = c.args.order.now.pairs in
-    let g : List Graph = c.args.graphs.now.graphs.items in
+    let g : List (List ℕ) = c.args.graphs.now.graphs.items in
     record {
+      pool = (refl, refl);
       stock = c.requires.stock;
       told = c.requires.told;
       grown = grown_none g;
@@ -80,7 +80,7 @@ next_candidate-requires-clause-formed c =
     let A : Automaton = c.args.first.now in
     let B : Automaton = c.args.second.now in
     let S : List (ℕ × ℕ) = c.args.order.now.pairs in
-    let g_mid : List Graph = c.loop-t.graphs.graphs.items in
+    let g_mid : List (List ℕ) = c.loop-t.graphs.graphs.items in
     let mid = whole_stays A B S c.args.graphs.now.graphs.items g_mid c.args.family.now c.requires.second_valid c.loop-t.invariant.grown c.requires.whole in
     (stands_at A B S g_mid c.args.family.now c.args.element c.index-from.result.now mid.1 c.requires.element c.index-from.ensures).kept.formed
 
@@ -90,7 +90,7 @@ marked_coverer-requires c =
     let A : Automaton = c.args.first.now in
     let S : List (ℕ × ℕ) = c.args.order.now.pairs in
     let f : Family = c.args.family.now in
-    let g_now : List Graph = c.next_candidate.new.graphs.graphs.items in
+    let g_now : List (List ℕ) = c.next_candidate.new.graphs.graphs.items in
     let h : Held = c.in_ok-next.next in
     let x = stands_at A c.args.second.now S c.args.graphs.now.graphs.items f c.args.element c.index-from.result.now c.requires.whole c.requires.element c.index-from.ensures in
     let step = leaves path x.entry x.is in
@@ -118,7 +118,7 @@ loop-t-preserved c =
     let e : ℕ = c.args.element in
     let t : ℕ = c.loop-t.t in
     let begin : ℕ = c.outgoing-out.result.begin in
-    let g_now : List Graph = c.next_candidate.new.graphs.graphs.items in
+    let g_now : List (List ℕ) = c.next_candidate.new.graphs.graphs.items in
     let es : List Entry = entries_held A (view c.args.graphs.now.graphs.items c.args.family.now) in
     let now : View = view g_now c.args.family.now in
     let pushed : c.push.new.self ≡ c.loop-t.by ++ c.marked_coverer.result ∷ [] = c.in_ok-push.ensures.ok in
@@ -126,6 +126,7 @@ loop-t-preserved c =
     let more = length-append c.loop-t.by (c.marked_coverer.result ∷ []) in
     let total = ap length pushed in
     record {
+      pool = (c.next_candidate.ensures.pool.0 ∙ c.loop-t.invariant.pool.0, c.next_candidate.ensures.pool.1 ∙ c.loop-t.invariant.pool.1);
       stock = c.in_ok-next.ensures.stock;
       told = subst (λ m. AreCoverings m S g_now c.marked_coverer.new.told) c.requires.order_size c.marked_coverer.ensures.told;
       grown = grown_more c.args.graphs.now.graphs.items c.loop-t.graphs.graphs.items g_now c.loop-t.invariant.grown c.in_ok-next.ensures.grown;
@@ -147,7 +148,7 @@ loop-t-preserved c =
 pub returns-clause-step : goal.returns-clause-step
 returns-clause-step c =
     let A : Automaton = c.args.first.now in
-    let g : List Graph = c.args.graphs.now.graphs.items in
+    let g : List (List ℕ) = c.args.graphs.now.graphs.items in
     let e : ℕ = c.args.element in
     let x = stands_at A c.args.second.now c.args.order.now.pairs g c.args.family.now e c.index-from.result.now c.requires.whole c.requires.element c.index-from.ensures in
     let end : ℕ = c.outgoing-out.result.end in

@@ -1,4 +1,4 @@
-use Rattle.std.proofs.Common.{◌≡◌, ℕ, Bool, true, false, cond, List, [], ◌∷◌, ◌++◌, length, vec_len, map, slice_index_or, sym, ap, ◌∙◌, subst, inl, inr, arith, append-nil}
+use Rattle.std.proofs.Common.{◌≡◌, ℕ, Bool, true, false, cond, List, [], ◌∷◌, ◌++◌, length, vec_len, map, slice_index_or, refl, sym, ap, ◌∙◌, subst, inl, inr, arith, append-nil}
 use Rattle.std.specs.Prelude.{filter}
 use Rattle.std.specs.List.{range_with_len}
 use Rattle.std.proofs.lemmas.List.{get_or_default, map-append}
@@ -7,10 +7,10 @@ use Rattle.auto_core.specs.Outcome.{At, HasSubsumer, next_entry, supergraph_rule
 use Rattle.cert_value.specs.declared.types.StepLine.{StepLine}
 use Rattle.search_laws.proofs.PlaceLemmas.{at_cases, at_within}
 use Rattle.ramsey_search.specs.declared.family.Family.{Family}
-use Rattle.shared_graphs.specs.declared.graphs.Graph.{Graph}
 use Rattle.shared_graphs.specs.declared.graphs.Graphs.{Graphs}
 use Rattle.shared_graphs.specs.declared.coverings.Coverings.{Coverings}
-use Rattle.shared_graphs.specs.Graphs.{HasGrown, IsStock}
+use Rattle.shared_graphs.specs.GraphBlocks.{SamePool}
+use Rattle.shared_graphs.specs.Graphs.{HasGrown, IsStock, MinimisedBy}
 use Rattle.shared_graphs.specs.GraphPairs.{AreCoverings}
 use Rattle.ramsey_search.specs.Views.{View, view}
 use Rattle.ramsey_search.specs.Marks.{AreMarked, LiveCoverThemselves}
@@ -44,6 +44,7 @@ flag_is c =
 pub loop-element-init : goal.loop-element-init
 loop-element-init c =
     record {
+      pool = (refl, refl);
       stock = c.requires.stock;
       told = c.requires.told;
       grown = grown_none c.args.graphs.now.graphs.items;
@@ -76,9 +77,9 @@ loop-element-preserved c =
     let B : Automaton = c.args.second.now in
     let S : List (ℕ × ℕ) = c.args.order.now.pairs in
     let f : Family = c.args.family.now in
-    let g : List Graph = c.args.graphs.now.graphs.items in
+    let g : List (List ℕ) = c.args.graphs.now.graphs.items in
     let old : View = view g f in
-    let g_mid : List Graph = c.loop-element.graphs.graphs.items in
+    let g_mid : List (List ℕ) = c.loop-element.graphs.graphs.items in
     let same : view g_mid f ≡ old = (stays (goal.at.loop-element-preserved c).In-loop-element).0 in
     let e : ℕ = c.loop-element.element in
     let flag = flag_is (goal.at.loop-element-preserved c).After-index in
@@ -91,7 +92,9 @@ loop-element-preserved c =
           let on : live e ≡ true = flag ∙ w.if-index.true in
           let step : IsStepOf (supergraph_rules A B S) (entries_held A old) line = subst (λ v. IsStepOf (supergraph_rules A B S) (entries_held A v) line) same w.in_ok-step_line.ensures.step in
           record {
-            stock = subst (IsStock B) (sym w.graphs-is) w.in_ok-step_line.ensures.stock;
+            pool = subst (λ (m : Graphs). SamePool c.args.graphs.now.graphs m.graphs) (sym w.graphs-is)
+                (w.step_line.ensures.pool.0 ∙ c.loop-element.invariant.pool.0, w.step_line.ensures.pool.1 ∙ c.loop-element.invariant.pool.1);
+            stock = subst (IsStock B (MinimisedBy c.args.order.now.pairs)) (sym w.graphs-is) w.in_ok-step_line.ensures.stock;
             told = subst (λ (m : Graphs). AreCoverings B.states S m.graphs.items c.if-index.told) (sym w.graphs-is)
                 (subst (λ (m : Coverings). AreCoverings B.states S w.step_line.new.graphs.graphs.items m) (sym w.told-is) w.in_ok-step_line.ensures.told);
             grown = subst (λ (m : Graphs). HasGrown g m.graphs.items) (sym w.graphs-is) (grown_more g g_mid w.step_line.new.graphs.graphs.items c.loop-element.invariant.grown w.in_ok-step_line.ensures.grown);
@@ -110,7 +113,8 @@ loop-element-preserved c =
           let unchanged : c.if-index.steps ≡ c.loop-element.steps = w.steps-is in
           let off : live e ≡ false = flag ∙ w.if-index.false in
           record {
-            stock = subst (IsStock B) (sym w.graphs-is) c.loop-element.invariant.stock;
+            pool = subst (λ (m : Graphs). SamePool c.args.graphs.now.graphs m.graphs) (sym w.graphs-is) c.loop-element.invariant.pool;
+            stock = subst (IsStock B (MinimisedBy c.args.order.now.pairs)) (sym w.graphs-is) c.loop-element.invariant.stock;
             told = subst (λ (m : Graphs). AreCoverings B.states S m.graphs.items c.if-index.told) (sym w.graphs-is)
                 (subst (λ (m : Coverings). AreCoverings B.states S g_mid m) (sym w.told-is) c.loop-element.invariant.told);
             grown = subst (λ (m : Graphs). HasGrown g m.graphs.items) (sym w.graphs-is) c.loop-element.invariant.grown;

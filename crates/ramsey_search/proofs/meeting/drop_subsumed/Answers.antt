@@ -3,7 +3,6 @@ use Rattle.std.proofs.lemmas.Bool.{false≢true}
 use Rattle.auto_core.specs.Game.{Holds}
 use Rattle.auto_core.specs.Graph.{Subsumes, Supergraph}
 use Rattle.auto_core.specs.Outcome.{At}
-use Rattle.shared_graphs.specs.declared.graphs.Graph.{Graph}
 use Rattle.ramsey_search.specs.Views.{Seen, seen}
 use Rattle.ramsey_search.specs.Kept.{held_super}
 use Rattle.search_laws.proofs.PlaceLemmas.{read_at}
@@ -16,7 +15,7 @@ pub subsumes_element-requires-clause-second : goal.subsumes_element-requires-cla
 subsumes_element-requires-clause-second c =
     let j : ℕ = slice_index_or c.args.among.now c.loop-number.number-index 0 in
     let is : At c.args.among.now c.loop-number.number-index j = read_at c.args.among.now c.loop-number.number-index 0 j c.loop-number-test.true refl in
-    seen_formed c.args.order.now.size c.args.graphs.now c.args.held.now j (c.requires.there c.loop-number.number-index j is) c.requires.formed
+    seen_formed c.args.order.now.size c.args.graphs.now.items c.args.held.now j (c.requires.there c.loop-number.number-index j is) c.requires.formed
 
 pub index_mut-requires : goal.index_mut-requires
 index_mut-requires c =
@@ -33,7 +32,7 @@ pub loop-number-preserved : goal.loop-number-preserved
 loop-number-preserved c =
     let n : ℕ = c.args.order.now.size in
     let S : List (ℕ × ℕ) = c.args.order.now.pairs in
-    let graphs : List Graph = c.args.graphs.now in
+    let graphs : List (List ℕ) = c.args.graphs.now.items in
     let held : List Seen = map (seen graphs) c.args.held.now in
     let new : Supergraph = held_super n (seen graphs c.args.new.now) in
     let j : ℕ = slice_index_or c.args.among.now c.loop-number.number-index 0 in
@@ -61,5 +60,5 @@ loop-number-preserved c =
 
 pub returns-clause-dropped : goal.returns-clause-dropped
 returns-clause-dropped c =
-    dropped_all c.args.order.now.size c.args.order.now.pairs (map (seen c.args.graphs.now) c.args.held.now) c.args.among.now (held_super c.args.order.now.size (seen c.args.graphs.now c.args.new.now))
+    dropped_all c.args.order.now.size c.args.order.now.pairs (map (seen c.args.graphs.now.items) c.args.held.now) c.args.among.now (held_super c.args.order.now.size (seen c.args.graphs.now.items c.args.new.now))
     c.args.live.now.items c.loop-number.live.items c.loop-number.number-index (let past = c.loop-number-test.false in omega arith) c.loop-number.invariant.dropped

@@ -6,7 +6,6 @@ use Rattle.auto_core.specs.Outcome.{At}
 use Rattle.graph_rows.specs.Block.{block_graph}
 use Rattle.supergraph.specs.Stands.{with_graph}
 use Rattle.search_laws.proofs.PlaceLemmas.{at_same, at_within, read_at}
-use Rattle.shared_graphs.specs.declared.graphs.Graph.{Graph}
 use Rattle.shared_graphs.specs.Graphs.{block_at}
 use Rattle.ramsey_search.specs.Views.{Seen, seen}
 use Rattle.ramsey_search.specs.Kept.{held_super}
@@ -17,11 +16,11 @@ pub subsumes_arc-requires-clause-first : goal.subsumes_arc-requires-clause-first
 subsumes_arc-requires-clause-first c =
     let j : ℕ = slice_index_or c.args.among.now c.loop-number.number-index 0 in
     let is : At c.args.among.now c.loop-number.number-index j = read_at c.args.among.now c.loop-number.number-index 0 j c.loop-number-test.true refl in
-    seen_formed c.args.order.now.size c.args.graphs.now c.args.held.now j (c.requires.there c.loop-number.number-index j is) c.requires.formed
+    seen_formed c.args.order.now.size c.args.graphs.now.items c.args.held.now j (c.requires.there c.loop-number.number-index j is) c.requires.formed
 
 pub returns-then-subsumes_arc-clause-found : goal.returns-then-subsumes_arc-clause-found
 returns-then-subsumes_arc-clause-found c =
-    let graphs : List Graph = c.args.graphs.now in
+    let graphs : List (List ℕ) = c.args.graphs.now.items in
     let j : ℕ = slice_index_or c.args.among.now c.loop-number.number-index 0 in
     let is : At c.args.among.now c.loop-number.number-index j = read_at c.args.among.now c.loop-number.number-index 0 j c.loop-number-test.true refl in
     record {
@@ -35,7 +34,7 @@ returns-then-subsumes_arc-clause-found c =
 
 pub loop-number-preserved : goal.loop-number-preserved
 loop-number-preserved c =
-    let graphs : List Graph = c.args.graphs.now in
+    let graphs : List (List ℕ) = c.args.graphs.now.items in
     let j : ℕ = slice_index_or c.args.among.now c.loop-number.number-index 0 in
     let is : At c.args.among.now c.loop-number.number-index j = read_at c.args.among.now c.loop-number.number-index 0 j c.loop-number-test.true refl in
     let h : Seen = seen graphs (held_of c.args.held.now j) in

@@ -1,11 +1,10 @@
-use Rattle.std.proofs.Common.{◌≡◌, ℕ, Bool, List, length, map, sym, ap, ◌∙◌, subst, arith}
+use Rattle.std.proofs.Common.{◌≡◌, ℕ, Bool, List, map, sym, ap, ◌∙◌, subst, arith}
 use Rattle.std.specs.List.{count_by}
 use Rattle.auto_core.specs.Automaton.{Automaton}
 use Rattle.auto_core.specs.Outcome.{At}
 use Rattle.auto_core.specs.declared.parts.Origin.{Origin}
 use Rattle.search_laws.proofs.PlaceLemmas.{at_within}
-use Rattle.shared_graphs.specs.declared.graphs.Graph.{Graph}
-use Rattle.shared_graphs.specs.Graphs.{block_at}
+use Rattle.shared_graphs.proofs.GraphsLemmas.{formed_there}
 use Rattle.ramsey_search.specs.declared.parts.Held.{Held}
 use Rattle.ramsey_search.specs.declared.parts.Fate.TheVariants as fates
 use Rattle.ramsey_search.specs.declared.parts.Outcome.TheVariants as end
@@ -28,8 +27,8 @@ origins_held : (c : goal.After-as_slice) → c.as_slice.result.now ≡ map (λ (
 origins_held c =
     c.as_slice.ensures ∙ c.in_ok-origins-in-Apart.ensures ∙ ap (map (λ (h : Held). h.origin)) c.deref-in-Apart.ensures.value ∙ origins_seen c.run.new.graphs.graphs.items c.run.new.family.held.items
 
-pub returns-in_ok-closure-in-GoesOn-clause-truth : goal.returns-in_ok-closure-in-GoesOn-clause-truth
-returns-in_ok-closure-in-GoesOn-clause-truth c =
+pub returns-in_ok-give_blocks-in-GoesOn-clause-truth : goal.returns-in_ok-give_blocks-in-GoesOn-clause-truth
+returns-in_ok-give_blocks-in-GoesOn-clause-truth c =
     let A : Automaton = c.args.first.now in
     let B : Automaton = c.args.second.now in
     let S : List (ℕ × ℕ) = c.args.order.now.pairs in
@@ -96,22 +95,26 @@ returns-in_ok-origins_of-in-Full-clause-truth c =
     answer_is_true c.args.first.now c.args.second.now c.args.order.now.pairs c.args.limit c.requires.second_valid c.requires.greatest (end.Limit c.in_ok-origins_of-in-Full.field-0)
     (list_answers (goal.at.returns-in_ok-origins_of-in-Full-clause-truth c).In_ok-origins_of-in-Full)
 
-pub returns-in_ok-closure-in-GoesOn-clause-blocks : goal.returns-in_ok-closure-in-GoesOn-clause-blocks
-returns-in_ok-closure-in-GoesOn-clause-blocks c =
-    let closure = c.in_ok-closure-in-GoesOn.closure in
-    let counted = live_counted closure.elements in
-    let same = ap (λ (l : List Bool). count_by (λ b. b) l) (c.in_ok-closure-in-GoesOn.ensures.live ∙ sym c.deref-in-GoesOn-2.ensures.value ∙ sym c.in_ok-add_live-in-GoesOn.ensures.has) in
-    omega arith
-
-pub add_live-requires-clause-sizes : goal.add_live-requires-clause-sizes
-add_live-requires-clause-sizes c = λ i h is.
+pub give_blocks-requires-clause-within : goal.give_blocks-requires-clause-within
+give_blocks-requires-clause-within c = λ i h is.
     let A : Automaton = c.args.first.now in
     let B : Automaton = c.args.second.now in
     let S : List (ℕ × ℕ) = c.args.order.now.pairs in
-    let g : List Graph = c.run.new.graphs.graphs.items in
+    let g : List (List ℕ) = c.run.new.graphs.graphs.items in
     let f : Family = c.run.new.family in
     let whole : IsWhole A B S (view g f) = c.in_ok-fate.ensures.whole in
-    let h_is : At f.held.items i h = subst (λ l. At l i h) c.deref-in-GoesOn.ensures.value is in
+    let first = c.requires.second_valid.initial_is_state in
+    let h_is : At f.held.items i h = subst (λ l. At l i h) c.deref.ensures.value is in
     let e = entry_at A B S g f whole i (at_within f.held.items i h h_is) in
     let kept : IsKept B S (seen g h) e.0 = held_stands A B S g f whole i h e.0 h_is e.1 in
-    ap (λ (gs : List Graph). length (block_at gs h.graph)) c.deref.ensures.value ∙ kept.formed.len ∙ sym c.requires.size
+    let there = formed_there B.states g h.graph (omega arith) kept.formed in
+    let more = c.in_ok-closure-in-GoesOn.ensures.grown.size in
+    omega arith
+
+pub returns-in_ok-give_blocks-in-GoesOn-clause-blocks : goal.returns-in_ok-give_blocks-in-GoesOn-clause-blocks
+returns-in_ok-give_blocks-in-GoesOn-clause-blocks c =
+    let closure = c.in_ok-closure-in-GoesOn.closure in
+    let counted = live_counted closure.elements in
+    let same = ap (λ (l : List Bool). count_by (λ b. b) l) (c.in_ok-closure-in-GoesOn.ensures.live ∙ sym c.deref-in-GoesOn.ensures.value) in
+    let enough = c.in_ok-give_blocks-in-GoesOn.ensures.enough in
+    omega arith

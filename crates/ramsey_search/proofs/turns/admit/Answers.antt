@@ -5,10 +5,8 @@ use Rattle.auto_core.specs.Outcome.{At, Entry}
 use Rattle.graph_rows.specs.Block.{IsFormed}
 use Rattle.search_laws.proofs.PlaceLemmas.{at_new, at_within}
 use Rattle.shared_graphs.specs.declared.coverings.Coverings.{Coverings}
-use Rattle.shared_graphs.specs.declared.graphs.Graph.{Graph}
-use Rattle.shared_graphs.specs.Graphs.{block_at}
 use Rattle.evidence.specs.Entries.{entry_of}
-use Rattle.shared_graphs.specs.GraphPairs.{AreCoverings, AreLassosTold}
+use Rattle.shared_graphs.specs.GraphPairs.{AreCoverings}
 use Rattle.ramsey_search.specs.Views.{Seen, View, seen, view}
 use Rattle.ramsey_search.specs.Kept.{IsFamily, HasEntered, IsTold, entries_held, IsWhole}
 use Rattle.ramsey_search.proofs.EntriesLemmas.{entries_entered}
@@ -36,14 +34,14 @@ enter-requires-clause-fits c =
 
 pub enter-requires-clause-formed : goal.enter-requires-clause-formed
 enter-requires-clause-formed c =
-    let graphs : List Graph = c.args.graphs.now.graphs.items in
+    let graphs : List (List ℕ) = c.args.graphs.now.graphs.items in
     let h : Seen = seen graphs c.args.new in
     subst (λ n. IsFormed n h.graph) (sym c.requires.order_size) c.requires.candidate.kept.formed
 
 pub enter-requires-clause-told : goal.enter-requires-clause-told
 enter-requires-clause-told c =
     let S : List (ℕ × ℕ) = c.args.order.now.pairs in
-    let graphs : List Graph = c.args.graphs.now.graphs.items in
+    let graphs : List (List ℕ) = c.args.graphs.now.graphs.items in
     subst (λ n. AreCoverings n S graphs c.args.answers.now.covers) (sym c.requires.order_size) c.requires.answers.covers
 
 pub returns-then-number-limit-clause-come : goal.returns-then-number-limit-clause-come
@@ -52,7 +50,7 @@ returns-then-number-limit-clause-come c =
     let A : Automaton = c.args.first.now in
     let B : Automaton = c.args.second.now in
     let S : List (ℕ × ℕ) = c.args.order.now.pairs in
-    let graphs : List Graph = c.args.graphs.now.graphs.items in
+    let graphs : List (List ℕ) = c.args.graphs.now.graphs.items in
     let old : View = view graphs c.args.family.now in
     let h : Seen = seen graphs c.args.new in
     let es : List Entry = entries_held A old in
@@ -67,7 +65,7 @@ returns-then-number-limit-clause-come c =
 pub returns-then-number-limit-clause-answers : goal.returns-then-number-limit-clause-answers
 returns-then-number-limit-clause-answers c =
     let S : List (ℕ × ℕ) = c.args.order.now.pairs in
-    let graphs : List Graph = c.args.graphs.now.graphs.items in
+    let graphs : List (List ℕ) = c.args.graphs.now.graphs.items in
     record {
       covers = subst (λ n. AreCoverings n S graphs c.enter.new.told) c.requires.order_size c.enter.ensures.told;
       lassos = record { glimpses = c.requires.answers.lassos.glimpses; room = c.requires.answers.lassos.room };
@@ -78,7 +76,7 @@ first_failing-requires-clause-fits c =
     let A : Automaton = c.args.first.now in
     let B : Automaton = c.args.second.now in
     let S : List (ℕ × ℕ) = c.args.order.now.pairs in
-    let graphs : List Graph = c.args.graphs.now.graphs.items in
+    let graphs : List (List ℕ) = c.args.graphs.now.graphs.items in
     let old : View = view graphs c.args.family.now in
     let h : Seen = seen graphs c.args.new in
     let es : List Entry = entries_held A old in
@@ -93,7 +91,7 @@ first_failing-requires-clause-ends c =
     let A : Automaton = c.args.first.now in
     let B : Automaton = c.args.second.now in
     let S : List (ℕ × ℕ) = c.args.order.now.pairs in
-    let graphs : List Graph = c.args.graphs.now.graphs.items in
+    let graphs : List (List ℕ) = c.args.graphs.now.graphs.items in
     let old : View = view graphs c.args.family.now in
     let h : Seen = seen graphs c.args.new in
     let es : List Entry = entries_held A old in
@@ -108,17 +106,15 @@ first_failing-requires-clause-ends c =
     held_in_range A B S c.requires.first_valid (entries_held A now) whole.origins c.len-number.result e.0 (seen graphs k) e.1 (held_stands A B S graphs c.enter.new.self whole c.len-number.result k e.0 k_is e.1)
 
 pub look-requires-clause-formed : goal.look-requires-clause-formed
-look-requires-clause-formed c =
-    subst (λ g. IsFormed c.args.second.now.states (block_at g c.args.new.graph)) (sym c.deref.ensures.value) c.requires.candidate.kept.formed
+look-requires-clause-formed c = c.requires.candidate.kept.formed
 
 pub look-requires-clause-told : goal.look-requires-clause-told
 look-requires-clause-told c =
     let told = c.requires.answers.lassos in
-    subst (λ g. AreLassosTold c.args.second.now g (record { covers = c.enter.new.told; glimpses = c.args.answers.now.glimpses; scratch = c.args.answers.now.scratch })) (sym c.deref.ensures.value)
-    (record { glimpses = told.glimpses; room = told.room })
+    record { glimpses = told.glimpses; room = told.room }
 
 pub first_failing-requires-clause-told : goal.first_failing-requires-clause-told
-first_failing-requires-clause-told c = subst (λ g. AreLassosTold c.args.second.now g c.look.new.self) c.deref.ensures.value c.look.ensures.told
+first_failing-requires-clause-told c = c.look.ensures.told
 
 pub returns-clause-come : goal.returns-clause-come
 returns-clause-come c =
@@ -126,7 +122,7 @@ returns-clause-come c =
     let A : Automaton = c.args.first.now in
     let B : Automaton = c.args.second.now in
     let S : List (ℕ × ℕ) = c.args.order.now.pairs in
-    let graphs : List Graph = c.args.graphs.now.graphs.items in
+    let graphs : List (List ℕ) = c.args.graphs.now.graphs.items in
     let old : View = view graphs c.args.family.now in
     let h : Seen = seen graphs c.args.new in
     let es : List Entry = entries_held A old in
@@ -152,7 +148,7 @@ pub returns-clause-answers : goal.returns-clause-answers
 returns-clause-answers c =
     let B : Automaton = c.args.second.now in
     let S : List (ℕ × ℕ) = c.args.order.now.pairs in
-    let graphs : List Graph = c.args.graphs.now.graphs.items in
+    let graphs : List (List ℕ) = c.args.graphs.now.graphs.items in
     record {
       covers = subst (λ (m : Coverings). AreCoverings B.states S graphs m) (sym c.first_failing.ensures.covers)
           (subst (λ (m : Coverings). AreCoverings B.states S graphs m) (sym c.look.ensures.covers)

@@ -2,12 +2,11 @@ use Rattle.std.proofs.Common.{ℕ, ◌+◌, ◌*◌, List, sym, subst}
 use Rattle.auto_core.specs.Automaton.{Automaton}
 use Rattle.auto_core.specs.Outcome.{Entry}
 use Rattle.graph_rows.specs.Block.{IsFormed}
-use Rattle.shared_graphs.specs.declared.graphs.Graph.{Graph}
 use Rattle.evidence.specs.Entries.{entry_of}
 use Rattle.evidence.specs.Tables.{numbers_at}
 use Rattle.shared_graphs.specs.declared.coverings.Coverings.{Coverings}
 use Rattle.shared_graphs.specs.Graphs.{block_at}
-use Rattle.shared_graphs.specs.GraphPairs.{AreCoverings, AreLassosTold}
+use Rattle.shared_graphs.specs.GraphPairs.{AreCoverings}
 use Rattle.ramsey_search.specs.Views.{Seen, View, seen, view}
 use Rattle.ramsey_search.specs.Kept.{entries_held, NoneSubsumes, IsFirstSubsumer, held_super}
 use Rattle.ramsey_search.proofs.EqualLemmas.{equal_subsumes}
@@ -28,42 +27,38 @@ least-requires-clause-fits c =
 
 pub least-requires-clause-formed : goal.least-requires-clause-formed
 least-requires-clause-formed c =
-    let graphs : List Graph = c.args.graphs.now.graphs.items in
+    let graphs : List (List ℕ) = c.args.graphs.now.graphs.items in
     let h : Seen = seen graphs c.args.new in
     subst (λ n. IsFormed n h.graph) (sym c.requires.order_size) c.requires.candidate.kept.formed
 
 pub print-requires-clause-formed : goal.print-requires-clause-formed
 print-requires-clause-formed c =
-    let graphs : List Graph = c.args.graphs.now.graphs.items in
-    subst (λ g. IsFormed c.args.order.now.size (block_at g c.args.new.graph)) (sym c.deref.ensures.value)
-    (subst (λ n. IsFormed n (block_at graphs c.args.new.graph)) (sym c.requires.order_size) c.requires.candidate.kept.formed)
+    let graphs : List (List ℕ) = c.args.graphs.now.graphs.items in
+    subst (λ n. IsFormed n (block_at graphs c.args.new.graph)) (sym c.requires.order_size) c.requires.candidate.kept.formed
 
 pub print-requires-clause-told : goal.print-requires-clause-told
 print-requires-clause-told c =
     let S : List (ℕ × ℕ) = c.args.order.now.pairs in
-    let graphs : List Graph = c.args.graphs.now.graphs.items in
-    subst (λ g. AreCoverings c.args.order.now.size S g c.args.answers.now.covers) (sym c.deref.ensures.value)
-    (subst (λ n. AreCoverings n S graphs c.args.answers.now.covers) (sym c.requires.order_size) c.requires.answers.covers)
+    let graphs : List (List ℕ) = c.args.graphs.now.graphs.items in
+    subst (λ n. AreCoverings n S graphs c.args.answers.now.covers) (sym c.requires.order_size) c.requires.answers.covers
 
 pub look-requires-clause-formed : goal.look-requires-clause-formed
-look-requires-clause-formed c =
-    subst (λ g. IsFormed c.args.second.now.states (block_at g c.args.new.graph)) (sym c.deref-2.ensures.value) c.requires.candidate.kept.formed
+look-requires-clause-formed c = c.requires.candidate.kept.formed
 
 pub look-requires-clause-told : goal.look-requires-clause-told
 look-requires-clause-told c =
     let told = c.requires.answers.lassos in
-    subst (λ g. AreLassosTold c.args.second.now g (record { covers = c.print.new.self; glimpses = c.args.answers.now.glimpses; scratch = c.args.answers.now.scratch })) (sym c.deref-2.ensures.value)
-    (record { glimpses = told.glimpses; room = told.room })
+    record { glimpses = told.glimpses; room = told.room }
 
 pub least-requires-clause-told : goal.least-requires-clause-told
 least-requires-clause-told c =
     let S : List (ℕ × ℕ) = c.args.order.now.pairs in
     subst (λ (m : Coverings). AreCoverings c.args.order.now.size S c.args.graphs.now.graphs.items m) (sym c.look.ensures.covers)
-    (subst (λ g. AreCoverings c.args.order.now.size S g c.print.new.self) c.deref.ensures.value c.print.ensures.told)
+    c.print.ensures.told
 
 pub returns-in-Some-least-clause-answers : goal.returns-in-Some-least-clause-answers
 returns-in-Some-least-clause-answers c =
-    let told = subst (λ g. AreLassosTold c.args.second.now g c.look.new.self) c.deref-2.ensures.value c.look.ensures.told in
+    let told = c.look.ensures.told in
     record {
       covers = subst (λ n. AreCoverings n c.args.order.now.pairs c.args.graphs.now.graphs.items c.least.new.told) c.requires.order_size c.least.ensures.told;
       lassos = record { glimpses = told.glimpses; room = told.room };
@@ -71,7 +66,7 @@ returns-in-Some-least-clause-answers c =
 
 pub admit-requires-clause-answers : goal.admit-requires-clause-answers
 admit-requires-clause-answers c =
-    let told = subst (λ g. AreLassosTold c.args.second.now g c.look.new.self) c.deref-2.ensures.value c.look.ensures.told in
+    let told = c.look.ensures.told in
     record {
       covers = subst (λ n. AreCoverings n c.args.order.now.pairs c.args.graphs.now.graphs.items c.least.new.told) c.requires.order_size c.least.ensures.told;
       lassos = record { glimpses = told.glimpses; room = told.room };
@@ -82,7 +77,7 @@ admit-requires-clause-unmet c =
     let A : Automaton = c.args.first.now in
     let B : Automaton = c.args.second.now in
     let S : List (ℕ × ℕ) = c.args.order.now.pairs in
-    let graphs : List Graph = c.args.graphs.now.graphs.items in
+    let graphs : List (List ℕ) = c.args.graphs.now.graphs.items in
     let f : View = view graphs c.args.family.now in
     let h : Seen = seen graphs c.args.new in
     let es : List Entry = entries_held A f in
@@ -98,7 +93,7 @@ returns-in-Some-clause-come c =
     let A : Automaton = c.args.first.now in
     let B : Automaton = c.args.second.now in
     let S : List (ℕ × ℕ) = c.args.order.now.pairs in
-    let graphs : List Graph = c.args.graphs.now.graphs.items in
+    let graphs : List (List ℕ) = c.args.graphs.now.graphs.items in
     let f : View = view graphs c.args.family.now in
     let h : Seen = seen graphs c.args.new in
     let es : List Entry = entries_held A f in
@@ -111,7 +106,7 @@ returns-in-Some-least-clause-come c =
     let A : Automaton = c.args.first.now in
     let B : Automaton = c.args.second.now in
     let S : List (ℕ × ℕ) = c.args.order.now.pairs in
-    let graphs : List Graph = c.args.graphs.now.graphs.items in
+    let graphs : List (List ℕ) = c.args.graphs.now.graphs.items in
     let f : View = view graphs c.args.family.now in
     let h : Seen = seen graphs c.args.new in
     let es : List Entry = entries_held A f in

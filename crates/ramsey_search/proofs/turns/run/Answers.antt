@@ -2,7 +2,6 @@ use Rattle.std.proofs.Common.{◌≡◌, ℕ, ◌≤◌, List, length, vec_len, 
 use Rattle.auto_core.specs.Automaton.{Automaton}
 use Rattle.ramsey_search.specs.declared.parts.Fate.TheVariants as fates
 use Rattle.ramsey_search.specs.declared.family.Family.{Family}
-use Rattle.shared_graphs.specs.declared.graphs.Graph.{Graph}
 use Rattle.ramsey_search.specs.Views.{seen, view}
 use Rattle.ramsey_search.proofs.SeenLemmas.{few_seen, few_held}
 use Rattle.ramsey_search.proofs.TurnLemmas.{has_ended}
@@ -21,10 +20,10 @@ returns-clause-ended c =
     let A : Automaton = c.args.first.now in
     let B : Automaton = c.args.second.now in
     let S : List (ℕ × ℕ) = c.args.order.now.pairs in
-    let g : List Graph = c.args.graphs.now.graphs.items in
+    let g : List (List ℕ) = c.args.graphs.now.graphs.items in
     let f : Family = c.args.family.now in
     let now : Family = c.loop-turn.family in
-    let g_now : List Graph = c.loop-turn.graphs.graphs.items in
+    let g_now : List (List ℕ) = c.loop-turn.graphs.graphs.items in
     let past = c.loop-turn-test.false in
     let count = c.len.ensures in
     let items : vec_len now.held ≡ length now.held.items = now.held.ok.0 in

@@ -1,9 +1,8 @@
-use Rattle.std.proofs.Common.{◌≡◌, ℕ, ◌+◌, ◌<◌, List, [], ◌∷◌, length, refl, ap, subst, arith}
+use Rattle.std.proofs.Common.{◌≡◌, ℕ, ◌+◌, ◌<◌, List, [], ◌∷◌, length, refl, ap, ◌∙◌, subst, arith}
 use Rattle.auto_core.specs.Automaton.{Automaton}
 use Rattle.auto_core.specs.Outcome.{Entry, base_entry, supergraph_rules}
 use Rattle.ramsey_search.specs.declared.parts.Fate.TheVariants as fates
 use Rattle.ramsey_search.specs.declared.family.Family.{Family}
-use Rattle.shared_graphs.specs.declared.graphs.Graph.{Graph}
 use Rattle.ramsey_search.specs.Views.{View, seen, view}
 use Rattle.ramsey_search.specs.Kept.{HasCome, entries_held}
 use Rattle.shared_graphs.proofs.GraphsLemmas.{pairs_stay}
@@ -22,7 +21,7 @@ comes c =
     let B : Automaton = c.args.second.now in
     let S : List (ℕ × ℕ) = c.args.order.now.pairs in
     let t : ℕ = c.loop-t.t in
-    let g_now : List Graph = c.base_candidate.new.graphs.graphs.items in
+    let g_now : List (List ℕ) = c.base_candidate.new.graphs.graphs.items in
     let f_mid : Family = c.loop-t.family in
     let old : View = view c.args.graphs.now.graphs.items c.args.family.now in
     let come : HasCome A B S c.args.limit old (view g_now f_mid) fates.GoesOn (supergraph_rules A B S).starts (starts_from A t) 0 0 =
@@ -31,13 +30,13 @@ comes c =
     let test = c.loop-t-test.true in
     let lt : t < length A.transitions = omega arith in (
       subst (λ l. HasCome A B S c.args.limit old (view g_now f_mid) fates.GoesOn (supergraph_rules A B S).starts l 0 0) (starts_more A t lt) come,
-      base_comes A B S c.requires.first_valid (entries_held A (view g_now f_mid)) come.whole.origins t (seen g_now c.in_ok-new.new) lt (c.in_ok-new.ensures.candidate S c.requires.greatest),
+      base_comes A B S c.requires.first_valid (entries_held A (view g_now f_mid)) come.whole.origins t (seen g_now c.in_ok-new.new) lt c.in_ok-new.ensures.candidate,
     )
 
 pub consider-requires : goal.consider-requires
 consider-requires c =
     let come = comes (goal.at.consider-requires c).In_ok-new in
-    let g_now : List Graph = c.base_candidate.new.graphs.graphs.items in
+    let g_now : List (List ℕ) = c.base_candidate.new.graphs.graphs.items in
     record {
       first_valid = c.requires.first_valid;
       second_valid = c.requires.second_valid;
@@ -55,7 +54,7 @@ returns-in_default-clause-come c =
     let B : Automaton = c.args.second.now in
     let S : List (ℕ × ℕ) = c.args.order.now.pairs in
     let come = comes (goal.at.returns-in_default-clause-come c).In_ok-new in
-    let g_now : List Graph = c.base_candidate.new.graphs.graphs.items in
+    let g_now : List (List ℕ) = c.base_candidate.new.graphs.graphs.items in
     let old : View = view c.args.graphs.now.graphs.items c.args.family.now in
     let now : View = view g_now c.consider.new.family in
     let rest : List Entry = starts_from A (c.loop-t.t + 1) in
@@ -68,13 +67,14 @@ loop-t-preserved c =
     let S : List (ℕ × ℕ) = c.args.order.now.pairs in
     let R = supergraph_rules A c.args.second.now S in
     let come = comes (goal.at.loop-t-preserved c).In_ok-new in
-    let g_now : List Graph = c.base_candidate.new.graphs.graphs.items in
+    let g_now : List (List ℕ) = c.base_candidate.new.graphs.graphs.items in
     let old : View = view c.args.graphs.now.graphs.items c.args.family.now in
     let now : View = view g_now c.consider.new.family in
     let rest : List Entry = starts_from A (c.loop-t.t + 1) in
     record {
       come = subst (λ k. HasCome A c.args.second.now S c.args.limit old now k R.starts rest 0 0) c.in-GoesOn.is
           (comes_next A c.args.second.now S c.args.limit old (view g_now c.loop-t.family) now R.starts rest (base_entry A c.loop-t.t) 0 0 (seen g_now c.in_ok-new.new) c.in_ok-fate.fate come.0 come.1.is c.in_ok-fate.ensures.come);
+      pool = (c.base_candidate.ensures.pool.0 ∙ c.loop-t.invariant.pool.0, c.base_candidate.ensures.pool.1 ∙ c.loop-t.invariant.pool.1);
       stock = c.in_ok-new.ensures.stock;
       answers = c.consider.ensures.answers;
     }

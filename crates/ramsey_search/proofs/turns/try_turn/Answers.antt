@@ -6,7 +6,6 @@ use Rattle.auto_core.specs.Outcome.{At, Entry, next_entry}
 use Rattle.ramsey_search.specs.declared.parts.Held.{Held}
 use Rattle.ramsey_search.specs.declared.parts.Fate.TheVariants as fates
 use Rattle.ramsey_search.specs.declared.family.Family.{Family}
-use Rattle.shared_graphs.specs.declared.graphs.Graph.{Graph}
 use Rattle.ramsey_search.specs.Views.{View, seen, view}
 use Rattle.ramsey_search.specs.Kept.{IsKept, HasCome, entries_held}
 use Rattle.search_laws.proofs.PlaceLemmas.{read_at}
@@ -32,8 +31,8 @@ comes c x x_is =
     let turn : ℕ = c.args.turn in
     let t : ℕ = c.loop-t.t in
     let h : Held = c.index-2.result.now in
-    let g_mid : List Graph = c.loop-t.graphs.graphs.items in
-    let g_now : List Graph = c.next_candidate.new.graphs.graphs.items in
+    let g_mid : List (List ℕ) = c.loop-t.graphs.graphs.items in
+    let g_now : List (List ℕ) = c.next_candidate.new.graphs.graphs.items in
     let f_mid : Family = c.loop-t.family in
     let old : View = view c.args.graphs.now.graphs.items c.args.family.now in
     let end : ℕ = c.outgoing-out.result.end in
@@ -46,7 +45,7 @@ comes c x x_is =
     come_stays A B S c.args.limit old g_mid g_now f_mid [] (extensions_from A turn x t end) turn (turn + 1) fates.GoesOn c.requires.second_valid c.in_ok-new.ensures.grown was in (
       subst (λ l. HasCome A B S c.args.limit old (view g_now f_mid) fates.GoesOn [] l turn (turn + 1)) (extensions_more A turn x t end c.loop-t-test.true) come,
       next_comes A B S c.requires.first_valid (entries_held A (view g_now f_mid)) come.whole.origins turn t x (seen g_now c.in_ok-new.new) (come.grown turn x x_is) step.0
-          (step.1 ∙ ap (λ (a : WordArc). a.to) h_kept.arc) (c.in_ok-new.ensures.candidate S x c.requires.greatest from_kept),
+          (step.1 ∙ ap (λ (a : WordArc). a.to) h_kept.arc) (c.in_ok-new.ensures.candidate x from_kept),
     )
 
 pub returns-then-not-index-clause-come : goal.returns-then-not-index-clause-come
@@ -54,7 +53,7 @@ returns-then-not-index-clause-come c =
     let A : Automaton = c.args.first.now in
     let B : Automaton = c.args.second.now in
     let S : List (ℕ × ℕ) = c.args.order.now.pairs in
-    let g : List Graph = c.args.graphs.now.graphs.items in
+    let g : List (List ℕ) = c.args.graphs.now.graphs.items in
     let f : Family = c.args.family.now in
     let old : View = view g f in
     let turn : ℕ = c.args.turn in
@@ -66,7 +65,7 @@ returns-then-not-index-clause-come c =
 pub outgoing-out-requires : goal.outgoing-out-requires
 outgoing-out-requires c =
     let A : Automaton = c.args.first.now in
-    let g : List Graph = c.args.graphs.now.graphs.items in
+    let g : List (List ℕ) = c.args.graphs.now.graphs.items in
     let x = stands_at c.args.first.now c.args.second.now c.args.order.now.pairs c.args.graphs.now.graphs.items c.args.family.now c.args.turn c.index-2.result.now c.requires.whole c.requires.turn c.index-2.ensures in
     (held_in_range A c.args.second.now c.args.order.now.pairs c.requires.first_valid (entries_held A (view g c.args.family.now)) c.requires.whole.origins c.args.turn x.entry (seen g c.index-2.result.now) x.is x.kept).1
 
@@ -75,7 +74,7 @@ loop-t-init c =
     let A : Automaton = c.args.first.now in
     let B : Automaton = c.args.second.now in
     let S : List (ℕ × ℕ) = c.args.order.now.pairs in
-    let g : List Graph = c.args.graphs.now.graphs.items in
+    let g : List (List ℕ) = c.args.graphs.now.graphs.items in
     let f : Family = c.args.family.now in
     let old : View = view g f in
     let turn : ℕ = c.args.turn in
@@ -89,6 +88,7 @@ loop-t-init c =
           let to : h.arc.to ≡ x.arc.to = ap (λ (a : WordArc). a.to) (held_stands A B S g f c.requires.whole turn h x h_is x_is).arc in
           turn_begins A B S c.args.limit old turn c.outgoing-out.result.begin c.outgoing-out.result.end x c.requires.whole (few_seen g f c.args.limit c.requires.few) x_is (flag ∙ c.if-not-index.false)
           (subst (λ p. IsOutgoing A p c.outgoing-out.result.begin c.outgoing-out.result.end) to c.outgoing-out.ensures.range);
+      pool = (refl, refl);
       stock = c.requires.stock;
       answers = c.requires.answers;
     }
@@ -121,7 +121,7 @@ pub consider-requires : goal.consider-requires
 consider-requires c =
     let x = stands_at c.args.first.now c.args.second.now c.args.order.now.pairs c.args.graphs.now.graphs.items c.args.family.now c.args.turn c.index-2.result.now c.requires.whole c.requires.turn c.index-2.ensures in
     let come = comes (goal.at.consider-requires c).In_ok-new x.entry x.is in
-    let g_now : List Graph = c.next_candidate.new.graphs.graphs.items in
+    let g_now : List (List ℕ) = c.next_candidate.new.graphs.graphs.items in
     record {
       first_valid = c.requires.first_valid;
       second_valid = c.requires.second_valid;
@@ -140,7 +140,7 @@ returns-in_default-clause-come c =
     let S : List (ℕ × ℕ) = c.args.order.now.pairs in
     let x = stands_at c.args.first.now c.args.second.now c.args.order.now.pairs c.args.graphs.now.graphs.items c.args.family.now c.args.turn c.index-2.result.now c.requires.whole c.requires.turn c.index-2.ensures in
     let come = comes (goal.at.returns-in_default-clause-come c).In_ok-new x.entry x.is in
-    let g_now : List Graph = c.next_candidate.new.graphs.graphs.items in
+    let g_now : List (List ℕ) = c.next_candidate.new.graphs.graphs.items in
     let old : View = view c.args.graphs.now.graphs.items c.args.family.now in
     let now : View = view g_now c.consider.new.family in
     let rest : List Entry = extensions_from A c.args.turn x.entry (c.loop-t.t + 1) c.outgoing-out.result.end in
@@ -152,7 +152,7 @@ pub loop-t-preserved : goal.loop-t-preserved
 loop-t-preserved c =
     let A : Automaton = c.args.first.now in
     let S : List (ℕ × ℕ) = c.args.order.now.pairs in
-    let g_now : List Graph = c.next_candidate.new.graphs.graphs.items in
+    let g_now : List (List ℕ) = c.next_candidate.new.graphs.graphs.items in
     let old : View = view c.args.graphs.now.graphs.items c.args.family.now in
     let now : View = view g_now c.consider.new.family in
     let turn : ℕ = c.args.turn in
@@ -163,6 +163,7 @@ loop-t-preserved c =
           subst (λ k. HasCome A c.args.second.now S c.args.limit old now k [] rest turn (turn + 1)) c.in-GoesOn.is
           (comes_next A c.args.second.now S c.args.limit old (view g_now c.loop-t.family) now [] rest (next_entry A turn x c.loop-t.t) turn (turn + 1) (seen g_now c.in_ok-new.new) c.in_ok-fate.fate come.0 come.1.is
           c.in_ok-fate.ensures.come);
+      pool = (c.next_candidate.ensures.pool.0 ∙ c.loop-t.invariant.pool.0, c.next_candidate.ensures.pool.1 ∙ c.loop-t.invariant.pool.1);
       stock = c.in_ok-new.ensures.stock;
       answers = c.consider.ensures.answers;
     }

@@ -7,7 +7,6 @@ use Rattle.auto_core.specs.Rows.{HasBit}
 use Rattle.graph_rows.specs.Block.{block_graph}
 use Rattle.search_laws.proofs.PlaceLemmas.{read_at}
 use Rattle.lasso_test.proofs.LoopLemmas.{lassos_enter_loops}
-use Rattle.shared_graphs.specs.declared.graphs.Graph.{Graph}
 use Rattle.shared_graphs.specs.declared.glimpses.Glimpse.{Glimpse}
 use Rattle.shared_graphs.specs.Graphs.{block_at}
 use Rattle.shared_graphs.proofs.glimpses.told.Goals as goal
@@ -15,7 +14,7 @@ use Rattle.shared_graphs.proofs.glimpses.told.Goals as goal
 pub returns : goal.returns
 returns c =
     let B : Automaton = c.args.second.now in
-    let graphs : List Graph = c.args.graphs.now in
+    let graphs : List (List ℕ) = c.args.graphs.now.items in
     let g : words.Graph = block_graph B.states (block_at graphs c.args.g) in
     let h : words.Graph = block_graph B.states (block_at graphs c.args.h) in
     let x : Glimpse = c.index-glimpses-h.result in

@@ -15,5 +15,5 @@ returns-in-Some c = λ told.
     let x : Print = c.index.result.now in
     let within : c.args.g < length c.args.self.now.prints.items = search rules in
     let here : At c.args.self.now.prints.items c.args.g x = read_at c.args.self.now.prints.items c.args.g x x within c.index.ensures in
-    let print : IsPrint n (Holds c.args.order.now.pairs) (block_at c.args.graphs.now c.args.h) c.in-Some.print = subst (λ o. IfSome o (IsPrint n (Holds c.args.order.now.pairs) (block_at c.args.graphs.now c.args.h))) c.in-Some.is c.requires.print in
-    misses_apart n c.args.order.now.pairs (block_at c.args.graphs.now c.args.g) (block_at c.args.graphs.now c.args.h) x c.in-Some.print (c.requires.told.prints c.args.g x here).1 print (c.misses.ensures told)
+    let print : IsPrint n (Holds c.args.order.now.pairs) (block_at c.args.graphs.now.items c.args.h) c.in-Some.print = subst (λ o. IfSome o (IsPrint n (Holds c.args.order.now.pairs) (block_at c.args.graphs.now.items c.args.h))) c.in-Some.is c.requires.print in
+    misses_apart n c.args.order.now.pairs (block_at c.args.graphs.now.items c.args.g) (block_at c.args.graphs.now.items c.args.h) x c.in-Some.print (c.requires.told.prints c.args.g x here).1 print (c.misses.ensures told)

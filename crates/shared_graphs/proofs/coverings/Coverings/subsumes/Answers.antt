@@ -10,5 +10,5 @@ returns-then-are_apart-clause-subsumes c =
     let told : AreToldApart c.deref.result.now c.args.g c.args.h = c.are_apart.ensures c.if-are_apart.true in
     let here : AreToldApart c.args.self.now.prints.items c.args.g c.args.h = subst (λ (l : List Print). AreToldApart l c.args.g c.args.h) c.deref.ensures.value told in (
       λ holds. absurd (false≢true holds),
-      λ subsumes. absurd (apart c.args.order.now.size c.args.order.now.pairs c.args.graphs.now c.args.self.now.prints.items c.args.g c.args.h c.requires.told.prints here subsumes.covers),
+      λ subsumes. absurd (apart c.args.order.now.size c.args.order.now.pairs c.args.graphs.now.items c.args.self.now.prints.items c.args.g c.args.h c.requires.told.prints here subsumes.covers),
     )

@@ -6,5 +6,5 @@ use Rattle.shared_graphs.proofs.graph_pairs.GraphPairs.pass_at_sight.Goals as go
 
 pub returns : goal.returns
 returns c = λ told.
-    seen_lasso c.args.second.now c.args.graphs.now c.args.self.now.glimpses.items c.args.g c.args.h c.requires.second c.requires.told.glimpses
+    seen_lasso c.args.second.now c.args.graphs.now.items c.args.self.now.glimpses.items c.args.g c.args.h c.requires.second c.requires.told.glimpses
     (subst (λ (l : List Glimpse). MeetAtSight l c.args.g c.args.h) c.deref.ensures.value (c.meet.ensures told))

@@ -1,34 +1,25 @@
-use Rattle.std.proofs.Common.{◌<◌, length, Vec, sym, ◌∙◌, subst, rules}
-use Rattle.std.specs.declared.alloc.Global.{Global}
-use Rattle.auto_core.specs.Automaton.{Automaton}
-use Rattle.shared_graphs.specs.Memo.{AllTold, HasAnswer}
-use Rattle.shared_graphs.specs.Graphs.{FitsLetter, FitsStep, HasNumber}
+use Rattle.std.proofs.Common.{subst}
+use Rattle.shared_graphs.specs.Memo.{HasAnswer}
+use Rattle.shared_graphs.specs.Graphs.{AsTheyAre, FitsStep}
 use Rattle.shared_graphs.specs.declared.memo.Answer.TheVariants.{Number}
-use Rattle.shared_graphs.specs.declared.graphs.Graph.{Graph}
-use Rattle.shared_graphs.specs.declared.graphs.Graphs.{Graphs}
-use Rattle.shared_graphs.specs.declared.memo.Memo.{Memo}
-use Rattle.shared_graphs.proofs.GraphsLemmas.{letters_stay, step_noted, told_found}
+use Rattle.shared_graphs.proofs.GraphsLemmas.{stock_written, told_found}
+use Rattle.shared_graphs.proofs.TakenLemmas.{taken_grown, taken_is, taken_stock}
 use Rattle.shared_graphs.proofs.graphs.Graphs.after.Goals as goal
 
 pub returns-in-Some-Number-clause-is : goal.returns-in-Some-Number-clause-is
 returns-in-Some-Number-clause-is c =
-    (told_found (FitsStep c.args.second.now c.args.self.now.graphs.items) c.args.self.now.steps.told.items c.args.from c.args.label (Number c.in-Some-Number.number) c.requires.stock.steps
+    (told_found (FitsStep c.args.second.now AsTheyAre c.args.self.now.graphs.items) c.args.self.now.steps.told.items c.args.from c.args.label (Number c.in-Some-Number.number) c.requires.stock.steps
     (subst (HasAnswer c.args.self.now.steps.told.items c.args.from c.args.label) c.in-Some-Number.field-0-is c.in-Some-Number.ensures)).1
 
-pub returns-in_ok-make_room-clause-stock : goal.returns-in_ok-make_room-clause-stock
-returns-in_ok-make_room-clause-stock c =
-    let B : Automaton = c.args.second.now in
-    let old : Graphs = c.args.self.now in
-    let mid : Graphs = c.number_of.new.self in
-    let has : HasNumber c.in_ok-block.block.items old mid c.in_ok-number.number = c.in_ok-number.ensures in
-    let within : c.args.from < length old.graphs.items = search rules in
-    let letters : AllTold (FitsLetter B mid.graphs.items) old.letters.told.items =
-    letters_stay old.graphs.items mid.graphs.items has.grown B old.letters.told.items c.requires.stock.letters in
-    let steps : AllTold (FitsStep B mid.graphs.items) c.note.new.self.told.items =
-    step_noted B old mid c.args.from c.args.label c.in_ok-number.number c.in_ok-block.block.items c.make_room.new.self.steps.told.items c.note.new.self.told.items
-    c.requires.stock.steps has c.in_ok-block.ensures within c.in_ok-make_room.ensures.steps c.note.ensures in
-    record {
-      letters = subst (λ (gs : Vec Graph Global). AllTold (FitsLetter B gs.items) c.make_room.new.self.letters.told.items) (sym c.in_ok-make_room.ensures.graphs)
-          (subst (λ (m : Memo). AllTold (FitsLetter B mid.graphs.items) m.told.items) (sym (c.in_ok-make_room.ensures.letters ∙ has.letters)) letters);
-      steps = subst (λ (gs : Vec Graph Global). AllTold (FitsStep B gs.items) c.note.new.self.told.items) (sym c.in_ok-make_room.ensures.graphs) steps;
-    }
+pub returns-clause-is : goal.returns-clause-is
+returns-clause-is c =
+    taken_is c.take_step.result c.args.second.now AsTheyAre c.args.from c.args.label c.args.self.now c.write_extended.new.self c.take_step.new.self c.write_extended.ensures.items c.write_extended.ensures.fresh c.take_step.ensures.is
+
+pub returns-clause-grown : goal.returns-clause-grown
+returns-clause-grown c = taken_grown c.take_step.result c.args.self.now.graphs.items c.write_extended.new.self.graphs.items c.take_step.new.self.graphs.items c.write_extended.ensures.items c.take_step.ensures.grown
+
+pub returns-clause-stock : goal.returns-clause-stock
+returns-clause-stock c =
+    let written = c.write_extended.ensures in
+    taken_stock c.take_step.result c.args.second.now AsTheyAre c.args.from c.args.label c.args.self.now c.write_extended.new.self c.take_step.new.self written.items written.fresh
+    (stock_written c.args.second.now AsTheyAre c.args.self.now c.write_extended.new.self c.requires.stock written.pool written.items written.letters written.steps written.rows) c.requires.formed c.take_step.ensures.stock
