@@ -1,6 +1,7 @@
 //! Decisions with announced letters on files in memory: the certificate of version 2 that is left, and what a check says of it.
 
-use crate::include_tests::{answers, holds, says, shelf_of};
+use crate::include_tests::{answers, says};
+use crate::shrink_tests::{holds, shelf_of};
 use crate::tests::check;
 use crate::yes_tests::with_lines;
 use std::test::Fail;
@@ -73,12 +74,12 @@ fn decisions_with_letters_write_version_2(rt: HostRuntime) -> Result<(), Fail> {
         ),
     ];
     for (words, first, second, status, printed, certificate) in rows {
-        let mut shelf = shelf_of(alloc, first, second, &[])?;
+        let mut shelf = shelf_of(alloc, &[("A", first), ("B", second)], &[])?;
         assert_eq!(rt;
             says(alloc, words, &mut shelf, &[], printed)?,
             (status, true)
         );
-        assert!(rt; holds(alloc, &mut shelf, certificate));
+        assert!(rt; holds(alloc, &mut shelf, "C", certificate));
         assert_eq!(rt;
             answers(alloc, "check", &mut shelf, &[], printed)?,
             (status, true)

@@ -1,6 +1,7 @@
 //! Finite words: decisions, checks of what they wrote, and reductions; and a run over a lasso.
 
-use crate::include_tests::{holds, says, shelf_of};
+use crate::include_tests::says;
+use crate::shrink_tests::{holds, shelf_of};
 use crate::tests::answers;
 use auto_core::{Auto, Lasso, List, Memory, Trans, Word};
 use lasso_accept::{accepts_word, run_of};
@@ -37,12 +38,12 @@ fn words_are_decided_and_checked(rt: HostRuntime) -> Result<(), Fail> {
     ];
     let decide = ["include", "A", "B", "C", "--finite"];
     for (first, second, status, printed, certificate) in rows {
-        let mut shelf = shelf_of(alloc, first, second, &[])?;
+        let mut shelf = shelf_of(alloc, &[("A", first), ("B", second)], &[])?;
         assert_eq!(rt;
             says(alloc, &decide, &mut shelf, &[], printed)?,
             (status, true)
         );
-        assert!(rt; holds(alloc, &mut shelf, certificate));
+        assert!(rt; holds(alloc, &mut shelf, "C", certificate));
         assert_eq!(rt;
             says(alloc, &["check", "A", "B", "C"], &mut shelf, &[], printed)?,
             (status, true)
@@ -60,7 +61,7 @@ const UNDER_YES: &str =
 #[test]
 fn words_are_decided_by_reduced_automata(rt: HostRuntime) -> Result<(), Fail> {
     let alloc = rt.alloc();
-    let mut shelf = shelf_of(alloc, UNDER, UNDER, &[])?;
+    let mut shelf = shelf_of(alloc, &[("A", UNDER), ("B", UNDER)], &[])?;
     assert_eq!(rt;
         says(
             alloc,
@@ -71,7 +72,7 @@ fn words_are_decided_by_reduced_automata(rt: HostRuntime) -> Result<(), Fail> {
         )?,
         (0, true)
     );
-    assert!(rt; holds(alloc, &mut shelf, UNDER_YES));
+    assert!(rt; holds(alloc, &mut shelf, "C", UNDER_YES));
     assert_eq!(rt;
         says(
             alloc,
@@ -88,7 +89,7 @@ fn words_are_decided_by_reduced_automata(rt: HostRuntime) -> Result<(), Fail> {
 #[test]
 fn words_past_the_limit_are_listed(rt: HostRuntime) -> Result<(), Fail> {
     let alloc = rt.alloc();
-    let mut shelf = shelf_of(alloc, TURNS, TURNS, &[])?;
+    let mut shelf = shelf_of(alloc, &[("A", TURNS), ("B", TURNS)], &[])?;
     assert_eq!(rt;
         says(
             alloc,
@@ -101,7 +102,7 @@ fn words_past_the_limit_are_listed(rt: HostRuntime) -> Result<(), Fail> {
     );
     let list =
         "rabit-cert 1 finite list\nsizes 2 2 1\nlog1 0\nlog2 0\nlimit 1\nelements 2\nstart\nnext 0 0\nend\n";
-    assert!(rt; holds(alloc, &mut shelf, list));
+    assert!(rt; holds(alloc, &mut shelf, "C", list));
     Ok(())
 }
 

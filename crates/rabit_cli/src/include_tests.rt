@@ -1,7 +1,7 @@
 //! The decision of an inclusion on files in memory: what it prints, the certificate that it leaves, and what a check says of that.
 
 use crate::search_tests::looped_ring;
-use crate::shrink_tests;
+use crate::shrink_tests::{holds, shelf_of};
 use crate::tests::{numbers_of, words_of};
 use crate::top::run;
 use auto_core::Memory;
@@ -29,19 +29,8 @@ pub const PAIR: &str = "a,[5]->[7]\nb,[7]->[5]\n";
 pub const ONE_YES: &str =
     "rabit-cert 1 buchi yes\nsizes 1 1 1\nlog1 0\nlog2 0\nrel 1\nrow 0 0\nelements 1\nlive base 0\ncover 0\nstep 0 0\nend\n";
 
-/// A shelf with the two files, with room for a certificate.
-pub fn shelf_of(
-    alloc: Global,
-    first: &str,
-    second: &str,
-    fails: &[u64],
-) -> Result<MemShelf, Memory> {
-    let files = [("A", first), ("B", second)];
-    shrink_tests::shelf_of(alloc, &files, fails)
-}
-
 /// The status of the words on the shelf's files, and whether just this text was sent.
-pub fn says(
+pub(crate) fn says(
     alloc: Global,
     words: &[&str],
     shelf: &mut MemShelf,
@@ -55,7 +44,7 @@ pub fn says(
 }
 
 /// The same of the command with the names of the two files and of the certificate.
-pub fn answers(
+pub(crate) fn answers(
     alloc: Global,
     command: &str,
     shelf: &mut MemShelf,
@@ -63,11 +52,6 @@ pub fn answers(
     printed: &str,
 ) -> Result<(u8, bool), Memory> {
     says(alloc, &[command, "A", "B", "C"], shelf, sink_fails, printed)
-}
-
-/// Whether the shelf holds just this text under the certificate's name.
-pub fn holds(alloc: Global, shelf: &mut MemShelf, certificate: &str) -> bool {
-    shrink_tests::holds(alloc, shelf, "C", certificate)
 }
 
 #[test]
@@ -82,7 +66,7 @@ fn a_check_says_what_the_decision_said(rt: HostRuntime) -> Result<(), Fail> {
         (PAIR, PAIR, 0, "included\n"),
     ];
     for (first, second, status, printed) in rows {
-        let mut shelf = shelf_of(alloc, first, second, &[])?;
+        let mut shelf = shelf_of(alloc, &[("A", first), ("B", second)], &[])?;
         assert_eq!(rt;
             answers(alloc, "include", &mut shelf, &[], printed)?,
             (status, true)
@@ -112,9 +96,9 @@ fn certificates_are_written_whole(rt: HostRuntime) -> Result<(), Fail> {
         ),
     ];
     for (first, second, certificate) in rows {
-        let mut shelf = shelf_of(alloc, first, second, &[])?;
+        let mut shelf = shelf_of(alloc, &[("A", first), ("B", second)], &[])?;
         answers(alloc, "include", &mut shelf, &[], "")?;
-        assert!(rt; holds(alloc, &mut shelf, certificate));
+        assert!(rt; holds(alloc, &mut shelf, "C", certificate));
     }
     Ok(())
 }
@@ -135,7 +119,7 @@ fn failing_calls_of_a_decision_are_told(rt: HostRuntime) -> Result<(), Fail> {
         (&[7], &[], 0, "included\n"),
     ];
     for (fails, sink_fails, status, printed) in rows {
-        let mut shelf = shelf_of(alloc, text.as_str(), text.as_str(), fails)?;
+        let mut shelf = shelf_of(alloc, &[("A", text.as_str()), ("B", text.as_str())], fails)?;
         assert_eq!(rt;
             answers(alloc, "include", &mut shelf, sink_fails, printed)?,
             (status, true)
@@ -160,7 +144,7 @@ fn each_call_that_fails_before_the_put_changes_no_file(rt: HostRuntime) -> Resul
     let alloc = rt.alloc();
     // each of the two files is begun and then taken in two calls, and the put is the seventh call
     for call in 0..7 {
-        let mut shelf = shelf_of(alloc, ONE_A, ONE_A, &[call])?;
+        let mut shelf = shelf_of(alloc, &[("A", ONE_A), ("B", ONE_A)], &[call])?;
         let (status, printed) = if call < 6 {
             (6, "read fault\n")
         } else {
@@ -171,14 +155,14 @@ fn each_call_that_fails_before_the_put_changes_no_file(rt: HostRuntime) -> Resul
             (status, true)
         );
         for name in ["A", "B"] {
-            assert!(rt; shrink_tests::holds(alloc, &mut shelf, name, ONE_A));
+            assert!(rt; holds(alloc, &mut shelf, name, ONE_A));
         }
         let missing = load(alloc, &mut shelf, "C", 1000).err();
         assert_eq!(rt; missing, Some(LoadFault::Failed));
     }
-    let mut shelf = shelf_of(alloc, ONE_A, ONE_A, &[])?;
+    let mut shelf = shelf_of(alloc, &[("A", ONE_A), ("B", ONE_A)], &[])?;
     assert_eq!(rt; answers(alloc, "include", &mut shelf, &[0], "")?, (7, true));
-    assert!(rt; holds(alloc, &mut shelf, ONE_YES));
+    assert!(rt; holds(alloc, &mut shelf, "C", ONE_YES));
     Ok(())
 }
 
@@ -194,7 +178,7 @@ fn names_may_be_the_same_and_files_faulty(rt: HostRuntime) -> Result<(), Fail> {
         ("X", "B", 6, "read fault\n"),
     ];
     for (first, second, status, printed) in rows {
-        let mut shelf = shelf_of(alloc, ONE_A, "a,[0]-[1]\n", &[])?;
+        let mut shelf = shelf_of(alloc, &[("A", ONE_A), ("B", "a,[0]-[1]\n")], &[])?;
         let words = ["include", first, second, "C"];
         assert_eq!(rt;
             says(alloc, &words, &mut shelf, &[], printed)?,
@@ -213,7 +197,7 @@ fn a_decision_meets_its_limit(rt: HostRuntime) -> Result<(), Fail> {
     let alloc = rt.alloc();
     // paths lead from each of the 142 states to each, which makes 20164 supergraphs or more
     let text = looped_ring(alloc, 142)?;
-    let mut shelf = shelf_of(alloc, text.as_str(), ANY, &[])?;
+    let mut shelf = shelf_of(alloc, &[("A", text.as_str()), ("B", ANY)], &[])?;
     assert_eq!(rt;
         answers(alloc, "include", &mut shelf, &[], "limit 20000\n")?,
         (2, true)
@@ -236,13 +220,13 @@ fn a_limit_that_is_met_makes_a_list(rt: HostRuntime) -> Result<(), Fail> {
         ("4", 0, "included\n"),
     ];
     for (limit, status, printed) in rows {
-        let mut shelf = shelf_of(alloc, PAIR, PAIR, &[])?;
+        let mut shelf = shelf_of(alloc, &[("A", PAIR), ("B", PAIR)], &[])?;
         let words = ["include", "A", "B", "C", "--limit", limit];
         assert_eq!(rt;
             says(alloc, &words, &mut shelf, &[], printed)?,
             (status, true)
         );
-        assert_eq!(rt; holds(alloc, &mut shelf, list), limit == "1");
+        assert_eq!(rt; holds(alloc, &mut shelf, "C", list), limit == "1");
     }
     Ok(())
 }

@@ -1,6 +1,7 @@
 //! Lists of both modes: valid ones, those that a decision writes, and one line changed so that each rule in turn is the first that is broken.
 
-use crate::include_tests::{says, shelf_of};
+use crate::include_tests::says;
+use crate::shrink_tests::shelf_of;
 use crate::tests::check;
 use crate::yes_tests::with_lines;
 use std::test::Fail;
@@ -112,7 +113,7 @@ fn lists_that_are_written_are_accepted(rt: HostRuntime) -> Result<(), Fail> {
         &["include", "A", "B", "C", "--limit", "1", "--finite"],
     ];
     for words in rows {
-        let mut shelf = shelf_of(alloc, PAIR, PAIR, &[])?;
+        let mut shelf = shelf_of(alloc, &[("A", PAIR), ("B", PAIR)], &[])?;
         let printed = if words.len() == 6 {
             "limit 2\n"
         } else {

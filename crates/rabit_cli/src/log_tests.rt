@@ -1,6 +1,7 @@
 //! Certificates over reduced automata: those that a decision writes.
 
-use crate::include_tests::{answers, holds, shelf_of};
+use crate::include_tests::answers;
+use crate::shrink_tests::{holds, shelf_of};
 use crate::tests::{ONE_A, check};
 use crate::yes_tests::with_lines;
 use std::alloc::Global;
@@ -89,13 +90,13 @@ fn decisions_write_their_logs(rt: HostRuntime) -> Result<(), Fail> {
         (A_ONCE, ONE_B, TRIMMED),
     ];
     for (first, second, certificate) in rows {
-        let mut shelf = shelf_of(alloc, first, second, &[])?;
+        let mut shelf = shelf_of(alloc, &[("A", first), ("B", second)], &[])?;
         for command in ["include", "check"] {
             assert_eq!(rt;
                 answers(alloc, command, &mut shelf, &[], "included\n")?,
                 (0, true)
             );
-            assert!(rt; holds(alloc, &mut shelf, certificate));
+            assert!(rt; holds(alloc, &mut shelf, "C", certificate));
         }
     }
     assert_eq!(rt;

@@ -26,12 +26,16 @@ const YES: &str =
     "rabit-cert 1 buchi yes\nsizes 1 1 1\nlog1 0\nlog2 0\nrel 1\nrow 0 0\nelements 1\nlive base 0\ncover 0\nstep 0 0\nend\n";
 
 /// A shelf with these files, and with room for one more.
-pub fn shelf_of(alloc: Global, files: &[(&str, &str)], fails: &[u64]) -> Result<MemShelf, Memory> {
+pub(crate) fn shelf_of(
+    alloc: Global,
+    files: &[(&str, &str)],
+    fails: &[u64],
+) -> Result<MemShelf, Memory> {
     shelf_with(alloc, files, 1_000_000, 65536, fails)
 }
 
 /// Whether the shelf holds just this text under the name.
-pub fn holds(alloc: Global, shelf: &mut MemShelf, name: &str, text: &str) -> bool {
+pub(crate) fn holds(alloc: Global, shelf: &mut MemShelf, name: &str, text: &str) -> bool {
     match load(alloc, shelf, name, 1_000_000) {
         Ok(bytes) => bytes.as_slice() == text.as_bytes(),
         Err(_) => false,

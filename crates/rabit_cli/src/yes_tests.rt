@@ -32,7 +32,7 @@ pub const LINES: [&str; 18] = [
 ];
 
 /// The text of the lines, with these in place of those with the same numbers, which are counted from 0.
-pub fn with_lines(
+pub(crate) fn with_lines(
     alloc: Global,
     lines: &[&str],
     changes: &[(usize, &str)],

@@ -47,8 +47,14 @@ fn reply_of<'w, W: Work, H: Shelf>(
     };
     match reading::read_all(alloc, shelf, slots.as_slice(), List::new(alloc)) {
         Ok(values) => match work.answer(alloc, values.as_slice()) {
-            Ok(reply) => Ok(reply),
-            Err(_refused) => Err(Lack::OutOfMemory),
+            Ok(reply) => {
+                drop(values);
+                Ok(reply)
+            }
+            Err(_refused) => {
+                drop(values);
+                Err(Lack::OutOfMemory)
+            }
         },
         Err(Halt::Stopped(reply)) => Ok(reply),
         Err(Halt::ReadFault) => Err(Lack::ReadFault),
@@ -137,7 +143,11 @@ pub fn carry_out_unsaid<W: Work, H: Shelf>(alloc: Global, work: &W, shelf: &mut 
     ensures begun { BegunByStatus (W.inputs work.now) result (H.held shelf.old) (H.blamed shelf.new) (H.begins shelf.old) (H.begins shelf.new) }
 {
     match ending_of(alloc, work, shelf) {
-        Ending::Reached(reply) => reply.status.number(),
+        Ending::Reached(reached) => {
+            let own = reached.status.number();
+            drop(reached);
+            own
+        }
         Ending::ReadFault => 6,
         Ending::WriteFault => 7,
         Ending::OutOfMemory => 8,
@@ -193,5 +203,7 @@ pub fn carry_out<W: Work, H: Shelf, K: Sink>(
     ensures missing { IfSome (H.held shelf.old) (λ files. MissedInTurn files (W.inputs work.now) (H.missed shelf.old) (H.missed shelf.new)) }
 {
     let ending = ending_of(alloc, work, shelf);
-    say(&ending, out)
+    let status = say(&ending, out);
+    drop(ending);
+    status
 }

@@ -42,7 +42,10 @@ fn take_in<H: Shelf>(alloc: Global, shelf: &mut H, slot: &Slot<'_>) -> Result<In
     let mut intake = Intake::new(alloc, slot.kind);
     match shelf_io::pour(alloc, shelf, slot.name, most_bytes(slot.kind), &mut intake) {
         Ok(_) => Ok(intake),
-        Err(fault) => Err(fault),
+        Err(fault) => {
+            drop(intake);
+            Err(fault)
+        }
     }
 }
 
@@ -100,12 +103,18 @@ pub fn read_all<H: Shelf>(
         [first, rest @ ..] => {
             let value = match read_one(alloc, shelf, first) {
                 Ok(value) => value,
-                Err(halt) => return Err(halt),
+                Err(halt) => {
+                    drop(values);
+                    return Err(halt);
+                }
             };
             let mut values = values;
             match values.push(value) {
                 Ok(()) => read_all(alloc, shelf, rest, values),
-                Err(_refused) => Err(Halt::OutOfMemory),
+                Err(_refused) => {
+                    drop(values);
+                    Err(Halt::OutOfMemory)
+                }
             }
         }
     }

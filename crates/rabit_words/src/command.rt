@@ -1,7 +1,7 @@
 //! The program's command, as `clap` has it.
 
 ghost use Rattle.std.specs.Prelude.{◌≡◌, false, codes, IfOk};
-ghost use Rattle.clap.specs.Words.{rule_of, app_of};
+ghost use Rattle.clap.specs.Words.{rule_of, app_of, with_rule};
 ghost use Rattle.clap.specs.declared.builder.command.Command.TheViews.{out-Command};
 ghost use Rattle.rabit_words.specs.Command.{place, option_with_word, option_alone, two_files_app, three_files_app, include_app, check_app, reduce_app, drill_app, upgrade_app, cross_app, cross_check_app, equal_app, batch_app, union_app, intersect_app, shrink_app, deciding_app, empty_app, universal_app, rabit_app};
 
@@ -32,14 +32,48 @@ fn option_alone<'a>(alloc: Global, id: &'a str) -> Arg<'a>
     Arg::new(alloc, id).long(id).action(ArgAction::SetTrue)
 }
 
+/// The command with the place of a word after its arguments.
+fn with_place<'a>(
+    alloc: Global,
+    command: Command<'a>,
+    id: &'a str,
+) -> Result<Command<'a>, AllocError>
+    requires { (out-Command command).has_globals ≡ false }
+    ensures app { IfOk result (λ c. app_of c ≡ with_rule (app_of command.entry) (place id.entry.now)) }
+    ensures local { IfOk result (λ c. (out-Command c).has_globals ≡ false) }
+{
+    command.arg(place(alloc, id))
+}
+
+/// The command with an option with a word after its arguments.
+fn with_word<'a>(
+    alloc: Global,
+    command: Command<'a>,
+    id: &'a str,
+) -> Result<Command<'a>, AllocError>
+    requires { (out-Command command).has_globals ≡ false }
+    ensures app { IfOk result (λ c. app_of c ≡ with_rule (app_of command.entry) (option_with_word id.entry.now)) }
+    ensures local { IfOk result (λ c. (out-Command c).has_globals ≡ false) }
+{
+    command.arg(option_with_word(alloc, id))
+}
+
+/// The command with `--finite` after its arguments.
+fn with_finite<'a>(alloc: Global, command: Command<'a>) -> Result<Command<'a>, AllocError>
+    requires { (out-Command command).has_globals ≡ false }
+    ensures app { IfOk result (λ c. app_of c ≡ with_rule (app_of command.entry) (option_alone (codes "finite"))) }
+    ensures local { IfOk result (λ c. (out-Command c).has_globals ≡ false) }
+{
+    command.arg(option_alone(alloc, "finite"))
+}
+
 /// A command of this name with the places of two automata.
 fn with_two_files<'a>(alloc: Global, name: &'a str) -> Result<Command<'a>, AllocError>
     ensures app { IfOk result (λ c. app_of c ≡ two_files_app name.entry.now) }
     ensures local { IfOk result (λ c. (out-Command c).has_globals ≡ false) }
 {
-    Command::new(alloc, name)
-        .arg(place(alloc, "A"))?
-        .arg(place(alloc, "B"))
+    let first = with_place(alloc, Command::new(alloc, name), "A")?;
+    with_place(alloc, first, "B")
 }
 
 /// A command of this name with the places of two automata and a certificate.
@@ -47,7 +81,8 @@ fn with_three_files<'a>(alloc: Global, name: &'a str) -> Result<Command<'a>, All
     ensures app { IfOk result (λ c. app_of c ≡ three_files_app name.entry.now) }
     ensures local { IfOk result (λ c. (out-Command c).has_globals ≡ false) }
 {
-    with_two_files(alloc, name)?.arg(place(alloc, "CERT"))
+    let files = with_two_files(alloc, name)?;
+    with_place(alloc, files, "CERT")
 }
 
 /// `include A B CERT [--finite] [--look K] [--limit N] [--letters M]`
@@ -55,11 +90,11 @@ fn include<'a>(alloc: Global) -> Result<Command<'a>, AllocError>
     ensures app { IfOk result (λ c. app_of c ≡ include_app) }
     ensures local { IfOk result (λ c. (out-Command c).has_globals ≡ false) }
 {
-    with_three_files(alloc, "include")?
-        .arg(option_alone(alloc, "finite"))?
-        .arg(option_with_word(alloc, "look"))?
-        .arg(option_with_word(alloc, "limit"))?
-        .arg(option_with_word(alloc, "letters"))
+    let files = with_three_files(alloc, "include")?;
+    let finite = with_finite(alloc, files)?;
+    let look = with_word(alloc, finite, "look")?;
+    let limit = with_word(alloc, look, "limit")?;
+    with_word(alloc, limit, "letters")
 }
 
 /// `check A B CERT`
@@ -75,11 +110,10 @@ fn reduce<'a>(alloc: Global) -> Result<Command<'a>, AllocError>
     ensures app { IfOk result (λ c. app_of c ≡ reduce_app) }
     ensures local { IfOk result (λ c. (out-Command c).has_globals ≡ false) }
 {
-    Command::new(alloc, "reduce")
-        .arg(place(alloc, "A"))?
-        .arg(option_alone(alloc, "finite"))?
-        .arg(option_with_word(alloc, "look"))?
-        .arg(option_with_word(alloc, "letters"))
+    let automaton = with_place(alloc, Command::new(alloc, "reduce"), "A")?;
+    let finite = with_finite(alloc, automaton)?;
+    let look = with_word(alloc, finite, "look")?;
+    with_word(alloc, look, "letters")
 }
 
 /// `drill SEED STATES LABELS`
@@ -87,10 +121,9 @@ fn drill<'a>(alloc: Global) -> Result<Command<'a>, AllocError>
     ensures app { IfOk result (λ c. app_of c ≡ drill_app) }
     ensures local { IfOk result (λ c. (out-Command c).has_globals ≡ false) }
 {
-    Command::new(alloc, "drill")
-        .arg(place(alloc, "SEED"))?
-        .arg(place(alloc, "STATES"))?
-        .arg(place(alloc, "LABELS"))
+    let seed = with_place(alloc, Command::new(alloc, "drill"), "SEED")?;
+    let states = with_place(alloc, seed, "STATES")?;
+    with_place(alloc, states, "LABELS")
 }
 
 /// `upgrade CERT OUT`
@@ -98,9 +131,8 @@ fn upgrade<'a>(alloc: Global) -> Result<Command<'a>, AllocError>
     ensures app { IfOk result (λ c. app_of c ≡ upgrade_app) }
     ensures local { IfOk result (λ c. (out-Command c).has_globals ≡ false) }
 {
-    Command::new(alloc, "upgrade")
-        .arg(place(alloc, "CERT"))?
-        .arg(place(alloc, "OUT"))
+    let certificate = with_place(alloc, Command::new(alloc, "upgrade"), "CERT")?;
+    with_place(alloc, certificate, "OUT")
 }
 
 /// `cross A B OUT [--look K]`
@@ -108,9 +140,9 @@ fn cross<'a>(alloc: Global) -> Result<Command<'a>, AllocError>
     ensures app { IfOk result (λ c. app_of c ≡ cross_app) }
     ensures local { IfOk result (λ c. (out-Command c).has_globals ≡ false) }
 {
-    with_two_files(alloc, "cross")?
-        .arg(place(alloc, "OUT"))?
-        .arg(option_with_word(alloc, "look"))
+    let files = with_two_files(alloc, "cross")?;
+    let relation = with_place(alloc, files, "OUT")?;
+    with_word(alloc, relation, "look")
 }
 
 /// `cross-check A B FILE`
@@ -118,7 +150,8 @@ fn cross_check<'a>(alloc: Global) -> Result<Command<'a>, AllocError>
     ensures app { IfOk result (λ c. app_of c ≡ cross_check_app) }
     ensures local { IfOk result (λ c. (out-Command c).has_globals ≡ false) }
 {
-    with_two_files(alloc, "cross-check")?.arg(place(alloc, "FILE"))
+    let files = with_two_files(alloc, "cross-check")?;
+    with_place(alloc, files, "FILE")
 }
 
 /// `equal A B C1 C2`
@@ -126,9 +159,9 @@ fn equal<'a>(alloc: Global) -> Result<Command<'a>, AllocError>
     ensures app { IfOk result (λ c. app_of c ≡ equal_app) }
     ensures local { IfOk result (λ c. (out-Command c).has_globals ≡ false) }
 {
-    with_two_files(alloc, "equal")?
-        .arg(place(alloc, "C1"))?
-        .arg(place(alloc, "C2"))
+    let files = with_two_files(alloc, "equal")?;
+    let certificate = with_place(alloc, files, "C1")?;
+    with_place(alloc, certificate, "C2")
 }
 
 /// `batch LIST`
@@ -136,7 +169,7 @@ fn batch<'a>(alloc: Global) -> Result<Command<'a>, AllocError>
     ensures app { IfOk result (λ c. app_of c ≡ batch_app) }
     ensures local { IfOk result (λ c. (out-Command c).has_globals ≡ false) }
 {
-    Command::new(alloc, "batch").arg(place(alloc, "LIST"))
+    with_place(alloc, Command::new(alloc, "batch"), "LIST")
 }
 
 /// `union A B [--finite]`
@@ -144,7 +177,8 @@ fn union<'a>(alloc: Global) -> Result<Command<'a>, AllocError>
     ensures app { IfOk result (λ c. app_of c ≡ union_app) }
     ensures local { IfOk result (λ c. (out-Command c).has_globals ≡ false) }
 {
-    with_two_files(alloc, "union")?.arg(option_alone(alloc, "finite"))
+    let files = with_two_files(alloc, "union")?;
+    with_finite(alloc, files)
 }
 
 /// `intersect A B [--finite]`
@@ -152,7 +186,8 @@ fn intersect<'a>(alloc: Global) -> Result<Command<'a>, AllocError>
     ensures app { IfOk result (λ c. app_of c ≡ intersect_app) }
     ensures local { IfOk result (λ c. (out-Command c).has_globals ≡ false) }
 {
-    with_two_files(alloc, "intersect")?.arg(option_alone(alloc, "finite"))
+    let files = with_two_files(alloc, "intersect")?;
+    with_finite(alloc, files)
 }
 
 /// `shrink A B CERT OUT`
@@ -160,7 +195,8 @@ fn shrink<'a>(alloc: Global) -> Result<Command<'a>, AllocError>
     ensures app { IfOk result (λ c. app_of c ≡ shrink_app) }
     ensures local { IfOk result (λ c. (out-Command c).has_globals ≡ false) }
 {
-    with_three_files(alloc, "shrink")?.arg(place(alloc, "OUT"))
+    let files = with_three_files(alloc, "shrink")?;
+    with_place(alloc, files, "OUT")
 }
 
 /// A command of this name with the places of an automaton, of another that is written, and of a certificate.
@@ -168,11 +204,10 @@ fn deciding<'a>(alloc: Global, name: &'a str, other: &'a str) -> Result<Command<
     ensures app { IfOk result (λ c. app_of c ≡ deciding_app name.entry.now other.entry.now) }
     ensures local { IfOk result (λ c. (out-Command c).has_globals ≡ false) }
 {
-    Command::new(alloc, name)
-        .arg(place(alloc, "A"))?
-        .arg(place(alloc, other))?
-        .arg(place(alloc, "CERT"))?
-        .arg(option_alone(alloc, "finite"))
+    let automaton = with_place(alloc, Command::new(alloc, name), "A")?;
+    let made = with_place(alloc, automaton, other)?;
+    let certificate = with_place(alloc, made, "CERT")?;
+    with_finite(alloc, certificate)
 }
 
 /// `empty A E CERT [--finite]`

@@ -4,7 +4,7 @@ use Rattle.rabit_frame.proofs.EndLemmas.{puts_by_status, begun_by_status}
 use Rattle.rabit_frame.proofs.carrying.carry_out_unsaid.Goals as goal
 
 pub returns-in-Reached-clause-put_once : goal.returns-in-Reached-clause-put_once
-returns-in-Reached-clause-put_once g c = puts_by_status _ _ _ _ _ _ (ending.Reached c.in-Reached.reply) _ c.in-Reached.ensures.put_once (inl c.number.ensures)
+returns-in-Reached-clause-put_once g c = puts_by_status _ _ _ _ _ _ (ending.Reached c.in-Reached.reached) _ c.in-Reached.ensures.put_once (inl c.number-own.ensures)
 
 pub returns-in-ReadFault-clause-put_once : goal.returns-in-ReadFault-clause-put_once
 returns-in-ReadFault-clause-put_once g c = puts_by_status _ _ _ _ _ _ ending.ReadFault 6 c.in-ReadFault.ensures.put_once (inl refl)
@@ -16,4 +16,4 @@ pub returns-in-OutOfMemory-clause-put_once : goal.returns-in-OutOfMemory-clause-
 returns-in-OutOfMemory-clause-put_once g c = puts_by_status _ _ _ _ _ _ ending.OutOfMemory 8 c.in-OutOfMemory.ensures.put_once (inl refl)
 
 pub returns-in-Reached-clause-begun : goal.returns-in-Reached-clause-begun
-returns-in-Reached-clause-begun g c = begun_by_status _ _ _ _ _ (ending.Reached c.in-Reached.reply) _ c.in-Reached.ensures.begun (inl c.number.ensures)
+returns-in-Reached-clause-begun g c = begun_by_status _ _ _ _ _ (ending.Reached c.in-Reached.reached) _ c.in-Reached.ensures.begun (inl c.number-own.ensures)
