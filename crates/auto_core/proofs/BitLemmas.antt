@@ -146,6 +146,24 @@ missing_found row other i row_fits other_fits i_in m_fits some =
       omega arith,
     )
 
+-- a bit that a word does not lack of another's
+bit_within :
+    (row other : List ℕ) (k : ℕ)
+    → get_or row k 0 < 2 ^ 64
+    → get_or other k 0 < 2 ^ 64
+    → (i : ℕ)
+    → i / 64 ≡ k
+    → bit_at (missing (get_or row k 0) (get_or other k 0)) (i % 64) ≡ 0
+    → HasBit row i
+    → HasBit other i
+bit_within row other k row_fits other_fits i at nothing h =
+    let a : ℕ = get_or row k 0 in
+    let b : ℕ = get_or other k 0 in
+    let has : bit_at a (i % 64) ≡ 1 = eqb-true (bit_at a (i % 64)) 1 (subst (λ m. (bit_at (get_or row m 0) (i % 64) == 1) ≡ true) at h) in
+    let also = within_from_min (bit_at a (i % 64)) (bit_at b (i % 64)) (bit_at-lt a (i % 64)) (bit_at-lt b (i % 64))
+    (sym (missing_tests a b (i % 64) row_fits other_fits (in_word i)) ∙ nothing) has in
+    subst (λ m. (bit_at (get_or other m 0) (i % 64) == 1) ≡ true) (sym at) (eq-eqb (bit_at b (i % 64)) 1 also)
+
 -- a word that lacks no bit of another's
 pub word_within :
     (row other : List ℕ) (k : ℕ)
@@ -156,14 +174,34 @@ pub word_within :
     → i / 64 ≡ k
     → HasBit row i
     → HasBit other i
-word_within row other k row_fits other_fits none i at h =
-    let a : ℕ = get_or row k 0 in
-    let b : ℕ = get_or other k 0 in
-    let nothing : bit_at (missing a b) (i % 64) ≡ 0 = ap (λ n. bit_at n (i % 64)) none ∙ bit_at-zero (i % 64) in
-    let has : bit_at a (i % 64) ≡ 1 = eqb-true (bit_at a (i % 64)) 1 (subst (λ m. (bit_at (get_or row m 0) (i % 64) == 1) ≡ true) at h) in
-    let also = within_from_min (bit_at a (i % 64)) (bit_at b (i % 64)) (bit_at-lt a (i % 64)) (bit_at-lt b (i % 64))
-    (sym (missing_tests a b (i % 64) row_fits other_fits (in_word i)) ∙ nothing) has in
-    subst (λ m. (bit_at (get_or other m 0) (i % 64) == 1) ≡ true) (sym at) (eq-eqb (bit_at b (i % 64)) 1 also)
+word_within row other k row_fits other_fits none i at =
+    bit_within row other k row_fits other_fits i at (ap (λ n. bit_at n (i % 64)) none ∙ bit_at-zero (i % 64))
+
+-- before the lowest bit of the first word that lacks one, none is missing
+pub none_before :
+    (row other : List ℕ) (i : ℕ)
+    → ((k : ℕ) → get_or row k 0 < 2 ^ 64)
+    → ((k : ℕ) → get_or other k 0 < 2 ^ 64)
+    → ((k : ℕ) → k < i → missing (get_or row k 0) (get_or other k 0) ≡ 0)
+    → missing (get_or row i 0) (get_or other i 0) < 2 ^ 64
+    → ¬ (missing (get_or row i 0) (get_or other i 0) ≡ 0)
+    → (j : ℕ)
+    → j < i * 64 + trailing_zeros w64 (missing (get_or row i 0) (get_or other i 0))
+    → HasBit row j
+    → HasBit other j
+none_before row other i row_fits other_fits before m_fits some j j_in h =
+    let m = missing (get_or row i 0) (get_or other i 0) in
+    let positive : 0 < m = omega arith in
+    let found = bit_at-trailing_zeros w64 m positive m_fits in
+    let t = trailing_zeros w64 m in
+    let t_in : t < 64 = found.0 in
+    elim (cases_lt (j / 64) i) [
+      | inl lt ↦ word_within row other (j / 64) (row_fits (j / 64)) (other_fits (j / 64)) (before (j / 64) lt) j refl h
+      | inr from ↦
+          let at : j / 64 ≡ i = omega arith in
+          let below : j % 64 < t = omega arith in
+          bit_within row other i (row_fits i) (other_fits i) j at (found.2 (j % 64) below) h
+    ]
 
 pub none_missing :
     (row other : List ℕ)

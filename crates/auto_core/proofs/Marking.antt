@@ -3,15 +3,15 @@ use Rattle.std.proofs.Common.{◌≡◌, ℕ, ◌*◌, ◌<◌, ◌≤◌, ◌�
 use Rattle.std.proofs.lemmas.Bool.{cases_eq, cases_lt, or_cases, false≢true}
 use Rattle.auto_core.proofs.ReachLemmas.{close_trans, close_one}
 use Rattle.auto_core.specs.Rows.{bit_of, cell_of, HasBit, HasCell}
-use Rattle.auto_core.specs.Reach.{IsTable, Arc, MarksBelow}
+use Rattle.auto_core.specs.Reach.{IsTable, HasArc, MarksBelow}
 use Rattle.auto_core.specs.Game.{Close}
 
 -- The marks are reached from the old ones, and the arcs out of what is done lead to marks.
 pub record IsMarking (table : List ℕ) (count width : ℕ) (old marks done : List ℕ) : Type 0 where
   pub below : MarksBelow marks count
-  pub each : (q : ℕ) → HasBit marks q → (p : ℕ) × HasBit old p × Close (Arc table count width) p q
+  pub each : (q : ℕ) → HasBit marks q → (p : ℕ) × HasBit old p × Close (HasArc table count width) p q
   pub kept : (q : ℕ) → HasBit old q → HasBit marks q
-  pub visited : (p q : ℕ) → HasBit done p → Arc table count width p q → HasBit marks q
+  pub visited : (p q : ℕ) → HasBit done p → HasArc table count width p q → HasBit marks q
 
 or_left : (a b c : Bool) → a ≡ (b || c) → b ≡ true → a ≡ true
 or_left a b c e h = e ∙ ap (λ x. x || c) h
@@ -34,7 +34,7 @@ pub visit :
     → IsMarking table count width old marks' done'
 visit table count width old marks done m t p row marks' done' p_marked inside outside merged others =
     let p_in : p < count = m.below p p_marked in
-    let arc_of : (q : ℕ) → HasBit row q → Arc table count width p q =
+    let arc_of : (q : ℕ) → HasBit row q → HasArc table count width p q =
     λ q h.
     elim (cases_lt q (width * 64)) [
       | inl near ↦
@@ -51,7 +51,7 @@ visit table count width old marks done m t p row marks' done' p_marked inside ou
             | inl was ↦ m.each q was
             | inr new ↦
                 let (s, marked, way) = m.each p p_marked in
-                (s, marked, close_trans (Arc table count width) s p q way (close_one (Arc table count width) p q (arc_of q new)))
+                (s, marked, close_trans (HasArc table count width) s p q way (close_one (HasArc table count width) p q (arc_of q new)))
           ];
       kept = λ q h. or_left (bit_of marks' q) (bit_of marks q) (bit_of row q) (merged q) (m.kept q h);
       visited = λ r q h a.

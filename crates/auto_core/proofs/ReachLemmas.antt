@@ -2,7 +2,7 @@
 use Rattle.std.proofs.Common.{◌≡◌, ℕ, zero, suc, ◌+◌, ◌*◌, ◌<◌, ◌≤◌, inl, inr, true, false, List, cond, refl, sym, ◌∙◌, subst, arith}
 use Rattle.std.proofs.lemmas.Bool.{cases_eq, cases_lt, false≢true}
 use Rattle.auto_core.specs.Rows.{bit_of, cell_of, HasBit, HasCell}
-use Rattle.auto_core.specs.Reach.{IsTable, Arc, AreReached, ReturnsTo}
+use Rattle.auto_core.specs.Reach.{IsTable, HasArc, AreReached, ReturnsTo}
 use Rattle.auto_core.specs.Game.{Chain, Close}
 
 -- how many of the first n bits are not set
@@ -79,9 +79,9 @@ pub returned :
     → (row new : List ℕ)
     → ((q : ℕ) → q < width * 64 → bit_of row q ≡ cell_of flagged width at q)
     → ((q : ℕ) → width * 64 ≤ q → bit_of row q ≡ false)
-    → AreReached (Arc any n width) row new
-    → (HasBit new at → ReturnsTo (Arc any n width) (Arc flagged n width) at)
-    × (ReturnsTo (Arc any n width) (Arc flagged n width) at → HasBit new at)
+    → AreReached (HasArc any n width) row new
+    → (HasBit new at → ReturnsTo (HasArc any n width) (HasArc flagged n width) at)
+    × (ReturnsTo (HasArc any n width) (HasArc flagged n width) at → HasBit new at)
 returned any flagged n width at t at_in row new inside outside r = (
   λ h.
       let (q, in_row, way) = r.each at h in

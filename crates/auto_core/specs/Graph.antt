@@ -3,7 +3,7 @@ use Rattle.std.specs.Prelude.{◌≡◌, ℕ, suc, ◌<◌, ◌≤◌, ◌⊎◌
 use Rattle.auto_core.specs.Automaton.{Automaton, Moves, IsAccepting, is_accepting, trans_at}
 use Rattle.auto_core.specs.Run.{Run}
 use Rattle.auto_core.specs.Game.{Close}
-use Rattle.auto_core.specs.Reach.{Arc}
+use Rattle.auto_core.specs.Reach.{HasArc}
 use Rattle.auto_core.specs.declared.parts.Trans.{Trans}
 use Rattle.auto_core.specs.declared.parts.Origin.{Origin}
 use Rattle.auto_core.specs.declared.parts.Origin.TheVariants.{Start, Base, Next}
@@ -41,7 +41,7 @@ extended B g a = record {
 -- The graph that two tables of bits hold between n states, whose rows have `width` words: the pairs joined, and those joined
 -- past an accepting state.
 abbrev pub graph_of_tables : List ℕ → List ℕ → ℕ → ℕ → Graph
-graph_of_tables joined past n width = record { joined = Arc joined n width; past = Arc past n width }
+graph_of_tables joined past n width = record { joined = HasArc joined n width; past = HasArc past n width }
 
 -- The graph that gives each pair of states the value that the function does.
 abbrev pub graph_of_values : (ℕ → ℕ → ℕ) → Graph

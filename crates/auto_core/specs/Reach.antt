@@ -10,8 +10,8 @@ pub record IsTable (table : List ℕ) (n width : ℕ) : Type 0 where
   pub columns : (p q : ℕ) → p < n → q < width * 64 → HasCell table width p q → q < n
 
 -- An arc of the table between two of its n places.
-abbrev pub Arc : List ℕ → ℕ → ℕ → ℕ → ℕ → Type 0
-Arc table n width p q = (p < n) × (q < n) × HasCell table width p q
+abbrev pub HasArc : List ℕ → ℕ → ℕ → ℕ → ℕ → Type 0
+HasArc table n width p q = (p < n) × (q < n) × HasCell table width p q
 
 -- The row marks only places below n.
 abbrev pub MarksBelow : List ℕ → ℕ → Type 0

@@ -2,7 +2,7 @@
 
 ghost use Rattle.std.specs.Prelude.{◌≡◌, ◌+◌, ◌*◌, ◌^◌, ◌<◌, ◌≤◌, ◌↔◌, ℕ, length, IsTrue};
 ghost use Rattle.auto_core.specs.Rows.{HasBit, HasCell};
-ghost use Rattle.auto_core.specs.Reach.{IsTable, Arc, MarksBelow, AreReached, ReturnsTo, HasFlaggedCycle};
+ghost use Rattle.auto_core.specs.Reach.{IsTable, HasArc, MarksBelow, AreReached, ReturnsTo, HasFlaggedCycle};
 
 use crate::rows;
 
@@ -14,13 +14,13 @@ pub fn reach(table: &[u64], count: u32, width: usize, marks: &mut [u64], done: &
     requires marks_len { length marks.old ≡ width }
     requires done_len { length done.old ≡ width }
     requires marks_below { MarksBelow marks.old count }
-    ensures reached { AreReached (Arc table.now count width) marks.old marks.new }
+    ensures reached { AreReached (HasArc table.now count width) marks.old marks.new }
     ensures below { MarksBelow marks.new count }
 {
     rows::clear_row(done);
     while let Some(place) = rows::first_missing(marks, done) {
         rows::set_bit(done, place);
-        rows::or_into(marks, rows::row_at(table, width, place));
+        rows::add_bits(marks, rows::row_at(table, width, place));
     }
 }
 
@@ -41,7 +41,7 @@ pub fn returns_to(
     requires back_len { length back.old ≡ width }
     requires done_len { length done.old ≡ width }
     requires place { at < count }
-    ensures { IsTrue result ↔ ReturnsTo (Arc any.now count width) (Arc flagged.now count width) at }
+    ensures { IsTrue result ↔ ReturnsTo (HasArc any.now count width) (HasArc flagged.now count width) at }
 {
     back.copy_from_slice(rows::row_at(flagged, width, at));
     reach(any, count, width, back, done);
@@ -66,8 +66,8 @@ pub fn has_flagged_cycle(
     requires back_len { length back.old ≡ width }
     requires done_len { length done.old ≡ width }
     requires marks_below { MarksBelow marks.old count }
-    ensures told { IsTrue result ↔ HasFlaggedCycle (Arc any.now count width) (Arc flagged.now count width) marks.old }
-    ensures reached { AreReached (Arc any.now count width) marks.old marks.new }
+    ensures told { IsTrue result ↔ HasFlaggedCycle (HasArc any.now count width) (HasArc flagged.now count width) marks.old }
+    ensures reached { AreReached (HasArc any.now count width) marks.old marks.new }
 {
     reach(any, count, width, marks, done);
     for at in 0..count as usize {

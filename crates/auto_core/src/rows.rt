@@ -1,6 +1,6 @@
 //! Rows of bits in words of 64, and tables of such rows.
 
-ghost use Rattle.std.specs.Prelude.{◌≡◌, ◌+◌, ◌*◌, ◌/◌, ◌^◌, ◌<◌, ◌≤◌, ◌||◌, ℕ, true, false, length, slice_index, bit_or, IfSome, IfNone, take, drop};
+ghost use Rattle.std.specs.Prelude.{◌≡◌, ◌+◌, ◌*◌, ◌/◌, ◌^◌, ◌<◌, ◌≤◌, ◌||◌, ◌⊎◌, ℕ, true, false, length, slice_index, bit_or, IfSome, IfNone, take, drop};
 ghost use Rattle.auto_core.specs.Rows.{bit_of, cell_of, AreWordsOred, HasBit};
 
 use std::simd::prelude::*;
@@ -65,7 +65,7 @@ fn or_lanes(into: &mut [u64], from: &[u64]) -> usize
 }
 
 /// Makes each word the 'or' of it and the word of the other row, which has the same length.
-pub fn or_words(into: &mut [u64], from: &[u64])
+pub fn or_into(into: &mut [u64], from: &[u64])
     requires { length into.old ≡ length from.now }
     ensures { AreWordsOred into.old from.now into.new }
 {
@@ -75,7 +75,7 @@ pub fn or_words(into: &mut [u64], from: &[u64])
 }
 
 /// Sets each bit that the other row of the same length has, word by word: in short rows lanes cost more than they save.
-pub fn or_into(into: &mut [u64], from: &[u64])
+pub fn add_bits(into: &mut [u64], from: &[u64])
     requires { length into.old ≡ length from.now }
     ensures { (i : ℕ) → bit_of into.new i ≡ (bit_of into.old i || bit_of from.now i) }
 {
@@ -99,6 +99,7 @@ pub fn first_missing(row: &[u64], other: &[u64]) -> Option<usize>
     requires equal { length row.now ≡ length other.now }
     requires few { length row.now < 2 ^ 32 }
     ensures found { IfSome result (λ i. HasBit row.now i × (bit_of other.now i ≡ false) × (i < length row.now * 64)) }
+    ensures first { IfSome result (λ i. (j : ℕ) → j < i → HasBit row.now j → HasBit other.now j) }
     ensures none { IfNone result ((i : ℕ) → HasBit row.now i → HasBit other.now i) }
 {
     for i in 0..row.len() {
@@ -145,6 +146,7 @@ pub fn or_row(table: &mut [u64], width: usize, p: usize, from: &[u64])
     requires equal { length from.now ≡ width }
     ensures here { (q : ℕ) → q < width * 64 → cell_of table.new width p q ≡ (cell_of table.old width p q || bit_of from.now q) }
     ensures others { (r q : ℕ) → q < width * 64 → ¬ (r ≡ p) → cell_of table.new width r q ≡ cell_of table.old width r q }
+    ensures rest { (k : ℕ) → (k < p * width) ⊎ (p * width + width ≤ k) → slice_index table.new k ≡ slice_index table.old k }
 {
     for j in 0..width {
         table[p * width + j] |= from[j];

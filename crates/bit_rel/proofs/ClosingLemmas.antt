@@ -9,7 +9,7 @@ use Rattle.auto_core.proofs.BitLemmas.{bit_or_tests}
 use Rattle.auto_core.proofs.CellLemmas.{cell_at}
 use Rattle.auto_core.proofs.ReachLemmas.{close_trans, close_one, close_refl}
 use Rattle.auto_core.specs.Rows.{cell_of, HasCell}
-use Rattle.auto_core.specs.Reach.{IsTable, Arc}
+use Rattle.auto_core.specs.Reach.{IsTable, HasArc}
 use Rattle.auto_core.specs.Game.{Chain, Close, Holds}
 use Rattle.bit_rel.specs.Relation.{Relation, IsClosed, IsPreorder}
 
@@ -35,10 +35,10 @@ own_bit_alone table w at q is same cell =
 -- below `via`.
 pub record IsClosing (old now : List ℕ) (count width via : ℕ) : Type 0 where
   pub table : IsTable now count width
-  pub sound : (p q : ℕ) → Arc now count width p q → Close (Arc old count width) p q
-  pub keeps : (p q : ℕ) → Arc old count width p q → Arc now count width p q
+  pub sound : (p q : ℕ) → HasArc now count width p q → Close (HasArc old count width) p q
+  pub keeps : (p q : ℕ) → HasArc old count width p q → HasArc now count width p q
   pub selves : (p : ℕ) → p < count → HasCell now width p p
-  pub through : (m p q : ℕ) → m < via → Arc now count width p m → Arc now count width m q → Arc now count width p q
+  pub through : (m p q : ℕ) → m < via → HasArc now count width p m → HasArc now count width m q → HasArc now count width p q
 
 -- the table with each place related to itself
 pub begin_closing :
@@ -54,8 +54,8 @@ begin_closing old now count width t len cells = record {
     columns = λ p q p_in near h. elim (cases p q p_in near h) [ inl was ↦ t.columns p q p_in near was | inr same ↦ omega arith ];
   };
   sound = λ p q (p_in, q_in, h). elim (cases p q p_in (near q q_in) h) [
-    | inl was ↦ close_one (Arc old count width) p q (p_in, q_in, was)
-    | inr same ↦ subst (Close (Arc old count width) p) same (close_refl (Arc old count width) p)
+    | inl was ↦ close_one (HasArc old count width) p q (p_in, q_in, was)
+    | inr same ↦ subst (Close (HasArc old count width) p) same (close_refl (HasArc old count width) p)
   ];
   keeps = λ p q (p_in, q_in, h). (p_in, q_in, cells p q p_in (near q q_in) ∙ or_left (cell_of old width p q) (p == q) h);
   selves = λ p p_in. cells p p p_in (near p p_in) ∙ or_right (cell_of old width p p) (p == p) (eq-eqb p p refl);
@@ -90,12 +90,12 @@ pass_closing old now new count width via c via_in len cells = record {
   };
   sound = λ p q a. elim (arcs p q a) [
     | inl was ↦ c.sound p q was
-    | inr way ↦ close_trans (Arc old count width) p via q (c.sound p via way.0) (c.sound via q way.1)
+    | inr way ↦ close_trans (HasArc old count width) p via q (c.sound p via way.0) (c.sound via q way.1)
   ];
   keeps = λ p q a. more p q (c.keeps p q a);
   selves = λ p p_in. (more p p (p_in, p_in, c.selves p p_in)).2;
   through = λ m p q m_in a b. elim (cases_eq m via) [
-    | inl e ↦ by_way p q (to_via p (subst (λ x. Arc new count width p x) e a)) (from_via q (subst (λ x. Arc new count width x q) e b))
+    | inl e ↦ by_way p q (to_via p (subst (λ x. HasArc new count width p x) e a)) (from_via q (subst (λ x. HasArc new count width x q) e b))
     | inr apart ↦ elim (arcs p m a) [
       | inl pm ↦ elim (arcs m q b) [
         | inl mq ↦ more p q (c.through m p q (omega arith) pm mq)
@@ -122,24 +122,24 @@ pass_closing old now new count width via c via_in len cells = record {
           | inr both ↦ inr (and_parts (cell_of now width p via) (cell_of now width via q) both)
         ]
 
-    arcs : (p q : ℕ) → Arc new count width p q → Arc now count width p q ⊎ (Arc now count width p via × Arc now count width via q)
+    arcs : (p q : ℕ) → HasArc new count width p q → HasArc now count width p q ⊎ (HasArc now count width p via × HasArc now count width via q)
     arcs p q (p_in, q_in, h) = elim (cases p q p_in (near q q_in) h) [
       | inl was ↦ inl (p_in, q_in, was)
       | inr way ↦ inr ((p_in, via_in, way.0), (via_in, q_in, way.1))
     ]
 
-    more : (p q : ℕ) → Arc now count width p q → Arc new count width p q
+    more : (p q : ℕ) → HasArc now count width p q → HasArc new count width p q
     more p q (p_in, q_in, h) =
         (p_in, q_in, cells p q p_in (near q q_in) ∙ or_left (cell_of now width p q) (cell_of now width p via && cell_of now width via q) h)
 
-    by_way : (p q : ℕ) → Arc now count width p via → Arc now count width via q → Arc new count width p q
+    by_way : (p q : ℕ) → HasArc now count width p via → HasArc now count width via q → HasArc new count width p q
     by_way p q (p_in, v_in, h) (v_in2, q_in, k) =
         (p_in, q_in, cells p q p_in (near q q_in) ∙ or_right (cell_of now width p q) (cell_of now width p via && cell_of now width via q) (and_from (cell_of now width p via) (cell_of now width via q) h k))
 
-    to_via : (p : ℕ) → Arc new count width p via → Arc now count width p via
+    to_via : (p : ℕ) → HasArc new count width p via → HasArc now count width p via
     to_via p a = elim (arcs p via a) [ inl was ↦ was | inr way ↦ way.0 ]
 
-    from_via : (q : ℕ) → Arc new count width via q → Arc now count width via q
+    from_via : (q : ℕ) → HasArc new count width via q → HasArc now count width via q
     from_via q a = elim (arcs via q a) [ inl was ↦ was | inr way ↦ way.1 ]
 
 -- what is closed by way of all places is the closure
@@ -148,14 +148,14 @@ pub closed_table :
     → IsClosing old now count width via
     → count ≤ via
     → (p q : ℕ)
-    → Arc now count width p q ↔ ((p < count) × (q < count) × Close (Arc old count width) p q)
+    → HasArc now count width p q ↔ ((p < count) × (q < count) × Close (HasArc old count width) p q)
 closed_table old now count width via c all p q = (
   λ a. (a.0, a.1, c.sound p q a),
   λ (p_in, q_in, way). along way.0 p p_in way.1,
 )
   where
-    along : (n p : ℕ) → p < count → Chain (Arc old count width) n p q → Arc now count width p q
-    along zero p p_in e = subst (Arc now count width p) e (p_in, p_in, c.selves p p_in)
+    along : (n p : ℕ) → p < count → Chain (HasArc old count width) n p q → HasArc now count width p q
+    along zero p p_in e = subst (HasArc now count width p) e (p_in, p_in, c.selves p p_in)
     along (suc n) p p_in (r, step, rest) =
         let r_in = step.1 in
         c.through r p q (omega arith) (c.keeps p r step) (along n r step.1 rest)
@@ -360,7 +360,7 @@ pub passed_above :
     → p < count
     → via < count
     → HasCell old w via via
-    → ((m p q : ℕ) → m < via → Arc old count w p m → Arc old count w m q → Arc old count w p q)
+    → ((m p q : ℕ) → m < via → HasArc old count w p m → HasArc old count w m q → HasArc old count w p q)
     → ((q : ℕ) → q < w * 64 → HasCell old w via q → HasCell old w above q)
     → ArePassedUpto old now w via p
     → above < via
@@ -374,7 +374,7 @@ passed_above old now count w p above via t p_in via_in itself through is passed 
     let was : HasCell old w via q = sym (via_kept old now w via p itself passed q near) ∙ h in
     let q_in : q < count = t.columns via q via_in near was in
     let p_above : HasCell old w p above = sym (passed.1 p above (omega arith) (omega arith)) ∙ at in
-    let arc : Arc old count w p q = through above p q lt (p_in, omega arith, p_above) (omega arith, q_in, is q near was) in
+    let arc : HasArc old count w p q = through above p q lt (p_in, omega arith, p_above) (omega arith, q_in, is q near was) in
     passed.1 p q (omega arith) near ∙ arc.2
 
 -- a cell whose word is zero

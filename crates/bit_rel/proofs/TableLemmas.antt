@@ -4,7 +4,7 @@ use Rattle.std.proofs.lemmas.Bool.{cases_eq, cases_lt, false≢true}
 use Rattle.std.proofs.lemmas.List.{get_or-replicate, get_or_past, length-replicate}
 use Rattle.std.proofs.lemmas.Nat.Bits.{bit_at-zero}
 use Rattle.auto_core.specs.Rows.{bit_of, cell_of, HasBit, HasCell}
-use Rattle.auto_core.specs.Reach.{IsTable, Arc}
+use Rattle.auto_core.specs.Reach.{IsTable, HasArc}
 use Rattle.auto_core.specs.Game.{Holds, Close}
 use Rattle.bit_rel.specs.Relation.{Relation, IsRelation, Adds, Removes, IsClosed}
 use Rattle.bit_rel.specs.Stored.{pairs_below}
@@ -102,16 +102,16 @@ no_pairs table m w n is =
 -- a closed table stands for the closed relation
 pub closed_relation :
     (old new : List ℕ) (w n : ℕ)
-    → ((p q : ℕ) → Arc new n w p q ↔ ((p < n) × (q < n) × Close (Arc old n w) p q))
+    → ((p q : ℕ) → HasArc new n w p q ↔ ((p < n) × (q < n) × Close (HasArc old n w) p q))
     → IsClosed (table_relation old w n) (table_relation new w n)
 closed_relation old new w n closed = record {
   size = refl;
   pairs = λ p q. (
     λ h.
         let way = (closed p q).0 (held_cell new w n p q h) in
-        (way.0, way.1, close_same (Arc old n w) (Holds (table_relation old w n).pairs) (λ r s a. cell_held old w n r s a.0 a.1 a.2) p q way.2),
+        (way.0, way.1, close_same (HasArc old n w) (Holds (table_relation old w n).pairs) (λ r s a. cell_held old w n r s a.0 a.1 a.2) p q way.2),
     λ (p_in, q_in, way).
-        let a = (closed p q).1 (p_in, q_in, close_same (Holds (table_relation old w n).pairs) (Arc old n w) (λ r s h. held_cell old w n r s h) p q way) in
+        let a = (closed p q).1 (p_in, q_in, close_same (Holds (table_relation old w n).pairs) (HasArc old n w) (λ r s h. held_cell old w n r s h) p q way) in
         cell_held new w n p q a.0 a.1 a.2,
   );
 }

@@ -2,7 +2,7 @@
 
 ghost use Rattle.std.specs.Prelude.{◌≡◌, ◌+◌, ◌*◌, ◌/◌, ◌^◌, ◌<◌, ◌≤◌, ◌||◌, ◌&&◌, ◌==◌, ◌↔◌, ℕ, true, length};
 ghost use Rattle.auto_core.specs.Rows.{cell_of, HasCell};
-ghost use Rattle.auto_core.specs.Reach.{IsTable, Arc};
+ghost use Rattle.auto_core.specs.Reach.{IsTable, HasArc};
 ghost use Rattle.auto_core.specs.Game.{Close};
 
 use auto_core::rows;
@@ -122,7 +122,7 @@ fn pass_through(table: &mut [u64], count: u32, width: usize, via: usize)
     requires few { width < 2 ^ 32 }
     requires place { via < count }
     requires itself { HasCell table.old width via via }
-    requires through { (m p q : ℕ) → m < via → Arc table.old count width p m → Arc table.old count width m q → Arc table.old count width p q }
+    requires through { (m p q : ℕ) → m < via → HasArc table.old count width p m → HasArc table.old count width m q → HasArc table.old count width p q }
     ensures { (p q : ℕ) → p < count → q < width * 64
         → cell_of table.new width p q ≡ (cell_of table.old width p q || (cell_of table.old width p via && cell_of table.old width via q)) }
 {
@@ -140,7 +140,7 @@ pub fn close_table(table: &mut [u64], count: u32, width: usize)
     requires table { IsTable table.old count width }
     requires few { width < 2 ^ 32 }
     ensures table { IsTable table.new count width }
-    ensures closed { (p q : ℕ) → Arc table.new count width p q ↔ ((p < count) × (q < count) × Close (Arc table.old count width) p q) }
+    ensures closed { (p q : ℕ) → HasArc table.new count width p q ↔ ((p < count) × (q < count) × Close (HasArc table.old count width) p q) }
 {
     relate_selves(table, count, width);
     for via in 0..count as usize {

@@ -4,7 +4,7 @@ use Rattle.auto_core.specs.Automaton.{Automaton, IsAutomaton}
 use Rattle.auto_core.specs.Accept.{AcceptsLasso}
 use Rattle.auto_core.specs.Game.{Close, Holds, StableForward}
 use Rattle.auto_core.specs.Rows.{HasBit}
-use Rattle.auto_core.specs.Reach.{Arc, HasFlaggedCycle}
+use Rattle.auto_core.specs.Reach.{HasArc, HasFlaggedCycle}
 use Rattle.auto_core.specs.Graph.{IsGraph, graph_of, graph_of_values, graph_of_tables, Covers, LassoIn, ReachesLoop}
 
 -- The test by the places of a walk is the one by reachability.
@@ -15,9 +15,9 @@ LassosAreReached = (v w : ℕ → ℕ → ℕ) (i : ℕ) → LassoIn (graph_of_v
 abbrev pub LassosAreCycles : Type 0
 LassosAreCycles = (first first_past second second_past marks : List ℕ) (n width i : ℕ) →
     IsGraph (graph_of_tables second second_past n width) →
-    ((q : ℕ) → HasBit marks q ↔ Arc first n width i q) →
+    ((q : ℕ) → HasBit marks q ↔ HasArc first n width i q) →
     LassoIn (graph_of_tables first first_past n width) (graph_of_tables second second_past n width) i
-    ↔ HasFlaggedCycle (Arc second n width) (Arc second_past n width) marks
+    ↔ HasFlaggedCycle (HasArc second n width) (HasArc second_past n width) marks
 
 -- The graphs of two words have a lasso from the initial state just where the automaton accepts the lasso of the two words.
 abbrev pub LassosAreAccepted : Type 0

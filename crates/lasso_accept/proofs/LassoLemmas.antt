@@ -6,7 +6,7 @@ use Rattle.auto_core.specs.Run.{Run, repeated}
 use Rattle.auto_core.specs.Accept.{AcceptsLasso}
 use Rattle.auto_core.specs.Game.{Chain, Close}
 use Rattle.auto_core.specs.Rows.{HasBit, bit_of, cell_of}
-use Rattle.auto_core.specs.Reach.{Arc, HasFlaggedCycle}
+use Rattle.auto_core.specs.Reach.{HasArc, HasFlaggedCycle}
 use Rattle.auto_core.proofs.PathLemmas.{run_join, run_split}
 use Rattle.auto_core.proofs.MoveLemmas.{move_in_range}
 use Rattle.auto_core.proofs.ReachLemmas.{close_trans}
@@ -19,7 +19,7 @@ run_in_range A valid p (a ∷ w) q flag p_in (r, later, m, run, e) = run_in_rang
 
 module _ (A : Automaton) (valid : IsAutomaton A) (v : List ℕ) (width : ℕ) (any flagged : List ℕ) (planes : ArePlanes A v width any flagged) where
   arc : ℕ → ℕ → Type 0
-  arc = Arc any A.states width
+  arc = HasArc any A.states width
 
   -- arcs one after another are a run on as many turns
   chain_run : (n p q : ℕ) → Chain arc n p q → (flag : Bool) × Run A p (repeated v n) q flag
@@ -44,7 +44,7 @@ module _ (A : Automaton) (valid : IsAutomaton A) (v : List ℕ) (width : ℕ) (a
 
   -- a run past an accepting state has a turn with one
   Flagged : ℕ → ℕ → Type 0
-  Flagged p q = (x y : ℕ) × Close arc p x × Arc flagged A.states width x y × Close arc y q
+  Flagged p q = (x y : ℕ) × Close arc p x × HasArc flagged A.states width x y × Close arc y q
 
   flagged_turn : (n p q : ℕ) (flag : Bool) → flag ≡ true → p < A.states → Run A p (repeated v n) q flag → Flagged p q
   unfolding arc Flagged
@@ -63,7 +63,7 @@ module _ (A : Automaton) (valid : IsAutomaton A) (v : List ℕ) (width : ℕ) (a
       ]
 
   module _ (u marks : List ℕ) (entered : (q : ℕ) → q < A.states → HasBit marks q ↔ ((flag : Bool) × Run A A.initial u q flag)) (below : (q : ℕ) → HasBit marks q → q < A.states) where
-    cycle_accepts : HasFlaggedCycle (Arc any A.states width) (Arc flagged A.states width) marks → AcceptsLasso A u v
+    cycle_accepts : HasFlaggedCycle (HasArc any A.states width) (HasArc flagged A.states width) marks → AcceptsLasso A u v
     unfolding arc
     cycle_accepts c =
         let (f, enter) = (entered c.start (below c.start c.marked)).0 c.marked in
@@ -81,7 +81,7 @@ module _ (A : Automaton) (valid : IsAutomaton A) (v : List ℕ) (width : ℕ) (a
           cycles = run_join A c.at v c.next true (repeated v c.returns.0) c.at h turn back;
         }
 
-    accepted_cycles : AcceptsLasso A u v → HasFlaggedCycle (Arc any A.states width) (Arc flagged A.states width) marks
+    accepted_cycles : AcceptsLasso A u v → HasFlaggedCycle (HasArc any A.states width) (HasArc flagged A.states width) marks
     unfolding arc Flagged
     accepted_cycles a =
         let cut = run_split A A.initial u (repeated v a.before) a.state a.flag a.enters in
@@ -106,7 +106,7 @@ pub cycles_as_lassos :
     → ArePlanes A v width any flagged
     → ((q : ℕ) → q < A.states → HasBit marks q ↔ ((flag : Bool) × Run A A.initial u q flag))
     → ((q : ℕ) → HasBit marks q → q < A.states)
-    → HasFlaggedCycle (Arc any A.states width) (Arc flagged A.states width) marks ↔ AcceptsLasso A u v
+    → HasFlaggedCycle (HasArc any A.states width) (HasArc flagged A.states width) marks ↔ AcceptsLasso A u v
 cycles_as_lassos A valid u v width any flagged marks planes entered below = (
   cycle_accepts A valid v width any flagged planes u marks entered below,
   accepted_cycles A valid v width any flagged planes u marks entered below,
@@ -141,7 +141,7 @@ pub chain_as_run :
     → (v : List ℕ) (width : ℕ) (any flagged : List ℕ)
     → ArePlanes A v width any flagged
     → (n p q : ℕ)
-    → Chain (Arc any A.states width) n p q
+    → Chain (HasArc any A.states width) n p q
     → (flag : Bool) × Run A p (repeated v n) q flag
 unfolding arc
 chain_as_run A valid v width any flagged planes n p q c = chain_run A valid v width any flagged planes n p q c
@@ -154,7 +154,7 @@ pub run_as_chain :
     → (n p q : ℕ) (flag : Bool)
     → p < A.states
     → Run A p (repeated v n) q flag
-    → Chain (Arc any A.states width) n p q
+    → Chain (HasArc any A.states width) n p q
 unfolding arc
 run_as_chain A valid v width any flagged planes n p q flag p_in run = run_chain A valid v width any flagged planes n p q flag p_in run
 
@@ -167,6 +167,6 @@ pub flagged_as_arcs :
     → (n p q : ℕ)
     → p < A.states
     → Run A p (repeated v n) q true
-    → (x y : ℕ) × Close (Arc any A.states width) p x × Arc flagged A.states width x y × Close (Arc any A.states width) y q
+    → (x y : ℕ) × Close (HasArc any A.states width) p x × HasArc flagged A.states width x y × Close (HasArc any A.states width) y q
 unfolding arc Flagged
 flagged_as_arcs A valid v width any flagged planes n p q p_in run = flagged_turn A valid v width any flagged planes n p q true refl p_in run

@@ -6,7 +6,7 @@ use Rattle.auto_core.specs.Run.{repeated}
 use Rattle.auto_core.specs.Accept.{AcceptsLasso}
 use Rattle.auto_core.specs.Pairs.{set_of}
 use Rattle.auto_core.specs.Rows.{HasBit}
-use Rattle.auto_core.specs.Reach.{Arc}
+use Rattle.auto_core.specs.Reach.{HasArc}
 use Rattle.auto_core.proofs.PathLemmas.{run_join, run_split}
 use Rattle.auto_core.proofs.ReachLemmas.{close_trans}
 use Rattle.lasso_accept.specs.Plane.{ArePlanes}
@@ -22,10 +22,10 @@ written_whole new items len short long = ap (λ x. take len (new ++ x)) (drop_al
 
 module _ (A : Automaton) (valid : IsAutomaton A) (v : List ℕ) (width : ℕ) (any flagged : List ℕ) (planes : ArePlanes A v width any flagged) where
   abbrev R : ℕ → ℕ → Type 0
-  R = Arc any A.states width
+  R = HasArc any A.states width
 
   abbrev F : ℕ → ℕ → Type 0
-  F = Arc flagged A.states width
+  F = HasArc flagged A.states width
 
   leads_accepts : (p : ℕ) → LeadsToLoop R F p → AcceptsLoopFrom A v p
   leads_accepts p (x, way, (next, leaves, returns)) =

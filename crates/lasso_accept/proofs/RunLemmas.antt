@@ -5,7 +5,7 @@ use Rattle.auto_core.specs.Automaton.{Automaton, IsAutomaton, Moves}
 use Rattle.auto_core.specs.Run.{Run, Path, end_of, some_accepting, repeated}
 use Rattle.auto_core.specs.Game.{Close}
 use Rattle.auto_core.specs.Rows.{HasBit, HasCell, bit_of, cell_of}
-use Rattle.auto_core.specs.Reach.{Arc}
+use Rattle.auto_core.specs.Reach.{HasArc}
 use Rattle.auto_core.proofs.PathLemmas.{run_split, run_of_path, run_from_path, path_of_run, path_join, end_of-append, some_accepting-append}
 use Rattle.path_laws.proofs.PumpingLemmas.{chain_short}
 use Rattle.lasso_accept.specs.Plane.{ArePlanes}
@@ -23,7 +23,7 @@ pub counts_turns :
     → (v : List ℕ) (width : ℕ) (any flagged : List ℕ)
     → ArePlanes A v width any flagged
     → (target : ℕ) (table : List ℕ)
-    → IsCountdown (Arc any A.states width) A.states width target table
+    → IsCountdown (HasArc any A.states width) A.states width target table
     → CountsTurns A v width target table
 counts_turns A valid v width any flagged planes target table c =
     record {
@@ -37,15 +37,15 @@ counts_turns A valid v width any flagged planes target table c =
 -- where the target is reached from a mark, some row has one
 pub some_row_meets :
     (any : List ℕ) (n width target : ℕ) (table marks : List ℕ)
-    → IsCountdown (Arc any n width) n width target table
+    → IsCountdown (HasArc any n width) n width target table
     → ((k p : ℕ) → k < n → p < n → HasBit marks p → HasCell table width k p → ⊥)
     → (p : ℕ)
     → p < n
     → HasBit marks p
-    → Close (Arc any n width) p target
+    → Close (HasArc any n width) p target
     → ⊥
 some_row_meets any n width target table marks c none p p_in marked (m, chain) =
-    let (k, k_in, short) = chain_short (Arc any n width) n (λ s t s_in arc. arc.1) m p target p_in chain in
+    let (k, k_in, short) = chain_short (HasArc any n width) n (λ s t s_in arc. arc.1) m p target p_in chain in
     none k p k_in p_in marked ((c.chains k p k_in p_in).1 short)
 
 pub route_found :

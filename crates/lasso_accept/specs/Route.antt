@@ -3,7 +3,7 @@ use Rattle.std.specs.Prelude.{◌≡◌, ◌↔◌, ℕ, ◌*◌, ◌<◌, Bool,
 use Rattle.auto_core.specs.Automaton.{Automaton}
 use Rattle.auto_core.specs.Run.{Run, Path, end_of, some_accepting, repeated}
 use Rattle.auto_core.specs.Rows.{HasBit, HasCell}
-use Rattle.auto_core.specs.Reach.{Arc}
+use Rattle.auto_core.specs.Reach.{HasArc}
 use Rattle.lasso_accept.specs.Countdown.{IsCountdown}
 
 -- The row with number k has the states from which a run on k times the loop leads to the target; there are as many rows as
@@ -18,7 +18,7 @@ pub record IsArcRoute (any flagged : List ℕ) (n width : ℕ) (entered : List �
   pub at_in : at < n
   pub before_in : before < n
   pub back_in : back < n
-  pub counts : IsCountdown (Arc any n width) n width at table
+  pub counts : IsCountdown (HasArc any n width) n width at table
   pub enters : (p : ℕ) × (p < n) × HasBit entered p × HasCell table width before p
   pub returns : (p : ℕ) × (p < n) × HasCell flagged width at p × HasCell table width back p
 

@@ -2,7 +2,7 @@
 
 ghost use Rattle.std.specs.Prelude.{◌≡◌, ◌+◌, ◌*◌, ◌^◌, ◌<◌, ◌≤◌, ◌↔◌, ◌⊎◌, ℕ, false, length, IfOk, IfSome, IfNone, IsTrue};
 ghost use Rattle.auto_core.specs.Rows.{HasBit, HasCell, bit_of, cell_of};
-ghost use Rattle.auto_core.specs.Reach.{IsTable, Arc, MarksBelow, ReturnsTo, HasFlaggedCycle};
+ghost use Rattle.auto_core.specs.Reach.{IsTable, HasArc, MarksBelow, ReturnsTo, HasFlaggedCycle};
 ghost use Rattle.auto_core.specs.Game.{Close};
 ghost use Rattle.lasso_accept.specs.Countdown.{IsCountdown};
 
@@ -29,9 +29,9 @@ pub fn turning_place(
     requires done_len { length done.old ≡ width }
     requires marks_below { MarksBelow marks.old count }
     ensures found { IfSome result (λ at. (at < count)
-        × ((start : ℕ) × HasBit marks.old start × Close (Arc any.now count width) start at)
-        × ReturnsTo (Arc any.now count width) (Arc flagged.now count width) at) }
-    ensures none { IfNone result (HasFlaggedCycle (Arc any.now count width) (Arc flagged.now count width) marks.old → ⊥) }
+        × ((start : ℕ) × HasBit marks.old start × Close (HasArc any.now count width) start at)
+        × ReturnsTo (HasArc any.now count width) (HasArc flagged.now count width) at) }
+    ensures none { IfNone result (HasFlaggedCycle (HasArc any.now count width) (HasArc flagged.now count width) marks.old → ⊥) }
 {
     reach::reach(any, count, width, marks, done);
     for at in 0..count as usize {
@@ -61,7 +61,7 @@ fn leads_into(any: &[u64], count: u32, width: usize, place: usize, table: &[u64]
     requires place_in { place < count }
     requires at_in { at < count }
     requires len { length table.now ≡ count * width }
-    ensures { IsTrue result ↔ ((q : ℕ) × Arc any.now count width place q × HasCell table.now width at q) }
+    ensures { IsTrue result ↔ ((q : ℕ) × HasArc any.now count width place q × HasCell table.now width at q) }
 {
     for q in 0..count as usize {
         if both_have(any, table, width, place, at, q) {
@@ -79,7 +79,7 @@ fn write_next(any: &[u64], count: u32, width: usize, table: &mut [u64], at: usiz
     ensures here { (p : ℕ)
         → p < count
         → HasCell table.new width (at + 1) p
-        ↔ (HasCell table.old width (at + 1) p ⊎ ((q : ℕ) × Arc any.now count width p q × HasCell table.old width at q)) }
+        ↔ (HasCell table.old width (at + 1) p ⊎ ((q : ℕ) × HasArc any.now count width p q × HasCell table.old width at q)) }
     ensures others { (r q : ℕ) → q < width * 64 → ¬ (r ≡ at + 1) → cell_of table.new width r q ≡ cell_of table.old width r q }
 {
     for place in 0..count as usize {
@@ -95,7 +95,7 @@ fn write_countdown(any: &[u64], count: u32, width: usize, target: usize, table: 
     requires target_in { target < count }
     requires len { length table.old ≡ count * width }
     requires clear { (i : ℕ) → bit_of table.old i ≡ false }
-    ensures { IsCountdown (Arc any.now count width) count width target table.new }
+    ensures { IsCountdown (HasArc any.now count width) count width target table.new }
 {
     rows::set_cell(table, width, 0, target);
     for at in 0..count as usize - 1 {
@@ -114,7 +114,7 @@ pub fn countdown_to(
     requires any { IsTable any.now count width }
     requires few { width < 2 ^ 32 }
     requires target_in { target < count }
-    ensures { IfOk result (λ table. IsCountdown (Arc any.now count width) count width target table.items) }
+    ensures { IfOk result (λ table. IsCountdown (HasArc any.now count width) count width target table.items) }
 {
     let mut table = tables::clear_table(alloc, count as usize * width)?;
     write_countdown(any, count, width, target, &mut table);

@@ -5,7 +5,7 @@ ghost use Rattle.auto_core.specs.Automaton.{IsAutomaton};
 ghost use Rattle.auto_core.specs.Run.{Run};
 ghost use Rattle.auto_core.specs.Accept.{AcceptsLasso};
 ghost use Rattle.auto_core.specs.Rows.{HasCell};
-ghost use Rattle.auto_core.specs.Reach.{IsTable, Arc, MarksBelow, HasFlaggedCycle};
+ghost use Rattle.auto_core.specs.Reach.{IsTable, HasArc, MarksBelow, HasFlaggedCycle};
 ghost use Rattle.lasso_accept.specs.LassoRun.{IsLassoRun};
 ghost use Rattle.lasso_accept.specs.Route.{CountsTurns, IsArcRoute, IsRoute, HasTurned, HasGone};
 
@@ -52,7 +52,7 @@ fn route_from(
     requires entered_len { length entered.now ≡ width }
     requires entered_below { MarksBelow entered.now states }
     ensures { IfOk result
-        (λ found. MatchOption found (HasFlaggedCycle (Arc any.now states width) (Arc flagged.now states width) entered.now → ⊥)
+        (λ found. MatchOption found (HasFlaggedCycle (HasArc any.now states width) (HasArc flagged.now states width) entered.now → ⊥)
         (λ r. IsArcRoute any.now flagged.now states width entered.now r.at r.before r.back r.table.items)) }
 {
     let mut marks = Vec::from_slice(alloc, entered)?;

@@ -3,7 +3,7 @@ use Rattle.std.proofs.Common.{◌≡◌, ℕ, zero, suc, ◌+◌, ◌*◌, ◌<�
 use Rattle.std.proofs.lemmas.Bool.{cases_eq, cases_lt, false≢true}
 use Rattle.auto_core.specs.Game.{Chain, Close}
 use Rattle.auto_core.specs.Rows.{bit_of, cell_of, HasBit, HasCell}
-use Rattle.auto_core.specs.Reach.{IsTable, Arc, ReturnsTo}
+use Rattle.auto_core.specs.Reach.{IsTable, HasArc, ReturnsTo}
 use Rattle.auto_core.proofs.ReachLemmas.{close_refl, close_trans, close_one}
 use Rattle.row_steps.specs.Walks.{IsNextBit}
 use Rattle.loop_rows.specs.Loops.{LeadsToLoop, AreArcs, IsTurned}
@@ -121,7 +121,7 @@ module _ (R T : ℕ → ℕ → Type 0) (turned : (p q : ℕ) → T p q → R q 
   pub close_turned : (p q : ℕ) → Close T p q → Close R q p
   close_turned p q (n, c) = chain_turned n p q c
 
-pub close_in : (table : List ℕ) (n width p q : ℕ) → q < n → Close (Arc table n width) p q → p < n
+pub close_in : (table : List ℕ) (n width p q : ℕ) → q < n → Close (HasArc table n width) p q → p < n
 close_in table n width p q q_in (zero, e) = subst (λ x. x < n) (sym e) q_in
 close_in table n width p q q_in (suc m, (s, arc, rest)) = arc.0
 
@@ -129,12 +129,12 @@ close_in table n width p q q_in (suc m, (s, arc, rest)) = arc.0
 pub reached_back :
     (table turned : List ℕ) (n width at : ℕ) (behind : List ℕ)
     → IsTurned table turned n width
-    → ((q : ℕ) → HasBit behind q ↔ Close (Arc turned n width) at q)
+    → ((q : ℕ) → HasBit behind q ↔ Close (HasArc turned n width) at q)
     → (q : ℕ)
-    → HasBit behind q ↔ Close (Arc table n width) q at
+    → HasBit behind q ↔ Close (HasArc table n width) q at
 reached_back table turned n width at behind t is q = (
-  λ has. close_turned (Arc table n width) (Arc turned n width) (λ p r a. (t.each p r).0 a) at q ((is q).0 has),
-  λ way. (is q).1 (close_turned (Arc turned n width) (Arc table n width) (λ p r a. (t.each r p).1 a) q at way),
+  λ has. close_turned (HasArc table n width) (HasArc turned n width) (λ p r a. (t.each p r).0 a) at q ((is q).0 has),
+  λ way. (is q).1 (close_turned (HasArc turned n width) (HasArc table n width) (λ p r a. (t.each r p).1 a) q at way),
 )
 
 -- the bits of a row are the arcs out of its place
@@ -146,7 +146,7 @@ pub row_arc :
     → ((q : ℕ) → q < width * 64 → bit_of row q ≡ cell_of table width at q)
     → ((q : ℕ) → width * 64 ≤ q → bit_of row q ≡ false)
     → (q : ℕ)
-    → HasBit row q ↔ Arc table n width at q
+    → HasBit row q ↔ HasArc table n width at q
 row_arc table n width at t at_in row inside outside q = (
   λ has. elim (cases_lt q (width * 64)) [
     | inl near ↦ let cell : HasCell table width at q = sym (inside q near) ∙ has in (at_in, t.columns at q at_in near cell, cell)

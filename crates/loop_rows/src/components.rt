@@ -3,7 +3,7 @@
 ghost use Rattle.std.specs.Prelude.{◌≡◌, ◌+◌, ◌^◌, ◌<◌, ◌↔◌, ℕ, length, IsTrue};
 ghost use Rattle.auto_core.specs.Game.{Close};
 ghost use Rattle.auto_core.specs.Rows.{HasBit};
-ghost use Rattle.auto_core.specs.Reach.{IsTable, Arc};
+ghost use Rattle.auto_core.specs.Reach.{IsTable, HasArc};
 ghost use Rattle.loop_rows.specs.Loops.{AreArcs, IsTurned};
 ghost use Rattle.loop_rows.specs.Settling.{HasArcWithin, IsComponent, AreSettled};
 
@@ -24,7 +24,7 @@ fn write_reached(
     requires at_in { at < count }
     requires out_len { length out.old ≡ width }
     requires done_len { length done.old ≡ width }
-    ensures { (q : ℕ) → HasBit out.new q ↔ Close (Arc table.now count width) at q }
+    ensures { (q : ℕ) → HasBit out.new q ↔ Close (HasArc table.now count width) at q }
 {
     rows::clear_row(out);
     rows::set_bit(out, at);
@@ -49,8 +49,8 @@ fn write_component(
     requires component_len { length component.old ≡ width }
     requires behind_len { length behind.old ≡ width }
     requires done_len { length done.old ≡ width }
-    ensures component { IsComponent (Arc table.now count width) at component.new }
-    ensures behind { (q : ℕ) → HasBit behind.new q ↔ Close (Arc table.now count width) q at }
+    ensures component { IsComponent (HasArc table.now count width) at component.new }
+    ensures behind { (q : ℕ) → HasBit behind.new q ↔ Close (HasArc table.now count width) q at }
 {
     write_reached(table, count, width, at, component, done);
     write_reached(turned, count, width, at, behind, done);
@@ -63,7 +63,7 @@ fn has_arc_within(flagged: &[u64], count: u32, width: usize, places: &[u64]) -> 
     requires few { width < 2 ^ 32 }
     requires len { length places.now ≡ width }
     requires below { (q : ℕ) → HasBit places.now q → q < count }
-    ensures { IsTrue result ↔ HasArcWithin (Arc flagged.now count width) places.now }
+    ensures { IsTrue result ↔ HasArcWithin (HasArc flagged.now count width) places.now }
 {
     let mut from = 0;
     while let Some(place) = next_bit(places, from) {
@@ -92,7 +92,7 @@ pub fn settle(
 )
     requires any { IsTable any.now count width }
     requires flagged { IsTable flagged.now count width }
-    requires arcs { AreArcs (Arc flagged.now count width) (Arc any.now count width) }
+    requires arcs { AreArcs (HasArc flagged.now count width) (HasArc any.now count width) }
     requires turned { IsTurned any.now turned.now count width }
     requires few { width < 2 ^ 32 }
     requires at_in { at < count }
@@ -101,13 +101,13 @@ pub fn settle(
     requires component_len { length component.old ≡ width }
     requires behind_len { length behind.old ≡ width }
     requires done_len { length done.old ≡ width }
-    requires so_far { AreSettled (Arc any.now count width) (Arc flagged.now count width) count looping.old settled.old at }
-    ensures { AreSettled (Arc any.now count width) (Arc flagged.now count width) count looping.new settled.new (at + 1) }
+    requires so_far { AreSettled (HasArc any.now count width) (HasArc flagged.now count width) count looping.old settled.old at }
+    ensures { AreSettled (HasArc any.now count width) (HasArc flagged.now count width) count looping.new settled.new (at + 1) }
 {
     write_component(any, turned, count, width, at, component, behind, done);
     if has_arc_within(flagged, count, width, component) {
-        rows::or_into(looping, behind);
+        rows::add_bits(looping, behind);
     } else {
-        rows::or_into(settled, component);
+        rows::add_bits(settled, component);
     }
 }

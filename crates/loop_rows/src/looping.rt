@@ -2,7 +2,7 @@
 
 ghost use Rattle.std.specs.Prelude.{◌≡◌, ◌+◌, ◌*◌, ◌/◌, ◌^◌, ◌<◌, ◌↔◌, ℕ, length, IfOk};
 ghost use Rattle.auto_core.specs.Rows.{HasBit};
-ghost use Rattle.auto_core.specs.Reach.{IsTable, Arc};
+ghost use Rattle.auto_core.specs.Reach.{IsTable, HasArc};
 ghost use Rattle.loop_rows.specs.Loops.{AreArcs, IsTurned, LeadsToLoop};
 
 use crate::components::settle;
@@ -49,7 +49,7 @@ fn mark_in(
 )
     requires any { IsTable any.now count width }
     requires flagged { IsTable flagged.now count width }
-    requires arcs { AreArcs (Arc flagged.now count width) (Arc any.now count width) }
+    requires arcs { AreArcs (HasArc flagged.now count width) (HasArc any.now count width) }
     requires few { width < 2 ^ 32 }
     requires looping_len { length looping.old ≡ width }
     requires turned_len { length turned.old ≡ count * width }
@@ -59,7 +59,7 @@ fn mark_in(
     requires done_len { length done.old ≡ width }
     ensures { (q : ℕ)
         → HasBit looping.new q
-        ↔ ((q < count) × LeadsToLoop (Arc any.now count width) (Arc flagged.now count width) q) }
+        ↔ ((q < count) × LeadsToLoop (HasArc any.now count width) (HasArc flagged.now count width) q) }
 {
     turn(any, count, width, turned);
     rows::clear_row(looping);
@@ -106,12 +106,12 @@ impl Room {
 pub fn mark_loops(any: &[u64], flagged: &[u64], count: u32, looping: &mut [u64], room: &mut Room)
     requires any { IsTable any.now count ((count + 63) / 64) }
     requires flagged { IsTable flagged.now count ((count + 63) / 64) }
-    requires arcs { AreArcs (Arc flagged.now count ((count + 63) / 64)) (Arc any.now count ((count + 63) / 64)) }
+    requires arcs { AreArcs (HasArc flagged.now count ((count + 63) / 64)) (HasArc any.now count ((count + 63) / 64)) }
     requires room { room.old ≡ count }
     requires row { length looping.old ≡ (count + 63) / 64 }
     ensures marked { (q : ℕ)
         → HasBit looping.new q
-        ↔ ((q < count) × LeadsToLoop (Arc any.now count ((count + 63) / 64)) (Arc flagged.now count ((count + 63) / 64)) q) }
+        ↔ ((q < count) × LeadsToLoop (HasArc any.now count ((count + 63) / 64)) (HasArc flagged.now count ((count + 63) / 64)) q) }
     ensures kept { room.new ≡ count }
 {
     mark_in(

@@ -7,7 +7,7 @@ use Rattle.std.proofs.lemmas.Nat.{le_or_l, le_or_r}
 use Rattle.std.proofs.lemmas.Simd.{length-chunk, get_or-chunk, get_or-zip2, length-zip2, Each1-get_or}
 
 -- Words whose 'or' is zero are zero.
-none_of_fold : (a : ℕ) (xs : List ℕ) → fold_l bit_or a xs ≡ 0 → (a ≡ 0) × Each1 (λ x. x ≡ 0) xs
+pub none_of_fold : (a : ℕ) (xs : List ℕ) → fold_l bit_or a xs ≡ 0 → (a ≡ 0) × Each1 (λ x. x ≡ 0) xs
 none_of_fold a [] e = (e, tt)
 none_of_fold a (x ∷ xs) e =
     let rest = none_of_fold (bit_or a x) xs e in

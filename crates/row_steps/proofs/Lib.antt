@@ -1,4 +1,5 @@
 pub mod LaneLemmas
+pub mod EqualLemmas
 pub mod WordLemmas
 pub mod MeetLemmas
 pub mod MarkLemmas

@@ -1,6 +1,6 @@
 //! Walks along the bits of a row.
 
-ghost use Rattle.std.specs.Prelude.{◌≡◌, ℕ, ◌+◌, ◌*◌, ◌/◌, ◌^◌, ◌<◌, ◌≤◌, ◌↔◌, ◌⊎◌, true, false, length, slice_index, IfSome, IfNone};
+ghost use Rattle.std.specs.Prelude.{◌≡◌, ℕ, ◌+◌, ◌*◌, ◌/◌, ◌^◌, ◌<◌, ◌≤◌, ◌↔◌, ◌⊎◌, true, false, length, slice_index, IfSome, IfNone, IsTrue};
 ghost use Rattle.auto_core.specs.Rows.{bit_of, HasBit};
 ghost use Rattle.row_steps.specs.Walks.{IsNextBit};
 
@@ -61,4 +61,15 @@ pub fn next_bit(row: &[u64], from: usize) -> Option<usize>
         }
     }
     None
+}
+
+/// Tells whether the row has no bit but this one.
+pub fn has_no_other(row: &[u64], own: usize) -> bool
+    requires few { length row.now < 2 ^ 32 }
+    ensures { IsTrue result ↔ ((q : ℕ) → HasBit row.now q → q ≡ own) }
+{
+    match next_bit(row, 0) {
+        None => true,
+        Some(first) => first == own && next_bit(row, own + 1).is_none(),
+    }
 }

@@ -5,7 +5,7 @@ use Rattle.std.proofs.lemmas.List.Elements.{All-contains}
 use Rattle.auto_core.specs.Automaton.{Automaton, IsAutomaton, Moves, IsAccepting, is_accepting, trans_at}
 use Rattle.auto_core.specs.Run.{Run}
 use Rattle.auto_core.specs.Rows.{bit_of, cell_of, HasBit, HasCell}
-use Rattle.auto_core.specs.Reach.{Arc, MarksBelow, AreReached, ReturnsTo}
+use Rattle.auto_core.specs.Reach.{HasArc, MarksBelow, AreReached, ReturnsTo}
 use Rattle.auto_core.specs.Game.{Chain, Close}
 use Rattle.auto_core.specs.Members.{Members, Gains}
 use Rattle.auto_core.specs.Useful.{Reaches, IsOnCycle, IsGoal, AreUseful}
@@ -124,34 +124,34 @@ steps_below A valid p q (a, m) = let r = move_in_range A valid p a q m in (r.0, 
 -- ---- reaching
 
 module _ (A : Automaton) (table : List ℕ) (n width : ℕ) where
-  reach_chain : HoldsArcs (Steps A) table n width → (k p q : ℕ) → Chain (Arc table n width) k p q → Reaches A p q
+  reach_chain : HoldsArcs (Steps A) table n width → (k p q : ℕ) → Chain (HasArc table n width) k p q → Reaches A p q
   reach_chain h zero p q e = subst (λ x. Reaches A p x) e (reach_itself A p)
   reach_chain h (suc k) p q (r, arc, rest) = let (a, m) = (h.arcs p r).0 arc in reach_on A p r q (reach_move A p a r m) (reach_chain h k r q rest)
 
-  chain_run : HoldsArcs (Steps A) table n width → (p : ℕ) (w : List ℕ) (q : ℕ) (flag : Bool) → Run A p w q flag → Close (Arc table n width) p q
+  chain_run : HoldsArcs (Steps A) table n width → (p : ℕ) (w : List ℕ) (q : ℕ) (flag : Bool) → Run A p w q flag → Close (HasArc table n width) p q
   chain_run h p [] q flag (e, f) = (zero, e)
   chain_run h p (a ∷ w) q flag (next, later, m, rest, is) = let (k, c) = chain_run h next w q later rest in (suc k, (next, (h.arcs p next).1 (a, m), c))
 
-  turned_chain : HoldsArcs (λ p q. Steps A q p) table n width → (k p q : ℕ) → Chain (Arc table n width) k p q → Reaches A q p
+  turned_chain : HoldsArcs (λ p q. Steps A q p) table n width → (k p q : ℕ) → Chain (HasArc table n width) k p q → Reaches A q p
   turned_chain h zero p q e = subst (λ x. Reaches A x p) e (reach_itself A p)
   turned_chain h (suc k) p q (r, arc, rest) = let (a, m) = (h.arcs p r).0 arc in reach_on A q r p (turned_chain h k r q rest) (reach_move A r a p m)
 
-  turned_run : HoldsArcs (λ p q. Steps A q p) table n width → (p : ℕ) (w : List ℕ) (q : ℕ) (flag : Bool) → Run A p w q flag → Close (Arc table n width) q p
+  turned_run : HoldsArcs (λ p q. Steps A q p) table n width → (p : ℕ) (w : List ℕ) (q : ℕ) (flag : Bool) → Run A p w q flag → Close (HasArc table n width) q p
   turned_run h p [] q flag (e, f) = (zero, sym e)
   turned_run h p (a ∷ w) q flag (next, later, m, rest, is) =
-      close_trans (Arc table n width) q next p (turned_run h next w q later rest) (close_one (Arc table n width) next p ((h.arcs next p).1 (a, m)))
+      close_trans (HasArc table n width) q next p (turned_run h next w q later rest) (close_one (HasArc table n width) next p ((h.arcs next p).1 (a, m)))
 
   -- a step out of the state leads to one from which it is reached
-  pub on_cycle : HoldsArcs (Steps A) table n width → (p : ℕ) → ReturnsTo (Arc table n width) (Arc table n width) p ↔ IsOnCycle A p
+  pub on_cycle : HoldsArcs (Steps A) table n width → (p : ℕ) → ReturnsTo (HasArc table n width) (HasArc table n width) p ↔ IsOnCycle A p
   on_cycle h p = (to, from)
     where
-      to : ReturnsTo (Arc table n width) (Arc table n width) p → IsOnCycle A p
+      to : ReturnsTo (HasArc table n width) (HasArc table n width) p → IsOnCycle A p
       to (next, arc, way) =
           let (a, m) = (h.arcs p next).0 arc in
           let (w, f, run) = reach_chain h way.0 next p way.1 in
           (a ∷ w, is_accepting A next || f, omega arith, (next, f, m, run, refl))
 
-      from : IsOnCycle A p → ReturnsTo (Arc table n width) (Arc table n width) p
+      from : IsOnCycle A p → ReturnsTo (HasArc table n width) (HasArc table n width) p
       from ([], flag, some, run) = absurd (omega arith)
       from (a ∷ w, flag, some, (next, later, m, rest, is)) = (next, (h.arcs p next).1 (a, m), chain_run h next w p later rest)
 
@@ -162,7 +162,7 @@ module _ (A : Automaton) (table : List ℕ) (n width : ℕ) where
       → ((i : ℕ) → bit_of clear i ≡ false)
       → bit_of one s ≡ true
       → ((i : ℕ) → ¬ (i ≡ s) → bit_of one i ≡ bit_of clear i)
-      → AreReached (Arc table n width) one new
+      → AreReached (HasArc table n width) one new
       → Marks new (Reaches A s)
   reached_from h s clear one new none here others r = λ q. (
     λ marked.
@@ -178,7 +178,7 @@ module _ (A : Automaton) (table : List ℕ) (n width : ℕ) where
       → n ≡ A.states
       → (mode : Mode) (k : ℕ) (old new : List ℕ)
       → MarksBelow new n
-      → AreReached (Arc table n width) old new
+      → AreReached (HasArc table n width) old new
       → MarksGoals A mode k old
       → MarksGoals A mode k new
   goals_before h size mode k old new new_below r m = record {
@@ -187,7 +187,7 @@ module _ (A : Automaton) (table : List ℕ) (n width : ℕ) where
         let (p_in, (g, on, is)) = m.sound p from in
         let q_in = new_below q marked in
         (omega arith, (g, reach_on A q p g (turned_chain h way.0 p q way.1) on, is));
-    each = λ g g_in is. r.all g g (m.each g g_in is) (close_refl (Arc table n width) g);
+    each = λ g g_in is. r.all g g (m.each g g_in is) (close_refl (HasArc table n width) g);
   }
 
   -- what reaches a goal is marked in the end
@@ -197,7 +197,7 @@ module _ (A : Automaton) (table : List ℕ) (n width : ℕ) where
       → (mode : Mode) (old new : List ℕ)
       → ((g : ℕ) → IsGoal A mode g → g < n)
       → MarksBelow new n
-      → AreReached (Arc table n width) old new
+      → AreReached (HasArc table n width) old new
       → MarksGoals A mode n old
       → Marks new (λ q. (q < A.states) × ReachesGoal A mode q)
   goals_reached h size mode old new below new_below r m = λ q. (

@@ -2,7 +2,7 @@
 use Rattle.std.specs.Prelude.{◌≡◌, ℕ, ◌<◌, ◌↔◌, List}
 use Rattle.auto_core.specs.Automaton.{Automaton, Moves, trans_at}
 use Rattle.auto_core.specs.Rows.{HasBit}
-use Rattle.auto_core.specs.Reach.{IsTable, Arc}
+use Rattle.auto_core.specs.Reach.{IsTable, HasArc}
 use Rattle.auto_core.specs.Useful.{Reaches, IsGoal}
 use Rattle.auto_core.specs.declared.parts.Mode.{Mode}
 
@@ -13,7 +13,7 @@ Steps A p q = (a : ℕ) × Moves A p a q
 -- The table of n rows has just the arcs of R.
 pub record HoldsArcs (R : ℕ → ℕ → Type 0) (table : List ℕ) (n width : ℕ) : Type 0 where
   pub is_table : IsTable table n width
-  pub arcs : (p q : ℕ) → Arc table n width p q ↔ R p q
+  pub arcs : (p q : ℕ) → HasArc table n width p q ↔ R p q
 
 -- One of the first n transitions leads from p to q.
 abbrev pub StepsWithin : Automaton → ℕ → ℕ → ℕ → Type 0

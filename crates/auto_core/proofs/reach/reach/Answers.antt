@@ -1,7 +1,7 @@
 use Rattle.std.proofs.Common.{◌≡◌, ℕ, ◌*◌, ◌<◌, false, arith, rules}
 use Rattle.std.proofs.lemmas.Nat.{row_fits}
 use Rattle.auto_core.specs.Rows.{HasBit, bit_of}
-use Rattle.auto_core.specs.Reach.{Arc}
+use Rattle.auto_core.specs.Reach.{HasArc}
 use Rattle.auto_core.proofs.Marking.{visit}
 use Rattle.auto_core.proofs.ReachLemmas.{unset_falls, reached_all}
 use Rattle.auto_core.proofs.reach.reach.Goals as goal
@@ -21,10 +21,10 @@ pub loop-place-preserved : goal.loop-place-preserved
 loop-place-preserved c =
     let marked : HasBit c.loop-place.marks c.in-Some.place = search rules in
     visit c.args.table.now c.args.count c.args.width c.args.marks.now c.loop-place.marks c.loop-place.done c.loop-place.invariant c.requires.table
-    c.in-Some.place c.row_at.result.now c.or_into.new.into c.set_bit.new.row marked c.row_at.ensures.bits c.row_at.ensures.outside c.or_into.ensures c.set_bit.ensures.others
+    c.in-Some.place c.row_at.result.now c.add_bits.new.into c.set_bit.new.row marked c.row_at.ensures.bits c.row_at.ensures.outside c.add_bits.ensures c.set_bit.ensures.others
 
 pub returns-clause-reached : goal.returns-clause-reached
 returns-clause-reached c =
     let all_done : (q : ℕ) → HasBit c.loop-place.marks q → HasBit c.loop-place.done q = search rules in
-    reached_all (Arc c.args.table.now c.args.count c.args.width) c.args.marks.now c.loop-place.marks c.loop-place.invariant.each c.loop-place.invariant.kept
+    reached_all (HasArc c.args.table.now c.args.count c.args.width) c.args.marks.now c.loop-place.marks c.loop-place.invariant.each c.loop-place.invariant.kept
     (λ p q h a. c.loop-place.invariant.visited p q (all_done p h) a)

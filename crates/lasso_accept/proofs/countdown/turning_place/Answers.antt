@@ -1,13 +1,13 @@
 use Rattle.std.proofs.Common.{ℕ, ◌<◌, sym, arith, subst, ◌∙◌, inl, inr, rules}
 use Rattle.std.proofs.lemmas.Bool.{cases_eq, false≢true}
 use Rattle.auto_core.specs.Rows.{HasBit}
-use Rattle.auto_core.specs.Reach.{Arc, ReturnsTo}
+use Rattle.auto_core.specs.Reach.{HasArc, ReturnsTo}
 use Rattle.lasso_accept.proofs.countdown.turning_place.Goals as goal
 
 pub loop-at-preserved : goal.loop-at-preserved
 loop-at-preserved c = λ x x_in marked back.
-    let any = Arc c.args.any.now c.args.count c.args.width in
-    let flagged = Arc c.args.flagged.now c.args.count c.args.width in
+    let any = HasArc c.args.any.now c.args.count c.args.width in
+    let flagged = HasArc c.args.flagged.now c.args.count c.args.width in
     elim (cases_eq x c.loop-at.at) [
       | inl e ↦
           let P : ℕ → Type 0 = λ y. ReturnsTo any flagged y in

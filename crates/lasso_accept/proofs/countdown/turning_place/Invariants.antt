@@ -1,8 +1,8 @@
 use Rattle.std.proofs.Common.{ℕ, ◌<◌}
 use Rattle.auto_core.specs.Rows.{HasBit}
-use Rattle.auto_core.specs.Reach.{Arc, ReturnsTo}
+use Rattle.auto_core.specs.Reach.{HasArc, ReturnsTo}
 use Rattle.lasso_accept.proofs.countdown.turning_place.Given as goal
 
 abbrev pub invariant-loop-at : goal.invariant-loop-at
 invariant-loop-at l =
-    (x : ℕ) → x < l.at → HasBit l.marks x → ReturnsTo (Arc l.any l.count l.width) (Arc l.flagged l.count l.width) x → ⊥
+    (x : ℕ) → x < l.at → HasBit l.marks x → ReturnsTo (HasArc l.any l.count l.width) (HasArc l.flagged l.count l.width) x → ⊥

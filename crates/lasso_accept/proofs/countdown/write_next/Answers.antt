@@ -1,14 +1,14 @@
 use Rattle.std.proofs.Common.{◌≡◌, ℕ, ◌+◌, ◌<◌, List, sym, ◌∙◌, subst, arith, inl, inr}
 use Rattle.std.proofs.lemmas.Bool.{false≢true}
 use Rattle.std.proofs.lemmas.Nat.{row_fits}
-use Rattle.auto_core.specs.Reach.{Arc}
+use Rattle.auto_core.specs.Reach.{HasArc}
 use Rattle.auto_core.specs.Rows.{cell_of}
 use Rattle.lasso_accept.proofs.CountdownLemmas.{HasNext, next_none, next_passed, next_more}
 use Rattle.lasso_accept.proofs.countdown.write_next.Goals as goal
 use Rattle.lasso_accept.proofs.countdown.write_next.Goals.{then-leads_into, else-leads_into}
 
 pub loop-place-init : goal.loop-place-init
-loop-place-init c = next_none (Arc c.args.any.now c.args.count c.args.width) c.args.count c.args.width c.args.at c.args.table.now
+loop-place-init c = next_none (HasArc c.args.any.now c.args.count c.args.width) c.args.count c.args.width c.args.at c.args.table.now
 
 pub set_cell-requires-clause-row : goal.set_cell-requires-clause-row
 set_cell-requires-clause-row c =
@@ -17,7 +17,7 @@ set_cell-requires-clause-row c =
 
 pub loop-place-preserved : goal.loop-place-preserved
 loop-place-preserved c =
-    let R = Arc c.args.any.now c.args.count c.args.width in
+    let R = HasArc c.args.any.now c.args.count c.args.width in
     let width : ℕ = c.args.width in
     let at : ℕ = c.args.at in
     let place : ℕ = c.loop-place.place in

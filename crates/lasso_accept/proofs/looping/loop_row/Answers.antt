@@ -1,7 +1,7 @@
 use Rattle.std.proofs.Common.{◌≡◌, ◌↔◌, ◌+◌, ◌/◌, ◌<◌, ◌≤◌, ℕ, List, length, rules, sym, subst}
 use Rattle.auto_core.specs.Automaton.{Automaton, IsAutomaton}
 use Rattle.auto_core.specs.Rows.{HasBit}
-use Rattle.auto_core.specs.Reach.{Arc}
+use Rattle.auto_core.specs.Reach.{HasArc}
 use Rattle.set_rows.specs.Sets.{IsRow}
 use Rattle.loop_rows.specs.Loops.{LeadsToLoop}
 use Rattle.lasso_accept.specs.Plane.{ArePlanes}
@@ -34,7 +34,7 @@ returns-clause-members c =
     let planes : ArePlanes A v width any flagged = search rules in
     let short : length items ≤ length new = search rules in
     let long : length new ≤ c.in_ok-out.out.len = search rules in
-    let Leads : ℕ → ℕ → Type 0 = λ k w. (p : ℕ) → HasBit new p ↔ ((p < k) × LeadsToLoop (Arc any k w) (Arc flagged k w) p) in
+    let Leads : ℕ → ℕ → Type 0 = λ k w. (p : ℕ) → HasBit new p ↔ ((p < k) × LeadsToLoop (HasArc any k w) (HasArc flagged k w) p) in
     let marked : Leads n ((n + 63) / 64) = c.mark_loops.ensures.marked in
     let leads : Leads A.states width = subst (λ k. Leads k width) c.states-states.ensures.count (subst (Leads n) (sym c.words_for-width.ensures) marked) in
     subst (λ l. (p : ℕ) → HasBit l p ↔ ((p < A.states) × AcceptsLoopFrom A v p)) (sym (written_whole new items c.in_ok-out.out.len short long)) (leads_as_accepts A valid v width any flagged planes new leads)

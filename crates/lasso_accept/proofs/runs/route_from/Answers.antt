@@ -1,13 +1,13 @@
 use Rattle.std.proofs.Common.{◌≡◌, ℕ, ◌<◌, List, sym, ◌∙◌, subst, arith}
 use Rattle.auto_core.specs.Rows.{HasBit, HasCell}
-use Rattle.auto_core.specs.Reach.{Arc, HasFlaggedCycle}
+use Rattle.auto_core.specs.Reach.{HasArc, HasFlaggedCycle}
 use Rattle.lasso_accept.proofs.RunLemmas.{some_row_meets, row_cell, cell_row}
 use Rattle.lasso_accept.proofs.runs.route_from.Goals as goal
 
 pub returns-in-None : goal.returns-in-None
 returns-in-None c = λ cycle.
     let same : c.deref_mut.result.now ≡ c.args.entered.now = c.deref_mut.ensures.value ∙ c.in_ok-marks.ensures.items in
-    let P : List ℕ → Type 0 = λ ms. HasFlaggedCycle (Arc c.args.any.now c.args.states c.args.width) (Arc c.args.flagged.now c.args.states c.args.width) ms in
+    let P : List ℕ → Type 0 = λ ms. HasFlaggedCycle (HasArc c.args.any.now c.args.states c.args.width) (HasArc c.args.flagged.now c.args.states c.args.width) ms in
     c.in-None.ensures.none (subst P (sym same) cycle)
 
 pub returns-in-None-first_meeting : goal.returns-in-None-first_meeting

@@ -1,7 +1,7 @@
 use Rattle.std.proofs.Common.{◌≡◌, ℕ, ◌*◌, ◌<◌, List, IfOk, MatchOption, subst}
 use Rattle.auto_core.specs.Automaton.{IsAutomaton}
 use Rattle.auto_core.specs.Rows.{bit_of, cell_of}
-use Rattle.auto_core.specs.Reach.{Arc, HasFlaggedCycle}
+use Rattle.auto_core.specs.Reach.{HasArc, HasFlaggedCycle}
 use Rattle.lasso_accept.specs.Plane.{ArePlanes}
 use Rattle.lasso_accept.specs.Route.{IsArcRoute}
 use Rattle.lasso_accept.proofs.LassoLemmas.{cycles_as_lassos, row_entered}
@@ -30,7 +30,7 @@ returns c =
     let entered = row_entered A valid u width prefix_any prefix_flagged row prefix_planes inside c.row_at-entered.ensures.outside in
     let both = cycles_as_lassos A valid u v width any flagged row turn_planes entered.0 entered.1 in
     let R : List ℕ → List ℕ → ℕ → Type 0 =
-    λ s t n. IfOk c.route_from.result (λ found. MatchOption found (HasFlaggedCycle (Arc s n width) (Arc t n width) row → ⊥) (λ r. IsArcRoute s t n width row r.at r.before r.back r.table.items)) in
+    λ s t n. IfOk c.route_from.result (λ found. MatchOption found (HasFlaggedCycle (HasArc s n width) (HasArc t n width) row → ⊥) (λ r. IsArcRoute s t n width row r.at r.before r.back r.table.items)) in
     let N : ℕ → Type 0 = λ n. R any flagged n in
     let S : List ℕ → Type 0 = λ s. R s c.deref-3.result.now c.states-states.result in
     let T : List ℕ → Type 0 = λ t. R any t c.states-states.result in

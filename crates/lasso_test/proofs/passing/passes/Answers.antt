@@ -1,6 +1,6 @@
 use Rattle.std.proofs.Common.{◌≡◌, ◌↔◌, ◌*◌, ℕ, ◌<◌, ◌≤◌, false, List, IsTrue, arith, rules}
 use Rattle.auto_core.specs.Rows.{bit_of, cell_of}
-use Rattle.auto_core.specs.Reach.{Arc, HasFlaggedCycle}
+use Rattle.auto_core.specs.Reach.{HasArc, HasFlaggedCycle}
 use Rattle.graph_laws.proofs.AppliedLemmas.{lassos_are_cycles}
 use Rattle.graph_rows.specs.Block.{width_of, joined_plane, past_plane}
 use Rattle.graph_rows.proofs.ArcLemmas.{row_marks}
@@ -15,7 +15,7 @@ returns-clause-told c =
     let i : ℕ = c.args.initial in
     let row : List ℕ = c.row_at-entered.result.now in
     let i_in : i < n = omega (arith, c.if-initial-n.false) in
-    let cycles : IsTrue c.has_flagged_cycle.result ↔ HasFlaggedCycle (Arc (joined_plane n h) n w) (Arc (past_plane n h) n w) row = search rules in
+    let cycles : IsTrue c.has_flagged_cycle.result ↔ HasFlaggedCycle (HasArc (joined_plane n h) n w) (HasArc (past_plane n h) n w) row = search rules in
     let inside : (q : ℕ) → q < w * 64 → bit_of row q ≡ cell_of (joined_plane n g) w i q = search rules in
     let outside : (q : ℕ) → w * 64 ≤ q → bit_of row q ≡ false = search rules in
     let law = lassos_are_cycles (joined_plane n g) (past_plane n g) (joined_plane n h) (past_plane n h) row n w i c.requires.second.within

@@ -1,6 +1,6 @@
 use Rattle.std.proofs.Common.{ℕ, inl, inr, sym, ◌∙◌, subst, refl, arith}
 use Rattle.std.proofs.lemmas.Bool.{cases_eq, cases_lt, false≢true}
-use Rattle.auto_core.specs.Reach.{Arc}
+use Rattle.auto_core.specs.Reach.{HasArc}
 use Rattle.loop_rows.proofs.LoopLemmas.{row_arc}
 use Rattle.loop_rows.proofs.components.has_arc_within.Goals as goal
 
@@ -21,7 +21,7 @@ loop-place-preserved c = λ p q below p_in arc q_in.
       | inl low ↦ c.loop-place.invariant p q low p_in arc q_in
       | inr high ↦ elim (cases_eq p place) [
         | inl e ↦
-            let here : Arc c.args.flagged.now c.args.count c.args.width place q = subst (λ x. Arc c.args.flagged.now c.args.count c.args.width x q) e arc in
+            let here : HasArc c.args.flagged.now c.args.count c.args.width place q = subst (λ x. HasArc c.args.flagged.now c.args.count c.args.width x q) e arc in
             let bit = (row_arc c.args.flagged.now c.args.count c.args.width place c.requires.flagged lt c.row_at.result.now c.row_at.ensures.bits c.row_at.ensures.outside q).1 here in
             false≢true (sym c.if-meets.false ∙ c.meets.ensures.1 (q, bit, q_in))
         | inr apart ↦ false≢true (sym (next.none_between p high (omega (arith, below))) ∙ p_in)

@@ -1,7 +1,7 @@
 use Rattle.std.proofs.Common.{◌≡◌, ◌&&◌, ◌*◌, ◌<◌, ℕ, List, inl, inr, sym, ap, ◌∙◌, arith}
 use Rattle.std.proofs.lemmas.Bool.{cases_lt, false≢true}
 use Rattle.auto_core.specs.Rows.{bit_of}
-use Rattle.auto_core.specs.Reach.{Arc}
+use Rattle.auto_core.specs.Reach.{HasArc}
 use Rattle.auto_core.proofs.BitLemmas.{bit_past}
 use Rattle.row_steps.proofs.WordLemmas.{first_cell}
 use Rattle.loop_rows.proofs.LoopLemmas.{and_has, close_in, reached_back}
@@ -9,7 +9,7 @@ use Rattle.loop_rows.proofs.components.write_component.Goals as goal
 
 pub returns-clause-component : goal.returns-clause-component
 returns-clause-component c = λ q.
-    let R : ℕ → ℕ → Type 0 = Arc c.args.table.now c.args.count c.args.width in
+    let R : ℕ → ℕ → Type 0 = HasArc c.args.table.now c.args.count c.args.width in
     let at : ℕ = c.args.at in
     let ahead : List ℕ = c.write_reached.new.out in
     let behind : List ℕ = c.write_reached-2.new.out in

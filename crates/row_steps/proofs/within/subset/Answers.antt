@@ -1,4 +1,4 @@
-use Rattle.std.proofs.Common.{◌≡◌, ℕ, ◌+◌, ◌*◌, ◌/◌, ◌<◌, ◌≤◌, inl, inr, length, refl, rules, arith, sym, ◌∙◌}
+use Rattle.std.proofs.Common.{◌*◌, ◌/◌, ◌≤◌, inl, inr, length, refl, rules, arith, sym, ◌∙◌}
 use Rattle.std.proofs.lemmas.Bool.{cases_lt, false≢true}
 use Rattle.std.proofs.Math.Facts.{Fits-lt-pow}
 use Rattle.auto_core.proofs.BitLemmas.{bit_past, missing_found, word_within}

@@ -1,5 +1,5 @@
 use Rattle.std.proofs.Common.{◌↔◌, ℕ, IsTrue, sym, refl, subst}
-use Rattle.auto_core.specs.Reach.{Arc, ReturnsTo}
+use Rattle.auto_core.specs.Reach.{HasArc, ReturnsTo}
 use Rattle.auto_core.specs.Useful.{IsGoal}
 use Rattle.auto_core.specs.declared.parts.Mode.{Mode}
 use Rattle.useful_states.proofs.SearchLemmas.{on_cycle}
@@ -11,7 +11,7 @@ returns-in-Buchi c =
     let ahead = c.args.ahead.now in
     let w : ℕ = c.args.width in
     let q : ℕ = c.args.state in
-    let F : ℕ → Type 0 = λ n. IsTrue c.returns_to.result ↔ ReturnsTo (Arc ahead n w) (Arc ahead n w) q in
+    let F : ℕ → Type 0 = λ n. IsTrue c.returns_to.result ↔ ReturnsTo (HasArc ahead n w) (HasArc ahead n w) q in
     let told = subst F c.states.ensures.count c.returns_to.ensures in
     let cycle = on_cycle A ahead A.states w c.requires.ahead q in
     let M : Mode → Type 0 = λ m. IsTrue c.returns_to.result ↔ IsGoal A m q in

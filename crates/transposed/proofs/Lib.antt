@@ -1,0 +1,4 @@
+pub mod WordLemmas
+pub mod MaskLemmas
+pub mod SquareLemmas
+pub mod TableLemmas

@@ -1,0 +1,7 @@
+//! Tables of bits with rows and columns exchanged.
+#![tactic(auto)]
+
+mod blocks;
+mod tables;
+
+pub use tables::transpose;
