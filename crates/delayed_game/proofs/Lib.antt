@@ -6,3 +6,4 @@ pub mod MendLemmas
 pub mod CanLemmas
 pub mod ClimbLemmas
 pub mod GreatestLemmas
+pub mod BlockLemmas

@@ -12,7 +12,7 @@ use Rattle.auto_core.proofs.MoveLemmas.{move_in_range}
 use Rattle.row_steps.specs.Walks.{IsNextBit}
 use Rattle.delayed_game.specs.Before.{LeadsTo}
 use Rattle.delayed_game.specs.Pairings.{Pairing, IsPairing}
-use Rattle.delayed_game.specs.Settling.{AreKept, IsAnsweredIn}
+use Rattle.delayed_game.specs.Settling.{KeptRowsAnswer, IsAnsweredIn}
 
 -- ---- one state that was lost
 
@@ -153,7 +153,7 @@ module _ (L A : Automaton) (R : Pairing) (w to : ℕ) (ends made : List ℕ) (so
   -- by the rows that were mended
   pub mended_answers :
       (kept tried lost : List ℕ)
-      → AreKept L A w kept tried R
+      → KeptRowsAnswer L A w kept tried R
       → to < L.states
       → HasBit tried to
       → ((q : ℕ) → q < w * 64 → HasBit lost q ↔ (HasCell kept w to q × (bit_of ends q ≡ false)))
@@ -199,7 +199,7 @@ module _ (L A : Automaton) (R : Pairing) (w to : ℕ) (ends made : List ℕ) (so
 
 module _ (L A : Automaton) (w : ℕ) where
   -- as long as pairs only go
-  pub kept_stays : (kept tried : List ℕ) (R S : Pairing) → ((p q : ℕ) → Holds S.pairs p q → Holds R.pairs p q) → AreKept L A w kept tried R → AreKept L A w kept tried S
+  pub kept_stays : (kept tried : List ℕ) (R S : Pairing) → ((p q : ℕ) → Holds S.pairs p q → Holds R.pairs p q) → KeptRowsAnswer L A w kept tried R → KeptRowsAnswer L A w kept tried S
   kept_stays kept tried R S within h = record { columns = h.columns; answered = λ x a y q y_in is_tried move held. h.answered x a y q y_in is_tried move (within x q held) }
 
   -- the row of one place more
@@ -209,14 +209,14 @@ module _ (L A : Automaton) (w : ℕ) where
       → A.states ≤ w * 64
       → IsPairing R
       → R.states ≡ A.states
-      → AreKept L A w kept tried R
+      → KeptRowsAnswer L A w kept tried R
       → ((p q : ℕ) → Holds S.pairs p q → Holds R.pairs p q)
       → ((q : ℕ) → HasBit row q ↔ Holds R.pairs to q)
       → ((q : ℕ) → q < w * 64 → cell_of kept' w to q ≡ bit_of row q)
       → ((y q : ℕ) → q < w * 64 → ¬ (y ≡ to) → cell_of kept' w y q ≡ cell_of kept w y q)
       → ((y : ℕ) → ¬ (y ≡ to) → bit_of tried' y ≡ bit_of tried y)
       → ((p a q : ℕ) → Moves L p a to → Holds S.pairs p q → IsAnsweredIn A (Holds R.pairs) q a to)
-      → AreKept L A w kept' tried' S
+      → KeptRowsAnswer L A w kept' tried' S
   kept_more to kept kept' tried tried' row R S sound room valid size h within bits here others marks answers = record {
     columns = λ y q y_in is_tried near cell. elim (cases_eq y to) [
       | inl e ↦

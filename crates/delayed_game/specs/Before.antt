@@ -8,6 +8,10 @@ use Rattle.auto_core.specs.Rows.{HasBit, HasCell}
 abbrev pub LeadsTo : Automaton → ℕ → List ℕ → ℕ → Type 0
 LeadsTo A a ends q = (q' : ℕ) × Moves A q a q' × HasBit ends q'
 
+-- A move from q by the letter a leads to a state that has column j; the columns of state q are the bits of the word at place q.
+abbrev pub LeadsToColumn : Automaton → List ℕ → ℕ → ℕ → ℕ → Type 0
+LeadsToColumn A words a j q = (q' : ℕ) × Moves A q a q' × HasCell words 1 q' j
+
 -- A move from q by the letter a leads to a state of the set with the number k. Four neighbouring states have sixteen sets, numbered one after
 -- another: of the lowest four digits each tells whether one of the four is in the set.
 abbrev pub LeadsToSet : Automaton → ℕ → ℕ → ℕ → Type 0

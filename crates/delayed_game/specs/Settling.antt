@@ -49,7 +49,7 @@ IsAnsweredBesides L A R marks = (y : ℕ) → y < L.states → bit_of marks y �
 
 -- In the table the rows of the places in `tried` have states alone, and each move to one of these places is answered by a move to a state that
 -- its row has.
-pub record AreKept (L A : Automaton) (w : ℕ) (kept tried : List ℕ) (R : Pairing) : Type 0 where
+pub record KeptRowsAnswer (L A : Automaton) (w : ℕ) (kept tried : List ℕ) (R : Pairing) : Type 0 where
   pub columns : (y q : ℕ) → y < L.states → HasBit tried y → q < w * 64 → HasCell kept w y q → q < A.states
   pub answered : (x a y q : ℕ) → y < L.states → HasBit tried y → Moves L x a y → Holds R.pairs x q → IsAnsweredIn A (HasCell kept w) q a y
 

@@ -11,7 +11,8 @@ ghost use Rattle.delayed_game.specs.Before.{LeadsTo, AreSetsIfAny};
 ghost use Rattle.delayed_game.specs.Boards.{HasFreshAnswer, IsReady, GivesRank, IsClimbed, AreLeastRanks};
 
 use crate::before::write_before;
-use crate::board::Board;
+use crate::blocks::note_by_blocks;
+use crate::board::{Board, bits_in};
 use crate::pairs::place;
 use auto_core::{Auto, Memory, rows};
 use row_steps::{and_row, next_bit, write_row};
@@ -190,8 +191,9 @@ fn note_answers(
     }
 }
 
-/// Notes the answers by the pairs that stand in the rows of `fresh`. `made` is room for a row for each letter, `row` for one row.
-fn note_fresh(
+/// Notes the answers by the pairs that stand in the rows of `fresh`, place by place. `made` is room for a row for each letter, `row` for one
+/// row.
+fn note_each(
     places: &Auto,
     automaton: &Auto,
     sets: &[u64],
@@ -225,7 +227,48 @@ fn note_fresh(
     }
 }
 
-/// Ranks level after level, until a level has no pair. `made` is room for a row for each letter, `row` for one row.
+/// Notes the answers by the pairs that stand in the rows of `fresh`. `made` is room for a row for each letter, `row` for one row,
+/// `words` and `found` for a word for each state, and `turned` for 64 rows.
+fn note_fresh(
+    places: &Auto,
+    automaton: &Auto,
+    sets: &[u64],
+    fresh: &[u64],
+    answered: &mut [u64],
+    width: usize,
+    made: &mut [u64],
+    row: &mut [u64],
+    words: &mut [u64],
+    found: &mut [u64],
+    turned: &mut [u64],
+)
+    requires over { IsAutomaton places.now }
+    requires labels { places.now.labels ≡ automaton.now.labels }
+    requires valid { IsAutomaton automaton.now }
+    requires sets { AreSetsIfAny automaton.now width sets.now }
+    requires width { width ≡ (automaton.now.states + 63) / 64 }
+    requires fresh { length fresh.now ≡ places.now.states * width }
+    requires columns { (p q : ℕ) → p < places.now.states → q < width * 64 → HasCell fresh.now width p q → q < automaton.now.states }
+    requires answered { length answered.old ≡ length places.now.transitions * width }
+    requires made { length made.old ≡ automaton.now.labels * width }
+    requires row { length row.old ≡ width }
+    requires words { length words.old ≡ automaton.now.states }
+    requires found { length found.old ≡ automaton.now.states }
+    requires turned { length turned.old ≡ 64 * width }
+    ensures { (t q : ℕ) → t < length places.now.transitions → q < width * 64 → HasCell answered.new width t q
+        ↔ (HasCell answered.old width t q ⊎ HasFreshAnswer places.now automaton.now fresh.now t q) }
+{
+    if bits_in(fresh) / fresh.len().max(1) >= automaton.labels() as usize {
+        note_by_blocks(
+            places, automaton, fresh, answered, width, words, found, turned,
+        );
+    } else {
+        note_each(places, automaton, sets, fresh, answered, width, made, row);
+    }
+}
+
+/// Ranks level after level, until a level has no pair. `made` is room for a row for each letter, `row` for one row, `words` and `found` for a
+/// word for each state, and `turned` for 64 rows.
 fn climb(
     places: &Auto,
     automaton: &Auto,
@@ -238,6 +281,9 @@ fn climb(
     width: usize,
     made: &mut [u64],
     row: &mut [u64],
+    words: &mut [u64],
+    found: &mut [u64],
+    turned: &mut [u64],
 )
     requires few { places.now.states * automaton.now.states + 2 < 2 ^ 32 }
     requires over { IsAutomaton places.now }
@@ -249,13 +295,18 @@ fn climb(
     requires fresh { length fresh.old ≡ places.now.states * width }
     requires made { length made.old ≡ automaton.now.labels * width }
     requires row { length row.old ≡ width }
+    requires words { length words.old ≡ automaton.now.states }
+    requires found { length found.old ≡ automaton.now.states }
+    requires turned { length turned.old ≡ 64 * width }
     requires climbed { IsClimbed places.now automaton.now (Holds within.now.pairs) 0 unranked.old ranks.old answered.old fresh.old }
     ensures { AreLeastRanks places.now automaton.now (Holds within.now.pairs) ranks.new }
 {
     let mut rank = 0;
     let mut any = true;
     'levels: while any {
-        note_fresh(places, automaton, sets, fresh, answered, width, made, row);
+        note_fresh(
+            places, automaton, sets, fresh, answered, width, made, row, words, found, turned,
+        );
         rank += 1;
         any = rank_ready(
             places, automaton, answered, rank, unranked, ranks, fresh, width, row,
@@ -264,7 +315,8 @@ fn climb(
 }
 
 /// Writes the least ranks into the table, which has none yet. `unranked` is a copy of the relation, `answered` is room for a row for each
-/// transition, `fresh` for one for each state, `made` for one for each letter, and `row` and `ends` are room for one row.
+/// transition, `fresh` for one for each state, `made` for one for each letter, `row` and `ends` for one row, `words` and `found` for a word
+/// for each state, and `turned` for 64 rows.
 fn rank_within(
     places: &Auto,
     automaton: &Auto,
@@ -278,6 +330,9 @@ fn rank_within(
     made: &mut [u64],
     row: &mut [u64],
     ends: &mut [u64],
+    words: &mut [u64],
+    found: &mut [u64],
+    turned: &mut [u64],
 )
     requires few { places.now.states * automaton.now.states + 2 < 2 ^ 32 }
     requires over { IsAutomaton places.now }
@@ -296,12 +351,16 @@ fn rank_within(
     requires made { length made.old ≡ automaton.now.labels * width }
     requires row { length row.old ≡ width }
     requires ends { length ends.old ≡ width }
+    requires words { length words.old ≡ automaton.now.states }
+    requires found { length found.old ≡ automaton.now.states }
+    requires turned { length turned.old ≡ 64 * width }
     ensures { AreLeastRanks places.now automaton.now (Holds board.now.pairs) ranks.new }
 {
     rows::clear_row(answered);
     rank_accepting(places, automaton, unranked, ranks, fresh, width, row, ends);
     climb(
-        places, automaton, sets, board, unranked, ranks, answered, fresh, width, made, row,
+        places, automaton, sets, board, unranked, ranks, answered, fresh, width, made, row, words,
+        found, turned,
     );
 }
 
@@ -332,6 +391,9 @@ pub fn least_ranks(
     let mut made = vec![in alloc; 0; automaton.labels() as usize * width]?;
     let mut row = vec![in alloc; 0; width]?;
     let mut ends = vec![in alloc; 0; width]?;
+    let mut words = vec![in alloc; 0; automaton.states() as usize]?;
+    let mut found = vec![in alloc; 0; automaton.states() as usize]?;
+    let mut turned = vec![in alloc; 0; 64 * width]?;
     rank_within(
         places,
         automaton,
@@ -345,6 +407,9 @@ pub fn least_ranks(
         &mut made,
         &mut row,
         &mut ends,
+        &mut words,
+        &mut found,
+        &mut turned,
     );
     Ok(())
 }

@@ -2,6 +2,7 @@
 #![tactic(auto)]
 
 mod before;
+mod blocks;
 mod board;
 mod levels;
 mod mending;

@@ -6,7 +6,7 @@ ghost use Rattle.auto_core.specs.Game.{Holds};
 ghost use Rattle.delayed_game.specs.Before.{AreSetsIfAny};
 ghost use Rattle.delayed_game.specs.Boards.{AreLeastRanks, HadLeastRanks};
 ghost use Rattle.delayed_game.specs.Pairings.{IsPairing};
-ghost use Rattle.delayed_game.specs.Settling.{AreKept, HasSomeRank, IsAnsweredBesides, IsFiltered, Drops};
+ghost use Rattle.delayed_game.specs.Settling.{KeptRowsAnswer, HasSomeRank, IsAnsweredBesides, IsFiltered, Drops};
 ghost use Rattle.delayed_game.specs.Played.{IsPlayed};
 
 use crate::board::Board;
@@ -172,7 +172,7 @@ fn rank_or_drop(
     requires tried_len { length tried.old ≡ (places.now.states + 63) / 64 }
     requires made_len { length made.old ≡ automaton.now.labels * width }
     requires row_len { length row.old ≡ width }
-    requires kept { AreKept places.now automaton.now width kept.old tried.old board.old }
+    requires kept { KeptRowsAnswer places.now automaton.now width kept.old tried.old board.old }
     requires besides { IsAnsweredBesides places.now automaton.now (Holds board.old.pairs) marks.old }
     ensures { IfOk result (λ _. IsPlayed places.now automaton.now board.old board.new ranks.new) }
 {
@@ -218,7 +218,7 @@ fn ranks_left(
     requires tried_len { length tried.old ≡ (places.now.states + 63) / 64 }
     requires made_len { length made.old ≡ automaton.now.labels * width }
     requires row_len { length row.old ≡ width }
-    requires kept { AreKept places.now automaton.now width kept.old tried.old board.old }
+    requires kept { KeptRowsAnswer places.now automaton.now width kept.old tried.old board.old }
     requires besides { IsAnsweredBesides places.now automaton.now (Holds board.old.pairs) marks.old }
     ensures { IfOk result (λ v. IsPlayed places.now automaton.now board.old board.new v.items) }
 {

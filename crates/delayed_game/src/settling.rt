@@ -7,7 +7,7 @@ ghost use Rattle.auto_core.specs.Game.{Holds};
 ghost use Rattle.auto_core.specs.Rows.{bit_of, HasBit, HasCell};
 ghost use Rattle.delayed_game.specs.Before.{AreSetsIfAny};
 ghost use Rattle.delayed_game.specs.Pairings.{IsPairing};
-ghost use Rattle.delayed_game.specs.Settling.{AnswersAll, AreKept, IsAnsweredIn, IsAnsweredInto, IsAnsweredBesides, IsFiltered, Shrinks, Tries};
+ghost use Rattle.delayed_game.specs.Settling.{AnswersAll, KeptRowsAnswer, IsAnsweredIn, IsAnsweredInto, IsAnsweredBesides, IsFiltered, Shrinks, Tries};
 
 use crate::before::write_before;
 use crate::board::{Board, bits_in};
@@ -86,7 +86,7 @@ fn write_answering(
     requires tried_len { length tried.now ≡ (places.now.states + 63) / 64 }
     requires made_len { length made.old ≡ automaton.now.labels * width }
     requires row_len { length row.old ≡ width }
-    requires kept { AreKept places.now automaton.now width kept.now tried.now board.now }
+    requires kept { KeptRowsAnswer places.now automaton.now width kept.now tried.now board.now }
     ensures { (p a q : ℕ) → Moves places.now p a to → Holds board.now.pairs p q
         → HasCell made.new width a q ↔ IsAnsweredIn automaton.now (Holds board.now.pairs) q a to }
 {
@@ -129,9 +129,9 @@ fn try_into(
     requires tried_len { length tried.old ≡ (places.now.states + 63) / 64 }
     requires made_len { length made.old ≡ automaton.now.labels * width }
     requires row_len { length row.old ≡ width }
-    requires kept { AreKept places.now automaton.now width kept.old tried.old board.old }
+    requires kept { KeptRowsAnswer places.now automaton.now width kept.old tried.old board.old }
     requires others { (x : ℕ) → x < places.now.states → ¬ (x ≡ to) → bit_of marks.old x ≡ false → IsAnsweredInto places.now automaton.now (Holds board.old.pairs) x }
-    ensures kept { AreKept places.now automaton.now width kept.new tried.new board.new }
+    ensures kept { KeptRowsAnswer places.now automaton.now width kept.new tried.new board.new }
     ensures tries { Tries places.now automaton.now board.old board.new marks.old marks.new result }
     ensures answered { IsAnsweredBesides places.now automaton.now (Holds board.new.pairs) marks.new }
 {
@@ -183,9 +183,9 @@ fn pass(
     requires tried_len { length tried.old ≡ (places.now.states + 63) / 64 }
     requires made_len { length made.old ≡ automaton.now.labels * width }
     requires row_len { length row.old ≡ width }
-    requires kept { AreKept places.now automaton.now width kept.old tried.old board.old }
+    requires kept { KeptRowsAnswer places.now automaton.now width kept.old tried.old board.old }
     requires besides { IsAnsweredBesides places.now automaton.now (Holds board.old.pairs) marks.old }
-    ensures kept { AreKept places.now automaton.now width kept.new tried.new board.new }
+    ensures kept { KeptRowsAnswer places.now automaton.now width kept.new tried.new board.new }
     ensures shrinks { Shrinks places.now automaton.now board.old board.new }
     ensures some { result ≡ true → length board.new.pairs < length board.old.pairs }
     ensures none { result ≡ false → (x : ℕ) → x < places.now.states → bit_of marks.new x ≡ false }
@@ -232,9 +232,9 @@ pub fn settle(
     requires tried_len { length tried.old ≡ (places.now.states + 63) / 64 }
     requires made_len { length made.old ≡ automaton.now.labels * width }
     requires row_len { length row.old ≡ width }
-    requires kept { AreKept places.now automaton.now width kept.old tried.old board.old }
+    requires kept { KeptRowsAnswer places.now automaton.now width kept.old tried.old board.old }
     requires besides { IsAnsweredBesides places.now automaton.now (Holds board.old.pairs) marks.old }
-    ensures kept { AreKept places.now automaton.now width kept.new tried.new board.new }
+    ensures kept { KeptRowsAnswer places.now automaton.now width kept.new tried.new board.new }
     ensures shrinks { Shrinks places.now automaton.now board.old board.new }
     ensures unmarked { (x : ℕ) → x < places.now.states → bit_of marks.new x ≡ false }
     ensures answered { (p q : ℕ) → Holds board.new.pairs p q → AnswersAll places.now automaton.now (Holds board.new.pairs) p q }

@@ -1,46 +1,9 @@
 -- States compared by the columns that they have.
-use Rattle.std.proofs.Common.{◌≡◌, ℕ, ◌+◌, ◌*◌, ◌<◌, ◌≤◌, ◌⊎◌, ◌↔◌, inl, inr, List, false, refl, sym, ◌∙◌, subst, arith}
+use Rattle.std.proofs.Common.{◌≡◌, ℕ, ◌+◌, ◌*◌, ◌<◌, ◌≤◌, ◌↔◌, inl, inr, List, false, refl, sym, ◌∙◌, subst, arith}
 use Rattle.std.proofs.lemmas.Bool.{cases_eq, cases_lt, false≢true}
 use Rattle.auto_core.specs.Rows.{bit_of, cell_of, HasBit, HasCell}
 use Rattle.row_steps.specs.Walks.{IsNextBit}
 use Rattle.look_round.specs.Words.{HasColumns, IsRowNarrowed}
-
--- the first n columns are marked in the rows of the states
-abbrev pub HaveColumns : List ℕ → ℕ → ℕ → List ℕ → ℕ → ℕ → Type 0
-HaveColumns columns width n had span count = (q : ℕ) → q < count → HasColumns columns width n had span q
-
-pub had_none : (columns : List ℕ) (width : ℕ) (had : List ℕ) (span count : ℕ) → ((i : ℕ) → bit_of had i ≡ false) → HaveColumns columns width 0 had span count
-had_none columns width had span count clear q q_in k near = (
-  λ cell. absurd (false≢true (sym (clear (q * span * 64 + k)) ∙ cell)),
-  λ is. let lt = is.0 in absurd (omega arith),
-)
-
--- one more column is marked
-pub had_more :
-    (columns column : List ℕ) (width n : ℕ) (old new : List ℕ) (span count : ℕ)
-    → count ≤ width * 64
-    → HaveColumns columns width n old span count
-    → ((q : ℕ) → q < width * 64 → bit_of column q ≡ cell_of columns width n q)
-    → ((q : ℕ) → q < count → HasCell new span q n ↔ (HasCell old span q n ⊎ HasBit column q))
-    → ((q k : ℕ) → k < span * 64 → ¬ (k ≡ n) → cell_of new span q k ≡ cell_of old span q k)
-    → HaveColumns columns width (n + 1) new span count
-had_more columns column width n old new span count room h bits here others q q_in k near = elim (cases_eq k n) [
-  | inl e ↦
-      let q_near : q < width * 64 = omega arith in
-      let old_near : n < span * 64 = subst (λ x. x < span * 64) e near in
-      subst (λ x. HasCell new span q x ↔ ((x < n + 1) × HasCell columns width x q)) (sym e) (
-        λ cell. elim ((here q q_in).0 cell) [
-          | inl was ↦ let lt = ((h q q_in n old_near).0 was).0 in absurd (omega arith)
-          | inr bit ↦ (omega arith, sym (bits q q_near) ∙ bit)
-        ],
-        λ is. (here q q_in).1 (inr (bits q q_near ∙ is.1)),
-      )
-  | inr apart ↦
-      let was = h q q_in k near in (
-        λ cell. let is = was.0 (sym (others q k near apart) ∙ cell) in let lt = is.0 in (omega arith, is.1),
-        λ is. let lt = is.0 in others q k near apart ∙ was.1 (omega arith, is.1),
-      )
-]
 
 -- Each bit that row p of the table has, row q has.
 abbrev pub IsRowWithin : List ℕ → ℕ → ℕ → ℕ → Type 0
@@ -134,7 +97,7 @@ pub compared :
     → p < count
     → n ≤ span * 64
     → ((q : ℕ) → q < width * 64 → HasCell old width p q → q < count)
-    → HaveColumns columns width n had span count
+    → ((q : ℕ) → q < count → HasColumns columns width n had span q)
     → ((q : ℕ) → q < width * 64 → HasCell new width p q ↔ (HasCell old width p q × IsRowWithin had span p q))
     → IsRowNarrowed old new width columns p n
 compared old new width columns p n had span count p_in room states have left q near = (

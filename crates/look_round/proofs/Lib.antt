@@ -7,8 +7,9 @@ pub mod IncomingLemmas
 pub mod HavingLemmas
 pub mod ColumnLemmas
 pub mod CompareLemmas
-pub mod LaneLemmas
+pub mod PlaceLemmas
 pub mod BoundLemmas
 pub mod KnownLemmas
 pub mod ListedLemmas
 pub mod AnsweringLemmas
+pub mod ReplyListLemmas

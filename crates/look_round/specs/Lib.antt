@@ -6,3 +6,6 @@ pub mod RoomStored
 pub mod Words
 pub mod Known
 pub mod Answering
+pub mod Kinds
+pub mod ReplyLists
+pub mod Listed

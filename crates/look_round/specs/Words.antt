@@ -22,17 +22,17 @@ AreColumns M ok n table width count = (i : ℕ) → i < count → IsColumn M ok 
 abbrev pub AreMatches : (ℕ → ℕ → Type 0) → ℕ → List ℕ → ℕ → ℕ → Type 0
 AreMatches ok n table width m = (p q : ℕ) → p < m → q < width * 64 → HasCell table width p q ↔ ((q < n) × ok p q)
 
--- Each of the first lanes is on just those of the n states that have one asked word; lane j of state q is bit j of the 64 bits at place q.
-abbrev pub AreLanes : (ℕ → ℕ → ℕ → Type 0) → (ℕ → ℕ → Type 0) → ℕ → List ℕ → ℕ → Type 0
-AreLanes M ok n lanes used = (j : ℕ) → j < used → (w : List (ℕ × ℕ)) × ((q : ℕ) → q < n → HasCell lanes 1 q j ↔ GoesByWord M ok q w)
+-- Each of the first places is on just those of the n states that have one asked word; place j of state q is bit j of the word of q, one of its 64 places.
+abbrev pub AreWordPlaces : (ℕ → ℕ → ℕ → Type 0) → (ℕ → ℕ → Type 0) → ℕ → List ℕ → ℕ → Type 0
+AreWordPlaces M ok n places used = (j : ℕ) → j < used → (w : List (ℕ × ℕ)) × ((q : ℕ) → q < n → HasCell places 1 q j ↔ GoesByWord M ok q w)
 
--- Each of the first lanes is on just those of the n states that one of the first columns is on.
-abbrev pub AreLanesOf : ℕ → List ℕ → ℕ → List ℕ → ℕ → ℕ → Type 0
-AreLanesOf n lanes used columns width count = (j : ℕ) → j < used → (i : ℕ) × (i < count) × ((q : ℕ) → q < n → HasCell lanes 1 q j ↔ HasCell columns width i q)
+-- Each of the first places is on just those of the n states that one of the first columns is on.
+abbrev pub AreColumnPlaces : ℕ → List ℕ → ℕ → List ℕ → ℕ → ℕ → Type 0
+AreColumnPlaces n places used columns width count = (j : ℕ) → j < used → (i : ℕ) × (i < count) × ((q : ℕ) → q < n → HasCell places 1 q j ↔ HasCell columns width i q)
 
--- A move from q by the letter a leads to a state of the row that lane j is on.
-abbrev pub LeadsToLane : (ℕ → ℕ → ℕ → Type 0) → List ℕ → List ℕ → ℕ → ℕ → ℕ → Type 0
-LeadsToLane M lanes asked a j q = (r : ℕ) × M q a r × HasBit asked r × HasCell lanes 1 r j
+-- A move from q by the letter a leads to a state of the row that place j is on.
+abbrev pub LeadsToPlace : (ℕ → ℕ → ℕ → Type 0) → List ℕ → List ℕ → ℕ → ℕ → ℕ → Type 0
+LeadsToPlace M places asked a j q = (r : ℕ) × M q a r × HasBit asked r × HasCell places 1 r j
 
 -- Columns were added, each one of the first rows of `made`, and the others stay.
 pub record AddsColumns (old new : List ℕ) (width count more : ℕ) (made : List ℕ) (used : ℕ) : Type 0 where

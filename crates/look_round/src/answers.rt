@@ -4,11 +4,13 @@
 ghost use Rattle.std.specs.Prelude.{◌≡◌, ◌+◌, ◌*◌, ◌/◌, ◌^◌, ◌<◌, ◌≤◌, ◌↔◌, ◌⊎◌, ℕ, length, vec_len, Contains, IsTrue, IfOk};
 ghost use Rattle.auto_core.specs.Rows.{cell_of, HasCell, HasBit};
 ghost use Rattle.auto_core.specs.Game.{Holds};
+ghost use Rattle.look_round.specs.ReplyLists.{AreReplyLists};
 ghost use Rattle.look_round.specs.Answering.{IsAnsweredAtOnce, AreAnswersTo, AreAnswers};
 
 use crate::answering::Answering;
 use crate::moves::Move;
-use crate::replies::{clear_table_row, has_reply_in};
+use crate::replies::clear_table_row;
+use crate::reply_lists::ReplyLists;
 use crate::sides::Side;
 use auto_core::{Auto, Memory, rows};
 use bit_rel::Rel;
@@ -93,6 +95,7 @@ fn clear_arrivals<S: Side>(
     side: &S,
     automaton: &Auto,
     rel: &Rel,
+    lists: &ReplyLists,
     t: u32,
     r: u32,
     table: &mut [u64],
@@ -100,6 +103,7 @@ fn clear_arrivals<S: Side>(
     width: usize,
 )
     requires equal { rel.now.size ≡ automaton.now.states }
+    requires lists { AreReplyLists (S.goes side.now automaton.now) (S.matches side.now automaton.now) automaton.now.states lists.now }
     requires left { t < automaton.now.states }
     requires right { r < automaton.now.states }
     requires width { width ≡ (automaton.now.states + 63) / 64 }
@@ -117,7 +121,7 @@ fn clear_arrivals<S: Side>(
             label: m.label,
             to: t,
         };
-        if m.label < labels && !has_reply_in(side, automaton, m.to, step, rel.row(t)) {
+        if m.label < labels && !lists.has_reply(side, automaton, m.to, step, rel.row(t)) {
             let place = place_in_row(labels, width, m.label, m.to);
             rows::clear_cell(table, labels as usize * width, t as usize, place);
         }
@@ -129,6 +133,7 @@ fn forget_lost<S: Side>(
     side: &S,
     automaton: &Auto,
     rel: &Rel,
+    lists: &ReplyLists,
     t: u32,
     lost: &[u64],
     table: &mut [u64],
@@ -136,6 +141,7 @@ fn forget_lost<S: Side>(
     width: usize,
 )
     requires equal { rel.now.size ≡ automaton.now.states }
+    requires lists { AreReplyLists (S.goes side.now automaton.now) (S.matches side.now automaton.now) automaton.now.states lists.now }
     requires state { t < automaton.now.states }
     requires states { automaton.now.states < 2 ^ 32 }
     requires width { width ≡ (automaton.now.states + 63) / 64 }
@@ -153,7 +159,9 @@ fn forget_lost<S: Side>(
 {
     let mut at = 0;
     while let Some(r) = next_bit(lost, at) {
-        clear_arrivals(side, automaton, rel, t, r as u32, table, labels, width);
+        clear_arrivals(
+            side, automaton, rel, lists, t, r as u32, table, labels, width,
+        );
         at = r + 1;
     }
 }
@@ -173,18 +181,27 @@ impl Answering {
     pub fn none(alloc: Global, automaton: &Auto) -> Answering
         ensures width { result.width ≡ (automaton.now.states + 63) / 64 }
         ensures kept { result.kept ≡ 0 }
+        ensures lists { result.lists.labels ≡ 0 }
     {
         Answering {
             labels: 0,
             width: rows::words_for(automaton.states()),
             kept: 0,
             table: Vec::new(alloc),
+            lists: ReplyLists::none(alloc),
         }
     }
 
     /// Rows of this width, as far as there is room for some, that are to be written yet.
-    fn blank(alloc: Global, states: u32, labels: u32, width: usize) -> Result<Answering, Memory>
+    fn blank(
+        alloc: Global,
+        states: u32,
+        labels: u32,
+        width: usize,
+        lists: ReplyLists,
+    ) -> Result<Answering, Memory>
         requires few { width < 2 ^ 27 }
+        ensures lists { IfOk result (λ rows. rows.lists ≡ lists) }
         ensures width { IfOk result (λ rows. rows.width ≡ width) }
         ensures kept { IfOk result (λ rows. rows.kept ≤ states) }
     {
@@ -194,6 +211,7 @@ impl Answering {
                 width,
                 kept: 0,
                 table: Vec::new(alloc),
+                lists,
             });
         }
         let words = labels as usize * width;
@@ -203,6 +221,7 @@ impl Answering {
                 width,
                 kept: 0,
                 table: Vec::new(alloc),
+                lists,
             });
         }
         let kept = (states as usize).min(MOST_WORDS / words) as u32;
@@ -212,10 +231,11 @@ impl Answering {
             width,
             kept,
             table,
+            lists,
         })
     }
 
-    /// The rows of the relation, as far as there is room for them.
+    /// The rows of the relation, as far as there is room for them, and the lists of replies.
     pub fn new<S: Side>(
         alloc: Global,
         side: &S,
@@ -227,7 +247,8 @@ impl Answering {
     {
         let count = automaton.states();
         let width = rows::words_for(count);
-        let mut made = Answering::blank(alloc, count, automaton.labels(), width)?;
+        let lists = ReplyLists::new(alloc, side, automaton)?;
+        let mut made = Answering::blank(alloc, count, automaton.labels(), width, lists)?;
         for t in 0..count {
             made.refresh(side, automaton, rel, t);
         }
@@ -245,6 +266,7 @@ impl Answering {
         ensures here { t < self.old.kept
             → AreAnswersTo (S.goes side.now automaton.now) (S.matches side.now automaton.now) (Holds rel.now.pairs) self.new t }
         ensures labels { self.new.labels ≡ self.old.labels }
+        ensures lists { self.new.lists ≡ self.old.lists }
         ensures others { (s c : ℕ) → c < self.old.labels * self.old.width * 64 → ¬ (s ≡ t)
             → cell_of self.new.table.items (self.old.labels * self.old.width) s c ≡ cell_of self.old.table.items (self.old.labels * self.old.width) s c }
     {
@@ -306,6 +328,7 @@ impl Answering {
         requires states { automaton.now.states < 2 ^ 32 }
         requires equal { rel.now.size ≡ automaton.now.states }
         requires width { self.old.width ≡ (automaton.now.states + 63) / 64 }
+        requires lists { AreReplyLists (S.goes side.now automaton.now) (S.matches side.now automaton.now) automaton.now.states self.old.lists }
         requires lost { length lost.now ≡ (automaton.now.states + 63) / 64 }
         requires below { (r : ℕ) → HasBit lost.now r → r < automaton.now.states }
         requires before { t < self.old.kept
@@ -315,6 +338,7 @@ impl Answering {
         ensures here { t < self.old.kept
             → AreAnswersTo (S.goes side.now automaton.now) (S.matches side.now automaton.now) (Holds rel.now.pairs) self.new t }
         ensures labels { self.new.labels ≡ self.old.labels }
+        ensures lists { self.new.lists ≡ self.old.lists }
         ensures others { (s c : ℕ) → c < self.old.labels * self.old.width * 64 → ¬ (s ≡ t)
             → cell_of self.new.table.items (self.old.labels * self.old.width) s c ≡ cell_of self.old.table.items (self.old.labels * self.old.width) s c }
     {
@@ -325,6 +349,7 @@ impl Answering {
             side,
             automaton,
             rel,
+            &self.lists,
             t,
             lost,
             &mut self.table,

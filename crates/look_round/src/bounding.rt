@@ -12,7 +12,7 @@ use crate::sides::Side;
 use crate::words::write_columns;
 use auto_core::{Auto, Memory, rows};
 use bit_rel::Rel;
-use row_steps::{and_row, next_bit};
+use row_steps::{and_row, has_no_other, next_bit};
 use std::alloc::Global;
 
 /// At most so many letters are tried.
@@ -28,26 +28,7 @@ const WORDS_BETWEEN: usize = 8;
 const FIRST_WORDS: usize = 64;
 
 /// Rows have many places left if they have so many.
-const MANY_LEFT: usize = 64;
-
-/// Tells whether the row has no bit but its own.
-fn has_no_other(row: &[u64], own: usize) -> bool
-    requires few { length row.now < 2 ^ 32 }
-    ensures { result ≡ true → (q : ℕ) → HasBit row.now q → q ≡ own }
-{
-    match next_bit(row, 0) {
-        None => true,
-        Some(first) => {
-            if first != own {
-                return false;
-            }
-            match next_bit(row, own + 1) {
-                None => true,
-                Some(_later) => false,
-            }
-        }
-    }
-}
+const MANY_LEFT: usize = 16;
 
 /// Takes from row p what the column has not, if the column has p, and tells, where that is asked, whether the row is left with its own
 /// place alone by that.
@@ -167,7 +148,7 @@ fn relation_of(alloc: Global, table: &[u64], count: u32, width: usize) -> Result
     Ok(rel)
 }
 
-/// The bound, where `table` is room for a row for each state, `columns` for so many words, `ends` for one row, `lanes` and `found` for a word
+/// The bound, where `table` is room for a row for each state, `columns` for so many words, `ends` for one row, `places` and `found` for a word
 /// for each state, and `made` for 64 rows.
 fn bound_in<S: Side>(
     alloc: Global,
@@ -179,7 +160,7 @@ fn bound_in<S: Side>(
     room: usize,
     letters: u32,
     ends: &mut [u64],
-    lanes: &mut [u64],
+    places: &mut [u64],
     found: &mut [u64],
     made: &mut [u64],
 ) -> Result<Rel, Memory>
@@ -189,7 +170,7 @@ fn bound_in<S: Side>(
     requires few { room < 2 ^ 32 }
     requires columns { length columns.old ≡ room * width }
     requires ends { length ends.old ≡ width }
-    requires lanes { length lanes.old ≡ automaton.now.states }
+    requires places { length places.old ≡ automaton.now.states }
     requires found { length found.old ≡ automaton.now.states }
     requires made { length made.old ≡ 64 * width }
     ensures { IfOk result (IsBound (S.goes side.now automaton.now) (S.matches side.now automaton.now) automaton.now.states) }
@@ -197,7 +178,7 @@ fn bound_in<S: Side>(
     let count = automaton.states();
     let kinds = match_rows(alloc, side, automaton, table, ends, width)?;
     let words = write_columns(
-        side, automaton, table, &kinds, columns, width, room, letters, ends, lanes, found, made,
+        side, automaton, table, &kinds, columns, width, room, letters, ends, places, found, made,
     );
     narrow(alloc, table, count, width, columns, words)?;
     relation_of(alloc, table, count, width)
@@ -215,7 +196,7 @@ pub fn bound<S: Side>(alloc: Global, side: &S, automaton: &Auto) -> Result<Rel, 
     let mut table = vec![in alloc; 0; count as usize * width]?;
     let mut columns = vec![in alloc; 0; room * width]?;
     let mut ends = vec![in alloc; 0; width]?;
-    let mut lanes = vec![in alloc; 0; count as usize]?;
+    let mut places = vec![in alloc; 0; count as usize]?;
     let mut found = vec![in alloc; 0; count as usize]?;
     let mut made = vec![in alloc; 0; 64 * width]?;
     bound_in(
@@ -228,7 +209,7 @@ pub fn bound<S: Side>(alloc: Global, side: &S, automaton: &Auto) -> Result<Rel, 
         room,
         letters,
         &mut ends,
-        &mut lanes,
+        &mut places,
         &mut found,
         &mut made,
     )

@@ -4,25 +4,10 @@ ghost use Rattle.std.specs.Prelude.{◌≡◌, ◌+◌, ◌*◌, ◌/◌, ◌^�
 ghost use Rattle.auto_core.specs.Rows.{bit_of, cell_of, HasBit, HasCell};
 ghost use Rattle.look_round.specs.Words.{HasColumns, IsRowNarrowed};
 
-use crate::words::mark_down;
 use auto_core::{Memory, rows};
 use row_steps::{next_bit, subset};
 use std::alloc::Global;
-
-/// Marks in the row of each state the columns that have it. `had` has no bit yet.
-fn mark_had(columns: &[u64], width: usize, words: usize, had: &mut [u64], span: usize, count: usize)
-    requires columns { words * width ≤ length columns.now }
-    requires few { width < 2 ^ 32 }
-    requires near { count ≤ width * 64 }
-    requires had { length had.old ≡ count * span }
-    requires clear { (i : ℕ) → bit_of had.old i ≡ false }
-    requires room { words ≤ span * 64 }
-    ensures { (q : ℕ) → q < count → HasColumns columns.now width words had.new span q }
-{
-    for i in 0..words {
-        mark_down(had, span, count, i, rows::row_at(columns, width, i));
-    }
-}
+use transposed::transpose;
 
 /// Takes q from row p, unless `other` has each bit of `own`.
 fn keep_if_within(table: &mut [u64], width: usize, p: usize, q: usize, own: &[u64], other: &[u64])
@@ -113,7 +98,7 @@ pub(crate) fn compare(
     let span = words / 64 + 1;
     let mut had = vec![in alloc; 0; count as usize * span]?;
     let mut row = vec![in alloc; 0; width]?;
-    mark_had(columns, width, words, &mut had, span, count as usize);
+    transpose(columns, width, words, &mut had, span, count as usize);
     keep_each_above(table, count, width, &had, span, columns, words, &mut row);
     Ok(())
 }

@@ -1,7 +1,8 @@
 //! Which states match which, as rows of bits. Most states are like others: they ask for the same, and match the same.
 
-ghost use Rattle.std.specs.Prelude.{◌≡◌, ◌+◌, ◌*◌, ◌/◌, ◌<◌, ◌↔◌, ℕ, length, All, Contains, IsTrue, IfOk, IfSome};
+ghost use Rattle.std.specs.Prelude.{◌≡◌, ◌+◌, ◌*◌, ◌/◌, ◌<◌, ◌↔◌, ◌≤◌, ℕ, length, slice_index, All, IfOk, IfSome};
 ghost use Rattle.auto_core.specs.Rows.{HasBit, HasCell};
+ghost use Rattle.look_round.specs.Kinds.{MatchEachOther, AreKinds};
 ghost use Rattle.look_round.specs.Words.{AreMatches};
 
 use crate::sides::Side;
@@ -26,15 +27,15 @@ fn match_row<S: Side>(side: &S, automaton: &Auto, p: u32, row: &mut [u64])
     }
 }
 
-/// One of these states that matches `p` and is matched by it, so that the same states match both.
-fn find_kind<S: Side>(side: &S, automaton: &Auto, kinds: &[u32], p: u32) -> Option<u32>
+/// The place among these states of one that matches `p` and is matched by it, so that the same states match both.
+pub(crate) fn find_kind<S: Side>(side: &S, automaton: &Auto, kinds: &[u32], p: u32) -> Option<usize>
     requires state { p < automaton.now.states }
     requires kinds { All (λ s. s < automaton.now.states) kinds.now }
-    ensures { IfSome result (λ s. Contains kinds.now s × S.matches side.now automaton.now p s × S.matches side.now automaton.now s p) }
+    ensures { IfSome result (λ i. (i < length kinds.now) × MatchEachOther (S.matches side.now automaton.now) p (slice_index kinds.now i)) }
 {
-    for s in kinds {
-        if side.matched(automaton, p, *s) && side.matched(automaton, *s, p) {
-            return Some(*s);
+    for i in 0..kinds.len() {
+        if side.matched(automaton, p, kinds[i]) && side.matched(automaton, kinds[i], p) {
+            return Some(i);
         }
     }
     None
@@ -59,8 +60,8 @@ fn write_matches<S: Side>(
     ensures { (q : ℕ) → q < width * 64 → HasBit row.new q ↔ ((q < automaton.now.states) × S.matches side.now automaton.now p q) }
 {
     match find_kind(side, automaton, kinds, p) {
-        Some(s) => {
-            row.copy_from_slice(rows::row_at(table, width, s as usize));
+        Some(i) => {
+            row.copy_from_slice(rows::row_at(table, width, kinds[i] as usize));
             false
         }
         None => {
@@ -95,4 +96,45 @@ pub(crate) fn match_rows<S: Side>(
         }
     }
     Ok(kinds)
+}
+
+/// A state of each kind, as far as kinds are told apart: each matches itself.
+pub(crate) fn find_kinds<S: Side>(
+    alloc: Global,
+    side: &S,
+    automaton: &Auto,
+) -> Result<Vec<u32>, Memory>
+    ensures states { IfOk result (λ v. All (λ s. s < automaton.now.states) v.items) }
+    ensures few { IfOk result (λ v. length v.items ≤ 4) }
+{
+    let mut kinds = Vec::new(alloc);
+    for p in 0..automaton.states() {
+        if kinds.len() < MOST_KINDS
+            && side.matched(automaton, p, p)
+            && find_kind(side, automaton, &kinds, p).is_none()
+        {
+            kinds.push(p)?;
+        }
+    }
+    Ok(kinds)
+}
+
+/// For each state the place of its kind among these, or a larger number.
+pub(crate) fn number_kinds<S: Side>(
+    alloc: Global,
+    side: &S,
+    automaton: &Auto,
+    kinds: &[u32],
+) -> Result<Vec<usize>, Memory>
+    requires kinds { All (λ s. s < automaton.now.states) kinds.now }
+    ensures { IfOk result (λ v. AreKinds (S.matches side.now automaton.now) automaton.now.states kinds.now v.items) }
+{
+    let mut numbers = Vec::new(alloc);
+    for p in 0..automaton.states() {
+        match find_kind(side, automaton, kinds, p) {
+            Some(i) => numbers.push(i)?,
+            None => numbers.push(kinds.len())?,
+        }
+    }
+    Ok(numbers)
 }

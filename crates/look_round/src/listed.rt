@@ -1,22 +1,20 @@
 //! Rounds where Duplicator may be in few states at a time: a list of them is quicker than a row of bits.
 
-ghost use Rattle.std.specs.Prelude.{◌≡◌, ◌<◌, ◌≤◌, ◌↔◌, ◌⊎◌, ℕ, [], length, All, Contains, IsTrue};
+ghost use Rattle.std.specs.Prelude.{◌≡◌, ◌<◌, ◌≤◌, ◌↔◌, ℕ, length, All, Contains, IsTrue};
 ghost use Rattle.auto_core.specs.Automaton.{IsAutomaton};
 ghost use Rattle.auto_core.specs.Game.{Round, Holds};
 ghost use Rattle.look_round.specs.Answering.{AreAnswers};
 ghost use Rattle.look_round.specs.Replies.{IsReply, HasReplyFrom, RoundFrom, RoundAfter};
+ghost use Rattle.look_round.specs.ReplyLists.{AreReplyLists};
+ghost use Rattle.look_round.specs.Listed.{IsListedWithin, KeepsListed, Lists};
 
 use crate::answering::Answering;
 use crate::moves::Move;
 use crate::replies::{has_reply_in, is_reply};
+use crate::reply_lists::ReplyLists;
 use crate::sides::Side;
 use auto_core::Auto;
 use bit_rel::Rel;
-use smallvec::SmallVec;
-use std::alloc::Global;
-
-/// At most so many states are listed, and one more that tells that there are too many.
-const MOST_LISTED: usize = 64;
 
 /// So many states may be looked at in one round, or as many as there are.
 const MOST_LOOKED_AT: usize = 8192;
@@ -70,71 +68,108 @@ fn one_meets<S: Side>(
     one_answers(side, automaton, rel, step, from)
 }
 
-/// Adds the states by which `from` answers the step, as far as there is room.
+/// Writes the states of the list from place `from` on, as far as there is room, and tells the place after the last one.
+fn write_list(list: &[u32], listed: &mut [u32], from: usize, n: u32) -> usize
+    requires from { from ≤ length listed.old }
+    requires below { All (λ r. r < n) list.now }
+    ensures { Lists listed.old listed.new from result n (Contains list.now) }
+{
+    let mut end = from;
+    for i in 0..list.len() {
+        if end < listed.len() {
+            listed[end] = list[i];
+            end += 1;
+        }
+    }
+    end
+}
+
+/// Writes the states by which `q` answers the step from place `from` on, as far as there is room, and tells the place after the last one.
+fn write_replies<S: Side>(
+    side: &S,
+    automaton: &Auto,
+    q: u32,
+    step: Move,
+    listed: &mut [u32],
+    from: usize,
+) -> usize
+    requires state { q < automaton.now.states }
+    requires step { step.to < automaton.now.states }
+    requires from { from ≤ length listed.old }
+    ensures { Lists listed.old listed.new from result automaton.now.states (IsReply (S.goes side.now automaton.now) (S.matches side.now automaton.now) step.label step.to q) }
+{
+    let mut end = from;
+    for at in 0..side.moves(automaton, q) {
+        let reply = side.nth(automaton, q, at);
+        if end < listed.len() && is_reply(side, automaton, step, reply) {
+            listed[end] = reply.to;
+            end += 1;
+        }
+    }
+    end
+}
+
+/// The same, by the list of the replies where there is one.
+fn add_replies<S: Side>(
+    side: &S,
+    automaton: &Auto,
+    lists: &ReplyLists,
+    q: u32,
+    step: Move,
+    listed: &mut [u32],
+    from: usize,
+) -> usize
+    requires lists { AreReplyLists (S.goes side.now automaton.now) (S.matches side.now automaton.now) automaton.now.states lists.now }
+    requires state { q < automaton.now.states }
+    requires step { step.to < automaton.now.states }
+    requires from { from ≤ length listed.old }
+    ensures { Lists listed.old listed.new from result automaton.now.states (IsReply (S.goes side.now automaton.now) (S.matches side.now automaton.now) step.label step.to q) }
+{
+    if lists.has(step) {
+        return write_list(lists.list(q, step), listed, from, automaton.states());
+    }
+    write_replies(side, automaton, q, step, listed, from)
+}
+
+/// Writes from place `end` on the states by which one of those at the places from `at` on answers the step, as far as there is room, and
+/// tells the place after the last one.
 fn list_replies<S: Side>(
     side: &S,
     automaton: &Auto,
-    from: u32,
+    lists: &ReplyLists,
     step: Move,
-    replies: &mut SmallVec<u32, 65>,
-)
-    requires from { from < automaton.now.states }
+    listed: &mut [u32],
+    at: usize,
+    end: usize,
+) -> usize
+    requires lists { AreReplyLists (S.goes side.now automaton.now) (S.matches side.now automaton.now) automaton.now.states lists.now }
     requires step { step.to < automaton.now.states }
-    requires capacity { replies.old.capacity ≡ 65 }
-    requires room { length replies.old.items ≤ 65 }
-    requires below { All (λ r. r < automaton.now.states) replies.old.items }
-    ensures capacity { replies.new.capacity ≡ 65 }
-    ensures room { length replies.new.items ≤ 65 }
-    ensures below { All (λ r. r < automaton.now.states) replies.new.items }
-    ensures more { length replies.old.items ≤ length replies.new.items }
-    ensures listed { length replies.new.items ≤ 64
-        → (r : ℕ)
-        → Contains replies.new.items r
-        ↔ (Contains replies.old.items r ⊎ IsReply (S.goes side.now automaton.now) (S.matches side.now automaton.now) step.label step.to from r) }
+    requires order { at ≤ end }
+    requires end { end ≤ length listed.old }
+    requires states { (q : ℕ) → IsListedWithin listed.old at end q → q < automaton.now.states }
+    ensures { Lists listed.old listed.new end result automaton.now.states
+        (HasReplyFrom (S.goes side.now automaton.now) (S.matches side.now automaton.now) step.label step.to (IsListedWithin listed.old at end)) }
 {
-    for at in 0..side.moves(automaton, from) {
-        let reply = side.nth(automaton, from, at);
-        if replies.len() <= MOST_LISTED && is_reply(side, automaton, step, reply) {
-            replies.push_reserved(reply.to);
-        }
+    let mut to = end;
+    for i in at..end {
+        to = add_replies(side, automaton, lists, listed[i], step, listed, to);
     }
-}
-
-/// The states by which one of these answers the step, as far as there is room.
-fn replies_to<S: Side>(
-    alloc: Global,
-    side: &S,
-    automaton: &Auto,
-    step: Move,
-    from: &[u32],
-) -> SmallVec<u32, 65>
-    requires step { step.to < automaton.now.states }
-    requires from { All (λ q. q < automaton.now.states) from.now }
-    ensures below { All (λ r. r < automaton.now.states) result.items }
-    ensures listed { length result.items ≤ 64
-        → (r : ℕ)
-        → Contains result.items r
-        ↔ HasReplyFrom (S.goes side.now automaton.now) (S.matches side.now automaton.now) step.label step.to (Contains from.now) r }
-{
-    let mut replies = SmallVec::new(alloc);
-    for i in 0..from.len() {
-        list_replies(side, automaton, from[i], step, &mut replies);
-    }
-    replies
+    to
 }
 
 /// Tells what is known of Spoiler's paths of `left` moves, or shorter ones to a dead end, whose first move is `step`, where Duplicator may be
-/// in one of these states. At most `room` more states are looked at.
+/// in one of the states at the places from `at` on. At most `room` more states are looked at.
 #[cycle(listed)]
 fn told_after<S: Side>(
-    alloc: Global,
     side: &S,
     automaton: &Auto,
     rel: &Rel,
     answering: &Answering,
     left: u32,
     step: Move,
-    from: &[u32],
+    listed: &mut [u32],
+    at: usize,
+    end: usize,
     room: &mut usize,
 ) -> Told
     requires valid { IsAutomaton automaton.now }
@@ -142,14 +177,17 @@ fn told_after<S: Side>(
     requires step { step.to < automaton.now.states }
     requires answers { AreAnswers (S.goes side.now automaton.now) (S.matches side.now automaton.now) (Holds rel.now.pairs) automaton.now.states answering.now }
     requires equal { rel.now.size ≡ automaton.now.states }
-    requires from { All (λ q. q < automaton.now.states) from.now }
+    requires order { at ≤ end }
+    requires end { end ≤ length listed.old }
+    requires states { (q : ℕ) → IsListedWithin listed.old at end q → q < automaton.now.states }
+    ensures kept { KeepsListed listed.old listed.new end }
     ensures holds { result ≡ Told.Holds
-        → RoundAfter (S.goes side.now automaton.now) (S.matches side.now automaton.now) (Holds rel.now.pairs) left step.label step.to (Contains from.now) }
+        → RoundAfter (S.goes side.now automaton.now) (S.matches side.now automaton.now) (Holds rel.now.pairs) left step.label step.to (IsListedWithin listed.old at end) }
     ensures fails { result ≡ Told.Fails
-        → RoundAfter (S.goes side.now automaton.now) (S.matches side.now automaton.now) (Holds rel.now.pairs) left step.label step.to (Contains from.now)
+        → RoundAfter (S.goes side.now automaton.now) (S.matches side.now automaton.now) (Holds rel.now.pairs) left step.label step.to (IsListedWithin listed.old at end)
         → ⊥ }
 {
-    if one_meets(side, automaton, rel, answering, step, from) {
+    if one_meets(side, automaton, rel, answering, step, &listed[at..end]) {
         return Told::Holds;
     }
     if left == 1 {
@@ -158,35 +196,37 @@ fn told_after<S: Side>(
     if side.moves(automaton, step.to) == 0 {
         return Told::Fails;
     }
-    let replies = replies_to(alloc, side, automaton, step, from);
-    if replies.len() > MOST_LISTED {
+    let to = list_replies(side, automaton, &answering.lists, step, listed, at, end);
+    if to == listed.len() {
         return Told::Nothing;
     }
     told_from(
-        alloc,
         side,
         automaton,
         rel,
         answering,
         left - 1,
         step.to,
-        replies.as_slice(),
+        listed,
+        end,
+        to,
         room,
     )
 }
 
-/// Tells what is known of Spoiler's paths of `left` moves from `p`, or shorter ones to a dead end, where Duplicator may be in one of these
-/// states. At most `room` more states are looked at.
+/// Tells what is known of Spoiler's paths of `left` moves from `p`, or shorter ones to a dead end, where Duplicator may be in one of the
+/// states at the places from `at` on. At most `room` more states are looked at.
 #[cycle(listed)]
 fn told_from<S: Side>(
-    alloc: Global,
     side: &S,
     automaton: &Auto,
     rel: &Rel,
     answering: &Answering,
     left: u32,
     p: u32,
-    from: &[u32],
+    listed: &mut [u32],
+    at: usize,
+    end: usize,
     room: &mut usize,
 ) -> Told
     requires valid { IsAutomaton automaton.now }
@@ -194,21 +234,24 @@ fn told_from<S: Side>(
     requires state { p < automaton.now.states }
     requires answers { AreAnswers (S.goes side.now automaton.now) (S.matches side.now automaton.now) (Holds rel.now.pairs) automaton.now.states answering.now }
     requires equal { rel.now.size ≡ automaton.now.states }
-    requires from { All (λ q. q < automaton.now.states) from.now }
+    requires order { at ≤ end }
+    requires end { end ≤ length listed.old }
+    requires states { (q : ℕ) → IsListedWithin listed.old at end q → q < automaton.now.states }
+    ensures kept { KeepsListed listed.old listed.new end }
     ensures holds { result ≡ Told.Holds
-        → RoundFrom (S.goes side.now automaton.now) (S.matches side.now automaton.now) (Holds rel.now.pairs) left p (Contains from.now) }
+        → RoundFrom (S.goes side.now automaton.now) (S.matches side.now automaton.now) (Holds rel.now.pairs) left p (IsListedWithin listed.old at end) }
     ensures fails { result ≡ Told.Fails
-        → RoundFrom (S.goes side.now automaton.now) (S.matches side.now automaton.now) (Holds rel.now.pairs) left p (Contains from.now)
+        → RoundFrom (S.goes side.now automaton.now) (S.matches side.now automaton.now) (Holds rel.now.pairs) left p (IsListedWithin listed.old at end)
         → ⊥ }
 {
-    for at in 0..side.moves(automaton, p) {
-        if *room < from.len() {
+    for number in 0..side.moves(automaton, p) {
+        if *room < end - at {
             return Told::Nothing;
         }
-        *room -= from.len();
-        let step = side.nth(automaton, p, at);
+        *room -= end - at;
+        let step = side.nth(automaton, p, number);
         match told_after(
-            alloc, side, automaton, rel, answering, left, step, from, room,
+            side, automaton, rel, answering, left, step, listed, at, end, room,
         ) {
             Told::Holds => {}
             Told::Fails => return Told::Fails,
@@ -218,9 +261,8 @@ fn told_from<S: Side>(
     Told::Holds
 }
 
-/// Tells what is known of the round from `p` and `q`.
+/// Tells what is known of the round from `p` and `q`. `listed` is room for the states in which Duplicator may be.
 pub(crate) fn told_by_lists<S: Side>(
-    alloc: Global,
     side: &S,
     automaton: &Auto,
     rel: &Rel,
@@ -228,25 +270,20 @@ pub(crate) fn told_by_lists<S: Side>(
     look: u32,
     p: u32,
     q: u32,
+    listed: &mut [u32],
 ) -> Told
     requires look { 1 ≤ look }
     requires answers { AreAnswers (S.goes side.now automaton.now) (S.matches side.now automaton.now) (Holds rel.now.pairs) automaton.now.states answering.now }
     requires equal { rel.now.size ≡ automaton.now.states }
     requires left { p < automaton.now.states }
     requires right { q < automaton.now.states }
+    requires listed { 1 ≤ length listed.old }
     ensures holds { result ≡ Told.Holds → Round (S.goes side.now automaton.now) (S.goes side.now automaton.now) (S.matches side.now automaton.now) look (Holds rel.now.pairs) p q }
     ensures fails { result ≡ Told.Fails → Round (S.goes side.now automaton.now) (S.goes side.now automaton.now) (S.matches side.now automaton.now) look (Holds rel.now.pairs) p q → ⊥ }
 {
     let mut room = MOST_LOOKED_AT.max(automaton.states() as usize);
+    listed[0] = q;
     told_from(
-        alloc,
-        side,
-        automaton,
-        rel,
-        answering,
-        look,
-        p,
-        &[q],
-        &mut room,
+        side, automaton, rel, answering, look, p, listed, 0, 1, &mut room,
     )
 }

@@ -1,6 +1,6 @@
 //! Where Duplicator may be: a table of bits whose row i has the states that answer Spoiler's first i moves.
 
-ghost use Rattle.std.specs.Prelude.{◌≡◌, ◌+◌, ◌*◌, ◌/◌, ◌<◌, ◌≤◌, ◌↔◌, ◌⊎◌, ℕ, false, length, IsTrue};
+ghost use Rattle.std.specs.Prelude.{◌≡◌, ◌+◌, ◌*◌, ◌/◌, ◌<◌, ◌≤◌, ◌↔◌, ◌⊎◌, ℕ, false, length, slice_index, IsTrue};
 ghost use Rattle.auto_core.specs.Rows.{cell_of, HasCell, HasBit};
 ghost use Rattle.auto_core.specs.Automaton.{IsAutomaton};
 ghost use Rattle.look_round.specs.Replies.{IsReply, HasReply, HasReplyFrom};
@@ -15,6 +15,7 @@ pub fn clear_table_row(table: &mut [u64], width: usize, row: usize)
     requires { row * width + width ≤ length table.old }
     ensures here { (q : ℕ) → q < width * 64 → cell_of table.new width row q ≡ false }
     ensures others { (i q : ℕ) → q < width * 64 → ¬ (i ≡ row) → cell_of table.new width i q ≡ cell_of table.old width i q }
+    ensures rest { (k : ℕ) → (k < row * width) ⊎ (row * width + width ≤ k) → slice_index table.new k ≡ slice_index table.old k }
 {
     for j in 0..width {
         table[row * width + j] = 0;

@@ -255,7 +255,16 @@ pub fn round_holds_by<S: Side>(
         ↔ Round (S.goes side.now automaton.now) (S.goes side.now automaton.now) (S.matches side.now automaton.now) look (Holds rel.now.pairs) p q }
     ensures scratch { scratch.new ≡ scratch.old }
 {
-    match told_by_lists(scratch.alloc, side, automaton, rel, answering, look, p, q) {
+    match told_by_lists(
+        side,
+        automaton,
+        rel,
+        answering,
+        look,
+        p,
+        q,
+        &mut scratch.listed,
+    ) {
         Told::Holds => true,
         Told::Fails => false,
         Told::Nothing => whole_round(

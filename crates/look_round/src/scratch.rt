@@ -8,8 +8,11 @@ use smallvec::SmallVec;
 use std::alloc::Global;
 use std::marker::Model;
 
-/// Room for the rounds on an automaton at a lookahead: Spoiler's path, a row of bits for each of its places and for its start, and room for
-/// what a round remembers.
+/// At most so many states are listed at a time, less one.
+const MOST_LISTED: usize = 256;
+
+/// Room for the rounds on an automaton at a lookahead: Spoiler's path, a row of bits for each of its places and for its start, room for
+/// what a round remembers, and for the states in which Duplicator may be, where they are few.
 /// Contracts see the number of states and the lookahead that it was made for.
 #[derive(Drop)]
 pub struct Scratch {
@@ -21,6 +24,7 @@ pub struct Scratch {
     pub(crate) letters: Vec<u32>,
     pub(crate) held: Vec<u64>,
     pub(crate) known: Vec<u64>,
+    pub(crate) listed: Vec<u32>,
 }
 
 impl Model for Scratch {
@@ -46,6 +50,7 @@ impl Scratch {
         let letters = vec![in alloc; 0; look as usize + 1]?;
         let held = vec![in alloc; 0; room]?;
         let known = vec![in alloc; 0; room]?;
+        let listed = vec![in alloc; 0; MOST_LISTED]?;
         Ok(Scratch {
             alloc,
             states,
@@ -55,6 +60,7 @@ impl Scratch {
             letters,
             held,
             known,
+            listed,
         })
     }
 }

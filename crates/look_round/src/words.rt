@@ -3,17 +3,18 @@
 ghost use Rattle.std.specs.Prelude.{◌≡◌, ◌+◌, ◌*◌, ◌/◌, ◌^◌, ◌<◌, ◌≤◌, ◌↔◌, ◌⊎◌, ℕ, false, length, All};
 ghost use Rattle.auto_core.specs.Automaton.{IsAutomaton};
 ghost use Rattle.auto_core.specs.Rows.{cell_of, HasBit, HasCell};
-ghost use Rattle.look_round.specs.Words.{LeadsToLane, AddsColumns, AreColumns, AreLanes, AreLanesOf, AreMatches};
+ghost use Rattle.look_round.specs.Words.{LeadsToPlace, AddsColumns, AreColumns, AreWordPlaces, AreColumnPlaces, AreMatches};
 
 use crate::sides::Side;
 use auto_core::{Auto, rows};
 use row_steps::{mark_below, next_bit, write_row};
+use transposed::transpose;
 
 /// How many words are lengthened at once: one for each bit of a state's word.
-const LANES: usize = 64;
+const PLACES: usize = 64;
 
 /// Marks place `at` in each of the first `count` rows that a bit of `row` names.
-pub(crate) fn mark_down(table: &mut [u64], width: usize, count: usize, at: usize, row: &[u64])
+fn mark_down(table: &mut [u64], width: usize, count: usize, at: usize, row: &[u64])
     requires table { length table.old ≡ count * width }
     requires place { at < width * 64 }
     requires few { length row.now < 2 ^ 32 }
@@ -30,55 +31,52 @@ pub(crate) fn mark_down(table: &mut [u64], width: usize, count: usize, at: usize
     }
 }
 
-/// Writes for each state the lanes that a move from it by the letter leads to, by way of the states of the row `asked`.
-fn find_lanes<S: Side>(
+/// Writes for each state the places that a move from it by the letter leads to, by way of the states of the row `asked`.
+fn find_places<S: Side>(
     side: &S,
     automaton: &Auto,
     label: u32,
     asked: &[u64],
-    lanes: &[u64],
+    places: &[u64],
     found: &mut [u64],
 )
     requires asked { length asked.now ≡ (automaton.now.states + 63) / 64 }
-    requires lanes { length lanes.now ≡ automaton.now.states }
+    requires places { length places.now ≡ automaton.now.states }
     requires found { length found.old ≡ automaton.now.states }
-    ensures { (j q : ℕ) → j < 64 → q < automaton.now.states → HasCell found.new 1 q j ↔ LeadsToLane (S.goes side.now automaton.now) lanes.now asked.now label j q }
+    ensures { (j q : ℕ) → j < 64 → q < automaton.now.states → HasCell found.new 1 q j ↔ LeadsToPlace (S.goes side.now automaton.now) places.now asked.now label j q }
 {
     rows::clear_row(found);
     for number in 0..automaton.transitions().len() {
         let step = side.seen_at(automaton, number);
         if step.label == label && rows::has_bit(asked, step.target as usize) {
-            let lane = rows::row_at(lanes, 1, step.target as usize);
-            rows::or_row(found, 1, step.source as usize, lane);
+            let place = rows::row_at(places, 1, step.target as usize);
+            rows::or_row(found, 1, step.source as usize, place);
         }
     }
 }
 
-/// Writes into the row of each lane the states from which a move by the letter leads to a state of the row `asked` that has the lane.
+/// Writes into the row of each place the states from which a move by the letter leads to a state of the row `asked` that has the place.
 /// `found` is room for a word for each state.
 fn step_back<S: Side>(
     side: &S,
     automaton: &Auto,
     label: u32,
     asked: &[u64],
-    lanes: &[u64],
+    places: &[u64],
     found: &mut [u64],
     made: &mut [u64],
     width: usize,
 )
     requires width { width ≡ (automaton.now.states + 63) / 64 }
     requires asked { length asked.now ≡ width }
-    requires lanes { length lanes.now ≡ automaton.now.states }
+    requires places { length places.now ≡ automaton.now.states }
     requires found { length found.old ≡ automaton.now.states }
     requires made { length made.old ≡ 64 * width }
-    ensures { (j q : ℕ) → j < 64 → q < automaton.now.states → HasCell made.new width j q ↔ LeadsToLane (S.goes side.now automaton.now) lanes.now asked.now label j q }
+    ensures { (j q : ℕ) → j < 64 → q < automaton.now.states → HasCell made.new width j q ↔ LeadsToPlace (S.goes side.now automaton.now) places.now asked.now label j q }
 {
-    find_lanes(side, automaton, label, asked, lanes, found);
-    rows::clear_row(made);
-    for q in 0..automaton.states() {
-        let lane = rows::row_at(found, 1, q as usize);
-        mark_down(made, width, LANES, q as usize, lane);
-    }
+    find_places(side, automaton, label, asked, places, found);
+    let count = automaton.states() as usize;
+    transpose(found, 1, count, made, width, PLACES);
 }
 
 /// Tells whether the row has a bit and is none of the first columns.
@@ -122,13 +120,13 @@ fn add_columns(
     count
 }
 
-/// Adds the columns of the words that go on, by a letter below `letters` and the kind whose matches `asked` has, with the words of the lanes.
+/// Adds the columns of the words that go on, by a letter below `letters` and the kind whose matches `asked` has, with the words of the places.
 fn lengthen_by<S: Side>(
     side: &S,
     automaton: &Auto,
     kind: u32,
     asked: &[u64],
-    lanes: &[u64],
+    places: &[u64],
     used: usize,
     columns: &mut [u64],
     width: usize,
@@ -142,8 +140,8 @@ fn lengthen_by<S: Side>(
     requires width { width ≡ (automaton.now.states + 63) / 64 }
     requires size { length asked.now ≡ width }
     requires asked { (r : ℕ) → r < width * 64 → HasBit asked.now r ↔ ((r < automaton.now.states) × S.matches side.now automaton.now kind r) }
-    requires lanes_len { length lanes.now ≡ automaton.now.states }
-    requires lanes { AreLanes (S.goes side.now automaton.now) (S.matches side.now automaton.now) automaton.now.states lanes.now used }
+    requires places_len { length places.now ≡ automaton.now.states }
+    requires places { AreWordPlaces (S.goes side.now automaton.now) (S.matches side.now automaton.now) automaton.now.states places.now used }
     requires used { used ≤ 64 }
     requires room { length columns.old ≡ room * width }
     requires count { count ≤ room }
@@ -155,20 +153,20 @@ fn lengthen_by<S: Side>(
 {
     let mut count = count;
     for label in 0..letters {
-        step_back(side, automaton, label, asked, lanes, found, made, width);
+        step_back(side, automaton, label, asked, places, found, made, width);
         count = add_columns(columns, width, count, room, made, used);
     }
     count
 }
 
-/// Adds the columns of the words that go on, by one letter and a state of each kind, with the words of the lanes. `found` is room for a
+/// Adds the columns of the words that go on, by one letter and a state of each kind, with the words of the places. `found` is room for a
 /// word for each state.
 fn lengthen<S: Side>(
     side: &S,
     automaton: &Auto,
     matches: &[u64],
     kinds: &[u32],
-    lanes: &[u64],
+    places: &[u64],
     used: usize,
     columns: &mut [u64],
     width: usize,
@@ -183,8 +181,8 @@ fn lengthen<S: Side>(
     requires size { length matches.now ≡ automaton.now.states * width }
     requires matches { AreMatches (S.matches side.now automaton.now) automaton.now.states matches.now width automaton.now.states }
     requires kinds { All (λ s. s < automaton.now.states) kinds.now }
-    requires lanes_len { length lanes.now ≡ automaton.now.states }
-    requires lanes { AreLanes (S.goes side.now automaton.now) (S.matches side.now automaton.now) automaton.now.states lanes.now used }
+    requires places_len { length places.now ≡ automaton.now.states }
+    requires places { AreWordPlaces (S.goes side.now automaton.now) (S.matches side.now automaton.now) automaton.now.states places.now used }
     requires used { used ≤ 64 }
     requires room { length columns.old ≡ room * width }
     requires count { count ≤ room }
@@ -198,7 +196,7 @@ fn lengthen<S: Side>(
     for kind in kinds {
         let asked = rows::row_at(matches, width, *kind as usize);
         count = lengthen_by(
-            side, automaton, *kind, asked, lanes, used, columns, width, count, room, letters,
+            side, automaton, *kind, asked, places, used, columns, width, count, room, letters,
             found, made,
         );
     }
@@ -247,15 +245,15 @@ fn has_turn(row: &[u64], states: u32, at: usize, walked: usize, all: bool, many:
     at >= walked || has_most(row, states)
 }
 
-/// Which columns the lanes have.
+/// How many of the 64 places have a column, and which column comes next.
 #[derive(Clone, Copy, Debug)]
 struct Filled {
     used: usize,
     next: usize,
 }
 
-/// Lets lanes be the columns from `from` on whose turn it is, and tells how many lanes there are and which column comes next.
-fn fill_lanes(
+/// Lets the 64 places be the columns from `from` on whose turn it is, and tells how many places are used and which column comes next.
+fn fill_places(
     columns: &[u64],
     width: usize,
     states: u32,
@@ -264,24 +262,24 @@ fn fill_lanes(
     walked: usize,
     from: usize,
     count: usize,
-    lanes: &mut [u64],
+    places: &mut [u64],
 ) -> Filled
     requires width { width ≡ (states + 63) / 64 }
     requires few { width < 2 ^ 32 }
     requires columns { count * width ≤ length columns.now }
-    requires lanes { length lanes.old ≡ states }
-    ensures lanes { AreLanesOf states lanes.new result.used columns.now width count }
+    requires places { length places.old ≡ states }
+    ensures places { AreColumnPlaces states places.new result.used columns.now width count }
     ensures used { result.used ≤ 64 }
 {
-    rows::clear_row(lanes);
+    rows::clear_row(places);
     let mut used = 0;
     for at in from..count {
-        if used == LANES {
+        if used == PLACES {
             return Filled { used, next: at };
         }
         let column = rows::row_at(columns, width, at);
         if has_turn(column, states, at, walked, all, many) {
-            mark_down(lanes, 1, states as usize, used, column);
+            mark_down(places, 1, states as usize, used, column);
             used += 1;
         }
     }
@@ -301,7 +299,7 @@ fn walk_columns<S: Side>(
     count: usize,
     room: usize,
     letters: u32,
-    lanes: &mut [u64],
+    places: &mut [u64],
     found: &mut [u64],
     made: &mut [u64],
 ) -> usize
@@ -314,7 +312,7 @@ fn walk_columns<S: Side>(
     requires room { length columns.old ≡ room * width }
     requires count { count ≤ room }
     requires columns { AreColumns (S.goes side.now automaton.now) (S.matches side.now automaton.now) automaton.now.states columns.old width count }
-    requires lanes { length lanes.old ≡ automaton.now.states }
+    requires places { length places.old ≡ automaton.now.states }
     requires found { length found.old ≡ automaton.now.states }
     requires made { length made.old ≡ 64 * width }
     ensures columns { AreColumns (S.goes side.now automaton.now) (S.matches side.now automaton.now) automaton.now.states columns.new width result }
@@ -327,13 +325,13 @@ fn walk_columns<S: Side>(
         if at < count && count < room {
             let states = automaton.states();
             let many = count >= states as usize / 2 + 16;
-            let filled = fill_lanes(columns, width, states, all, many, walked, at, count, lanes);
+            let filled = fill_places(columns, width, states, all, many, walked, at, count, places);
             count = lengthen(
                 side,
                 automaton,
                 matches,
                 kinds,
-                lanes,
+                places,
                 filled.used,
                 columns,
                 width,
@@ -350,7 +348,7 @@ fn walk_columns<S: Side>(
 }
 
 /// Writes columns of words of the letters below `letters`, as far as there is room for columns, and tells how many they are.
-/// `ends` is room for one row, `lanes` and `found` for a word for each state, and `made` for a row for each lane.
+/// `ends` is room for one row, `places` and `found` for a word for each state, and `made` for a row for each place.
 pub(crate) fn write_columns<S: Side>(
     side: &S,
     automaton: &Auto,
@@ -361,7 +359,7 @@ pub(crate) fn write_columns<S: Side>(
     room: usize,
     letters: u32,
     ends: &mut [u64],
-    lanes: &mut [u64],
+    places: &mut [u64],
     found: &mut [u64],
     made: &mut [u64],
 ) -> usize
@@ -374,7 +372,7 @@ pub(crate) fn write_columns<S: Side>(
     requires some { 1 ≤ room }
     requires room { length columns.old ≡ room * width }
     requires ends { length ends.old ≡ width }
-    requires lanes { length lanes.old ≡ automaton.now.states }
+    requires places { length places.old ≡ automaton.now.states }
     requires found { length found.old ≡ automaton.now.states }
     requires made { length made.old ≡ 64 * width }
     ensures columns { AreColumns (S.goes side.now automaton.now) (S.matches side.now automaton.now) automaton.now.states columns.new width result }
@@ -383,13 +381,13 @@ pub(crate) fn write_columns<S: Side>(
     mark_below(ends, automaton.states());
     write_row(columns, width, 0, ends);
     let count = walk_columns(
-        side, automaton, matches, kinds, columns, width, 0, 1, room, letters, lanes, found, made,
+        side, automaton, matches, kinds, columns, width, 0, 1, room, letters, places, found, made,
     );
     if kinds.len() < 2 {
         return count;
     }
     walk_columns(
-        side, automaton, matches, kinds, columns, width, count, count, room, letters, lanes, found,
-        made,
+        side, automaton, matches, kinds, columns, width, count, count, room, letters, places,
+        found, made,
     )
 }

@@ -1,4 +1,4 @@
-use Rattle.std.proofs.Common.{◌≡◌, ℕ, ◌<◌, sym, ◌∙◌, subst, arith}
+use Rattle.std.proofs.Common.{sym, subst, arith}
 use Rattle.auto_core.specs.Game.{Holds}
 use Rattle.delayed_game.specs.Settling.{HasSomeRank}
 use Rattle.delayed_game.proofs.CanLemmas.{least_stays}

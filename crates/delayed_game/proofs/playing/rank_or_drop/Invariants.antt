@@ -1,7 +1,7 @@
 use Rattle.std.proofs.Common.{◌≡◌, ℕ, ◌<◌, false, length}
 use Rattle.auto_core.specs.Rows.{bit_of}
 use Rattle.auto_core.specs.Game.{Holds}
-use Rattle.delayed_game.specs.Settling.{AnswersAll, AreKept, Shrinks}
+use Rattle.delayed_game.specs.Settling.{AnswersAll, KeptRowsAnswer, Shrinks}
 use Rattle.delayed_game.specs.Boards.{AreLeastRanks}
 use Rattle.delayed_game.proofs.playing.rank_or_drop.Given as goal
 
@@ -11,7 +11,7 @@ invariant-turns l =
     × ((x : ℕ) → x < l.places.states → bit_of l.marks x ≡ false)
     × ((p q : ℕ) → Holds l.board.pairs p q → AnswersAll l.places l.automaton (Holds l.board.pairs) p q)
     × AreLeastRanks l.places l.automaton (Holds l.board.pairs) l.ranks
-    × AreKept l.places l.automaton l.width l.kept l.tried l.board
+    × KeptRowsAnswer l.places l.automaton l.width l.kept l.tried l.board
 
 abbrev pub decreases-turns : goal.decreases-turns
 decreases-turns l = length l.board.pairs

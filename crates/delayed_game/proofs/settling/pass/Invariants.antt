@@ -1,7 +1,7 @@
 use Rattle.std.proofs.Common.{◌≡◌, ℕ, ◌<◌, ◌≤◌, true, false, length}
 use Rattle.auto_core.specs.Rows.{bit_of}
 use Rattle.auto_core.specs.Game.{Holds}
-use Rattle.delayed_game.specs.Settling.{AreKept, IsAnsweredBesides, Shrinks}
+use Rattle.delayed_game.specs.Settling.{KeptRowsAnswer, IsAnsweredBesides, Shrinks}
 use Rattle.delayed_game.proofs.settling.pass.Given as goal
 
 abbrev pub invariant-loop-to : goal.invariant-loop-to
@@ -11,4 +11,4 @@ invariant-loop-to l =
     × (l.any ≡ true → length l.board.pairs < length l.fn.board.pairs)
     × (l.any ≡ false → (x : ℕ) → l.to ≤ x → x < l.places.states → bit_of l.marks x ≡ false)
     × IsAnsweredBesides l.places l.automaton (Holds l.board.pairs) l.marks
-    × AreKept l.places l.automaton l.width l.kept l.tried l.board
+    × KeptRowsAnswer l.places l.automaton l.width l.kept l.tried l.board

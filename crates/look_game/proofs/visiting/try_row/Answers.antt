@@ -3,6 +3,7 @@ use Rattle.std.proofs.lemmas.Bool.{cases_eq}
 use Rattle.auto_core.specs.Game.{Holds}
 use Rattle.auto_core.specs.Rows.{HasBit}
 use Rattle.look_round.specs.Answering.{AreAnswersTo}
+use Rattle.look_round.specs.ReplyLists.{AreReplyLists}
 use Rattle.look_round.proofs.AnsweringLemmas.{answers_kept}
 use Rattle.look_game.proofs.VisitLemmas.{answers_same, related_or_lost, takes_lost, takes_here, rounds_same, rounds_apart}
 use Rattle.look_game.proofs.visiting.try_row.Goals as goal
@@ -83,4 +84,5 @@ returns-clause-answers g c =
                 answers_kept M ok (Holds new.pairs) rows made x e.labels e.width (λ y y_in. e.others x y y_in apart)
                 (answers_same M ok (Holds old.pairs) (Holds new.pairs) rows x (λ r. ((λ h. (takes.pairs x r).1 (h, λ is. absurd (apart is))), λ h. ((takes.pairs x r).0 h).0)) (c.requires.answers.each x was))
           ];
+      lists = subst (AreReplyLists M ok c.args.automaton.now.states) (sym e.lists) c.requires.answers.lists;
     }

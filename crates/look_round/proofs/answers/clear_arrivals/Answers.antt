@@ -5,7 +5,7 @@ use Rattle.auto_core.specs.Game.{Holds}
 use Rattle.look_round.specs.Answering.{IsAnsweredAtOnce}
 use Rattle.look_round.proofs.AnsweringLemmas.{HasClearedUpto, arrival_cleared, arrival_left, all_cleared}
 use Rattle.look_round.proofs.answers.clear_arrivals.Goals as goal
-use Rattle.look_round.proofs.answers.clear_arrivals.Goals.{then-m-labels+then-not-has_reply_in, else-m-labels, else-m-labels-via-then-m-labels+else-not-has_reply_in, else-m-labels-via-else-m-labels}
+use Rattle.look_round.proofs.answers.clear_arrivals.Goals.{then-m-labels+then-not-has_reply, else-m-labels, else-m-labels-via-then-m-labels+else-not-has_reply, else-m-labels-via-else-m-labels}
 
 pub loop-at-preserved : goal.loop-at-preserved
 loop-at-preserved g c =
@@ -25,19 +25,19 @@ loop-at-preserved g c =
     let width = c.requires.width in
     let to_in = c.nth_arrival-m.ensures.in_range in
     elim c.if-m-labels.branch [
-      | then-m-labels+then-not-has_reply_in b ↦
+      | then-m-labels+then-not-has_reply b ↦
           let is = b.place_in_row-place.ensures.is in
           subst T (sym b.table-is)
           (arrival_cleared moves P old now b.clear_cell.new.table l w t n m c.loop-at.invariant c.nth_arrival-m.ensures.item b.if-m-labels.true (omega arith)
-          (λ (r, go, match, held). false≢true (sym b.if-not-has_reply_in.true ∙ b.has_reply_in.ensures.1 (r, (go, match), (b.row.ensures.bits r).1 held)))
+          (λ (r, go, match, held). false≢true (sym b.if-not-has_reply.true ∙ b.has_reply.ensures.1 (r, (go, match), (b.row.ensures.bits r).1 held)))
           (subst (λ x. cell_of b.clear_cell.new.table (l * w) t x ≡ false) is b.clear_cell.ensures.here)
           (λ s x x_in apart. b.clear_cell.ensures.others s x x_in (λ same. apart ((same.0, same.1 ∙ is)))))
       | else-m-labels b ↦
           subst T (sym b.table-is)
           (elim b.else-m-labels.branch [
-            | else-m-labels-via-then-m-labels+else-not-has_reply_in x ↦
+            | else-m-labels-via-then-m-labels+else-not-has_reply x ↦
                 arrival_left moves P old now l w t n m c.loop-at.invariant c.nth_arrival-m.ensures.item
-                (λ _. let (r, reply, bit) = x.has_reply_in.ensures.0 x.if-not-has_reply_in.false in (r, reply.0, reply.1, (x.row.ensures.bits r).0 bit))
+                (λ _. let (r, reply, bit) = x.has_reply.ensures.0 x.if-not-has_reply.false in (r, reply.0, reply.1, (x.row.ensures.bits r).0 bit))
             | else-m-labels-via-else-m-labels x ↦
                 let none = x.if-m-labels.false in
                 arrival_left moves P old now l w t n m c.loop-at.invariant c.nth_arrival-m.ensures.item (λ lt. absurd (omega arith))

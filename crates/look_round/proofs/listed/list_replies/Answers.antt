@@ -1,58 +1,40 @@
-use Rattle.std.proofs.Common.{◌≡◌, ℕ, ◌+◌, ◌<◌, ◌≤◌, List, [], ◌∷◌, ◌++◌, length, take, All, sym, ap, ◌∙◌, subst, arith, take_all}
-use Rattle.std.proofs.lemmas.Bool.{iff_false}
-use Rattle.std.proofs.lemmas.List.{take_more, length_push}
-use Rattle.std.proofs.lemmas.List.Elements.{All-push}
-use Rattle.look_round.specs.Sides.{move}
-use Rattle.look_round.proofs.ListedLemmas.{IsListed, reply_listed, other_listed, all_listed}
+use Rattle.std.proofs.Common.{◌≡◌, ℕ, ◌+◌, ◌<◌, ◌⊎◌, slice_index, refl, sym, subst, arith}
+use Rattle.look_round.specs.Replies.{IsReply, HasReplyFrom}
+use Rattle.look_round.specs.Listed.{IsListedWithin, Lists}
+use Rattle.look_round.proofs.ListedLemmas.{lists_same, lists_then, reply_from_more}
 use Rattle.look_round.proofs.listed.list_replies.Goals as goal
-use Rattle.look_round.proofs.listed.list_replies.Goals.{then-len-le-MOST_LISTED+then-is_reply, else-len-le-MOST_LISTED, else-len-le-MOST_LISTED-via-then-len-le-MOST_LISTED+else-is_reply, else-len-le-MOST_LISTED-via-else-len-le-MOST_LISTED}
 
-pub loop-at-preserved : goal.loop-at-preserved
-loop-at-preserved g c =
-    let moves = g.S.Side.list c.args.side.now c.args.automaton.now c.args.from in
+pub add_replies-to-requires-clause-state : goal.add_replies-to-requires-clause-state
+add_replies-to-requires-clause-state g c =
+    let i = c.loop-i.i in
+    let before = c.loop-i-test.true in
+    let old : ℕ = slice_index c.args.listed.now i in
+    let below : old < c.args.automaton.now.states = c.requires.states old (i, c.loop-i.auto.i, before, refl) in
+    subst (λ x. x < c.args.automaton.now.states) (sym (c.loop-i.invariant.kept.1 i before)) below
+
+pub loop-i-preserved : goal.loop-i-preserved
+loop-i-preserved g c =
+    let M = g.S.Side.goes c.args.side.now c.args.automaton.now in
     let ok = g.S.Side.matches c.args.side.now c.args.automaton.now in
-    let states = c.args.automaton.now.states in
+    let n = c.args.automaton.now.states in
     let a = c.args.step.label in
     let p = c.args.step.to in
-    let old = c.args.replies.now.items in
-    let now = c.loop-at.replies.items in
-    let n = c.loop-at.at in
-    let m = c.nth-reply.result in
-    let h = c.loop-at.invariant in
-    let at_in : n < length moves = omega (arith, c.loop-at-test.true, c.moves-at-end.ensures) in
-    let more : take (n + 1) moves ≡ take n moves ++ m ∷ [] = take_more moves n (move 0 0) at_in ∙ ap (λ x. take n moves ++ x ∷ []) (sym c.nth-reply.ensures.item) in
-    let size = c.len.ensures.value in
-    let P : List ℕ → Type 0 = λ l. IsListed (take (n + 1) moves) ok a p old l in
-    elim c.if-len-le-MOST_LISTED.branch [
-      | then-len-le-MOST_LISTED+then-is_reply w ↦
-          let is = w.is_reply.ensures.0 w.if-is_reply.true in
-          let items : w.push_reserved.new.self.items ≡ now ++ m.to ∷ [] = w.push_reserved.ensures.items in
-          let few = w.if-len-le-MOST_LISTED.true in
-          let long = length_push now m.to in
-          let room : length (now ++ m.to ∷ []) ≤ 65 = omega arith in
-          let below : All (λ r. r < states) (now ++ m.to ∷ []) = All-push (λ r. r < states) now m.to h.2 c.nth-reply.ensures.in_range in
-          let listed : P (now ++ m.to ∷ []) = subst (λ l. IsListed l ok a p old (now ++ m.to ∷ [])) (sym more) (reply_listed (take n moves) ok a p old now m h.3 is.0 is.1) in
-          subst (λ v. (v.capacity ≡ 65) × (length v.items ≤ 65) × All (λ r. r < states) v.items × P v.items) (sym w.replies-is) (
-            w.push_reserved.ensures.capacity ∙ h.0,
-            subst (λ l. length l ≤ 65) (sym items) room,
-            subst (λ l. All (λ r. r < states) l) (sym items) below,
-            subst P (sym items) listed,
-          )
-      | else-len-le-MOST_LISTED w ↦
-          let none : length now ≤ 64 → (m.label ≡ a) × ok p m.to → ⊥ = λ few reply. elim w.else-len-le-MOST_LISTED.branch [
-            | else-len-le-MOST_LISTED-via-then-len-le-MOST_LISTED+else-is_reply v ↦ iff_false v.is_reply.ensures v.if-is_reply.false reply
-            | else-len-le-MOST_LISTED-via-else-len-le-MOST_LISTED v ↦ let past = v.if-len-le-MOST_LISTED.false in absurd (omega arith)
-          ] in
-          let listed : P now = subst (λ l. IsListed l ok a p old now) (sym more) (other_listed (take n moves) ok a p old now m h.3 none) in
-          subst (λ v. (v.capacity ≡ 65) × (length v.items ≤ 65) × All (λ r. r < states) v.items × P v.items) (sym w.replies-is) (h.0, h.1, h.2, listed)
-    ]
+    let old = c.args.listed.now in
+    let mid = c.loop-i.listed in
+    let new = c.add_replies-to.new.listed in
+    let i = c.loop-i.i in
+    let end = c.args.end in
+    let to = c.add_replies-to.result in
+    let same : slice_index mid i ≡ slice_index old i = c.loop-i.invariant.kept.1 i c.loop-i-test.true in
+    let D : ℕ → Type 0 = HasReplyFrom M ok a p (IsListedWithin old c.args.at i) in
+    let E : ℕ → Type 0 = IsReply M ok a p (slice_index old i) in
+    let added = subst (λ x. Lists mid new c.loop-i.to to n (IsReply M ok a p x)) same c.add_replies-to.ensures in
+    let wrote = lists_then old mid new end c.loop-i.to to n D E c.loop-i.invariant added in
+    lists_same old new end to n (λ r. D r ⊎ E r) (HasReplyFrom M ok a p (IsListedWithin old c.args.at (i + 1))) wrote (λ room r. reply_from_more M ok a p old c.args.at i r c.loop-i.auto.i)
 
-pub returns-clause-listed : goal.returns-clause-listed
-returns-clause-listed g c =
-    let A = c.args.automaton.now in
-    let s = c.args.side.now in
-    let moves = g.S.Side.list s A c.args.from in
-    let over : length moves ≤ c.loop-at.at = omega (arith, c.loop-at-test.false, c.moves-at-end.ensures) in
-    all_listed (g.S.Side.goes s A c.args.from) moves (g.S.Side.matches s A) c.args.step.label c.args.step.to c.args.replies.now.items c.loop-at.replies.items
-    (g.met.S.Side.lists s A c.args.from)
-    (subst (λ l. IsListed l (g.S.Side.matches s A) c.args.step.label c.args.step.to c.args.replies.now.items c.loop-at.replies.items) (take_all c.loop-at.at moves over) c.loop-at.invariant.3)
+pub returns : goal.returns
+returns g c =
+    let M = g.S.Side.goes c.args.side.now c.args.automaton.now in
+    let ok = g.S.Side.matches c.args.side.now c.args.automaton.now in
+    let over : c.loop-i.i ≡ c.args.end = omega (arith, c.loop-i-test.false, c.loop-i.auto.i-end, c.requires.order) in
+    subst (λ x. Lists c.args.listed.now c.loop-i.listed c.args.end c.loop-i.to c.args.automaton.now.states (HasReplyFrom M ok c.args.step.label c.args.step.to (IsListedWithin c.args.listed.now c.args.at x))) over c.loop-i.invariant

@@ -1,4 +1,4 @@
-use Rattle.std.proofs.Common.{arith}
+use Rattle.std.proofs.Common.{inl, inr, arith}
 use Rattle.auto_core.proofs.CellLemmas.{row_left}
 use Rattle.look_round.proofs.ReplyLemmas.{row_cleared}
 use Rattle.look_round.proofs.replies.clear_table_row.Goals as goal
@@ -10,3 +10,6 @@ pub returns-clause-others : goal.returns-clause-others
 returns-clause-others c =
     row_left c.args.table.now c.loop-j.table c.args.width c.args.row
     (λ k k_from. c.loop-j.invariant.1 k (omega arith)) c.loop-j.invariant.2
+
+pub returns-clause-rest : goal.returns-clause-rest
+returns-clause-rest c = λ k outside. elim outside [ inl before ↦ c.loop-j.invariant.2 k before | inr behind ↦ c.loop-j.invariant.1 k (omega arith) ]

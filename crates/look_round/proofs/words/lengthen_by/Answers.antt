@@ -1,5 +1,5 @@
 use Rattle.std.proofs.Common.{arith}
-use Rattle.look_round.proofs.LaneLemmas.{columns_more}
+use Rattle.look_round.proofs.PlaceLemmas.{columns_more}
 use Rattle.look_round.proofs.words.lengthen_by.Goals as goal
 
 pub loop-label-preserved : goal.loop-label-preserved
@@ -8,7 +8,7 @@ loop-label-preserved g c =
     let s = c.args.side.now in
     let width = c.requires.width in
     let h = c.loop-label.invariant in (
-      columns_more (g.S.Side.goes s A) (g.S.Side.matches s A) A.states c.loop-label.columns c.add_columns-count.new.columns c.args.lanes.now c.args.asked.now c.step_back.new.made c.args.width c.loop-label.count c.add_columns-count.result
-          c.args.used c.loop-label.label c.args.kind (omega arith) (λ q b r go. g.met.S.Side.stays s A c.requires.valid q b r go) c.requires.asked h.0 c.requires.lanes c.requires.used c.step_back.ensures c.add_columns-count.ensures.adds,
+      columns_more (g.S.Side.goes s A) (g.S.Side.matches s A) A.states c.loop-label.columns c.add_columns-count.new.columns c.args.places.now c.args.asked.now c.step_back.new.made c.args.width c.loop-label.count c.add_columns-count.result
+          c.args.used c.loop-label.label c.args.kind (omega arith) (λ q b r go. g.met.S.Side.stays s A c.requires.valid q b r go) c.requires.asked h.0 c.requires.places c.requires.used c.step_back.ensures c.add_columns-count.ensures.adds,
       c.add_columns-count.ensures.room,
     )

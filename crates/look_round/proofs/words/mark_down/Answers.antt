@@ -1,6 +1,6 @@
 use Rattle.std.proofs.Common.{le_refl, arith}
 use Rattle.std.proofs.lemmas.Nat.{row_fits}
-use Rattle.look_round.proofs.LaneLemmas.{marked_none, marked_more, marked_all}
+use Rattle.look_round.proofs.PlaceLemmas.{marked_none, marked_more, marked_all}
 use Rattle.look_round.proofs.words.mark_down.Goals as goal
 
 pub loop-r-init : goal.loop-r-init

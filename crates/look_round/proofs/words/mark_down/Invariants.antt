@@ -1,5 +1,5 @@
 use Rattle.std.proofs.Common.{◌-◌, ◌≤◌}
-use Rattle.look_round.proofs.LaneLemmas.{IsMarkedUpto}
+use Rattle.look_round.proofs.PlaceLemmas.{IsMarkedUpto}
 use Rattle.look_round.proofs.words.mark_down.Given as goal
 
 abbrev pub invariant-loop-r : goal.invariant-loop-r

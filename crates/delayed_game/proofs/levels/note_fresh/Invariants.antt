@@ -1,9 +1,0 @@
-use Rattle.std.proofs.Common.{ℕ, ◌*◌, ◌<◌, ◌⊎◌, ◌↔◌, length}
-use Rattle.auto_core.specs.Automaton.{trans_at}
-use Rattle.auto_core.specs.Rows.{HasCell}
-use Rattle.delayed_game.specs.Boards.{HasFreshAnswer}
-use Rattle.delayed_game.proofs.levels.note_fresh.Given as goal
-
-abbrev pub invariant-loop-to : goal.invariant-loop-to
-invariant-loop-to l = (t q : ℕ) → t < length l.places.transitions → q < l.width * 64 → HasCell l.answered l.width t q
-    ↔ (HasCell l.fn.answered l.width t q ⊎ (((trans_at l.places t).target < l.to) × HasFreshAnswer l.places l.automaton l.fresh t q))

@@ -1,8 +1,0 @@
-use Rattle.std.proofs.Common.{get_or}
-use Rattle.auto_core.specs.Automaton.{trans}
-use Rattle.look_round.proofs.LaneLemmas.{HasLanesUpto}
-use Rattle.look_round.proofs.words.find_lanes.Given as goal
-
-abbrev pub invariant-loop-number : goal.invariant-loop-number
-invariant-loop-number g l =
-    HasLanesUpto (λ i. g.S.Side.seen l.side (get_or l.automaton.transitions i (trans 0 0 0))) l.lanes l.asked l.found l.automaton.states l.label l.number
