@@ -87,7 +87,7 @@ leads_then : (A B : Automaton) (S : List (ℕ × ℕ)) (limit : ℕ) (es mid now
     Leads A B S limit es cs turn fates.GoesOn mid mid_cs mid_turn → Leads A B S limit mid mid_cs mid_turn fate now left later → Leads A B S limit es cs turn fate now left later
 leads_then A B S limit es mid now cs mid_cs left turn mid_turn later fates.GoesOn first second = λ o rest. first o (second o rest)
 leads_then A B S limit es mid now cs mid_cs left turn mid_turn later (fates.Apart i) first second = (second.0, second.1, first (Apart second.0 second.0) second.2)
-leads_then A B S limit es mid now cs mid_cs left turn mid_turn later fates.Full first second = first (Limit now) second
+leads_then A B S limit es mid now cs mid_cs left turn mid_turn later fates.Limit first second = first (Limit now) second
 
 pub come_then : (A B : Automaton) (S : List (ℕ × ℕ)) (limit : ℕ) (old mid now : Family) (cs mid_cs left : List Entry) (turn mid_turn later : ℕ) (fate : Fate) →
     HasCome A B S limit old mid fates.GoesOn cs mid_cs turn mid_turn → HasCome A B S limit mid now fate mid_cs left mid_turn later → HasCome A B S limit old now fate cs left turn later
@@ -129,12 +129,12 @@ module _ (A B : Automaton) (S : List (ℕ × ℕ)) (limit : ℕ) (old now : Fami
     grows : (i : ℕ) (x : Entry) → At es i x → At (entries_held A now) i x
     grows i x is = subst (λ l. At l i x) (sym now_is) (at_more es (c ∷ []) i x is)
 
-    pub come_full : length old.held.items ≡ limit → HasCome A B S limit old now fates.Full (c ∷ cs) cs turn turn
-    come_full full = record {
+    pub come_limit : length old.held.items ≡ limit → HasCome A B S limit old now fates.Limit (c ∷ cs) cs turn turn
+    come_limit met = record {
       whole = is_whole;
       few = λ e. absurd (cc);
       grown = grows;
-      leads = limit_met none (sym size ∙ full) (ap Limit now_is);
+      leads = limit_met none (sym size ∙ met) (ap Limit now_is);
     }
 
     pub come_in : length old.held.items < limit → (fate : Fate) → IsTold A B S (entries_held A now) c fate → HasCome A B S limit old now fate (c ∷ cs) cs turn turn
@@ -152,14 +152,14 @@ module _ (A B : Automaton) (S : List (ℕ × ℕ)) (limit : ℕ) (old now : Fami
       grown = grows;
       leads = (c, c_is, told_apart c c none (subst (λ k. k < limit) size few) (subst (λ l. FirstFailing (pair_rules A B S) l c c c) now_is first) refl);
     }
-    come_in few fates.Full told = absurd told
+    come_in few fates.Limit told = absurd told
 
 -- Where the search has ended, what was left does not matter.
 pub come_ends : (A B : Automaton) (S : List (ℕ × ℕ)) (limit : ℕ) (old now : Family) (fate : Fate) (cs left other : List Entry) (turn later last : ℕ) → (fate ≡ fates.GoesOn → ⊥) →
     HasCome A B S limit old now fate cs left turn later → HasCome A B S limit old now fate cs other turn last
 come_ends A B S limit old now fates.GoesOn cs left other turn later last not come = absurd (not refl)
 come_ends A B S limit old now (fates.Apart i) cs left other turn later last not come = record { whole = come.whole; few = come.few; grown = come.grown; leads = come.leads }
-come_ends A B S limit old now fates.Full cs left other turn later last not come = record { whole = come.whole; few = come.few; grown = come.grown; leads = come.leads }
+come_ends A B S limit old now fates.Limit cs left other turn later last not come = record { whole = come.whole; few = come.few; grown = come.grown; leads = come.leads }
 
 -- The candidates of the start and of a turn.
 pub start_is_candidate : (A B : Automaton) (S : List (ℕ × ℕ)) (es : List Entry) (h : Held) → IsKept B S h (start_entry A) → IsCandidate A B S es h × (entry_of A es h.origin ≡ start_entry A)
@@ -260,5 +260,5 @@ has_ended A B S limit old now (fates.Apart i) turn none over come = (
   come.leads.1,
   subst (λ l. Comes Entry (pair_rules A B S) limit l (pair_rules A B S).starts 0 (Apart come.leads.0 come.leads.0)) (entries_none A old none) come.leads.2,
 )
-has_ended A B S limit old now fates.Full turn none over come =
+has_ended A B S limit old now fates.Limit turn none over come =
     subst (λ l. Comes Entry (pair_rules A B S) limit l (pair_rules A B S).starts 0 (Limit (entries_held A now))) (entries_none A old none) come.leads

@@ -73,7 +73,7 @@ Leads A B S limit es cs turn fates.GoesOn now left later =
     (o : Outcome Entry) → Comes Entry (pair_rules A B S) limit now left later o → Comes Entry (pair_rules A B S) limit es cs turn o
 Leads A B S limit es cs turn (fates.Apart i) now left later =
     (x : Entry) × At now i x × Comes Entry (pair_rules A B S) limit es cs turn (Apart x x)
-Leads A B S limit es cs turn fates.Full now left later = Comes Entry (pair_rules A B S) limit es cs turn (Limit now)
+Leads A B S limit es cs turn fates.Limit now left later = Comes Entry (pair_rules A B S) limit es cs turn (Limit now)
 
 -- The kept elements are prepared.
 abbrev pub ArePrepared : ℕ → List (ℕ × ℕ) → List Held → Type 0
@@ -138,7 +138,7 @@ pub record IsCandidate (A B : Automaton) (S : List (ℕ × ℕ)) (es : List Entr
 abbrev pub IsTold : Automaton → Automaton → List (ℕ × ℕ) → List Entry → Entry → Fate → Type 0
 IsTold A B S es c fates.GoesOn = PassesBefore (pair_rules A B S) es c (length es)
 IsTold A B S es c (fates.Apart i) = At es i c × FirstFailing (pair_rules A B S) es c c c
-IsTold A B S es c fates.Full = ⊥
+IsTold A B S es c fates.Limit = ⊥
 
 -- The search has come from the old family with the candidates cs before a turn to the family now with `left` before a later turn,
 -- or to an end.
@@ -152,4 +152,4 @@ pub record HasCome (A B : Automaton) (S : List (ℕ × ℕ)) (limit : ℕ) (old 
 abbrev pub HasEnded : Automaton → Automaton → List (ℕ × ℕ) → ℕ → Fate → List Entry → Type 0
 HasEnded A B S limit fates.GoesOn now = PairSearchEnds A B S limit (Closed now)
 HasEnded A B S limit (fates.Apart i) now = (x : Entry) × At now i x × PairSearchEnds A B S limit (Apart x x)
-HasEnded A B S limit fates.Full now = PairSearchEnds A B S limit (Limit now)
+HasEnded A B S limit fates.Limit now = PairSearchEnds A B S limit (Limit now)

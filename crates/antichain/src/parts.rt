@@ -34,5 +34,5 @@ pub(crate) enum Fate {
     /// It ends: the element with this number fails.
     Apart(u32),
     /// It ends: the last element is one more than the limit.
-    Full,
+    Limit,
 }

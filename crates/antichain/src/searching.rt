@@ -51,6 +51,6 @@ pub fn search(
             let origins = origins_of(alloc, &family.held)?;
             Ok(WordOutcome::Apart(word_of(alloc, first, origins.as_slice(), number)?))
         }
-        Fate::Full => Ok(WordOutcome::Limit(origins_of(alloc, &family.held)?)),
+        Fate::Limit => Ok(WordOutcome::Limit(origins_of(alloc, &family.held)?)),
     }
 }

@@ -43,7 +43,7 @@ fn admit(
     let failing = fails(first, second, &new);
     family.enter(alloc, order, new)?;
     if number == limit {
-        return Ok(Fate::Full);
+        return Ok(Fate::Limit);
     }
     if failing {
         return Ok(Fate::Apart(number));

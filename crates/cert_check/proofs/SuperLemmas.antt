@@ -164,7 +164,7 @@ longer_stands m A B from arc old block x t valid lt is keeps formed word stands 
     }
 
 -- A graph that was given a number, in finite mode a set.
-pub stock_at_first : (m : Mode) (B : Automaton) (graphs : Graphs) → graphs.graphs.size ≡ block_len m B.states → (graphs.graphs.size ≡ block_len Buchi B.states → IsStock B AsTheyAre graphs) → IsStockIn m B graphs
+pub stock_at_first : (m : Mode) (B : Automaton) (graphs : Graphs) → graphs.graphs.words ≡ block_len m B.states → (graphs.graphs.words ≡ block_len Buchi B.states → IsStock B AsTheyAre graphs) → IsStockIn m B graphs
 stock_at_first Buchi B graphs size stock = stock size
 stock_at_first Finite B graphs size stock = size
 

@@ -42,7 +42,7 @@ IsBlock Finite n block = IsRow n block
 -- The blocks are those of graphs, in finite mode of sets, and what is remembered of graphs is so.
 abbrev pub IsStockIn : Mode → Automaton → Graphs → Type 0
 IsStockIn Buchi B graphs = IsStock B AsTheyAre graphs
-IsStockIn Finite B graphs = graphs.graphs.size ≡ block_len Finite B.states
+IsStockIn Finite B graphs = graphs.graphs.words ≡ block_len Finite B.states
 
 -- What is asked of an arc: a run has it, in finite mode only that it ends in a state.
 abbrev pub IsArcIn : Mode → Automaton → WordArc → Type 0

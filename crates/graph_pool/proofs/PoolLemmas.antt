@@ -23,12 +23,12 @@ even_row bs i size ws low even =
     All-set (λ xs. length xs ≡ size) bs i (refill size (get_or bs i []) ws)
     (sym (length_refill size (get_or bs i []) ws (sym (All-get_or (λ xs. length xs ≡ size) bs i [] low even)))) even
 
-pub lent_pool : (c : PoolContents) (size spare : ℕ) (ms : List Bool) (bs : List (List ℕ)) (h : ℕ) (w : List ℕ) → ◌≡◌ {A = PoolContents} (record { size = size; blocks = live_blocks ms bs; spare = spare }) c → map.contains_key (live_blocks ms bs) h ≡ true
-    → ◌≡◌ {A = PoolContents} (record { size = size; blocks = live_blocks ms (slice_set bs h (refill size (get_or bs h []) w)); spare = spare }) (with_words c h w)
-lent_pool c size spare ms bs h w e live =
+pub lent_pool : (c : PoolContents) (size free : ℕ) (ms : List Bool) (bs : List (List ℕ)) (h : ℕ) (w : List ℕ) → ◌≡◌ {A = PoolContents} (record { words = size; blocks = live_blocks ms bs; free = free }) c → map.contains_key (live_blocks ms bs) h ≡ true
+    → ◌≡◌ {A = PoolContents} (record { words = size; blocks = live_blocks ms (slice_set bs h (refill size (get_or bs h []) w)); free = free }) (with_words c h w)
+lent_pool c size free ms bs h w e live =
     let words = live_words ms bs h live in
-    ap (λ (m : map.FinMap nat_cmp (List ℕ)). record { size = size; blocks = m; spare = spare }) (live_blocks-set ms bs h (refill size (get_or bs h []) w) live)
-    ∙ ap (λ (o : Option (List ℕ)). record { size = size; blocks = map.insert (live_blocks ms bs) h (refill size (unwrap_or o []) w); spare = spare }) (sym words.3)
+    ap (λ (m : map.FinMap nat_cmp (List ℕ)). record { words = size; blocks = m; free = free }) (live_blocks-set ms bs h (refill size (get_or bs h []) w) live)
+    ∙ ap (λ (o : Option (List ℕ)). record { words = size; blocks = map.insert (live_blocks ms bs) h (refill size (unwrap_or o []) w); free = free }) (sym words.3)
     ∙ ap (λ (x : PoolContents). with_words x h w) e
 
 len-lent : (ms : List Bool) (bs : List (List ℕ)) (h : ℕ) (ws : List ℕ) → map.contains_key (live_blocks ms bs) h ≡ true → map.len (live_blocks ms (slice_set bs h ws)) ≡ map.len (live_blocks ms bs)
@@ -38,7 +38,7 @@ len-lent ms bs h ws live =
     ∙ ap (λ (c : Bool). cond c (map.len (live_blocks ms bs)) (map.len (live_blocks ms bs) + 1)) live
 
 pub pool_lent : (p : Inside) (h : ℕ) (w : List ℕ) → map.contains_key (live_blocks p.marks.items p.store.blocks) h ≡ true → IsPool p
-    → IsPool (record { store = with_block p.store h w; marks = p.marks; next = p.next; live = p.live; spare = p.spare })
+    → IsPool (record { store = with_block p.store h w; marks = p.marks; next = p.next; live = p.live; free = p.free })
 pool_lent p h w live i =
     let words = live_words p.marks.items p.store.blocks h live in
     let ws : List ℕ = refill p.store.size (get_or p.store.blocks h []) w in
@@ -56,7 +56,7 @@ pool_lent p h w live i =
       back = i.back;
       chain = chain_written p.store.blocks p.marks.items p.next i.back h ws (chain_apart p.store.blocks p.marks.items p.next i.back h words.2 i.chain) i.chain;
       free = omega arith;
-      total = ap (λ (k : ℕ). k + p.spare) same ∙ i.total ∙ sym long;
+      total = ap (λ (k : ℕ). k + p.free) same ∙ i.total ∙ sym long;
       lives = same ∙ i.lives;
     }
 
@@ -75,7 +75,7 @@ some_live m h live =
 pub none_of : (o : Option (List ℕ)) → o ≡ None → is_some o ≡ false
 none_of o e = ap (λ (x : Option (List ℕ)). is_some x) e
 
-pub words_long : (p : Inside) (c : PoolContents) (h : ℕ) (ws : List ℕ) → p.store.size ≡ c.size → IsPool p → h < length p.store.blocks → ws ≡ get_or p.store.blocks h [] → length ws ≡ c.size
+pub words_long : (p : Inside) (c : PoolContents) (h : ℕ) (ws : List ℕ) → p.store.size ≡ c.words → IsPool p → h < length p.store.blocks → ws ≡ get_or p.store.blocks h [] → length ws ≡ c.words
 words_long p c h ws same i low is = ap (λ (l : List ℕ). length l) is ∙ All-get_or (λ xs. length xs ≡ p.store.size) p.store.blocks h [] low i.even ∙ same
 
 -- The words of a block whose first word was written, which is filled as far as it goes.
@@ -84,7 +84,7 @@ relinked old size next long = take_at (slice_set old 0 next) (drop (length (slic
 
 -- A live block is taken back.
 pub pool_taken : (p q : Inside) (h : ℕ) → map.contains_key (live_blocks p.marks.items p.store.blocks) h ≡ true → IsPool p → q.store ≡ with_block p.store h (slice_set (get_or p.store.blocks h []) 0 p.next)
-    → q.marks.items ≡ slice_set p.marks.items h false → vec_capacity q.marks ≡ vec_capacity p.marks → q.next ≡ h + 1 → q.live + 1 ≡ p.live → q.spare ≡ p.spare + 1
+    → q.marks.items ≡ slice_set p.marks.items h false → vec_capacity q.marks ≡ vec_capacity p.marks → q.next ≡ h + 1 → q.live + 1 ≡ p.live → q.free ≡ p.free + 1
     → IsPool q × (live_blocks q.marks.items q.store.blocks ≡ map.remove (live_blocks p.marks.items p.store.blocks) h)
 pool_taken p q h live i store marks cap next fewer more =
     let bs = p.store.blocks in
@@ -131,8 +131,8 @@ pool_taken p q h live i store marks cap next fewer more =
 
 -- What a block that is given out leaves, whatever marks it.
 given : (p q : Inside) (h : ℕ) (hs : List ℕ) → IsPool p → q.store ≡ p.store → length q.marks.items ≤ length p.store.blocks → vec_capacity q.marks ≡ vec_capacity p.marks
-    → IsChain p.store.blocks q.marks.items q.next hs → length hs + (length p.store.blocks - length q.marks.items) ≡ q.spare → map.get (live_blocks p.marks.items p.store.blocks) h ≡ None
-    → live_blocks q.marks.items p.store.blocks ≡ map.insert (live_blocks p.marks.items p.store.blocks) h (get_or p.store.blocks h []) → q.live ≡ p.live + 1 → q.spare + 1 ≡ p.spare
+    → IsChain p.store.blocks q.marks.items q.next hs → length hs + (length p.store.blocks - length q.marks.items) ≡ q.free → map.get (live_blocks p.marks.items p.store.blocks) h ≡ None
+    → live_blocks q.marks.items p.store.blocks ≡ map.insert (live_blocks p.marks.items p.store.blocks) h (get_or p.store.blocks h []) → q.live ≡ p.live + 1 → q.free + 1 ≡ p.free
     → IsPool q × (live_blocks q.marks.items q.store.blocks ≡ map.insert (live_blocks p.marks.items p.store.blocks) h (get_or p.store.blocks h []))
 given p q h hs i store used cap chain free none blocks more fewer =
     let bs = p.store.blocks in
@@ -161,8 +161,8 @@ given p q h hs i store used cap chain free none blocks more fewer =
     )
 
 -- The first block without a mark is given out.
-pub pool_pushed : (p q : Inside) → IsPool p → 0 < p.spare → p.next ≡ 0 → q.store ≡ p.store → q.marks.items ≡ p.marks.items ++ true ∷ [] → vec_capacity q.marks ≡ vec_capacity p.marks
-    → q.next ≡ p.next → q.live ≡ p.live + 1 → q.spare + 1 ≡ p.spare
+pub pool_pushed : (p q : Inside) → IsPool p → 0 < p.free → p.next ≡ 0 → q.store ≡ p.store → q.marks.items ≡ p.marks.items ++ true ∷ [] → vec_capacity q.marks ≡ vec_capacity p.marks
+    → q.next ≡ p.next → q.live ≡ p.live + 1 → q.free + 1 ≡ p.free
     → IsPool q × (length p.marks.items < length p.store.blocks) × (map.get (live_blocks p.marks.items p.store.blocks) (length p.marks.items) ≡ None)
     × (live_blocks q.marks.items q.store.blocks ≡ map.insert (live_blocks p.marks.items p.store.blocks) (length p.marks.items) (get_or p.store.blocks (length p.marks.items) []))
 pool_pushed p q i some end store marks cap next more fewer =
@@ -179,7 +179,7 @@ pool_pushed p q i some end store marks cap next more fewer =
 
 -- The first of the linked blocks is given out.
 pub pool_relinked : (p q : Inside) (h : ℕ) → IsPool p → 0 < p.next → h + 1 ≡ p.next → q.store ≡ p.store → q.marks.items ≡ slice_set p.marks.items h true → vec_capacity q.marks ≡ vec_capacity p.marks
-    → q.next ≡ get_or (get_or p.store.blocks h []) 0 0 → q.live ≡ p.live + 1 → q.spare + 1 ≡ p.spare
+    → q.next ≡ get_or (get_or p.store.blocks h []) 0 0 → q.live ≡ p.live + 1 → q.free + 1 ≡ p.free
     → IsPool q × (map.get (live_blocks p.marks.items p.store.blocks) h ≡ None)
     × (live_blocks q.marks.items q.store.blocks ≡ map.insert (live_blocks p.marks.items p.store.blocks) h (get_or p.store.blocks h []))
 pool_relinked p q h i some is store marks cap next more fewer =
@@ -213,8 +213,8 @@ linked_low p h i some is =
     (omega arith, omega arith)
 
 -- A chunk more.
-pub pool_grown : (p q : Inside) → IsPool p → p.spare ≡ 0 → map.len (live_blocks p.marks.items p.store.blocks) + 1 < 2 ^ 32 → q.store.size ≡ p.store.size → q.store.blocks ≡ p.store.blocks ++ replicate 64 (replicate p.store.size 0)
-    → q.marks.items ≡ p.marks.items → length p.marks.items + 64 ≤ vec_capacity q.marks → q.next ≡ p.next → q.live ≡ p.live → q.spare ≡ 64
+pub pool_grown : (p q : Inside) → IsPool p → p.free ≡ 0 → map.len (live_blocks p.marks.items p.store.blocks) + 1 < 2 ^ 32 → q.store.size ≡ p.store.size → q.store.blocks ≡ p.store.blocks ++ replicate 64 (replicate p.store.size 0)
+    → q.marks.items ≡ p.marks.items → length p.marks.items + 64 ≤ vec_capacity q.marks → q.next ≡ p.next → q.live ≡ p.live → q.free ≡ 64
     → IsPool q × (live_blocks q.marks.items q.store.blocks ≡ live_blocks p.marks.items p.store.blocks)
 pool_grown p q i none few size whole marks wide next same more =
     let bs = p.store.blocks in

@@ -19,7 +19,7 @@ live_blocks ms bs = live_blocks_from 0 ms bs
 
 -- The contents that the fields stand for.
 abbrev pub pool_contents : Inside → PoolContents
-pool_contents p = record { size = p.store.size; blocks = live_blocks p.marks.items p.store.blocks; spare = p.spare }
+pool_contents p = record { words = p.store.size; blocks = live_blocks p.marks.items p.store.blocks; free = p.free }
 
 -- The fields fit one another. Each block that was ever given out has a mark, which tells whether it is live; those that were given back are linked.
 pub record IsPool (p : Inside) : Type 0 where
@@ -31,6 +31,6 @@ pub record IsPool (p : Inside) : Type 0 where
   pub chunked : length p.store.blocks % 64 ≡ 0
   pub back : List ℕ
   pub chain : IsChain p.store.blocks p.marks.items p.next back
-  pub free : length back + (length p.store.blocks - length p.marks.items) ≡ p.spare
-  pub total : map.len (live_blocks p.marks.items p.store.blocks) + p.spare ≡ length p.store.blocks
+  pub free : length back + (length p.store.blocks - length p.marks.items) ≡ p.free
+  pub total : map.len (live_blocks p.marks.items p.store.blocks) + p.free ≡ length p.store.blocks
   pub lives : map.len (live_blocks p.marks.items p.store.blocks) ≡ p.live

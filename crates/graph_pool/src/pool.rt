@@ -23,7 +23,7 @@ pub struct Pool {
     marks: Vec<bool>,
     next: u64,
     live: u32,
-    spare: u64,
+    free: u64,
 }
 
 impl Model for Pool {
@@ -44,55 +44,56 @@ impl Pool {
     /// A pool without blocks, each to have `words` words.
     pub fn new(alloc: Global, words: usize) -> Pool
         requires { 0 < words }
-        ensures size { result.size ≡ words }
+        ensures words { result.words ≡ words }
         ensures blocks { result.blocks ≡ map.empty }
-        ensures spare { result.spare ≡ 0 }
+        ensures free { result.free ≡ 0 }
     {
         Pool {
             store: Store::new(alloc, words),
             marks: Vec::new(alloc),
             next: 0,
             live: 0,
-            spare: 0,
+            free: 0,
         }
     }
 
-    /// Makes a block live, whose words are any, and answers its handle. With a free block it takes no memory.
+    /// Makes a block live, whose words are any, and answers its handle. With a free block it takes no memory; without one it makes a chunk of 64.
     pub fn add(&mut self) -> Result<Handle, Memory>
         requires { map.len self.old.blocks + 1 < 2 ^ 32 }
-        ensures added { IfOk result (λ h. (ws : List ℕ) × (map.get self.old.blocks h.0 ≡ None) × (length ws ≡ self.old.size) × (self.new.blocks ≡ map.insert self.old.blocks h.0 ws)) }
-        ensures size { self.new.size ≡ self.old.size }
-        ensures spare { IsOk result → 0 < self.old.spare → self.new.spare + 1 ≡ self.old.spare }
-        ensures succeeds { 0 < self.old.spare → IsOk result }
+        ensures added { IfOk result (λ h. (ws : List ℕ) × (map.get self.old.blocks h.0 ≡ None) × (length ws ≡ self.old.words) × (self.new.blocks ≡ map.insert self.old.blocks h.0 ws)) }
+        ensures words { self.new.words ≡ self.old.words }
+        ensures free { IsOk result → 0 < self.old.free → self.new.free + 1 ≡ self.old.free }
+        ensures chunk { IsOk result → self.old.free ≡ 0 → self.new.free ≡ 63 }
+        ensures succeeds { 0 < self.old.free → IsOk result }
         ensures refused { OnErr result (self.new ≡ self.old) }
     {
-        if self.spare == 0 {
+        if self.free == 0 {
             self.make_room()?;
         }
-        Ok(self.take_spare())
+        Ok(self.take_free())
     }
 
     fn make_room(&mut self) -> Result<(), Memory>
         requires few { map.len self.old.blocks + 1 < 2 ^ 32 }
-        requires none { self.old.spare ≡ 0 }
-        ensures made { IfOk result (λ _. (self.new.size ≡ self.old.size) × (self.new.blocks ≡ self.old.blocks) × (self.new.spare ≡ 64)) }
+        requires none { self.old.free ≡ 0 }
+        ensures made { IfOk result (λ _. (self.new.words ≡ self.old.words) × (self.new.blocks ≡ self.old.blocks) × (self.new.free ≡ 64)) }
         ensures refused { OnErr result (self.new ≡ self.old) }
     {
         self.marks.reserve(64)?;
         self.store.grow()?;
-        self.spare = 64;
+        self.free = 64;
         Ok(())
     }
 
-    fn take_spare(&mut self) -> Handle
+    fn take_free(&mut self) -> Handle
         requires few { map.len self.old.blocks + 1 < 2 ^ 32 }
-        requires some { 0 < self.old.spare }
-        ensures added { (ws : List ℕ) × (map.get self.old.blocks result.0 ≡ None) × (length ws ≡ self.old.size) × (self.new.blocks ≡ map.insert self.old.blocks result.0 ws) }
-        ensures size { self.new.size ≡ self.old.size }
-        ensures spare { self.new.spare + 1 ≡ self.old.spare }
+        requires some { 0 < self.old.free }
+        ensures added { (ws : List ℕ) × (map.get self.old.blocks result.0 ≡ None) × (length ws ≡ self.old.words) × (self.new.blocks ≡ map.insert self.old.blocks result.0 ws) }
+        ensures words { self.new.words ≡ self.old.words }
+        ensures free { self.new.free + 1 ≡ self.old.free }
     {
         self.live += 1;
-        self.spare -= 1;
+        self.free -= 1;
         if self.next == 0 {
             let fresh = self.marks.len();
             self.marks.push_reserved(true);
@@ -108,7 +109,7 @@ impl Pool {
     pub fn block(&self, h: Handle) -> &[u64]
         requires { IsTrue (map.contains_key self.now.blocks h.0) }
         ensures words { Some result.now ≡ map.get self.now.blocks h.0 }
-        ensures size { length result.now ≡ self.now.size }
+        ensures size { length result.now ≡ self.now.words }
     {
         self.store.block(h.0 as usize)
     }
@@ -118,7 +119,7 @@ impl Pool {
         requires { IsTrue (map.contains_key self.old.blocks h.0) }
         ensures* writes_back { sem 𝓛 (LendsWords self.entry h.0 result) }
         ensures words { Some result.now ≡ map.get self.old.blocks h.0 }
-        ensures size { length result.now ≡ self.old.size }
+        ensures size { length result.now ≡ self.old.words }
     {
         self.store.block_mut(h.0 as usize)
     }
@@ -131,8 +132,8 @@ impl Pool {
         ensures* writes_back { sem 𝓛 (LendsWords self.entry fresh.0 result.1) }
         ensures kept { Some result.0.now ≡ map.get self.old.blocks kept.0 }
         ensures fresh { Some result.1.now ≡ map.get self.old.blocks fresh.0 }
-        ensures kept_size { length result.0.now ≡ self.old.size }
-        ensures fresh_size { length result.1.now ≡ self.old.size }
+        ensures kept_size { length result.0.now ≡ self.old.words }
+        ensures fresh_size { length result.1.now ≡ self.old.words }
     {
         self.store.pair(kept.0 as usize, fresh.0 as usize)
     }
@@ -141,14 +142,14 @@ impl Pool {
     pub fn give_back(&mut self, h: Handle)
         requires { IsTrue (map.contains_key self.old.blocks h.0) }
         ensures blocks { self.new.blocks ≡ map.remove self.old.blocks h.0 }
-        ensures size { self.new.size ≡ self.old.size }
-        ensures spare { self.new.spare ≡ self.old.spare + 1 }
+        ensures words { self.new.words ≡ self.old.words }
+        ensures free { self.new.free ≡ self.old.free + 1 }
     {
         self.store.set_link(h.0 as usize, self.next);
         self.marks[h.0 as usize] = false;
         self.next = h.0 as u64 + 1;
         self.live -= 1;
-        self.spare += 1;
+        self.free += 1;
     }
 
     /// Tells whether a handle is live.
@@ -167,14 +168,14 @@ impl Pool {
 
     /// The number of free blocks.
     pub fn free(&self) -> u64
-        ensures { result ≡ self.now.spare }
+        ensures { result ≡ self.now.free }
     {
-        self.spare
+        self.free
     }
 
     /// The number of words of a block.
     pub fn words(&self) -> usize
-        ensures size { result ≡ self.now.size }
+        ensures words { result ≡ self.now.words }
         ensures positive { 0 < result }
     {
         self.store.size()

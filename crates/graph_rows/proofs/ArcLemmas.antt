@@ -2,7 +2,7 @@
 use Rattle.std.proofs.Common.{◌≡◌, ℕ, ◌*◌, ◌<◌, ◌≤◌, ◌↔◌, inl, inr, false, List, sym, ◌∙◌, arith}
 use Rattle.std.proofs.lemmas.Bool.{cases_lt, false≢true}
 use Rattle.auto_core.specs.Rows.{HasBit, HasCell, bit_of, cell_of}
-use Rattle.auto_core.specs.Reach.{IsTable, Arc}
+use Rattle.auto_core.specs.Reach.{IsTable, HasArc}
 
 pub row_marks :
     (table row : List ℕ) (n width p : ℕ)
@@ -11,7 +11,7 @@ pub row_marks :
     → ((q : ℕ) → q < width * 64 → bit_of row q ≡ cell_of table width p q)
     → ((q : ℕ) → width * 64 ≤ q → bit_of row q ≡ false)
     → (q : ℕ)
-    → HasBit row q ↔ Arc table n width p q
+    → HasBit row q ↔ HasArc table n width p q
 row_marks table row n width p t p_in inside outside q = (
   λ bit.
       elim (cases_lt q (width * 64)) [

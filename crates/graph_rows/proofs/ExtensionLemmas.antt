@@ -1,11 +1,12 @@
 -- A row of a graph extended by a letter, from the lowest column of the row up.
-use Rattle.std.proofs.Common.{◌≡◌, ℕ, ◌+◌, ◌*◌, ◌<◌, ◌≤◌, ◌↔◌, ◌⊎◌, inl, inr, false, List, sym, ◌∙◌, subst, arith}
+use Rattle.std.proofs.Common.{◌≡◌, ℕ, ◌+◌, ◌*◌, ◌<◌, ◌≤◌, ◌↔◌, ◌⊎◌, inl, inr, false, List, length, sym, ◌∙◌, subst, arith}
 use Rattle.std.proofs.lemmas.Bool.{cases_eq, cases_lt, false≢true}
 use Rattle.auto_core.specs.Automaton.{Automaton, IsAutomaton}
 use Rattle.auto_core.specs.Rows.{cell_of, bit_of}
-use Rattle.auto_core.specs.Reach.{Arc}
-use Rattle.auto_core.specs.Graph.{Graph, IsGraph, graph_of_tables, letter_graph, extended}
+use Rattle.auto_core.specs.Reach.{IsTable, HasArc}
+use Rattle.auto_core.specs.Graph.{Graph, IsGraph, SameGraph, graph_of_tables, letter_graph, extended}
 use Rattle.auto_core.proofs.MoveLemmas.{move_in_range}
+use Rattle.graph_rows.proofs.RowsLemmas.{HasRows, rows_table, rows_graph}
 
 -- Some place before `upto` is joined by From, and C leads from it to q.
 abbrev pub Through : (ℕ → Type 0) → ℕ → (ℕ → ℕ → Type 0) → ℕ → Type 0
@@ -92,7 +93,35 @@ pub no_arc :
     → ((q : ℕ) → q < width * 64 → bit_of row q ≡ cell_of table width p q)
     → n ≤ width * 64
     → bit_of row k ≡ false
-    → Arc table n width p k
+    → HasArc table n width p k
     → ⊥
 no_arc table row n width p k inside room clear (p_in, k_in, cell) =
     false≢true (sym clear ∙ inside k (omega arith) ∙ cell)
+
+-- Two tables of which each row is written: those of the extended graph.
+module _
+    (A : Automaton) (valid : IsAutomaton A) (from_joined from_past joined past : List ℕ) (w a upto : ℕ)
+    (room : A.states ≤ w * 64)
+    (over : upto ≡ A.states)
+    (joined_rows : HasRows w upto (extended A (graph_of_tables from_joined from_past A.states w) a).joined joined)
+    (past_rows : HasRows w upto (extended A (graph_of_tables from_joined from_past A.states w) a).past past) where
+  all_joined : HasRows w A.states (extended A (graph_of_tables from_joined from_past A.states w) a).joined joined
+  all_joined = subst (λ k. HasRows w k (extended A (graph_of_tables from_joined from_past A.states w) a).joined joined) over joined_rows
+
+  all_past : HasRows w A.states (extended A (graph_of_tables from_joined from_past A.states w) a).past past
+  all_past = subst (λ k. HasRows w k (extended A (graph_of_tables from_joined from_past A.states w) a).past past) over past_rows
+
+  pub written_joined : length joined ≡ A.states * w → IsTable joined A.states w
+  written_joined len =
+      rows_table A.states w (extended A (graph_of_tables from_joined from_past A.states w) a).joined joined room len
+      (λ p q arc. (extended_joined_in A valid from_joined from_past w a p q arc).1) all_joined
+
+  pub written_past : length past ≡ A.states * w → IsTable past A.states w
+  written_past len =
+      rows_table A.states w (extended A (graph_of_tables from_joined from_past A.states w) a).past past room len
+      (λ p q arc. (extended_past_in A valid from_joined from_past w a p q arc).1) all_past
+
+  pub written_graph : SameGraph (graph_of_tables joined past A.states w) (extended A (graph_of_tables from_joined from_past A.states w) a)
+  written_graph =
+      rows_graph A.states w (extended A (graph_of_tables from_joined from_past A.states w) a) joined past room
+      (extended_joined_in A valid from_joined from_past w a) (extended_past_in A valid from_joined from_past w a) all_joined all_past

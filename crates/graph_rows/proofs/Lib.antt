@@ -7,4 +7,5 @@ pub mod ArcLemmas
 pub mod CoveringLemmas
 pub mod PrintLemmas
 pub mod UnionLemmas
+pub mod PartLemmas
 pub mod StepLemmas

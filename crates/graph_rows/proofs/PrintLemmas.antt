@@ -4,7 +4,7 @@ use Rattle.std.specs.Int.{bit_at, bit_not, trailing_zeros}
 use Rattle.std.proofs.lemmas.Nat.Bits.{bit_at-zero}
 use Rattle.std.proofs.lemmas.Bool.{cases_eq, false≢true}
 use Rattle.auto_core.specs.Rows.{HasBit, bit_of}
-use Rattle.auto_core.proofs.BitLemmas.{missing_found, bit_past}
+use Rattle.auto_core.proofs.BitLemmas.{missing_found, bit_past, word_within}
 use Rattle.row_steps.proofs.MeetLemmas.{meet_found}
 use Rattle.graph_rows.specs.declared.prints.PairBits.{PairBits}
 use Rattle.graph_rows.specs.Prints.{MissesAt}
@@ -61,6 +61,17 @@ missed first second own_fits answered_fits fits some =
     let found = missing_found (first.own ∷ []) (second.answered ∷ []) 0 own_fits answered_fits (omega arith) fits some in
     let below = found.2 in
     record { at = 0 * 64 + trailing_zeros w64 (bit_and first.own (bit_not w64 second.answered)); within = below; own = found.0; unanswered = found.1 }
+
+-- Where no bit of the first is missing in the second, nothing is missed.
+pub none_missed :
+    (first second : PairBits)
+    → first.own < 2 ^ 64
+    → second.answered < 2 ^ 64
+    → bit_and first.own (bit_not w64 second.answered) ≡ 0
+    → MissesAt first second
+    → ⊥
+none_missed first second own_fits answered_fits none m =
+    false≢true (sym m.unanswered ∙ word_within (first.own ∷ []) (second.answered ∷ []) 0 own_fits answered_fits none m.at (omega (arith, m.within)) m.own)
 
 pub one_word : (row : List ℕ) → length row ≡ 1 → row ≡ get_or row 0 0 ∷ []
 one_word [] e = absurd (omega (e, arith))

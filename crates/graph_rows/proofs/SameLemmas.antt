@@ -8,7 +8,7 @@ use Rattle.std.proofs.lemmas.Grind.{same_number_lists}
 use Rattle.std.proofs.lemmas.List.{get_or-take, get_or-drop, get_or_past, length-take}
 use Rattle.std.proofs.lemmas.Nat.Bits.{bit_at_lowest, bit_at-suc, bit_at-lt}
 use Rattle.auto_core.specs.Rows.{cell_of}
-use Rattle.auto_core.specs.Reach.{IsTable, Arc}
+use Rattle.auto_core.specs.Reach.{IsTable, HasArc}
 use Rattle.auto_core.specs.Graph.{SameGraph}
 use Rattle.auto_core.proofs.CellLemmas.{cell_at}
 use Rattle.graph_rows.specs.Block.{width_of, plane_len, joined_plane, past_plane, block_graph, IsFormed}
@@ -35,7 +35,7 @@ same_bit x y x_bit y_bit same =
     ]
 
 module _ (n width : ℕ) (t u : List ℕ) (first : IsTable t n width) (second : IsTable u n width)
-    (same : (p q : ℕ) → Arc t n width p q ↔ Arc u n width p q) where
+    (same : (p q : ℕ) → HasArc t n width p q ↔ HasArc u n width p q) where
   same_cell : (p q : ℕ) → p < n → q < width * 64 → cell_of t width p q ≡ cell_of u width p q
   same_cell p q p_in q_in =
       both_ways (cell_of t width p q) (cell_of u width p q)
@@ -112,6 +112,6 @@ module _ (n : ℕ) (g h : List ℕ) (first : IsFormed n g) (second : IsFormed n 
 pub planes_same : (n : ℕ) (g h : List ℕ) → joined_plane n g ≡ joined_plane n h → past_plane n g ≡ past_plane n h → SameGraph (block_graph n g) (block_graph n h)
 planes_same n g h p q =
     record {
-      joined = λ s t. (subst (λ x. Arc x n (width_of n) s t) p, subst (λ x. Arc x n (width_of n) s t) (sym p));
-      past = λ s t. (subst (λ x. Arc x n (width_of n) s t) q, subst (λ x. Arc x n (width_of n) s t) (sym q));
+      joined = λ s t. (subst (λ x. HasArc x n (width_of n) s t) p, subst (λ x. HasArc x n (width_of n) s t) (sym p));
+      past = λ s t. (subst (λ x. HasArc x n (width_of n) s t) q, subst (λ x. HasArc x n (width_of n) s t) (sym q));
     }

@@ -3,7 +3,7 @@ use Rattle.std.proofs.Common.{ℕ, ◌↔◌, ◌⊎◌, inl, inr, List}
 use Rattle.std.proofs.lemmas.Bool.{cases_Bool}
 use Rattle.auto_core.specs.Automaton.{Automaton, IsAccepting, Moves}
 use Rattle.auto_core.specs.Rows.{HasBit, cell_of}
-use Rattle.auto_core.specs.Reach.{Arc}
+use Rattle.auto_core.specs.Reach.{HasArc}
 use Rattle.auto_core.specs.Graph.{IsGraph, SameGraph, extended, graph_of_tables, letter_graph}
 use Rattle.graph_rows.specs.Added.{FollowsFrom, IsUnmarked}
 
@@ -11,16 +11,16 @@ module _
     (A : Automaton) (joined past letter_joined letter_past marked : List ℕ) (w a row : ℕ)
     (within : IsGraph (graph_of_tables joined past A.states w))
     (letter : SameGraph (graph_of_tables letter_joined letter_past A.states w) (letter_graph A a))
-    (marks : (m : ℕ) → HasBit marked m ↔ Arc past A.states w row m) where
+    (marks : (m : ℕ) → HasBit marked m ↔ HasArc past A.states w row m) where
   -- what the marked states lead to
   abbrev ByMarks : ℕ → Type 0
-  ByMarks q = FollowsFrom (HasBit marked) (Arc letter_joined A.states w) q
+  ByMarks q = FollowsFrom (HasBit marked) (HasArc letter_joined A.states w) q
 
   abbrev Unmarked : ℕ → Type 0
-  Unmarked m = IsUnmarked (Arc joined A.states w row) (cell_of past w row) m
+  Unmarked m = IsUnmarked (HasArc joined A.states w row) (cell_of past w row) m
 
   -- a state that is reached is marked or not
-  each_is : (m : ℕ) → Arc joined A.states w row m → HasBit marked m ⊎ Unmarked m
+  each_is : (m : ℕ) → HasArc joined A.states w row m → HasBit marked m ⊎ Unmarked m
   each_is m arc = elim (cases_Bool (cell_of past w row m)) [
     | inl yes_cell ↦ inl ((marks m).1 (arc.0, arc.1, yes_cell))
     | inr no_cell ↦ inr (arc, no_cell)
@@ -62,7 +62,7 @@ module _
   -- where all states that are reached are marked
   module _
       (reached : List ℕ)
-      (arcs : (m : ℕ) → HasBit reached m ↔ Arc joined A.states w row m)
+      (arcs : (m : ℕ) → HasBit reached m ↔ HasArc joined A.states w row m)
       (all : (m : ℕ) → HasBit reached m → HasBit marked m) where
     pub joined_within : (q : ℕ) → ByMarks q ↔ (extended A (graph_of_tables joined past A.states w) a).joined row q
     joined_within q = (

@@ -5,7 +5,7 @@ use Rattle.std.proofs.lemmas.Bool.{false≢true}
 use Rattle.std.proofs.lemmas.Nat.{row_fits}
 use Rattle.auto_core.specs.Automaton.{Automaton}
 use Rattle.auto_core.specs.Rows.{cell_of}
-use Rattle.auto_core.specs.Reach.{Arc}
+use Rattle.auto_core.specs.Reach.{HasArc}
 use Rattle.auto_core.specs.Graph.{extended, graph_of_tables}
 use Rattle.auto_core.proofs.CellLemmas.{cell_at}
 use Rattle.graph_rows.specs.Added.{HasAdded}
@@ -55,8 +55,8 @@ module _ (A : Automaton) (joined past : List ℕ) (w a p o : ℕ) (room : A.stat
       → s < A.states
       → ((q : ℕ) → q < w * 64 → cell_of table w r q ≡ cell_of table w s q)
       → (m : ℕ)
-      → Arc table A.states w r m
-      → Arc table A.states w s m
+      → HasArc table A.states w r m
+      → HasArc table A.states w s m
   arc_moves table r s s_in same m (r_in, m_in, cell) = (s_in, m_in, sym (same m (omega (arith, room))) ∙ cell)
 
   joined_moves :

@@ -3,7 +3,7 @@ use Rattle.std.proofs.Common.{◌≡◌, ℕ, ◌+◌, ◌-◌, ◌*◌, ◌/◌
 use Rattle.std.specs.Int.{bit_at}
 use Rattle.std.proofs.lemmas.Bool.{cases_lt, false≢true, or_cases, or_left, or_right}
 use Rattle.auto_core.specs.Rows.{HasBit, HasCell, bit_of, cell_of}
-use Rattle.auto_core.specs.Reach.{IsTable, Arc}
+use Rattle.auto_core.specs.Reach.{IsTable, HasArc}
 use Rattle.auto_core.proofs.BitLemmas.{bit_or_tests}
 use Rattle.auto_core.proofs.CellLemmas.{cell_at}
 use Rattle.graph_rows.specs.Added.{HasAdded, IsUnionOfRows}
@@ -82,13 +82,13 @@ pub gathered_more :
     → first * 64 ≡ column
     → ((q : ℕ) → q < width * 64 → bit_of moves q ≡ cell_of table width middle q)
     → ((i : ℕ) → i < len → bit_of new i ≡ (bit_of old i || bit_of moves (first * 64 + i)))
-    → HasGathered (HasBit marks) (Arc table n width) at column len old
-    → HasGathered (HasBit marks) (Arc table n width) (middle + 1) column len new
+    → HasGathered (HasBit marks) (HasArc table n width) at column len old
+    → HasGathered (HasBit marks) (HasArc table n width) (middle + 1) column len new
 gathered_more table marks moves old new n width at middle column len first t middle_in room from here none begins is each before i i_in =
     let q_in : column + i < width * 64 = omega arith in
     let now : bit_of new i ≡ (bit_of old i || bit_of moves (column + i)) =
     subst (λ x. bit_of new i ≡ (bit_of old i || bit_of moves (x + i))) begins (each i i_in) in
-    let more = through_more (HasBit marks) at middle (Arc table n width) (Arc table n width middle) from here
+    let more = through_more (HasBit marks) at middle (HasArc table n width) (HasArc table n width middle) from here
     (λ k k_from k_to h. false≢true (sym (none k k_from k_to) ∙ h)) (column + i) (λ h. h, λ h. h) in (
       λ bit. more.1 (elim (or_cases (bit_of old i) (bit_of moves (column + i)) (sym now ∙ bit)) [
         | inl was ↦ inl ((before i i_in).0 was)

@@ -5,6 +5,7 @@ ghost use Rattle.graph_rows.specs.Block.{width_of, joined_plane, past_plane, blo
 ghost use Rattle.auto_core.specs.Graph.{SameGraph};
 
 use auto_core::rows;
+use row_steps::are_equal;
 
 /// The number of words of a block for a graph of `n` states.
 pub fn words_of(n: u32) -> usize
@@ -55,5 +56,5 @@ pub fn same(n: u32, g: &[u64], h: &[u64]) -> bool
     requires second { IsFormed n h.now }
     ensures { IsTrue result ↔ SameGraph (block_graph n g.now) (block_graph n h.now) }
 {
-    joined(n, g) == joined(n, h) && past(n, g) == past(n, h)
+    are_equal(joined(n, g), joined(n, h)) && are_equal(past(n, g), past(n, h))
 }

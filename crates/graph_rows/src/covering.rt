@@ -2,7 +2,7 @@
 
 ghost use Rattle.std.specs.Prelude.{◌≡◌, ◌*◌, ◌+◌, ◌/◌, ◌^◌, ◌<◌, ◌≤◌, ◌↔◌, ℕ, [], ◌∷◌, true, false, length, IsTrue};
 ghost use Rattle.auto_core.specs.Rows.{HasBit};
-ghost use Rattle.auto_core.specs.Reach.{IsTable, Arc};
+ghost use Rattle.auto_core.specs.Reach.{IsTable, HasArc};
 ghost use Rattle.auto_core.specs.Game.{Holds};
 ghost use Rattle.auto_core.specs.Graph.{Covers};
 ghost use Rattle.graph_rows.specs.Block.{width_of, block_graph, IsFormed};
@@ -29,8 +29,8 @@ pub fn answers(
     requires is_state { target < order.now.size }
     requires joined { IsTable joined.now order.now.size width }
     requires past { IsTable past.now order.now.size width }
-    ensures any { flagged ≡ false → IsTrue result ↔ ((u : ℕ) × Arc joined.now order.now.size width row u × Holds order.now.pairs target u) }
-    ensures marked { flagged ≡ true → IsTrue result ↔ ((u : ℕ) × Arc past.now order.now.size width row u × Holds order.now.pairs target u) }
+    ensures any { flagged ≡ false → IsTrue result ↔ ((u : ℕ) × HasArc joined.now order.now.size width row u × Holds order.now.pairs target u) }
+    ensures marked { flagged ≡ true → IsTrue result ↔ ((u : ℕ) × HasArc past.now order.now.size width row u × Holds order.now.pairs target u) }
 {
     let wanted = order.row(target);
     if flagged {
@@ -55,7 +55,7 @@ fn is_row_refused(
     requires joined { IsTable joined.now order.now.size width }
     requires other_joined { IsTable other_joined.now order.now.size width }
     requires other_past { IsTable other_past.now order.now.size width }
-    ensures { result ≡ true → LacksAnswer (Holds order.now.pairs) (Arc joined.now order.now.size width) (Arc other_joined.now order.now.size width) row }
+    ensures { result ≡ true → LacksAnswer (Holds order.now.pairs) (HasArc joined.now order.now.size width) (HasArc other_joined.now order.now.size width) row }
 {
     let targets = rows::row_at(joined, width, row as usize);
     let others = rows::row_at(other_joined, width, row as usize);
@@ -154,7 +154,7 @@ fn is_word_answered(order: &Rel, width: usize, word: usize, own: &[u64], others:
     requires word { word < width }
     requires own { IsTable own.now order.now.size width }
     requires others { IsTable others.now order.now.size width }
-    ensures { IsTrue result ↔ AnswersWord (Holds order.now.pairs) (Arc own.now order.now.size width) (Arc others.now order.now.size width) word }
+    ensures { IsTrue result ↔ AnswersWord (Holds order.now.pairs) (HasArc own.now order.now.size width) (HasArc others.now order.now.size width) word }
 {
     let themselves = own_answers(order, word);
     for row in 0..order.size() {
@@ -173,7 +173,7 @@ fn is_table_answered(order: &Rel, own: &[u64], others: &[u64]) -> bool
     requires states_fit { order.now.size < 2 ^ 32 }
     requires own { IsTable own.now order.now.size (width_of order.now.size) }
     requires others { IsTable others.now order.now.size (width_of order.now.size) }
-    ensures { IsTrue result ↔ AnswersArcs (Holds order.now.pairs) (Arc own.now order.now.size (width_of order.now.size)) (Arc others.now order.now.size (width_of order.now.size)) }
+    ensures { IsTrue result ↔ AnswersArcs (Holds order.now.pairs) (HasArc own.now order.now.size (width_of order.now.size)) (HasArc others.now order.now.size (width_of order.now.size)) }
 {
     let width = rows::words_for(order.size());
     for word in 0..width {

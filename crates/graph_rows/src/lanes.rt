@@ -10,5 +10,5 @@ pub fn or_into(into: &mut [u64], from: &[u64])
     requires { length into.old ≡ length from.now }
     ensures { AreWordsOred into.old from.now into.new }
 {
-    rows::or_words(into, from);
+    rows::or_into(into, from);
 }

@@ -3,7 +3,7 @@
 ghost use Rattle.std.specs.Prelude.{◌≡◌, ◌+◌, ◌*◌, ◌^◌, ◌<◌, ◌≤◌, ◌⊎◌, ◌↔◌, ℕ, true, length};
 ghost use Rattle.auto_core.specs.Automaton.{Moves, IsAccepting};
 ghost use Rattle.auto_core.specs.Rows.{HasBit, cell_of};
-ghost use Rattle.auto_core.specs.Reach.{IsTable, Arc};
+ghost use Rattle.auto_core.specs.Reach.{IsTable, HasArc};
 ghost use Rattle.auto_core.specs.Graph.{IsGraph, SameGraph, graph_of_tables, letter_graph, extended};
 ghost use Rattle.graph_rows.specs.Block.{width_of, block_graph, IsFormed};
 ghost use Rattle.graph_rows.specs.Added.{HasAdded, FollowsFrom, IsUnmarked};
@@ -11,7 +11,7 @@ ghost use Rattle.graph_rows.specs.Added.{HasAdded, FollowsFrom, IsUnmarked};
 use crate::block;
 use crate::unions::add_union;
 use auto_core::{Auto, rows};
-use row_steps::next_bit;
+use row_steps::{are_equal, next_bit};
 
 /// Joins the state of the row to the target, past an accepting state if the way to the target is or the target itself is one.
 fn add_arc(
@@ -39,7 +39,7 @@ fn add_arc(
 
 /// Joins the state of the row to each state that a move with the label leads to from `from`; `flagged` tells whether the way to
 /// there passes an accepting state.
-fn add_moves(
+pub(crate) fn add_moves(
     automaton: &Auto,
     label: u32,
     from: u32,
@@ -130,10 +130,10 @@ fn add_unmarked(
     requires joined_len { length joined.old ≡ automaton.now.states * width }
     requires past_len { length past.old ≡ automaton.now.states * width }
     ensures joined { HasAdded width row
-        (FollowsFrom (IsUnmarked (Arc from_joined.now automaton.now.states width row) (cell_of from_past.now width row)) (λ m q. Moves automaton.now m label q))
+        (FollowsFrom (IsUnmarked (HasArc from_joined.now automaton.now.states width row) (cell_of from_past.now width row)) (λ m q. Moves automaton.now m label q))
         joined.old joined.new }
     ensures past { HasAdded width row
-        (FollowsFrom (IsUnmarked (Arc from_joined.now automaton.now.states width row) (cell_of from_past.now width row)) (λ m q. Moves automaton.now m label q × IsAccepting automaton.now q))
+        (FollowsFrom (IsUnmarked (HasArc from_joined.now automaton.now.states width row) (cell_of from_past.now width row)) (λ m q. Moves automaton.now m label q × IsAccepting automaton.now q))
         past.old past.new }
 {
     let reached = rows::row_at(from_joined, width, row as usize);
@@ -239,7 +239,10 @@ fn are_same(table: &[u64], width: usize, row: u32, other: u32) -> bool
     requires other { other * width + width ≤ length table.now }
     ensures { result ≡ true → (q : ℕ) → q < width * 64 → cell_of table.now width row q ≡ cell_of table.now width other q }
 {
-    rows::row_at(table, width, row as usize) == rows::row_at(table, width, other as usize)
+    are_equal(
+        rows::row_at(table, width, row as usize),
+        rows::row_at(table, width, other as usize),
+    )
 }
 
 /// The state at the place of the row, if it comes before the state of the row and has the same rows in both tables; else the state of
@@ -340,7 +343,7 @@ pub fn letter(automaton: &Auto, label: u32, out: &mut [u64])
 }
 
 /// Writes the graph that has each arc of `from`, followed by each move with the label, by the graph of the letter.
-pub fn extend(automaton: &Auto, label: u32, letter: &[u64], from: &[u64], out: &mut [u64])
+pub fn extend_by(automaton: &Auto, label: u32, letter: &[u64], from: &[u64], out: &mut [u64])
     requires letter { IsFormed automaton.now.states letter.now }
     requires is_letter { SameGraph (block_graph automaton.now.states letter.now) (letter_graph automaton.now label) }
     requires formed { IsFormed automaton.now.states from.now }

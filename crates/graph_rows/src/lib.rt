@@ -6,12 +6,14 @@ mod block;
 mod covering;
 mod lanes;
 mod letters;
+mod moves;
 mod prints;
 mod unions;
 
 pub use block::{arc, joined, past, same, words_of};
 pub use covering::{answers, covers};
 pub use lanes::or_into;
-pub use letters::{extend, letter};
+pub use letters::{extend_by, letter};
+pub use moves::extend;
 pub use prints::{PairBits, Print, misses, print_of};
-pub use row_steps::subset;
+pub use row_steps::{are_equal, subset};

@@ -1,6 +1,6 @@
 //! Prints of graphs, by which most graphs that do not cover one another are told apart at once.
 
-ghost use Rattle.std.specs.Prelude.{◌≡◌, ◌<◌, ◌≤◌, ◌⊎◌, ℕ, [], ◌∷◌, length, true, false};
+ghost use Rattle.std.specs.Prelude.{◌≡◌, ◌<◌, ◌≤◌, ◌⊎◌, ◌↔◌, ℕ, [], ◌∷◌, length, true, false, IsTrue};
 ghost use Rattle.auto_core.specs.Game.{Holds};
 ghost use Rattle.auto_core.specs.Rows.{bit_of, HasBit};
 ghost use Rattle.graph_rows.specs.Block.{block_graph, IsFormed};
@@ -206,14 +206,14 @@ pub fn print_of(order: &Rel, g: &[u64]) -> Print
 
 /// Tells whether the second graph has no answer at a bit that the first has.
 fn misses_at(first: &PairBits, second: &PairBits) -> bool
-    ensures { result ≡ true → MissesAt first.now second.now }
+    ensures { IsTrue result ↔ MissesAt first.now second.now }
 {
     first.own & !second.answered != 0
 }
 
 /// Tells whether the second graph has no answer to a pair that the first has: then the first does not cover the second.
 pub fn misses(first: &Print, second: &Print) -> bool
-    ensures { result ≡ true → Misses first.now second.now }
+    ensures { IsTrue result ↔ Misses first.now second.now }
 {
     misses_at(&first.picked, &second.picked) || misses_at(&first.folded, &second.folded)
 }

@@ -3,14 +3,17 @@
 
 ghost use Rattle.std.specs.Prelude.{◌≡◌, ◌+◌, ◌-◌, ◌*◌, ◌^◌, ◌<◌, ◌≤◌, ◌||◌, ◌↔◌, ◌⊎◌, ℕ, length};
 ghost use Rattle.auto_core.specs.Rows.{HasBit, bit_of, cell_of};
-ghost use Rattle.auto_core.specs.Reach.{IsTable, Arc, MarksBelow};
+ghost use Rattle.auto_core.specs.Reach.{IsTable, HasArc, MarksBelow};
 ghost use Rattle.graph_rows.specs.Added.{HasAdded, IsUnionOfRows, FollowsFrom};
 
 use auto_core::rows;
 use row_steps::next_bit;
 
+/// A row of more words is joined by lanes, each by itself.
+const MOST_SHORT: usize = 8;
+
 /// Sets each bit that as many words of the row have, from this word on.
-fn or_words<const N: usize>(into: &mut [u64], row: &[u64], first: usize)
+fn join_words<const N: usize>(into: &mut [u64], row: &[u64], first: usize)
     requires len { length into.old ≡ N }
     requires within { first + N ≤ length row.now }
     ensures { (i : ℕ) → i < N * 64 → bit_of into.new i ≡ (bit_of into.old i || bit_of row.now (first * 64 + i)) }
@@ -57,16 +60,16 @@ fn gather<const N: usize>(
     requires half { N ≤ width }
     requires low_len { length low.old ≡ N }
     requires high_len { length high.old ≡ N }
-    ensures low { IsUnionOfRows (HasBit marks.now) (Arc table.now count width) 0 (N * 64) low.new }
-    ensures high { IsUnionOfRows (HasBit marks.now) (Arc table.now count width) ((width - N) * 64) (N * 64) high.new }
+    ensures low { IsUnionOfRows (HasBit marks.now) (HasArc table.now count width) 0 (N * 64) low.new }
+    ensures high { IsUnionOfRows (HasBit marks.now) (HasArc table.now count width) ((width - N) * 64) (N * 64) high.new }
 {
     rows::clear_row(low);
     rows::clear_row(high);
     let mut at = 0;
     while let Some(middle) = next_bit(marks, at) {
         let moves = rows::row_at(table, width, middle);
-        or_words::<N>(low, moves, 0);
-        or_words::<N>(high, moves, width - N);
+        join_words::<N>(low, moves, 0);
+        join_words::<N>(high, moves, width - N);
         at = middle + 1;
     }
 }
@@ -91,8 +94,8 @@ fn add_ends<const N: usize>(
     requires halves { width ≤ N + N }
     requires joined_len { length joined.old ≡ count * width }
     requires past_len { length past.old ≡ count * width }
-    ensures joined { HasAdded width row (FollowsFrom (HasBit marks.now) (Arc table.now count width)) joined.old joined.new }
-    ensures past { HasAdded width row (FollowsFrom (HasBit marks.now) (Arc table.now count width)) past.old past.new }
+    ensures joined { HasAdded width row (FollowsFrom (HasBit marks.now) (HasArc table.now count width)) joined.old joined.new }
+    ensures past { HasAdded width row (FollowsFrom (HasBit marks.now) (HasArc table.now count width)) past.old past.new }
 {
     let mut low = [0; N];
     let mut high = [0; N];
@@ -103,7 +106,31 @@ fn add_ends<const N: usize>(
     add_words::<N>(past, width, row as usize, width - N, &high);
 }
 
-/// The same row by row, however many words make a row.
+/// Adds the bits of the other row to the row of the table, by lanes of four words.
+fn add_long_row(table: &mut [u64], width: usize, row: usize, from: &[u64])
+    requires row { row * width + width ≤ length table.old }
+    requires equal { length from.now ≡ width }
+    ensures here { (q : ℕ) → q < width * 64 → cell_of table.new width row q ≡ (cell_of table.old width row q || bit_of from.now q) }
+    ensures others { (r q : ℕ) → q < width * 64 → ¬ (r ≡ row) → cell_of table.new width r q ≡ cell_of table.old width r q }
+{
+    rows::or_into(&mut table[row * width..row * width + width], from);
+}
+
+/// Adds the bits of the other row to the row of the table: long rows by lanes, which in short ones cost more than they save.
+fn add_whole_row(table: &mut [u64], width: usize, row: usize, from: &[u64])
+    requires row { row * width + width ≤ length table.old }
+    requires equal { length from.now ≡ width }
+    ensures here { (q : ℕ) → q < width * 64 → cell_of table.new width row q ≡ (cell_of table.old width row q || bit_of from.now q) }
+    ensures others { (r q : ℕ) → q < width * 64 → ¬ (r ≡ row) → cell_of table.new width r q ≡ cell_of table.old width r q }
+{
+    if width > MOST_SHORT {
+        add_long_row(table, width, row, from);
+    } else {
+        rows::or_row(table, width, row, from);
+    }
+}
+
+/// Adds the rows of the table to the row of both other tables one after the other, those that the marks stand for.
 fn add_rows(
     table: &[u64],
     count: u32,
@@ -120,14 +147,14 @@ fn add_rows(
     requires is_row { row < count }
     requires joined_len { length joined.old ≡ count * width }
     requires past_len { length past.old ≡ count * width }
-    ensures joined { HasAdded width row (FollowsFrom (HasBit marks.now) (Arc table.now count width)) joined.old joined.new }
-    ensures past { HasAdded width row (FollowsFrom (HasBit marks.now) (Arc table.now count width)) past.old past.new }
+    ensures joined { HasAdded width row (FollowsFrom (HasBit marks.now) (HasArc table.now count width)) joined.old joined.new }
+    ensures past { HasAdded width row (FollowsFrom (HasBit marks.now) (HasArc table.now count width)) past.old past.new }
 {
     let mut at = 0;
     while let Some(middle) = next_bit(marks, at) {
         let moves = rows::row_at(table, width, middle);
-        rows::or_row(joined, width, row as usize, moves);
-        rows::or_row(past, width, row as usize, moves);
+        add_whole_row(joined, width, row as usize, moves);
+        add_whole_row(past, width, row as usize, moves);
         at = middle + 1;
     }
 }
@@ -149,10 +176,10 @@ pub(crate) fn add_union(
     requires is_row { row < count }
     requires joined_len { length joined.old ≡ count * width }
     requires past_len { length past.old ≡ count * width }
-    ensures joined { HasAdded width row (FollowsFrom (HasBit marks.now) (Arc table.now count width)) joined.old joined.new }
-    ensures past { HasAdded width row (FollowsFrom (HasBit marks.now) (Arc table.now count width)) past.old past.new }
+    ensures joined { HasAdded width row (FollowsFrom (HasBit marks.now) (HasArc table.now count width)) joined.old joined.new }
+    ensures past { HasAdded width row (FollowsFrom (HasBit marks.now) (HasArc table.now count width)) past.old past.new }
 {
-    if width < 2 || width > 8 {
+    if width < 2 || width > MOST_SHORT {
         add_rows(table, count, width, marks, row, joined, past);
     } else if width < 4 {
         add_ends::<2>(table, count, width, marks, row, joined, past);

@@ -85,7 +85,7 @@ Leads A B S limit es cs turn fates.GoesOn now left later =
     (o : Outcome Entry) → Comes Entry (supergraph_rules A B S) limit now left later o → Comes Entry (supergraph_rules A B S) limit es cs turn o
 Leads A B S limit es cs turn (fates.Apart i j) now left later =
     (x y : Entry) × At now i x × At now j y × Comes Entry (supergraph_rules A B S) limit es cs turn (Apart x y)
-Leads A B S limit es cs turn fates.Full now left later = Comes Entry (supergraph_rules A B S) limit es cs turn (Limit now)
+Leads A B S limit es cs turn fates.Limit now left later = Comes Entry (supergraph_rules A B S) limit es cs turn (Limit now)
 
 -- The graphs that are kept are formed.
 abbrev pub AreFormed : ℕ → List Seen → Type 0
@@ -168,13 +168,13 @@ pub record FailsFirst (A B : Automaton) (n : ℕ) (held : List Seen) (numbers : 
 abbrev pub AreTold : Automaton → Automaton → ℕ → List Seen → List ℕ → ℕ → Seen → Fate → Type 0
 AreTold A B n held numbers new it fates.GoesOn = AllPass A B n held numbers it (length numbers)
 AreTold A B n held numbers new it (fates.Apart i j) = FailsFirst A B n held numbers new it i j
-AreTold A B n held numbers new it fates.Full = ⊥
+AreTold A B n held numbers new it fates.Limit = ⊥
 
 -- The same of the elements of the search: all live ones pass with c, or the first pair that fails has these numbers.
 abbrev pub IsTold : Automaton → Automaton → List (ℕ × ℕ) → List Entry → Entry → Fate → Type 0
 IsTold A B S es c fates.GoesOn = PassesBefore (supergraph_rules A B S) es c (length es)
 IsTold A B S es c (fates.Apart i j) = (x y : Entry) × At es i x × At es j y × FirstFailing (supergraph_rules A B S) es c x y
-IsTold A B S es c fates.Full = ⊥
+IsTold A B S es c fates.Limit = ⊥
 
 -- The search has come from the old family with the candidates cs before a turn to the family now with `left` before a later turn,
 -- or to an end.
@@ -188,4 +188,4 @@ pub record HasCome (A B : Automaton) (S : List (ℕ × ℕ)) (limit : ℕ) (old 
 abbrev pub HasEnded : Automaton → Automaton → List (ℕ × ℕ) → ℕ → Fate → List Entry → Type 0
 HasEnded A B S limit fates.GoesOn now = SearchEnds A B S limit (Closed now)
 HasEnded A B S limit (fates.Apart i j) now = (x y : Entry) × At now i x × At now j y × SearchEnds A B S limit (Apart x y)
-HasEnded A B S limit fates.Full now = SearchEnds A B S limit (Limit now)
+HasEnded A B S limit fates.Limit now = SearchEnds A B S limit (Limit now)

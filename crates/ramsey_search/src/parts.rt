@@ -31,5 +31,5 @@ pub(crate) enum Fate {
     /// It ends: the pair of the elements with these numbers fails.
     Apart(u32, u32),
     /// It ends: the last element is one more than the limit.
-    Full,
+    Limit,
 }

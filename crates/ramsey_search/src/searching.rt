@@ -95,13 +95,13 @@ fn outcome_of(
             let origins = origins_of(alloc, &family.held)?;
             Ok(Outcome::Apart(lasso_of(alloc, first, origins.as_slice(), x, y)?))
         }
-        Fate::Full => Ok(Outcome::Limit(origins_of(alloc, &family.held)?)),
+        Fate::Limit => Ok(Outcome::Limit(origins_of(alloc, &family.held)?)),
     }
 }
 
 /// The search with its graphs in blocks of this pool; where it closes, each live element comes to have a block of its own. At the end all
-/// are given back, so the live blocks of the pool are as before, whatever comes; a closed search leaves as many free blocks as it has live
-/// elements.
+/// are given back, so the live blocks of the pool are as before and the free ones no fewer, whatever comes; a closed search leaves at least as
+/// many free blocks as it has live elements.
 pub fn search_in(
     alloc: Global,
     pool: &mut Pool,
@@ -115,13 +115,14 @@ pub fn search_in(
     requires greatest { IsGreatestForward second.now 1 order.now.pairs }
     requires some { 1 ≤ limit }
     requires few { limit ≤ 100000 }
-    requires size { pool.old.size ≡ 2 * second.now.states * width_of second.now.states }
+    requires words { pool.old.words ≡ 2 * second.now.states * width_of second.now.states }
     requires room { finite.len pool.old.blocks + limit + 2 < 2 ^ 32 }
     ensures answer { IfOk result (IsOutcomeOf first.now second.now order.now.pairs limit) }
     ensures truth { IfOk result (IsTrueOutcome first.now second.now order.now.pairs limit) }
-    ensures size { pool.new.size ≡ pool.old.size }
+    ensures words { pool.new.words ≡ pool.old.words }
     ensures blocks { pool.new.blocks ≡ pool.old.blocks }
-    ensures free { IfOk result (λ outcome. HasRoomFor outcome pool.new.spare) }
+    ensures free { IfOk result (λ outcome. HasRoomFor outcome pool.new.free) }
+    ensures kept { pool.old.free ≤ pool.new.free }
 {
     let mut family = Family::new(alloc, first.states())?;
     let mut answers = GraphPairs::new(alloc, second.states())?;

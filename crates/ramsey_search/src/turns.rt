@@ -48,7 +48,7 @@ fn admit(
     let number = family.held.len() as u32;
     family.enter(alloc, order, graphs, &mut answers.covers, new)?;
     if number == limit {
-        return Ok(Fate::Full);
+        return Ok(Fate::Limit);
     }
     let is_turn = new.arc.from == new.arc.to && new.arc.accepting;
     answers.look(alloc, second, &graphs.graphs, new.graph, is_turn)?;

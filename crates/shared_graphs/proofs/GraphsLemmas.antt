@@ -13,12 +13,12 @@ use Rattle.graph_rows.specs.Prints.{IsPrint}
 use Rattle.graph_rows.specs.Block.{IsFormed, block_graph, width_of}
 use Rattle.shared_graphs.specs.declared.memo.Answer.{Answer}
 use Rattle.shared_graphs.specs.declared.memo.Answer.TheVariants.{Number, Truth}
-use Rattle.shared_graphs.specs.declared.memo.Told.{Told}
+use Rattle.shared_graphs.specs.declared.memo.Noted.{Noted}
 use Rattle.shared_graphs.specs.declared.memo.Memo.{Memo}
 use Rattle.shared_graphs.specs.declared.graphs.Graphs.{Graphs}
 use Rattle.shared_graphs.specs.declared.coverings.Coverings.{Coverings}
 use Rattle.shared_graphs.specs.declared.graph_pairs.GraphPairs.{GraphPairs}
-use Rattle.shared_graphs.specs.Memo.{AllTold, NothingTold, HasAnswer, HasNoOther, HasNoted}
+use Rattle.shared_graphs.specs.Memo.{AllTold, NothingTold, HasAnswer, TellsNothingNew, HasNoted}
 use Rattle.shared_graphs.specs.GraphBlocks.{SamePool}
 use Rattle.graph_laws.proofs.GraphLemmas.{covers_between, same_refl}
 use Rattle.shared_graphs.specs.Graphs.{block_at, AsTheyAre, IsBlockOf, IsMinimised, IsStock, IsThere, HasGrown, IsGraphOf, HasAddedGraph, HasNumber, FitsLetter, FitsStep, Keeping, MinimisedBy, StandsFor, kept_under}
@@ -27,13 +27,13 @@ use Rattle.shared_graphs.specs.declared.glimpses.Glimpse.{Glimpse}
 use Rattle.shared_graphs.specs.Glimpses.{AreGlimpses, IsGlimpse}
 
 -- What is found fits, and what is noted too.
-pub told_found : (fits : ℕ → ℕ → Answer → Type 0) (told : List (Option Told)) (first second : ℕ) (answer : Answer) → AllTold fits told → HasAnswer told first second answer → fits first second answer
+pub told_found : (fits : ℕ → ℕ → Answer → Type 0) (told : List (Option Noted)) (first second : ℕ) (answer : Answer) → AllTold fits told → HasAnswer told first second answer → fits first second answer
 told_found fits told first second answer all has =
     subst (λ a. fits first second a) has.answer_is
     (subst (λ k. fits first k has.here.answer) has.second_is
     (subst (λ k. fits k has.here.second has.here.answer) has.first_is (all has.place has.here has.is)))
 
-pub told_more : (fits : ℕ → ℕ → Answer → Type 0) (old now : List (Option Told)) (first second : ℕ) (answer : Answer) → AllTold fits old → fits first second answer → HasNoted first second answer old now → AllTold fits now
+pub told_more : (fits : ℕ → ℕ → Answer → Type 0) (old now : List (Option Noted)) (first second : ℕ) (answer : Answer) → AllTold fits old → fits first second answer → HasNoted first second answer old now → AllTold fits now
 told_more fits old now first second answer all fit noted k t is = elim (noted k t is) [
   | inl was ↦ all k t was
   | inr new ↦
@@ -41,13 +41,13 @@ told_more fits old now first second answer all fit noted k t is = elim (noted k 
       (subst (λ m. fits t.first m answer) (sym new.1) (subst (λ m. fits m second answer) (sym new.0) fit))
 ]
 
-pub told_none : (fits : ℕ → ℕ → Answer → Type 0) (told : List (Option Told)) → NothingTold told → AllTold fits told
+pub told_none : (fits : ℕ → ℕ → Answer → Type 0) (told : List (Option Noted)) → NothingTold told → AllTold fits told
 told_none fits told none k t is = absurd (none k t is)
 
-told_as : (fits other : ℕ → ℕ → Answer → Type 0) (told : List (Option Told)) → ((x y : ℕ) (a : Answer) → fits x y a → other x y a) → AllTold fits told → AllTold other told
+told_as : (fits other : ℕ → ℕ → Answer → Type 0) (told : List (Option Noted)) → ((x y : ℕ) (a : Answer) → fits x y a → other x y a) → AllTold fits told → AllTold other told
 told_as fits other told goes all k t is = goes t.first t.second t.answer (all k t is)
 
-pub told_still : (fits : ℕ → ℕ → Answer → Type 0) (old now : List (Option Told)) → HasNoOther old now → AllTold fits old → AllTold fits now
+pub told_still : (fits : ℕ → ℕ → Answer → Type 0) (old now : List (Option Noted)) → TellsNothingNew old now → AllTold fits old → AllTold fits now
 told_still fits old now none all k t is =
     let (j, was, was_is, first, second, answer) = none k t is in
     subst (λ a. fits t.first t.second a) (sym answer)
@@ -82,11 +82,11 @@ has_number block old now number added =
       grown = grown_by old.graphs.items now.graphs.items block added.graphs;
       letters = added.letters;
       steps = added.steps;
-      rows = added.rows;
+      letter_block = added.letter_block;
     }
 
 pub was_number : (block : List ℕ) (g : Graphs) (number : ℕ) → IsThere g.graphs.items block number → HasNumber block g g number
-was_number block g number there = record { there = there; grown = grown_none g.graphs.items; letters = refl; steps = refl; rows = refl }
+was_number block g number there = record { there = there; grown = grown_none g.graphs.items; letters = refl; steps = refl; letter_block = refl }
 
 -- A graph that is there stays.
 module _ (old now : List (List ℕ)) (grown : HasGrown old now) where
@@ -128,13 +128,13 @@ module _ (old now : List (List ℕ)) (grown : HasGrown old now) where
             (subst (λ l. IsTrue so ↔ words.Covers (Holds S) (block_graph n (block_at old g)) (block_graph n l)) (sym (grown.same h second)) is.2),
       )
 
-  pub letters_stay : (B : Automaton) (keeping : Keeping) (told : List (Option Told)) → AllTold (FitsLetter B keeping old) told → AllTold (FitsLetter B keeping now) told
+  pub letters_stay : (B : Automaton) (keeping : Keeping) (told : List (Option Noted)) → AllTold (FitsLetter B keeping old) told → AllTold (FitsLetter B keeping now) told
   letters_stay B keeping told = told_as (FitsLetter B keeping old) (FitsLetter B keeping now) told (letter_stays B keeping)
 
-  pub steps_stay : (B : Automaton) (keeping : Keeping) (told : List (Option Told)) → AllTold (FitsStep B keeping old) told → AllTold (FitsStep B keeping now) told
+  pub steps_stay : (B : Automaton) (keeping : Keeping) (told : List (Option Noted)) → AllTold (FitsStep B keeping old) told → AllTold (FitsStep B keeping now) told
   steps_stay B keeping told = told_as (FitsStep B keeping old) (FitsStep B keeping now) told (step_stays B keeping)
 
-  pub coverings_stay : (n : ℕ) (S : List (ℕ × ℕ)) (told : List (Option Told)) → AllTold (FitsCovering n S old) told → AllTold (FitsCovering n S now) told
+  pub coverings_stay : (n : ℕ) (S : List (ℕ × ℕ)) (told : List (Option Noted)) → AllTold (FitsCovering n S old) told → AllTold (FitsCovering n S now) told
   coverings_stay n S told = told_as (FitsCovering n S old) (FitsCovering n S now) told (covering_stays n S)
 
   prints_stay : (n : ℕ) (S : List (ℕ × ℕ)) (prints : List Print) → ArePrints n S old prints → ArePrints n S now prints
@@ -144,7 +144,7 @@ module _ (old now : List (List ℕ)) (grown : HasGrown old now) where
       (omega arith, subst (λ l. IsPrint n (Holds S) l print) (sym (grown.same k within)) (are k print is).1)
 
   pub all_coverings_stay : (n : ℕ) (S : List (ℕ × ℕ)) (c : Coverings) → AreCoverings n S old c → AreCoverings n S now c
-  all_coverings_stay n S c are = record { prints = prints_stay n S c.prints.items are.prints; told = coverings_stay n S c.told.told.items are.told }
+  all_coverings_stay n S c are = record { prints = prints_stay n S c.prints.items are.prints; told = coverings_stay n S c.memo.told.items are.told }
 
   glimpses_stay : (B : Automaton) (glimpses : List Glimpse) → AreGlimpses B old glimpses → AreGlimpses B now glimpses
   glimpses_stay B glimpses are k x is =
@@ -160,11 +160,11 @@ module _ (old now : List (List ℕ)) (grown : HasGrown old now) where
 
 -- What is remembered stays so as the fresh block is written, and as it gets a number.
 pub stock_written : (B : Automaton) (keeping : Keeping) (old now : Graphs) → IsStock B keeping old → SamePool old.graphs now.graphs → now.graphs.items ≡ old.graphs.items → now.letters ≡ old.letters → now.steps ≡ old.steps
-    → length now.rows.items ≡ old.graphs.size → IsStock B keeping now
-stock_written B keeping old now stock pool items letters steps rows = record {
+    → length now.letter_block.items ≡ old.graphs.words → IsStock B keeping now
+stock_written B keeping old now stock pool items letters steps letter_block = record {
   some = stock.some;
   size = pool.0 ∙ stock.size;
-  rows = rows ∙ sym pool.0;
+  letter_block = letter_block ∙ sym pool.0;
   letters = subst (λ l. AllTold (FitsLetter B keeping l) now.letters.told.items) (sym items)
       (subst (λ (m : Memo). AllTold (FitsLetter B keeping old.graphs.items) m.told.items) (sym letters) stock.letters);
   steps = subst (λ l. AllTold (FitsStep B keeping l) now.steps.told.items) (sym items)
@@ -175,7 +175,7 @@ pub stock_numbered : (B : Automaton) (keeping : Keeping) (old now : Graphs) (blo
 stock_numbered B keeping old now block k stock pool has = record {
   some = stock.some;
   size = pool.0 ∙ stock.size;
-  rows = ap (λ (v : Vec ℕ Global). length v.items) has.rows ∙ stock.rows ∙ sym pool.0;
+  letter_block = ap (λ (v : Vec ℕ Global). length v.items) has.letter_block ∙ stock.letter_block ∙ sym pool.0;
   letters = subst (λ (m : Memo). AllTold (FitsLetter B keeping now.graphs.items) m.told.items) (sym has.letters) (letters_stay old.graphs.items now.graphs.items has.grown B keeping old.letters.told.items stock.letters);
   steps = subst (λ (m : Memo). AllTold (FitsStep B keeping now.graphs.items) m.told.items) (sym has.steps) (steps_stay old.graphs.items now.graphs.items has.grown B keeping old.steps.told.items stock.steps);
 }
@@ -186,8 +186,8 @@ pub graph_numbered : (B : Automaton) (keeping : Keeping) (graph : words.Graph) (
 graph_numbered B keeping graph block old now k has is = record { within = has.there.within; block = subst (IsBlockOf B keeping graph) (sym has.there.is) is }
 
 -- One more extension is remembered, of a graph that was there, once its own number was given and the table has no other ones.
-pub step_more : (B : Automaton) (keeping : Keeping) (now : Graphs) (from label k : ℕ) (steps noted : List (Option Told)) → IsStock B keeping now → from < length now.graphs.items
-    → IsGraphOf B keeping (words.extended B (block_graph B.states (block_at now.graphs.items from)) label) now.graphs.items k → HasNoOther now.steps.told.items steps → HasNoted from label (Number k) steps noted
+pub step_more : (B : Automaton) (keeping : Keeping) (now : Graphs) (from label k : ℕ) (steps noted : List (Option Noted)) → IsStock B keeping now → from < length now.graphs.items
+    → IsGraphOf B keeping (words.extended B (block_graph B.states (block_at now.graphs.items from)) label) now.graphs.items k → TellsNothingNew now.steps.told.items steps → HasNoted from label (Number k) steps noted
     → AllTold (FitsStep B keeping now.graphs.items) noted
 step_more B keeping now from label k steps noted stock within is none has =
     told_more (FitsStep B keeping now.graphs.items) steps noted from label (Number k) (told_still (FitsStep B keeping now.graphs.items) now.steps.told.items steps none stock.steps) (within, is) has

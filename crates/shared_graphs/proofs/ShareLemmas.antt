@@ -1,5 +1,5 @@
 -- A pool and blocks in it that are one's own: one more, one less, one that is written.
-use Rattle.std.proofs.Common.{rules, arith, refl, zero, suc, ◌≡◌, ◌≢◌, ◌<◌, ◌∷◌, ◌++◌, ℕ, true, false, List, [], length, get_or, slice_index_or, map as each, Option, None, is_some, drop, ap, sym, subst, ◌∙◌, inl, inr}
+use Rattle.std.proofs.Common.{rules, arith, refl, zero, suc, ◌≡◌, ◌≢◌, ◌<◌, ◌≤◌, ◌+◌, ◌∷◌, ◌++◌, ℕ, true, false, List, [], length, get_or, slice_index_or, map as each, Option, None, is_some, drop, ap, sym, subst, ◌∙◌, inl, inr}
 use Rattle.std.specs.List.{refill}
 use Rattle.std.specs.Option.{unwrap_or}
 use Rattle.std.specs.Ordering.{nat_cmp}
@@ -14,7 +14,7 @@ use Rattle.graph_pool.specs.declared.pool.Handle.{Handle}
 use Rattle.graph_pool.proofs.LiveBlocks.{get-inserted_same, get-inserted_other, get-removed_same, get-removed_other}
 use Rattle.shared_graphs.specs.Graphs.{block_at}
 use Rattle.shared_graphs.specs.GraphBlocks.{Blocks}
-use Rattle.shared_graphs.specs.PoolShares.{handles, all_handles, blocks_of, without, AllLive, AreLive, words_under}
+use Rattle.shared_graphs.specs.PoolShares.{handles, all_handles, shares_of, all_but, AllLive, AreLive, words_under}
 use Rattle.shared_graphs.specs.declared.graph_blocks.GraphBlocks.TheInside.{Inside}
 
 abbrev pub BlockMap : Type 0
@@ -54,7 +54,7 @@ apart_of m x h live dead = λ e. let clash : true ≡ false = sym live ∙ ap (�
 
 -- A block more.
 pub one_more : (hs : List ℕ) (m : BlockMap) (h : ℕ) (ws : List ℕ) → map.get m h ≡ None → AllLive m hs
-    → AllLive (map.insert m h ws) (hs ++ h ∷ []) × (without (map.insert m h ws) (hs ++ h ∷ []) ≡ without m hs)
+    → AllLive (map.insert m h ws) (hs ++ h ∷ []) × (all_but (map.insert m h ws) (hs ++ h ∷ []) ≡ all_but m hs)
 one_more [] m h ws none live = ((ap (λ (o : Option (List ℕ)). is_some o) (get-inserted_same m h ws), tt), taken_back m h ws none)
 one_more (x ∷ hs) m h ws none live =
     let apart : x ≢ h = apart_of m x h live.0 (ap (λ (o : Option (List ℕ)). is_some o) none) in
@@ -65,12 +65,12 @@ one_more (x ∷ hs) m h ws none live =
         ap (λ (o : Option (List ℕ)). is_some o) (get-inserted_other m h ws x apart) ∙ live.0,
         subst (λ (n : BlockMap). AllLive n (hs ++ h ∷ [])) (sym swapped) more.0,
       ),
-      ap (λ (n : BlockMap). without n (hs ++ h ∷ [])) swapped ∙ more.1,
+      ap (λ (n : BlockMap). all_but n (hs ++ h ∷ [])) swapped ∙ more.1,
     )
 
 -- A block less.
 pub one_less : (xs ys : List ℕ) (m : BlockMap) (h : ℕ) → AllLive m (xs ++ h ∷ ys)
-    → (map.contains_key m h ≡ true) × AllLive (map.remove m h) (xs ++ ys) × (without (map.remove m h) (xs ++ ys) ≡ without m (xs ++ h ∷ ys))
+    → (map.contains_key m h ≡ true) × AllLive (map.remove m h) (xs ++ ys) × (all_but (map.remove m h) (xs ++ ys) ≡ all_but m (xs ++ h ∷ ys))
 one_less [] ys m h live = (live.0, live.1, refl)
 one_less (x ∷ xs) ys m h live =
     let less = one_less xs ys (map.remove m x) h live.1 in
@@ -78,7 +78,7 @@ one_less (x ∷ xs) ys m h live =
     let swapped = removed_twice m x h in (
       sym (stays m h x apart) ∙ less.0,
       (stays m x h (λ e. apart (sym e)) ∙ live.0, subst (λ (n : BlockMap). AllLive n (xs ++ ys)) swapped less.1),
-      ap (λ (n : BlockMap). without n (xs ++ ys)) (sym swapped) ∙ less.2,
+      ap (λ (n : BlockMap). all_but n (xs ++ ys)) (sym swapped) ∙ less.2,
     )
 
 -- A handle that isn't live is none of those that are.
@@ -104,10 +104,10 @@ live_at (x ∷ hs) m (suc k) low live =
 
 -- The last block alone is written.
 module _ (hs : List ℕ) (m : BlockMap) (f : ℕ) (live : AllLive m (hs ++ f ∷ [])) where
-  before : AllLive (map.remove m f) hs × (without (map.remove m f) hs ≡ without m (hs ++ f ∷ []))
+  before : AllLive (map.remove m f) hs × (all_but (map.remove m f) hs ≡ all_but m (hs ++ f ∷ []))
   before =
       let less = one_less hs [] m f live in
-      (subst (λ (l : List ℕ). AllLive (map.remove m f) l) (append-nil hs) less.1, ap (λ (l : List ℕ). without (map.remove m f) l) (sym (append-nil hs)) ∙ less.2)
+      (subst (λ (l : List ℕ). AllLive (map.remove m f) l) (append-nil hs) less.1, ap (λ (l : List ℕ). all_but (map.remove m f) l) (sym (append-nil hs)) ∙ less.2)
 
   pub last_none : IsNoneOf f hs
   last_none = none_dead hs (map.remove m f) f (gone m f) before.0
@@ -118,39 +118,39 @@ module _ (hs : List ℕ) (m : BlockMap) (f : ℕ) (live : AllLive m (hs ++ f ∷
   over : (ws : List ℕ) → map.insert m f ws ≡ map.insert (map.remove m f) f ws
   over ws = same (map.insert m f ws) (map.insert (map.remove m f) f ws) (λ q. grind (gets, rules, arith))
 
-  pub last_written : (ws : List ℕ) → AllLive (map.insert m f ws) (hs ++ f ∷ []) × (without (map.insert m f ws) (hs ++ f ∷ []) ≡ without m (hs ++ f ∷ []))
+  pub last_written : (ws : List ℕ) → AllLive (map.insert m f ws) (hs ++ f ∷ []) × (all_but (map.insert m f ws) (hs ++ f ∷ []) ≡ all_but m (hs ++ f ∷ []))
       × (each (words_under (map.insert m f ws)) hs ≡ each (words_under m) hs) × (words_under (map.insert m f ws) f ≡ ws)
   last_written ws =
       let more = one_more hs (map.remove m f) f ws (get-removed_same m f) before.0 in (
         subst (λ (x : BlockMap). AllLive x (hs ++ f ∷ [])) (sym (over ws)) more.0,
-        ap (λ (x : BlockMap). without x (hs ++ f ∷ [])) (over ws) ∙ more.1 ∙ before.1,
+        ap (λ (x : BlockMap). all_but x (hs ++ f ∷ [])) (over ws) ∙ more.1 ∙ before.1,
         words_apart hs m (map.insert m f ws) f (λ x apart. get-inserted_other m f ws x apart) last_none,
         ap (λ (o : Option (List ℕ)). unwrap_or o []) (get-inserted_same m f ws),
       )
 
   -- One more is behind it.
   pub last_kept : (n : BlockMap) (g : ℕ) (ws : List ℕ) → map.get m g ≡ None → n ≡ map.insert m g ws → AllLive n ((hs ++ f ∷ []) ++ g ∷ [])
-      × (without n ((hs ++ f ∷ []) ++ g ∷ []) ≡ without m (hs ++ f ∷ [])) × (each (words_under n) (hs ++ f ∷ []) ≡ each (words_under m) hs ++ words_under m f ∷ [])
+      × (all_but n ((hs ++ f ∷ []) ++ g ∷ []) ≡ all_but m (hs ++ f ∷ [])) × (each (words_under n) (hs ++ f ∷ []) ≡ each (words_under m) hs ++ words_under m f ∷ [])
   last_kept n g ws none made =
       let more = one_more (hs ++ f ∷ []) m g ws none live in
       let dead : map.contains_key m g ≡ false = ap (λ (o : Option (List ℕ)). is_some o) none in (
         subst (λ (x : BlockMap). AllLive x ((hs ++ f ∷ []) ++ g ∷ [])) (sym made) more.0,
-        ap (λ (x : BlockMap). without x ((hs ++ f ∷ []) ++ g ∷ [])) made ∙ more.1,
+        ap (λ (x : BlockMap). all_but x ((hs ++ f ∷ []) ++ g ∷ [])) made ∙ more.1,
         words_apart (hs ++ f ∷ []) m n g (λ x apart. ap (λ (k : BlockMap). map.get k x) made ∙ get-inserted_other m g ws x apart) (none_dead (hs ++ f ∷ []) m g dead live)
             ∙ map-append (words_under m) hs (f ∷ []),
       )
 
   -- It is given back.
-  pub last_given : AllLive (map.remove m f) hs × (without (map.remove m f) hs ≡ without m (hs ++ f ∷ []))
+  pub last_given : AllLive (map.remove m f) hs × (all_but (map.remove m f) hs ≡ all_but m (hs ++ f ∷ []))
   last_given = before
 
 -- The first block of one's own.
-pub first_taken : (bs : List Handle) (m n : BlockMap) (f : ℕ) (ws : List ℕ) → bs ≡ [] → map.get m f ≡ None → n ≡ map.insert m f ws → AllLive n (handles bs ++ f ∷ []) × (without n (handles bs ++ f ∷ []) ≡ m)
+pub first_taken : (bs : List Handle) (m n : BlockMap) (f : ℕ) (ws : List ℕ) → bs ≡ [] → map.get m f ≡ None → n ≡ map.insert m f ws → AllLive n (handles bs ++ f ∷ []) × (all_but n (handles bs ++ f ∷ []) ≡ m)
 first_taken bs m n f ws none free made =
     let more = one_more [] m f ws free tt in
     let list = ap (λ (l : List Handle). handles l ++ f ∷ []) none in (
       subst (λ (l : List ℕ). AllLive n l) (sym list) (subst (λ (x : BlockMap). AllLive x (f ∷ [])) (sym made) more.0),
-      ap (λ (l : List ℕ). without n l) list ∙ ap (λ (x : BlockMap). without x (f ∷ [])) made ∙ more.1,
+      ap (λ (l : List ℕ). all_but n l) list ∙ ap (λ (x : BlockMap). all_but x (f ∷ [])) made ∙ more.1,
     )
 
 -- The handles, one behind the others.
@@ -187,25 +187,25 @@ many_items : (bs : List Handle) (m : BlockMap) (items : List (List ℕ)) → eac
 many_items bs m items is = ap (λ (l : List (List ℕ)). length l) (sym is) ∙ length-map (handles bs) (words_under m) ∙ length-map bs (λ (x : Handle). x.0)
 
 -- The blocks of a graph and the fresh one are live and two, and the first has the words of the graph.
-pub pair_lives : (b : Inside) (v : Blocks) (k : ℕ) (h : Handle) → blocks_of b ≡ v → AreLive b → k < length v.items → h ≡ slice_index_or b.blocks.items k h
+pub pair_lives : (b : Inside) (v : Blocks) (k : ℕ) (h : Handle) → shares_of b ≡ v → AreLive b → k < length v.items → h ≡ slice_index_or b.blocks.items k h
     → (h.0 ≢ b.fresh.0) × (map.contains_key b.pool.blocks h.0 ≡ true) × (map.contains_key b.pool.blocks b.fresh.0 ≡ true) × (words_under b.pool.blocks h.0 ≡ block_at v.items k)
 pair_lives b v k h is live within here =
     let many = many_items b.blocks.items b.pool.blocks v.items (ap (λ (x : Blocks). x.items) is) in
     let low : k < length b.blocks.items = omega arith in (
-      handle_apart b.blocks.items b.fresh.0 b.pool.blocks k h low here live,
-      handle_live b.blocks.items b.fresh.0 b.pool.blocks k h low here live,
-      last_live (handles b.blocks.items) b.pool.blocks b.fresh.0 live,
+      handle_apart b.blocks.items b.fresh.0 b.pool.blocks k h low here live.live,
+      handle_live b.blocks.items b.fresh.0 b.pool.blocks k h low here live.live,
+      last_live (handles b.blocks.items) b.pool.blocks b.fresh.0 live.live,
       sym (words_here b.blocks.items b.pool.blocks k h low here) ∙ ap (λ (x : Blocks). block_at x.items k) is,
     )
 
 -- The fresh block alone is written: what is seen of the blocks but for it stays.
-pub fresh_written : (b : Inside) (v : Blocks) (ws : List ℕ) → blocks_of b ≡ v → AreLive b → AllLive (map.insert b.pool.blocks b.fresh.0 ws) (all_handles b)
-    × ((b.pool.size ≡ v.size) × (without (map.insert b.pool.blocks b.fresh.0 ws) (all_handles b) ≡ v.rest))
+pub fresh_written : (b : Inside) (v : Blocks) (ws : List ℕ) → shares_of b ≡ v → AreLive b → AllLive (map.insert b.pool.blocks b.fresh.0 ws) (all_handles b)
+    × ((b.pool.words ≡ v.words) × (all_but (map.insert b.pool.blocks b.fresh.0 ws) (all_handles b) ≡ v.rest) × (b.free_before ≡ v.free_before))
     × (each (words_under (map.insert b.pool.blocks b.fresh.0 ws)) (handles b.blocks.items) ≡ v.items) × (words_under (map.insert b.pool.blocks b.fresh.0 ws) b.fresh.0 ≡ ws)
 fresh_written b v ws is live =
-    let written = last_written (handles b.blocks.items) b.pool.blocks b.fresh.0 live ws in (
+    let written = last_written (handles b.blocks.items) b.pool.blocks b.fresh.0 live.live ws in (
       written.0,
-      (ap (λ (x : Blocks). x.size) is, written.1 ∙ ap (λ (x : Blocks). x.rest) is),
+      (ap (λ (x : Blocks). x.words) is, written.1 ∙ ap (λ (x : Blocks). x.rest) is, ap (λ (x : Blocks). x.free_before) is),
       written.2 ∙ ap (λ (x : Blocks). x.items) is,
       written.3,
     )
@@ -213,3 +213,8 @@ fresh_written b v ws is live =
 -- Words that are written over all of others of the same number.
 pub written_over : (n : ℕ) (old ws : List ℕ) → length ws ≡ n → refill n old ws ≡ ws
 written_over n old ws many = take_at ws (drop (length ws) old) n many
+
+-- A block that is taken leaves at most one free block fewer.
+pub free_taken : (old now : ℕ) → (0 < old → now + 1 ≡ old) → old ≤ now + 1
+free_taken zero now less = omega arith
+free_taken (suc n) now less = let fewer = less (omega arith) in omega arith

@@ -33,7 +33,7 @@ ArePrints n S graphs prints = (k : ℕ) (print : Print) → At prints k print �
 -- What is remembered of coverings is so.
 pub record AreCoverings (n : ℕ) (S : List (ℕ × ℕ)) (graphs : List (List ℕ)) (c : Coverings) : Type 0 where
   pub prints : ArePrints n S graphs c.prints.items
-  pub told : AllTold (FitsCovering n S graphs) c.told.told.items
+  pub told : AllTold (FitsCovering n S graphs) c.memo.told.items
 
 -- The print of the first graph has a pair that the second one's has no answer to.
 pub record AreToldApart (prints : List Print) (g h : ℕ) : Type 0 where

@@ -56,15 +56,15 @@ pub record HasAddedGraph (block : List ℕ) (old now : Graphs) (number : ℕ) : 
   pub number_is : number ≡ length old.graphs.items
   pub letters : now.letters ≡ old.letters
   pub steps : now.steps ≡ old.steps
-  pub rows : now.rows ≡ old.rows
+  pub letter_block : now.letter_block ≡ old.letter_block
 
--- The graph with this block is there, and no other has come.
+-- The graph with this block is there, and those that were there keep their numbers.
 pub record HasNumber (block : List ℕ) (old now : Graphs) (number : ℕ) : Type 0 where
   pub there : IsThere now.graphs.items block number
   pub grown : HasGrown old.graphs.items now.graphs.items
   pub letters : now.letters ≡ old.letters
   pub steps : now.steps ≡ old.steps
-  pub rows : now.rows ≡ old.rows
+  pub letter_block : now.letter_block ≡ old.letter_block
 
 -- Under 0 the graphs of letters are remembered as they are, under 1 as all graphs are kept.
 abbrev pub kept_under : Keeping → ℕ → Keeping
@@ -81,11 +81,11 @@ FitsStep B keeping graphs from label (Number k) =
     (from < length graphs) × IsGraphOf B keeping (extended B (block_graph B.states (block_at graphs from)) label) graphs k
 FitsStep B keeping graphs from label (Truth is) = Unit {0}
 
--- The blocks are those of graphs of the automaton's states, with room for the rows of a letter, and what is remembered of graphs, which are
+-- The blocks are those of graphs of the automaton's states, with room for the block of a letter, and what is remembered of graphs, which are
 -- kept so, is so.
 pub record IsStock (B : Automaton) (keeping : Keeping) (g : Graphs) : Type 0 where
   pub some : 1 ≤ B.states
-  pub size : g.graphs.size ≡ 2 * B.states * width_of B.states
-  pub rows : length g.rows.items ≡ g.graphs.size
+  pub size : g.graphs.words ≡ 2 * B.states * width_of B.states
+  pub letter_block : length g.letter_block.items ≡ g.graphs.words
   pub letters : AllTold (FitsLetter B keeping g.graphs.items) g.letters.told.items
   pub steps : AllTold (FitsStep B keeping g.graphs.items) g.steps.told.items

@@ -25,7 +25,7 @@ const PAIRS: usize = 4096;
 #[derive(Debug, Drop)]
 pub struct Coverings {
     pub prints: Vec<Print>,
-    pub told: Memo,
+    pub memo: Memo,
 }
 
 /// Tells whether graphs with both numbers are there.
@@ -36,20 +36,20 @@ pub(crate) fn are_there(graphs: &GraphBlocks, g: u32, h: u32) -> bool
 }
 
 /// Tells whether the first graph covers the second.
-fn covers(order: &Rel, graphs: &GraphBlocks, told: &mut Memo, g: u32, h: u32) -> bool
+fn covers(order: &Rel, graphs: &GraphBlocks, memo: &mut Memo, g: u32, h: u32) -> bool
     requires first { IsFormed order.now.size (block_at graphs.now.items g) }
     requires second { IsFormed order.now.size (block_at graphs.now.items h) }
-    requires told { AllTold (FitsCovering order.now.size order.now.pairs graphs.now.items) told.old.told.items }
-    ensures told { AllTold (FitsCovering order.now.size order.now.pairs graphs.now.items) told.new.told.items }
+    requires told { AllTold (FitsCovering order.now.size order.now.pairs graphs.now.items) memo.old.told.items }
+    ensures told { AllTold (FitsCovering order.now.size order.now.pairs graphs.now.items) memo.new.told.items }
     ensures covers { IsTrue result
         ↔ Covers (Holds order.now.pairs) (block_graph order.now.size (block_at graphs.now.items g)) (block_graph order.now.size (block_at graphs.now.items h)) }
 {
-    if let Some(Answer::Truth(holds)) = told.find(g, h) {
+    if let Some(Answer::Truth(holds)) = memo.find(g, h) {
         return holds;
     }
     let holds = graph_rows::covers(order, graphs.block(g as usize), graphs.block(h as usize));
     if are_there(graphs, g, h) {
-        told.note(g, h, Answer::Truth(holds));
+        memo.note(g, h, Answer::Truth(holds));
     }
     holds
 }
@@ -65,7 +65,7 @@ fn fits(x: &Arc, y: &Arc) -> bool
 pub fn subsumes(
     order: &Rel,
     graphs: &GraphBlocks,
-    told: &mut Memo,
+    memo: &mut Memo,
     x: &Arc,
     g: u32,
     y: &Arc,
@@ -73,8 +73,8 @@ pub fn subsumes(
 ) -> bool
     requires first { IsFormed order.now.size (block_at graphs.now.items g) }
     requires second { IsFormed order.now.size (block_at graphs.now.items h) }
-    requires told { AllTold (FitsCovering order.now.size order.now.pairs graphs.now.items) told.old.told.items }
-    ensures told { AllTold (FitsCovering order.now.size order.now.pairs graphs.now.items) told.new.told.items }
+    requires told { AllTold (FitsCovering order.now.size order.now.pairs graphs.now.items) memo.old.told.items }
+    ensures told { AllTold (FitsCovering order.now.size order.now.pairs graphs.now.items) memo.new.told.items }
     ensures subsumes { IsTrue result
         ↔ Subsumes (Holds order.now.pairs) (with_graph x.now (block_graph order.now.size (block_at graphs.now.items g)))
         (with_graph y.now (block_graph order.now.size (block_at graphs.now.items h))) }
@@ -82,7 +82,7 @@ pub fn subsumes(
     if !fits(x, y) {
         return false;
     }
-    covers(order, graphs, told, g, h)
+    covers(order, graphs, memo, g, h)
 }
 
 /// Tells whether the prints show that the first graph does not cover the second.
@@ -105,7 +105,7 @@ impl Coverings {
     {
         Ok(Coverings {
             prints: Vec::new(alloc),
-            told: Memo::new(alloc, PAIRS)?,
+            memo: Memo::new(alloc, PAIRS)?,
         })
     }
 
@@ -213,6 +213,6 @@ impl Coverings {
         if !fits(x, y) {
             return false;
         }
-        covers(order, graphs, &mut self.told, g, h)
+        covers(order, graphs, &mut self.memo, g, h)
     }
 }

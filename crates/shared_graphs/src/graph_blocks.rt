@@ -1,6 +1,6 @@
 //! The blocks of graphs in a pool.
 
-ghost use Rattle.std.specs.Prelude.{◌≡◌, ◌+◌, ◌*◌, ◌^◌, ◌<◌, ◌≤◌, ◌↔◌, ◌++◌, ◌∷◌, [], ℕ, true, List, length, IsTrue, OnErr, OnOk, IfOk};
+ghost use Rattle.std.specs.Prelude.{◌≡◌, ◌+◌, ◌*◌, ◌^◌, ◌<◌, ◌≤◌, ◌++◌, ◌∷◌, [], ℕ, true, List, length, OnErr, OnOk, IfOk};
 ghost use Rattle.std.specs.FinMap as map;
 ghost use Rattle.auto_core.specs.Graph.{letter_graph, extended};
 ghost use Rattle.bit_rel.specs.Relation.{IsPreorder};
@@ -8,21 +8,22 @@ ghost use Rattle.graph_rows.specs.Block.{block_graph, width_of, IsFormed};
 ghost use Rattle.shared_graphs.specs.GraphBlocks.{SamePool};
 ghost use Rattle.shared_graphs.specs.Graphs.{block_at, AsTheyAre, IsBlockOf, IsMinimised, IsThere};
 
-use crate::equality::is_equality;
 use auto_core::{Auto, Memory};
 use bit_rel::Rel;
 use graph_pool::{Handle, Pool};
+use graph_rows::are_equal;
 use std::alloc::Global;
 use std::marker::Model;
 use std::mem::swap;
 
 /// A pool, and in it the blocks of graphs by their numbers, and a fresh block, into which the next graph is written. Contracts see it as
-/// `Blocks`: the pool without these blocks, the words of each, and those of the fresh one.
+/// `Blocks`: the pool without these blocks, the words of each, and those of the fresh one, and how many blocks of the pool were free before.
 #[derive(Drop)]
 pub struct GraphBlocks {
     pool: Pool,
     blocks: Vec<Handle>,
     fresh: Handle,
+    free_before: u64,
 }
 
 impl Model for GraphBlocks {
@@ -32,29 +33,25 @@ impl Model for GraphBlocks {
 
     ghost coded = { blocks_code };
 
-    ghost use Rattle.shared_graphs.specs.PoolShares.{blocks_of, AreLive};
+    ghost use Rattle.shared_graphs.specs.PoolShares.{shares_of, AreLive};
 
-    ghost view = { blocks_of };
+    ghost view = { shares_of };
 
     ghost invariant = { AreLive };
-}
-
-/// Tells whether both blocks are the same.
-pub(crate) fn is_same(block: &[u64], other: &[u64]) -> bool
-    ensures { IsTrue result ↔ block.now ≡ other.now }
-{
-    block == other
 }
 
 impl GraphBlocks {
     /// No graphs. The pool is taken from its place; a refused call leaves it there.
     pub fn new(alloc: Global, pool: &mut Pool) -> Result<GraphBlocks, Memory>
         requires room { map.len pool.old.blocks + 1 < 2 ^ 32 }
-        ensures size { IfOk result (λ b. b.size ≡ pool.old.size) }
+        ensures words { IfOk result (λ b. b.words ≡ pool.old.words) }
         ensures rest { IfOk result (λ b. b.rest ≡ pool.old.blocks) }
+        ensures free { IfOk result (λ b. b.free_before ≡ pool.old.free) }
         ensures none { IfOk result (λ b. b.items ≡ []) }
+        ensures left { IfOk result (λ _. (pool.new.words ≡ pool.old.words) × (pool.new.blocks ≡ map.empty) × (pool.new.free ≡ 0)) }
         ensures refused { OnErr result (pool.new ≡ pool.old) }
     {
+        let free_before = pool.free();
         let fresh = pool.add()?;
         let mut taken = Pool::new(alloc, pool.words());
         swap(&mut taken, pool);
@@ -62,6 +59,7 @@ impl GraphBlocks {
             pool: taken,
             blocks: Vec::new(alloc),
             fresh,
+            free_before,
         })
     }
 
@@ -72,7 +70,7 @@ impl GraphBlocks {
         self.blocks.len()
     }
 
-    /// The block of the graph with this number; past the last there is none.
+    /// The block of the graph with this number; behind the last there is none.
     pub fn block(&self, number: usize) -> &[u64]
         ensures { result.now ≡ block_at self.now.items number }
     {
@@ -94,12 +92,12 @@ impl GraphBlocks {
         ensures { result ≡ true → IsThere self.now.items self.now.fresh number }
     {
         (number as usize) < self.blocks.len()
-            && is_same(self.block(number as usize), self.fresh_block())
+            && are_equal(self.block(number as usize), self.fresh_block())
     }
 
     /// Writes these words into the fresh block.
     pub(crate) fn write(&mut self, words: &[u64])
-        requires { length words.now ≡ self.old.size }
+        requires { length words.now ≡ self.old.words }
         ensures pool { SamePool self.old self.new }
         ensures items { self.new.items ≡ self.old.items }
         ensures fresh { self.new.fresh ≡ words.now }
@@ -109,7 +107,7 @@ impl GraphBlocks {
 
     /// Writes the graph of the letter into the fresh block.
     pub(crate) fn write_letter(&mut self, second: &Auto, label: u32)
-        requires { self.old.size ≡ 2 * second.now.states * width_of second.now.states }
+        requires { self.old.words ≡ 2 * second.now.states * width_of second.now.states }
         ensures pool { SamePool self.old self.new }
         ensures items { self.new.items ≡ self.old.items }
         ensures fresh { IsBlockOf second.now AsTheyAre (letter_graph second.now label) self.new.fresh }
@@ -119,7 +117,7 @@ impl GraphBlocks {
 
     /// Writes the graph with this number, extended by the letter, whose own block is given, into the fresh block.
     pub(crate) fn write_extension(&mut self, second: &Auto, label: u32, letter: &[u64], from: u32)
-        requires size { self.old.size ≡ 2 * second.now.states * width_of second.now.states }
+        requires words { self.old.words ≡ 2 * second.now.states * width_of second.now.states }
         requires letter { IsBlockOf second.now AsTheyAre (letter_graph second.now label) letter.now }
         requires within { from < length self.old.items }
         requires formed { IsFormed second.now.states (block_at self.old.items from) }
@@ -128,7 +126,7 @@ impl GraphBlocks {
         ensures fresh { IsBlockOf second.now AsTheyAre (extended second.now (block_graph second.now.states (block_at self.old.items from)) label) self.new.fresh }
     {
         let (kept, fresh) = self.pool.pair(self.blocks[from as usize], self.fresh);
-        graph_rows::extend(second, label, letter, kept, fresh);
+        graph_rows::extend_by(second, label, letter, kept, fresh);
     }
 
     /// Minimises the graph in the fresh block by the order.
@@ -140,9 +138,6 @@ impl GraphBlocks {
         ensures formed { IsFormed order.now.size self.new.fresh }
         ensures minimised { IsMinimised order.now.pairs (block_graph order.now.size self.new.fresh) (block_graph order.now.size self.old.fresh) }
     {
-        if is_equality(order) {
-            return;
-        }
         supergraph::minimise(order, self.pool.block_mut(self.fresh));
     }
 
@@ -184,14 +179,16 @@ impl GraphBlocks {
 
     /// The pool, all blocks of graphs given back.
     pub fn into_pool(self) -> Pool
-        ensures size { result.size ≡ self.size }
+        ensures words { result.words ≡ self.words }
         ensures blocks { result.blocks ≡ self.rest }
-        ensures free { length self.items < result.spare }
+        ensures free { length self.items < result.free }
+        ensures before { self.free_before ≤ result.free }
     {
         let GraphBlocks {
             mut pool,
             mut blocks,
             fresh,
+            free_before: _,
         } = self;
         pool.give_back(fresh);
         while let Some(block) = blocks.pop() {

@@ -8,13 +8,14 @@ ghost use Rattle.bit_rel.specs.Relation.{IsPreorder};
 ghost use Rattle.graph_rows.specs.Block.{block_graph, width_of, IsFormed};
 ghost use Rattle.shared_graphs.specs.GraphBlocks.{SamePool};
 ghost use Rattle.shared_graphs.specs.Graphs.{block_at, AsTheyAre, HasAddedGraph, HasGrown, HasNumber, IsBlockOf, IsGraphOf, IsStock, IsThere, Keeping, MinimisedBy, kept_under};
-ghost use Rattle.shared_graphs.specs.Memo.{HasNoOther};
+ghost use Rattle.shared_graphs.specs.Memo.{TellsNothingNew};
 
-use crate::graph_blocks::{GraphBlocks, is_same};
+use crate::graph_blocks::GraphBlocks;
 use crate::memo::{Answer, Memo};
 use auto_core::{Auto, Memory};
 use bit_rel::Rel;
 use graph_pool::Pool;
+use graph_rows::are_equal;
 use std::alloc::Global;
 
 /// How many places there are for the numbers of graphs.
@@ -41,7 +42,7 @@ pub struct Link {
 }
 
 /// The blocks of the graphs by their numbers, with links, the number of the latest at each place, the graphs of letters, those extended
-/// by letters, and room for the rows of a letter while a graph is extended.
+/// by letters, and room for the block of a letter while a graph is extended.
 #[derive(Drop)]
 pub struct Graphs {
     pub graphs: GraphBlocks,
@@ -49,40 +50,52 @@ pub struct Graphs {
     pub latest: Vec<u32>,
     pub letters: Memo,
     pub steps: Memo,
-    pub rows: Vec<u64>,
+    pub letter_block: Vec<u64>,
 }
 
-/// The words of the block, mixed.
+/// A word mixed into what is mixed already.
+fn mix(mixed: u64, word: u64) -> u64 {
+    let product = (mixed ^ word).wrapping_mul(0x9E3779B97F4A7C15);
+    product ^ (product >> 29)
+}
+
+/// The words of the block, mixed: those at even places, those at odd ones, and at last both.
 fn mixed_of(block: &[u64]) -> u64 {
-    let mut mixed = 0;
-    for word in block {
-        mixed = (mixed ^ *word).wrapping_mul(0x9E3779B97F4A7C15);
-        mixed ^= mixed >> 29;
+    let mut even = 0;
+    let mut odd = 1;
+    for i in 0..block.len() / 2 {
+        even = mix(even, block[2 * i]);
+        odd = mix(odd, block[2 * i + 1]);
     }
-    mixed
+    if block.len() % 2 == 1 {
+        even = mix(even, block[block.len() - 1]);
+    }
+    mix(even, odd)
 }
 
 impl Graphs {
     /// No graphs, whose blocks are to be in this pool, which is taken.
     pub fn new(alloc: Global, pool: &mut Pool) -> Result<Graphs, Memory>
         requires room { map.len pool.old.blocks + 1 < 2 ^ 32 }
-        ensures stock { IfOk result (λ g. (B : Automaton) (keeping : Keeping) → pool.old.size ≡ 2 * B.states * width_of B.states → IsStock B keeping g) }
-        ensures size { IfOk result (λ g. g.graphs.size ≡ pool.old.size) }
+        ensures stock { IfOk result (λ g. (B : Automaton) (keeping : Keeping) → pool.old.words ≡ 2 * B.states * width_of B.states → IsStock B keeping g) }
+        ensures words { IfOk result (λ g. g.graphs.words ≡ pool.old.words) }
         ensures rest { IfOk result (λ g. g.graphs.rest ≡ pool.old.blocks) }
+        ensures free { IfOk result (λ g. g.graphs.free_before ≡ pool.old.free) }
         ensures none { IfOk result (λ g. g.graphs.items ≡ []) }
+        ensures left { IfOk result (λ _. (pool.new.words ≡ pool.old.words) × (pool.new.blocks ≡ map.empty) × (pool.new.free ≡ 0)) }
         ensures refused { OnErr result (pool.new ≡ pool.old) }
     {
         let latest = vec![in alloc; u32::MAX; PLACES]?;
         let letters = Memo::new(alloc, LETTERS)?;
         let steps = Memo::new(alloc, STEPS)?;
-        let rows = vec![in alloc; 0; pool.words()]?;
+        let letter_block = vec![in alloc; 0; pool.words()]?;
         Ok(Graphs {
             graphs: GraphBlocks::new(alloc, pool)?,
             links: Vec::new(alloc),
             latest,
             letters,
             steps,
-            rows,
+            letter_block,
         })
     }
 
@@ -112,7 +125,7 @@ impl Graphs {
         ensures graphs { self.new.graphs ≡ self.old.graphs }
         ensures letters { self.new.letters ≡ self.old.letters }
         ensures steps { self.new.steps ≡ self.old.steps }
-        ensures rows { self.new.rows ≡ self.old.rows }
+        ensures letter_block { self.new.letter_block ≡ self.old.letter_block }
     {
         if place >= self.latest.len() {
             return u32::MAX;
@@ -154,7 +167,7 @@ impl Graphs {
 
     /// The number of the graph with this block, which is added if it is not there.
     pub fn number_of(&mut self, block: &[u64]) -> Result<u32, Memory>
-        requires { length block.now ≡ self.old.graphs.size }
+        requires { length block.now ≡ self.old.graphs.words }
         ensures pool { SamePool self.old.graphs self.new.graphs }
         ensures number { IfOk result (HasNumber block.now self.old self.new) }
     {
@@ -199,8 +212,8 @@ impl Graphs {
         ensures graphs { self.new.graphs ≡ self.old.graphs }
         ensures stock { (keeping : Keeping) → IsStock second.now keeping self.old → IsStock second.now keeping self.new }
     {
-        graph_rows::letter(second, label, &mut self.rows);
-        if is_same(self.graphs.block(number as usize), &self.rows) {
+        graph_rows::letter(second, label, &mut self.letter_block);
+        if are_equal(self.graphs.block(number as usize), &self.letter_block) {
             self.letters.note(OWN, label, Answer::Number(number));
         }
     }
@@ -231,18 +244,18 @@ impl Graphs {
     }
 
     /// Writes the letter's own graph beside the blocks. It is mostly remembered.
-    fn write_rows(&mut self, second: &Auto, label: u32)
+    fn write_letter_block(&mut self, second: &Auto, label: u32)
         requires { (keeping : Keeping) × IsStock second.now keeping self.old }
         ensures graphs { self.new.graphs ≡ self.old.graphs }
         ensures letters { self.new.letters ≡ self.old.letters }
         ensures steps { self.new.steps ≡ self.old.steps }
-        ensures rows { IsBlockOf second.now AsTheyAre (letter_graph second.now label) self.new.rows.items }
+        ensures letter_block { IsBlockOf second.now AsTheyAre (letter_graph second.now label) self.new.letter_block.items }
     {
         if let Some(Answer::Number(number)) = self.letters.find(OWN, label) {
-            self.rows
+            self.letter_block
                 .copy_from_slice(self.graphs.block(number as usize));
         } else {
-            graph_rows::letter(second, label, &mut self.rows);
+            graph_rows::letter(second, label, &mut self.letter_block);
         }
     }
 
@@ -254,19 +267,20 @@ impl Graphs {
         ensures items { self.new.graphs.items ≡ self.old.graphs.items }
         ensures letters { self.new.letters ≡ self.old.letters }
         ensures steps { self.new.steps ≡ self.old.steps }
-        ensures rows { length self.new.rows.items ≡ self.old.graphs.size }
+        ensures letter_block { length self.new.letter_block.items ≡ self.old.graphs.words }
         ensures fresh { IsBlockOf second.now AsTheyAre (extended second.now (block_graph second.now.states (block_at self.old.graphs.items from)) label) self.new.graphs.fresh }
     {
-        self.write_rows(second, label);
-        self.graphs.write_extension(second, label, &self.rows, from);
+        self.write_letter_block(second, label);
+        self.graphs
+            .write_extension(second, label, &self.letter_block, from);
     }
 
     /// Makes room for more extensions, where many graphs have come.
     fn make_room(&mut self, alloc: Global) -> Result<(), Memory>
         ensures graphs { self.new.graphs ≡ self.old.graphs }
         ensures letters { self.new.letters ≡ self.old.letters }
-        ensures rows { self.new.rows ≡ self.old.rows }
-        ensures steps { IfOk result (λ _. HasNoOther self.old.steps.told.items self.new.steps.told.items) }
+        ensures letter_block { self.new.letter_block ≡ self.old.letter_block }
+        ensures steps { IfOk result (λ _. TellsNothingNew self.old.steps.told.items self.new.steps.told.items) }
     {
         let places = self.steps.told.len();
         if places < MOST_STEPS && self.graphs.len() > places / 2 {
@@ -340,9 +354,10 @@ impl Graphs {
 
     /// The pool, all blocks of graphs given back.
     pub fn into_pool(self) -> Pool
-        ensures size { result.size ≡ self.graphs.size }
+        ensures words { result.words ≡ self.graphs.words }
         ensures blocks { result.blocks ≡ self.graphs.rest }
-        ensures free { length self.graphs.items < result.spare }
+        ensures free { length self.graphs.items < result.free }
+        ensures before { self.graphs.free_before ≤ result.free }
     {
         self.graphs.into_pool()
     }

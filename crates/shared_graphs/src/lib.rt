@@ -2,7 +2,6 @@
 #![tactic(auto)]
 
 mod coverings;
-mod equality;
 mod glimpses;
 mod graph_blocks;
 mod graph_pairs;
@@ -16,4 +15,4 @@ pub use graph_blocks::GraphBlocks;
 pub use graph_pairs::GraphPairs;
 pub use graphs::{Graphs, Link};
 pub use looping::marked_row;
-pub use memo::{Answer, Memo, Told};
+pub use memo::{Answer, Memo, Noted};

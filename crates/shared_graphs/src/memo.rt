@@ -1,7 +1,7 @@
 //! Answers that are remembered, in a table of fixed size: a later one may take the place of an earlier one.
 
 ghost use Rattle.std.specs.Prelude.{IfOk, IfSome};
-ghost use Rattle.shared_graphs.specs.Memo.{NothingTold, HasAnswer, HasNoOther, HasNoted};
+ghost use Rattle.shared_graphs.specs.Memo.{NothingTold, HasAnswer, TellsNothingNew, HasNoted};
 
 use auto_core::Memory;
 use std::alloc::Global;
@@ -17,7 +17,7 @@ pub enum Answer {
 
 /// What was answered about two numbers.
 #[derive(Clone, Copy, Debug)]
-pub struct Told {
+pub struct Noted {
     pub first: u32,
     pub second: u32,
     pub answer: Answer,
@@ -26,7 +26,7 @@ pub struct Told {
 /// The answers, each at the place of its two numbers.
 #[derive(Debug, Drop)]
 pub struct Memo {
-    pub told: Vec<Option<Told>>,
+    pub told: Vec<Option<Noted>>,
 }
 
 /// The place of the two numbers.
@@ -76,7 +76,7 @@ impl Memo {
     {
         let place = place_of(first, second, self.told.len());
         if place < self.told.len() {
-            self.told[place] = Some(Told {
+            self.told[place] = Some(Noted {
                 first,
                 second,
                 answer,
@@ -86,7 +86,7 @@ impl Memo {
 
     /// Gives the table so many places. Answers whose place is taken by a later one are lost.
     pub fn grow(&mut self, alloc: Global, places: usize) -> Result<(), Memory>
-        ensures { IfOk result (λ _. HasNoOther self.old.told.items self.new.told.items) }
+        ensures { IfOk result (λ _. TellsNothingNew self.old.told.items self.new.told.items) }
     {
         let mut grown = Memo::new(alloc, places)?;
         for place in 0..self.told.len() {

@@ -1,15 +1,15 @@
 -- Arcs taken out of a row and put back, and what stays minimal.
-use Rattle.std.proofs.Common.{◌≡◌, ℕ, ◌+◌, ◌*◌, ◌<◌, ◌≤◌, ◌↔◌, ◌⊎◌, inl, inr, Bool, true, false, List, ◌++◌, length, take, drop, refl, sym, ap, ◌∙◌, subst, arith}
+use Rattle.std.proofs.Common.{◌≡◌, ℕ, ◌*◌, ◌<◌, ◌≤◌, ◌↔◌, ◌⊎◌, inl, inr, Bool, true, false, List, ◌++◌, length, take, drop, refl, sym, ap, ◌∙◌, subst, arith}
 use Rattle.std.proofs.Math.Seq.{take-append_seam, drop-append_seam}
-use Rattle.std.proofs.lemmas.Bool.{cases_eq, cases_lt, false≢true}
+use Rattle.std.proofs.lemmas.Bool.{cases_eq, false≢true}
 use Rattle.auto_core.specs.Rows.{HasCell, cell_of}
-use Rattle.auto_core.specs.Reach.{Arc, IsTable}
+use Rattle.auto_core.specs.Reach.{HasArc, IsTable}
 use Rattle.auto_core.specs.Graph.{Graph, IsGraph, SameGraph, graph_of_tables}
 use Rattle.graph_laws.proofs.GraphLemmas.{covers_trans, same_refl}
 use Rattle.graph_rows.specs.Added.{HasAdded}
 use Rattle.graph_rows.specs.Block.{IsFormed, block_graph, joined_plane, past_plane, width_of}
 use Rattle.graph_rows.proofs.RowsLemmas.{formed_of_planes}
-use Rattle.supergraph.specs.Minimal.{CoverEachOther, IsDominated, IsLessened, IsMinimal, IsMinimalRow, IsPartOf, IsWithout}
+use Rattle.supergraph.specs.Minimal.{CoverEachOther, IsDominated, IsLessened, IsMinimal, IsPartOf, IsWithout}
 
 -- ---- graphs
 
@@ -74,46 +74,6 @@ dominated_before S part whole is s t arc d = record {
   value = λ past. (is.past s d.other d.arc).0 (d.value ((is.past s t arc).1 past));
 }
 
--- Up to a place of the row no arc is dominated.
-abbrev pub IsMinimalUpTo : (ℕ → ℕ → Type 0) → Graph → ℕ → ℕ → Type 0
-IsMinimalUpTo S g s at = (t : ℕ) → t < at → g.joined s t → IsDominated S g s t → ⊥
-
-pub minimal_more :
-    (S : ℕ → ℕ → Type 0) (g h : Graph) (s at target : ℕ)
-    → IsPartOf h g
-    → IsMinimalUpTo S g s at
-    → ((t : ℕ) → at ≤ t → t < target → g.joined s t → ⊥)
-    → (h.joined s target → IsDominated S h s target → ⊥)
-    → IsMinimalUpTo S h s (target + 1)
-minimal_more S g h s at target part upto none here t t_in arc d =
-    elim (cases_eq t target) [
-      | inl e ↦
-          let F : ℕ → Type 0 = λ k. h.joined s k → IsDominated S h s k → ⊥ in
-          subst F (sym e) here arc d
-      | inr n ↦
-          elim (cases_lt t at) [
-            | inl near ↦ upto t near (part.joined s t arc) (dominated_before S h g part s t arc d)
-            | inr far ↦ none t (omega arith) (omega arith) (part.joined s t arc)
-          ]
-    ]
-
--- The rows that were minimal stay so, and one more is.
-pub rows_more :
-    (S : ℕ → ℕ → Type 0) (g h : Graph) (row : ℕ)
-    → IsPartOf h g
-    → ((s : ℕ) → s < row → IsMinimalRow S g s)
-    → IsMinimalRow S h row
-    → (s : ℕ)
-    → s < row + 1
-    → IsMinimalRow S h s
-rows_more S g h row part upto here s s_in t arc d =
-    elim (cases_eq s row) [
-      | inl e ↦
-          let F : ℕ → Type 0 = IsMinimalRow S h in
-          subst F (sym e) here t arc d
-      | inr n ↦ upto s (omega arith) t (part.joined s t arc) (dominated_before S h g part s t arc d)
-    ]
-
 -- ---- tables
 
 is_cell : (row target r s : ℕ) → ((r ≡ row) × (s ≡ target)) ⊎ ¬ ((r ≡ row) × (s ≡ target))
@@ -140,10 +100,10 @@ module _ (width row target : ℕ) (old new : List ℕ) (without : IsWithout widt
     columns = λ p q p_in q_in cell. is.columns p q p_in q_in (cell_was p q q_in cell);
   }
 
-  arc_was : (n : ℕ) → n ≤ width * 64 → (r s : ℕ) → Arc new n width r s → Arc old n width r s
+  arc_was : (n : ℕ) → n ≤ width * 64 → (r s : ℕ) → HasArc new n width r s → HasArc old n width r s
   arc_was n room r s (r_in, s_in, cell) = (r_in, s_in, cell_was r s (omega arith) cell)
 
-  arc_stays : (n : ℕ) → n ≤ width * 64 → (r s : ℕ) → Arc old n width r s → ¬ ((r ≡ row) × (s ≡ target)) → Arc new n width r s
+  arc_stays : (n : ℕ) → n ≤ width * 64 → (r s : ℕ) → HasArc old n width r s → ¬ ((r ≡ row) × (s ≡ target)) → HasArc new n width r s
   arc_stays n room r s (r_in, s_in, cell) apart = (r_in, s_in, without.others r s (omega arith) apart ∙ cell)
 
   -- The cell is put back if it was there.
@@ -217,8 +177,8 @@ pub lessened_without :
     → IsWithout width row target joined joined'
     → IsWithout width row target past past'
     → flag ≡ cell_of past width row target
-    → (flag ≡ false → (u : ℕ) × Arc joined' n width row u × S target u)
-    → (flag ≡ true → (u : ℕ) × Arc past' n width row u × S target u)
+    → (flag ≡ false → (u : ℕ) × HasArc joined' n width row u × S target u)
+    → (flag ≡ true → (u : ℕ) × HasArc past' n width row u × S target u)
     → IsLessened S (graph_of_tables joined past n width) (graph_of_tables joined' past' n width)
 lessened_without S n width row target joined past joined' past' flag own room within first second is any marked =
     record {
@@ -235,7 +195,7 @@ lessened_without S n width row target joined past joined' past' flag own room wi
             elim (is_cell row target s t) [
               | inl (e, f) ↦
                   let (u, out, above) = answer in
-                  (u, subst (λ k. Arc joined' n width k u) (sym e) out, subst (λ k. S k u) (sym f) above)
+                  (u, subst (λ k. HasArc joined' n width k u) (sym e) out, subst (λ k. S k u) (sym f) above)
               | inr apart ↦ (t, arc_stays width row target joined joined' first n room s t arc apart, own t arc.1)
             ];
         past = λ s t arc.
@@ -243,7 +203,7 @@ lessened_without S n width row target joined past joined' past' flag own room wi
               | inl (e, f) ↦
                   let cell : HasCell past width row target = subst (λ k. HasCell past width row k) f (subst (λ k. HasCell past width k t) e arc.2) in
                   let (u, out, above) = marked (is ∙ cell) in
-                  (u, subst (λ k. Arc past' n width k u) (sym e) out, subst (λ k. S k u) (sym f) above)
+                  (u, subst (λ k. HasArc past' n width k u) (sym e) out, subst (λ k. S k u) (sym f) above)
               | inr apart ↦ (t, arc_stays width row target past past' second n room s t arc apart, own t arc.1)
             ];
       };
@@ -254,7 +214,7 @@ lessened_without S n width row target joined past joined' past' flag own room wi
         arc_stays width row target joined joined' first n room s t (within s t (arc_was width row target past past' second n room s t arc))
         (cell_differs width row target past past' second s t arc.2)
 
-    answer : (u : ℕ) × Arc joined' n width row u × S target u
+    answer : (u : ℕ) × HasArc joined' n width row u × S target u
     answer = either flag any marked (λ (u, out, above). (u, graph row u out, above))
 
 -- A cell is put back where it was.
@@ -281,10 +241,10 @@ kept_is_minimal :
     → n ≤ width * 64
     → IsWithout width row target old new
     → SameCells width back old
-    → ((u : ℕ) → Arc new n width row u → S target u → ⊥)
+    → ((u : ℕ) → HasArc new n width row u → S target u → ⊥)
     → (u : ℕ)
     → ¬ (u ≡ target)
-    → Arc back n width row u
+    → HasArc back n width row u
     → S target u
     → ⊥
 kept_is_minimal S n width row target old new back room without same none u differs (row_in, u_in, cell) above =
@@ -299,15 +259,15 @@ pub back_is_minimal :
     → SameCells width joined'' joined
     → SameCells width past'' past
     → flag ≡ cell_of past width row target
-    → (flag ≡ false → (u : ℕ) → Arc joined' n width row u → S target u → ⊥)
-    → (flag ≡ true → (u : ℕ) → Arc past' n width row u → S target u → ⊥)
-    → Arc joined'' n width row target
+    → (flag ≡ false → (u : ℕ) → HasArc joined' n width row u → S target u → ⊥)
+    → (flag ≡ true → (u : ℕ) → HasArc past' n width row u → S target u → ⊥)
+    → HasArc joined'' n width row target
     → IsDominated S (graph_of_tables joined'' past'' n width) row target
     → ⊥
 back_is_minimal S n width row target joined past joined' past' joined'' past'' flag room first second same_joined same_past is any marked arc d =
     either flag {X = ⊥} {Y = ⊥} (λ e. kept_is_minimal S n width row target joined joined' joined'' room first same_joined (any e) d.other d.differs d.arc d.related)
     (λ e.
-    let there : Arc past'' n width row target = (arc.0, arc.1, (same_past row target (omega arith)).1 (sym is ∙ e)) in
+    let there : HasArc past'' n width row target = (arc.0, arc.1, (same_past row target (omega arith)).1 (sym is ∙ e)) in
     kept_is_minimal S n width row target past past' past'' room second same_past (marked e) d.other d.differs (d.value there) d.related)
     (λ never. never)
 

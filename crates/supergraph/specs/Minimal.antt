@@ -21,13 +21,9 @@ pub record IsDominated (S : ℕ → ℕ → Type 0) (g : Graph) (s t : ℕ) : Ty
   pub related : S t other
   pub value : g.past s t → g.past s other
 
--- No arc of g from s is dominated.
-abbrev pub IsMinimalRow : (ℕ → ℕ → Type 0) → Graph → ℕ → Type 0
-IsMinimalRow S g s = (t : ℕ) → g.joined s t → IsDominated S g s t → ⊥
-
 -- No arc of g is dominated.
 abbrev pub IsMinimal : (ℕ → ℕ → Type 0) → Graph → Type 0
-IsMinimal S g = (s : ℕ) → IsMinimalRow S g s
+IsMinimal S g = (s t : ℕ) → g.joined s t → IsDominated S g s t → ⊥
 
 -- Arcs of the old graph were left out, each of them for another arc that covers it.
 pub record IsLessened (S : ℕ → ℕ → Type 0) (old new : Graph) : Type 0 where

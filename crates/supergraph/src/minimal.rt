@@ -3,16 +3,16 @@
 ghost use Rattle.std.specs.Prelude.{◌≡◌, ◌+◌, ◌*◌, ◌<◌, ◌≤◌, ◌^◌, ℕ, true, length, IfNone, IfSome};
 ghost use Rattle.auto_core.specs.Game.{Holds};
 ghost use Rattle.auto_core.specs.Graph.{IsGraph, graph_of_tables};
-ghost use Rattle.auto_core.specs.Reach.{Arc, IsTable};
+ghost use Rattle.auto_core.specs.Reach.{HasArc, IsTable};
 ghost use Rattle.bit_rel.specs.Relation.{IsPreorder};
 ghost use Rattle.graph_rows.specs.Added.{HasAdded};
 ghost use Rattle.graph_rows.specs.Block.{IsFormed, block_graph, width_of};
-ghost use Rattle.supergraph.specs.Minimal.{CoverEachOther, IsDominated, IsLessened, IsMinimal, IsMinimalRow, IsPartOf, IsWithout};
+ghost use Rattle.supergraph.specs.Minimal.{CoverEachOther, IsDominated, IsLessened, IsMinimal, IsPartOf, IsWithout};
 
 use auto_core::rows;
 use bit_rel::Rel;
 use graph_rows::answers;
-use row_steps::next_bit;
+use row_steps::has_no_other;
 
 /// Takes the arc to the target out of the row of both tables.
 fn take_out(width: usize, row: u32, target: u32, joined: &mut [u64], past: &mut [u64])
@@ -47,7 +47,7 @@ fn put_back(
     }
 }
 
-/// Takes the arc to the target out of the row, and puts it back where no other arc makes it needless.
+/// Takes the arc to the target out of the row, if it is there, and puts it back where no other arc makes it needless.
 fn lessen_arc(
     order: &Rel,
     width: usize,
@@ -61,14 +61,19 @@ fn lessen_arc(
     requires joined { IsTable joined.old order.now.size width }
     requires past { IsTable past.old order.now.size width }
     requires within { IsGraph (graph_of_tables joined.old past.old order.now.size width) }
-    requires arc { Arc joined.old order.now.size width row target }
+    requires few { width < 2 ^ 32 }
+    requires is_row { row < order.now.size }
+    requires is_target { target < order.now.size }
     ensures joined { IsTable joined.new order.now.size width }
     ensures past { IsTable past.new order.now.size width }
     ensures lessened { IsLessened (Holds order.now.pairs) (graph_of_tables joined.old past.old order.now.size width)
         (graph_of_tables joined.new past.new order.now.size width) }
-    ensures minimal { Arc joined.new order.now.size width row target
+    ensures minimal { HasArc joined.new order.now.size width row target
         → IsDominated (Holds order.now.pairs) (graph_of_tables joined.new past.new order.now.size width) row target → ⊥ }
 {
+    if !rows::has_cell(joined, width, row as usize, target as usize) {
+        return;
+    }
     let flagged = rows::has_cell(past, width, row as usize, target as usize);
     take_out(width, row, target, joined, past);
     if !answers(order, width, row, target, flagged, joined, past) {
@@ -76,41 +81,27 @@ fn lessen_arc(
     }
 }
 
-/// The first target, from this place on, of the arcs of the table out of the state of the row.
-fn next_target(states: u32, width: usize, row: u32, table: &[u64], from: usize) -> Option<u32>
-    requires few { width < 2 ^ 32 }
-    requires is_row { row < states }
-    requires table { IsTable table.now states width }
-    ensures found { IfSome result (λ t. Arc table.now states width row t × (from ≤ t)) }
-    ensures first { IfSome result (λ t. (q : ℕ) → from ≤ q → q < t → Arc table.now states width row q → ⊥) }
-    ensures none { IfNone result ((q : ℕ) → from ≤ q → Arc table.now states width row q → ⊥) }
-{
-    let targets = rows::row_at(table, width, row as usize);
-    match next_bit(targets, from) {
-        Some(target) => Some(target as u32),
-        None => None,
-    }
-}
-
-/// Takes the needless arcs out of the row.
-fn lessen_row(order: &Rel, width: usize, row: u32, joined: &mut [u64], past: &mut [u64])
+/// Takes the needless arcs to the target out of all rows.
+fn lessen_target(order: &Rel, width: usize, target: u32, joined: &mut [u64], past: &mut [u64])
     requires order { IsPreorder order.now.size order.now.pairs }
     requires few { width < 2 ^ 32 }
     requires width { width ≡ width_of order.now.size }
     requires joined { IsTable joined.old order.now.size width }
     requires past { IsTable past.old order.now.size width }
     requires within { IsGraph (graph_of_tables joined.old past.old order.now.size width) }
-    requires is_row { row < order.now.size }
+    requires is_target { target < order.now.size }
     ensures joined { IsTable joined.new order.now.size width }
     ensures past { IsTable past.new order.now.size width }
     ensures lessened { IsLessened (Holds order.now.pairs) (graph_of_tables joined.old past.old order.now.size width)
         (graph_of_tables joined.new past.new order.now.size width) }
-    ensures minimal { IsMinimalRow (Holds order.now.pairs) (graph_of_tables joined.new past.new order.now.size width) row }
+    ensures minimal { (s : ℕ) → HasArc joined.new order.now.size width s target
+        → IsDominated (Holds order.now.pairs) (graph_of_tables joined.new past.new order.now.size width) s target → ⊥ }
 {
-    let mut at = 0;
-    while let Some(target) = next_target(order.size(), width, row, joined, at) {
+    if has_no_other(order.row(target), target as usize) {
+        return;
+    }
+    for row in 0..order.size() {
         lessen_arc(order, width, row, target, joined, past);
-        at = target as usize + 1;
     }
 }
 
@@ -127,8 +118,8 @@ fn lessen(order: &Rel, width: usize, joined: &mut [u64], past: &mut [u64])
         (graph_of_tables joined.new past.new order.now.size width) }
     ensures minimal { IsMinimal (Holds order.now.pairs) (graph_of_tables joined.new past.new order.now.size width) }
 {
-    for row in 0..order.size() {
-        lessen_row(order, width, row, joined, past);
+    for target in 0..order.size() {
+        lessen_target(order, width, target, joined, past);
     }
 }
 

@@ -61,9 +61,9 @@ returns c =
     let S : List (ℕ × ℕ) = c.args.order.now.pairs in
     let limit : ℕ = c.args.limit in
     let f : Family = c.run.new.family in
-    let ended : HasEnded A B S limit fates.Full (entries_held A f) = subst (λ k. HasEnded A B S limit k (entries_held A f)) c.in-Full.is c.in_ok-fate.ensures.ended in
-    let origins : List Origin = c.in_ok-origins_of-in-Full.field-0 in
-    let is : origins ≡ map (λ (h : Held). h.origin) f.held.items = c.in_ok-origins_of-in-Full.ensures ∙ ap (map (λ (h : Held). h.origin)) c.deref-in-Full.ensures.value in
+    let ended : HasEnded A B S limit fates.Limit (entries_held A f) = subst (λ k. HasEnded A B S limit k (entries_held A f)) c.in-Limit.is c.in_ok-fate.ensures.ended in
+    let origins : List Origin = c.in_ok-origins_of-in-Limit.field-0 in
+    let is : origins ≡ map (λ (h : Held). h.origin) f.held.items = c.in_ok-origins_of-in-Limit.ensures ∙ ap (map (λ (h : Held). h.origin)) c.deref-in-Limit.ensures.value in
     let answer : IsWordOutcomeOf A B S limit (end.Limit origins) = (entries_held A f, ended, origins_are A f origins is) in
     record {
       answer = answer;

@@ -10,7 +10,7 @@ use Rattle.evidence.specs.Entries.{entry_of}
 use Rattle.antichain.specs.Kept.{IsFamily, IsPrepared, HasEntered, IsTold, entries_held}
 use Rattle.antichain.proofs.EntriesLemmas.{entries_entered}
 use Rattle.antichain.proofs.KeptLemmas.{entry_passes, entry_fails}
-use Rattle.antichain.proofs.TurnLemmas.{candidate_in_range, fits_together, entered_whole, come_full, come_in, told_passes, told_fails}
+use Rattle.antichain.proofs.TurnLemmas.{candidate_in_range, fits_together, entered_whole, come_limit, come_in, told_passes, told_fails}
 use Rattle.antichain.proofs.turns.admit.Goals as goal
 
 pub fails-failing-requires-clause-state : goal.fails-failing-requires-clause-state
@@ -41,7 +41,7 @@ returns-then-number-limit c = λ cs turn.
     let has : HasEntered S h old now = c.in_ok-enter.ensures in
     let family = entered_whole A B S c.requires.first_valid old now h c.requires.whole c.requires.candidate has in
     let count : c.len-number.result ≡ length old.held.items = c.len-number.ensures ∙ old.held.ok.0 in
-    come_full A B S c.args.limit old now h cs turn family has.held c.requires.whole.size c.requires.unmet (sym count ∙ c.if-number-limit.true)
+    come_limit A B S c.args.limit old now h cs turn family has.held c.requires.whole.size c.requires.unmet (sym count ∙ c.if-number-limit.true)
 
 pub returns-then-failing : goal.returns-then-failing
 returns-then-failing c = λ cs turn.
@@ -62,7 +62,7 @@ returns-then-failing c = λ cs turn.
     let told : IsTold A B S (es ++ x ∷ []) x (fates.Apart c.len-number.result) =
     (subst (λ k. At (es ++ x ∷ []) k x) (sym size ∙ sym count) (at_new es x), first) in
     let few = c.requires.few in
-    let not_full : c.len-number.result ≡ c.args.limit → ⊥ = c.if-number-limit.false in
+    let not_met : c.len-number.result ≡ c.args.limit → ⊥ = c.if-number-limit.false in
     come_in A B S c.args.limit old now h cs turn family has.held size c.requires.unmet (omega arith) (fates.Apart c.len-number.result)
     (subst (λ l. IsTold A B S l x (fates.Apart c.len-number.result)) (sym now_is) told)
 
@@ -84,6 +84,6 @@ returns c = λ cs turn.
     let told : PassesBefore (pair_rules A B S) (es ++ x ∷ []) x (length (es ++ x ∷ [])) =
     told_passes A B S es x (entry_passes A B S h x c.requires.candidate.kept (c.fails-failing.ensures.passes c.if-failing.false)) in
     let few = c.requires.few in
-    let not_full : c.len-number.result ≡ c.args.limit → ⊥ = c.if-number-limit.false in
+    let not_met : c.len-number.result ≡ c.args.limit → ⊥ = c.if-number-limit.false in
     come_in A B S c.args.limit old now h cs turn family has.held size c.requires.unmet (omega arith) fates.GoesOn
     (subst (λ l. PassesBefore (pair_rules A B S) l x (length l)) (sym now_is) told)

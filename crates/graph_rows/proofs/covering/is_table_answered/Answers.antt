@@ -1,6 +1,6 @@
 use Rattle.std.proofs.Common.{◌≡◌, ◌/◌, ℕ, true, false, inl, inr, refl, sym, ◌∙◌, subst, arith, rules}
 use Rattle.std.proofs.lemmas.Bool.{cases_eq, false≢true}
-use Rattle.auto_core.specs.Reach.{Arc}
+use Rattle.auto_core.specs.Reach.{HasArc}
 use Rattle.auto_core.specs.Game.{Holds}
 use Rattle.graph_rows.specs.Block.{width_of}
 use Rattle.graph_rows.specs.Covering.{AnswersArcs, AnswersWord}
@@ -18,7 +18,7 @@ returns-then-not-is_word_answered c =
       λ all.
           absurd (false≢true (sym refused
           ∙ c.is_word_answered.ensures.1
-          (subst (λ w. AnswersWord (Holds c.args.order.now.pairs) (Arc c.args.own.now n w) (Arc c.args.others.now n w) c.loop-word.word) (sym same) (λ s t in_word arc. all s t arc)))),
+          (subst (λ w. AnswersWord (Holds c.args.order.now.pairs) (HasArc c.args.own.now n w) (HasArc c.args.others.now n w) c.loop-word.word) (sym same) (λ s t in_word arc. all s t arc)))),
     )
 
 pub loop-word-preserved : goal.loop-word-preserved
@@ -33,7 +33,7 @@ pub returns : goal.returns
 returns c =
     let n : ℕ = c.args.order.now.size in
     let same : c.words_for-width.result ≡ width_of n = search rules in (
-      λ told. subst (λ w. AnswersArcs (Holds c.args.order.now.pairs) (Arc c.args.own.now n w) (Arc c.args.others.now n w)) same
+      λ told. subst (λ w. AnswersArcs (Holds c.args.order.now.pairs) (HasArc c.args.own.now n w) (HasArc c.args.others.now n w)) same
           (λ s t arc. c.loop-word.invariant s t (omega (arith, arc.1, same)) arc),
       λ all. refl,
     )

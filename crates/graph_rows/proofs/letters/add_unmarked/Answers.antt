@@ -2,7 +2,7 @@ use Rattle.std.proofs.Common.{◌≡◌, ℕ, ◌+◌, ◌*◌, ◌^◌, ◌<◌
 use Rattle.std.proofs.lemmas.Bool.{cases_eq, false≢true}
 use Rattle.auto_core.specs.Automaton.{IsAccepting, Moves}
 use Rattle.auto_core.specs.Rows.{HasBit, HasCell, bit_of, cell_of}
-use Rattle.auto_core.specs.Reach.{Arc}
+use Rattle.auto_core.specs.Reach.{HasArc}
 use Rattle.graph_rows.specs.Added.{FollowsFrom, HasAdded, IsUnmarked}
 use Rattle.graph_rows.proofs.AddedLemmas.{added_none, added_then, added_as}
 use Rattle.graph_rows.proofs.ExtensionLemmas.{Through, through_none, through_more, through_skip, through_all, no_arc}
@@ -24,7 +24,7 @@ loop-middle-init c =
     let a : ℕ = c.args.label in
     let w : ℕ = c.args.width in
     let row : ℕ = c.args.row in
-    let From : ℕ → Type 0 = IsUnmarked (Arc c.args.from_joined.now A.states w row) (cell_of c.args.from_past.now w row) in
+    let From : ℕ → Type 0 = IsUnmarked (HasArc c.args.from_joined.now A.states w row) (cell_of c.args.from_past.now w row) in
     let C : ℕ → ℕ → Type 0 = λ m q. Moves A m a q in
     let D : ℕ → ℕ → Type 0 = λ m q. Moves A m a q × IsAccepting A q in (
       added_none w row (Through From 0 C) c.args.joined.now (through_none From C),
@@ -46,7 +46,7 @@ loop-middle-preserved c =
     let between : (k : ℕ) → at ≤ k → k < middle → bit_of c.row_at-reached.result.now k ≡ false = search rules in
     let cell : HasCell c.args.from_joined.now w row middle = sym (c.row_at-reached.ensures.bits middle near) ∙ found in
     let is_state : middle < A.states = c.requires.from_joined.columns row middle c.requires.is_row near cell in
-    let R : ℕ → Type 0 = Arc c.args.from_joined.now A.states w row in
+    let R : ℕ → Type 0 = HasArc c.args.from_joined.now A.states w row in
     let From : ℕ → Type 0 = IsUnmarked R (cell_of c.args.from_past.now w row) in
     let arc : R middle = (c.requires.is_row, is_state, cell) in
     let free : (k : ℕ) → at ≤ k → k < middle → From k → ⊥ = λ k k_from k_to both.
@@ -88,7 +88,7 @@ returns-clause-joined c =
     let row : ℕ = c.args.row in
     let at : ℕ = c.loop-middle.at in
     let none : (k : ℕ) → at ≤ k → bit_of c.row_at-reached.result.now k ≡ false = search rules in
-    let From : ℕ → Type 0 = IsUnmarked (Arc c.args.from_joined.now A.states w row) (cell_of c.args.from_past.now w row) in
+    let From : ℕ → Type 0 = IsUnmarked (HasArc c.args.from_joined.now A.states w row) (cell_of c.args.from_past.now w row) in
     let free : (k : ℕ) → at ≤ k → From k → ⊥ = λ k k_from both.
     no_arc c.args.from_joined.now c.row_at-reached.result.now A.states w row k c.row_at-reached.ensures.bits c.requires.from_joined.room (none k k_from) both.0 in
     let C : ℕ → ℕ → Type 0 = λ m q. Moves A m a q in
@@ -103,7 +103,7 @@ returns-clause-past c =
     let row : ℕ = c.args.row in
     let at : ℕ = c.loop-middle.at in
     let none : (k : ℕ) → at ≤ k → bit_of c.row_at-reached.result.now k ≡ false = search rules in
-    let From : ℕ → Type 0 = IsUnmarked (Arc c.args.from_joined.now A.states w row) (cell_of c.args.from_past.now w row) in
+    let From : ℕ → Type 0 = IsUnmarked (HasArc c.args.from_joined.now A.states w row) (cell_of c.args.from_past.now w row) in
     let free : (k : ℕ) → at ≤ k → From k → ⊥ = λ k k_from both.
     no_arc c.args.from_joined.now c.row_at-reached.result.now A.states w row k c.row_at-reached.ensures.bits c.requires.from_joined.room (none k k_from) both.0 in
     let D : ℕ → ℕ → Type 0 = λ m q. Moves A m a q × IsAccepting A q in

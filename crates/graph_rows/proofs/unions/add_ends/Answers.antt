@@ -1,6 +1,6 @@
 use Rattle.std.proofs.Common.{◌≡◌, ℕ, ◌-◌, ◌*◌, inl, inr, length, arith}
 use Rattle.auto_core.specs.Rows.{HasBit}
-use Rattle.auto_core.specs.Reach.{Arc}
+use Rattle.auto_core.specs.Reach.{HasArc}
 use Rattle.graph_rows.specs.Added.{FollowsFrom}
 use Rattle.graph_rows.proofs.UnionLemmas.{words_added, halves_added}
 use Rattle.graph_rows.proofs.unions.add_ends.Goals as goal
@@ -10,7 +10,7 @@ returns-clause-joined g c =
     let w : ℕ = c.args.width in
     let h : ℕ = g.row.N in
     let row : ℕ = c.args.row in
-    let F : ℕ → Type 0 = FollowsFrom (HasBit c.args.marks.now) (Arc c.args.table.now c.args.count w) in
+    let F : ℕ → Type 0 = FollowsFrom (HasBit c.args.marks.now) (HasArc c.args.table.now c.args.count w) in
     let len : h * 64 ≡ length c.gather.new.low * 64 = omega arith in
     halves_added c.args.joined.now c.add_words.new.table c.add_words-2.new.table w row h F c.requires.half c.requires.halves
     (words_added c.args.joined.now c.add_words.new.table c.gather.new.low w row 0 (h * 64) F c.gather.ensures.low
@@ -25,7 +25,7 @@ returns-clause-past g c =
     let w : ℕ = c.args.width in
     let h : ℕ = g.row.N in
     let row : ℕ = c.args.row in
-    let F : ℕ → Type 0 = FollowsFrom (HasBit c.args.marks.now) (Arc c.args.table.now c.args.count w) in
+    let F : ℕ → Type 0 = FollowsFrom (HasBit c.args.marks.now) (HasArc c.args.table.now c.args.count w) in
     let len : h * 64 ≡ length c.gather.new.low * 64 = omega arith in
     halves_added c.args.past.now c.add_words-3.new.table c.add_words-4.new.table w row h F c.requires.half c.requires.halves
     (words_added c.args.past.now c.add_words-3.new.table c.gather.new.low w row 0 (h * 64) F c.gather.ensures.low

@@ -2,7 +2,7 @@ use Rattle.std.proofs.Common.{◌≡◌, ℕ, ◌+◌, ◌*◌, ◌<◌, ◌≤�
 use Rattle.std.proofs.lemmas.Bool.{false≢true}
 use Rattle.std.proofs.lemmas.Nat.{row_fits}
 use Rattle.auto_core.specs.Rows.{HasBit, bit_of}
-use Rattle.auto_core.specs.Reach.{Arc}
+use Rattle.auto_core.specs.Reach.{HasArc}
 use Rattle.graph_rows.specs.Added.{FollowsFrom}
 use Rattle.graph_rows.proofs.AddedLemmas.{added_none, added_then, added_as, added_row}
 use Rattle.graph_rows.proofs.ArcLemmas.{row_marks}
@@ -18,7 +18,7 @@ pub loop-middle-init : goal.loop-middle-init
 loop-middle-init c =
     let w : ℕ = c.args.width in
     let From : ℕ → Type 0 = HasBit c.args.marks.now in
-    let R : ℕ → ℕ → Type 0 = Arc c.args.table.now c.args.count w in (
+    let R : ℕ → ℕ → Type 0 = HasArc c.args.table.now c.args.count w in (
       added_none w c.args.row (Through From 0 R) c.args.joined.now (through_none From R),
       added_none w c.args.row (Through From 0 R) c.args.past.now (through_none From R),
       omega arith,
@@ -32,7 +32,7 @@ loop-middle-preserved c =
     let at : ℕ = c.loop-middle.at in
     let middle : ℕ = c.in-Some.middle in
     let From : ℕ → Type 0 = HasBit c.args.marks.now in
-    let R : ℕ → ℕ → Type 0 = Arc c.args.table.now n w in
+    let R : ℕ → ℕ → Type 0 = HasArc c.args.table.now n w in
     let here : HasBit c.args.marks.now middle = search rules in
     let from : at ≤ middle = search rules in
     let none : (k : ℕ) → at ≤ k → k < middle → bit_of c.args.marks.now k ≡ false = search rules in
@@ -40,14 +40,14 @@ loop-middle-preserved c =
     let middle_in : middle < n = c.requires.marks_below middle here in
     let marks = row_marks c.args.table.now c.row_at-moves.result.now n w middle c.requires.table middle_in c.row_at-moves.ensures.bits c.row_at-moves.ensures.outside in
     let free : (k : ℕ) → at ≤ k → k < middle → From k → ⊥ = λ k k_from k_to has. false≢true (sym (none k k_from k_to) ∙ has) in (
-      added_then w row (Through From at R) (R middle) (Through From (middle + 1) R) c.args.joined.now c.loop-middle.joined c.or_row.new.table
+      added_then w row (Through From at R) (R middle) (Through From (middle + 1) R) c.args.joined.now c.loop-middle.joined c.add_whole_row.new.table
           (λ q q_in. through_more From at middle R (R middle) from here free q (λ h. h, λ h. h))
           c.loop-middle.invariant.0
-          (added_row w row (R middle) c.row_at-moves.result.now c.loop-middle.joined c.or_row.new.table marks c.or_row.ensures.here c.or_row.ensures.others),
-      added_then w row (Through From at R) (R middle) (Through From (middle + 1) R) c.args.past.now c.loop-middle.past c.or_row-in-Some.new.table
+          (added_row w row (R middle) c.row_at-moves.result.now c.loop-middle.joined c.add_whole_row.new.table marks c.add_whole_row.ensures.here c.add_whole_row.ensures.others),
+      added_then w row (Through From at R) (R middle) (Through From (middle + 1) R) c.args.past.now c.loop-middle.past c.add_whole_row-in-Some.new.table
           (λ q q_in. through_more From at middle R (R middle) from here free q (λ h. h, λ h. h))
           c.loop-middle.invariant.1
-          (added_row w row (R middle) c.row_at-moves.result.now c.loop-middle.past c.or_row-in-Some.new.table marks c.or_row-in-Some.ensures.here c.or_row-in-Some.ensures.others),
+          (added_row w row (R middle) c.row_at-moves.result.now c.loop-middle.past c.add_whole_row-in-Some.new.table marks c.add_whole_row-in-Some.ensures.here c.add_whole_row-in-Some.ensures.others),
       omega arith,
     )
 
@@ -55,7 +55,7 @@ pub returns-clause-joined : goal.returns-clause-joined
 returns-clause-joined c =
     let w : ℕ = c.args.width in
     let From : ℕ → Type 0 = HasBit c.args.marks.now in
-    let R : ℕ → ℕ → Type 0 = Arc c.args.table.now c.args.count w in
+    let R : ℕ → ℕ → Type 0 = HasArc c.args.table.now c.args.count w in
     let none : (k : ℕ) → c.loop-middle.at ≤ k → bit_of c.args.marks.now k ≡ false = search rules in
     added_as w c.args.row (Through From c.loop-middle.at R) (FollowsFrom From R) c.args.joined.now c.loop-middle.joined
     (λ q q_in. through_all From c.loop-middle.at R (λ k k_from has. false≢true (sym (none k k_from) ∙ has)) q) c.loop-middle.invariant.0
@@ -64,7 +64,7 @@ pub returns-clause-past : goal.returns-clause-past
 returns-clause-past c =
     let w : ℕ = c.args.width in
     let From : ℕ → Type 0 = HasBit c.args.marks.now in
-    let R : ℕ → ℕ → Type 0 = Arc c.args.table.now c.args.count w in
+    let R : ℕ → ℕ → Type 0 = HasArc c.args.table.now c.args.count w in
     let none : (k : ℕ) → c.loop-middle.at ≤ k → bit_of c.args.marks.now k ≡ false = search rules in
     added_as w c.args.row (Through From c.loop-middle.at R) (FollowsFrom From R) c.args.past.now c.loop-middle.past
     (λ q q_in. through_all From c.loop-middle.at R (λ k k_from has. false≢true (sym (none k k_from) ∙ has)) q) c.loop-middle.invariant.1

@@ -1,7 +1,7 @@
 use Rattle.std.proofs.Common.{◌≡◌, ℕ, ◌-◌, ◌*◌, ◌<◌, ◌≤◌, false, arith, rules}
 use Rattle.std.proofs.lemmas.Nat.{row_fits}
 use Rattle.auto_core.specs.Rows.{HasBit, bit_of}
-use Rattle.auto_core.specs.Reach.{Arc}
+use Rattle.auto_core.specs.Reach.{HasArc}
 use Rattle.graph_rows.proofs.UnionLemmas.{gathered_none, gathered_more, gathered_all}
 use Rattle.graph_rows.proofs.unions.gather.Goals as goal
 
@@ -12,7 +12,7 @@ row_at-moves-requires g c =
 
 pub loop-middle-init : goal.loop-middle-init
 loop-middle-init g c =
-    let R : ℕ → ℕ → Type 0 = Arc c.args.table.now c.args.count c.args.width in (
+    let R : ℕ → ℕ → Type 0 = HasArc c.args.table.now c.args.count c.args.width in (
       gathered_none (HasBit c.args.marks.now) R 0 (g.row.N * 64) c.clear_row.new.row c.clear_row.ensures,
       gathered_none (HasBit c.args.marks.now) R ((c.args.width - g.row.N) * 64) (g.row.N * 64) c.clear_row-2.new.row c.clear_row-2.ensures,
       omega arith,
@@ -31,21 +31,21 @@ loop-middle-preserved g c =
     let near : middle < w * 64 = search rules in
     let middle_in : middle < n = c.requires.marks_below middle here in
     let fits : h ≤ w = c.requires.half in (
-      gathered_more c.args.table.now c.args.marks.now c.row_at-moves.result.now c.loop-middle.low c.or_words.new.into n w at middle 0 (h * 64) 0
+      gathered_more c.args.table.now c.args.marks.now c.row_at-moves.result.now c.loop-middle.low c.join_words.new.into n w at middle 0 (h * 64) 0
           c.requires.table middle_in (omega arith) from here none (omega arith) c.row_at-moves.ensures.bits
-          (λ i i_in. c.or_words.ensures i (omega (arith, i_in))) c.loop-middle.invariant.0,
-      gathered_more c.args.table.now c.args.marks.now c.row_at-moves.result.now c.loop-middle.high c.or_words-in-Some.new.into n w at middle ((w - h) * 64) (h * 64) (w - h)
+          (λ i i_in. c.join_words.ensures i (omega (arith, i_in))) c.loop-middle.invariant.0,
+      gathered_more c.args.table.now c.args.marks.now c.row_at-moves.result.now c.loop-middle.high c.join_words-in-Some.new.into n w at middle ((w - h) * 64) (h * 64) (w - h)
           c.requires.table middle_in (omega arith) from here none (omega arith) c.row_at-moves.ensures.bits
-          (λ i i_in. c.or_words-in-Some.ensures i (omega (arith, i_in))) c.loop-middle.invariant.1,
+          (λ i i_in. c.join_words-in-Some.ensures i (omega (arith, i_in))) c.loop-middle.invariant.1,
       omega arith,
     )
 
 pub returns-clause-low : goal.returns-clause-low
 returns-clause-low g c =
     let none : (k : ℕ) → c.loop-middle.at ≤ k → bit_of c.args.marks.now k ≡ false = search rules in
-    gathered_all c.args.marks.now c.loop-middle.low (Arc c.args.table.now c.args.count c.args.width) c.loop-middle.at 0 (g.row.N * 64) none c.loop-middle.invariant.0
+    gathered_all c.args.marks.now c.loop-middle.low (HasArc c.args.table.now c.args.count c.args.width) c.loop-middle.at 0 (g.row.N * 64) none c.loop-middle.invariant.0
 
 pub returns-clause-high : goal.returns-clause-high
 returns-clause-high g c =
     let none : (k : ℕ) → c.loop-middle.at ≤ k → bit_of c.args.marks.now k ≡ false = search rules in
-    gathered_all c.args.marks.now c.loop-middle.high (Arc c.args.table.now c.args.count c.args.width) c.loop-middle.at ((c.args.width - g.row.N) * 64) (g.row.N * 64) none c.loop-middle.invariant.1
+    gathered_all c.args.marks.now c.loop-middle.high (HasArc c.args.table.now c.args.count c.args.width) c.loop-middle.at ((c.args.width - g.row.N) * 64) (g.row.N * 64) none c.loop-middle.invariant.1

@@ -95,7 +95,7 @@ returns c =
     let count : length f.held.items ≡ length (view g f).held = sym (length-map f.held.items (seen g)) in
     let marked : AreMarked n S (view g f) (length (view g f).held) c.in_ok-elements.elements = subst (λ k. AreMarked n S (view g f) k c.in_ok-elements.elements) count c.in_ok-elements.ensures.elements in
     record {
-      pool = (c.steps.ensures.pool.0 ∙ c.cover.ensures.pool.0, c.steps.ensures.pool.1 ∙ c.cover.ensures.pool.1);
+      pool = (c.steps.ensures.pool.0 ∙ c.cover.ensures.pool.0, c.steps.ensures.pool.1 ∙ c.cover.ensures.pool.1, c.steps.ensures.pool.2 ∙ c.cover.ensures.pool.2);
       grown = grown_more g c.cover.new.graphs.graphs.items c.steps.new.graphs.graphs.items c.in_ok-cover.ensures.grown c.in_ok-steps.ensures.grown;
       evidence = closure_is A B S c.requires.closed.0 c.requires.first_valid c.requires.second_valid c.requires.greatest (view g f) c.requires.whole c.requires.closed.1 n c.requires.order_size closure
           marked c.in_ok-cover.ensures.size c.in_ok-cover.ensures.each

@@ -67,7 +67,7 @@ loop-t-init c =
     let S : List (ℕ × ℕ) = c.args.order.now.pairs in
     let g : List (List ℕ) = c.args.graphs.now.graphs.items in
     record {
-      pool = (refl, refl);
+      pool = (refl, refl, refl);
       stock = c.requires.stock;
       told = c.requires.told;
       grown = grown_none g;
@@ -126,7 +126,7 @@ loop-t-preserved c =
     let more = length-append c.loop-t.by (c.marked_coverer.result ∷ []) in
     let total = ap length pushed in
     record {
-      pool = (c.next_candidate.ensures.pool.0 ∙ c.loop-t.invariant.pool.0, c.next_candidate.ensures.pool.1 ∙ c.loop-t.invariant.pool.1);
+      pool = (c.next_candidate.ensures.pool.0 ∙ c.loop-t.invariant.pool.0, c.next_candidate.ensures.pool.1 ∙ c.loop-t.invariant.pool.1, c.next_candidate.ensures.pool.2 ∙ c.loop-t.invariant.pool.2);
       stock = c.in_ok-next.ensures.stock;
       told = subst (λ m. AreCoverings m S g_now c.marked_coverer.new.told) c.requires.order_size c.marked_coverer.ensures.told;
       grown = grown_more c.args.graphs.now.graphs.items c.loop-t.graphs.graphs.items g_now c.loop-t.invariant.grown c.in_ok-next.ensures.grown;

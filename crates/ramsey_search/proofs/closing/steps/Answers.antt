@@ -44,7 +44,7 @@ flag_is c =
 pub loop-element-init : goal.loop-element-init
 loop-element-init c =
     record {
-      pool = (refl, refl);
+      pool = (refl, refl, refl);
       stock = c.requires.stock;
       told = c.requires.told;
       grown = grown_none c.args.graphs.now.graphs.items;
@@ -93,7 +93,7 @@ loop-element-preserved c =
           let step : IsStepOf (supergraph_rules A B S) (entries_held A old) line = subst (λ v. IsStepOf (supergraph_rules A B S) (entries_held A v) line) same w.in_ok-step_line.ensures.step in
           record {
             pool = subst (λ (m : Graphs). SamePool c.args.graphs.now.graphs m.graphs) (sym w.graphs-is)
-                (w.step_line.ensures.pool.0 ∙ c.loop-element.invariant.pool.0, w.step_line.ensures.pool.1 ∙ c.loop-element.invariant.pool.1);
+                (w.step_line.ensures.pool.0 ∙ c.loop-element.invariant.pool.0, w.step_line.ensures.pool.1 ∙ c.loop-element.invariant.pool.1, w.step_line.ensures.pool.2 ∙ c.loop-element.invariant.pool.2);
             stock = subst (IsStock B (MinimisedBy c.args.order.now.pairs)) (sym w.graphs-is) w.in_ok-step_line.ensures.stock;
             told = subst (λ (m : Graphs). AreCoverings B.states S m.graphs.items c.if-index.told) (sym w.graphs-is)
                 (subst (λ (m : Coverings). AreCoverings B.states S w.step_line.new.graphs.graphs.items m) (sym w.told-is) w.in_ok-step_line.ensures.told);

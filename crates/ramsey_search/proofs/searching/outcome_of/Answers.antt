@@ -17,7 +17,7 @@ use Rattle.ramsey_search.proofs.WholeLemmas.{held_names, word_is, inside, origin
 use Rattle.ramsey_search.proofs.SeenLemmas.{origins_seen, entry_at, held_stands}
 use Rattle.ramsey_search.proofs.AnswerLemmas.{answer_is_true}
 use Rattle.ramsey_search.proofs.searching.outcome_of.Goals as goal
-use Rattle.ramsey_search.proofs.searching.outcome_of.Goals.{After-as_slice, In_ok-lasso_of-in-Apart, In_ok-origins_of-in-Full}
+use Rattle.ramsey_search.proofs.searching.outcome_of.Goals.{After-as_slice, In_ok-lasso_of-in-Apart, In_ok-origins_of-in-Limit}
 
 -- How the search ended where it told two elements apart, and the origins.
 ended : (c : goal.After-as_slice) → HasEnded c.args.first.now c.args.second.now c.args.order.now.pairs c.args.limit (fates.Apart c.in-Apart.x c.in-Apart.y) (entries_held c.args.first.now (view c.run.new.graphs.graphs.items c.run.new.family))
@@ -77,23 +77,23 @@ returns-in_ok-lasso_of-in-Apart-clause-truth c =
     (lasso_answers (goal.at.returns-in_ok-lasso_of-in-Apart-clause-truth c).In_ok-lasso_of-in-Apart)
 
 -- The list is the outcome.
-list_answers : (c : goal.In_ok-origins_of-in-Full) → IsOutcomeOf c.args.first.now c.args.second.now c.args.order.now.pairs c.args.limit (end.Limit c.in_ok-origins_of-in-Full.field-0)
+list_answers : (c : goal.In_ok-origins_of-in-Limit) → IsOutcomeOf c.args.first.now c.args.second.now c.args.order.now.pairs c.args.limit (end.Limit c.in_ok-origins_of-in-Limit.field-0)
 list_answers c =
     let A : Automaton = c.args.first.now in
     let f : View = view c.run.new.graphs.graphs.items c.run.new.family in
-    let how : HasEnded A c.args.second.now c.args.order.now.pairs c.args.limit fates.Full (entries_held A f) =
-    subst (λ k. HasEnded A c.args.second.now c.args.order.now.pairs c.args.limit k (entries_held A f)) c.in-Full.is c.in_ok-fate.ensures.ended in
-    let origins : List Origin = c.in_ok-origins_of-in-Full.field-0 in
-    let is : origins ≡ map (λ (h : Seen). h.origin) f.held = c.in_ok-origins_of-in-Full.ensures ∙ ap (map (λ (h : Held). h.origin)) c.deref-in-Full.ensures.value ∙ origins_seen c.run.new.graphs.graphs.items c.run.new.family.held.items in
+    let how : HasEnded A c.args.second.now c.args.order.now.pairs c.args.limit fates.Limit (entries_held A f) =
+    subst (λ k. HasEnded A c.args.second.now c.args.order.now.pairs c.args.limit k (entries_held A f)) c.in-Limit.is c.in_ok-fate.ensures.ended in
+    let origins : List Origin = c.in_ok-origins_of-in-Limit.field-0 in
+    let is : origins ≡ map (λ (h : Seen). h.origin) f.held = c.in_ok-origins_of-in-Limit.ensures ∙ ap (map (λ (h : Held). h.origin)) c.deref-in-Limit.ensures.value ∙ origins_seen c.run.new.graphs.graphs.items c.run.new.family.held.items in
     (entries_held A f, how, origins_are A f origins is)
 
-pub returns-in_ok-origins_of-in-Full-clause-answer : goal.returns-in_ok-origins_of-in-Full-clause-answer
-returns-in_ok-origins_of-in-Full-clause-answer c = list_answers (goal.at.returns-in_ok-origins_of-in-Full-clause-answer c).In_ok-origins_of-in-Full
+pub returns-in_ok-origins_of-in-Limit-clause-answer : goal.returns-in_ok-origins_of-in-Limit-clause-answer
+returns-in_ok-origins_of-in-Limit-clause-answer c = list_answers (goal.at.returns-in_ok-origins_of-in-Limit-clause-answer c).In_ok-origins_of-in-Limit
 
-pub returns-in_ok-origins_of-in-Full-clause-truth : goal.returns-in_ok-origins_of-in-Full-clause-truth
-returns-in_ok-origins_of-in-Full-clause-truth c =
-    answer_is_true c.args.first.now c.args.second.now c.args.order.now.pairs c.args.limit c.requires.second_valid c.requires.greatest (end.Limit c.in_ok-origins_of-in-Full.field-0)
-    (list_answers (goal.at.returns-in_ok-origins_of-in-Full-clause-truth c).In_ok-origins_of-in-Full)
+pub returns-in_ok-origins_of-in-Limit-clause-truth : goal.returns-in_ok-origins_of-in-Limit-clause-truth
+returns-in_ok-origins_of-in-Limit-clause-truth c =
+    answer_is_true c.args.first.now c.args.second.now c.args.order.now.pairs c.args.limit c.requires.second_valid c.requires.greatest (end.Limit c.in_ok-origins_of-in-Limit.field-0)
+    (list_answers (goal.at.returns-in_ok-origins_of-in-Limit-clause-truth c).In_ok-origins_of-in-Limit)
 
 pub give_blocks-requires-clause-within : goal.give_blocks-requires-clause-within
 give_blocks-requires-clause-within c = λ i h is.

@@ -11,7 +11,7 @@ use Rattle.ramsey_search.specs.Views.{Seen, View, seen, view}
 use Rattle.ramsey_search.specs.Kept.{IsFamily, HasEntered, IsTold, entries_held, IsWhole}
 use Rattle.ramsey_search.proofs.EntriesLemmas.{entries_entered}
 use Rattle.ramsey_search.proofs.SeenLemmas.{entry_at, held_stands}
-use Rattle.ramsey_search.proofs.TurnLemmas.{ends_in_family, held_in_range, fits_together, entered_whole, come_full, come_in, is_whole}
+use Rattle.ramsey_search.proofs.TurnLemmas.{ends_in_family, held_in_range, fits_together, entered_whole, come_limit, come_in, is_whole}
 use Rattle.ramsey_search.proofs.turns.admit.Goals as goal
 use Rattle.ramsey_search.proofs.turns.admit.Goals.{In_ok-enter}
 
@@ -60,7 +60,7 @@ returns-then-number-limit-clause-come c =
     let family : IsFamily A B S now (es ++ x ∷ []) = entered (goal.at.returns-then-number-limit-clause-come c).In_ok-enter in
     let same : length old.held ≡ length c.args.family.now.held.items = length-map c.args.family.now.held.items (seen graphs) in
     let count : c.len-number.result ≡ length old.held = c.len-number.ensures ∙ c.args.family.now.held.ok.0 ∙ sym same in
-    come_full A B S c.args.limit old now h cs turn family has.held c.requires.whole.size c.requires.unmet (sym count ∙ c.if-number-limit.true)
+    come_limit A B S c.args.limit old now h cs turn family has.held c.requires.whole.size c.requires.unmet (sym count ∙ c.if-number-limit.true)
 
 pub returns-then-number-limit-clause-answers : goal.returns-then-number-limit-clause-answers
 returns-then-number-limit-clause-answers c =
@@ -138,8 +138,8 @@ returns-clause-come c =
     let there : At (entries_held A now) c.len-number.result x = subst (λ l. At l c.len-number.result x) (sym now_is) (subst (λ k. At (es ++ x ∷ []) k x) (sym size ∙ sym count) (at_new es x)) in
     let told : IsTold A B S (entries_held A now) x c.first_failing.result = c.first_failing.ensures.failing S x c.requires.greatest whole there in
     let few = c.requires.few in
-    let not_full : c.len-number.result ≡ c.args.limit → ⊥ = c.if-number-limit.false in
-    come_in A B S c.args.limit old now h cs turn family has.held size c.requires.unmet (below c.len-number.result (length old.held) (length c.args.family.now.held.items) c.args.limit count same few not_full) c.first_failing.result told
+    let not_met : c.len-number.result ≡ c.args.limit → ⊥ = c.if-number-limit.false in
+    come_in A B S c.args.limit old now h cs turn family has.held size c.requires.unmet (below c.len-number.result (length old.held) (length c.args.family.now.held.items) c.args.limit count same few not_met) c.first_failing.result told
   where
     below : (number seen_count held_count limit : ℕ) → number ≡ seen_count → seen_count ≡ held_count → held_count ≤ limit → (number ≡ limit → ⊥) → seen_count < limit
     below number seen_count held_count limit a b few other = omega arith

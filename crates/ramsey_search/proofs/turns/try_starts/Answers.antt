@@ -74,7 +74,7 @@ loop-t-preserved c =
     record {
       come = subst (λ k. HasCome A c.args.second.now S c.args.limit old now k R.starts rest 0 0) c.in-GoesOn.is
           (comes_next A c.args.second.now S c.args.limit old (view g_now c.loop-t.family) now R.starts rest (base_entry A c.loop-t.t) 0 0 (seen g_now c.in_ok-new.new) c.in_ok-fate.fate come.0 come.1.is c.in_ok-fate.ensures.come);
-      pool = (c.base_candidate.ensures.pool.0 ∙ c.loop-t.invariant.pool.0, c.base_candidate.ensures.pool.1 ∙ c.loop-t.invariant.pool.1);
+      pool = (c.base_candidate.ensures.pool.0 ∙ c.loop-t.invariant.pool.0, c.base_candidate.ensures.pool.1 ∙ c.loop-t.invariant.pool.1, c.base_candidate.ensures.pool.2 ∙ c.loop-t.invariant.pool.2);
       stock = c.in_ok-new.ensures.stock;
       answers = c.consider.ensures.answers;
     }

@@ -88,7 +88,7 @@ loop-t-init c =
           let to : h.arc.to ≡ x.arc.to = ap (λ (a : WordArc). a.to) (held_stands A B S g f c.requires.whole turn h x h_is x_is).arc in
           turn_begins A B S c.args.limit old turn c.outgoing-out.result.begin c.outgoing-out.result.end x c.requires.whole (few_seen g f c.args.limit c.requires.few) x_is (flag ∙ c.if-not-index.false)
           (subst (λ p. IsOutgoing A p c.outgoing-out.result.begin c.outgoing-out.result.end) to c.outgoing-out.ensures.range);
-      pool = (refl, refl);
+      pool = (refl, refl, refl);
       stock = c.requires.stock;
       answers = c.requires.answers;
     }
@@ -163,7 +163,7 @@ loop-t-preserved c =
           subst (λ k. HasCome A c.args.second.now S c.args.limit old now k [] rest turn (turn + 1)) c.in-GoesOn.is
           (comes_next A c.args.second.now S c.args.limit old (view g_now c.loop-t.family) now [] rest (next_entry A turn x c.loop-t.t) turn (turn + 1) (seen g_now c.in_ok-new.new) c.in_ok-fate.fate come.0 come.1.is
           c.in_ok-fate.ensures.come);
-      pool = (c.next_candidate.ensures.pool.0 ∙ c.loop-t.invariant.pool.0, c.next_candidate.ensures.pool.1 ∙ c.loop-t.invariant.pool.1);
+      pool = (c.next_candidate.ensures.pool.0 ∙ c.loop-t.invariant.pool.0, c.next_candidate.ensures.pool.1 ∙ c.loop-t.invariant.pool.1, c.next_candidate.ensures.pool.2 ∙ c.loop-t.invariant.pool.2);
       stock = c.in_ok-new.ensures.stock;
       answers = c.consider.ensures.answers;
     }

@@ -2,8 +2,18 @@ use Rattle.std.proofs.Common.{ℕ, refl, sym, ◌∙◌, rules}
 use Rattle.std.proofs.lemmas.Bool.{false≢true}
 use Rattle.auto_core.specs.Game.{Holds}
 use Rattle.auto_core.specs.Graph.{graph_of_tables}
-use Rattle.supergraph.proofs.MinimalLemmas.{SameCells, joined_back, past_back, table_same, table_without, graph_same, lessened_same, lessened_without, back_is_minimal}
+use Rattle.supergraph.proofs.MinimalLemmas.{SameCells, joined_back, past_back, table_same, table_without, graph_same, lessened_refl, lessened_same, lessened_without, back_is_minimal}
 use Rattle.supergraph.proofs.minimal.lessen_arc.Goals as goal
+
+pub returns-then-not-has_cell : goal.returns-then-not-has_cell
+returns-then-not-has_cell c =
+    let g = graph_of_tables c.args.joined.now c.args.past.now c.args.order.now.size c.args.width in
+    record {
+      joined = c.requires.joined;
+      past = c.requires.past;
+      lessened = lessened_refl (Holds c.args.order.now.pairs) g c.requires.within (λ s t arc. c.requires.order.reflexive t arc.1);
+      minimal = λ arc d. search rules;
+    }
 
 pub returns-then-not-answers : goal.returns-then-not-answers
 returns-then-not-answers c =
@@ -14,7 +24,7 @@ returns-then-not-answers c =
     let S = Holds c.args.order.now.pairs in
     let out = c.take_out.ensures in
     let flag = c.has_cell-flagged.result in
-    let J : SameCells w c.put_back.new.joined c.args.joined.now = joined_back w row target c.args.joined.now c.take_out.new.joined c.put_back.new.joined out.joined c.requires.arc.2 c.put_back.ensures.joined in
+    let J : SameCells w c.put_back.new.joined c.args.joined.now = joined_back w row target c.args.joined.now c.take_out.new.joined c.put_back.new.joined out.joined (search rules) c.put_back.ensures.joined in
     let P : SameCells w c.put_back.new.past c.args.past.now = past_back w row target c.args.past.now c.take_out.new.past c.put_back.new.past flag out.past c.has_cell-flagged.ensures c.put_back.ensures.past in
     record {
       joined = table_same n w c.args.joined.now c.put_back.new.joined c.requires.joined (search rules) J;

@@ -19,6 +19,6 @@ invariant_of-self-lent c =
 pub returns : goal.returns
 returns c =
     let live : map.contains_key (live_blocks c.self.inside.marks.items c.self.inside.store.blocks) c.args.h.0 ≡ true = ap (λ (x : PoolContents). map.contains_key x.blocks c.args.h.0) c.self.view_is ∙ c.requires in (
-      (refl, λ w. lent_pool c.args.self.now c.self.inside.store.size c.self.inside.spare c.self.inside.marks.items c.self.inside.store.blocks c.args.h.0 w c.self.view_is live),
-      record { writes_back = tt; words = ap (λ (l : List ℕ). Some l) c.block_mut.ensures.words ∙ sym ((live_words c.self.inside.marks.items c.self.inside.store.blocks c.args.h.0 live).3) ∙ ap (λ (x : PoolContents). map.get x.blocks c.args.h.0) c.self.view_is; size = words_long c.self.inside c.args.self.now c.args.h.0 c.block_mut.result.now (ap (λ (x : PoolContents). x.size) c.self.view_is) c.self.invariant (live_words c.self.inside.marks.items c.self.inside.store.blocks c.args.h.0 live).0 c.block_mut.ensures.words },
+      (refl, λ w. lent_pool c.args.self.now c.self.inside.store.size c.self.inside.free c.self.inside.marks.items c.self.inside.store.blocks c.args.h.0 w c.self.view_is live),
+      record { writes_back = tt; words = ap (λ (l : List ℕ). Some l) c.block_mut.ensures.words ∙ sym ((live_words c.self.inside.marks.items c.self.inside.store.blocks c.args.h.0 live).3) ∙ ap (λ (x : PoolContents). map.get x.blocks c.args.h.0) c.self.view_is; size = words_long c.self.inside c.args.self.now c.args.h.0 c.block_mut.result.now (ap (λ (x : PoolContents). x.words) c.self.view_is) c.self.invariant (live_words c.self.inside.marks.items c.self.inside.store.blocks c.args.h.0 live).0 c.block_mut.ensures.words },
     )

@@ -26,13 +26,13 @@ overflow_sub-self c =
     omega arith
 
 -- The pool with the block taken back.
-taken : (c : goal.After-self-4-1) → IsPool (record { store = c.set_link.new.self; marks = with_item c.self.inside.marks c.args.h.0 false; next = c.args.h.0 + 1; live = c.self.inside.live - 1; spare = c.self.inside.spare + 1 })
+taken : (c : goal.After-self-4-1) → IsPool (record { store = c.set_link.new.self; marks = with_item c.self.inside.marks c.args.h.0 false; next = c.args.h.0 + 1; live = c.self.inside.live - 1; free = c.self.inside.free + 1 })
     × (live_blocks (slice_set c.self.inside.marks.items c.args.h.0 false) c.set_link.new.self.blocks ≡ map.remove (live_blocks c.self.inside.marks.items c.self.inside.store.blocks) c.args.h.0)
 taken c =
     let live : map.contains_key (live_blocks c.self.inside.marks.items c.self.inside.store.blocks) c.args.h.0 ≡ true = ap (λ (x : PoolContents). map.contains_key x.blocks c.args.h.0) c.self.view_is ∙ c.requires in
     let some = some_live (live_blocks c.self.inside.marks.items c.self.inside.store.blocks) c.args.h.0 live in
     let lives = c.self.invariant.lives in
-    pool_taken c.self.inside (record { store = c.set_link.new.self; marks = with_item c.self.inside.marks c.args.h.0 false; next = c.args.h.0 + 1; live = c.self.inside.live - 1; spare = c.self.inside.spare + 1 })
+    pool_taken c.self.inside (record { store = c.set_link.new.self; marks = with_item c.self.inside.marks c.args.h.0 false; next = c.args.h.0 + 1; live = c.self.inside.live - 1; free = c.self.inside.free + 1 })
     c.args.h.0 live c.self.invariant c.set_link.ensures refl refl refl (omega arith) refl
 
 pub invariant_of-self : goal.invariant_of-self

@@ -25,12 +25,12 @@ pub returns : goal.returns
 returns c =
     let live : map.contains_key (live_blocks c.self.inside.marks.items c.self.inside.store.blocks) c.args.fresh.0 ≡ true = ap (λ (x : PoolContents). map.contains_key x.blocks c.args.fresh.0) c.self.view_is ∙ c.requires.fresh in
     let kept : map.contains_key (live_blocks c.self.inside.marks.items c.self.inside.store.blocks) c.args.kept.0 ≡ true = ap (λ (x : PoolContents). map.contains_key x.blocks c.args.kept.0) c.self.view_is ∙ c.requires.kept in (
-      (refl, λ w. lent_pool c.args.self.now c.self.inside.store.size c.self.inside.spare c.self.inside.marks.items c.self.inside.store.blocks c.args.fresh.0 w c.self.view_is live),
+      (refl, λ w. lent_pool c.args.self.now c.self.inside.store.size c.self.inside.free c.self.inside.marks.items c.self.inside.store.blocks c.args.fresh.0 w c.self.view_is live),
       record {
         writes_back = tt;
         kept = ap (λ (l : List ℕ). Some l) c.pair.ensures.kept ∙ sym ((live_words c.self.inside.marks.items c.self.inside.store.blocks c.args.kept.0 kept).3) ∙ ap (λ (x : PoolContents). map.get x.blocks c.args.kept.0) c.self.view_is;
         fresh = ap (λ (l : List ℕ). Some l) c.pair.ensures.fresh ∙ sym ((live_words c.self.inside.marks.items c.self.inside.store.blocks c.args.fresh.0 live).3) ∙ ap (λ (x : PoolContents). map.get x.blocks c.args.fresh.0) c.self.view_is;
-        kept_size = words_long c.self.inside c.args.self.now c.args.kept.0 c.pair.result.0.now (ap (λ (x : PoolContents). x.size) c.self.view_is) c.self.invariant (live_words c.self.inside.marks.items c.self.inside.store.blocks c.args.kept.0 kept).0 c.pair.ensures.kept;
-        fresh_size = words_long c.self.inside c.args.self.now c.args.fresh.0 c.pair.result.1.now (ap (λ (x : PoolContents). x.size) c.self.view_is) c.self.invariant (live_words c.self.inside.marks.items c.self.inside.store.blocks c.args.fresh.0 live).0 c.pair.ensures.fresh;
+        kept_size = words_long c.self.inside c.args.self.now c.args.kept.0 c.pair.result.0.now (ap (λ (x : PoolContents). x.words) c.self.view_is) c.self.invariant (live_words c.self.inside.marks.items c.self.inside.store.blocks c.args.kept.0 kept).0 c.pair.ensures.kept;
+        fresh_size = words_long c.self.inside c.args.self.now c.args.fresh.0 c.pair.result.1.now (ap (λ (x : PoolContents). x.words) c.self.view_is) c.self.invariant (live_words c.self.inside.marks.items c.self.inside.store.blocks c.args.fresh.0 live).0 c.pair.ensures.fresh;
       },
     )

@@ -16,4 +16,4 @@ returns-in-Some c = λ told.
     let within : c.args.g < length c.args.self.now.prints.items = search rules in
     let here : At c.args.self.now.prints.items c.args.g x = read_at c.args.self.now.prints.items c.args.g x x within c.index.ensures in
     let print : IsPrint n (Holds c.args.order.now.pairs) (block_at c.args.graphs.now.items c.args.h) c.in-Some.print = subst (λ o. IfSome o (IsPrint n (Holds c.args.order.now.pairs) (block_at c.args.graphs.now.items c.args.h))) c.in-Some.is c.requires.print in
-    misses_apart n c.args.order.now.pairs (block_at c.args.graphs.now.items c.args.g) (block_at c.args.graphs.now.items c.args.h) x c.in-Some.print (c.requires.told.prints c.args.g x here).1 print (c.misses.ensures told)
+    misses_apart n c.args.order.now.pairs (block_at c.args.graphs.now.items c.args.g) (block_at c.args.graphs.now.items c.args.h) x c.in-Some.print (c.requires.told.prints c.args.g x here).1 print (c.misses.ensures.0 told)

@@ -6,7 +6,7 @@ use Rattle.shared_graphs.proofs.ShareLemmas.{handle_live, words_here}
 use Rattle.shared_graphs.proofs.graph_blocks.GraphBlocks.block.Goals as goal
 
 pub block-requires : goal.block-requires
-block-requires c = handle_live c.self.inside.blocks.items c.self.inside.fresh.0 c.self.inside.pool.blocks c.args.number c.index.result.now (search rules) c.index.ensures c.self.invariant
+block-requires c = handle_live c.self.inside.blocks.items c.self.inside.fresh.0 c.self.inside.pool.blocks c.args.number c.index.result.now (search rules) c.index.ensures c.self.invariant.live
 
 pub returns : goal.returns
 returns c =

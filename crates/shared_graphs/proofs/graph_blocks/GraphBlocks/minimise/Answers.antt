@@ -1,11 +1,10 @@
-use Rattle.std.proofs.Common.{◌≡◌, ℕ, List, [], length, Option, refl, sym, ap, ◌∙◌, subst}
+use Rattle.std.proofs.Common.{◌≡◌, ℕ, List, [], length, Option, sym, ap, ◌∙◌, subst}
 use Rattle.std.specs.FinMap as map
 use Rattle.std.specs.List.{refill}
 use Rattle.std.specs.Option.{unwrap_or}
 use Rattle.auto_core.specs.Game.{Holds}
 use Rattle.graph_rows.specs.Block.{IsFormed, block_graph}
 use Rattle.supergraph.specs.Minimal.{CoverEachOther}
-use Rattle.supergraph.proofs.MinimalLemmas.{lessened_refl}
 use Rattle.shared_graphs.specs.Graphs.{IsMinimised}
 use Rattle.shared_graphs.specs.GraphBlocks.{Blocks}
 use Rattle.shared_graphs.specs.PoolShares.{handles, words_under}
@@ -13,19 +12,11 @@ use Rattle.shared_graphs.proofs.ShareLemmas.{last_live, fresh_written, written_o
 use Rattle.shared_graphs.proofs.graph_blocks.GraphBlocks.minimise.Goals as goal
 use Rattle.shared_graphs.proofs.graph_blocks.GraphBlocks.minimise.Goals.{After-minimise}
 
--- By equality no arc is dominated.
-pub returns-then-is_equality-clause-minimised : goal.returns-then-is_equality-clause-minimised
-returns-then-is_equality-clause-minimised c =
-    let S : List (ℕ × ℕ) = c.args.order.now.pairs in
-    let graph = block_graph c.args.order.now.size c.args.self.now.fresh in
-    let own = (lessened_refl (Holds S) graph c.requires.formed.within (λ s t arc. c.requires.order.reflexive t arc.1)).covers in
-    record { cover = record { forth = own; back = own }; minimal = λ s t arc d. d.differs (sym (c.if-is_equality.ensures refl t d.other d.related)) }
-
 pub block_mut-requires : goal.block_mut-requires
-block_mut-requires c = last_live (handles c.self.inside.blocks.items) c.self.inside.pool.blocks c.self.inside.fresh.0 c.self.invariant
+block_mut-requires c = last_live (handles c.self.inside.blocks.items) c.self.inside.pool.blocks c.self.inside.fresh.0 c.self.invariant.live
 
 pub invariant_of-self : goal.invariant_of-self
-invariant_of-self c = (fresh_written c.self.inside c.args.self.now _ c.self.view_is c.self.invariant).0
+invariant_of-self c = record { live = (fresh_written c.self.inside c.args.self.now _ c.self.view_is c.self.invariant).0; enough = c.self.invariant.enough }
 
 pub returns-clause-pool : goal.returns-clause-pool
 returns-clause-pool c = (fresh_written c.self.inside c.args.self.now _ c.self.view_is c.self.invariant).1
@@ -37,13 +28,13 @@ returns-clause-items c = (fresh_written c.self.inside c.args.self.now _ c.self.v
 before : (c : goal.After-minimise) → c.block_mut.result.now ≡ c.args.self.now.fresh
 before c = ap (λ (o : Option (List ℕ)). unwrap_or o []) c.block_mut.ensures.words ∙ ap (λ (b : Blocks). b.fresh) c.self.view_is
 
-after : (c : goal.After-minimise) → words_under (map.insert c.self.inside.pool.blocks c.self.inside.fresh.0 (refill c.self.inside.pool.size (unwrap_or (map.get c.self.inside.pool.blocks c.self.inside.fresh.0) []) c.minimise.new.g)) c.self.inside.fresh.0 ≡ c.minimise.new.g
+after : (c : goal.After-minimise) → words_under (map.insert c.self.inside.pool.blocks c.self.inside.fresh.0 (refill c.self.inside.pool.words (unwrap_or (map.get c.self.inside.pool.blocks c.self.inside.fresh.0) []) c.minimise.new.g)) c.self.inside.fresh.0 ≡ c.minimise.new.g
 after c =
     let old : List ℕ = unwrap_or (map.get c.self.inside.pool.blocks c.self.inside.fresh.0) [] in
-    let now : List ℕ = refill c.self.inside.pool.size old c.minimise.new.g in
-    let size : length c.minimise.new.g ≡ c.self.inside.pool.size =
+    let now : List ℕ = refill c.self.inside.pool.words old c.minimise.new.g in
+    let size : length c.minimise.new.g ≡ c.self.inside.pool.words =
     c.minimise.ensures.formed.len ∙ sym c.requires.formed.len ∙ ap (λ (l : List ℕ). length l) (sym (before c)) ∙ c.block_mut.ensures.size in
-    (fresh_written c.self.inside c.args.self.now now c.self.view_is c.self.invariant).3 ∙ written_over c.self.inside.pool.size old c.minimise.new.g size
+    (fresh_written c.self.inside c.args.self.now now c.self.view_is c.self.invariant).3 ∙ written_over c.self.inside.pool.words old c.minimise.new.g size
 
 pub returns-clause-formed : goal.returns-clause-formed
 returns-clause-formed c = subst (λ (l : List ℕ). IsFormed c.args.order.now.size l) (sym (after (goal.at.returns-clause-formed c).After-minimise)) c.minimise.ensures.formed

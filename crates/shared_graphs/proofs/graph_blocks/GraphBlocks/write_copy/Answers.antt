@@ -15,7 +15,7 @@ kept_is : (c : goal.After-pair-fresh) → c.pair-fresh.result.0.now ≡ block_at
 kept_is c = ap (λ (o : Option (List ℕ)). unwrap_or o []) c.pair-fresh.ensures.kept ∙ (pair_lives c.self.inside c.args.self.now c.args.number c.index.result.now c.self.view_is c.self.invariant c.requires c.index.ensures).3
 
 pub invariant_of-self : goal.invariant_of-self
-invariant_of-self c = (fresh_written c.self.inside c.args.self.now _ c.self.view_is c.self.invariant).0
+invariant_of-self c = record { live = (fresh_written c.self.inside c.args.self.now _ c.self.view_is c.self.invariant).0; enough = c.self.invariant.enough }
 
 pub returns-clause-pool : goal.returns-clause-pool
 returns-clause-pool c = (fresh_written c.self.inside c.args.self.now _ c.self.view_is c.self.invariant).1
@@ -26,8 +26,8 @@ returns-clause-items c = (fresh_written c.self.inside c.args.self.now _ c.self.v
 pub returns-clause-fresh : goal.returns-clause-fresh
 returns-clause-fresh c =
     let old : List ℕ = unwrap_or (map.get c.self.inside.pool.blocks c.self.inside.fresh.0) [] in
-    let now : List ℕ = refill c.self.inside.pool.size old c.copy_from_slice.new.self in
+    let now : List ℕ = refill c.self.inside.pool.words old c.copy_from_slice.new.self in
     let written = fresh_written c.self.inside c.args.self.now now c.self.view_is c.self.invariant in
     let kept = kept_is (goal.at.returns-clause-fresh c).After-pair-fresh in
-    written.3 ∙ ap (λ (l : List ℕ). refill c.self.inside.pool.size old l) c.copy_from_slice.ensures.after
-    ∙ written_over c.self.inside.pool.size old c.pair-fresh.result.0.now c.pair-fresh.ensures.kept_size ∙ kept
+    written.3 ∙ ap (λ (l : List ℕ). refill c.self.inside.pool.words old l) c.copy_from_slice.ensures.after
+    ∙ written_over c.self.inside.pool.words old c.pair-fresh.result.0.now c.pair-fresh.ensures.kept_size ∙ kept

@@ -22,4 +22,4 @@ pub returns-clause-stock : goal.returns-clause-stock
 returns-clause-stock c =
     let written = c.write_extended.ensures in
     taken_stock c.take_step.result c.args.second.now AsTheyAre c.args.from c.args.label c.args.self.now c.write_extended.new.self c.take_step.new.self written.items written.fresh
-    (stock_written c.args.second.now AsTheyAre c.args.self.now c.write_extended.new.self c.requires.stock written.pool written.items written.letters written.steps written.rows) c.requires.formed c.take_step.ensures.stock
+    (stock_written c.args.second.now AsTheyAre c.args.self.now c.write_extended.new.self c.requires.stock written.pool written.items written.letters written.steps written.letter_block) c.requires.formed c.take_step.ensures.stock

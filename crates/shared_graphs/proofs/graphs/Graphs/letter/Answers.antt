@@ -18,7 +18,7 @@ returns-in-Some-Number-clause-is c =
 -- The graphs with the letter's graph in the fresh block.
 abbrev written : (c : goal.After-write_letter) → Graphs
 written c =
-    let old : Graphs = c.args.self.now in record { graphs = c.write_letter.new.self; links = old.links; latest = old.latest; letters = old.letters; steps = old.steps; rows = old.rows }
+    let old : Graphs = c.args.self.now in record { graphs = c.write_letter.new.self; links = old.links; latest = old.latest; letters = old.letters; steps = old.steps; letter_block = old.letter_block }
 
 pub returns-clause-is : goal.returns-clause-is
 returns-clause-is c =
@@ -42,4 +42,4 @@ returns-clause-stock c =
     (λ _. (B : Automaton) (keeping : Keeping) → IsStock B keeping mid → IsBlockOf B (kept_under keeping 0) (letter_graph B c.args.label) mid.graphs.fresh → IsStock B keeping now)
     (λ _. IsStock c.args.second.now AsTheyAre now)
     (λ _ f. f c.args.second.now AsTheyAre
-    (stock_written c.args.second.now AsTheyAre c.args.self.now mid c.requires c.write_letter.ensures.pool c.write_letter.ensures.items refl refl c.requires.rows) c.write_letter.ensures.fresh) c.take_letter.ensures.stock
+    (stock_written c.args.second.now AsTheyAre c.args.self.now mid c.requires c.write_letter.ensures.pool c.write_letter.ensures.items refl refl c.requires.letter_block) c.write_letter.ensures.fresh) c.take_letter.ensures.stock

@@ -26,7 +26,7 @@ minimise-requires-clause-formed c = subst (λ n. IsFormed n c.write_extended.new
 -- The graphs with the minimised graph in the fresh block.
 abbrev least : (c : goal.After-minimise) → Graphs
 least c =
-    let mid : Graphs = c.write_extended.new.self in record { graphs = c.minimise.new.self; links = mid.links; latest = mid.latest; letters = mid.letters; steps = mid.steps; rows = mid.rows }
+    let mid : Graphs = c.write_extended.new.self in record { graphs = c.minimise.new.self; links = mid.links; latest = mid.latest; letters = mid.letters; steps = mid.steps; letter_block = mid.letter_block }
 
 items : (c : goal.After-minimise) → c.minimise.new.self.items ≡ c.args.self.now.graphs.items
 items c = c.minimise.ensures.items ∙ c.write_extended.ensures.items
@@ -54,4 +54,4 @@ returns-clause-stock c =
     let written = c.write_extended.ensures in
     let least_pool = c.minimise.ensures.pool in
     taken_stock c.take_step.result B (MinimisedBy S) c.args.from c.args.label c.args.self.now (least path) c.take_step.new.self (items path) (block path)
-    (stock_written B (MinimisedBy S) c.args.self.now (least path) c.requires.stock (least_pool.0 ∙ written.pool.0, least_pool.1 ∙ written.pool.1) (items path) written.letters written.steps written.rows) c.requires.formed c.take_step.ensures.stock
+    (stock_written B (MinimisedBy S) c.args.self.now (least path) c.requires.stock (least_pool.0 ∙ written.pool.0, least_pool.1 ∙ written.pool.1, least_pool.2 ∙ written.pool.2) (items path) written.letters written.steps written.letter_block) c.requires.formed c.take_step.ensures.stock

@@ -26,7 +26,7 @@ minimise-requires-clause-formed c = subst (λ n. IsFormed n c.write_letter.new.s
 -- The graphs with the minimised graph in the fresh block.
 abbrev least : (c : goal.After-minimise) → Graphs
 least c =
-    let old : Graphs = c.args.self.now in record { graphs = c.minimise.new.self; links = old.links; latest = old.latest; letters = old.letters; steps = old.steps; rows = old.rows }
+    let old : Graphs = c.args.self.now in record { graphs = c.minimise.new.self; links = old.links; latest = old.latest; letters = old.letters; steps = old.steps; letter_block = old.letter_block }
 
 items : (c : goal.After-minimise) → c.minimise.new.self.items ≡ c.args.self.now.graphs.items
 items c = c.minimise.ensures.items ∙ c.write_letter.ensures.items
@@ -45,7 +45,7 @@ numbered c =
     let least_pool = c.minimise.ensures.pool in
     let path = (goal.at.In_ok-number c).After-minimise in
     c.in_ok-number.ensures.stock B (MinimisedBy S)
-    (stock_written B (MinimisedBy S) c.args.self.now (least path) c.requires.stock (least_pool.0 ∙ written.pool.0, least_pool.1 ∙ written.pool.1) (items path) refl refl c.requires.stock.rows) (block path)
+    (stock_written B (MinimisedBy S) c.args.self.now (least path) c.requires.stock (least_pool.0 ∙ written.pool.0, least_pool.1 ∙ written.pool.1, least_pool.2 ∙ written.pool.2) (items path) refl refl c.requires.stock.letter_block) (block path)
 
 pub note_own-requires-clause-stock : goal.note_own-requires-clause-stock
 note_own-requires-clause-stock c = (MinimisedBy c.args.order.now.pairs, numbered (goal.at.note_own-requires-clause-stock c).In_ok-number)

@@ -11,11 +11,11 @@ has_states (suc n) size some is = omega arith
 
 pub returns-clause-stock : goal.returns-clause-stock
 returns-clause-stock c = λ B keeping is.
-    let rows : length c.in_ok-rows.rows.items ≡ c.words.result = search rules in
+    let letter_block : length c.in_ok-letter_block.letter_block.items ≡ c.words.result = search rules in
     record {
-      some = has_states B.states c.words.result c.words.ensures.positive (c.words.ensures.size ∙ is);
-      size = c.in_ok-new.ensures.size ∙ is;
-      rows = rows ∙ c.words.ensures.size ∙ sym c.in_ok-new.ensures.size;
+      some = has_states B.states c.words.result c.words.ensures.positive (c.words.ensures.words ∙ is);
+      size = c.in_ok-new.ensures.words ∙ is;
+      letter_block = letter_block ∙ c.words.ensures.words ∙ sym c.in_ok-new.ensures.words;
       letters = told_none (FitsLetter B keeping c.in_ok-new.field-0.items) c.in_ok-letters.letters.told.items c.in_ok-letters.ensures;
       steps = told_none (FitsStep B keeping c.in_ok-new.field-0.items) c.in_ok-steps.steps.told.items c.in_ok-steps.ensures;
     }

@@ -19,7 +19,7 @@ returns-clause-stock c = λ B keeping stock block.
     record {
       some = still.some;
       size = still.size;
-      rows = still.rows;
+      letter_block = still.letter_block;
       letters = told_more (FitsLetter B keeping now.graphs.items) now.letters.told.items c.note.new.self.told.items c.args.under c.args.label (Number k) still.letters
           (graph_numbered B (kept_under keeping c.args.under) (letter_graph B c.args.label) old.graphs.fresh old now k c.in_ok-number.ensures.number block) c.note.ensures;
       steps = still.steps;

@@ -37,8 +37,8 @@ returns-clause-stock c = λ B keeping stock formed block.
     let blocks = c.make_room.ensures.graphs in
     record {
       some = still.some;
-      size = ap (λ (b : Blocks). b.size) blocks ∙ still.size;
-      rows = ap (λ (v : Vec ℕ Global). length v.items) c.make_room.ensures.rows ∙ still.rows ∙ ap (λ (b : Blocks). b.size) (sym blocks);
+      size = ap (λ (b : Blocks). b.words) blocks ∙ still.size;
+      letter_block = ap (λ (v : Vec ℕ Global). length v.items) c.make_room.ensures.letter_block ∙ still.letter_block ∙ ap (λ (b : Blocks). b.words) (sym blocks);
       letters = subst (λ (b : Blocks). AllTold (FitsLetter B keeping b.items) c.make_room.new.self.letters.told.items) (sym blocks)
           (subst (λ (m : Memo). AllTold (FitsLetter B keeping now.graphs.items) m.told.items) (sym c.make_room.ensures.letters) still.letters);
       steps = subst (λ (b : Blocks). AllTold (FitsStep B keeping b.items) c.note.new.self.told.items) (sym blocks) steps;

@@ -1,5 +1,5 @@
-use Rattle.shared_graphs.specs.Memo.{HasNoOther}
+use Rattle.shared_graphs.specs.Memo.{TellsNothingNew}
 use Rattle.shared_graphs.proofs.memo.Memo.grow.Given as goal
 
 abbrev pub invariant-loop-place : goal.invariant-loop-place
-invariant-loop-place l = HasNoOther l.self.told.items l.grown.told.items
+invariant-loop-place l = TellsNothingNew l.self.told.items l.grown.told.items

@@ -1,6 +1,6 @@
 use Rattle.std.proofs.Common.{arith}
 use Rattle.graph_rows.proofs.UnionLemmas.{words_ored}
-use Rattle.graph_rows.proofs.unions.or_words.Goals as goal
+use Rattle.graph_rows.proofs.unions.join_words.Goals as goal
 
 pub returns : goal.returns
 returns g c =

@@ -3,7 +3,7 @@ use Rattle.auto_core.specs.Graph.{extended}
 use Rattle.graph_rows.specs.Block.{block_graph}
 use Rattle.graph_rows.proofs.RowsLemmas.{formed_of_planes}
 use Rattle.graph_rows.proofs.ExtensionLemmas.{extended_is_graph}
-use Rattle.graph_rows.proofs.letters.extend.Goals as goal
+use Rattle.graph_rows.proofs.letters.extend_by.Goals as goal
 
 pub returns-clause-formed : goal.returns-clause-formed
 returns-clause-formed c =

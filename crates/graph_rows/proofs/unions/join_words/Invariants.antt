@@ -1,5 +1,5 @@
 use Rattle.std.proofs.Common.{◌≡◌, ℕ, ◌+◌, ◌<◌, ◌≤◌, slice_index, bit_or}
-use Rattle.graph_rows.proofs.unions.or_words.Given as goal
+use Rattle.graph_rows.proofs.unions.join_words.Given as goal
 
 abbrev pub invariant-loop-j : goal.invariant-loop-j
 invariant-loop-j g l =
