@@ -18,7 +18,7 @@ use Rattle.ba_format.specs.Faults.{kind_of_line, first_fault, fault_of_lines, fa
 use Rattle.ba_format.specs.Draft.{Stands, Fits}
 use Rattle.ba_format.specs.Reading.{Reads}
 use Rattle.ba_format.specs.Pieces.{AreTaken, HasFirstFault}
-use Rattle.ba_format.proofs.ReadLemmas.{Underway, Underway-blank, Underway-taken, refused_line, Underway-end}
+use Rattle.ba_format.proofs.ReadLemmas.{Underway, Underway-blank, Underway-taken, faulty_line, Underway-end}
 
 -- ---- lines taken
 
@@ -124,7 +124,7 @@ module _ (lines : Lines) (text rest : List ℕ) (u : AreTaken lines text rest) (
       → HasFirstFault text lines.limits (record { line = number; kind = kind })
   taken_fault line kind number is long count k = λ more.
       first_of_lines lines.limits (lines_in (text ++ more)) _
-      (refused_line lines.limits (text ++ more) (rest ++ more) lines.count lines.draft (taken_at lines text rest u more) (some more) line kind (before line more is) long k
+      (faulty_line lines.limits (text ++ more) (rest ++ more) lines.count lines.draft (taken_at lines text rest u more) (some more) line kind (before line more is) long k
       ∙ ap (λ n. Some (record { line = n; kind = kind })) (sym count))
 
 -- all lines are taken

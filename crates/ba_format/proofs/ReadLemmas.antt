@@ -104,9 +104,9 @@ module _ (limits : Limits) (text rest : List ℕ) (number : ℕ) (draft : Draft)
         few = omega (arith, u.few, length-append u.entries (content_of line ∷ []));
       }
 
-  pub refused_line : (line : List ℕ) (kind : BaKind) → line ≡ trimmed (before_first is_newline rest) → 0 < length line → kind_of_line limits u.entries line ≡ Some kind
+  pub faulty_line : (line : List ℕ) (kind : BaKind) → line ≡ trimmed (before_first is_newline rest) → 0 < length line → kind_of_line limits u.entries line ≡ Some kind
       → first_fault limits [] (lines_in text) ≡ Some (record { line = number + 1; kind = kind })
-  refused_line line kind e n k =
+  faulty_line line kind e n k =
       let later = lines_from (number + 1 + 1) (slice_split is_newline (after_first is_newline rest)) in
       sym u.faults
       ∙ ap (first_fault limits u.entries) (line_first line e n)

@@ -1,4 +1,4 @@
--- Lemmas on a line that is taken, and on one that is refused.
+-- Lemmas on a line that is taken, and on one that is not.
 use Rattle.std.proofs.Common.{◌≡◌, ℕ, ◌<◌, ◌≤◌, Bool, true, false, eqb, ltb, leb, ◌&&◌, List, [], ◌∷◌, ◌++◌, length, map, fold, None, Some, Result, Ok, Err, refl, sym, ap, subst, ◌∙◌, arith, if◌then◌else◌}
 use Rattle.std.specs.List.{list_any, list_all, flat_map}
 use Rattle.std.proofs.lemmas.List.{map-append, length-append, length-map}
@@ -10,8 +10,8 @@ use Rattle.ba_format.specs.declared.parts.BaKind.TheVariants.{TwoInitial, TooMan
 use Rattle.ba_format.specs.declared.parts.Limits.{Limits}
 use Rattle.ba_format.specs.declared.draft.Opening.{Opening}
 use Rattle.ba_format.specs.declared.draft.Opening.TheVariants.{Nothing, OneState, States, Transitions}
-use Rattle.ba_format.specs.declared.draft.Refusal.{Refusal}
-use Rattle.ba_format.specs.declared.draft.Refusal.TheVariants.{Line, Memory}
+use Rattle.ba_format.specs.declared.draft.NotTaken.{NotTaken}
+use Rattle.ba_format.specs.declared.draft.NotTaken.TheVariants.{Line, Memory}
 use Rattle.ba_format.specs.declared.draft.Draft.{Draft}
 use Rattle.ba_format.specs.Sight.{same_text, noted, place_in}
 use Rattle.ba_format.specs.Grammar.{LineContent, StateLine, TransitionLine, content_of, own_fault}
@@ -47,13 +47,13 @@ module _ (limits : Limits) (entries : List LineContent) (entry : LineContent) wh
   pub no_fault : opens_twice entries entry ≡ false → Fits limits (entries ++ entry ∷ []) → later_fault limits entries entry ≡ None
   no_fault e f = rw (e, ltb_not limits.states (length (names_of (entries ++ entry ∷ []))) f.states, ltb_not limits.labels (length (labels_of (entries ++ entry ∷ []))) f.labels, ltb_not limits.transitions (length (transitions_of (entries ++ entry ∷ []))) f.transitions) refl
 
-  pub refused_states : (n : ℕ) (e : Refusal) → opens_twice entries entry ≡ false → n ≤ length (names_of (entries ++ entry ∷ [])) → PastLimit TooManyStates limits.states n e → TellsKind (later_fault limits entries entry) e
-  refused_states n (Line kind) one h p = fault_states one (omega (arith, p.1)) ∙ ap Some (sym p.0)
-  refused_states n Memory one h p = tt
+  pub past_states : (n : ℕ) (e : NotTaken) → opens_twice entries entry ≡ false → n ≤ length (names_of (entries ++ entry ∷ [])) → PastLimit TooManyStates limits.states n e → TellsKind (later_fault limits entries entry) e
+  past_states n (Line kind) one h p = fault_states one (omega (arith, p.1)) ∙ ap Some (sym p.0)
+  past_states n Memory one h p = tt
 
-  pub refused_labels : (e : Refusal) → opens_twice entries entry ≡ false → length (names_of (entries ++ entry ∷ [])) ≤ limits.states → PastLimit TooManyLabels limits.labels (length (labels_of (entries ++ entry ∷ []))) e → TellsKind (later_fault limits entries entry) e
-  refused_labels (Line kind) one s p = fault_labels one s p.1 ∙ ap Some (sym p.0)
-  refused_labels Memory one s p = tt
+  pub past_labels : (e : NotTaken) → opens_twice entries entry ≡ false → length (names_of (entries ++ entry ∷ [])) ≤ limits.states → PastLimit TooManyLabels limits.labels (length (labels_of (entries ++ entry ∷ []))) e → TellsKind (later_fault limits entries entry) e
+  past_labels (Line kind) one s p = fault_labels one s p.1 ∙ ap Some (sym p.0)
+  past_labels Memory one s p = tt
 
 -- ---- how the lines begin
 
@@ -168,14 +168,14 @@ state_taken limits entries name old names at new s f number note =
       fits,
     )
 
-pub state_refused : (limits : Limits) (entries : List LineContent) (name : List ℕ) (old : Draft) (e : Refusal) → Stands old entries → Fits limits entries
+pub state_not_taken : (limits : Limits) (entries : List LineContent) (name : List ℕ) (old : Draft) (e : NotTaken) → Stands old entries → Fits limits entries
     → (length old.names ≤ limits.states → PastLimit TooManyStates limits.states (length (noted same_text old.names name)) e)
     → TellsKind (later_fault limits entries (StateLine name)) e
-state_refused limits entries name old e s f p =
+state_not_taken limits entries name old e s f p =
     let past = p (omega (arith, ap length s.names, f.states)) in
     let known = ap length (names-push entries (StateLine name)) in
     let same = ap (λ l. length (noted same_text l name)) s.names in
-    refused_states limits entries (StateLine name) (length (noted same_text old.names name)) e refl (omega (arith, known, same)) past
+    past_states limits entries (StateLine name) (length (noted same_text old.names name)) e refl (omega (arith, known, same)) past
 
 -- ---- a transition line
 
@@ -193,13 +193,13 @@ module _ (limits : Limits) (entries : List LineContent) (label source target : L
   once : opens_twice entries (TransitionLine label source target) ≡ false
   once = opens_twice-other old.opening entries label source target s.opening one
 
-  pub source_refused : (e : Refusal) → (length old.names ≤ limits.states → PastLimit TooManyStates limits.states (length (noted same_text old.names source)) e)
+  pub source_not_taken : (e : NotTaken) → (length old.names ≤ limits.states → PastLimit TooManyStates limits.states (length (noted same_text old.names source)) e)
       → TellsKind (later_fault limits entries (TransitionLine label source target)) e
-  source_refused e p =
+  source_not_taken e p =
       let past = p (omega (arith, ap length s.names, f.states)) in
       let known = ap length (names-push entries (TransitionLine label source target)) in
       let same = ap (λ l. length (noted same_text l source)) s.names in
-      refused_states limits entries (TransitionLine label source target) (length (noted same_text old.names source)) e once (omega (arith, known, same, length-noted target (noted same_text (names_of entries) source))) past
+      past_states limits entries (TransitionLine label source target) (length (noted same_text old.names source)) e once (omega (arith, known, same, length-noted target (noted same_text (names_of entries) source))) past
 
   module _ (names1 : List (List ℕ)) (p : ℕ) (n1 : Numbers old.names names1 source p limits.states) where
     first : (names1 ≡ noted same_text old.names source) × (p ≡ place_in same_text names1 source) × (length names1 ≤ limits.states)
@@ -208,9 +208,9 @@ module _ (limits : Limits) (entries : List LineContent) (label source target : L
     names_two : noted same_text names1 target ≡ names_of (entries ++ TransitionLine label source target ∷ [])
     names_two = ap (λ l. noted same_text l target) (first.0 ∙ ap (λ l. noted same_text l source) s.names) ∙ sym (names-push entries (TransitionLine label source target))
 
-    pub target_refused : (e : Refusal) → (length names1 ≤ limits.states → PastLimit TooManyStates limits.states (length (noted same_text names1 target)) e)
+    pub target_not_taken : (e : NotTaken) → (length names1 ≤ limits.states → PastLimit TooManyStates limits.states (length (noted same_text names1 target)) e)
         → TellsKind (later_fault limits entries (TransitionLine label source target)) e
-    target_refused e q = refused_states limits entries (TransitionLine label source target) (length (noted same_text names1 target)) e once (omega (arith, ap length names_two)) (q first.2)
+    target_not_taken e q = past_states limits entries (TransitionLine label source target) (length (noted same_text names1 target)) e once (omega (arith, ap length names_two)) (q first.2)
 
     module _ (names2 : List (List ℕ)) (q : ℕ) (n2 : Numbers names1 names2 target q limits.states) where
       second : (names2 ≡ noted same_text names1 target) × (q ≡ place_in same_text names2 target) × (length names2 ≤ limits.states)
@@ -225,10 +225,10 @@ module _ (limits : Limits) (entries : List LineContent) (label source target : L
       labels_one : noted same_text old.labels label ≡ labels_of (entries ++ TransitionLine label source target ∷ [])
       labels_one = ap (λ l. noted same_text l label) s.labels ∙ sym (labels-push entries (TransitionLine label source target))
 
-      pub label_refused : (e : Refusal) → (length old.labels ≤ limits.labels → PastLimit TooManyLabels limits.labels (length (noted same_text old.labels label)) e)
+      pub label_not_taken : (e : NotTaken) → (length old.labels ≤ limits.labels → PastLimit TooManyLabels limits.labels (length (noted same_text old.labels label)) e)
           → TellsKind (later_fault limits entries (TransitionLine label source target)) e
-      label_refused e p' =
-          refused_labels limits entries (TransitionLine label source target) e once states_fit
+      label_not_taken e p' =
+          past_labels limits entries (TransitionLine label source target) e once states_fit
           (subst (λ n. PastLimit TooManyLabels limits.labels n e) (ap length labels_one) (p' (omega (arith, ap length s.labels, f.labels))))
 
       module _ (labels1 : List (List ℕ)) (a : ℕ) (n3 : Numbers old.labels labels1 label a limits.labels) (new : Draft)
@@ -259,8 +259,8 @@ module _ (limits : Limits) (entries : List LineContent) (label source target : L
         count_after : length new.transitions.keys ≡ length (transitions_of (entries ++ TransitionLine label source target ∷ []))
         count_after = sym (length-map new.transitions.keys trans_with) ∙ ap length transitions_after
 
-        pub transition_refused : limits.transitions < length new.transitions.keys → later_fault limits entries (TransitionLine label source target) ≡ Some TooManyTransitions
-        transition_refused h = fault_transitions limits entries (TransitionLine label source target) once states_fit labels_fit (omega (arith, count_after))
+        pub transition_not_taken : limits.transitions < length new.transitions.keys → later_fault limits entries (TransitionLine label source target) ≡ Some TooManyTransitions
+        transition_not_taken h = fault_transitions limits entries (TransitionLine label source target) once states_fit labels_fit (omega (arith, count_after))
 
         pub transition_taken : length new.transitions.keys ≤ limits.transitions
             → (later_fault limits entries (TransitionLine label source target) ≡ None)
@@ -281,12 +281,12 @@ module _ (limits : Limits) (entries : List LineContent) (label source target : L
 
 -- ---- any line
 
-taken_by : (limits : Limits) (entries : List LineContent) (line : List ℕ) (draft : Draft) (r : Result (Unit {0}) Refusal) → own_fault line ≡ None → Takes limits entries (content_of line) draft r → TakesLine limits entries line draft r
+taken_by : (limits : Limits) (entries : List LineContent) (line : List ℕ) (draft : Draft) (r : Result (Unit {0}) NotTaken) → own_fault line ≡ None → Takes limits entries (content_of line) draft r → TakesLine limits entries line draft r
 taken_by limits entries line draft (Ok u) own h = (ap (λ o. option_or o (later_fault limits entries (content_of line))) own ∙ h.0, h.1, h.2)
 taken_by limits entries line draft (Err (Line kind)) own h = ap (λ o. option_or o (later_fault limits entries (content_of line))) own ∙ h
 taken_by limits entries line draft (Err Memory) own h = tt
 
 -- a line without a fault of its own
-pub line_taken : (limits : Limits) (entries : List LineContent) (line : List ℕ) (entry : LineContent) (draft : Draft) (r : Result (Unit {0}) Refusal) → own_fault line ≡ None → entry ≡ content_of line
+pub line_taken : (limits : Limits) (entries : List LineContent) (line : List ℕ) (entry : LineContent) (draft : Draft) (r : Result (Unit {0}) NotTaken) → own_fault line ≡ None → entry ≡ content_of line
     → Takes limits entries entry draft r → TakesLine limits entries line draft r
 line_taken limits entries line entry draft r own e h = taken_by limits entries line draft r own (subst (λ x. Takes limits entries x draft r) e h)

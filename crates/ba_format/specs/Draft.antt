@@ -10,8 +10,8 @@ use Rattle.ba_format.specs.declared.parts.ReadFault.TheVariants.{Ba, Memory as O
 use Rattle.ba_format.specs.declared.parts.Limits.{Limits}
 use Rattle.ba_format.specs.declared.draft.Opening.{Opening}
 use Rattle.ba_format.specs.declared.draft.Opening.TheVariants.{Nothing, OneState, States, Transitions}
-use Rattle.ba_format.specs.declared.draft.Refusal.{Refusal}
-use Rattle.ba_format.specs.declared.draft.Refusal.TheVariants.{Line, Memory}
+use Rattle.ba_format.specs.declared.draft.NotTaken.{NotTaken}
+use Rattle.ba_format.specs.declared.draft.NotTaken.TheVariants.{Line, Memory}
 use Rattle.ba_format.specs.declared.draft.Draft.{Draft}
 use Rattle.ba_format.specs.Grammar.{LineContent, content_of}
 use Rattle.ba_format.specs.Sight.{noted}
@@ -72,25 +72,25 @@ pub record NotesTransition (old : Draft) (t : ℕ × ℕ × ℕ) (new : Draft) :
   pub opening : new.opening ≡ Transitions
   pub accepting : new.accepting ≡ old.accepting
 
--- The refusal says that there are more than the limit, or it is want of memory.
-abbrev pub PastLimit : BaKind → ℕ → ℕ → Refusal → Type 0
+-- The line was not taken since there are more than the limit, or for want of memory.
+abbrev pub PastLimit : BaKind → ℕ → ℕ → NotTaken → Type 0
 PastLimit past limit count (Line kind) = (kind ≡ past) × (limit < count)
 PastLimit past limit count Memory = Unit {0}
 
--- The refusal tells this fault, or want of memory.
-abbrev pub TellsKind : Option BaKind → Refusal → Type 0
+-- The line was not taken for this fault, or for want of memory.
+abbrev pub TellsKind : Option BaKind → NotTaken → Type 0
 TellsKind fault (Line kind) = fault ≡ Some kind
 TellsKind fault Memory = Unit {0}
 
 -- A line that says this entry was taken exactly if it has no fault after the lines before it.
-abbrev pub Takes : Limits → List LineContent → LineContent → Draft → Result (Unit {0}) Refusal → Type 0
+abbrev pub Takes : Limits → List LineContent → LineContent → Draft → Result (Unit {0}) NotTaken → Type 0
 Takes limits entries entry draft r =
     MatchResult r
     (λ _. (later_fault limits entries entry ≡ None) × Stands draft (entries ++ entry ∷ []) × Fits limits (entries ++ entry ∷ []))
     (TellsKind (later_fault limits entries entry))
 
 -- The same of a trimmed line, which may have a fault of its own.
-abbrev pub TakesLine : Limits → List LineContent → List ℕ → Draft → Result (Unit {0}) Refusal → Type 0
+abbrev pub TakesLine : Limits → List LineContent → List ℕ → Draft → Result (Unit {0}) NotTaken → Type 0
 TakesLine limits entries line draft r =
     MatchResult r
     (λ _. (kind_of_line limits entries line ≡ None) × Stands draft (entries ++ content_of line ∷ []) × Fits limits (entries ++ content_of line ∷ []))

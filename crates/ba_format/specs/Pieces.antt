@@ -35,7 +35,7 @@ pub record AreTaken (lines : Lines) (text rest : List ℕ) : Type 0 where
 abbrev pub HasFirstFault : List ℕ → Limits → BaFault → Type 0
 HasFirstFault text limits fault = (more : List ℕ) → fault_of (text ++ more) limits ≡ Some fault
 
--- The refusal tells it, or want of memory.
+-- The first fault is told, or want of memory.
 abbrev pub TellsFirstFault : List ℕ → Limits → ReadFault → Type 0
 TellsFirstFault text limits (Ba fault) = HasFirstFault text limits fault
 TellsFirstFault text limits OutOfMemory = Unit {0}

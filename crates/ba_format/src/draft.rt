@@ -29,32 +29,32 @@ pub(crate) enum Opening {
 
 /// Why a line was not taken.
 #[derive(Drop)]
-pub(crate) enum Refusal {
+pub(crate) enum NotTaken {
     /// The line has this fault.
     Line(BaKind),
     /// The machine refused memory.
     Memory,
 }
 
-impl From<Memory> for Refusal {
+impl From<Memory> for NotTaken {
     ghost use Rattle.std.specs.Prelude.{◌≡◌};
-    ghost use Rattle.ba_format.specs.declared.draft.Refusal.{Refusal};
+    ghost use Rattle.ba_format.specs.declared.draft.NotTaken.{NotTaken};
 
-    ghost from_gives = { λ _ e. e ≡ Refusal.Memory };
+    ghost from_gives = { λ _ e. e ≡ NotTaken.Memory };
 
-    fn from(_refused: Memory) -> Refusal {
-        Refusal::Memory
+    fn from(_refused: Memory) -> NotTaken {
+        NotTaken::Memory
     }
 }
 
-impl<T: Drop> From<AllocFailed<T>> for Refusal {
+impl<T: Drop> From<AllocFailed<T>> for NotTaken {
     ghost use Rattle.std.specs.Prelude.{◌≡◌};
-    ghost use Rattle.ba_format.specs.declared.draft.Refusal.{Refusal};
+    ghost use Rattle.ba_format.specs.declared.draft.NotTaken.{NotTaken};
 
-    ghost from_gives = { λ _ e. e ≡ Refusal.Memory };
+    ghost from_gives = { λ _ e. e ≡ NotTaken.Memory };
 
-    fn from(_refused: AllocFailed<T>) -> Refusal {
-        Refusal::Memory
+    fn from(_refused: AllocFailed<T>) -> NotTaken {
+        NotTaken::Memory
     }
 }
 
@@ -74,7 +74,7 @@ pub(crate) struct Draft {
 }
 
 /// The number of a text: a new one is appended first, unless that would bring more texts than the limit. The fault is then `past`.
-fn number(texts: &mut Texts, text: &[u8], limit: u32, past: BaKind) -> Result<u32, Refusal>
+fn number(texts: &mut Texts, text: &[u8], limit: u32, past: BaKind) -> Result<u32, NotTaken>
     ensures { length texts.old ≤ limit → MatchResult result (λ at. (texts.new ≡ noted same_text texts.old text.now) × (at ≡ place_in same_text texts.new text.now) × (length texts.new ≤ limit)) (PastLimit past limit (length (noted same_text texts.old text.now))) }
 {
     if let Some(at) = texts.find(text) {
@@ -82,7 +82,7 @@ fn number(texts: &mut Texts, text: &[u8], limit: u32, past: BaKind) -> Result<u3
     }
     let at = texts.count();
     if at >= limit {
-        return Err(Refusal::Line(past));
+        return Err(NotTaken::Line(past));
     }
     texts.add(text)?;
     Ok(at)
@@ -122,7 +122,7 @@ impl Draft {
     }
 
     /// Takes a state line.
-    fn take_state(&mut self, name: &[u8], limits: &Limits) -> Result<(), Refusal>
+    fn take_state(&mut self, name: &[u8], limits: &Limits) -> Result<(), NotTaken>
         ensures { (entries : List LineContent) → Stands self.old entries → Fits limits.now entries → Takes limits.now entries (StateLine name.now) self.new result }
     {
         let at = number(&mut self.names, name, limits.states, BaKind::TooManyStates)?;
@@ -147,11 +147,11 @@ impl Draft {
         source: &[u8],
         target: &[u8],
         limits: &Limits,
-    ) -> Result<(), Refusal>
+    ) -> Result<(), NotTaken>
         ensures { (entries : List LineContent) → Stands self.old entries → Fits limits.now entries → Takes limits.now entries (TransitionLine label.now source.now target.now) self.new result }
     {
         if let Opening::States = self.opening {
-            return Err(Refusal::Line(BaKind::TwoInitial));
+            return Err(NotTaken::Line(BaKind::TwoInitial));
         }
         let source = number(
             &mut self.names,
@@ -172,17 +172,17 @@ impl Draft {
             BaKind::TooManyLabels,
         )?;
         if self.note_transition(source, label, target)? > limits.transitions as usize {
-            return Err(Refusal::Line(BaKind::TooManyTransitions));
+            return Err(NotTaken::Line(BaKind::TooManyTransitions));
         }
         Ok(())
     }
 
     /// Takes a trimmed line that isn't blank.
-    pub(crate) fn take(&mut self, line: &[u8], limits: &Limits) -> Result<(), Refusal>
+    pub(crate) fn take(&mut self, line: &[u8], limits: &Limits) -> Result<(), NotTaken>
         ensures { (entries : List LineContent) → Stands self.old entries → Fits limits.now entries → TakesLine limits.now entries line.now self.new result }
     {
         match said_by(line) {
-            Err(kind) => Err(Refusal::Line(kind)),
+            Err(kind) => Err(NotTaken::Line(kind)),
             Ok(Said::State(name)) => self.take_state(name, limits),
             Ok(Said::Transition(label, source, target)) => {
                 self.take_transition(label, source, target, limits)

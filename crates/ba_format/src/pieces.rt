@@ -9,7 +9,7 @@ ghost use Rattle.ba_format.specs.Faults.{fault_of};
 ghost use Rattle.ba_format.specs.Reading.{Reads, IsWithinLimits};
 ghost use Rattle.ba_format.specs.Pieces.{AreTaken, TellsFirstFault, HasRead, ReaderLacksMemory};
 
-use crate::draft::{Draft, Opening, Refusal};
+use crate::draft::{Draft, NotTaken, Opening};
 use crate::lines::trimmed;
 use crate::parts::{BaFault, BaKind, Limits, Named, ReadFault};
 use auto_core::Memory;
@@ -45,11 +45,11 @@ impl Lines {
         }
         match self.draft.take(line, &self.limits) {
             Ok(()) => Ok(()),
-            Err(Refusal::Line(kind)) => Err(ReadFault::Ba(BaFault {
+            Err(NotTaken::Line(kind)) => Err(ReadFault::Ba(BaFault {
                 line: self.count,
                 kind,
             })),
-            Err(Refusal::Memory) => Err(ReadFault::Memory),
+            Err(NotTaken::Memory) => Err(ReadFault::Memory),
         }
     }
 

@@ -23,7 +23,7 @@ use Rattle.cert_value.specs.declared.types.RankRow.{RankRow}
 use Rattle.cert_value.specs.declared.types.Element.{Element}
 use Rattle.cert_value.specs.declared.types.StepLine.{StepLine}
 use Rattle.cert_text.specs.declared.parts.Closed.{Closed}
-use Rattle.cert_text.specs.declared.parts.Limited.{Limited}
+use Rattle.cert_text.specs.declared.parts.ListPart.{ListPart}
 use Rattle.cert_line.specs.declared.heads.FirstHead.{FirstHead}
 use Rattle.cert_line.specs.declared.heads.FirstHead.TheVariants as first_head
 use Rattle.cert_line.specs.declared.heads.SecondHead.{SecondHead}
@@ -34,7 +34,7 @@ use Rattle.cert_value.specs.Text.{Line, spelled, numbers, letters_tokens, each, 
 use Rattle.cert_value.specs.declared.types.GoneBy.{GoneBy}
 use Rattle.cert_value.specs.WellFormed.{is_version, are_letters, rank_key, blocks_due, is_live, has_some, is_short, are_short, ascend, is_row, are_rows, is_block, is_rank_row, are_rank_rows, is_rank_block, are_gone, are_classes, is_first_step, is_second_step, is_origin, is_element, is_step_of, are_steps, are_logs, is_body, has_text}
 use Rattle.cert_line.specs.Lines.{Said, word_in, number_in, numbers_in, ascending_in, sizes_in, heading_in, row_in, rank_row_in, gone_by_in, first_head_in, second_head_in, origin_in, element_in, step_in}
-use Rattle.cert_text.specs.Grammar.{On, Read, Stopped, Then, after, next_line, read_rows, read_block, read_rank_rows, read_rank_block, read_blocks, read_classes, read_first_rest, read_first_steps, read_grounds, read_second_rest, read_second_steps, read_elements, read_steps, read_origins, read_cover, read_all_elements, read_closed, read_all_origins, read_limited, read_first_log, read_second_log, read_turn, read_lasso, read_word, yes_of, list_of, read_evidence, read_after_first, read_logs, read_body, is_bare, finish, cert_of, read_end, read_rest, read_sizes, read_lines}
+use Rattle.cert_text.specs.Grammar.{On, Read, Stopped, Then, after, next_line, read_rows, read_block, read_rank_rows, read_rank_block, read_blocks, read_classes, read_first_rest, read_first_steps, read_grounds, read_second_rest, read_second_steps, read_elements, read_steps, read_origins, read_cover, read_all_elements, read_closed, read_all_origins, read_list_part, read_first_log, read_second_log, read_turn, read_lasso, read_word, yes_of, list_of, read_evidence, read_after_first, read_logs, read_body, is_bare, finish, cert_of, read_end, read_rest, read_sizes, read_lines}
 use Rattle.std.specs.List.{list_all}
 use Rattle.std.proofs.lemmas.Bool.{and_parts, and_from, cond-true, cond-false, cases_Bool}
 use Rattle.cert_line.proofs.LineFacts.{word_bw, number_bw, numbers_bw, sorted_bw, sizes_bw, row_bw, rank_row_bw, gone_bw, step_bw, numbers_some}
@@ -504,14 +504,14 @@ closed_bw v m next ls c e =
     }
 
 -- What a list has after its logs.
-pub record IsLimited (m : Mode) (k : Limited) : Type 0 where
+pub record IsListPart (m : Mode) (k : ListPart) : Type 0 where
   pub limit : is_short k.limit ≡ true
   pub count : is_short (length k.elements) ≡ true
   pub elements : list_all (is_origin m) k.elements ≡ true
 
-pub limited_bw : (m : Mode) (next : Then Limited) (ls : List Line) (c : Cert) → read_limited m next ls ≡ Read c
-    → Took (IsLimited m) (λ k. limit_lines k.limit k.elements) next ls c
-limited_bw m next ls c e =
+pub list_part_bw : (m : Mode) (next : Then ListPart) (ls : List Line) (c : Cert) → read_list_part m next ls ≡ Read c
+    → Took (IsListPart m) (λ k. limit_lines k.limit k.elements) next ls c
+list_part_bw m next ls c e =
     let b = line_bw (number_in keyword.Limit) (λ limit. read_all_origins m limit next) ls c e in
     let bf = number_bw keyword.Limit b.line b.item b.told in
     let k = λ (elements : List Origin) (rest : List Line). next (record { limit = b.item; elements = elements }) rest in
@@ -570,7 +570,7 @@ list_bw : (v : ℕ) (m : Mode) (next : Then Body) (ls : List Line) (c : Cert) �
 list_bw v m next ls c e =
     let f = first_log_bw v (λ firsts. read_after_first v m form.List firsts next) ls c e in
     let s = second_log_bw v m (λ seconds. read_evidence v m form.List f.item seconds next) f.rest c f.on in
-    let k = limited_bw m (λ limited. next (list_of f.item s.item limited)) s.rest c s.on in
+    let k = list_part_bw m (λ list_part. next (list_of f.item s.item list_part)) s.rest c s.on in
     let C = limit_lines k.item.limit k.item.elements in
     record {
       item = list_of f.item s.item k.item;

@@ -20,7 +20,7 @@ use Rattle.cert_value.specs.declared.types.RankRow.{RankRow}
 use Rattle.cert_value.specs.declared.types.Element.{Element}
 use Rattle.cert_value.specs.declared.types.StepLine.{StepLine}
 use Rattle.cert_text.specs.declared.parts.Closed.{Closed}
-use Rattle.cert_text.specs.declared.parts.Limited.{Limited}
+use Rattle.cert_text.specs.declared.parts.ListPart.{ListPart}
 use Rattle.cert_line.specs.declared.lines.Sizes.{Sizes}
 use Rattle.cert_line.specs.declared.lines.Heading.{Heading}
 use Rattle.cert_line.specs.declared.heads.FirstHead.TheVariants as first_head
@@ -31,7 +31,7 @@ use Rattle.cert_value.specs.Text.{Line, spelled, numbers, row_numbers, each, row
 use Rattle.cert_value.specs.declared.types.Grounds.{Grounds}
 use Rattle.cert_value.specs.WellFormed.{is_version, are_letters, rank_key, blocks_due, is_live, has_some, is_short, are_short, ascend, is_row, are_rows, is_block, is_rank_row, are_rank_rows, is_rank_block, are_gone, are_classes, is_first_step, are_grounds, is_second_step, is_origin, is_element, is_step_of, are_steps, are_logs, is_body, has_text}
 use Rattle.cert_line.specs.Lines.{Said, word_in, number_in, numbers_in, ascending_in, sizes_in, heading_in, row_in, rank_row_in, gone_by_in, first_head_in, second_head_in, origin_in, element_in, step_in}
-use Rattle.cert_text.specs.Grammar.{On, Then, after, next_line, read_rows, read_block, read_rank_rows, read_rank_block, read_blocks, read_classes, read_first_rest, read_first_steps, read_grounds, read_second_rest, read_second_steps, read_elements, read_steps, read_origins, read_cover, read_all_elements, read_closed, read_all_origins, read_limited, read_first_log, read_second_log, read_turn, yes_of, list_of, read_evidence, read_after_first, read_body, finish, cert_of, read_end, read_rest, read_sizes, read_lines}
+use Rattle.cert_text.specs.Grammar.{On, Then, after, next_line, read_rows, read_block, read_rank_rows, read_rank_block, read_blocks, read_classes, read_first_rest, read_first_steps, read_grounds, read_second_rest, read_second_steps, read_elements, read_steps, read_origins, read_cover, read_all_elements, read_closed, read_all_origins, read_list_part, read_first_log, read_second_log, read_turn, yes_of, list_of, read_evidence, read_after_first, read_body, finish, cert_of, read_end, read_rest, read_sizes, read_lines}
 use Rattle.std.specs.List.{list_all}
 use Rattle.std.proofs.lemmas.Bool.{and_parts, and_from}
 use Rattle.cert_line.proofs.PairLemmas.{some_cons}
@@ -301,10 +301,10 @@ closed_fw v m order es cover ss next rest a b c d e h =
     ∙ steps_fw 0 es (λ steps. next (record { order = order; elements = es; cover = cover; steps = steps })) rest h ss [] e
 
 -- What a list has after its logs.
-pub limited_fw : (m : Mode) (limit : ℕ) (es : List Origin) (next : Then Limited) (rest : List Line)
+pub list_part_fw : (m : Mode) (limit : ℕ) (es : List Origin) (next : Then ListPart) (rest : List Line)
     → is_short limit ≡ true → is_short (length es) ≡ true → list_all (is_origin m) es ≡ true → has_some rest ≡ true
-    → read_limited m next (limit_lines limit es ++ rest) ≡ next (record { limit = limit; elements = es }) rest
-limited_fw m limit es next rest a b c h =
+    → read_list_part m next (limit_lines limit es ++ rest) ≡ next (record { limit = limit; elements = es }) rest
+list_part_fw m limit es next rest a b c h =
     let after = each origin_lines es ++ rest in
     line_fw (number_in keyword.Limit) (λ limit. read_all_origins m limit next) (spelled keyword.Limit ∷ decimal limit ∷ []) limit
     (elements_line (length es) ∷ after) (number_fw keyword.Limit limit a) (some_cons (elements_line (length es)) after)
@@ -367,7 +367,7 @@ body_fw v m (body.Listing list) next rest e h =
     (append_assoc (first_lines v list.first) (B ++ C) rest ∙ ap (λ ls. first_lines v list.first ++ ls) (append_assoc B C rest))
     ∙ first_log_fw v list.first k (B ++ (C ++ rest)) l.0 l1.0 (some_append B (C ++ rest) some2)
     ∙ second_log_fw v m list.second k2 (C ++ rest) l2.0 l2.1 some2
-    ∙ limited_fw m list.limit list.elements (λ limited. next (list_of list.first list.second limited)) rest b.0 c.0 c.1 h
+    ∙ list_part_fw m list.limit list.elements (λ list_part. next (list_of list.first list.second list_part)) rest b.0 c.0 c.1 h
 
 -- the lines of a certificate are read as it, whatever follows
 pub cert_fw : (c : Cert) (rest : List Line) → has_text c ≡ true → has_some rest ≡ true → read_lines (cert_lines c ++ rest) ≡ finish c rest

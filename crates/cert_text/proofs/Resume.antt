@@ -4,8 +4,8 @@ use Rattle.auto_core.specs.declared.parts.Mode.{Mode}
 use Rattle.cert_value.specs.declared.keywords.Keyword.TheVariants as keyword
 use Rattle.cert_line.specs.declared.shapes.Tail.TheVariants as tail
 use Rattle.cert_line.specs.declared.faults.TextKind.TheVariants.{Truncated}
-use Rattle.cert_text.specs.declared.parts.Step.{Step}
-use Rattle.cert_text.specs.declared.parts.Step.TheVariants.{More, Whole}
+use Rattle.cert_text.specs.declared.parts.PartSoFar.{PartSoFar}
+use Rattle.cert_text.specs.declared.parts.PartSoFar.TheVariants.{More, Whole}
 use Rattle.cert_value.specs.declared.types.FirstStep.{FirstStep}
 use Rattle.cert_value.specs.declared.types.FirstStep.TheVariants as first
 use Rattle.cert_value.specs.declared.types.SecondStep.{SecondStep}
@@ -45,7 +45,7 @@ use Rattle.cert_text.specs.Machine.{map_said, on_or, rows_due, step_block, last_
 abbrev pub Resume : Type 0 → Type 0 → Type 0
 Resume S X = S → Then X → List Line → ReadOutcome
 
-abbrev pub on_step : {S X : Type 0} → Resume S X → Then X → Then (Step S X)
+abbrev pub on_step : {S X : Type 0} → Resume S X → Then X → Then (PartSoFar S X)
 on_step resume next (More s) lines = resume s next lines
 on_step resume next (Whole x) lines = next x lines
 
@@ -177,7 +177,7 @@ blocks_law v pair look gone blocks (suc k) next lines =
     (on_suc k (Whole (first.Cut pair look gone blocks)) (λ later. More (first_state.Blocks pair look gone blocks later block.Count))))
 
 with_block_law : (v : ℕ) (pair look : ℕ) (gone : List GoneBy) (blocks : List RelBlock) (later : ℕ) (next : Then FirstStep)
-    (s : Step BlockState RelBlock) (lines : List Line)
+    (s : PartSoFar BlockState RelBlock) (lines : List Line)
     → on_step (resume_block v) (block_of_cut v pair look gone blocks later next) s lines
     ≡ on_step (resume_first v) next (with_rel_block pair look gone blocks later s) lines
 unfolding with_rel_block
@@ -235,7 +235,7 @@ first_steps_law v steps (suc k) next lines =
     sym (ap (λ s. on_step (resume_first_log v) next s lines)
     (on_suc k (Whole steps) (λ later. More (first_log.Steps steps later first_state.Head))))
 
-with_first_law : (v : ℕ) (steps : List FirstStep) (later : ℕ) (next : Then (List FirstStep)) (s : Step FirstState FirstStep) (lines : List Line)
+with_first_law : (v : ℕ) (steps : List FirstStep) (later : ℕ) (next : Then (List FirstStep)) (s : PartSoFar FirstState FirstStep) (lines : List Line)
     → on_step (resume_first v) (step_of_first v steps later next) s lines
     ≡ on_step (resume_first_log v) next (with_first steps later s) lines
 unfolding with_first
@@ -285,21 +285,21 @@ second_head_law v m (second_head.Trim kept) next lines = refl
 second_head_law v m (second_head.Merge by) next lines = refl
 second_head_law v m (second_head.Cut) next lines = refl
 
-forward_law : (v : ℕ) (m : Mode) (look : ℕ) (classes : List ℕ) (next : Then SecondStep) (s : Step BlockState RelBlock) (lines : List Line)
+forward_law : (v : ℕ) (m : Mode) (look : ℕ) (classes : List ℕ) (next : Then SecondStep) (s : PartSoFar BlockState RelBlock) (lines : List Line)
     → on_step (resume_block v) (λ rel. next (second.Merge (grounds.Forward look rel) classes)) s lines
     ≡ on_step (resume_second v m) next (with_forward look classes s) lines
 unfolding with_forward
 forward_law v m look classes next (More at) lines = refl
 forward_law v m look classes next (Whole rel) lines = refl
 
-backward_law : (v : ℕ) (m : Mode) (look : ℕ) (classes : List ℕ) (next : Then SecondStep) (s : Step BlockState RelBlock) (lines : List Line)
+backward_law : (v : ℕ) (m : Mode) (look : ℕ) (classes : List ℕ) (next : Then SecondStep) (s : PartSoFar BlockState RelBlock) (lines : List Line)
     → on_step (resume_block v) (λ rel. next (second.Merge (grounds.Backward look rel) classes)) s lines
     ≡ on_step (resume_second v m) next (with_backward look classes s) lines
 unfolding with_backward
 backward_law v m look classes next (More at) lines = refl
 backward_law v m look classes next (Whole rel) lines = refl
 
-delayed_law : (v : ℕ) (m : Mode) (letters : ℕ) (classes : List ℕ) (next : Then SecondStep) (s : Step RankState RankBlock) (lines : List Line)
+delayed_law : (v : ℕ) (m : Mode) (letters : ℕ) (classes : List ℕ) (next : Then SecondStep) (s : PartSoFar RankState RankBlock) (lines : List Line)
     → on_step (resume_ranks letters) (λ ranks. next (second.Merge (grounds.Delayed letters ranks) classes)) s lines
     ≡ on_step (resume_second v m) next (with_delayed letters classes s) lines
 unfolding with_delayed
@@ -364,7 +364,7 @@ second_steps_law v m steps (suc k) next lines =
     sym (ap (λ s. on_step (resume_second_log v m) next s lines)
     (on_suc k (Whole steps) (λ later. More (second_log.Steps steps later second_state.Head))))
 
-with_second_law : (v : ℕ) (m : Mode) (steps : List SecondStep) (later : ℕ) (next : Then (List SecondStep)) (s : Step SecondState SecondStep) (lines : List Line)
+with_second_law : (v : ℕ) (m : Mode) (steps : List SecondStep) (later : ℕ) (next : Then (List SecondStep)) (s : PartSoFar SecondState SecondStep) (lines : List Line)
     → on_step (resume_second v m) (step_of_second v m steps later next) s lines
     ≡ on_step (resume_second_log v m) next (with_second steps later s) lines
 unfolding with_second

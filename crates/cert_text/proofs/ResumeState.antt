@@ -5,10 +5,10 @@ use Rattle.auto_core.specs.declared.parts.Origin.{Origin}
 use Rattle.cert_value.specs.declared.keywords.Keyword.TheVariants as keyword
 use Rattle.cert_line.specs.declared.shapes.Tail.TheVariants as tail
 use Rattle.cert_line.specs.declared.faults.TextKind.TheVariants.{Truncated}
-use Rattle.cert_text.specs.declared.parts.Step.{Step}
-use Rattle.cert_text.specs.declared.parts.Step.TheVariants.{More, Whole}
+use Rattle.cert_text.specs.declared.parts.PartSoFar.{PartSoFar}
+use Rattle.cert_text.specs.declared.parts.PartSoFar.TheVariants.{More, Whole}
 use Rattle.cert_text.specs.declared.parts.Closed.{Closed}
-use Rattle.cert_text.specs.declared.parts.Limited.{Limited}
+use Rattle.cert_text.specs.declared.parts.ListPart.{ListPart}
 use Rattle.cert_value.specs.declared.types.Form.{Form}
 use Rattle.cert_value.specs.declared.types.Form.TheVariants as form
 use Rattle.cert_value.specs.declared.types.Body.{Body}
@@ -34,7 +34,7 @@ use Rattle.cert_text.specs.declared.machine.State.TheVariants as state
 use Rattle.cert_value.specs.Text.{Line}
 use Rattle.cert_value.specs.WellFormed.{is_live}
 use Rattle.cert_line.specs.Lines.{word_in, number_in, numbers_in, sizes_in, heading_in, origin_in, element_in, step_in}
-use Rattle.cert_text.specs.Grammar.{ReadOutcome, Stopped, Then, after, next_line, read_elements, read_steps, read_origins, read_cover, read_all_elements, read_all_origins, read_limited, read_turn, read_lasso, read_word, yes_of, list_of, read_evidence, read_after_first, finish, cert_of, read_end, read_rest, read_sizes}
+use Rattle.cert_text.specs.Grammar.{ReadOutcome, Stopped, Then, after, next_line, read_elements, read_steps, read_origins, read_cover, read_all_elements, read_all_origins, read_list_part, read_turn, read_lasso, read_word, yes_of, list_of, read_evidence, read_after_first, finish, cert_of, read_end, read_rest, read_sizes}
 use Rattle.cert_text.specs.Machine.{step_block, step_first_log, step_second_log, elements_left, live_from, step_or_whole, steps_left, with_order, step_yes, origins_left, step_list, step_no, whole, begun, with_no, with_first_log, evidence_due, with_second_log, with_yes, with_list, step, at_end}
 use Rattle.cert_text.proofs.Resume.{Resume, on_step, arm, on_suc, resume_block, block_law, block_last, resume_first_log, first_log_law, first_log_last, resume_second_log, second_log_law, second_log_last}
 use Rattle.cert_value.proofs.SplitLemmas.{drop_one}
@@ -56,7 +56,7 @@ resume_yes v m (yes_state.Step order elements cover steps at) next =
     next_line (step_in at)
     (λ step. read_steps (at + 1) (drop (at + 1) elements) (steps ++ step ∷ []) (closed_next order elements cover next))
 
-order_law : (v : ℕ) (m : Mode) (next : Then Closed) (s : Step BlockState RelBlock) (lines : List Line)
+order_law : (v : ℕ) (m : Mode) (next : Then Closed) (s : PartSoFar BlockState RelBlock) (lines : List Line)
     → on_step (resume_block v) (λ order. read_all_elements m order next) s lines
     ≡ on_step (resume_yes v m) next (with_order s) lines
 unfolding with_order
@@ -139,16 +139,16 @@ yes_last v m (yes_state.Cover order elements) next piece = refl
 yes_last v m (yes_state.Step order elements cover steps at) next piece = refl
 
 -- The evidence of a list.
-abbrev pub limited_next : ℕ → Then Limited → Then (List Origin)
-limited_next limit next elements = next (record { limit = limit; elements = elements })
+abbrev pub list_part_next : ℕ → Then ListPart → Then (List Origin)
+list_part_next limit next elements = next (record { limit = limit; elements = elements })
 
-abbrev pub resume_list : Mode → Resume ListState Limited
-resume_list m (list_state.Limit) next = read_limited m next
+abbrev pub resume_list : Mode → Resume ListState ListPart
+resume_list m (list_state.Limit) next = read_list_part m next
 resume_list m (list_state.Count limit) next = read_all_origins m limit next
-resume_list m (list_state.Origin limit elements later) next = read_origins m (suc later) elements (limited_next limit next)
+resume_list m (list_state.Origin limit elements later) next = read_origins m (suc later) elements (list_part_next limit next)
 
-origins_law : (m : Mode) (limit : ℕ) (elements : List Origin) (n : ℕ) (next : Then Limited) (lines : List Line)
-    → read_origins m n elements (limited_next limit next) lines
+origins_law : (m : Mode) (limit : ℕ) (elements : List Origin) (n : ℕ) (next : Then ListPart) (lines : List Line)
+    → read_origins m n elements (list_part_next limit next) lines
     ≡ on_step (resume_list m) next (origins_left limit elements n) lines
 unfolding origins_left
 origins_law m limit elements zero next lines = refl
@@ -156,7 +156,7 @@ origins_law m limit elements (suc k) next lines =
     sym (ap (λ s. on_step (resume_list m) next s lines)
     (on_suc k (Whole (record { limit = limit; elements = elements })) (λ later. More (list_state.Origin limit elements later))))
 
-pub list_law : (m : Mode) (s : ListState) (next : Then Limited) (line other : Line) (rest : List Line)
+pub list_law : (m : Mode) (s : ListState) (next : Then ListPart) (line other : Line) (rest : List Line)
     → resume_list m s next (line ∷ other ∷ rest)
     ≡ after (step_list m s line) (on_step (resume_list m) next) (line ∷ other ∷ rest) (other ∷ rest)
 unfolding step_list
@@ -164,14 +164,14 @@ list_law m (list_state.Limit) next line other rest =
     arm (λ limit. More (list_state.Count limit)) (number_in keyword.Limit line) (λ limit. read_all_origins m limit next)
     (on_step (resume_list m) next) (λ limit lines. refl) (line ∷ other ∷ rest) (other ∷ rest)
 list_law m (list_state.Count limit) next line other rest =
-    arm (λ n. origins_left limit [] n) (number_in keyword.Elements line) (λ n. read_origins m n [] (limited_next limit next))
+    arm (λ n. origins_left limit [] n) (number_in keyword.Elements line) (λ n. read_origins m n [] (list_part_next limit next))
     (on_step (resume_list m) next) (λ n lines. origins_law m limit [] n next lines) (line ∷ other ∷ rest) (other ∷ rest)
 list_law m (list_state.Origin limit elements later) next line other rest =
     arm (λ from. origins_left limit (elements ++ from ∷ []) later) (origin_in m line)
-    (λ from. read_origins m later (elements ++ from ∷ []) (limited_next limit next)) (on_step (resume_list m) next)
+    (λ from. read_origins m later (elements ++ from ∷ []) (list_part_next limit next)) (on_step (resume_list m) next)
     (λ from lines. origins_law m limit (elements ++ from ∷ []) later next lines) (line ∷ other ∷ rest) (other ∷ rest)
 
-pub list_last : (m : Mode) (s : ListState) (next : Then Limited) (piece : Line)
+pub list_last : (m : Mode) (s : ListState) (next : Then ListPart) (piece : Line)
     → resume_list m s next (piece ∷ []) ≡ Stopped Truncated (piece ∷ [])
 list_last m (list_state.Limit) next piece = refl
 list_last m (list_state.Count limit) next piece = refl
@@ -217,7 +217,7 @@ resume (state.First o at) = resume_first_log o.version at (λ firsts. read_after
 resume (state.Second o firsts at) =
     resume_second_log o.version o.mode at (λ seconds. read_evidence o.version o.mode o.form firsts seconds (closing o))
 resume (state.Yes o firsts seconds at) = resume_yes o.version o.mode at (λ closed. closing o (yes_of firsts seconds closed))
-resume (state.List o firsts seconds at) = resume_list o.mode at (λ limited. closing o (list_of firsts seconds limited))
+resume (state.List o firsts seconds at) = resume_list o.mode at (λ list_part. closing o (list_of firsts seconds list_part))
 resume (state.End c) = read_end c
 resume (state.Done c) = finish c
 
@@ -230,13 +230,13 @@ begun_law v (mode.Buchi) (form.No) sizes lines = refl
 begun_law v (mode.Finite) (form.No) sizes lines = refl
 begun_law v m (form.List) sizes lines = refl
 
-with_no_law : (o : Opening) (s : Step NoState Body) (lines : List Line)
+with_no_law : (o : Opening) (s : PartSoFar NoState Body) (lines : List Line)
     → on_step resume_no (closing o) s lines ≡ resume (with_no o s) lines
 unfolding with_no whole
 with_no_law o (More at) lines = refl
 with_no_law o (Whole b) lines = refl
 
-with_first_log_law : (o : Opening) (s : Step FirstLog (List FirstStep)) (lines : List Line)
+with_first_log_law : (o : Opening) (s : PartSoFar FirstLog (List FirstStep)) (lines : List Line)
     → on_step (resume_first_log o.version) (λ firsts. read_after_first o.version o.mode o.form firsts (closing o)) s lines
     ≡ resume (with_first_log o s) lines
 unfolding with_first_log
@@ -251,26 +251,26 @@ evidence_law v m (form.Yes) sizes firsts seconds lines = refl
 evidence_law v m (form.No) sizes firsts seconds lines = refl
 evidence_law v m (form.List) sizes firsts seconds lines = refl
 
-with_second_log_law : (o : Opening) (firsts : List FirstStep) (s : Step SecondLog (List SecondStep)) (lines : List Line)
+with_second_log_law : (o : Opening) (firsts : List FirstStep) (s : PartSoFar SecondLog (List SecondStep)) (lines : List Line)
     → on_step (resume_second_log o.version o.mode) (λ seconds. read_evidence o.version o.mode o.form firsts seconds (closing o)) s lines
     ≡ resume (with_second_log o firsts s) lines
 unfolding with_second_log
 with_second_log_law o firsts (More at) lines = refl
 with_second_log_law o firsts (Whole seconds) lines = evidence_law o.version o.mode o.form o.sizes firsts seconds lines
 
-with_yes_law : (o : Opening) (firsts : List FirstStep) (seconds : List SecondStep) (s : Step YesState Closed) (lines : List Line)
+with_yes_law : (o : Opening) (firsts : List FirstStep) (seconds : List SecondStep) (s : PartSoFar YesState Closed) (lines : List Line)
     → on_step (resume_yes o.version o.mode) (λ closed. closing o (yes_of firsts seconds closed)) s lines
     ≡ resume (with_yes o firsts seconds s) lines
 unfolding with_yes whole
 with_yes_law o firsts seconds (More at) lines = refl
 with_yes_law o firsts seconds (Whole closed) lines = refl
 
-with_list_law : (o : Opening) (firsts : List FirstStep) (seconds : List SecondStep) (s : Step ListState Limited) (lines : List Line)
-    → on_step (resume_list o.mode) (λ limited. closing o (list_of firsts seconds limited)) s lines
+with_list_law : (o : Opening) (firsts : List FirstStep) (seconds : List SecondStep) (s : PartSoFar ListState ListPart) (lines : List Line)
+    → on_step (resume_list o.mode) (λ list_part. closing o (list_of firsts seconds list_part)) s lines
     ≡ resume (with_list o firsts seconds s) lines
 unfolding with_list whole
 with_list_law o firsts seconds (More at) lines = refl
-with_list_law o firsts seconds (Whole limited) lines = refl
+with_list_law o firsts seconds (Whole list_part) lines = refl
 
 -- a line read from a state comes to what is read on from the next state
 pub state_law : (s : State) (line other : Line) (rest : List Line)
@@ -301,7 +301,7 @@ state_law (state.Yes o firsts seconds at) line other rest =
     ∙ arm (with_yes o firsts seconds) (step_yes o.version o.mode at line) (on_step (resume_yes o.version o.mode) k) resume
     (with_yes_law o firsts seconds) (line ∷ other ∷ rest) (other ∷ rest)
 state_law (state.List o firsts seconds at) line other rest =
-    let k = λ (limited : Limited). closing o (list_of firsts seconds limited) in
+    let k = λ (list_part : ListPart). closing o (list_of firsts seconds list_part) in
     list_law o.mode at k line other rest
     ∙ arm (with_list o firsts seconds) (step_list o.mode at line) (on_step (resume_list o.mode) k) resume
     (with_list_law o firsts seconds) (line ∷ other ∷ rest) (other ∷ rest)
@@ -322,6 +322,6 @@ state_last (state.Second o firsts at) piece =
 state_last (state.Yes o firsts seconds at) piece =
     yes_last o.version o.mode at (λ closed. closing o (yes_of firsts seconds closed)) piece
 state_last (state.List o firsts seconds at) piece =
-    list_last o.mode at (λ limited. closing o (list_of firsts seconds limited)) piece
+    list_last o.mode at (λ list_part. closing o (list_of firsts seconds list_part)) piece
 state_last (state.End c) piece = refl
 state_last (state.Done c) piece = refl

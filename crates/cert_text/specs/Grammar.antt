@@ -27,7 +27,7 @@ use Rattle.cert_value.specs.declared.types.RankRow.{RankRow}
 use Rattle.cert_value.specs.declared.types.Element.{Element}
 use Rattle.cert_value.specs.declared.types.StepLine.{StepLine}
 use Rattle.cert_text.specs.declared.parts.Closed.{Closed}
-use Rattle.cert_text.specs.declared.parts.Limited.{Limited}
+use Rattle.cert_text.specs.declared.parts.ListPart.{ListPart}
 use Rattle.cert_line.specs.declared.lines.Sizes.{Sizes}
 use Rattle.cert_line.specs.declared.lines.Heading.{Heading}
 use Rattle.cert_line.specs.declared.heads.FirstHead.{FirstHead}
@@ -171,13 +171,13 @@ abbrev pub read_closed : ℕ → Mode → Then Closed → List Line → ReadOutc
 read_closed v m next = read_block v (λ order. read_all_elements m order next)
 
 -- What a list has after the logs.
-abbrev pub read_all_origins : Mode → ℕ → Then Limited → List Line → ReadOutcome
+abbrev pub read_all_origins : Mode → ℕ → Then ListPart → List Line → ReadOutcome
 read_all_origins m limit next =
     next_line (number_in keyword.Elements) (λ n.
     read_origins m n [] (λ elements. next (record { limit = limit; elements = elements })))
 
-abbrev pub read_limited : Mode → Then Limited → List Line → ReadOutcome
-read_limited m next = next_line (number_in keyword.Limit) (λ limit. read_all_origins m limit next)
+abbrev pub read_list_part : Mode → Then ListPart → List Line → ReadOutcome
+read_list_part m next = next_line (number_in keyword.Limit) (λ limit. read_all_origins m limit next)
 
 -- The first log.
 abbrev pub read_first_log : ℕ → Then (List FirstStep) → List Line → ReadOutcome
@@ -210,15 +210,15 @@ yes_of firsts seconds closed = body.Yes (record {
   steps = closed.steps;
 })
 
-abbrev pub list_of : List FirstStep → List SecondStep → Limited → Body
-list_of firsts seconds limited =
-    body.Listing (record { first = firsts; second = seconds; limit = limited.limit; elements = limited.elements })
+abbrev pub list_of : List FirstStep → List SecondStep → ListPart → Body
+list_of firsts seconds list_part =
+    body.Listing (record { first = firsts; second = seconds; limit = list_part.limit; elements = list_part.elements })
 
 -- The evidence behind the logs. A no has no logs, and so none comes here.
 abbrev pub read_evidence : ℕ → Mode → Form → List FirstStep → List SecondStep → Then Body → List Line → ReadOutcome
 read_evidence v m (form.Yes) firsts seconds next = read_closed v m (λ closed. next (yes_of firsts seconds closed))
 read_evidence v m (form.No) firsts seconds next = read_closed v m (λ closed. next (yes_of firsts seconds closed))
-read_evidence v m (form.List) firsts seconds next = read_limited m (λ limited. next (list_of firsts seconds limited))
+read_evidence v m (form.List) firsts seconds next = read_list_part m (λ list_part. next (list_of firsts seconds list_part))
 
 -- The logs, and what follows them.
 abbrev pub read_after_first : ℕ → Mode → Form → List FirstStep → Then Body → List Line → ReadOutcome

@@ -7,10 +7,10 @@ use Rattle.auto_core.specs.declared.parts.Origin.{Origin}
 use Rattle.cert_value.specs.declared.keywords.Keyword.TheVariants as keyword
 use Rattle.cert_line.specs.declared.shapes.Tail.TheVariants as tail
 use Rattle.cert_line.specs.declared.faults.TextKind.TheVariants as kind
-use Rattle.cert_text.specs.declared.parts.Step.{Step}
-use Rattle.cert_text.specs.declared.parts.Step.TheVariants.{More, Whole}
+use Rattle.cert_text.specs.declared.parts.PartSoFar.{PartSoFar}
+use Rattle.cert_text.specs.declared.parts.PartSoFar.TheVariants.{More, Whole}
 use Rattle.cert_text.specs.declared.parts.Closed.{Closed}
-use Rattle.cert_text.specs.declared.parts.Limited.{Limited}
+use Rattle.cert_text.specs.declared.parts.ListPart.{ListPart}
 use Rattle.cert_value.specs.declared.types.Form.TheVariants as form
 use Rattle.cert_value.specs.declared.types.Cert.{Cert}
 use Rattle.cert_value.specs.declared.types.Body.{Body}
@@ -71,10 +71,10 @@ abbrev pub on_or : {A : Type 0} → ℕ → A → (ℕ → A) → A
 on_or n over more = cond (n == 0) over (more (n - 1))
 
 -- Relations.
-unfoldable pub rows_due : List Row → ℕ → ℕ → Step BlockState RelBlock
+unfoldable pub rows_due : List Row → ℕ → ℕ → PartSoFar BlockState RelBlock
 rows_due rows bound n = on_or n (Whole (record { rows = rows })) (λ later. More (block.Row rows bound later))
 
-unfoldable pub step_block : ℕ → BlockState → Line → Said (Step BlockState RelBlock)
+unfoldable pub step_block : ℕ → BlockState → Line → Said (PartSoFar BlockState RelBlock)
 step_block v (block.Count) line = map_said (λ n. rows_due [] 0 n) (number_in keyword.Rel line)
 step_block v (block.Row rows bound later) line =
     map_said (λ row. rows_due (rows ++ row ∷ []) (row.left + 1) later) (row_in v bound line)
@@ -83,30 +83,30 @@ step_block v (block.Row rows bound later) line =
 abbrev pub last_key : List RankRow → List ℕ
 last_key rows = key_before (slice_get rows (length rows - 1))
 
-unfoldable pub rank_rows_due : List RankRow → ℕ → Step RankState RankBlock
+unfoldable pub rank_rows_due : List RankRow → ℕ → PartSoFar RankState RankBlock
 rank_rows_due rows n = on_or n (Whole (record { rows = rows })) (λ later. More (rank.Row rows later))
 
-unfoldable pub step_ranks : ℕ → RankState → Line → Said (Step RankState RankBlock)
+unfoldable pub step_ranks : ℕ → RankState → Line → Said (PartSoFar RankState RankBlock)
 step_ranks letters (rank.Count) line = map_said (λ n. rank_rows_due [] n) (number_in keyword.Rel line)
 step_ranks letters (rank.Row rows later) line =
     map_said (λ row. rank_rows_due (rows ++ row ∷ []) later) (rank_row_in letters (last_key rows) line)
 
 -- Steps of the first log.
-unfoldable pub blocks_left : ℕ → ℕ → List GoneBy → List RelBlock → ℕ → Step FirstState FirstStep
+unfoldable pub blocks_left : ℕ → ℕ → List GoneBy → List RelBlock → ℕ → PartSoFar FirstState FirstStep
 blocks_left pair look gone blocks n =
     on_or n (Whole (first.Cut pair look gone blocks))
     (λ later. More (first_state.Blocks pair look gone blocks later block.Count))
 
-unfoldable pub with_rel_block : ℕ → ℕ → List GoneBy → List RelBlock → ℕ → Step BlockState RelBlock → Step FirstState FirstStep
+unfoldable pub with_rel_block : ℕ → ℕ → List GoneBy → List RelBlock → ℕ → PartSoFar BlockState RelBlock → PartSoFar FirstState FirstStep
 with_rel_block pair look gone blocks later (More at) = More (first_state.Blocks pair look gone blocks later at)
 with_rel_block pair look gone blocks later (Whole b) = blocks_left pair look gone (blocks ++ b ∷ []) later
 
-unfoldable pub first_started : FirstHead → Step FirstState FirstStep
+unfoldable pub first_started : FirstHead → PartSoFar FirstState FirstStep
 first_started (first_head.Trim kept) = Whole (first.Trim kept)
 first_started (first_head.Merge) = More first_state.Classes
 first_started (first_head.Cut pair look) = More (first_state.Gone pair look)
 
-unfoldable pub step_first : ℕ → FirstState → Line → Said (Step FirstState FirstStep)
+unfoldable pub step_first : ℕ → FirstState → Line → Said (PartSoFar FirstState FirstStep)
 step_first v (first_state.Head) line = map_said first_started (first_head_in line)
 step_first v (first_state.Classes) line =
     map_said (λ classes. Whole (first.Merge classes)) (numbers_in keyword.Classes tail.SomeNumbers line)
@@ -116,14 +116,14 @@ step_first v (first_state.Blocks pair look gone blocks later at) line =
     map_said (with_rel_block pair look gone blocks later) (step_block v at line)
 
 -- The first log.
-unfoldable pub first_left : List FirstStep → ℕ → Step FirstLog (List FirstStep)
+unfoldable pub first_left : List FirstStep → ℕ → PartSoFar FirstLog (List FirstStep)
 first_left steps n = on_or n (Whole steps) (λ later. More (first_log.Steps steps later first_state.Head))
 
-unfoldable pub with_first : List FirstStep → ℕ → Step FirstState FirstStep → Step FirstLog (List FirstStep)
+unfoldable pub with_first : List FirstStep → ℕ → PartSoFar FirstState FirstStep → PartSoFar FirstLog (List FirstStep)
 with_first steps later (More at) = More (first_log.Steps steps later at)
 with_first steps later (Whole step) = first_left (steps ++ step ∷ []) later
 
-unfoldable pub step_first_log : ℕ → FirstLog → Line → Said (Step FirstLog (List FirstStep))
+unfoldable pub step_first_log : ℕ → FirstLog → Line → Said (PartSoFar FirstLog (List FirstStep))
 step_first_log v (first_log.Count) line = map_said (λ n. first_left [] n) (number_in keyword.Log1 line)
 step_first_log v (first_log.Steps steps later at) line = map_said (with_first steps later) (step_first v at line)
 
@@ -133,24 +133,24 @@ rel_due (way.Forward look) classes = second_state.Forward look classes block.Cou
 rel_due (way.Backward look) classes = second_state.Backward look classes block.Count
 rel_due (way.Delayed letters) classes = second_state.Delayed letters classes rank.Count
 
-unfoldable pub with_forward : ℕ → List ℕ → Step BlockState RelBlock → Step SecondState SecondStep
+unfoldable pub with_forward : ℕ → List ℕ → PartSoFar BlockState RelBlock → PartSoFar SecondState SecondStep
 with_forward look classes (More at) = More (second_state.Forward look classes at)
 with_forward look classes (Whole rel) = Whole (second.Merge (grounds.Forward look rel) classes)
 
-unfoldable pub with_backward : ℕ → List ℕ → Step BlockState RelBlock → Step SecondState SecondStep
+unfoldable pub with_backward : ℕ → List ℕ → PartSoFar BlockState RelBlock → PartSoFar SecondState SecondStep
 with_backward look classes (More at) = More (second_state.Backward look classes at)
 with_backward look classes (Whole rel) = Whole (second.Merge (grounds.Backward look rel) classes)
 
-unfoldable pub with_delayed : ℕ → List ℕ → Step RankState RankBlock → Step SecondState SecondStep
+unfoldable pub with_delayed : ℕ → List ℕ → PartSoFar RankState RankBlock → PartSoFar SecondState SecondStep
 with_delayed letters classes (More at) = More (second_state.Delayed letters classes at)
 with_delayed letters classes (Whole ranks) = Whole (second.Merge (grounds.Delayed letters ranks) classes)
 
-unfoldable pub second_started : SecondHead → Step SecondState SecondStep
+unfoldable pub second_started : SecondHead → PartSoFar SecondState SecondStep
 second_started (second_head.Trim kept) = Whole (second.Trim kept)
 second_started (second_head.Merge by) = More (second_state.Classes by)
 second_started (second_head.Cut) = More second_state.Gone
 
-unfoldable pub step_second : ℕ → Mode → SecondState → Line → Said (Step SecondState SecondStep)
+unfoldable pub step_second : ℕ → Mode → SecondState → Line → Said (PartSoFar SecondState SecondStep)
 step_second v m (second_state.Head) line = map_said second_started (second_head_in v m line)
 step_second v m (second_state.Classes by) line =
     map_said (λ classes. More (rel_due by classes)) (numbers_in keyword.Classes tail.SomeNumbers line)
@@ -161,19 +161,19 @@ step_second v m (second_state.Gone) line =
     map_said (λ gone. Whole (second.Cut gone)) (ascending_in keyword.Gone tail.SomeNumbers line)
 
 -- The second log.
-unfoldable pub second_left : List SecondStep → ℕ → Step SecondLog (List SecondStep)
+unfoldable pub second_left : List SecondStep → ℕ → PartSoFar SecondLog (List SecondStep)
 second_left steps n = on_or n (Whole steps) (λ later. More (second_log.Steps steps later second_state.Head))
 
-unfoldable pub with_second : List SecondStep → ℕ → Step SecondState SecondStep → Step SecondLog (List SecondStep)
+unfoldable pub with_second : List SecondStep → ℕ → PartSoFar SecondState SecondStep → PartSoFar SecondLog (List SecondStep)
 with_second steps later (More at) = More (second_log.Steps steps later at)
 with_second steps later (Whole step) = second_left (steps ++ step ∷ []) later
 
-unfoldable pub step_second_log : ℕ → Mode → SecondLog → Line → Said (Step SecondLog (List SecondStep))
+unfoldable pub step_second_log : ℕ → Mode → SecondLog → Line → Said (PartSoFar SecondLog (List SecondStep))
 step_second_log v m (second_log.Count) line = map_said (λ n. second_left [] n) (number_in keyword.Log2 line)
 step_second_log v m (second_log.Steps steps later at) line = map_said (with_second steps later) (step_second v m at line)
 
 -- The evidence of a yes.
-unfoldable pub elements_left : RelBlock → List Element → ℕ → Step YesState Closed
+unfoldable pub elements_left : RelBlock → List Element → ℕ → PartSoFar YesState Closed
 elements_left order elements n =
     on_or n (More (yes_state.Cover order elements)) (λ later. More (yes_state.Element order elements later))
 
@@ -182,19 +182,19 @@ abbrev pub live_from : ℕ → List Element → Option ℕ
 live_from n [] = None
 live_from n (e ∷ es) = cond (is_live e.mark) (Some n) (live_from (n + 1) es)
 
-unfoldable pub step_or_whole : RelBlock → List Element → List ℕ → List StepLine → Option ℕ → Step YesState Closed
+unfoldable pub step_or_whole : RelBlock → List Element → List ℕ → List StepLine → Option ℕ → PartSoFar YesState Closed
 step_or_whole order elements cover steps None =
     Whole (record { order = order; elements = elements; cover = cover; steps = steps })
 step_or_whole order elements cover steps (Some at) = More (yes_state.Step order elements cover steps at)
 
-unfoldable pub steps_left : RelBlock → List Element → List ℕ → List StepLine → ℕ → Step YesState Closed
+unfoldable pub steps_left : RelBlock → List Element → List ℕ → List StepLine → ℕ → PartSoFar YesState Closed
 steps_left order elements cover steps n = step_or_whole order elements cover steps (live_from n (drop n elements))
 
-unfoldable pub with_order : Step BlockState RelBlock → Step YesState Closed
+unfoldable pub with_order : PartSoFar BlockState RelBlock → PartSoFar YesState Closed
 with_order (More at) = More (yes_state.Order at)
 with_order (Whole order) = More (yes_state.Elements order)
 
-unfoldable pub step_yes : ℕ → Mode → YesState → Line → Said (Step YesState Closed)
+unfoldable pub step_yes : ℕ → Mode → YesState → Line → Said (PartSoFar YesState Closed)
 step_yes v m (yes_state.Order at) line = map_said with_order (step_block v at line)
 step_yes v m (yes_state.Elements order) line = map_said (λ n. elements_left order [] n) (number_in keyword.Elements line)
 step_yes v m (yes_state.Element order elements later) line =
@@ -205,18 +205,18 @@ step_yes v m (yes_state.Step order elements cover steps at) line =
     map_said (λ step. steps_left order elements cover (steps ++ step ∷ []) (at + 1)) (step_in at line)
 
 -- The evidence of a list.
-unfoldable pub origins_left : ℕ → List Origin → ℕ → Step ListState Limited
+unfoldable pub origins_left : ℕ → List Origin → ℕ → PartSoFar ListState ListPart
 origins_left limit elements n =
     on_or n (Whole (record { limit = limit; elements = elements })) (λ later. More (list_state.Origin limit elements later))
 
-unfoldable pub step_list : Mode → ListState → Line → Said (Step ListState Limited)
+unfoldable pub step_list : Mode → ListState → Line → Said (PartSoFar ListState ListPart)
 step_list m (list_state.Limit) line = map_said (λ limit. More (list_state.Count limit)) (number_in keyword.Limit line)
 step_list m (list_state.Count limit) line = map_said (λ n. origins_left limit [] n) (number_in keyword.Elements line)
 step_list m (list_state.Origin limit elements later) line =
     map_said (λ from. origins_left limit (elements ++ from ∷ []) later) (origin_in m line)
 
 -- The evidence of a no.
-unfoldable pub step_no : NoState → Line → Said (Step NoState Body)
+unfoldable pub step_no : NoState → Line → Said (PartSoFar NoState Body)
 step_no (no_state.Prefix) line =
     map_said (λ prefix. More (no_state.Turn prefix)) (numbers_in keyword.Prefix tail.Numbers line)
 step_no (no_state.Turn prefix) line =
@@ -238,11 +238,11 @@ begun h sizes = elim h.form [
   | form.List ↦ state.First (record { version = h.version; mode = h.mode; form = form.List; sizes = sizes }) first_log.Count
 ]
 
-unfoldable pub with_no : Opening → Step NoState Body → State
+unfoldable pub with_no : Opening → PartSoFar NoState Body → State
 with_no o (More at) = state.No o at
 with_no o (Whole b) = whole o b
 
-unfoldable pub with_first_log : Opening → Step FirstLog (List FirstStep) → State
+unfoldable pub with_first_log : Opening → PartSoFar FirstLog (List FirstStep) → State
 with_first_log o (More at) = state.First o at
 with_first_log o (Whole firsts) = state.Second o firsts second_log.Count
 
@@ -254,17 +254,17 @@ evidence_due o firsts seconds = elim o.form [
   | form.List ↦ state.List o firsts seconds list_state.Limit
 ]
 
-unfoldable pub with_second_log : Opening → List FirstStep → Step SecondLog (List SecondStep) → State
+unfoldable pub with_second_log : Opening → List FirstStep → PartSoFar SecondLog (List SecondStep) → State
 with_second_log o firsts (More at) = state.Second o firsts at
 with_second_log o firsts (Whole seconds) = evidence_due o firsts seconds
 
-unfoldable pub with_yes : Opening → List FirstStep → List SecondStep → Step YesState Closed → State
+unfoldable pub with_yes : Opening → List FirstStep → List SecondStep → PartSoFar YesState Closed → State
 with_yes o firsts seconds (More at) = state.Yes o firsts seconds at
 with_yes o firsts seconds (Whole closed) = whole o (yes_of firsts seconds closed)
 
-unfoldable pub with_list : Opening → List FirstStep → List SecondStep → Step ListState Limited → State
+unfoldable pub with_list : Opening → List FirstStep → List SecondStep → PartSoFar ListState ListPart → State
 with_list o firsts seconds (More at) = state.List o firsts seconds at
-with_list o firsts seconds (Whole limited) = whole o (list_of firsts seconds limited)
+with_list o firsts seconds (Whole list_part) = whole o (list_of firsts seconds list_part)
 
 -- What the line makes of the state.
 unfoldable pub step : State → Line → Said State

@@ -5,7 +5,7 @@ ghost use Rattle.cert_value.specs.Tokens.{tokens_of};
 ghost use Rattle.cert_line.specs.Agrees.{Agrees};
 ghost use Rattle.cert_text.specs.Machine.{rows_due, rank_rows_due, step_block, step_ranks};
 
-use crate::parts::{Step, pushed};
+use crate::parts::{PartSoFar, pushed};
 use auto_core::List;
 use cert_line::{LineFault, number_in, rank_row_in, row_in};
 use cert_value::{Keyword, RankBlock, RankRow, RelBlock, Row};
@@ -29,13 +29,13 @@ pub(crate) enum BlockState {
 
 /// What is due with these rows, and this many to come.
 #[tactic(auto, unfolding(crate::specs::Machine::rows_due))]
-fn rows_due(rows: List<Row>, bound: u64, left: u32) -> Step<BlockState, RelBlock>
+fn rows_due(rows: List<Row>, bound: u64, left: u32) -> PartSoFar<BlockState, RelBlock>
     ensures { result ≡ rows_due rows bound left }
 {
     if left == 0 {
-        Step::Whole(RelBlock { rows })
+        PartSoFar::Whole(RelBlock { rows })
     } else {
-        Step::More(BlockState::Row {
+        PartSoFar::More(BlockState::Row {
             rows,
             bound,
             later: left - 1,
@@ -50,7 +50,7 @@ pub(crate) fn step_block(
     version: u32,
     state: BlockState,
     line: &[u8],
-) -> Result<Step<BlockState, RelBlock>, LineFault>
+) -> Result<PartSoFar<BlockState, RelBlock>, LineFault>
     ensures { Agrees (step_block version state (tokens_of line.now)) result }
 {
     match state {
@@ -87,13 +87,13 @@ pub(crate) enum RankState {
 
 /// What is due with these rows, and this many to come.
 #[tactic(auto, unfolding(crate::specs::Machine::rank_rows_due))]
-fn rank_rows_due(rows: List<RankRow>, left: u32) -> Step<RankState, RankBlock>
+fn rank_rows_due(rows: List<RankRow>, left: u32) -> PartSoFar<RankState, RankBlock>
     ensures { result ≡ rank_rows_due rows left }
 {
     if left == 0 {
-        Step::Whole(RankBlock { rows })
+        PartSoFar::Whole(RankBlock { rows })
     } else {
-        Step::More(RankState::Row {
+        PartSoFar::More(RankState::Row {
             rows,
             later: left - 1,
         })
@@ -107,7 +107,7 @@ pub(crate) fn step_ranks(
     letters: u32,
     state: RankState,
     line: &[u8],
-) -> Result<Step<RankState, RankBlock>, LineFault>
+) -> Result<PartSoFar<RankState, RankBlock>, LineFault>
     ensures { Agrees (step_ranks letters state (tokens_of line.now)) result }
 {
     match state {

@@ -8,7 +8,7 @@ ghost use Rattle.cert_line.specs.Agrees.{Agrees};
 ghost use Rattle.cert_text.specs.Machine.{elements_left, live_from, step_or_whole, steps_left, with_order, step_yes, origins_left, step_list, step_no, step_block, map_said};
 
 use crate::blocks::{BlockState, step_block};
-use crate::parts::{Closed, Limited, Step, pushed};
+use crate::parts::{Closed, ListPart, PartSoFar, pushed};
 use auto_core::{Lasso, List, Mode, Origin};
 use cert_line::{LineFault, Tail, element_in, number_in, numbers_in, origin_in, step_in};
 use cert_value::{Body, Element, Keyword, RelBlock, StepLine, is_live};
@@ -83,13 +83,13 @@ pub(crate) enum NoState {
 
 /// What is due with these elements, and this many to come.
 #[tactic(auto, unfolding(crate::specs::Machine::elements_left))]
-fn elements_left(order: RelBlock, elements: List<Element>, left: u32) -> Step<YesState, Closed>
+fn elements_left(order: RelBlock, elements: List<Element>, left: u32) -> PartSoFar<YesState, Closed>
     ensures { result ≡ elements_left order elements left }
 {
     if left == 0 {
-        Step::More(YesState::Cover { order, elements })
+        PartSoFar::More(YesState::Cover { order, elements })
     } else {
-        Step::More(YesState::Element {
+        PartSoFar::More(YesState::Element {
             order,
             elements,
             later: left - 1,
@@ -119,17 +119,17 @@ fn steps_left(
     cover: List<u32>,
     steps: List<StepLine>,
     from: usize,
-) -> Step<YesState, Closed>
+) -> PartSoFar<YesState, Closed>
     ensures { result ≡ steps_left order elements cover steps from }
 {
     match live_from(elements.as_slice(), from) {
-        None => Step::Whole(Closed {
+        None => PartSoFar::Whole(Closed {
             order,
             elements,
             cover,
             steps,
         }),
-        Some(at) => Step::More(YesState::Step {
+        Some(at) => PartSoFar::More(YesState::Step {
             order,
             elements,
             cover,
@@ -146,12 +146,12 @@ fn next_in_order(
     version: u32,
     at: BlockState,
     line: &[u8],
-) -> Result<Step<YesState, Closed>, LineFault>
+) -> Result<PartSoFar<YesState, Closed>, LineFault>
     ensures { Agrees (map_said with_order (step_block version at (tokens_of line.now))) result }
 {
     match step_block(alloc, version, at, line) {
-        Ok(Step::More(at)) => Ok(Step::More(YesState::Order(at))),
-        Ok(Step::Whole(order)) => Ok(Step::More(YesState::Elements(order))),
+        Ok(PartSoFar::More(at)) => Ok(PartSoFar::More(YesState::Order(at))),
+        Ok(PartSoFar::Whole(order)) => Ok(PartSoFar::More(YesState::Elements(order))),
         Err(fault) => Err(fault),
     }
 }
@@ -165,7 +165,7 @@ fn next_element(
     elements: List<Element>,
     later: u32,
     line: &[u8],
-) -> Result<Step<YesState, Closed>, LineFault>
+) -> Result<PartSoFar<YesState, Closed>, LineFault>
     ensures { Agrees (step_yes version mode (yes_state.Element order elements later) (tokens_of line.now)) result }
 {
     match element_in(mode, line) {
@@ -186,7 +186,7 @@ fn next_step(
     steps: List<StepLine>,
     at: usize,
     line: &[u8],
-) -> Result<Step<YesState, Closed>, LineFault>
+) -> Result<PartSoFar<YesState, Closed>, LineFault>
     ensures { Agrees
         (map_said (λ step. steps_left order elements cover (steps ++ step ∷ []) (at + 1)) (step_in at (tokens_of line.now)))
         result }
@@ -208,7 +208,7 @@ pub(crate) fn step_yes(
     mode: Mode,
     state: YesState,
     line: &[u8],
-) -> Result<Step<YesState, Closed>, LineFault>
+) -> Result<PartSoFar<YesState, Closed>, LineFault>
     ensures { Agrees (step_yes version mode state (tokens_of line.now)) result }
 {
     match state {
@@ -243,13 +243,13 @@ pub(crate) fn step_yes(
 
 /// What is due with these elements of a list, and this many to come.
 #[tactic(auto, unfolding(crate::specs::Machine::origins_left))]
-fn origins_left(limit: u32, elements: List<Origin>, left: u32) -> Step<ListState, Limited>
+fn origins_left(limit: u32, elements: List<Origin>, left: u32) -> PartSoFar<ListState, ListPart>
     ensures { result ≡ origins_left limit elements left }
 {
     if left == 0 {
-        Step::Whole(Limited { limit, elements })
+        PartSoFar::Whole(ListPart { limit, elements })
     } else {
-        Step::More(ListState::Origin {
+        PartSoFar::More(ListState::Origin {
             limit,
             elements,
             later: left - 1,
@@ -264,12 +264,12 @@ pub(crate) fn step_list(
     mode: Mode,
     state: ListState,
     line: &[u8],
-) -> Result<Step<ListState, Limited>, LineFault>
+) -> Result<PartSoFar<ListState, ListPart>, LineFault>
     ensures { Agrees (step_list mode state (tokens_of line.now)) result }
 {
     match state {
         ListState::Limit => match number_in(Keyword::Limit, line) {
-            Ok(limit) => Ok(Step::More(ListState::Count(limit))),
+            Ok(limit) => Ok(PartSoFar::More(ListState::Count(limit))),
             Err(fault) => Err(fault),
         },
         ListState::Count(limit) => match number_in(Keyword::Elements, line) {
@@ -296,20 +296,20 @@ pub(crate) fn step_no(
     alloc: Global,
     state: NoState,
     line: &[u8],
-) -> Result<Step<NoState, Body>, LineFault>
+) -> Result<PartSoFar<NoState, Body>, LineFault>
     ensures { Agrees (step_no state (tokens_of line.now)) result }
 {
     match state {
         NoState::Prefix => match numbers_in(alloc, Keyword::Prefix, Tail::Numbers, line) {
-            Ok(prefix) => Ok(Step::More(NoState::Turn(prefix))),
+            Ok(prefix) => Ok(PartSoFar::More(NoState::Turn(prefix))),
             Err(fault) => Err(fault),
         },
         NoState::Turn(prefix) => match numbers_in(alloc, Keyword::Loop, Tail::SomeNumbers, line) {
-            Ok(turn) => Ok(Step::Whole(Body::NoLasso(Lasso { prefix, turn }))),
+            Ok(turn) => Ok(PartSoFar::Whole(Body::NoLasso(Lasso { prefix, turn }))),
             Err(fault) => Err(fault),
         },
         NoState::Word => match numbers_in(alloc, Keyword::Word, Tail::Numbers, line) {
-            Ok(word) => Ok(Step::Whole(Body::NoWord(word))),
+            Ok(word) => Ok(PartSoFar::Whole(Body::NoWord(word))),
             Err(fault) => Err(fault),
         },
     }

@@ -6,7 +6,7 @@ ghost use Rattle.cert_line.specs.Agrees.{Agrees};
 ghost use Rattle.cert_text.specs.Machine.{blocks_left, with_rel_block, first_started, step_first, first_left, with_first, step_first_log, step_block, map_said};
 
 use crate::blocks::{BlockState, step_block};
-use crate::parts::{Step, pushed};
+use crate::parts::{PartSoFar, pushed};
 use auto_core::List;
 use cert_line::{FirstHead, LineFault, Tail, first_head_in, gone_by_in, number_in, numbers_in};
 use cert_value::{FirstStep, GoneBy, Keyword, RelBlock, blocks_due};
@@ -62,18 +62,18 @@ fn blocks_left(
     gone: List<GoneBy>,
     blocks: List<RelBlock>,
     left: u32,
-) -> Step<FirstState, FirstStep>
+) -> PartSoFar<FirstState, FirstStep>
     ensures { result ≡ blocks_left pair look gone blocks left }
 {
     if left == 0 {
-        Step::Whole(FirstStep::Cut {
+        PartSoFar::Whole(FirstStep::Cut {
             pair,
             look,
             gone,
             blocks,
         })
     } else {
-        Step::More(FirstState::Blocks {
+        PartSoFar::More(FirstState::Blocks {
             pair,
             look,
             gone,
@@ -86,13 +86,13 @@ fn blocks_left(
 
 /// What is due after the head.
 #[tactic(auto, unfolding(crate::specs::Machine::first_started))]
-fn first_started(head: FirstHead) -> Step<FirstState, FirstStep>
+fn first_started(head: FirstHead) -> PartSoFar<FirstState, FirstStep>
     ensures { result ≡ first_started head }
 {
     match head {
-        FirstHead::Trim(kept) => Step::Whole(FirstStep::Trim { kept }),
-        FirstHead::Merge => Step::More(FirstState::Classes),
-        FirstHead::Cut(pair, look) => Step::More(FirstState::Gone(pair, look)),
+        FirstHead::Trim(kept) => PartSoFar::Whole(FirstStep::Trim { kept }),
+        FirstHead::Merge => PartSoFar::More(FirstState::Classes),
+        FirstHead::Cut(pair, look) => PartSoFar::More(FirstState::Gone(pair, look)),
     }
 }
 
@@ -108,11 +108,11 @@ fn next_in_cut(
     later: u32,
     at: BlockState,
     line: &[u8],
-) -> Result<Step<FirstState, FirstStep>, LineFault>
+) -> Result<PartSoFar<FirstState, FirstStep>, LineFault>
     ensures { Agrees (map_said (with_rel_block pair look gone blocks later) (step_block version at (tokens_of line.now))) result }
 {
     match step_block(alloc, version, at, line) {
-        Ok(Step::More(at)) => Ok(Step::More(FirstState::Blocks {
+        Ok(PartSoFar::More(at)) => Ok(PartSoFar::More(FirstState::Blocks {
             pair,
             look,
             gone,
@@ -120,7 +120,7 @@ fn next_in_cut(
             later,
             at,
         })),
-        Ok(Step::Whole(block)) => match pushed(blocks, block) {
+        Ok(PartSoFar::Whole(block)) => match pushed(blocks, block) {
             Ok(blocks) => Ok(blocks_left(pair, look, gone, blocks, later)),
             Err(fault) => Err(fault),
         },
@@ -135,7 +135,7 @@ fn step_first(
     version: u32,
     state: FirstState,
     line: &[u8],
-) -> Result<Step<FirstState, FirstStep>, LineFault>
+) -> Result<PartSoFar<FirstState, FirstStep>, LineFault>
     ensures { Agrees (step_first version state (tokens_of line.now)) result }
 {
     match state {
@@ -144,7 +144,7 @@ fn step_first(
             Err(fault) => Err(fault),
         },
         FirstState::Classes => match numbers_in(alloc, Keyword::Classes, Tail::SomeNumbers, line) {
-            Ok(classes) => Ok(Step::Whole(FirstStep::Merge { classes })),
+            Ok(classes) => Ok(PartSoFar::Whole(FirstStep::Merge { classes })),
             Err(fault) => Err(fault),
         },
         FirstState::Gone(pair, look) => match gone_by_in(alloc, line) {
@@ -164,13 +164,13 @@ fn step_first(
 
 /// What is due with these steps, and this many to come.
 #[tactic(auto, unfolding(crate::specs::Machine::first_left))]
-fn first_left(steps: List<FirstStep>, left: u32) -> Step<FirstLog, List<FirstStep>>
+fn first_left(steps: List<FirstStep>, left: u32) -> PartSoFar<FirstLog, List<FirstStep>>
     ensures { result ≡ first_left steps left }
 {
     if left == 0 {
-        Step::Whole(steps)
+        PartSoFar::Whole(steps)
     } else {
-        Step::More(FirstLog::Steps {
+        PartSoFar::More(FirstLog::Steps {
             steps,
             later: left - 1,
             at: FirstState::Head,
@@ -187,12 +187,12 @@ fn next_in_first(
     later: u32,
     at: FirstState,
     line: &[u8],
-) -> Result<Step<FirstLog, List<FirstStep>>, LineFault>
+) -> Result<PartSoFar<FirstLog, List<FirstStep>>, LineFault>
     ensures { Agrees (map_said (with_first steps later) (step_first version at (tokens_of line.now))) result }
 {
     match step_first(alloc, version, at, line) {
-        Ok(Step::More(at)) => Ok(Step::More(FirstLog::Steps { steps, later, at })),
-        Ok(Step::Whole(step)) => match pushed(steps, step) {
+        Ok(PartSoFar::More(at)) => Ok(PartSoFar::More(FirstLog::Steps { steps, later, at })),
+        Ok(PartSoFar::Whole(step)) => match pushed(steps, step) {
             Ok(steps) => Ok(first_left(steps, later)),
             Err(fault) => Err(fault),
         },
@@ -207,7 +207,7 @@ pub(crate) fn step_first_log(
     version: u32,
     state: FirstLog,
     line: &[u8],
-) -> Result<Step<FirstLog, List<FirstStep>>, LineFault>
+) -> Result<PartSoFar<FirstLog, List<FirstStep>>, LineFault>
     ensures { Agrees (step_first_log version state (tokens_of line.now)) result }
 {
     match state {

@@ -8,7 +8,7 @@ ghost use Rattle.cert_text.specs.Machine.{whole, begun, with_no, with_first_log,
 use crate::blocks::BlockState;
 use crate::evidence::{ListState, NoState, YesState, step_list, step_no, step_yes};
 use crate::first_log::{FirstLog, step_first_log};
-use crate::parts::Step;
+use crate::parts::PartSoFar;
 use crate::second_log::{SecondLog, step_second_log};
 use auto_core::{List, Mode};
 use cert_line::{Heading, LineFault, Sizes, TextKind, heading_in, sizes_in, word_in};
@@ -93,8 +93,8 @@ fn next_no(alloc: Global, opening: Opening, at: NoState, line: &[u8]) -> Result<
     ensures { Agrees (map_said (with_no opening) (step_no at (tokens_of line.now))) result }
 {
     match step_no(alloc, at, line) {
-        Ok(Step::More(at)) => Ok(State::No(opening, at)),
-        Ok(Step::Whole(body)) => Ok(whole(opening, body)),
+        Ok(PartSoFar::More(at)) => Ok(State::No(opening, at)),
+        Ok(PartSoFar::Whole(body)) => Ok(whole(opening, body)),
         Err(fault) => Err(fault),
     }
 }
@@ -110,8 +110,8 @@ fn next_first(
     ensures { Agrees (map_said (with_first_log opening) (step_first_log opening.version at (tokens_of line.now))) result }
 {
     match step_first_log(alloc, opening.version, at, line) {
-        Ok(Step::More(at)) => Ok(State::First(opening, at)),
-        Ok(Step::Whole(first)) => Ok(State::Second(opening, first, SecondLog::Count)),
+        Ok(PartSoFar::More(at)) => Ok(State::First(opening, at)),
+        Ok(PartSoFar::Whole(first)) => Ok(State::Second(opening, first, SecondLog::Count)),
         Err(fault) => Err(fault),
     }
 }
@@ -144,8 +144,8 @@ fn next_second(
     ensures { Agrees (map_said (with_second_log opening first) (step_second_log opening.version opening.mode at (tokens_of line.now))) result }
 {
     match step_second_log(alloc, opening.version, opening.mode, at, line) {
-        Ok(Step::More(at)) => Ok(State::Second(opening, first, at)),
-        Ok(Step::Whole(second)) => Ok(evidence_due(opening, first, second)),
+        Ok(PartSoFar::More(at)) => Ok(State::Second(opening, first, at)),
+        Ok(PartSoFar::Whole(second)) => Ok(evidence_due(opening, first, second)),
         Err(fault) => Err(fault),
     }
 }
@@ -163,8 +163,8 @@ fn next_yes(
     ensures { Agrees (map_said (with_yes opening first second) (step_yes opening.version opening.mode at (tokens_of line.now))) result }
 {
     match step_yes(alloc, opening.version, opening.mode, at, line) {
-        Ok(Step::More(at)) => Ok(State::Yes(opening, first, second, at)),
-        Ok(Step::Whole(closed)) => Ok(whole(
+        Ok(PartSoFar::More(at)) => Ok(State::Yes(opening, first, second, at)),
+        Ok(PartSoFar::Whole(closed)) => Ok(whole(
             opening,
             Body::Yes(YesBody {
                 first,
@@ -196,14 +196,14 @@ fn next_list(
     ensures { Agrees (map_said (with_list opening first second) (step_list opening.mode at (tokens_of line.now))) result }
 {
     match step_list(alloc, opening.mode, at, line) {
-        Ok(Step::More(at)) => Ok(State::List(opening, first, second, at)),
-        Ok(Step::Whole(limited)) => Ok(whole(
+        Ok(PartSoFar::More(at)) => Ok(State::List(opening, first, second, at)),
+        Ok(PartSoFar::Whole(list_part)) => Ok(whole(
             opening,
             Body::Listing(ListBody {
                 first,
                 second,
-                limit: limited.limit,
-                elements: limited.elements,
+                limit: list_part.limit,
+                elements: list_part.elements,
             }),
         )),
         Err(fault) => {

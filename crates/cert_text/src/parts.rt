@@ -9,7 +9,7 @@ use cert_value::{Element, RelBlock, StepLine};
 
 /// What comes of a line: there is more to read, or the part is whole.
 #[derive(Drop)]
-pub(crate) enum Step<S: Drop, X: Drop> {
+pub(crate) enum PartSoFar<S: Drop, X: Drop> {
     /// There is more to read.
     More(S),
     /// The part is whole.
@@ -31,7 +31,7 @@ pub(crate) struct Closed {
 
 /// What a list has after its logs.
 #[derive(Drop)]
-pub(crate) struct Limited {
+pub(crate) struct ListPart {
     /// The limit.
     pub(crate) limit: u32,
     /// The elements.

@@ -6,7 +6,7 @@ ghost use Rattle.cert_line.specs.Agrees.{Agrees};
 ghost use Rattle.cert_text.specs.Machine.{rel_due, with_forward, with_backward, with_delayed, second_started, step_second, second_left, with_second, step_second_log, step_block, step_ranks, map_said};
 
 use crate::blocks::{BlockState, RankState, step_block, step_ranks};
-use crate::parts::{Step, pushed};
+use crate::parts::{PartSoFar, pushed};
 use auto_core::{List, Mode};
 use cert_line::{
     LineFault, SecondHead, Tail, Way, ascending_in, number_in, numbers_in, second_head_in,
@@ -94,13 +94,13 @@ fn rel_due(by: Way, classes: List<u32>) -> SecondState
 
 /// What is due after the head.
 #[tactic(auto, unfolding(crate::specs::Machine::second_started))]
-fn second_started(head: SecondHead) -> Step<SecondState, SecondStep>
+fn second_started(head: SecondHead) -> PartSoFar<SecondState, SecondStep>
     ensures { result ≡ second_started head }
 {
     match head {
-        SecondHead::Trim(kept) => Step::Whole(SecondStep::Trim { kept }),
-        SecondHead::Merge(by) => Step::More(SecondState::Classes(by)),
-        SecondHead::Cut => Step::More(SecondState::Gone),
+        SecondHead::Trim(kept) => PartSoFar::Whole(SecondStep::Trim { kept }),
+        SecondHead::Merge(by) => PartSoFar::More(SecondState::Classes(by)),
+        SecondHead::Cut => PartSoFar::More(SecondState::Gone),
     }
 }
 
@@ -113,12 +113,12 @@ fn next_in_forward(
     classes: List<u32>,
     at: BlockState,
     line: &[u8],
-) -> Result<Step<SecondState, SecondStep>, LineFault>
+) -> Result<PartSoFar<SecondState, SecondStep>, LineFault>
     ensures { Agrees (map_said (with_forward look classes) (step_block version at (tokens_of line.now))) result }
 {
     match step_block(alloc, version, at, line) {
-        Ok(Step::More(at)) => Ok(Step::More(SecondState::Forward { look, classes, at })),
-        Ok(Step::Whole(rel)) => Ok(Step::Whole(SecondStep::Merge {
+        Ok(PartSoFar::More(at)) => Ok(PartSoFar::More(SecondState::Forward { look, classes, at })),
+        Ok(PartSoFar::Whole(rel)) => Ok(PartSoFar::Whole(SecondStep::Merge {
             by: Grounds::Forward { look, rel },
             classes,
         })),
@@ -135,12 +135,12 @@ fn next_in_backward(
     classes: List<u32>,
     at: BlockState,
     line: &[u8],
-) -> Result<Step<SecondState, SecondStep>, LineFault>
+) -> Result<PartSoFar<SecondState, SecondStep>, LineFault>
     ensures { Agrees (map_said (with_backward look classes) (step_block version at (tokens_of line.now))) result }
 {
     match step_block(alloc, version, at, line) {
-        Ok(Step::More(at)) => Ok(Step::More(SecondState::Backward { look, classes, at })),
-        Ok(Step::Whole(rel)) => Ok(Step::Whole(SecondStep::Merge {
+        Ok(PartSoFar::More(at)) => Ok(PartSoFar::More(SecondState::Backward { look, classes, at })),
+        Ok(PartSoFar::Whole(rel)) => Ok(PartSoFar::Whole(SecondStep::Merge {
             by: Grounds::Backward { look, rel },
             classes,
         })),
@@ -156,16 +156,16 @@ fn next_in_delayed(
     classes: List<u32>,
     at: RankState,
     line: &[u8],
-) -> Result<Step<SecondState, SecondStep>, LineFault>
+) -> Result<PartSoFar<SecondState, SecondStep>, LineFault>
     ensures { Agrees (map_said (with_delayed letters classes) (step_ranks letters at (tokens_of line.now))) result }
 {
     match step_ranks(alloc, letters, at, line) {
-        Ok(Step::More(at)) => Ok(Step::More(SecondState::Delayed {
+        Ok(PartSoFar::More(at)) => Ok(PartSoFar::More(SecondState::Delayed {
             letters,
             classes,
             at,
         })),
-        Ok(Step::Whole(ranks)) => Ok(Step::Whole(SecondStep::Merge {
+        Ok(PartSoFar::Whole(ranks)) => Ok(PartSoFar::Whole(SecondStep::Merge {
             by: Grounds::Delayed { letters, ranks },
             classes,
         })),
@@ -181,7 +181,7 @@ fn step_second(
     mode: Mode,
     state: SecondState,
     line: &[u8],
-) -> Result<Step<SecondState, SecondStep>, LineFault>
+) -> Result<PartSoFar<SecondState, SecondStep>, LineFault>
     ensures { Agrees (step_second version mode state (tokens_of line.now)) result }
 {
     match state {
@@ -195,7 +195,7 @@ fn step_second(
             Tail::SomeNumbers,
             line,
         ) {
-            Ok(classes) => Ok(Step::More(rel_due(by, classes))),
+            Ok(classes) => Ok(PartSoFar::More(rel_due(by, classes))),
             Err(fault) => Err(fault),
         },
         SecondState::Forward { look, classes, at } => next_in_forward(
@@ -210,7 +210,7 @@ fn step_second(
             at,
         } => next_in_delayed(alloc, letters, classes, at, line),
         SecondState::Gone => match ascending_in(alloc, Keyword::Gone, Tail::SomeNumbers, line) {
-            Ok(gone) => Ok(Step::Whole(SecondStep::Cut { gone })),
+            Ok(gone) => Ok(PartSoFar::Whole(SecondStep::Cut { gone })),
             Err(fault) => Err(fault),
         },
     }
@@ -218,13 +218,13 @@ fn step_second(
 
 /// What is due with these steps, and this many to come.
 #[tactic(auto, unfolding(crate::specs::Machine::second_left))]
-fn second_left(steps: List<SecondStep>, left: u32) -> Step<SecondLog, List<SecondStep>>
+fn second_left(steps: List<SecondStep>, left: u32) -> PartSoFar<SecondLog, List<SecondStep>>
     ensures { result ≡ second_left steps left }
 {
     if left == 0 {
-        Step::Whole(steps)
+        PartSoFar::Whole(steps)
     } else {
-        Step::More(SecondLog::Steps {
+        PartSoFar::More(SecondLog::Steps {
             steps,
             later: left - 1,
             at: SecondState::Head,
@@ -242,12 +242,12 @@ fn next_in_second(
     later: u32,
     at: SecondState,
     line: &[u8],
-) -> Result<Step<SecondLog, List<SecondStep>>, LineFault>
+) -> Result<PartSoFar<SecondLog, List<SecondStep>>, LineFault>
     ensures { Agrees (map_said (with_second steps later) (step_second version mode at (tokens_of line.now))) result }
 {
     match step_second(alloc, version, mode, at, line) {
-        Ok(Step::More(at)) => Ok(Step::More(SecondLog::Steps { steps, later, at })),
-        Ok(Step::Whole(step)) => match pushed(steps, step) {
+        Ok(PartSoFar::More(at)) => Ok(PartSoFar::More(SecondLog::Steps { steps, later, at })),
+        Ok(PartSoFar::Whole(step)) => match pushed(steps, step) {
             Ok(steps) => Ok(second_left(steps, later)),
             Err(fault) => Err(fault),
         },
@@ -263,7 +263,7 @@ pub(crate) fn step_second_log(
     mode: Mode,
     state: SecondLog,
     line: &[u8],
-) -> Result<Step<SecondLog, List<SecondStep>>, LineFault>
+) -> Result<PartSoFar<SecondLog, List<SecondStep>>, LineFault>
     ensures { Agrees (step_second_log version mode state (tokens_of line.now)) result }
 {
     match state {

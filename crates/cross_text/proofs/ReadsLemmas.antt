@@ -25,7 +25,7 @@ use Rattle.cert_text.proofs.Theorem.{some_lines}
 use Rattle.cert_text.proofs.Reading.{stopped_by, read_by}
 use Rattle.cross_text.specs.declared.types.Cross.{Cross}
 use Rattle.cross_text.specs.Grammar.{read_cross, cross_reading}
-use Rattle.cross_text.specs.Reads.{Left, past, ReadsOn, TakesLineOff, RunsOut, Ends}
+use Rattle.cross_text.specs.Reads.{Left, past, ReadsOn, TakesLineOff, RunsOut, IsAtEnd}
 
 -- A whole line that is read.
 pub line_ok : {A : Type 0} (said : Line → Said A) (old new : Left) (line : Line) (a : A) → TakesLineOff old new line → said line ≡ Ok a
@@ -101,10 +101,10 @@ at_stop bytes part next old new (Text fault) h (here, number, stop) =
     stopped_by read_cross bytes fault.kind here fault.line (h.1 ∙ stop next) (number ∙ h.0)
 at_stop bytes part next old new Memory h r = tt
 
-pub at_end : (bytes : List ℕ) (c : Cross) (left : Left) → IsAt bytes left (finish c) → Ends left (Ok tt) → Told (cross_reading bytes) (Ok c)
+pub at_end : (bytes : List ℕ) (c : Cross) (left : Left) → IsAt bytes left (finish c) → IsAtEnd left (Ok tt) → Told (cross_reading bytes) (Ok c)
 at_end bytes c left h e = read_by read_cross bytes c (h.1 ∙ e c)
 
-pub at_over : (bytes : List ℕ) (c : Cross) (left : Left) (e : CertReadFault) → IsAt bytes left (finish c) → Ends left (Err e) → Told {C = Cross} (cross_reading bytes) (Err e)
+pub at_over : (bytes : List ℕ) (c : Cross) (left : Left) (e : CertReadFault) → IsAt bytes left (finish c) → IsAtEnd left (Err e) → Told {C = Cross} (cross_reading bytes) (Err e)
 at_over bytes c left (Text fault) h (number, stop) =
     stopped_by read_cross bytes fault.kind left.0 fault.line (h.1 ∙ stop c) (ap (λ n. n + length left.0) number ∙ h.0)
 at_over bytes c left Memory h e = absurd e

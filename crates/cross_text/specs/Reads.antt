@@ -33,7 +33,7 @@ RunsOut left (Text fault) = (piece : Line) × (left.0 ≡ piece ∷ []) × (faul
 RunsOut left Memory = ⊥
 
 -- No byte is left, or the first line that is left is one too many.
-abbrev pub Ends : Left → Result (Unit {0}) CertReadFault → Type 0
-Ends left (Ok x) = (c : Cross) → finish c left.0 ≡ Read c
-Ends left (Err (Text fault)) = (fault.line ≡ left.1) × ((c : Cross) → finish c left.0 ≡ Stopped fault.kind left.0)
-Ends left (Err Memory) = ⊥
+abbrev pub IsAtEnd : Left → Result (Unit {0}) CertReadFault → Type 0
+IsAtEnd left (Ok x) = (c : Cross) → finish c left.0 ≡ Read c
+IsAtEnd left (Err (Text fault)) = (fault.line ≡ left.1) × ((c : Cross) → finish c left.0 ≡ Stopped fault.kind left.0)
+IsAtEnd left (Err Memory) = ⊥

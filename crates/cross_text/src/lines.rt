@@ -9,7 +9,7 @@ ghost use Rattle.cert_line.specs.Agrees.{Agrees};
 ghost use Rattle.cert_text.specs.Grammar.{lines_of, next_line, read_rows, read_block};
 ghost use Rattle.cert_line.specs.Lines.{word_in, number_in, sizes_in, row_in};
 ghost use Rattle.cross_text.specs.Grammar.{cross_heading_in};
-ghost use Rattle.cross_text.specs.Reads.{Left, past, ReadsOn, TakesLineOff, RunsOut, Ends};
+ghost use Rattle.cross_text.specs.Reads.{Left, past, ReadsOn, TakesLineOff, RunsOut, IsAtEnd};
 
 use auto_core::List;
 use cert_line::{
@@ -167,7 +167,7 @@ impl<'a> Lines<'a> {
 
     /// Tells that no byte is left, or where one is.
     pub(crate) fn finish(&self) -> Result<(), CertReadFault>
-        ensures { Ends self.now result }
+        ensures { IsAtEnd self.now result }
     {
         if self.rest.is_empty() {
             return Ok(());

@@ -7,10 +7,11 @@ ghost use Rattle.reduce_loop.specs.declared.steps.Step.TheVariants as step;
 ghost use Rattle.decide.specs.Written.{gone_and_better, given, AreBlocksOf, AreGroundsOf, IsFirstWritten, IsSecondWritten, AreFirstWritten, AreSecondWritten};
 ghost use Rattle.decide.specs.Logs.{IsOnFew, IsMergeOnFew, IsStepOnFew, AreStepsOnFew, one_given, AreLogsOf};
 
-use crate::rows::{block_of, copied, rank_block_of};
+use crate::rows::{block_of, rank_block_of};
 use auto_core::{List, Memory};
 use bit_rel::Rel;
 use cert_value::{FirstStep, GoneBy, Grounds, RelBlock, SecondStep};
+use log_check::copied_numbers;
 use prune_pairs::Gone;
 use reduce_loop::{MergeBy, Step};
 use std::alloc::Global;
@@ -86,10 +87,10 @@ fn first_step(alloc: Global, step: &Step) -> Result<FirstStep, Memory>
 {
     match step {
         Step::Trim { kept } => Ok(FirstStep::Trim {
-            kept: copied(alloc, kept.as_slice())?,
+            kept: copied_numbers(alloc, kept.as_slice())?,
         }),
         Step::Merge { by: _, classes } => Ok(FirstStep::Merge {
-            classes: copied(alloc, classes.as_slice())?,
+            classes: copied_numbers(alloc, classes.as_slice())?,
         }),
         Step::Cut {
             pair,
@@ -146,11 +147,11 @@ fn second_step(alloc: Global, step: &Step) -> Result<SecondStep, Memory>
 {
     match step {
         Step::Trim { kept } => Ok(SecondStep::Trim {
-            kept: copied(alloc, kept.as_slice())?,
+            kept: copied_numbers(alloc, kept.as_slice())?,
         }),
         Step::Merge { by, classes } => Ok(SecondStep::Merge {
             by: grounds_of(alloc, by)?,
-            classes: copied(alloc, classes.as_slice())?,
+            classes: copied_numbers(alloc, classes.as_slice())?,
         }),
         Step::Cut {
             pair: _,

@@ -9,6 +9,7 @@ use auto_core::{List, Memory};
 use bit_rel::Rel;
 use cert_value::{RankBlock, RankRow, Ranked, RelBlock};
 use delayed_sim::Delayed;
+use log_check::copied_numbers;
 use relation_rows::rows_of;
 use std::alloc::Global;
 
@@ -31,17 +32,6 @@ fn code_of(rank: Option<u32>) -> u32
         None => 0,
         Some(rank) => rank + 1,
     }
-}
-
-/// The same numbers once more.
-pub(crate) fn copied(alloc: Global, numbers: &[u32]) -> Result<List<u32>, Memory>
-    ensures { IfOk result (λ made. made ≡ numbers.now) }
-{
-    let mut made = List::new(alloc);
-    for number in numbers {
-        made.push(*number)?;
-    }
-    Ok(made)
 }
 
 /// The right states of so many triples from `at` on, each with the code of its rank.
@@ -75,7 +65,7 @@ fn rank_row(alloc: Global, ranks: &Delayed, at: usize, end: usize) -> Result<Ran
 {
     Ok(RankRow {
         left: ranks.left(at),
-        ahead: copied(alloc, ranks.ahead(at))?,
+        ahead: copied_numbers(alloc, ranks.ahead(at))?,
         rights: ranked_rights(alloc, ranks, at, end - at)?,
     })
 }

@@ -20,7 +20,7 @@ use Rattle.cert_value.specs.declared.types.StepLine.{StepLine}
 use Rattle.cert_value.specs.WellFormed.{blocks_due, is_live, rank_key}
 use Rattle.cert_value.specs.Text.{Line}
 use Rattle.cert_line.specs.Lines.{Said, word_in, number_in, numbers_in, ascending_in, sizes_in, heading_in, row_in, rank_row_in, gone_by_in, first_head_in, plain_delayed_in, announced_delayed_in, delayed_in, delayed_or_cut_in, merge_or_cut_in, second_head_in, origin_in, element_in, step_in}
-use Rattle.cert_text.specs.Grammar.{ReadOutcome, On, Then, read_rows, read_block, read_rank_rows, read_rank_block, read_blocks, read_classes, read_first_rest, read_first_steps, read_second_rest, read_second_steps, read_elements, read_steps, read_origins, read_cover, read_all_elements, read_closed, read_all_origins, read_limited, read_turn, read_lasso, read_word, yes_of, list_of, read_evidence, read_after_first, read_logs, read_body, finish, cert_of, read_end, read_rest, read_sizes, read_lines, next_line}
+use Rattle.cert_text.specs.Grammar.{ReadOutcome, On, Then, read_rows, read_block, read_rank_rows, read_rank_block, read_blocks, read_classes, read_first_rest, read_first_steps, read_second_rest, read_second_steps, read_elements, read_steps, read_origins, read_cover, read_all_elements, read_closed, read_all_origins, read_list_part, read_turn, read_lasso, read_word, yes_of, list_of, read_evidence, read_after_first, read_logs, read_body, finish, cert_of, read_end, read_rest, read_sizes, read_lines, next_line}
 use Rattle.fault_laws.proofs.ReaderLemmas.{Reader, TellsOwn, line_reads, finish_reads}
 use Rattle.fault_laws.proofs.SaidLemmas.{Tells, of_if, plain_tells, tested_tells, either_tells, word_own, number_in_own, numbers_own, ascending_own, sizes_own, heading_own, row_own, rank_row_own, gone_by_own, first_head_own, second_head_own, origin_own, element_own, step_own}
 
@@ -173,8 +173,8 @@ closed_reads v m next all =
     any_line (number_in _) (λ n. read_elements m n [] (λ elements. read_cover order elements next)) (number_in_own _)
     (λ n. elements_read m n [] (λ elements. read_cover order elements next) (λ elements. cover_reads order elements next all)))
 
-limited_reads : (m : Mode) (next : Then _) → Goes next → Reader false (read_limited m next)
-limited_reads m next all =
+list_part_reads : (m : Mode) (next : Then _) → Goes next → Reader false (read_list_part m next)
+list_part_reads m next all =
     any_line (number_in _) (λ limit. read_all_origins m limit next) (number_in_own _) (λ limit.
     any_line (number_in _) _ (number_in_own _)
     (λ n. origins_read m n [] (λ elements. next (record { limit = limit; elements = elements })) (λ elements. all (record { limit = limit; elements = elements }))))
@@ -210,7 +210,7 @@ body_reads v (mode.Buchi) (form.No) next all = lasso_reads next all
 body_reads v (mode.Finite) (form.No) next all = word_reads next all
 body_reads v m (form.List) next all =
     logs_read v m form.List next
-    (λ firsts seconds. limited_reads m (λ limited. next (list_of firsts seconds limited)) (λ limited. all (list_of firsts seconds limited)))
+    (λ firsts seconds. list_part_reads m (λ list_part. next (list_of firsts seconds list_part)) (λ list_part. all (list_of firsts seconds list_part)))
 
 -- What follows a heading.
 sizes_read : (h : _) → Reader false (read_sizes h)

@@ -234,7 +234,7 @@ removable_pruned A B n k back ahead closed_back closed_ahead gone valid greatest
   cut = cut;
 }
 
-same_gone : (g h : Gone) → g.trans ≡ h.trans → g.by ≡ h.by → g ≡ h
+pub same_gone : (g h : Gone) → g.trans ≡ h.trans → g.by ≡ h.by → g ≡ h
 same_gone g h a b = λ k. record { trans = a k; by = b k }
 
 gone_within : (A : Automaton) (n : ℕ) (back ahead : List (ℕ × ℕ)) (gone other : List Gone) → AreLeastBetter A n (Holds back) (Holds ahead) gone → AreLeastBetter A n (Holds back) (Holds ahead) other
@@ -248,7 +248,7 @@ gone_within A n back ahead gone other are ares g there =
     let high = moved.least g.by mine.better in
     subst (Contains other) (same_gone h g is (omega arith)) h_there
 
-gone_rises : (gone : List Gone) → AllPairs (λ x y. x < y) (numbers_of_gone gone) → AllPairs (λ (g h : Gone). g.trans < h.trans) gone
+pub gone_rises : (gone : List Gone) → AllPairs (λ x y. x < y) (numbers_of_gone gone) → AllPairs (λ (g h : Gone). g.trans < h.trans) gone
 gone_rises gone up i j d lt j_in =
     let i_in : i < length gone = omega arith in
     let len = length-map gone (λ (g : Gone). g.trans) in

@@ -8,5 +8,5 @@ pub mod laws;
 mod removing;
 
 pub use comparing::better;
-pub use cutting::cut;
+pub use cutting::{accepting_states, cut};
 pub use removing::{Gone, removable};

@@ -25,6 +25,7 @@ use Rattle.ba_format.proofs.LabelLemmas.{labels_fit}
 use Rattle.ba_format.proofs.LawLemmas.{built_once, contains_first, contains_later}
 use Rattle.ba_format.proofs.RenameLemmas.{IsRenaming, renamed_same}
 use Rattle.ba_format.proofs.SightLemmas.{same_text-refl, same_text-equal}
+use Rattle.reading_laws.proofs.ReadLemmas.{valid_with}
 use Rattle.reduce_loop.specs.declared.steps.Kind.TheVariants.{Trim, Forward, Backward, Delayed}
 use Rattle.reduce_loop.specs.Kinds.{kinds_of, prunings}
 use Rattle.reduce_loop.specs.declared.steps.Foresight.{Foresight}
@@ -63,18 +64,6 @@ map_itself f (t ∷ ts) h = λ i. h t (contains_first t ts) i ∷ map_itself f t
 
 abbrev pub with_labels : Automaton → ℕ → Automaton
 with_labels A n = record { states = A.states; labels = n; initial = A.initial; transitions = A.transitions; accepting = A.accepting }
-
-valid_with : (A : Automaton) (n : ℕ) → IsAutomaton A → A.labels ≤ n → n < 2 ^ 32 → IsAutomaton (with_labels A n)
-valid_with A n valid more few = record {
-  states_fit = valid.states_fit;
-  labels_fit = few;
-  initial_is_state = valid.initial_is_state;
-  in_range = λ k d lt. let r = valid.in_range k d lt in (r.0, r.1, omega (arith, r.2));
-  in_order = valid.in_order;
-  few = valid.few;
-  accepting_in_range = valid.accepting_in_range;
-  accepting_in_order = valid.accepting_in_order;
-}
 
 same_with : (A : Automaton) (n : ℕ) (m : Mode) → Same A (with_labels A n) m
 same_with A n m = renamed_same A (with_labels A n) (λ q. q) (λ q. Unit {0}) renaming m

@@ -9,14 +9,13 @@ ghost use Rattle.rabit_frame.specs.declared.parts.FileKind.TheVariants as kind;
 ghost use Rattle.rabit_frame.specs.Reading.{ReadsAs, HasFault, IsOfKind, HaltsBy};
 ghost use Rattle.rabit_frame.specs.Intake.{HasTaken, HasTakenAll};
 
-use crate::lines::append;
 use crate::parts::{FileKind, Halt, Value};
 use crate::stopping::{certificate_reply, file_reply, halted, list_reply};
 use auto_core::{List, Memory};
 use ba_format::{ReadFault, Reader};
 use cert_text::{CertReadFault, CertReader};
 use equal_batch::ListFault;
-use shelf_io::Eat;
+use shelf_io::{Eat, append};
 use std::alloc::Global;
 
 /// What the pieces of a file come to so far. Of an automaton and of a certificate it keeps what was understood and one unfinished line, so

@@ -11,6 +11,7 @@ mod stopping;
 mod work;
 
 pub use carrying::{carry_out, carry_out_unsaid, read_alone, say};
-pub use lines::{append, line};
+pub use lines::line;
 pub use parts::{Ending, FileKind, Put, Reply, Slot, Status, Value};
+pub use shelf_io::append;
 pub use work::Work;

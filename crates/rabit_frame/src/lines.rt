@@ -1,22 +1,13 @@
 //! The lines that tell a fault.
 
-ghost use Rattle.std.specs.Prelude.{◌≡◌, ◌++◌, IfOk, OnOk};
+ghost use Rattle.std.specs.Prelude.{◌≡◌, IfOk};
 ghost use Rattle.rabit_frame.specs.Lines.{kind_name, text_kind_name, file_line, certificate_line, list_line};
 
 use auto_core::{List, Memory};
 use ba_format::BaKind;
 use cert_text::TextKind;
+use shelf_io::append;
 use std::alloc::Global;
-
-/// Appends the bytes.
-pub fn append(out: &mut List<u8>, bytes: &[u8]) -> Result<(), Memory>
-    ensures { OnOk result (out.new ≡ out.old ++ bytes.now) }
-{
-    for byte in bytes {
-        out.push(*byte)?;
-    }
-    Ok(())
-}
 
 /// The text as a list of its bytes.
 pub fn line(alloc: Global, text: &str) -> Result<List<u8>, Memory>

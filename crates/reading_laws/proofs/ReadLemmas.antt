@@ -72,23 +72,30 @@ joined_fit first second hf hs =
 
 -- ---- the joined automata
 
+-- A valid automaton is one over more labels too, if a u32 counts them.
+pub valid_with :
+    (A : Automaton) (n : ℕ)
+    → IsAutomaton A
+    → A.labels ≤ n
+    → n < 2 ^ 32
+    → IsAutomaton (record { states = A.states; labels = n; initial = A.initial; transitions = A.transitions; accepting = A.accepting })
+valid_with A n valid more few = record {
+  states_fit = valid.states_fit;
+  labels_fit = few;
+  initial_is_state = valid.initial_is_state;
+  in_range = λ k d lt. let r = valid.in_range k d lt in (r.0, r.1, omega (arith, r.2));
+  in_order = valid.in_order;
+  few = valid.few;
+  accepting_in_range = valid.accepting_in_range;
+  accepting_in_order = valid.accepting_in_order;
+}
+
 -- An automaton over some of these different labels, which are all in the joined list, has its relabelled one.
 pub relabelled_from : (A : Automaton) (labels joined : List (List ℕ)) → IsAutomaton A → A.labels ≤ length labels → length labels < 2 ^ 32 → AreDifferent labels
     → All (λ label. list_any (same_text label) joined ≡ true) labels → length joined < 2 ^ 32 → (B : Automaton) × IsRelabelled A labels joined B
 relabelled_from A labels joined valid named few different found fits =
-    let W : Automaton = record { states = A.states; labels = length labels; initial = A.initial; transitions = A.transitions; accepting = A.accepting } in
-    let wide : IsAutomaton W = record {
-      states_fit = valid.states_fit;
-      labels_fit = few;
-      initial_is_state = valid.initial_is_state;
-      in_range = λ k d lt. let r = valid.in_range k d lt in (r.0, r.1, omega (arith, r.2));
-      in_order = valid.in_order;
-      few = valid.few;
-      accepting_in_range = valid.accepting_in_range;
-      accepting_in_order = valid.accepting_in_order;
-    } in
     built_from A.states (length joined) A.initial (map (relabelled labels joined) A.transitions) A.accepting valid.states_fit fits
-    (relabelled_parts W labels joined wide refl different found)
+    (relabelled_parts _ labels joined (valid_with A (length labels) valid named few) refl different found)
 
 -- What was read is a valid automaton over its labels.
 pub read_labels : (text : List ℕ) (limits : Limits) (read : Named) → Reads text limits read → read.auto.labels ≡ length read.labels

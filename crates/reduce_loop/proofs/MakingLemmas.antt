@@ -1,9 +1,7 @@
--- Lists of the numbers that pass a test, useful states, and the classes of a closed relation.
-use Rattle.std.proofs.Common.{◌≡◌, ℕ, zero, suc, ◌+◌, ◌<◌, ◌↔◌, Bool, true, false, cond, ◌==◌, List, [], ◌∷◌, ◌++◌, filter, Contains, refl, sym, ap, ◌∙◌, subst, arith, add-zero, add-one, zero-add}
+-- Members as lists, useful states, and the classes of a closed relation.
+use Rattle.std.proofs.Common.{◌≡◌, ℕ, ◌<◌, ◌↔◌, Bool, ◌==◌, List, [], ◌∷◌, filter, Contains, sym, subst, arith, ◌∙◌}
 use Rattle.std.specs.List.{list_any, range_with_len}
 use Rattle.std.specs.List.Sorted.{IsStrictlyIncreasing}
-use Rattle.std.proofs.lemmas.List.{append-nil}
-use Rattle.std.proofs.lemmas.List.Elements.{filter-append}
 use Rattle.std.proofs.lemmas.List.Kept.{IsStrictlyIncreasing-filter}
 use Rattle.auto_core.specs.Automaton.{Automaton, IsAutomaton}
 use Rattle.auto_core.specs.Game.{Close, Holds}
@@ -16,31 +14,6 @@ use Rattle.auto_core.proofs.MoveLemmas.{move_in_range}
 use Rattle.auto_core.proofs.PathLemmas.{Contains-from_test, test_from_Contains}
 use Rattle.auto_core.proofs.MemberLemmas.{filter_has, filter_from, range_has, range_rises}
 use Rattle.bit_rel.specs.Relation.{Relation, IsClosed}
-
--- ---- lists
-
-range_more : (a n : ℕ) → range_with_len a (suc n) ≡ range_with_len a n ++ (a + n) ∷ []
-range_more a zero = rw (add-zero a) refl
-range_more a (suc n) =
-    let e : (a + 1) + n ≡ a + suc n = omega arith in
-    ap (λ l. a ∷ l) (range_more (a + 1) n ∙ ap (λ k. range_with_len (a + 1) n ++ k ∷ []) e)
-
--- one number more, if it passes the test
-pub more_filtered :
-    (test : ℕ → Bool) (n : ℕ) (made new : List ℕ) (b : Bool)
-    → b ≡ test n
-    → made ≡ filter test (range_with_len 0 n)
-    → new ≡ cond b (made ++ n ∷ []) made
-    → new ≡ filter test (range_with_len 0 (n + 1))
-more_filtered test n made new b is e more =
-    let whole : filter test (range_with_len 0 (n + 1)) ≡ filter test (range_with_len 0 n) ++ cond (test n) (n ∷ []) [] =
-    ap (λ l. filter test l) (ap (λ k. range_with_len 0 k) (add-one n) ∙ range_more 0 n ∙ ap (λ k. range_with_len 0 n ++ k ∷ []) (zero-add n))
-    ∙ filter-append test (range_with_len 0 n) (n ∷ []) in
-    more ∙ step b ∙ ap (λ c. filter test (range_with_len 0 n) ++ cond c (n ∷ []) []) is ∙ sym whole
-  where
-    step : (b : Bool) → cond b (made ++ n ∷ []) made ≡ filter test (range_with_len 0 n) ++ cond b (n ∷ []) []
-    step true = ap (λ l. l ++ n ∷ []) e
-    step false = e ∙ sym (append-nil (filter test (range_with_len 0 n)))
 
 -- whether the number is a member
 abbrev pub is_member : List ℕ → ℕ → Bool

@@ -1,7 +1,5 @@
 -- The laws of prunings within the reduction: they are smaller, the list of what is gone is one, and closures of the relations find it.
 use Rattle.std.proofs.Common.{◌≡◌, ℕ, ◌<◌, ◌↔◌, inl, inr, Option, None, Some, IfSome, List, length, Contains, ap, subst, arith}
-use Rattle.std.specs.List.{AllPairs}
-use Rattle.std.proofs.lemmas.List.{length-map, get_or-map}
 use Rattle.std.proofs.lemmas.List.Elements.{All-contains, All-weaker}
 use Rattle.std.proofs.lemmas.List.Kept.{AllPairs-from_increasing}
 use Rattle.auto_core.specs.Automaton.{Automaton, IsAutomaton}
@@ -12,7 +10,7 @@ use Rattle.bit_rel.specs.Relation.{Relation, IsClosed}
 use Rattle.prune_pairs.specs.Laws.{AgreeOnStates}
 use Rattle.prune_pairs.specs.Least.{IsLeastBetter, AreLeastBetter, numbers_of_gone}
 use Rattle.prune_pairs.specs.declared.removing.Gone.{Gone}
-use Rattle.prune_pairs.proofs.OneLaws.{pruned_shorter, better_goes}
+use Rattle.prune_pairs.proofs.OneLaws.{pruned_shorter, better_goes, same_gone, gone_rises}
 use Rattle.reduce_loop.specs.Logs.{IsRelationOf, IsGivenWhere, pairs_given, IsBackOf, IsAheadOf}
 use Rattle.reduce_loop.proofs.SizeLemmas.{IsSmaller}
 
@@ -31,18 +29,6 @@ pruned_smaller A B n k valid p =
     }
 
 -- ---- the list of what is gone
-
-same_gone : (g h : Gone) → g.trans ≡ h.trans → g.by ≡ h.by → g ≡ h
-same_gone g h a b = λ k. record { trans = a k; by = b k }
-
-gone_rises : (gone : List Gone) → AllPairs (λ x y. x < y) (numbers_of_gone gone) → AllPairs (λ (g h : Gone). g.trans < h.trans) gone
-gone_rises gone up i j d lt j_in =
-    let i_in : i < length gone = omega arith in
-    let len = length-map gone (λ (g : Gone). g.trans) in
-    let first = get_or-map (λ (g : Gone). g.trans) gone i d 0 i_in in
-    let second = get_or-map (λ (g : Gone). g.trans) gone j d 0 j_in in
-    let h = up i j 0 lt (omega arith) in
-    omega arith
 
 module _ (A : Automaton) (n : ℕ) (back ahead : ℕ → ℕ → Type 0) where
   abbrev Least : Gone → Type 0

@@ -1,24 +1,11 @@
 //! Copies of automata, and whether two are the same.
 
-ghost use Rattle.std.specs.Prelude.{◌≡◌, ◌<◌, ◌↔◌, ℕ, filter, IsTrue, IfOk};
-ghost use Rattle.std.specs.List.{range_with_len};
+ghost use Rattle.std.specs.Prelude.{◌≡◌, ◌<◌, ◌↔◌, ℕ, IsTrue, IfOk};
 ghost use Rattle.auto_core.specs.Automaton.{IsAutomaton, is_accepting};
 
-use auto_core::{Auto, List, Memory, Trans, of_parts};
+use auto_core::{Auto, Memory, Trans, of_parts};
+use prune_pairs::accepting_states;
 use std::alloc::Global;
-
-/// The accepting states, ascending.
-fn accepting_states(alloc: Global, automaton: &Auto) -> Result<Vec<u32>, Memory>
-    ensures { IfOk result (λ v. v.items ≡ filter (is_accepting automaton.now) (range_with_len 0 automaton.now.states)) }
-{
-    let mut made = Vec::new(alloc);
-    for state in 0..automaton.states() {
-        if automaton.accepting(state) {
-            made.push(state)?;
-        }
-    }
-    Ok(made)
-}
 
 /// The same automaton once more.
 pub(crate) fn copied(alloc: Global, automaton: &Auto) -> Result<Auto, Memory>

@@ -10,9 +10,9 @@ use bit_rel::Rel;
 use quotient::{Classes, classes_of, merge};
 use std::alloc::Global;
 
-/// An automaton whose states were joined, with the class of each.
+/// An automaton whose states were merged, with the class of each.
 #[derive(Debug, Drop)]
-pub(crate) struct Joined {
+pub(crate) struct Merged {
     pub(crate) automaton: Auto,
     pub(crate) classes: List<u32>,
 }
@@ -50,7 +50,7 @@ fn classes(alloc: Global, rel: &Rel) -> Result<Classes, Memory>
 }
 
 /// The automaton whose states are the classes that the closure of the relation joins.
-pub(crate) fn join_states(alloc: Global, automaton: &Auto, rel: &Rel) -> Result<Joined, Memory>
+pub(crate) fn join_states(alloc: Global, automaton: &Auto, rel: &Rel) -> Result<Merged, Memory>
     requires { rel.now.size ≡ automaton.now.states }
     ensures joined { IfOk result (λ made. AreClassesOf automaton.now.states (Close (Holds rel.now.pairs)) made.classes) }
     ensures quotient { IfOk result (λ made. IsQuotient automaton.now made.classes made.automaton) }
@@ -60,5 +60,5 @@ pub(crate) fn join_states(alloc: Global, automaton: &Auto, rel: &Rel) -> Result<
     let joined = classes(alloc, rel)?;
     let classes = class_list(alloc, &joined, states)?;
     let automaton = merge(alloc, automaton, &joined)?;
-    Ok(Joined { automaton, classes })
+    Ok(Merged { automaton, classes })
 }

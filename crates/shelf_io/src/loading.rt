@@ -62,12 +62,12 @@ impl Eat for List<u8> {
     }
 }
 
-/// Appends the piece. Refused, the list holds a front of it more.
-pub fn append(bytes: &mut List<u8>, piece: &[u8]) -> Result<(), Memory>
-    ensures { OnOk result (bytes.new ≡ bytes.old ++ piece.now) }
+/// Appends the bytes. Refused, the list holds a front of them more.
+pub fn append(out: &mut List<u8>, bytes: &[u8]) -> Result<(), Memory>
+    ensures { OnOk result (out.new ≡ out.old ++ bytes.now) }
 {
-    for byte in piece {
-        bytes.push(*byte)?;
+    for byte in bytes {
+        out.push(*byte)?;
     }
     Ok(())
 }

@@ -1,6 +1,7 @@
 use Rattle.std.proofs.Common.{◌≡◌, ◌+◌, ℕ, true, false, filter, sym, ◌∙◌, subst, arith}
 use Rattle.std.specs.List.{range_with_len}
-use Rattle.reduce_loop.proofs.MakingLemmas.{is_member, more_filtered, members_rise, same_as_members}
+use Rattle.prune_pairs.proofs.CutLemmas.{more_numbers}
+use Rattle.reduce_loop.proofs.MakingLemmas.{is_member, members_rise, same_as_members}
 use Rattle.reduce_loop.proofs.making.members.Goals as goal
 use Rattle.reduce_loop.proofs.making.members.Goals.{then-has+in_ok-push, else-has}
 
@@ -11,9 +12,9 @@ loop-state-preserved c =
     let made = c.loop-state.made in
     elim c.if-has.branch as (λ _. c.if-has.made ≡ filter test (range_with_len 0 (n + 1))) [
       | then-has+in_ok-push w ↦
-          more_filtered test n made c.if-has.made true (sym w.if-has.true ∙ c.has.ensures.test) c.loop-state.invariant (w.made-is ∙ w.in_ok-push.ensures.ok)
+          more_numbers test n made c.if-has.made true (sym w.if-has.true ∙ c.has.ensures.test) c.loop-state.invariant (w.made-is ∙ w.in_ok-push.ensures.ok)
       | else-has w ↦
-          more_filtered test n made c.if-has.made false (sym w.if-has.false ∙ c.has.ensures.test) c.loop-state.invariant w.made-is
+          more_numbers test n made c.if-has.made false (sym w.if-has.false ∙ c.has.ensures.test) c.loop-state.invariant w.made-is
     ]
 
 pub returns-clause-ascending : goal.returns-clause-ascending

@@ -2,4 +2,4 @@ use Rattle.std.proofs.Common.{◌≡◌, ◌++◌, take}
 use Rattle.shelf_io.proofs.loading.append.Given as goal
 
 abbrev pub invariant-loop-byte : goal.invariant-loop-byte
-invariant-loop-byte l = l.bytes ≡ l.initial.bytes ++ take l.byte-index l.piece
+invariant-loop-byte l = l.out ≡ l.initial.out ++ take l.byte-index l.bytes
