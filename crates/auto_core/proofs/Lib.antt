@@ -12,3 +12,4 @@ pub mod CellLemmas
 pub mod MoveLemmas
 pub mod MemberLemmas
 pub mod SetLemmas
+pub mod RangeLemmas

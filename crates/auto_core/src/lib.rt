@@ -12,7 +12,7 @@ mod state_set;
 mod tables;
 
 pub use automaton::{Auto, BuildFault};
-pub use listing::List;
+pub use listing::{List, append};
 pub use making::of_parts;
 pub use parts::{Lasso, Memory, Mode, Origin, Span, Trans, Word};
 pub use state_set::StateSet;

@@ -46,3 +46,13 @@ impl<T: Drop> List<T> {
         self.items.as_slice()
     }
 }
+
+/// Appends the bytes. Refused, the list holds a front of them more.
+pub fn append(out: &mut List<u8>, bytes: &[u8]) -> Result<(), Memory>
+    ensures { OnOk result (out.new ≡ out.old ++ bytes.now) }
+{
+    for byte in bytes {
+        out.push(*byte)?;
+    }
+    Ok(())
+}

@@ -11,6 +11,7 @@ use Rattle.auto_core.specs.declared.parts.Mode.TheVariants.{Buchi, Finite}
 use Rattle.auto_core.specs.Automaton.{Automaton, IsAutomaton, Moves, IsAccepting, is_accepting, IsBefore, trans, trans_at}
 use Rattle.auto_core.specs.Build.{IsBuilt}
 use Rattle.auto_core.specs.Parts.{AreParts}
+use Rattle.auto_core.proofs.RangeLemmas.{range_more}
 use Rattle.auto_core.proofs.PathLemmas.{Contains-here, Contains-cons_cases, none_in_nil, accepting_from_test, test_from_accepting}
 use Rattle.auto_core.proofs.MoveLemmas.{move_in_range}
 use Rattle.auto_core.proofs.MemberLemmas.{Rises, rises_from_pairs, filter_has, filter_from, map_has, map_from, range_has, range_rises}
@@ -258,12 +259,6 @@ module _ (A B : Automaton) (a_valid : IsAutomaton A) (b_valid : IsAutomaton B) w
     }
 
 -- ---- the loop over accepting states
-
-range_more : (a n : ℕ) → range_with_len a (suc n) ≡ range_with_len a n ++ (a + n) ∷ []
-range_more a zero = rw (add-zero a) refl
-range_more a (suc n) =
-    let e : (a + 1) + n ≡ a + suc n = omega arith in
-    ap (λ l. a ∷ l) (range_more (a + 1) n ∙ ap (λ k. range_with_len (a + 1) n ++ k ∷ []) e)
 
 -- one state more, if it is accepting
 pub more_accepting : (A : Automaton) (offset n : ℕ) (front made new : List ℕ) (b : Bool)

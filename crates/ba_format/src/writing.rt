@@ -6,18 +6,8 @@ ghost use Rattle.ba_format.specs.Writing.{name_text, state_text, transition_text
 
 use crate::joining::accepting_states;
 use crate::texts::Texts;
-use auto_core::{Auto, List, Memory, Trans};
+use auto_core::{Auto, List, Memory, Trans, append};
 use std::alloc::Global;
-
-/// Appends these bytes.
-fn append(out: &mut List<u8>, bytes: &[u8]) -> Result<(), Memory>
-    ensures { OnOk result (out.new ≡ out.old ++ bytes.now) }
-{
-    for byte in bytes {
-        out.push(*byte)?;
-    }
-    Ok(())
-}
 
 /// Appends the name of a state.
 fn append_name(alloc: Global, out: &mut List<u8>, state: u32) -> Result<(), Memory>

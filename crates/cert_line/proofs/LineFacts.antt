@@ -171,8 +171,8 @@ labels_told [] k = drop-nil (k + 2) ∙ sym (drop-nil k)
 labels_told (t ∷ []) k = let e : k + 2 ≡ suc (suc k) = omega arith in ap (λ n. drop n (t ∷ [])) e ∙ drop-nil (suc k) ∙ sym (drop-nil k)
 labels_told (t ∷ u ∷ ts) k = let e : k + 2 ≡ suc (suc k) = omega arith in ap (λ n. drop n (t ∷ u ∷ ts)) e
 
-labels_past : (xs ys : List ℕ) (k : ℕ) → length xs ≡ k → drop k (xs ++ ys) ≡ ys
-labels_past xs ys k e = ap (λ n. drop n (xs ++ ys)) (sym e) ∙ drop-append_seam xs ys
+labels_behind : (xs ys : List ℕ) (k : ℕ) → length xs ≡ k → drop k (xs ++ ys) ≡ ys
+labels_behind xs ys k e = ap (λ n. drop n (xs ++ ys)) (sym e) ∙ drop-append_seam xs ys
 
 labels_taken : (xs ys : List ℕ) (k : ℕ) → length xs ≡ k → take k (xs ++ ys) ≡ xs
 labels_taken xs ys k e = ap (λ n. take n (xs ++ ys)) (sym e) ∙ take-append_seam xs ys
@@ -213,7 +213,7 @@ rank_row_fw letters key row e =
     let ns = row.ahead ++ rn in
     let long : length row.ahead ≡ k = eqb-true (length row.ahead) k h2.1 in
     let s = short_append row.ahead rn h2.0 (pairs_short ranked right code is_ranked (λ p. refl) row.rights b.0) in
-    let left : drop k (numbers ns) ≡ numbers rn = drop-map decimal k ns ∙ ap numbers (labels_past row.ahead rn k long) in
+    let left : drop k (numbers ns) ≡ numbers rn = drop-map decimal k ns ∙ ap numbers (labels_behind row.ahead rn k long) in
     let follows : may_follow (tail.Pairs k) (numbers ns) ≡ true =
     ap (λ xs. has_some xs && pair_up xs) left
     ∙ and_from (has_some (numbers rn)) _ (pairs_some ranked right code row.rights c.0)

@@ -136,7 +136,7 @@ rank_row_of count tokens = record {
   rights = ranked_of (values_from (count + 2) tokens);
 }
 
--- A row of a relation with ranks for so many announced letters, its left number and word past the key.
+-- A row of a relation with ranks for so many announced letters, its left number and word behind the key.
 abbrev pub rank_row_in : ℕ → List ℕ → Line → Said RankRow
 rank_row_in letters key =
     as_shape (Word keyword.Row ∷ Number ∷ []) (tail.Pairs (letters - 1))

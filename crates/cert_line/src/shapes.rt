@@ -21,7 +21,7 @@ pub enum Place {
     Number,
 }
 
-/// What is due past the places of a line.
+/// What is due behind the places of a line.
 #[derive(Clone, Copy, Debug, PartialEq, Eq)]
 pub enum Tail {
     /// Nothing.
@@ -167,11 +167,11 @@ fn is_over(all: Tokens) -> bool
     tokens.next().is_none()
 }
 
-/// The tokens past the places and so many more.
-fn past_both(line: &[u8], places: usize, count: usize) -> Tokens<'_>
+/// The tokens behind the places and so many more.
+fn behind_both(line: &[u8], places: usize, count: usize) -> Tokens<'_>
     ensures { result ≡ drop count (drop places (tokens_of line.now)) }
 {
-    let mut tokens = Tokens::past(line, places);
+    let mut tokens = Tokens::behind(line, places);
     for _token in 0..count {
         tokens.next();
     }
@@ -183,11 +183,11 @@ fn may_follow(tail: Tail, line: &[u8], places: usize) -> bool
     ensures { result ≡ may_follow tail (drop places (tokens_of line.now)) }
 {
     match tail {
-        Tail::Nothing => is_over(Tokens::past(line, places)),
+        Tail::Nothing => is_over(Tokens::behind(line, places)),
         Tail::Numbers => true,
-        Tail::SomeNumbers => !is_over(Tokens::past(line, places)),
-        Tail::Pairs(count) => !is_over(past_both(line, places, count))
-            && pair_up(past_both(line, places, count)),
+        Tail::SomeNumbers => !is_over(Tokens::behind(line, places)),
+        Tail::Pairs(count) => !is_over(behind_both(line, places, count))
+            && pair_up(behind_both(line, places, count)),
     }
 }
 
@@ -224,7 +224,7 @@ pub fn line_fault(places: &[Place], tail: Tail, line: &[u8]) -> Option<TextKind>
 pub(crate) fn value_at(line: &[u8], number: usize) -> u32
     ensures { result ≡ value_at (tokens_of line.now) number }
 {
-    match Tokens::past(line, number).next() {
+    match Tokens::behind(line, number).next() {
         Some(token) => value(token),
         None => 0,
     }
@@ -240,7 +240,7 @@ pub(crate) fn values_in(
     ensures { IfOk result (λ values. values ≡ take count (values_from number (tokens_of line.now))) }
 {
     let mut values = List::new(alloc);
-    let mut tokens = Tokens::past(line, number);
+    let mut tokens = Tokens::behind(line, number);
     for _value in 0..count {
         let Some(token) = tokens.next() else {
             return Ok(values);
@@ -255,7 +255,7 @@ pub(crate) fn values_from(alloc: Global, line: &[u8], number: usize) -> Result<L
     ensures { IfOk result (λ values. values ≡ values_from number (tokens_of line.now)) }
 {
     let mut values = List::new(alloc);
-    let mut tokens = Tokens::past(line, number);
+    let mut tokens = Tokens::behind(line, number);
     while let Some(token) = tokens.next() {
         values.push(value(token))?;
     }

@@ -5,7 +5,7 @@ ghost use Rattle.cert_value.specs.Text.{spelled, line_text, numbers};
 ghost use Rattle.cert_value.specs.Printed.{joined, number_text};
 
 use crate::keywords::Keyword;
-use auto_core::{List, Memory};
+use auto_core::{List, Memory, append};
 
 /// A part of a certificate, which can be written onto the end of a text.
 pub trait Print: Drop {
@@ -22,16 +22,6 @@ pub fn print_all<T: Print>(out: &mut List<u8>, items: &[T], version: u32) -> Res
 {
     for item in items {
         item.print(out, version)?;
-    }
-    Ok(())
-}
-
-/// Writes the bytes.
-pub(crate) fn print_bytes(out: &mut List<u8>, bytes: &[u8]) -> Result<(), Memory>
-    ensures { OnOk result (out.new ≡ out.old ++ bytes.now) }
-{
-    for byte in bytes {
-        out.push(*byte)?;
     }
     Ok(())
 }
@@ -70,7 +60,7 @@ pub(crate) fn print_numbers(out: &mut List<u8>, numbers: &[u32]) -> Result<(), M
 pub fn print_keyword(out: &mut List<u8>, keyword: Keyword) -> Result<(), Memory>
     ensures { OnOk result (out.new ≡ out.old ++ spelled keyword) }
 {
-    print_bytes(out, keyword.text())?;
+    append(out, keyword.text())?;
     Ok(())
 }
 

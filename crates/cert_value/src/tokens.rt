@@ -53,8 +53,8 @@ impl<'a> Tokens<'a> {
         }
     }
 
-    /// The tokens of the line from this number on.
-    pub fn past(line: &'a [u8], count: usize) -> Tokens<'a>
+    /// The tokens of the line behind the first so many.
+    pub fn behind(line: &'a [u8], count: usize) -> Tokens<'a>
         ensures { result ≡ drop count (tokens_of line.now) }
     {
         let mut tokens = Tokens::of(line);

@@ -1,5 +1,5 @@
 -- The transitions that stay, and the automaton that they make.
-use Rattle.std.proofs.Common.{◌≡◌, ℕ, zero, suc, ◌+◌, ◌<◌, ◌≤◌, ◌⊎◌, Result, Ok, Err, nat_cmp, inl, inr, Bool, true, false, not, cond, ◌==◌, List, [], ◌∷◌, ◌++◌, length, get_or, map, filter, All, Contains, refl, sym, ap, ◌∙◌, subst, arith, add-zero, add-one, zero-add}
+use Rattle.std.proofs.Common.{◌≡◌, ℕ, ◌+◌, ◌<◌, ◌≤◌, ◌⊎◌, Result, Ok, Err, nat_cmp, inl, inr, Bool, true, false, not, cond, ◌==◌, List, [], ◌∷◌, ◌++◌, length, get_or, map, filter, All, Contains, sym, ap, ◌∙◌, subst, arith, add-one, zero-add}
 use Rattle.std.specs.List.{list_any, range_with_len, AllPairs}
 use Rattle.std.specs.List.Sorted.{IsStrictlyIncreasing, IsBinarySearchResult}
 use Rattle.std.specs.Result.{is_ok}
@@ -15,6 +15,7 @@ use Rattle.auto_core.specs.Build.{IsBuilt}
 use Rattle.auto_core.specs.Parts.{AreParts}
 use Rattle.auto_core.specs.Pruning.{IsCut}
 use Rattle.auto_core.specs.declared.parts.Trans.{Trans}
+use Rattle.auto_core.proofs.RangeLemmas.{range_more}
 use Rattle.auto_core.proofs.PathLemmas.{Contains-from_test, test_from_Contains, accepting_from_test, test_from_accepting}
 use Rattle.auto_core.proofs.MemberLemmas.{filter_has, filter_from, map_has, map_from, range_has, range_from, range_rises, no_repeat, pairs_mapped, rises_from_pairs, same_members, same_bool}
 use Rattle.prune_pairs.specs.Staying.{stays_in, staying_transitions}
@@ -39,12 +40,6 @@ listed xs x (Err i) up h =
     elim (cases_lt k i) [ inl lt ↦ absurd (omega (arith, parts.1 k lt)) | inr le ↦ absurd (omega (arith, parts.2 k le k_in)) ])
 
 -- ---- loops
-
-range_more : (a n : ℕ) → range_with_len a (suc n) ≡ range_with_len a n ++ (a + n) ∷ []
-range_more a zero = rw (add-zero a) refl
-range_more a (suc n) =
-    let e : (a + 1) + n ≡ a + suc n = omega arith in
-    ap (λ l. a ∷ l) (range_more (a + 1) n ∙ ap (λ k. range_with_len (a + 1) n ++ k ∷ []) e)
 
 -- one number more, if it passes the test
 pub more_filtered : (p : ℕ → Bool) (n : ℕ) → filter p (range_with_len 0 (n + 1)) ≡ filter p (range_with_len 0 n) ++ cond (p n) (n ∷ []) []

@@ -214,11 +214,44 @@ pruned_itself A n k back ahead valid greatest_back greatest_ahead = (
 
 -- ---- removable transitions
 
-has_better : (A : Automaton) (n : ℕ) (back ahead : List (ℕ × ℕ)) (gone : List Gone) → AreLeastBetter A n (Holds back) (Holds ahead) gone → (t : ℕ) → Contains (numbers_of_gone gone) t → HasBetter A n (Holds back) (Holds ahead) t
-has_better A n back ahead gone are t h =
-    let (g, there, is) = map_from (λ (g : Gone). g.trans) gone t h in
-    let least = All-contains (λ (g : Gone). IsLeastBetter A n (Holds back) (Holds ahead) g.trans g.by) gone g are.each there in
-    subst (HasBetter A n (Holds back) (Holds ahead)) is (g.by, least.better)
+same_gone : (g h : Gone) → g.trans ≡ h.trans → g.by ≡ h.by → g ≡ h
+same_gone g h a b = λ k. record { trans = a k; by = b k }
+
+gone_rises : (gone : List Gone) → AllPairs (λ x y. x < y) (numbers_of_gone gone) → AllPairs (λ (g h : Gone). g.trans < h.trans) gone
+gone_rises gone up i j d lt j_in =
+    let i_in : i < length gone = omega arith in
+    let len = length-map gone (λ (g : Gone). g.trans) in
+    let first = get_or-map (λ (g : Gone). g.trans) gone i d 0 i_in in
+    let second = get_or-map (λ (g : Gone). g.trans) gone j d 0 j_in in
+    let h = up i j 0 lt (omega arith) in
+    omega arith
+
+module _ (A : Automaton) (n : ℕ) (back ahead : ℕ → ℕ → Type 0) where
+  abbrev pub Least : Gone → Type 0
+  Least g = IsLeastBetter A n back ahead g.trans g.by
+
+  gone_within : (gone other : List Gone) → AreLeastBetter A n back ahead gone → AreLeastBetter A n back ahead other → (g : Gone) → Contains gone g → Contains other g
+  gone_within gone other are these g there =
+      let mine : IsLeastBetter A n back ahead g.trans g.by = All-contains Least gone g are.each there in
+      let (h, h_there, is) = map_from (λ (g : Gone). g.trans) other g.trans (these.all g.trans (g.by, mine.better)) in
+      let theirs : IsLeastBetter A n back ahead h.trans h.by = All-contains Least other h these.each h_there in
+      let moved : IsLeastBetter A n back ahead g.trans h.by = subst (λ t. IsLeastBetter A n back ahead t h.by) is theirs in
+      let low = mine.least h.by moved.better in
+      let high = moved.least g.by mine.better in
+      subst (Contains other) (same_gone h g is (omega arith)) h_there
+
+  pub least_one : (gone other : List Gone) → AreLeastBetter A n back ahead gone → AreLeastBetter A n back ahead other → gone ≡ other
+  least_one gone other are these =
+      same_members (λ (g h : Gone). g.trans < h.trans) (λ g h a b. omega arith) gone other
+      (rises_from_pairs _ gone (gone_rises gone (AllPairs-from_increasing (numbers_of_gone gone) are.ascending)))
+      (rises_from_pairs _ other (gone_rises other (AllPairs-from_increasing (numbers_of_gone other) these.ascending)))
+      (gone_within gone other are these) (gone_within other gone these are)
+
+  pub has_better : (gone : List Gone) → AreLeastBetter A n back ahead gone → (t : ℕ) → Contains (numbers_of_gone gone) t → HasBetter A n back ahead t
+  has_better gone are t h =
+      let (g, there, is) = map_from (λ (g : Gone). g.trans) gone t h in
+      let least : IsLeastBetter A n back ahead g.trans g.by = All-contains Least gone g are.each there in
+      subst (HasBetter A n back ahead) is (g.by, least.better)
 
 pub removable_pruned : RemovableArePruned
 removable_pruned A B n k back ahead closed_back closed_ahead gone valid greatest_back greatest_ahead same_back same_ahead are cut = record {
@@ -228,38 +261,11 @@ removable_pruned A B n k back ahead closed_back closed_ahead gone valid greatest
   greatest_back = greatest_back;
   greatest_ahead = greatest_ahead;
   removable = λ t. (
-    λ h. let (u, better) = has_better A n closed_back closed_ahead gone are t h in (u, (better_goes A n closed_back closed_ahead back ahead t u valid same_back same_ahead).0 better),
+    λ h. let (u, better) = has_better A n (Holds closed_back) (Holds closed_ahead) gone are t h in (u, (better_goes A n closed_back closed_ahead back ahead t u valid same_back same_ahead).0 better),
     λ h. let (u, better) = h in are.all t (u, (better_goes A n closed_back closed_ahead back ahead t u valid same_back same_ahead).1 better),
   );
   cut = cut;
 }
 
-pub same_gone : (g h : Gone) → g.trans ≡ h.trans → g.by ≡ h.by → g ≡ h
-same_gone g h a b = λ k. record { trans = a k; by = b k }
-
-gone_within : (A : Automaton) (n : ℕ) (back ahead : List (ℕ × ℕ)) (gone other : List Gone) → AreLeastBetter A n (Holds back) (Holds ahead) gone → AreLeastBetter A n (Holds back) (Holds ahead) other
-    → (g : Gone) → Contains gone g → Contains other g
-gone_within A n back ahead gone other are ares g there =
-    let mine : IsLeastBetter A n (Holds back) (Holds ahead) g.trans g.by = All-contains (λ (g : Gone). IsLeastBetter A n (Holds back) (Holds ahead) g.trans g.by) gone g are.each there in
-    let (h, h_there, is) = map_from (λ (g : Gone). g.trans) other g.trans (ares.all g.trans (g.by, mine.better)) in
-    let theirs : IsLeastBetter A n (Holds back) (Holds ahead) h.trans h.by = All-contains (λ (g : Gone). IsLeastBetter A n (Holds back) (Holds ahead) g.trans g.by) other h ares.each h_there in
-    let moved : IsLeastBetter A n (Holds back) (Holds ahead) g.trans h.by = subst (λ t. IsLeastBetter A n (Holds back) (Holds ahead) t h.by) is theirs in
-    let low = mine.least h.by moved.better in
-    let high = moved.least g.by mine.better in
-    subst (Contains other) (same_gone h g is (omega arith)) h_there
-
-pub gone_rises : (gone : List Gone) → AllPairs (λ x y. x < y) (numbers_of_gone gone) → AllPairs (λ (g h : Gone). g.trans < h.trans) gone
-gone_rises gone up i j d lt j_in =
-    let i_in : i < length gone = omega arith in
-    let len = length-map gone (λ (g : Gone). g.trans) in
-    let first = get_or-map (λ (g : Gone). g.trans) gone i d 0 i_in in
-    let second = get_or-map (λ (g : Gone). g.trans) gone j d 0 j_in in
-    let h = up i j 0 lt (omega arith) in
-    omega arith
-
 pub removable_one : RemovableIsOne
-removable_one A n back ahead gone other are ares =
-    same_members (λ (g h : Gone). g.trans < h.trans) (λ g h a b. omega arith) gone other
-    (rises_from_pairs _ gone (gone_rises gone (AllPairs-from_increasing (numbers_of_gone gone) are.ascending)))
-    (rises_from_pairs _ other (gone_rises other (AllPairs-from_increasing (numbers_of_gone other) ares.ascending)))
-    (gone_within A n back ahead gone other are ares) (gone_within A n back ahead other gone ares are)
+removable_one A n back ahead = least_one A n (Holds back) (Holds ahead)

@@ -10,6 +10,7 @@ use Rattle.auto_core.specs.Automaton.{Automaton, IsAutomaton, Moves, IsAccepting
 use Rattle.auto_core.specs.Build.{IsBuilt}
 use Rattle.auto_core.specs.Parts.{AreParts}
 use Rattle.auto_core.specs.declared.parts.Trans.{Trans}
+use Rattle.auto_core.proofs.RangeLemmas.{range_more}
 use Rattle.auto_core.proofs.PathLemmas.{accepting_from_test, test_from_accepting}
 use Rattle.auto_core.proofs.MoveLemmas.{move_in_range}
 use Rattle.auto_core.proofs.MemberLemmas.{filter_has, filter_from, map_has, map_from, range_has, no_repeat}
@@ -21,12 +22,6 @@ use Rattle.quotient.proofs.MergeLaws.{accepting_below}
 -- numbers that increase have no repeat
 pub increasing_once : (xs : List ℕ) → IsStrictlyIncreasing xs → HasRepeat xs → ⊥
 increasing_once xs up = no_repeat (λ x y. x < y) (λ x h. omega arith) xs (AllPairs-from_increasing xs up)
-
-range_more : (a n : ℕ) → range_with_len a (suc n) ≡ range_with_len a n ++ (a + n) ∷ []
-range_more a zero = rw (add-zero a) refl
-range_more a (suc n) =
-    let e : (a + 1) + n ≡ a + suc n = omega arith in
-    ap (λ l. a ∷ l) (range_more (a + 1) n ∙ ap (λ k. range_with_len (a + 1) n ++ k ∷ []) e)
 
 -- one state more, if it is accepting
 pub more_classes :

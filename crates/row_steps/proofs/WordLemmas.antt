@@ -190,3 +190,13 @@ four_zero row at none k k_from k_in =
 -- the cells of a table's first row are its bits
 pub first_cell : (table : List ℕ) (width q : ℕ) → cell_of table width 0 q ≡ bit_of table q
 first_cell table width q = let e : 0 * width * 64 + q ≡ q = omega arith in ap (bit_of table) e
+
+-- a row of zeros
+pub row_cleared :
+    (table : List ℕ) (w row : ℕ)
+    → ((k : ℕ) → k < w → get_or table (row * w + k) 0 ≡ 0)
+    → (q : ℕ)
+    → q < w * 64
+    → cell_of table w row q ≡ false
+row_cleared table w row zeros q q_in =
+    rw (cell_at table w row q) (ap (λ n. bit_at n (q % 64) == 1) (zeros (q / 64) (omega arith)) ∙ ap (λ n. n == 1) (bit_at-zero (q % 64)))

@@ -1,6 +1,6 @@
-//! Rows of a table written or narrowed at once.
+//! Rows of a table written, cleared or narrowed at once.
 
-ghost use Rattle.std.specs.Prelude.{◌≡◌, ℕ, ◌+◌, ◌*◌, ◌<◌, ◌≤◌, ◌⊎◌, ◌&&◌, length, slice_index};
+ghost use Rattle.std.specs.Prelude.{◌≡◌, ℕ, ◌+◌, ◌*◌, ◌<◌, ◌≤◌, ◌⊎◌, ◌&&◌, false, length, slice_index};
 ghost use Rattle.auto_core.specs.Rows.{bit_of, cell_of};
 
 /// Clears in row `p` of the table each bit that the other row, which has `width` words, has not, and leaves the other rows.
@@ -26,5 +26,17 @@ pub fn write_row(table: &mut [u64], width: usize, p: usize, from: &[u64])
 {
     for j in 0..width {
         table[p * width + j] = from[j];
+    }
+}
+
+/// Clears row `p` of the table, and leaves the other rows.
+pub fn clear_table_row(table: &mut [u64], width: usize, p: usize)
+    requires row { p * width + width ≤ length table.old }
+    ensures here { (q : ℕ) → q < width * 64 → cell_of table.new width p q ≡ false }
+    ensures others { (r q : ℕ) → q < width * 64 → ¬ (r ≡ p) → cell_of table.new width r q ≡ cell_of table.old width r q }
+    ensures rest { (k : ℕ) → (k < p * width) ⊎ (p * width + width ≤ k) → slice_index table.new k ≡ slice_index table.old k }
+{
+    for j in 0..width {
+        table[p * width + j] = 0;
     }
 }

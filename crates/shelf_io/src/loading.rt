@@ -9,7 +9,7 @@ ghost use Rattle.shelf_io.specs.Load.{HoldsUnder, HoldsMoreThan, IsToldMissing};
 use crate::outside::Shelf;
 use crate::parts::LoadFault;
 use crate::pouring::{Eat, pour};
-use auto_core::{List, Memory};
+use auto_core::{List, Memory, append};
 use std::alloc::Global;
 
 /// Begins the named file and takes all of it, at most `cap` bytes.
@@ -60,14 +60,4 @@ impl Eat for List<u8> {
     fn feed(&mut self, piece: &[u8]) -> Result<(), Memory> {
         append(self, piece)
     }
-}
-
-/// Appends the bytes. Refused, the list holds a front of them more.
-pub fn append(out: &mut List<u8>, bytes: &[u8]) -> Result<(), Memory>
-    ensures { OnOk result (out.new ≡ out.old ++ bytes.now) }
-{
-    for byte in bytes {
-        out.push(*byte)?;
-    }
-    Ok(())
 }

@@ -118,7 +118,8 @@ fn turn_rows(
     }
 }
 
-/// Writes into `turned`, whose rows have `span` words, the first columns of the table, whose rows have `width` words, as rows.
+/// Writes into `turned` the first columns of the table as rows, as many as `columns` says. Rows of the table have `width` words and
+/// those of `turned` have `span`; rows of the table past the first `span * 64` are left out.
 pub fn transpose(
     table: &[u64],
     width: usize,

@@ -12,6 +12,7 @@ use Rattle.auto_core.specs.Build.{IsBuilt}
 use Rattle.auto_core.specs.Parts.{AreParts}
 use Rattle.auto_core.specs.Useful.{count_below, stays, new_number, IsKeptPart}
 use Rattle.auto_core.specs.declared.parts.Trans.{Trans}
+use Rattle.auto_core.proofs.RangeLemmas.{range_more}
 use Rattle.auto_core.proofs.PathLemmas.{Contains-from_test, test_from_Contains, accepting_from_test, test_from_accepting}
 use Rattle.auto_core.proofs.MemberLemmas.{filter_has, filter_from, map_has, map_from, range_has, range_rises, no_repeat, pairs_mapped}
 use Rattle.auto_core.proofs.SetLemmas.{transitions_rise}
@@ -147,12 +148,6 @@ module _ (A : Automaton) (kept : List ℕ) (valid : IsAutomaton A) where
     }
 
 -- ---- loops
-
-range_more : (a n : ℕ) → range_with_len a (suc n) ≡ range_with_len a n ++ (a + n) ∷ []
-range_more a zero = rw (add-zero a) refl
-range_more a (suc n) =
-    let e : (a + 1) + n ≡ a + suc n = omega arith in
-    ap (λ l. a ∷ l) (range_more (a + 1) n ∙ ap (λ k. range_with_len (a + 1) n ++ k ∷ []) e)
 
 -- one accepting state more, if it is kept
 pub more_accepting :

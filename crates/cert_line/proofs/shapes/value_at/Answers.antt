@@ -8,4 +8,4 @@ pub returns-in-Some : goal.returns-in-Some
 returns-in-Some c =
     c.value.ensures
     ∙ ap (λ t. value t)
-    (sym (front_is (tokens_of c.args.line.now) c.args.number c.in-Some.token.now [] c.next.new.self (sym c.past.ensures ∙ c.in-Some.ensures.token)))
+    (sym (front_is (tokens_of c.args.line.now) c.args.number c.in-Some.token.now [] c.next.new.self (sym c.behind.ensures ∙ c.in-Some.ensures.token)))

@@ -1,5 +1,4 @@
-use Rattle.std.proofs.Common.{◌≡◌, ◌+◌, ◌<◌, ◌↔◌, ℕ, List, sym, subst, arith}
-use Rattle.auto_core.specs.Automaton.{trans_at}
+use Rattle.std.proofs.Common.{◌≡◌, ◌<◌, ◌↔◌, ℕ, List, sym, subst, arith}
 use Rattle.auto_core.specs.Game.{Holds}
 use Rattle.auto_core.specs.Rows.{HasBit}
 use Rattle.bit_rel.specs.Relation.{Relation, IsRelation}
