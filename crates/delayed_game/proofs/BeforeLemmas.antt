@@ -8,7 +8,7 @@ use Rattle.auto_core.specs.Automaton.{Automaton, Moves, trans_at}
 use Rattle.auto_core.specs.Rows.{bit_of, cell_of, HasBit, HasCell}
 use Rattle.auto_core.specs.Game.{Holds}
 use Rattle.auto_core.proofs.BitLemmas.{bit_past}
-use Rattle.delayed_game.specs.Pairings.{Pairing, IsPairing, Loses}
+use Rattle.delayed_game.specs.Pairings.{Pairing, IsPairing, Removes}
 use Rattle.delayed_game.proofs.BoardLemmas.{fewer_pairs, no_more_pairs}
 use Rattle.row_steps.specs.Walks.{IsNextBit}
 use Rattle.delayed_game.specs.Levels.{rank_in_table}
@@ -130,20 +130,20 @@ pub given_more :
     (unranked now new : Pairing) (ranks ranks' ranks'' : List ℕ) (p : ℕ) (row : List ℕ) (rank at q : ℕ)
     → HasGiven unranked ranks p row rank now ranks' at
     → IsNextBit row at q
-    → Loses now new p q
+    → Removes now new p q
     → IsPairing new
     → length ranks'' ≡ length ranks'
     → ((r s : ℕ) → r < unranked.places → s < unranked.states
     → ((r ≡ p) × (s ≡ q) × (rank_in_table ranks'' unranked.states r s ≡ Some rank)) ⊎ (((r ≡ p) × (s ≡ q) → ⊥) × (rank_in_table ranks'' unranked.states r s ≡ rank_in_table ranks' unranked.states r s)))
     → HasGiven unranked ranks p row rank new ranks'' (q + 1)
-given_more unranked now new ranks ranks' ranks'' p row rank at q h next loses valid len sets = record {
-  places = loses.places ∙ h.places;
-  states = loses.states ∙ h.states;
+given_more unranked now new ranks ranks' ranks'' p row rank at q h next removes valid len sets = record {
+  places = removes.places ∙ h.places;
+  states = removes.states ∙ h.states;
   valid = valid;
   len = len ∙ h.len;
   pairs = λ r s. (
     λ held.
-        let two = (loses.pairs r s).0 held in
+        let two = (removes.pairs r s).0 held in
         let was = (h.pairs r s).0 two.0 in (
           was.0,
           λ is. elim (cases_eq s q) [
@@ -154,7 +154,7 @@ given_more unranked now new ranks ranks' ranks'' p row rank at q h next loses va
             ]
           ],
         ),
-    λ both. (loses.pairs r s).1 (
+    λ both. (removes.pairs r s).1 (
       (h.pairs r s).1 (both.0, λ is. let lt = is.1 in let le = next.behind in both.1 (is.0, omega arith, is.2)),
       λ is. let e = is.1 in both.1 (is.0, omega arith, subst (λ x. HasBit row x) (sym is.1) next.here),
     ),

@@ -7,7 +7,7 @@ use Rattle.bit_rel.specs.Relation.{Relation, IsRelation}
 use Rattle.bit_rel.specs.Stored.{pairs_in_row, pairs_below}
 use Rattle.bit_rel.proofs.LengthLemmas.{fewer, no_more}
 use Rattle.bit_rel.proofs.PairLemmas.{pairs_hold, pairs_have, pairs_ascend}
-use Rattle.delayed_game.specs.Pairings.{Pairing, IsPairing, Loses, IsNarrowed, table_pairing}
+use Rattle.delayed_game.specs.Pairings.{Pairing, IsPairing, Removes, IsNarrowed, table_pairing}
 
 -- ---- the number of pairs
 
@@ -78,7 +78,7 @@ pub lost :
     → n ≤ w * 64
     → ((r s : ℕ) → s < w * 64 → ¬ ((r ≡ x) × (s ≡ q)) → cell_of new w r s ≡ cell_of old w r s)
     → cell_of new w x q ≡ false
-    → Loses (table_pairing old w m n) (table_pairing new w m n) x q
+    → Removes (table_pairing old w m n) (table_pairing new w m n) x q
 lost old new w m n x q room others here = record { places = refl; states = refl; pairs = λ r s. (to r s, from r s) }
   where
     to : (r s : ℕ) → Holds (table_pairing new w m n).pairs r s → Holds (table_pairing old w m n).pairs r s × ¬ ((r ≡ x) × (s ≡ q))

@@ -3,20 +3,20 @@ use Rattle.std.proofs.Common.{◌≡◌, ℕ, ◌<◌, List, arith}
 use Rattle.auto_core.specs.Automaton.{Automaton, Moves}
 use Rattle.auto_core.specs.Game.{Holds}
 use Rattle.delayed_game.specs.Pairings.{Pairing, IsPairing}
-use Rattle.delayed_game.specs.Settling.{AnswersAll, LeavesRight, Drops, Shrinks, IsAnsweredBesides}
+use Rattle.delayed_game.specs.Settling.{AnswersAll, LeavesRight, Drops, TakesAway, IsAnsweredBesides}
 use Rattle.delayed_game.specs.Boards.{AreLeastRanks}
 use Rattle.delayed_game.proofs.CanLemmas.{right_can}
 
 -- Pairs that were dropped are in no right relation.
-pub drops_shrinks :
+pub drops_takes :
     (L A : Automaton) (ranks : List ℕ) (R S : Pairing) (marks marks' : List ℕ)
     → R.places ≡ L.states
     → R.states ≡ A.states
     → IsPairing R
     → AreLeastRanks L A (Holds R.pairs) ranks
     → Drops L A.states ranks R S marks marks'
-    → Shrinks L A R S
-drops_shrinks L A ranks R S marks marks' places size valid least drops = record { places = drops.places; states = drops.states; valid = drops.valid; within = drops.within; leaves = leaves }
+    → TakesAway L A R S
+drops_takes L A ranks R S marks marks' places size valid least drops = record { places = drops.places; states = drops.states; valid = drops.valid; within = drops.within; leaves = leaves }
   where
     leaves : LeavesRight L A R S
     leaves X right inside p q h = drops.stays p q (inside p q h) (λ accepting.

@@ -5,10 +5,10 @@ use Rattle.auto_core.specs.Automaton.{Automaton, Moves, trans_at}
 use Rattle.auto_core.specs.Rows.{bit_of, HasBit}
 use Rattle.auto_core.specs.Game.{Holds}
 use Rattle.delayed_game.specs.Across.{HoldsPlacePair}
-use Rattle.delayed_game.specs.Pairings.{Pairing, IsPairing, IsNarrowed, Loses}
+use Rattle.delayed_game.specs.Pairings.{Pairing, IsPairing, IsNarrowed, Removes}
 use Rattle.delayed_game.proofs.BoardLemmas.{fewer_pairs}
 use Rattle.row_steps.specs.Walks.{IsNextBit}
-use Rattle.delayed_game.specs.Settling.{AnswersAll, Shrinks, IsFiltered, IsAnsweredIn, IsAnsweredInto, IsAnsweredBesides, IsPlaceUnderWay, Tries}
+use Rattle.delayed_game.specs.Settling.{AnswersAll, TakesAway, IsFiltered, IsAnsweredIn, IsAnsweredInto, IsAnsweredBesides, IsPlaceUnderWay, Tries}
 
 -- what a bit of the row of p says of a pair
 pub pair_below : (R : Pairing) (row : List ℕ) (n p q : ℕ) → R.states ≡ n → IsPairing R → HasBit row q → HasBit row q ↔ Holds R.pairs p q → q < n
@@ -73,20 +73,20 @@ module _ (old : Pairing) (p : ℕ) (P : ℕ → Type 0) where
       → ((s : ℕ) → HasBit row s ↔ Holds now.pairs p s)
       → IsNextBit row at q
       → (P q → ⊥)
-      → Loses now new p q
+      → Removes now new p q
       → IsPairing new
       → HasTried old new p P true (q + 1)
-  tried_taken now new changed row at q h bits next fails loses valid =
+  tried_taken now new changed row at q h bits next fails removes valid =
       let held : Holds now.pairs p q = (bits q).0 next.here in
-      let fell = fewer_pairs now new p q h.valid valid (λ r s k. ((loses.pairs r s).0 k).0) held (λ k. ((loses.pairs p q).0 k).1 (refl, refl)) in
+      let fell = fewer_pairs now new p q h.valid valid (λ r s k. ((removes.pairs r s).0 k).0) held (λ k. ((removes.pairs p q).0 k).1 (refl, refl)) in
       let upto = h.upto in
       record {
-        places = loses.places ∙ h.places;
-        states = loses.states ∙ h.states;
+        places = removes.places ∙ h.places;
+        states = removes.states ∙ h.states;
         valid = valid;
         pairs = λ r s. (
           λ k.
-              let two = (loses.pairs r s).0 k in
+              let two = (removes.pairs r s).0 k in
               let was = (h.pairs r s).0 two.0 in (
                 was.0,
                 λ e lt. elim (cases_eq s q) [
@@ -97,7 +97,7 @@ module _ (old : Pairing) (p : ℕ) (P : ℕ → Type 0) where
                   ]
                 ],
               ),
-          λ both. (loses.pairs r s).1 (
+          λ both. (removes.pairs r s).1 (
             (h.pairs r s).1 (both.0, λ e lt. let le = next.behind in both.1 e (omega arith)),
             λ is. let f = is.1 in fails (subst P is.1 (both.1 is.0 (omega arith))),
           ),
@@ -161,11 +161,11 @@ row_passes R p row valid passes = record {
 }
 
 module _ (L A : Automaton) where
-  pub shrinks_none : (R : Pairing) → IsPairing R → Shrinks L A R R
-  shrinks_none R valid = record { places = refl; states = refl; valid = valid; within = λ p q h. h; leaves = λ X right inside. inside }
+  pub takes_none : (R : Pairing) → IsPairing R → TakesAway L A R R
+  takes_none R valid = record { places = refl; states = refl; valid = valid; within = λ p q h. h; leaves = λ X right inside. inside }
 
-  pub shrinks_then : (R S T : Pairing) → Shrinks L A R S → Shrinks L A S T → Shrinks L A R T
-  shrinks_then R S T first second = record {
+  pub takes_then : (R S T : Pairing) → TakesAway L A R S → TakesAway L A S T → TakesAway L A R T
+  takes_then R S T first second = record {
     places = second.places ∙ first.places;
     states = second.states ∙ first.states;
     valid = second.valid;
@@ -174,14 +174,14 @@ module _ (L A : Automaton) where
   }
 
   -- the pairs of p went from whose right state no move by the letter a answers one of p to p' by a pair of an older relation
-  pub filter_shrinks :
+  pub filter_takes :
       (old R S : Pairing) (p a p' : ℕ) (row : List ℕ) (changed : Bool)
       → Moves L p a p'
       → ((q : ℕ) → Holds R.pairs p' q → Holds old.pairs p' q)
       → ((q : ℕ) → Holds R.pairs p q → HasBit row q ↔ IsAnsweredIn A (Holds old.pairs) q a p')
       → IsFiltered R S p (λ q. HasBit row q) changed
-      → Shrinks L A R S
-  filter_shrinks old R S p a p' row changed move within answers f = record {
+      → TakesAway L A R S
+  filter_takes old R S p a p' row changed move within answers f = record {
     places = f.places;
     states = f.states;
     valid = f.valid;
@@ -208,7 +208,7 @@ module _ (L A : Automaton) where
 
   pub tries_none : (R : Pairing) (marks : List ℕ) → IsPairing R → Tries L A R R marks marks false
   tries_none R marks valid = record {
-    shrinks = shrinks_none R valid;
+    takes = takes_none R valid;
     upto = omega arith;
     some = λ yes. absurd (false≢true yes);
     same = λ no. refl;
@@ -219,14 +219,14 @@ module _ (L A : Automaton) where
   pub tries_more :
       (R S T : Pairing) (m m' m'' : List ℕ) (any : Bool)
       → Tries L A R S m m' any
-      → Shrinks L A S T
+      → TakesAway L A S T
       → length T.pairs < length S.pairs
       → ((x : ℕ) → bit_of m'' x ≡ false → bit_of m' x ≡ false)
       → Tries L A R T m m'' true
-  tries_more R S T m m' m'' any h shrinks fell marked =
+  tries_more R S T m m' m'' any h takes fell marked =
       let upto = h.upto in
       record {
-        shrinks = shrinks_then R S T h.shrinks shrinks;
+        takes = takes_then R S T h.takes takes;
         upto = omega arith;
         some = λ yes. omega arith;
         same = λ no. absurd (false≢true (sym no));
@@ -237,14 +237,14 @@ module _ (L A : Automaton) where
   pub tries_same :
       (R S T : Pairing) (m m' m'' : List ℕ) (any : Bool)
       → Tries L A R S m m' any
-      → Shrinks L A S T
+      → TakesAway L A S T
       → length T.pairs ≤ length S.pairs
       → m'' ≡ m'
       → Tries L A R T m m'' any
-  tries_same R S T m m' m'' any h shrinks less marks =
+  tries_same R S T m m' m'' any h takes less marks =
       let upto = h.upto in
       record {
-        shrinks = shrinks_then R S T h.shrinks shrinks;
+        takes = takes_then R S T h.takes takes;
         upto = omega arith;
         some = λ yes. let fell = h.some yes in omega arith;
         same = λ no. marks ∙ h.same no;

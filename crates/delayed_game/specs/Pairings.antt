@@ -19,7 +19,7 @@ pub record IsPairing (R : Pairing) : Type 0 where
   pub few : length R.pairs ≤ R.places * R.states
 
 -- The new one is on the same places and states and holds the pairs of the old one but for this pair.
-pub record Loses (old new : Pairing) (x q : ℕ) : Type 0 where
+pub record Removes (old new : Pairing) (x q : ℕ) : Type 0 where
   pub places : new.places ≡ old.places
   pub states : new.states ≡ old.states
   pub pairs : (y s : ℕ) → Holds new.pairs y s ↔ (Holds old.pairs y s × ¬ ((y ≡ x) × (s ≡ q)))

@@ -23,7 +23,7 @@ LeavesRight L A old new =
     → (x q : ℕ) → HoldsPlacePair X x q → Holds new.pairs x q
 
 -- The relation lost pairs, but none that is in a right relation inside the old one.
-pub record Shrinks (L A : Automaton) (old new : Pairing) : Type 0 where
+pub record TakesAway (L A : Automaton) (old new : Pairing) : Type 0 where
   pub places : new.places ≡ old.places
   pub states : new.states ≡ old.states
   pub valid : IsPairing new
@@ -61,7 +61,7 @@ pub record IsPlaceUnderWay (L A : Automaton) (to : ℕ) (old R : Pairing) (marks
 
 -- Pairs went, but none that is in a right relation inside the old one; `any` tells whether any went, and else the marks stay. No mark went.
 pub record Tries (L A : Automaton) (old new : Pairing) (marks marks' : List ℕ) (any : Bool) : Type 0 where
-  pub shrinks : Shrinks L A old new
+  pub takes : TakesAway L A old new
   pub upto : length new.pairs ≤ length old.pairs
   pub some : any ≡ true → length new.pairs < length old.pairs
   pub same : any ≡ false → marks' ≡ marks

@@ -30,19 +30,19 @@ fn find_columns(automaton: &Auto, label: u32, words: &[u64], found: &mut [u64])
 }
 
 /// Adds the row of each column to that of each transition by the letter into the column's place, where `block` is the number of the 64 places.
-fn note_made(
+fn note_turned(
     places: &Auto,
     label: u32,
     block: usize,
-    made: &[u64],
+    turned: &[u64],
     answered: &mut [u64],
     width: usize,
 )
-    requires made { length made.now ≡ 64 * width }
+    requires turned { length turned.now ≡ 64 * width }
     requires answered { length answered.old ≡ length places.now.transitions * width }
     ensures { (t q : ℕ) → t < length places.now.transitions → q < width * 64 → HasCell answered.new width t q
         ↔ (HasCell answered.old width t q
-        ⊎ (((trans_at places.now t).label ≡ label) × ((trans_at places.now t).target / 64 ≡ block) × HasCell made.now width ((trans_at places.now t).target % 64) q)) }
+        ⊎ (((trans_at places.now t).label ≡ label) × ((trans_at places.now t).target / 64 ≡ block) × HasCell turned.now width ((trans_at places.now t).target % 64) q)) }
 {
     let steps = places.transitions();
     for number in 0..steps.len() {
@@ -54,7 +54,7 @@ fn note_made(
                     answered,
                     width,
                     number,
-                    rows::row_at(made, width, to % COLUMNS),
+                    rows::row_at(turned, width, to % COLUMNS),
                 );
             }
         }
@@ -83,7 +83,7 @@ fn write_words(
     transpose(&fresh[first * width..], width, count, words, 1, states);
 }
 
-/// Notes the answers by the letter, and by pairs in the rows of `fresh`, to moves to the 64 places with this number, whose columns are written.
+/// Notes as answers to moves by the letter to the 64 places with this number the states that move by it to a state with the place's column.
 fn note_letter(
     places: &Auto,
     automaton: &Auto,
@@ -91,7 +91,7 @@ fn note_letter(
     block: usize,
     words: &[u64],
     found: &mut [u64],
-    made: &mut [u64],
+    turned: &mut [u64],
     answered: &mut [u64],
     width: usize,
 )
@@ -99,7 +99,7 @@ fn note_letter(
     requires width { width ≡ (automaton.now.states + 63) / 64 }
     requires words { length words.now ≡ automaton.now.states }
     requires found { length found.old ≡ automaton.now.states }
-    requires made { length made.old ≡ 64 * width }
+    requires turned { length turned.old ≡ 64 * width }
     requires answered { length answered.old ≡ length places.now.transitions * width }
     ensures { (t q : ℕ) → t < length places.now.transitions → q < width * 64 → HasCell answered.new width t q
         ↔ (HasCell answered.old width t q
@@ -108,8 +108,8 @@ fn note_letter(
 {
     let count = automaton.states() as usize;
     find_columns(automaton, label, words, found);
-    transpose(found, 1, count, made, width, COLUMNS);
-    note_made(places, label, block, made, answered, width);
+    transpose(found, 1, count, turned, width, COLUMNS);
+    note_turned(places, label, block, turned, answered, width);
 }
 
 /// Notes the answers by pairs in the rows of `fresh` to moves to the 64 places with this number.
@@ -122,7 +122,7 @@ fn note_block(
     width: usize,
     words: &mut [u64],
     found: &mut [u64],
-    made: &mut [u64],
+    turned: &mut [u64],
 )
     requires over { IsAutomaton places.now }
     requires labels { places.now.labels ≡ automaton.now.labels }
@@ -133,7 +133,7 @@ fn note_block(
     requires answered { length answered.old ≡ length places.now.transitions * width }
     requires words { length words.old ≡ automaton.now.states }
     requires found { length found.old ≡ automaton.now.states }
-    requires made { length made.old ≡ 64 * width }
+    requires turned { length turned.old ≡ 64 * width }
     ensures { (t q : ℕ) → t < length places.now.transitions → q < width * 64 → HasCell answered.new width t q
         ↔ (HasCell answered.old width t q
         ⊎ (((trans_at places.now t).target / 64 ≡ block) × HasFreshAnswer places.now automaton.now fresh.now t q)) }
@@ -149,13 +149,13 @@ fn note_block(
     );
     for label in 0..automaton.labels() {
         note_letter(
-            places, automaton, label, block, words, found, made, answered, width,
+            places, automaton, label, block, words, found, turned, answered, width,
         );
     }
 }
 
 /// Notes the answers by the pairs that stand in the rows of `fresh`, 64 places at once. `words` and `found` are room for a word for each
-/// state, `made` for 64 rows.
+/// state, `turned` for 64 rows.
 pub fn note_by_blocks(
     places: &Auto,
     automaton: &Auto,
@@ -164,7 +164,7 @@ pub fn note_by_blocks(
     width: usize,
     words: &mut [u64],
     found: &mut [u64],
-    made: &mut [u64],
+    turned: &mut [u64],
 )
     requires over { IsAutomaton places.now }
     requires labels { places.now.labels ≡ automaton.now.labels }
@@ -174,13 +174,13 @@ pub fn note_by_blocks(
     requires answered { length answered.old ≡ length places.now.transitions * width }
     requires words { length words.old ≡ automaton.now.states }
     requires found { length found.old ≡ automaton.now.states }
-    requires made { length made.old ≡ 64 * width }
+    requires turned { length turned.old ≡ 64 * width }
     ensures { (t q : ℕ) → t < length places.now.transitions → q < width * 64 → HasCell answered.new width t q
         ↔ (HasCell answered.old width t q ⊎ HasFreshAnswer places.now automaton.now fresh.now t q) }
 {
     for block in 0..rows::words_for(places.states()) {
         note_block(
-            places, automaton, fresh, block, answered, width, words, found, made,
+            places, automaton, fresh, block, answered, width, words, found, turned,
         );
     }
 }

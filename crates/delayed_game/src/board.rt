@@ -4,7 +4,7 @@ ghost use Rattle.std.specs.Prelude.{◌≡◌, ◌+◌, ◌*◌, ◌/◌, ◌^�
 ghost use Rattle.auto_core.specs.Game.{Holds};
 ghost use Rattle.auto_core.specs.Rows.{HasBit};
 ghost use Rattle.bit_rel.specs.Relation.{IsRelation};
-ghost use Rattle.delayed_game.specs.Pairings.{IsPairing, Loses, IsNarrowed};
+ghost use Rattle.delayed_game.specs.Pairings.{IsPairing, Removes, IsNarrowed};
 
 use auto_core::{Memory, rows};
 use bit_rel::Rel;
@@ -107,7 +107,7 @@ impl Board {
         rows::row_at(&self.table, self.width, x as usize)
     }
 
-    /// The number of pairs, as room for their list.
+    /// How much room a list of the pairs asks for.
     pub fn room(&self) -> usize {
         bits_in(&self.table)
     }
@@ -116,7 +116,7 @@ impl Board {
     pub fn clear(&mut self, x: u32, q: u32)
         requires left { x < self.old.places }
         requires right { q < self.old.states }
-        ensures pairs { Loses self.old self.new x q }
+        ensures pairs { Removes self.old self.new x q }
         ensures valid { IsPairing self.new }
     {
         rows::clear_cell(&mut self.table, self.width, x as usize, q as usize);

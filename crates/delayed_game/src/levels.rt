@@ -1,5 +1,5 @@
-//! The least ranks inside a relation, level by level: a pair is ranked when each move of its left state is answered by a pair that was
-//! ranked before.
+//! The least ranks inside a relation, level by level: a pair is ranked when each move of its place is answered by a pair that was ranked
+//! before.
 
 ghost use Rattle.std.specs.Prelude.{◌≡◌, ◌<◌, ◌≤◌, ◌↔◌, ◌⊎◌, ◌+◌, ◌*◌, ◌/◌, ◌^◌, ℕ, length, Some, None, true, false, All, slice_index, IfOk};
 ghost use Rattle.auto_core.specs.Automaton.{IsAutomaton, IsAccepting, trans_at};
@@ -13,12 +13,12 @@ ghost use Rattle.delayed_game.specs.Boards.{HasFreshAnswer, IsReady, GivesRank, 
 use crate::before::write_before;
 use crate::blocks::note_by_blocks;
 use crate::board::{Board, bits_in};
-use crate::pairs::place;
+use crate::pairs::pair_number;
 use auto_core::{Auto, Memory, rows};
 use row_steps::{and_row, next_bit, write_row};
 use std::alloc::Global;
 
-/// Gives the rank to the pairs of the left state with the states of the row, all of which are unranked.
+/// Gives the rank to the pairs of the place with the states of the row, all of which are unranked.
 fn give_ranks(unranked: &mut Board, ranks: &mut [u32], p: u32, row: &[u64], rank: u32)
     requires left { p < unranked.old.places }
     requires few { unranked.old.states < 2 ^ 32 }
@@ -38,12 +38,12 @@ fn give_ranks(unranked: &mut Board, ranks: &mut [u32], p: u32, row: &[u64], rank
     let mut at = 0;
     while let Some(q) = next_bit(row, at) {
         unranked.clear(p, q as u32);
-        ranks[place(unranked.places(), unranked.states(), p, q as u32)] = rank + 1;
+        ranks[pair_number(unranked.places(), unranked.states(), p, q as u32)] = rank + 1;
         at = q + 1;
     }
 }
 
-/// Writes into the row the right states of the unranked pairs of the left state.
+/// Writes into the row the states of the unranked pairs of the place.
 fn write_unranked(unranked: &Board, p: u32, row: &mut [u64])
     requires left { p < unranked.now.places }
     requires len { length row.old ≡ (unranked.now.states + 63) / 64 }
@@ -53,7 +53,7 @@ fn write_unranked(unranked: &Board, p: u32, row: &mut [u64])
     row.copy_from_slice(unranked.row(p));
 }
 
-/// Takes from the row the states by which not each transition of the state is answered.
+/// Takes from the row the states by which not each transition of the place is answered.
 fn keep_answered(places: &Auto, p: u32, answered: &[u64], width: usize, row: &mut [u64])
     requires left { p < places.now.states }
     requires answered { length answered.now ≡ length places.now.transitions * width }
@@ -155,7 +155,7 @@ fn rank_accepting(
     }
 }
 
-/// Notes the answers to the transitions into the state by the states of its row. `made` is room for a row for each letter, `row` for one
+/// Notes the answers to the transitions into the place by the states of its row. `made` is room for a row for each letter, `row` for one
 /// row.
 fn note_answers(
     places: &Auto,

@@ -12,5 +12,5 @@ mod sets;
 mod settling;
 
 pub use board::Board;
-pub use pairs::place;
+pub use pairs::pair_number;
 pub use playing::play;

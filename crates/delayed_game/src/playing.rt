@@ -11,7 +11,7 @@ ghost use Rattle.delayed_game.specs.Played.{IsPlayed};
 
 use crate::board::Board;
 use crate::levels::least_ranks;
-use crate::pairs::place;
+use crate::pairs::pair_number;
 use crate::sets::sets_of;
 use crate::settling::settle;
 use auto_core::{Auto, Memory, rows};
@@ -49,7 +49,7 @@ fn drop_row(board: &mut Board, ranks: &[u32], p: u32) -> bool
     let mut changed = false;
     let mut at = 0;
     while let Some(q) = next_bit(board.row(p), at) {
-        if ranks[place(board.places(), board.states(), p, q as u32)] == 0 {
+        if ranks[pair_number(board.places(), board.states(), p, q as u32)] == 0 {
             board.clear(p, q as u32);
             changed = true;
         }
@@ -90,7 +90,7 @@ fn has_ranked(board: &Board, ranks: &[u32], p: u32) -> bool
 {
     let row = board.row(p);
     for q in 0..board.states() {
-        if ranks[place(board.places(), board.states(), p, q)] != 0 {
+        if ranks[pair_number(board.places(), board.states(), p, q)] != 0 {
             if !rows::has_bit(row, q as usize) {
                 return false;
             }

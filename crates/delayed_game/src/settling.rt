@@ -1,5 +1,5 @@
-//! Taking pairs away until each move of a left state is answered by a pair that is left. A row is marked when it has lost pairs and the moves
-//! to its state are not tried again yet.
+//! Taking pairs away until each move of a place is answered by a pair that is left. A place is marked when its row has lost pairs and the
+//! moves to it are not tried again yet.
 
 ghost use Rattle.std.specs.Prelude.{◌≡◌, ◌+◌, ◌*◌, ◌/◌, ◌^◌, ◌<◌, ◌≤◌, ◌↔◌, ℕ, length, true, false};
 ghost use Rattle.auto_core.specs.Automaton.{IsAutomaton, Moves};
@@ -7,7 +7,7 @@ ghost use Rattle.auto_core.specs.Game.{Holds};
 ghost use Rattle.auto_core.specs.Rows.{bit_of, HasBit, HasCell};
 ghost use Rattle.delayed_game.specs.Before.{AreSetsIfAny};
 ghost use Rattle.delayed_game.specs.Pairings.{IsPairing};
-ghost use Rattle.delayed_game.specs.Settling.{AnswersAll, KeptRowsAnswer, IsAnsweredIn, IsAnsweredInto, IsAnsweredBesides, IsFiltered, Shrinks, Tries};
+ghost use Rattle.delayed_game.specs.Settling.{AnswersAll, KeptRowsAnswer, IsAnsweredIn, IsAnsweredInto, IsAnsweredBesides, IsFiltered, TakesAway, Tries};
 
 use crate::before::write_before;
 use crate::board::{Board, bits_in};
@@ -18,7 +18,7 @@ use row_steps::write_row;
 /// Rows are mended where the states that were lost are fewer than one of so many that are left.
 const FEW_LOST: usize = 4;
 
-/// Takes away the pairs of the left state whose right state the row has not, and tells whether there were any.
+/// Takes away the pairs of the place whose state the row has not, and tells whether there were any.
 fn keep_in_row(board: &mut Board, p: u32, row: &[u64]) -> bool
     requires left { p < board.old.places }
     requires few { board.old.states < 2 ^ 32 }
@@ -99,8 +99,8 @@ fn write_answering(
     }
 }
 
-/// Takes away the pairs from whose right state no move answers one to this state, marks the rows that lose pairs, and tells whether
-/// there were any. `kept` has the rows of the places in `tried` as they were when moves to them were tried last. `row` is room for one row,
+/// Takes away the pairs from whose state no move answers one to this place, marks the places that lose pairs, and tells whether there were
+/// any. `kept` has the rows of the places in `tried` as they were when moves to them were tried last. `row` is room for one row,
 /// `made` for a row for each letter.
 fn try_into(
     places: &Auto,
@@ -156,7 +156,7 @@ fn try_into(
     any
 }
 
-/// Tries the moves to each marked state, each once, the last state first, and tells whether pairs were taken away. `row` is room for one
+/// Tries the moves to each marked place, each once, the last place first, and tells whether pairs were taken away. `row` is room for one
 /// row, `made` for a row for each letter.
 fn pass(
     places: &Auto,
@@ -186,7 +186,7 @@ fn pass(
     requires kept { KeptRowsAnswer places.now automaton.now width kept.old tried.old board.old }
     requires besides { IsAnsweredBesides places.now automaton.now (Holds board.old.pairs) marks.old }
     ensures kept { KeptRowsAnswer places.now automaton.now width kept.new tried.new board.new }
-    ensures shrinks { Shrinks places.now automaton.now board.old board.new }
+    ensures takes { TakesAway places.now automaton.now board.old board.new }
     ensures some { result ≡ true → length board.new.pairs < length board.old.pairs }
     ensures none { result ≡ false → (x : ℕ) → x < places.now.states → bit_of marks.new x ≡ false }
     ensures besides { IsAnsweredBesides places.now automaton.now (Holds board.new.pairs) marks.new }
@@ -205,7 +205,7 @@ fn pass(
     any
 }
 
-/// Takes pairs away until each move of a left state is answered, where only moves to marked states need be tried. No mark is left;
+/// Takes pairs away until each move of a place is answered, where only moves to marked places need be tried. No mark is left;
 /// `row` is room for one row, `made` for a row for each letter.
 pub fn settle(
     places: &Auto,
@@ -235,7 +235,7 @@ pub fn settle(
     requires kept { KeptRowsAnswer places.now automaton.now width kept.old tried.old board.old }
     requires besides { IsAnsweredBesides places.now automaton.now (Holds board.old.pairs) marks.old }
     ensures kept { KeptRowsAnswer places.now automaton.now width kept.new tried.new board.new }
-    ensures shrinks { Shrinks places.now automaton.now board.old board.new }
+    ensures takes { TakesAway places.now automaton.now board.old board.new }
     ensures unmarked { (x : ℕ) → x < places.now.states → bit_of marks.new x ≡ false }
     ensures answered { (p q : ℕ) → Holds board.new.pairs p q → AnswersAll places.now automaton.now (Holds board.new.pairs) p q }
 {

@@ -85,11 +85,11 @@ module _ (A : Automaton) (n : ℕ) (L : Automaton) (valid : IsAutomaton A) (plac
   module _ (R S : Pairing) (ranks : List ℕ) (first : HasEachRight L A (Holds R.pairs)) (r_places : R.places ≡ L.states) (r_states : R.states ≡ A.states) (played : IsPlayed L A R S ranks) (T : RankedTriples) (are : AreTriplesOfPairs A n S ranks T) where
     in_states : (x q : ℕ) → Holds S.pairs x q → (x < L.states) × (q < A.states)
     in_states x q held =
-        let range = played.shrinks.valid.in_range x q held in
+        let range = played.takes.valid.in_range x q held in
         let left = range.0 in
         let right = range.1 in
-        let m = played.shrinks.places ∙ r_places in
-        let s = played.shrinks.states ∙ r_states in
+        let m = played.takes.places ∙ r_places in
+        let s = played.takes.states ∙ r_states in
         (omega arith, omega arith)
 
     -- Where the place's pair is left, the triple is listed.
@@ -125,7 +125,7 @@ module _ (A : Automaton) (n : ℕ) (L : Automaton) (valid : IsAutomaton A) (plac
         ]
 
     within : (Y : RankedTriples) → AreTriplesOf A.states A.labels n Y → IsRight A Y → (x q : ℕ) → HoldsPlacePair (at_places Y) x q → Holds S.pairs x q
-    within Y range right = played.shrinks.leaves (at_places Y) (places_right Y range right) (first (at_places Y) (places_below Y range right) (places_right Y range right))
+    within Y range right = played.takes.leaves (at_places Y) (places_right Y range right) (first (at_places Y) (places_below Y range right) (places_right Y range right))
 
     pub greatest_ahead : IsGreatestDelayed A n T
     greatest_ahead = record {

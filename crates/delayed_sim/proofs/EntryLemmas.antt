@@ -85,6 +85,22 @@ entry_before n entries i j order lt j_in =
 
 -- ---- the search
 
+-- The entries up to one that stands before the triple do so too.
+less_upto :
+    (n : ℕ) (entries : List Entry) (key : Triple) (middle : ℕ)
+    → AreTriplesInOrder (entry_triples n entries)
+    → middle < length entries
+    → triple_cmp (triple_of n (get_or entries middle no_entry)) key ≡ Less
+    → (i : ℕ)
+    → i < middle + 1
+    → triple_cmp (triple_of n (get_or entries i no_entry)) key ≡ Less
+less_upto n entries key middle order inside less i i_lt = elim (cases_eq i middle) [
+  | inl e ↦ subst (λ k. triple_cmp (triple_of n (get_or entries k no_entry)) key ≡ Less) (sym e) less
+  | inr apart ↦
+      triple_total.trans (triple_of n (get_or entries i no_entry)) (triple_of n (get_or entries middle no_entry)) key
+      (entry_before n entries i middle order (omega arith) inside) less
+]
+
 pub between_all : (n : ℕ) (entries : List Entry) (key : Triple) → IsBetween n entries key 0 (length entries)
 between_all n entries key = record {
   upto = omega arith;
@@ -100,12 +116,7 @@ module _ (n : ℕ) (entries : List Entry) (key : Triple) (low high middle : ℕ)
       record {
         upto = omega arith;
         within = h.within;
-        below = λ i i_lt. elim (cases_eq i middle) [
-          | inl e ↦ subst (λ k. triple_cmp (triple_of n (get_or entries k no_entry)) key ≡ Less) (sym e) less
-          | inr apart ↦
-              triple_total.trans (triple_of n (get_or entries i no_entry)) (triple_of n (get_or entries middle no_entry)) key
-              (entry_before n entries i middle order (omega arith) (omega arith)) less
-        ];
+        below = less_upto n entries key middle order (omega arith) less;
         above = h.above;
       }
 
@@ -162,12 +173,7 @@ module _ (n : ℕ) (entries : List Entry) (key : Triple) (low high middle : ℕ)
       record {
         upto = omega arith;
         within = h.within;
-        below = λ i i_lt. elim (cases_eq i middle) [
-          | inl e ↦ subst (λ k. triple_cmp (triple_of n (get_or entries k no_entry)) key ≡ Less) (sym e) less
-          | inr apart ↦
-              triple_total.trans (triple_of n (get_or entries i no_entry)) (triple_of n (get_or entries middle no_entry)) key
-              (entry_before n entries i middle order (omega arith) (omega arith)) less
-        ];
+        below = less_upto n entries key middle order (omega arith) less;
         from = h.from;
       }
 

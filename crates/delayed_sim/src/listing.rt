@@ -9,7 +9,7 @@ ghost use Rattle.delayed_sim.specs.Words.{digits, ListsTriplesBefore};
 use crate::entries::Entry;
 use crate::words::{letters_of, word_count};
 use auto_core::Memory;
-use delayed_game::{Board, place};
+use delayed_game::{Board, pair_number};
 use row_steps::next_bit;
 use std::alloc::Global;
 
@@ -48,7 +48,7 @@ fn push_row(
 {
     let mut at = 0;
     while let Some(q) = next_bit(board.row(x), at) {
-        let rank = rank_in_code(ranks[place(board.places(), board.states(), x, q as u32)]);
+        let rank = rank_in_code(ranks[pair_number(board.places(), board.states(), x, q as u32)]);
         entries.push(Entry {
             left,
             ahead,

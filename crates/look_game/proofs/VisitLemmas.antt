@@ -6,7 +6,7 @@ use Rattle.auto_core.specs.Game.{Round, Holds}
 use Rattle.bit_rel.specs.Relation.{Relation, IsRelation, Removes}
 use Rattle.row_steps.specs.Walks.{IsNextBit}
 use Rattle.look_round.specs.declared.answering.Answering.{Answering}
-use Rattle.look_round.specs.Answering.{IsAnsweredAtOnce, AreAnswersTo}
+use Rattle.look_round.specs.Answering.{IsAnsweredAtOnce, IsRowOfAnswers}
 use Rattle.look_round.proofs.AnsweringLemmas.{bit_cases, answered_round}
 use Rattle.look_game.specs.Taking.{TakesAway, TakesSome, KeepsOthers, HasRounds}
 use Rattle.look_game.specs.Near.{IsReachedWithin}
@@ -227,8 +227,8 @@ related_or_lost p lost old new takes were q = (
 pub answers_same :
     (M : ℕ → ℕ → ℕ → Type 0) (ok V W : ℕ → ℕ → Type 0) (rows : Answering) (p : ℕ)
     → ((r : ℕ) → V p r ↔ W p r)
-    → AreAnswersTo M ok V rows p
-    → AreAnswersTo M ok W rows p
+    → IsRowOfAnswers M ok V rows p
+    → IsRowOfAnswers M ok W rows p
 answers_same M ok V W rows p both h a q a_in q_in = (
   λ cell. let (r, go, match, is) = (h a q a_in q_in).0 cell in (r, go, match, (both r).0 is),
   λ (r, go, match, is). (h a q a_in q_in).1 (r, go, match, (both r).1 is),

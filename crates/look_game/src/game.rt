@@ -10,6 +10,7 @@ ghost use Rattle.look_game.specs.Near.{IsFarFrom, HasOtherRounds};
 ghost use Rattle.look_game.specs.Visiting.{IsRoomFor};
 
 use crate::asked::{Pair, is_lost, may_stay};
+use crate::losing::played_on;
 use crate::near;
 use crate::visiting::{Visits, visit_row};
 use auto_core::{Auto, Memory, rows};
@@ -181,6 +182,7 @@ pub fn greatest<S: Side>(
 }
 
 /// The greatest relation at this lookahead, if it has this pair, and None where no stable list has it: the search ends once the pair is lost.
+/// Some rounds are played on from the pair inside the bound before all pairs are tried.
 pub fn greatest_with<S: Side>(
     alloc: Global,
     side: &S,
@@ -206,7 +208,8 @@ pub fn greatest_with<S: Side>(
     if !may_stay(alloc, side, automaton, look, asked)? {
         return Ok(None);
     }
-    let first = bound(alloc, side, automaton)?;
+    let all = bound(alloc, side, automaton)?;
+    let first = played_on(alloc, side, automaton, look, asked, all)?;
     match greatest_within(alloc, side, automaton, look, Some(asked), first)? {
         Some(rel) => {
             if rel.get(left, right) {

@@ -12,7 +12,7 @@ use look_round::{Move, Scratch, Side, is_reply, round_holds};
 use std::alloc::Global;
 
 /// At most one round is played for so many pairs of states.
-const PAIRS_A_ROUND: usize = 128;
+const PAIRS_A_ROUND: usize = 1024;
 
 /// So many rounds are played on from a pair.
 const MOST_DEPTH: u32 = 9;

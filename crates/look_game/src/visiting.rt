@@ -4,7 +4,7 @@ ghost use Rattle.std.specs.Prelude.{◌≡◌, ◌+◌, ◌/◌, ◌^◌, ◌<�
 ghost use Rattle.auto_core.specs.Rows.{HasBit};
 ghost use Rattle.auto_core.specs.Game.{Round, Holds};
 ghost use Rattle.bit_rel.specs.Relation.{IsRelation};
-ghost use Rattle.look_round.specs.Answering.{AreAnswers};
+ghost use Rattle.look_round.specs.Answering.{AreRowsOfAnswers};
 ghost use Rattle.look_game.specs.Near.{IsReachedWithin};
 ghost use Rattle.look_game.specs.Taking.{TakesAway, TakesSome, KeepsOthers, HasRounds};
 ghost use Rattle.look_game.specs.Visiting.{IsRoomFor, TakesRow};
@@ -39,7 +39,7 @@ fn find_lost<S: Side>(
     requires look_upto { look ≤ 6 }
     requires equal { rel.now.size ≡ automaton.now.states }
     requires made { scratch.old ≡ record { states = automaton.now.states; look = look } }
-    requires answers { AreAnswers (S.goes side.now automaton.now) (S.matches side.now automaton.now) (Holds rel.now.pairs) automaton.now.states answering.now }
+    requires answers { AreRowsOfAnswers (S.goes side.now automaton.now) (S.matches side.now automaton.now) (Holds rel.now.pairs) automaton.now.states answering.now }
     requires state { p < automaton.now.states }
     requires few { automaton.now.states < 2 ^ 32 }
     requires rest_len { length rest.now ≡ (automaton.now.states + 63) / 64 }
@@ -123,7 +123,7 @@ fn try_row<S: Side>(
     requires state { p < automaton.now.states }
     requires few { automaton.now.states < 2 ^ 32 }
     requires valid { IsRelation rel.old }
-    requires answers { AreAnswers (S.goes side.now automaton.now) (S.matches side.now automaton.now) (Holds rel.old.pairs) automaton.now.states answering.old }
+    requires answers { AreRowsOfAnswers (S.goes side.now automaton.now) (S.matches side.now automaton.now) (Holds rel.old.pairs) automaton.now.states answering.old }
     requires rest { length rest.old ≡ (automaton.now.states + 63) / 64 }
     requires lost { length lost.old ≡ (automaton.now.states + 63) / 64 }
     ensures takes { TakesAway (S.goes side.now automaton.now) (S.matches side.now automaton.now) look rel.old rel.new }
@@ -133,7 +133,7 @@ fn try_row<S: Side>(
     ensures others { KeepsOthers p rel.old rel.new }
     ensures apart { (IsReachedWithin (S.goes side.now automaton.now) look p p → ⊥)
         → HasRounds (S.goes side.now automaton.now) (S.matches side.now automaton.now) look rel.new p }
-    ensures answers { AreAnswers (S.goes side.now automaton.now) (S.matches side.now automaton.now) (Holds rel.new.pairs) automaton.now.states answering.new }
+    ensures answers { AreRowsOfAnswers (S.goes side.now automaton.now) (S.matches side.now automaton.now) (Holds rel.new.pairs) automaton.now.states answering.new }
     ensures scratch { scratch.new ≡ scratch.old }
 {
     answering.unanswered(side, automaton, rel, p, rest);

@@ -14,7 +14,7 @@ use Rattle.look_round.specs.declared.moves.Move.{Move}
 use Rattle.row_steps.specs.Walks.{IsNextBit}
 use Rattle.look_round.specs.Sides.{move}
 use Rattle.look_round.specs.declared.answering.Answering.{Answering}
-use Rattle.look_round.specs.Answering.{IsAnsweredAtOnce, AreAnswersTo}
+use Rattle.look_round.specs.Answering.{IsAnsweredAtOnce, IsRowOfAnswers}
 
 -- The column of the letter a and the state q, where a letter has w words.
 abbrev pub col : ℕ → ℕ → ℕ → ℕ
@@ -481,8 +481,8 @@ pub answers_kept :
     → new.labels ≡ old.labels
     → new.width ≡ old.width
     → ((c : ℕ) → c < old.labels * old.width * 64 → cell_of new.table.items (old.labels * old.width) p c ≡ cell_of old.table.items (old.labels * old.width) p c)
-    → AreAnswersTo M ok W old p
-    → AreAnswersTo M ok W new p
+    → IsRowOfAnswers M ok W old p
+    → IsRowOfAnswers M ok W new p
 answers_kept M ok W old new p labels width same h = λ a q a_in q_in.
     let P : ℕ → ℕ → Type 0 = λ l w. a < l → q < w * 64 → HasCell new.table.items (l * w) p (a * w * 64 + q) ↔ IsAnsweredAtOnce M ok W a p q in
     let here : P old.labels old.width = λ b_in s_in.

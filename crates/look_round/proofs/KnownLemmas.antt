@@ -52,42 +52,42 @@ notes_one letters held known letters' held' now known' width left a p row starts
 module _ (M : ℕ → ℕ → ℕ → Type 0) (ok W : ℕ → ℕ → Type 0) (n width : ℕ) (room : n ≤ width * 64) where
   -- a row of a table has the states that are held
   held_same :
-      (held sets row : List ℕ) (left place : ℕ)
+      (held sets row : List ℕ) (left number : ℕ)
       → ((q : ℕ) → q < width * 64 → cell_of held width left q ≡ bit_of row q)
-      → ((q : ℕ) → q < width * 64 → bit_of row q ≡ cell_of sets width place q)
+      → ((q : ℕ) → q < width * 64 → bit_of row q ≡ cell_of sets width number q)
       → (q : ℕ)
-      → HasReply held n width left q ↔ HasReply sets n width place q
-  held_same held sets row left place here bits q = (
+      → HasReply held n width left q ↔ HasReply sets n width number q
+  held_same held sets row left number here bits q = (
     λ h. let lt = h.0 in (h.0, sym (bits q (omega arith)) ∙ (sym (here q (omega arith)) ∙ h.1)),
     λ h. let lt = h.0 in (h.0, here q (omega arith) ∙ (bits q (omega arith) ∙ h.1)),
   )
 
   -- what is known is answered
   pub known_answered :
-      (letters held known sets row : List ℕ) (left place a p : ℕ)
+      (letters held known sets row : List ℕ) (left number a p : ℕ)
       → p < width * 64
       → AreKnown M ok W n width letters held known
       → HasCell known width left p
       → IsHeld letters held width left a row
-      → ((q : ℕ) → q < width * 64 → bit_of row q ≡ cell_of sets width place q)
-      → RoundAfter M ok W left a p (HasReply sets n width place)
-  known_answered letters held known sets row left place a p near are cell is bits =
-      after_same M ok W (HasReply held n width left) (HasReply sets n width place) (λ q. (held_same held sets row left place is.1 bits q).0) left a p
+      → ((q : ℕ) → q < width * 64 → bit_of row q ≡ cell_of sets width number q)
+      → RoundAfter M ok W left a p (HasReply sets n width number)
+  known_answered letters held known sets row left number a p near are cell is bits =
+      after_same M ok W (HasReply held n width left) (HasReply sets n width number) (λ q. (held_same held sets row left number is.1 bits q).0) left a p
       (subst (λ x. RoundAfter M ok W left x p (HasReply held n width left)) is.0 (are left p near cell))
 
   -- what is noted is known
   pub known_more :
-      (letters held known letters' held' known' sets row : List ℕ) (left place a p : ℕ)
+      (letters held known letters' held' known' sets row : List ℕ) (left number a p : ℕ)
       → AreKnown M ok W n width letters held known
       → Notes letters held known letters' held' known' width left a p row
-      → ((q : ℕ) → q < width * 64 → bit_of row q ≡ cell_of sets width place q)
-      → RoundAfter M ok W left a p (HasReply sets n width place)
+      → ((q : ℕ) → q < width * 64 → bit_of row q ≡ cell_of sets width number q)
+      → RoundAfter M ok W left a p (HasReply sets n width number)
       → AreKnown M ok W n width letters' held' known'
-  known_more letters held known letters' held' known' sets row left place a p are notes bits answered l q near cell = elim (notes.each l q near cell) [
+  known_more letters held known letters' held' known' sets row left number a p are notes bits answered l q near cell = elim (notes.each l q near cell) [
     | inl this ↦
         let now : RoundAfter M ok W left (slice_index letters' left) p (HasReply held' n width left) =
-        after_same M ok W (HasReply sets n width place) (HasReply held' n width left) (λ r. (held_same held' sets row left place notes.here.1 bits r).1) left (slice_index letters' left) p
-        (subst (λ x. RoundAfter M ok W left x p (HasReply sets n width place)) (sym notes.here.0) answered) in
+        after_same M ok W (HasReply sets n width number) (HasReply held' n width left) (λ r. (held_same held' sets row left number notes.here.1 bits r).1) left (slice_index letters' left) p
+        (subst (λ x. RoundAfter M ok W left x p (HasReply sets n width number)) (sym notes.here.0) answered) in
         subst (λ x. RoundAfter M ok W x (slice_index letters' x) q (HasReply held' n width x)) (sym this.0)
         (subst (λ y. RoundAfter M ok W left (slice_index letters' left) y (HasReply held' n width left)) (sym this.1) now)
     | inr was ↦

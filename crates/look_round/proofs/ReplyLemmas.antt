@@ -9,16 +9,6 @@ use Rattle.auto_core.proofs.CellLemmas.{cell_at}
 use Rattle.look_round.specs.declared.moves.Move.{Move}
 use Rattle.look_round.specs.Sides.{move}
 
--- a row of zeros
-pub row_cleared :
-    (table : List ℕ) (w row : ℕ)
-    → ((k : ℕ) → k < w → get_or table (row * w + k) 0 ≡ 0)
-    → (q : ℕ)
-    → q < w * 64
-    → cell_of table w row q ≡ false
-row_cleared table w row zeros q q_in =
-    rw (cell_at table w row q) (ap (λ n. bit_at n (q % 64) == 1) (zeros (q / 64) (omega arith)) ∙ ap (λ n. n == 1) (bit_at-zero (q % 64)))
-
 -- The row holds what it held and the replies among the first n moves of the list.
 pub record HasRepliesUpto (moves : List Move) (ok : ℕ → ℕ → Type 0) (a p : ℕ) (old now : List ℕ) (width row n : ℕ) : Type 0 where
   pub each : (r : ℕ) → r < width * 64 → HasCell now width row r → HasCell old width row r ⊎ ((j : ℕ) × (j < n) × (get_or moves j (move 0 0) ≡ move a r) × ok p r)

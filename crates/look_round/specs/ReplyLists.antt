@@ -24,7 +24,7 @@ AddsReplies M ok n a p q old new = (added : List ℕ) × (new ≡ old ++ added) 
 abbrev pub list_number : ReplyLists → ℕ → ℕ → ℕ → ℕ
 list_number lists a p q = (q * lists.labels + a) * lists.kinds + slice_index lists.kind_of.items p
 
--- The lists are of n states.
+-- Each of n states has the number of its kind, and where it has one and the letter is listed, the list with the number of the letter and the two states is there and right.
 pub record AreReplyLists (M : ℕ → ℕ → ℕ → Type 0) (ok : ℕ → ℕ → Type 0) (n : ℕ) (lists : ReplyLists) : Type 0 where
   pub kinds : 0 < lists.labels → length lists.kind_of.items ≡ n
   pub there : (a p q : ℕ) → a < lists.labels → p < n → q < n → slice_index lists.kind_of.items p < lists.kinds → IsListThere lists.starts.items lists.items.items (list_number lists a p q)

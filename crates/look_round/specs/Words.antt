@@ -10,11 +10,11 @@ abbrev pub GoesByWord : (ℕ → ℕ → ℕ → Type 0) → (ℕ → ℕ → Ty
 GoesByWord M ok p [] = Unit {0}
 GoesByWord M ok p (x ∷ w) = (r : ℕ) × M p x.0 r × ok x.1 r × GoesByWord M ok r w
 
--- Column i of the table is on just those of the n states that have one asked word.
+-- Row i of the table, a column of bits on states, is on just those of the n states that have one asked word.
 abbrev pub IsColumn : (ℕ → ℕ → ℕ → Type 0) → (ℕ → ℕ → Type 0) → ℕ → List ℕ → ℕ → ℕ → Type 0
 IsColumn M ok n table width i = (w : List (ℕ × ℕ)) × ((q : ℕ) → q < n → HasCell table width i q ↔ GoesByWord M ok q w)
 
--- The first columns are such, so many of them.
+-- The first rows of the table are such columns, so many of them.
 abbrev pub AreColumns : (ℕ → ℕ → ℕ → Type 0) → (ℕ → ℕ → Type 0) → ℕ → List ℕ → ℕ → ℕ → Type 0
 AreColumns M ok n table width count = (i : ℕ) → i < count → IsColumn M ok n table width i
 

@@ -21,13 +21,13 @@ const MOST_LETTERS: u32 = 64;
 /// At most so many words are tried.
 const MOST_WORDS: u32 = 2064;
 
-/// After so many words each it is asked whether a row is left with its own place alone.
+/// After so many words each it is asked whether a row is left with its own state alone.
 const WORDS_BETWEEN: usize = 8;
 
-/// By so many words rows are narrowed before it is seen how many places they have left.
+/// By so many words rows are narrowed before it is seen how many states they have left.
 const FIRST_WORDS: usize = 64;
 
-/// Rows have many places left if they have so many.
+/// Rows have many states left if they have so many.
 const MANY_LEFT: usize = 16;
 
 /// Takes from row p what the column has not, if the column has p, and tells, where that is asked, whether the row is left with its own
@@ -35,7 +35,7 @@ const MANY_LEFT: usize = 16;
 fn narrow_by(table: &mut [u64], width: usize, p: usize, column: &[u64], is_asked: bool) -> bool
     requires row { p * width + width ≤ length table.old }
     requires column { length column.now ≡ width }
-    requires place { p / 64 < width }
+    requires own { p / 64 < width }
     requires few { width < 2 ^ 32 }
     ensures alone { result ≡ true → (q : ℕ) → q < width * 64 → HasCell table.new width p q → q ≡ p }
     ensures here { (q : ℕ) → q < width * 64 → HasCell table.new width p q ↔ (HasCell table.old width p q × (HasBit column.now p → HasBit column.now q)) }
@@ -51,16 +51,16 @@ fn narrow_by(table: &mut [u64], width: usize, p: usize, column: &[u64], is_asked
     has_no_other(rows::row_at(table, width, p), p)
 }
 
-/// Takes from row p what a column has not that has p. A row that is left with its own place alone has each column that it needs.
-fn narrow_row(table: &mut [u64], width: usize, p: usize, columns: &[u64], words: usize)
+/// Takes from row p what a column has not that has p. A row that is left with its own state alone has each column that it needs.
+fn narrow_row(table: &mut [u64], width: usize, p: usize, columns: &[u64], used: usize)
     requires row { p * width + width ≤ length table.old }
-    requires place { p / 64 < width }
+    requires own { p / 64 < width }
     requires few { width < 2 ^ 32 }
-    requires columns { words * width ≤ length columns.now }
-    ensures here { IsRowNarrowed table.old table.new width columns.now p words }
+    requires columns { used * width ≤ length columns.now }
+    ensures here { IsRowNarrowed table.old table.new width columns.now p used }
     ensures others { (r q : ℕ) → q < width * 64 → ¬ (r ≡ p) → cell_of table.new width r q ≡ cell_of table.old width r q }
 {
-    for i in 0..words {
+    for i in 0..used {
         let is_asked = i % WORDS_BETWEEN == 0;
         if narrow_by(table, width, p, rows::row_at(columns, width, i), is_asked) {
             return;
@@ -68,20 +68,20 @@ fn narrow_row(table: &mut [u64], width: usize, p: usize, columns: &[u64], words:
     }
 }
 
-/// Takes from each row what a column has not that has the row's own place.
-fn narrow_each(table: &mut [u64], count: u32, width: usize, columns: &[u64], words: usize)
+/// Takes from each row what a column has not that has the row's own state.
+fn narrow_each(table: &mut [u64], count: u32, width: usize, columns: &[u64], used: usize)
     requires table { length table.old ≡ count * width }
     requires room { count ≤ width * 64 }
     requires few { width < 2 ^ 32 }
-    requires columns { words * width ≤ length columns.now }
-    ensures { (p : ℕ) → p < count → IsRowNarrowed table.old table.new width columns.now p words }
+    requires columns { used * width ≤ length columns.now }
+    ensures { (p : ℕ) → p < count → IsRowNarrowed table.old table.new width columns.now p used }
 {
     for p in 0..count as usize {
-        narrow_row(table, width, p, columns, words);
+        narrow_row(table, width, p, columns, used);
     }
 }
 
-/// Tells whether the rows have few places left.
+/// Tells whether the rows have few states left.
 fn has_few_left(table: &[u64], count: u32) -> bool {
     let mut left: usize = 0;
     for i in 0..table.len() {
@@ -90,30 +90,30 @@ fn has_few_left(table: &[u64], count: u32) -> bool {
     left / MANY_LEFT < count as usize
 }
 
-/// Takes from each row what a column has not that has the row's own place: by the first columns; by the others where few places are left;
-/// and else by comparing the columns that places have.
+/// Takes from each row what a column has not that has the row's own state: by the first columns; by the others where few states are left;
+/// and else by comparing the columns that states have.
 fn narrow(
     alloc: Global,
     table: &mut [u64],
     count: u32,
     width: usize,
     columns: &[u64],
-    words: usize,
+    used: usize,
 ) -> Result<(), Memory>
     requires table { length table.old ≡ count * width }
     requires states { (p q : ℕ) → p < count → q < width * 64 → HasCell table.old width p q → q < count }
     requires room { count ≤ width * 64 }
     requires few { width < 2 ^ 32 }
-    requires some { words < 2 ^ 32 }
-    requires columns { words * width ≤ length columns.now }
-    ensures { IfOk result (λ _. (p : ℕ) → p < count → IsRowNarrowed table.old table.new width columns.now p words) }
+    requires some { used < 2 ^ 32 }
+    requires columns { used * width ≤ length columns.now }
+    ensures { IfOk result (λ _. (p : ℕ) → p < count → IsRowNarrowed table.old table.new width columns.now p used) }
 {
-    narrow_each(table, count, width, columns, words.min(FIRST_WORDS));
+    narrow_each(table, count, width, columns, used.min(FIRST_WORDS));
     if has_few_left(table, count) {
-        narrow_each(table, count, width, columns, words);
+        narrow_each(table, count, width, columns, used);
         return Ok(());
     }
-    compare(alloc, table, count, width, columns, words)
+    compare(alloc, table, count, width, columns, used)
 }
 
 /// Adds the pairs of `p` with the states of the row.
@@ -177,10 +177,10 @@ fn bound_in<S: Side>(
 {
     let count = automaton.states();
     let kinds = match_rows(alloc, side, automaton, table, ends, width)?;
-    let words = write_columns(
+    let used = write_columns(
         side, automaton, table, &kinds, columns, width, room, letters, ends, places, found, made,
     );
-    narrow(alloc, table, count, width, columns, words)?;
+    narrow(alloc, table, count, width, columns, used)?;
     relation_of(alloc, table, count, width)
 }
 

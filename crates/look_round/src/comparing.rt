@@ -12,7 +12,7 @@ use transposed::transpose;
 /// Takes q from row p, unless `other` has each bit of `own`.
 fn keep_if_within(table: &mut [u64], width: usize, p: usize, q: usize, own: &[u64], other: &[u64])
     requires row { p * width + width ≤ length table.old }
-    requires place { q < width * 64 }
+    requires state { q < width * 64 }
     requires equal { length own.now ≡ length other.now }
     ensures here { HasCell table.new width p q ↔ (HasCell table.old width p q × ((k : ℕ) → HasBit own.now k → HasBit other.now k)) }
     ensures others { (r s : ℕ) → s < width * 64 → ¬ ((r ≡ p) × (s ≡ q)) → cell_of table.new width r s ≡ cell_of table.old width r s }
@@ -38,7 +38,7 @@ fn keep_above(
     requires row { (q : ℕ) → q < width * 64 → bit_of row.now q ≡ cell_of table.old width p q }
     requires states { (q : ℕ) → HasBit row.now q → q < count }
     requires had { length had.now ≡ count * span }
-    requires place { p < count }
+    requires state { p < count }
     ensures here { (q : ℕ) → q < width * 64 → HasCell table.new width p q
         ↔ (HasCell table.old width p q × ((k : ℕ) → k < span * 64 → HasCell had.now span p k → HasCell had.now span q k)) }
     ensures others { (r q : ℕ) → q < width * 64 → ¬ (r ≡ p) → cell_of table.new width r q ≡ cell_of table.old width r q }
@@ -59,7 +59,7 @@ fn keep_each_above(
     had: &[u64],
     span: usize,
     columns: &[u64],
-    words: usize,
+    used: usize,
     row: &mut [u64],
 )
     requires table { length table.old ≡ count * width }
@@ -67,10 +67,10 @@ fn keep_each_above(
     requires few { width < 2 ^ 32 }
     requires near { count ≤ width * 64 }
     requires len { length row.old ≡ width }
-    requires room { words ≤ span * 64 }
+    requires room { used ≤ span * 64 }
     requires had_len { length had.now ≡ count * span }
-    requires had { (q : ℕ) → q < count → HasColumns columns.now width words had.now span q }
-    ensures { (p : ℕ) → p < count → IsRowNarrowed table.old table.new width columns.now p words }
+    requires had { (q : ℕ) → q < count → HasColumns columns.now width used had.now span q }
+    ensures { (p : ℕ) → p < count → IsRowNarrowed table.old table.new width columns.now p used }
 {
     for p in 0..count as usize {
         row.copy_from_slice(rows::row_at(table, width, p));
@@ -78,27 +78,27 @@ fn keep_each_above(
     }
 }
 
-/// Takes from each row what a column has not that has the row's own place.
+/// Takes from each row what a column has not that has the row's own state.
 pub(crate) fn compare(
     alloc: Global,
     table: &mut [u64],
     count: u32,
     width: usize,
     columns: &[u64],
-    words: usize,
+    used: usize,
 ) -> Result<(), Memory>
     requires table { length table.old ≡ count * width }
     requires states { (p q : ℕ) → p < count → q < width * 64 → HasCell table.old width p q → q < count }
     requires few { width < 2 ^ 32 }
     requires near { count ≤ width * 64 }
-    requires some { words < 2 ^ 32 }
-    requires columns { words * width ≤ length columns.now }
-    ensures { IfOk result (λ _. (p : ℕ) → p < count → IsRowNarrowed table.old table.new width columns.now p words) }
+    requires some { used < 2 ^ 32 }
+    requires columns { used * width ≤ length columns.now }
+    ensures { IfOk result (λ _. (p : ℕ) → p < count → IsRowNarrowed table.old table.new width columns.now p used) }
 {
-    let span = words / 64 + 1;
+    let span = used / 64 + 1;
     let mut had = vec![in alloc; 0; count as usize * span]?;
     let mut row = vec![in alloc; 0; width]?;
-    transpose(columns, width, words, &mut had, span, count as usize);
-    keep_each_above(table, count, width, &had, span, columns, words, &mut row);
+    transpose(columns, width, used, &mut had, span, count as usize);
+    keep_each_above(table, count, width, &had, span, columns, used, &mut row);
     Ok(())
 }

@@ -2,21 +2,13 @@
 //! after which Spoiler has this many moves less one: `held` has the states where Duplicator may be, and `known` the states that such moves
 //! by one letter lead to.
 
-ghost use Rattle.std.specs.Prelude.{◌≡◌, ◌+◌, ◌*◌, ◌<◌, ◌≤◌, ◌↔◌, ℕ, true, length, slice_index, IsTrue};
+ghost use Rattle.std.specs.Prelude.{◌≡◌, ◌+◌, ◌*◌, ◌<◌, ◌≤◌, ℕ, true, length, slice_index};
 ghost use Rattle.auto_core.specs.Rows.{bit_of, cell_of};
 ghost use Rattle.look_round.specs.Known.{IsHeld, IsMoveKnown, Starts, Notes};
 
 use crate::moves::Move;
-use crate::replies::clear_table_row;
 use auto_core::rows;
-use row_steps::write_row;
-
-/// Tells whether both rows are the same.
-fn is_same(row: &[u64], other: &[u64]) -> bool
-    ensures { IsTrue result ↔ row.now ≡ other.now }
-{
-    row == other
-}
+use row_steps::{are_equal, clear_table_row, write_row};
 
 /// Tells whether the row of `known` is for this letter and this row of states.
 fn is_held(letters: &[u32], held: &[u64], width: usize, left: u32, label: u32, row: &[u64]) -> bool
@@ -27,7 +19,7 @@ fn is_held(letters: &[u32], held: &[u64], width: usize, left: u32, label: u32, r
     if letters[left as usize] != label {
         return false;
     }
-    is_same(rows::row_at(held, width, left as usize), row)
+    are_equal(rows::row_at(held, width, left as usize), row)
 }
 
 /// Tells whether the move, where so many are left, is known to be answered from the states of the row.

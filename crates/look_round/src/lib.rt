@@ -1,13 +1,13 @@
 //! The game of looking ahead: one round, and a bound on what it can relate by short words.
 #![tactic(auto)]
 
+mod answer_rows;
 mod answering;
-mod answers;
 mod bounding;
 mod comparing;
 mod kinds;
 mod known;
-mod listed;
+mod list_rounds;
 mod listing;
 mod moves;
 mod replies;

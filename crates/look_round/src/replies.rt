@@ -8,19 +8,7 @@ ghost use Rattle.look_round.specs.Replies.{IsReply, HasReply, HasReplyFrom};
 use crate::moves::Move;
 use crate::sides::Side;
 use auto_core::{Auto, rows};
-use row_steps::{meets, next_bit};
-
-/// Clears the row of the table, and leaves the others.
-pub fn clear_table_row(table: &mut [u64], width: usize, row: usize)
-    requires { row * width + width ≤ length table.old }
-    ensures here { (q : ℕ) → q < width * 64 → cell_of table.new width row q ≡ false }
-    ensures others { (i q : ℕ) → q < width * 64 → ¬ (i ≡ row) → cell_of table.new width i q ≡ cell_of table.old width i q }
-    ensures rest { (k : ℕ) → (k < row * width) ⊎ (row * width + width ≤ k) → slice_index table.new k ≡ slice_index table.old k }
-{
-    for j in 0..width {
-        table[row * width + j] = 0;
-    }
-}
+use row_steps::{clear_table_row, meets, next_bit};
 
 /// Tells whether the reply answers the step: it has the step's letter, and its state matches the step's.
 pub fn is_reply<S: Side>(side: &S, automaton: &Auto, step: Move, reply: Move) -> bool
@@ -51,26 +39,26 @@ pub fn has_reply_in<S: Side>(side: &S, automaton: &Auto, from: u32, step: Move, 
     false
 }
 
-/// Tells whether one of the states of row `place` answers the step by a state of the other row.
+/// Tells whether one of the states of row `number` answers the step by a state of the other row.
 pub fn one_has_reply_in<S: Side>(
     side: &S,
     automaton: &Auto,
     step: Move,
     table: &[u64],
     width: usize,
-    place: usize,
+    number: usize,
     row: &[u64],
 ) -> bool
     requires valid { IsAutomaton automaton.now }
     requires step { step.to < automaton.now.states }
-    requires here { place * width + width ≤ length table.now }
+    requires here { number * width + width ≤ length table.now }
     requires width { width ≡ (automaton.now.states + 63) / 64 }
     requires row { length row.now ≡ width }
     ensures { IsTrue result
-        ↔ ((r : ℕ) × HasReplyFrom (S.goes side.now automaton.now) (S.matches side.now automaton.now) step.label step.to (HasReply table.now automaton.now.states width place) r × HasBit row.now r) }
+        ↔ ((r : ℕ) × HasReplyFrom (S.goes side.now automaton.now) (S.matches side.now automaton.now) step.label step.to (HasReply table.now automaton.now.states width number) r × HasBit row.now r) }
 {
     let mut at = 0;
-    while let Some(q) = next_bit(rows::row_at(table, width, place), at) {
+    while let Some(q) = next_bit(rows::row_at(table, width, number), at) {
         if q >= automaton.states() as usize {
             return false;
         }
@@ -83,7 +71,7 @@ pub fn one_has_reply_in<S: Side>(
 }
 
 /// Adds to the row of the table the states by which `from` answers the step.
-fn add_replies<S: Side>(
+fn mark_replies<S: Side>(
     side: &S,
     automaton: &Auto,
     from: u32,
@@ -109,37 +97,37 @@ fn add_replies<S: Side>(
     }
 }
 
-/// Writes into the row after `place` the states by which the states of row `place` answer the step.
+/// Writes into the row after `number` the states by which the states of row `number` answer the step.
 fn step_replies<S: Side>(
     side: &S,
     automaton: &Auto,
     step: Move,
     table: &mut [u64],
     width: usize,
-    place: usize,
+    number: usize,
 )
     requires valid { IsAutomaton automaton.now }
     requires step { step.to < automaton.now.states }
-    requires here { place * width + width ≤ length table.old }
-    requires next { (place + 1) * width + width ≤ length table.old }
+    requires here { number * width + width ≤ length table.old }
+    requires next { (number + 1) * width + width ≤ length table.old }
     requires width { width ≡ (automaton.now.states + 63) / 64 }
     ensures next { (r : ℕ)
-        → HasReply table.new automaton.now.states width (place + 1) r
-        ↔ HasReplyFrom (S.goes side.now automaton.now) (S.matches side.now automaton.now) step.label step.to (HasReply table.old automaton.now.states width place) r }
-    ensures others { (i r : ℕ) → r < width * 64 → ¬ (i ≡ place + 1) → cell_of table.new width i r ≡ cell_of table.old width i r }
+        → HasReply table.new automaton.now.states width (number + 1) r
+        ↔ HasReplyFrom (S.goes side.now automaton.now) (S.matches side.now automaton.now) step.label step.to (HasReply table.old automaton.now.states width number) r }
+    ensures others { (i r : ℕ) → r < width * 64 → ¬ (i ≡ number + 1) → cell_of table.new width i r ≡ cell_of table.old width i r }
 {
-    clear_table_row(table, width, place + 1);
+    clear_table_row(table, width, number + 1);
     let mut at = 0;
-    while let Some(q) = next_bit(rows::row_at(table, width, place), at) {
+    while let Some(q) = next_bit(rows::row_at(table, width, number), at) {
         if q >= automaton.states() as usize {
             return;
         }
-        add_replies(side, automaton, q as u32, step, table, width, place + 1);
+        mark_replies(side, automaton, q as u32, step, table, width, number + 1);
         at = q + 1;
     }
 }
 
-/// Writes into the row after `place` the states by which the states of row `place` answer the step, and tells whether one of them is a
+/// Writes into the row after `number` the states by which the states of row `number` answer the step, and tells whether one of them is a
 /// state of the other row.
 pub fn step_into<S: Side>(
     side: &S,
@@ -147,23 +135,23 @@ pub fn step_into<S: Side>(
     step: Move,
     table: &mut [u64],
     width: usize,
-    place: usize,
+    number: usize,
     row: &[u64],
 ) -> bool
     requires valid { IsAutomaton automaton.now }
     requires step { step.to < automaton.now.states }
-    requires here { place * width + width ≤ length table.old }
-    requires next { (place + 1) * width + width ≤ length table.old }
+    requires here { number * width + width ≤ length table.old }
+    requires next { (number + 1) * width + width ≤ length table.old }
     requires width { width ≡ (automaton.now.states + 63) / 64 }
     requires row { length row.now ≡ width }
     requires states { (q : ℕ) → HasBit row.now q → q < automaton.now.states }
     ensures told { IsTrue result
-        ↔ ((r : ℕ) × HasReplyFrom (S.goes side.now automaton.now) (S.matches side.now automaton.now) step.label step.to (HasReply table.old automaton.now.states width place) r × HasBit row.now r) }
+        ↔ ((r : ℕ) × HasReplyFrom (S.goes side.now automaton.now) (S.matches side.now automaton.now) step.label step.to (HasReply table.old automaton.now.states width number) r × HasBit row.now r) }
     ensures next { (r : ℕ)
-        → HasReply table.new automaton.now.states width (place + 1) r
-        ↔ HasReplyFrom (S.goes side.now automaton.now) (S.matches side.now automaton.now) step.label step.to (HasReply table.old automaton.now.states width place) r }
-    ensures others { (i r : ℕ) → r < width * 64 → ¬ (i ≡ place + 1) → cell_of table.new width i r ≡ cell_of table.old width i r }
+        → HasReply table.new automaton.now.states width (number + 1) r
+        ↔ HasReplyFrom (S.goes side.now automaton.now) (S.matches side.now automaton.now) step.label step.to (HasReply table.old automaton.now.states width number) r }
+    ensures others { (i r : ℕ) → r < width * 64 → ¬ (i ≡ number + 1) → cell_of table.new width i r ≡ cell_of table.old width i r }
 {
-    step_replies(side, automaton, step, table, width, place);
-    meets(row, rows::row_at(table, width, place + 1))
+    step_replies(side, automaton, step, table, width, number);
+    meets(row, rows::row_at(table, width, number + 1))
 }

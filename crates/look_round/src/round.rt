@@ -3,23 +3,23 @@
 ghost use Rattle.std.specs.Prelude.{◌≡◌, ◌+◌, ◌*◌, ◌/◌, ◌<◌, ◌≤◌, ◌↔◌, ℕ, length, IsTrue};
 ghost use Rattle.auto_core.specs.Automaton.{IsAutomaton};
 ghost use Rattle.auto_core.specs.Game.{Round, Holds};
-ghost use Rattle.look_round.specs.Answering.{AreAnswers};
+ghost use Rattle.look_round.specs.Answering.{AreRowsOfAnswers};
 ghost use Rattle.look_round.specs.Known.{AreKnown};
 ghost use Rattle.look_round.specs.Replies.{HasReply, HasReplyFrom, RoundFrom, RoundAfter, HasRows, KeepsRows};
 
 use crate::answering::Answering;
 use crate::known::{is_known, note};
-use crate::listed::{Told, told_by_lists};
+use crate::list_rounds::{Told, told_by_lists};
 use crate::moves::Move;
 use crate::replies;
 use crate::scratch::Scratch;
 use crate::sides::Side;
 use auto_core::{Auto, rows};
 use bit_rel::Rel;
-use row_steps::next_bit;
+use row_steps::{clear_table_row, next_bit};
 use smallvec::SmallVec;
 
-/// Tells whether it is known that a state of row `place` of the table answers the step by a related one.
+/// Tells whether it is known that a state of row `number` of the table answers the step by a related one.
 fn is_met<S: Side>(
     side: &S,
     automaton: &Auto,
@@ -28,20 +28,20 @@ fn is_met<S: Side>(
     step: Move,
     table: &[u64],
     width: usize,
-    place: usize,
+    number: usize,
 ) -> bool
-    requires answers { AreAnswers (S.goes side.now automaton.now) (S.matches side.now automaton.now) (Holds rel.now.pairs) automaton.now.states answering.now }
-    requires here { place * width + width ≤ length table.now }
+    requires answers { AreRowsOfAnswers (S.goes side.now automaton.now) (S.matches side.now automaton.now) (Holds rel.now.pairs) automaton.now.states answering.now }
+    requires here { number * width + width ≤ length table.now }
     requires width { width ≡ (automaton.now.states + 63) / 64 }
     ensures { IsTrue result
-        → ((r : ℕ) × HasReplyFrom (S.goes side.now automaton.now) (S.matches side.now automaton.now) step.label step.to (HasReply table.now automaton.now.states width place) r × Holds rel.now.pairs step.to r) }
+        → ((r : ℕ) × HasReplyFrom (S.goes side.now automaton.now) (S.matches side.now automaton.now) step.label step.to (HasReply table.now automaton.now.states width number) r × Holds rel.now.pairs step.to r) }
 {
     if !answering.has_row(step) {
         return false;
     }
     let answers = answering.row_of(step);
     let mut at = 0;
-    while let Some(q) = next_bit(rows::row_at(table, width, place), at) {
+    while let Some(q) = next_bit(rows::row_at(table, width, number), at) {
         if q >= automaton.states() as usize {
             return false;
         }
@@ -73,7 +73,7 @@ fn step_answered<S: Side>(
     requires valid { IsAutomaton automaton.now }
     requires left { 1 ≤ left }
     requires step { step.to < automaton.now.states }
-    requires answers { AreAnswers (S.goes side.now automaton.now) (S.matches side.now automaton.now) (Holds rel.now.pairs) automaton.now.states answering.now }
+    requires answers { AreRowsOfAnswers (S.goes side.now automaton.now) (S.matches side.now automaton.now) (Holds rel.now.pairs) automaton.now.states answering.now }
     requires equal { rel.now.size ≡ automaton.now.states }
     requires width { width ≡ (automaton.now.states + 63) / 64 }
     requires path { length path.old.items + left ≤ path.old.capacity }
@@ -89,19 +89,19 @@ fn step_answered<S: Side>(
     ensures kept { KeepsRows sets.old sets.new width (length path.old.items) }
     ensures answered { AreKnown (S.goes side.now automaton.now) (S.matches side.now automaton.now) (Holds rel.now.pairs) automaton.now.states width letters.new held.new known.new }
 {
-    let place = path.len();
-    let row = rows::row_at(sets, width, place);
+    let number = path.len();
+    let row = rows::row_at(sets, width, number);
     if is_known(letters, held, known, width, left, step, row) {
         return true;
     }
-    if is_met(side, automaton, rel, answering, step, sets, width, place) {
+    if is_met(side, automaton, rel, answering, step, sets, width, number) {
         return true;
     }
     let related = rel.row(step.to);
     if left == 1 {
-        return replies::one_has_reply_in(side, automaton, step, sets, width, place, related);
+        return replies::one_has_reply_in(side, automaton, step, sets, width, number, related);
     }
-    if replies::step_into(side, automaton, step, sets, width, place, related) {
+    if replies::step_into(side, automaton, step, sets, width, number, related) {
         return true;
     }
     if side.moves(automaton, step.to) == 0 {
@@ -117,7 +117,7 @@ fn step_answered<S: Side>(
     if !answered {
         return false;
     }
-    let row = rows::row_at(sets, width, place);
+    let row = rows::row_at(sets, width, number);
     note(letters, held, known, width, left, step, row);
     true
 }
@@ -142,7 +142,7 @@ fn round_from<S: Side>(
     requires valid { IsAutomaton automaton.now }
     requires left { 1 ≤ left }
     requires state { p < automaton.now.states }
-    requires answers { AreAnswers (S.goes side.now automaton.now) (S.matches side.now automaton.now) (Holds rel.now.pairs) automaton.now.states answering.now }
+    requires answers { AreRowsOfAnswers (S.goes side.now automaton.now) (S.matches side.now automaton.now) (Holds rel.now.pairs) automaton.now.states answering.now }
     requires equal { rel.now.size ≡ automaton.now.states }
     requires width { width ≡ (automaton.now.states + 63) / 64 }
     requires path { length path.old.items + left ≤ path.old.capacity }
@@ -184,7 +184,7 @@ fn whole_round<S: Side>(
     known: &mut [u64],
 ) -> bool
     requires look { 1 ≤ look }
-    requires answers { AreAnswers (S.goes side.now automaton.now) (S.matches side.now automaton.now) (Holds rel.now.pairs) automaton.now.states answering.now }
+    requires answers { AreRowsOfAnswers (S.goes side.now automaton.now) (S.matches side.now automaton.now) (Holds rel.now.pairs) automaton.now.states answering.now }
     requires equal { rel.now.size ≡ automaton.now.states }
     requires left { p < automaton.now.states }
     requires right { q < automaton.now.states }
@@ -199,7 +199,7 @@ fn whole_round<S: Side>(
 {
     let width = rows::words_for(automaton.states());
     path.clear();
-    replies::clear_table_row(sets, width, 0);
+    clear_table_row(sets, width, 0);
     rows::set_cell(sets, width, 0, q as usize);
     rows::clear_row(known);
     round_from(
@@ -247,7 +247,7 @@ pub fn round_holds_by<S: Side>(
     requires look_from { 1 ≤ look }
     requires look_upto { look ≤ 6 }
     requires equal { rel.now.size ≡ automaton.now.states }
-    requires answers { AreAnswers (S.goes side.now automaton.now) (S.matches side.now automaton.now) (Holds rel.now.pairs) automaton.now.states answering.now }
+    requires answers { AreRowsOfAnswers (S.goes side.now automaton.now) (S.matches side.now automaton.now) (Holds rel.now.pairs) automaton.now.states answering.now }
     requires made { scratch.old ≡ record { states = automaton.now.states; look = look } }
     requires left { p < automaton.now.states }
     requires right { q < automaton.now.states }

@@ -29,8 +29,8 @@ clear-requires-clause-right c =
     let below = right_below c.args.unranked.now c.args.p c.in-Some.q c.requires.valid (c.requires.row c.in-Some.q c.in-Some.ensures.found.here) in
     omega (arith, c.loop-q.invariant.0.states)
 
-pub place-requires-clause-column : goal.place-requires-clause-column
-place-requires-clause-column c =
+pub pair_number-requires-clause-column : goal.pair_number-requires-clause-column
+pair_number-requires-clause-column c =
     let below = right_below c.args.unranked.now c.args.p c.in-Some.q c.requires.valid (c.requires.row c.in-Some.q c.in-Some.ensures.found.here) in
     omega (arith, c.loop-q.invariant.0.states, c.clear.ensures.pairs.states, c.states.ensures.count)
 
@@ -50,9 +50,9 @@ loop-q-preserved c =
     let ranks = c.loop-q.ranks in
     let below = right_below first p q c.requires.valid (c.requires.row q c.in-Some.ensures.found.here) in
     let size : c.states.result ≡ n = c.states.ensures.count ∙ c.clear.ensures.pairs.states ∙ h.states in
-    let at : c.place.result ≡ p * n + q = c.place.ensures.place ∙ ap (λ m. p * m + q) size in (
-      given_more first c.loop-q.unranked c.clear.new.self c.args.ranks.now ranks (set ranks c.place.result (c.args.rank + 1)) p c.args.row.now c.args.rank c.loop-q.at q h c.in-Some.ensures.found c.clear.ensures.pairs c.clear.ensures.valid
-          (length-set ranks c.place.result (c.args.rank + 1)) (rank_set ranks first.places n p q c.args.rank (c.args.rank + 1) c.place.result (omega arith) (h.len ∙ c.requires.len) c.requires.left below at),
+    let at : c.pair_number.result ≡ p * n + q = c.pair_number.ensures.number ∙ ap (λ m. p * m + q) size in (
+      given_more first c.loop-q.unranked c.clear.new.self c.args.ranks.now ranks (set ranks c.pair_number.result (c.args.rank + 1)) p c.args.row.now c.args.rank c.loop-q.at q h c.in-Some.ensures.found c.clear.ensures.pairs c.clear.ensures.valid
+          (length-set ranks c.pair_number.result (c.args.rank + 1)) (rank_set ranks first.places n p q c.args.rank (c.args.rank + 1) c.pair_number.result (omega arith) (h.len ∙ c.requires.len) c.requires.left below at),
       omega arith,
     )
 

@@ -5,7 +5,7 @@ use Rattle.delayed_game.specs.Settling.{HasSomeRank}
 use Rattle.delayed_game.proofs.CanLemmas.{none_is_some}
 use Rattle.delayed_game.proofs.SettleLemmas.{HasTried, pair_below, tried_none, tried_passed, tried_taken, tried_all}
 use Rattle.delayed_game.proofs.playing.drop_row.Goals as goal
-use Rattle.delayed_game.proofs.playing.drop_row.Goals.{then-ranks-place-eq0, else-ranks-place-eq0}
+use Rattle.delayed_game.proofs.playing.drop_row.Goals.{then-ranks-pair_number-eq0, else-ranks-pair_number-eq0}
 
 some_from_not : (held : ℕ) → (held ≡ 0 → ⊥) → (r : ℕ) × (rank_in_code held ≡ Some r)
 some_from_not zero apart = absurd (apart refl)
@@ -23,8 +23,8 @@ overflow_cast-q c =
     let below = pair_below c.loop-q.board c.row.result.now c.args.board.now.states c.args.p c.in-Some.q h.states h.valid c.in-Some.ensures.found.here (c.row.ensures.bits c.in-Some.q) in
     search rules
 
-pub place-requires-clause-column : goal.place-requires-clause-column
-place-requires-clause-column c =
+pub pair_number-requires-clause-column : goal.pair_number-requires-clause-column
+pair_number-requires-clause-column c =
     let h = c.loop-q.invariant.0 in
     let below = pair_below c.loop-q.board c.row.result.now c.loop-q.board.states c.args.p c.in-Some.q refl h.valid c.in-Some.ensures.found.here (c.row.ensures.bits c.in-Some.q) in
     omega (arith, c.states.ensures.count)
@@ -52,17 +52,17 @@ loop-q-preserved c =
     let h = c.loop-q.invariant.0 in
     let next = c.in-Some.ensures.found in
     let below = pair_below now c.row.result.now old.states p q h.states h.valid next.here (c.row.ensures.bits q) in
-    let at : c.place.result ≡ p * old.states + q = c.place.ensures.place ∙ ap (λ m. p * m + q) (c.states.ensures.count ∙ h.states) in
+    let at : c.pair_number.result ≡ p * old.states + q = c.pair_number.ensures.number ∙ ap (λ m. p * m + q) (c.states.ensures.count ∙ h.states) in
     let T : Pairing → Bool → Type 0 = λ R changed. HasTried old R p P changed (q + 1) in (
-      elim c.if-ranks-place-eq0.branch [
-        | then-ranks-place-eq0 w ↦
-            let is : get_or ranks (p * old.states + q) 0 ≡ 0 = subst (λ i. get_or ranks i 0 ≡ 0) at w.if-ranks-place-eq0.true in
-            subst (λ R. T R c.if-ranks-place-eq0.changed) (sym w.board-is)
+      elim c.if-ranks-pair_number-eq0.branch [
+        | then-ranks-pair_number-eq0 w ↦
+            let is : get_or ranks (p * old.states + q) 0 ≡ 0 = subst (λ i. get_or ranks i 0 ≡ 0) at w.if-ranks-pair_number-eq0.true in
+            subst (λ R. T R c.if-ranks-pair_number-eq0.changed) (sym w.board-is)
             (subst (λ b. T w.clear.new.self b) (sym w.changed-is)
             (tried_taken old p P now w.clear.new.self c.loop-q.changed c.row.result.now c.loop-q.at q h c.row.ensures.bits next (λ has. none_from_is (get_or ranks (p * old.states + q) 0) has.0 is has.1) w.clear.ensures.pairs w.clear.ensures.valid))
-        | else-ranks-place-eq0 w ↦
-            let is : ¬ (get_or ranks (p * old.states + q) 0 ≡ 0) = subst (λ i. ¬ (get_or ranks i 0 ≡ 0)) at w.if-ranks-place-eq0.false in
-            subst (λ R. T R c.if-ranks-place-eq0.changed) (sym w.board-is)
+        | else-ranks-pair_number-eq0 w ↦
+            let is : ¬ (get_or ranks (p * old.states + q) 0 ≡ 0) = subst (λ i. ¬ (get_or ranks i 0 ≡ 0)) at w.if-ranks-pair_number-eq0.false in
+            subst (λ R. T R c.if-ranks-pair_number-eq0.changed) (sym w.board-is)
             (subst (λ b. T now b) (sym w.changed-is)
             (tried_passed old p P now c.loop-q.changed c.row.result.now c.loop-q.at q h c.row.ensures.bits next (some_from_not (get_or ranks (p * old.states + q) 0) is)))
       ],

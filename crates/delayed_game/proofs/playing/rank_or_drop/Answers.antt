@@ -3,11 +3,11 @@ use Rattle.auto_core.specs.Game.{Holds}
 use Rattle.auto_core.proofs.MoveLemmas.{move_in_range}
 use Rattle.delayed_game.specs.Pairings.{Pairing}
 use Rattle.delayed_game.proofs.BoardLemmas.{no_more_pairs}
-use Rattle.delayed_game.specs.Settling.{AnswersAll, Drops, HasSomeRank, Shrinks}
+use Rattle.delayed_game.specs.Settling.{AnswersAll, Drops, HasSomeRank, TakesAway}
 use Rattle.delayed_game.specs.Boards.{AreLeastRanks}
 use Rattle.delayed_game.proofs.MendLemmas.{kept_stays}
-use Rattle.delayed_game.proofs.SettleLemmas.{shrinks_then}
-use Rattle.delayed_game.proofs.GreatestLemmas.{drops_shrinks, drops_besides}
+use Rattle.delayed_game.proofs.SettleLemmas.{takes_then}
+use Rattle.delayed_game.proofs.GreatestLemmas.{drops_takes, drops_besides}
 use Rattle.delayed_game.proofs.playing.rank_or_drop.Goals as goal
 
 pub settle-requires-in-turns-clause-besides : goal.settle-requires-in-turns-clause-besides
@@ -29,15 +29,15 @@ rank_anew-requires-clause-ranks c =
     let size : c.turns.board.states ≡ A.states = h.0.states ∙ c.requires.columns in (
       c.turns.board.pairs,
       λ p q held. let range = h.0.valid.in_range p q held in (omega (arith, range.0), omega (arith, range.1)),
-      λ p q held. c.drop_unranked.ensures.drops.within p q (c.settle-in-turns.ensures.shrinks.within p q held),
+      λ p q held. c.drop_unranked.ensures.drops.within p q (c.settle-in-turns.ensures.takes.within p q held),
       h.3,
     )
 
 pub turns-smaller : goal.turns-smaller
 turns-smaller c =
     let fell = c.drop_unranked.ensures.some c.turns-test.true in
-    let shrinks = c.settle-in-turns.ensures.shrinks in
-    let less = no_more_pairs c.drop_unranked.new.board c.settle-in-turns.new.board c.drop_unranked.ensures.drops.valid shrinks.valid shrinks.within in
+    let takes = c.settle-in-turns.ensures.takes in
+    let less = no_more_pairs c.drop_unranked.new.board c.settle-in-turns.new.board c.drop_unranked.ensures.drops.valid takes.valid takes.within in
     omega arith
 
 pub turns-preserved : goal.turns-preserved
@@ -49,8 +49,8 @@ turns-preserved c =
     let size : c.turns.board.states ≡ A.states = h.0.states ∙ c.requires.columns in
     let drops : Drops L A.states c.turns.ranks c.turns.board c.drop_unranked.new.board c.turns.marks c.drop_unranked.new.marks =
     subst (λ n. Drops L n c.turns.ranks c.turns.board c.drop_unranked.new.board c.turns.marks c.drop_unranked.new.marks) size c.drop_unranked.ensures.drops in
-    let dropped = drops_shrinks L A c.turns.ranks c.turns.board c.drop_unranked.new.board c.turns.marks c.drop_unranked.new.marks places size h.0.valid h.3 drops in (
-      shrinks_then L A c.args.board.now c.drop_unranked.new.board c.settle-in-turns.new.board (shrinks_then L A c.args.board.now c.turns.board c.drop_unranked.new.board h.0 dropped) c.settle-in-turns.ensures.shrinks,
+    let dropped = drops_takes L A c.turns.ranks c.turns.board c.drop_unranked.new.board c.turns.marks c.drop_unranked.new.marks places size h.0.valid h.3 drops in (
+      takes_then L A c.args.board.now c.drop_unranked.new.board c.settle-in-turns.new.board (takes_then L A c.args.board.now c.turns.board c.drop_unranked.new.board h.0 dropped) c.settle-in-turns.ensures.takes,
       c.settle-in-turns.ensures.unmarked,
       c.settle-in-turns.ensures.answered,
       c.in_ok-rank_anew.ensures,
@@ -65,7 +65,7 @@ returns c =
     let same : c.drop_unranked.new.board ≡ c.turns.board = c.drop_unranked.ensures.same c.turns-test.false in
     let size : c.turns.board.states ≡ A.states = h.0.states ∙ c.requires.columns in
     record {
-      shrinks = subst (λ R. Shrinks L A c.args.board.now R) (sym same) h.0;
+      takes = subst (λ R. TakesAway L A c.args.board.now R) (sym same) h.0;
       answered = subst (λ (R : Pairing). (x q : ℕ) → Holds R.pairs x q → AnswersAll L A (Holds R.pairs) x q) (sym same) h.2;
       least = subst (λ (R : Pairing). AreLeastRanks L A (Holds R.pairs) c.turns.ranks) (sym same) h.3;
       ranked = λ x q accepting held. subst (λ n. HasSomeRank c.turns.ranks n x q) size (c.drop_unranked.ensures.drops.ranked x q held accepting);

@@ -2,12 +2,12 @@ use Rattle.std.proofs.Common.{rules, ◌≡◌, ℕ, ◌+◌, ◌-◌, inl, inr,
 use Rattle.std.proofs.lemmas.Bool.{cases_eq, false≢true}
 use Rattle.auto_core.specs.Rows.{bit_of}
 use Rattle.delayed_game.proofs.BoardLemmas.{no_more_pairs}
-use Rattle.delayed_game.proofs.SettleLemmas.{shrinks_none, shrinks_then}
+use Rattle.delayed_game.proofs.SettleLemmas.{takes_none, takes_then}
 use Rattle.delayed_game.proofs.settling.pass.Goals as goal
 
 pub loop-to-init : goal.loop-to-init
 loop-to-init c = (
-  shrinks_none c.args.places.now c.args.automaton.now c.args.board.now c.requires.valid,
+  takes_none c.args.places.now c.args.automaton.now c.args.board.now c.requires.valid,
   omega arith,
   λ yes. absurd (false≢true yes),
   λ no x from x_in. absurd (omega (arith, c.states-to.ensures.count)),
@@ -24,7 +24,7 @@ loop-to-preserved-then-try_into c =
     let h = c.loop-to.invariant in
     let upto = h.1 in
     let fell = c.try_into.ensures.tries.some c.if-try_into.true in (
-      shrinks_then c.args.places.now c.args.automaton.now c.args.board.now R c.try_into.new.board h.0 c.try_into.ensures.tries.shrinks,
+      takes_then c.args.places.now c.args.automaton.now c.args.board.now R c.try_into.new.board h.0 c.try_into.ensures.tries.takes,
       omega arith,
       λ yes. omega arith,
       λ no. absurd (false≢true (sym no)),
@@ -41,9 +41,9 @@ loop-to-preserved-else-try_into c =
     let S = c.try_into.new.board in
     let h = c.loop-to.invariant in
     let upto = h.1 in
-    let shrinks = c.try_into.ensures.tries.shrinks in
-    let less = no_more_pairs R S h.0.valid shrinks.valid shrinks.within in (
-      shrinks_then c.args.places.now c.args.automaton.now c.args.board.now R S h.0 shrinks,
+    let takes = c.try_into.ensures.tries.takes in
+    let less = no_more_pairs R S h.0.valid takes.valid takes.within in (
+      takes_then c.args.places.now c.args.automaton.now c.args.board.now R S h.0 takes,
       omega arith,
       λ yes. let fell = h.2 yes in omega arith,
       λ no x from x_in. ap (λ m. bit_of m x) (c.try_into.ensures.tries.same c.if-try_into.false) ∙ elim (cases_eq x to) [

@@ -34,10 +34,10 @@ left_over A L n w first R S ranks T some valid places is equal each r_places r_s
     let x_in = (below x q h).0 in
     let upto : x < first.size * w = omega (arith, all, places.states) in
     have x q upto (subst (λ v. Holds first.pairs (x / v) q) (sym is) (each X below right x q h)) in
-    let s_states : S.states ≡ A.states = played.shrinks.states ∙ l_states in
-    let s_places : S.places ≡ A.states * A.labels ^ (n - 1) = played.shrinks.places ∙ r_places ∙ all in
+    let s_states : S.states ≡ A.states = played.takes.states ∙ l_states in
+    let s_places : S.places ≡ A.states * A.labels ^ (n - 1) = played.takes.places ∙ r_places ∙ all in
     greatest_ahead A n L valid places R S ranks begins l_places l_states played T
-    (listed_pairs A n S ranks T some s_states s_places played.shrinks.valid listed)
+    (listed_pairs A n S ranks T some s_states s_places played.takes.valid listed)
 
 -- The list is of the automaton's labels and of the ranks.
 listed_here : (A : Automaton) (n labels : ℕ) (S : Pairing) (read ranks : List ℕ) (T : RankedTriples) → labels ≡ A.labels → read ≡ ranks → ListsTriplesBefore labels n S read S.places 0 T → ListsTriplesBefore A.labels n S ranks S.places 0 T

@@ -16,8 +16,8 @@ overflow_cast-q c =
     let below = pair_below c.args.board.now c.row.result.now c.args.board.now.states c.args.x c.in-Some.q refl c.requires.valid c.in-Some.ensures.found.here (c.row.ensures.bits c.in-Some.q) in
     search rules
 
-pub place-requires-clause-column : goal.place-requires-clause-column
-place-requires-clause-column c =
+pub pair_number-requires-clause-column : goal.pair_number-requires-clause-column
+pair_number-requires-clause-column c =
     let below = pair_below c.args.board.now c.row.result.now c.args.board.now.states c.args.x c.in-Some.q refl c.requires.valid c.in-Some.ensures.found.here (c.row.ensures.bits c.in-Some.q) in
     omega (arith, c.states.ensures.count)
 
@@ -36,7 +36,7 @@ loop-q-preserved c =
     let x : ℕ = c.args.x in
     let q : ℕ = c.in-Some.q in
     let below = pair_below R c.row.result.now R.states x q refl c.requires.valid c.in-Some.ensures.found.here (c.row.ensures.bits q) in
-    let at : c.place.result ≡ x * R.states + q = c.place.ensures.place ∙ ap (λ m. x * m + q) c.states.ensures.count in
+    let at : c.pair_number.result ≡ x * R.states + q = c.pair_number.ensures.number ∙ ap (λ m. x * m + q) c.states.ensures.count in
     let e : Entry = record { left = c.args.left; ahead = c.args.ahead; right = q; rank = c.rank_in_code-rank.result } in
     let rank : c.rank_in_code-rank.result ≡ rank_in_table ranks R.states x q = c.rank_in_code-rank.ensures ∙ ap (λ i. rank_in_code (get_or ranks i 0)) at in
     let here = entry_here labels n R.states ranks x q e c.requires.state c.requires.word refl rank in (

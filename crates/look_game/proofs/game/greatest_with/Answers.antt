@@ -2,12 +2,15 @@ use Rattle.std.proofs.Common.{sym, ◌∙◌, rules}
 use Rattle.std.proofs.lemmas.Bool.{false≢true}
 use Rattle.auto_core.specs.Game.{Holds, IsGreatest}
 use Rattle.look_game.proofs.RowLemmas.{bound_has_stable}
+use Rattle.look_game.proofs.AskedLemmas.{has_stable_after}
 use Rattle.look_game.proofs.game.greatest_with.Goals as goal
 
 pub greatest_within-requires-clause-stable : goal.greatest_within-requires-clause-stable
 greatest_within-requires-clause-stable g c =
-    bound_has_stable (g.S.Side.goes c.args.side.now c.args.automaton.now) (g.S.Side.matches c.args.side.now c.args.automaton.now) c.args.look c.args.automaton.now.states c.in_ok-first.first
-    c.requires.look_from c.in_ok-first.ensures
+    let M = g.S.Side.goes c.args.side.now c.args.automaton.now in
+    let ok = g.S.Side.matches c.args.side.now c.args.automaton.now in
+    let n = c.args.automaton.now.states in
+    has_stable_after M ok c.args.look n c.in_ok-all.all c.in_ok-first.first (bound_has_stable M ok c.args.look n c.in_ok-all.all c.requires.look_from c.in_ok-all.ensures) c.in_ok-first.ensures
 
 pub returns-else-get-clause-lacks : goal.returns-else-get-clause-lacks
 returns-else-get-clause-lacks g c = λ _ T below stable held.

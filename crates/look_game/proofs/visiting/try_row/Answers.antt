@@ -2,7 +2,7 @@ use Rattle.std.proofs.Common.{◌<◌, ◌⊎◌, inl, inr, sym, ◌∙◌, subs
 use Rattle.std.proofs.lemmas.Bool.{cases_eq}
 use Rattle.auto_core.specs.Game.{Holds}
 use Rattle.auto_core.specs.Rows.{HasBit}
-use Rattle.look_round.specs.Answering.{AreAnswersTo}
+use Rattle.look_round.specs.Answering.{IsRowOfAnswers}
 use Rattle.look_round.specs.ReplyLists.{AreReplyLists}
 use Rattle.look_round.proofs.AnsweringLemmas.{answers_kept}
 use Rattle.look_game.proofs.VisitLemmas.{answers_same, related_or_lost, takes_lost, takes_here, rounds_same, rounds_apart}
@@ -79,7 +79,7 @@ returns-clause-answers g c =
       each = λ x x_kept.
           let was : x < rows.kept = subst (λ n. x < n) e.kept x_kept in
           elim (cases_eq x p) [
-            | inl same ↦ subst (λ y. AreAnswersTo M ok (Holds new.pairs) made y) (sym same) (e.here (subst (λ y. y < rows.kept) same was))
+            | inl same ↦ subst (λ y. IsRowOfAnswers M ok (Holds new.pairs) made y) (sym same) (e.here (subst (λ y. y < rows.kept) same was))
             | inr apart ↦
                 answers_kept M ok (Holds new.pairs) rows made x e.labels e.width (λ y y_in. e.others x y y_in apart)
                 (answers_same M ok (Holds old.pairs) (Holds new.pairs) rows x (λ r. ((λ h. (takes.pairs x r).1 (h, λ is. absurd (apart is))), λ h. ((takes.pairs x r).0 h).0)) (c.requires.answers.each x was))

@@ -16,8 +16,8 @@ returns g c =
     let w = c.args.width in
     let width = c.requires.width in
     let count = c.states-count.ensures.count in
-    let narrowed = subst (λ m. IsNarrowedBy c.match_rows.new.table c.narrow.new.table m w c.write_columns-words.new.columns c.write_columns-words.result) count c.in_ok-narrow.ensures in
+    let narrowed = subst (λ m. IsNarrowedBy c.match_rows.new.table c.narrow.new.table m w c.write_columns-used.new.columns c.write_columns-used.result) count c.in_ok-narrow.ensures in
     IfOk-weaker c.relation_of.result (HoldsTable c.narrow.new.table n w) (IsBound M ok n)
-    (λ R holds. is_bound M ok (g.met.S.Side.joins s A) (listed_tells M (g.S.Side.list s A) (g.met.S.Side.lists s A)) n w c.match_rows.new.table c.narrow.new.table c.write_columns-words.new.columns
-    c.write_columns-words.result R (omega arith) c.in_ok-kinds.ensures.matches c.write_columns-words.ensures.columns narrowed holds)
+    (λ R holds. is_bound M ok (g.met.S.Side.joins s A) (listed_tells M (g.S.Side.list s A) (g.met.S.Side.lists s A)) n w c.match_rows.new.table c.narrow.new.table c.write_columns-used.new.columns
+    c.write_columns-used.result R (omega arith) c.in_ok-kinds.ensures.matches c.write_columns-used.ensures.columns narrowed holds)
     (subst (λ m. IfOk c.relation_of.result (HoldsTable c.narrow.new.table m w)) count c.relation_of.ensures)

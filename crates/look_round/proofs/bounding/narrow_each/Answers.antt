@@ -7,7 +7,7 @@ loop-p-init c = (λ r r_in. absurd (omega arith), λ r q r_from near. refl)
 
 pub loop-p-preserved : goal.loop-p-preserved
 loop-p-preserved c =
-    rows_narrowed_more c.args.table.now c.loop-p.table c.narrow_row.new.table c.args.width c.args.columns.now c.args.words c.loop-p.p
+    rows_narrowed_more c.args.table.now c.loop-p.table c.narrow_row.new.table c.args.width c.args.columns.now c.args.used c.loop-p.p
     c.loop-p.invariant c.narrow_row.ensures.here c.narrow_row.ensures.others
 
 pub returns : goal.returns

@@ -3,4 +3,4 @@ use Rattle.look_round.proofs.ColumnLemmas.{AreRowsNarrowed}
 use Rattle.look_round.proofs.comparing.keep_each_above.Given as goal
 
 abbrev pub invariant-loop-p : goal.invariant-loop-p
-invariant-loop-p l = AreRowsNarrowed l.fn.table l.table l.width l.columns l.words l.p × (length l.row ≡ l.width)
+invariant-loop-p l = AreRowsNarrowed l.fn.table l.table l.width l.columns l.used l.p × (length l.row ≡ l.width)

@@ -6,13 +6,13 @@ use Rattle.look_round.proofs.replies.one_has_reply_in.Goals as goal
 
 -- a clear bit of the row is no state of it
 not_there :
-    (table row : List ℕ) (n width place x : ℕ)
+    (table row : List ℕ) (n width number x : ℕ)
     → n ≤ width * 64
-    → ((q : ℕ) → q < width * 64 → bit_of row q ≡ cell_of table width place q)
+    → ((q : ℕ) → q < width * 64 → bit_of row q ≡ cell_of table width number q)
     → bit_of row x ≡ false
-    → HasReply table n width place x
+    → HasReply table n width number x
     → ⊥
-not_there table row n width place x room bits clear is =
+not_there table row n width number x room bits clear is =
     let x_in = is.0 in
     false≢true (sym clear ∙ bits x (omega arith) ∙ is.1)
 
@@ -26,7 +26,7 @@ returns-then-q-states g c =
       λ (r, (q, is, reply), bit). elim (cases_lt q c.loop-q.at) [
         | inl before ↦ absurd (c.loop-q.invariant.0 q r before is reply bit)
         | inr from ↦ elim (cases_lt q c.in-Some.q) [
-          | inl between ↦ absurd (not_there c.args.table.now c.row_at.result.now c.args.automaton.now.states c.args.width c.args.place q (omega arith) c.row_at.ensures.bits (next.none_between q from between) is)
+          | inl between ↦ absurd (not_there c.args.table.now c.row_at.result.now c.args.automaton.now.states c.args.width c.args.number q (omega arith) c.row_at.ensures.bits (next.none_between q from between) is)
           | inr behind ↦ let lt = is.0 in absurd (omega arith)
         ]
       ],
@@ -44,7 +44,7 @@ loop-q-preserved g c =
         | inl before ↦ c.loop-q.invariant.0 q r before is reply bit
         | inr from ↦ elim (cases_eq q c.in-Some.q) [
           | inl e ↦ none (r, subst (λ x. IsReply (g.S.Side.goes c.args.side.now c.args.automaton.now) (g.S.Side.matches c.args.side.now c.args.automaton.now) c.args.step.label c.args.step.to x r) e reply, bit)
-          | inr apart ↦ not_there c.args.table.now c.row_at.result.now c.args.automaton.now.states c.args.width c.args.place q (omega arith) c.row_at.ensures.bits (next.none_between q from (omega arith)) is
+          | inr apart ↦ not_there c.args.table.now c.row_at.result.now c.args.automaton.now.states c.args.width c.args.number q (omega arith) c.row_at.ensures.bits (next.none_between q from (omega arith)) is
         ]
       ],
       omega arith,
@@ -58,7 +58,7 @@ returns-then-has_reply_in g c =
     let count = c.states.ensures.count in
     let near : c.in-Some.q < c.args.width * 64 = omega arith in
     let found = c.has_reply_in.ensures.0 c.if-has_reply_in.true in
-    let here : HasCell c.args.table.now c.args.width c.args.place c.in-Some.q = sym (c.row_at.ensures.bits c.in-Some.q near) ∙ next.here in
+    let here : HasCell c.args.table.now c.args.width c.args.number c.in-Some.q = sym (c.row_at.ensures.bits c.in-Some.q near) ∙ next.here in
     (λ h. (found.0, (c.in-Some.q, (omega arith, here), found.1), found.2), λ h. refl)
 
 pub returns : goal.returns
@@ -67,6 +67,6 @@ returns g c =
       λ h. absurd (false≢true h),
       λ (r, (q, is, reply), bit). elim (cases_lt q c.loop-q.at) [
         | inl before ↦ absurd (c.loop-q.invariant.0 q r before is reply bit)
-        | inr from ↦ absurd (not_there c.args.table.now c.row_at.result.now c.args.automaton.now.states c.args.width c.args.place q (omega arith) c.row_at.ensures.bits (c.in_default.ensures.none q from) is)
+        | inr from ↦ absurd (not_there c.args.table.now c.row_at.result.now c.args.automaton.now.states c.args.width c.args.number q (omega arith) c.row_at.ensures.bits (c.in_default.ensures.none q from) is)
       ],
     )

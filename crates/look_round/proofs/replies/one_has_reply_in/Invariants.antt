@@ -5,7 +5,7 @@ use Rattle.look_round.proofs.replies.one_has_reply_in.Given as goal
 
 abbrev pub invariant-loop-q : goal.invariant-loop-q
 invariant-loop-q g l =
-    ((q r : ℕ) → q < l.at → HasReply l.table l.automaton.states l.width l.place q → IsReply (g.S.Side.goes l.side l.automaton) (g.S.Side.matches l.side l.automaton) l.step.label l.step.to q r → HasBit l.row r → ⊥)
+    ((q r : ℕ) → q < l.at → HasReply l.table l.automaton.states l.width l.number q → IsReply (g.S.Side.goes l.side l.automaton) (g.S.Side.matches l.side l.automaton) l.step.label l.step.to q r → HasBit l.row r → ⊥)
     × (l.at ≤ l.width * 64)
 
 abbrev pub decreases-loop-q : goal.decreases-loop-q

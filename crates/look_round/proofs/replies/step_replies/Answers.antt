@@ -7,14 +7,14 @@ use Rattle.look_round.proofs.replies.step_replies.Goals as goal
 
 -- a clear bit of the row is no state of it
 not_there :
-    (old now row : List ℕ) (n width place x : ℕ)
+    (old now row : List ℕ) (n width number x : ℕ)
     → n ≤ width * 64
-    → ((q : ℕ) → q < width * 64 → bit_of row q ≡ cell_of now width place q)
-    → ((q : ℕ) → q < width * 64 → cell_of now width place q ≡ cell_of old width place q)
+    → ((q : ℕ) → q < width * 64 → bit_of row q ≡ cell_of now width number q)
+    → ((q : ℕ) → q < width * 64 → cell_of now width number q ≡ cell_of old width number q)
     → bit_of row x ≡ false
-    → HasReply old n width place x
+    → HasReply old n width number x
     → ⊥
-not_there old now row n width place x room bits cells clear is =
+not_there old now row n width number x room bits cells clear is =
     let x_in = is.0 in
     let near : x < width * 64 = omega arith in
     false≢true (sym clear ∙ bits x near ∙ cells x near ∙ is.1)
@@ -31,17 +31,17 @@ returns-then-q-states-clause-next g c =
     let now = c.loop-q.table in
     let w = c.args.width in
     let n = A.states in
-    let place = c.args.place in
-    let D : ℕ → Type 0 = HasReply old n w place in
+    let number = c.args.number in
+    let D : ℕ → Type 0 = HasReply old n w number in
     let width = c.requires.width in
     let next = c.in-Some.ensures.found in
     let past = c.if-q-states.true in
     let count = c.states.ensures.count in
-    let cells : (q : ℕ) → q < w * 64 → cell_of now w place q ≡ cell_of old w place q =
-    λ q near. c.loop-q.invariant.0.others place q near (λ e. omega arith) ∙ c.clear_table_row.ensures.others place q near (λ e. omega arith) in
-    step_finished M ok a p D c.clear_table_row.new.table now w (place + 1) n c.loop-q.at (omega arith) c.loop-q.invariant.1 c.loop-q.invariant.0
+    let cells : (q : ℕ) → q < w * 64 → cell_of now w number q ≡ cell_of old w number q =
+    λ q near. c.loop-q.invariant.0.others number q near (λ e. omega arith) ∙ c.clear_table_row.ensures.others number q near (λ e. omega arith) in
+    step_finished M ok a p D c.clear_table_row.new.table now w (number + 1) n c.loop-q.at (omega arith) c.loop-q.invariant.1 c.loop-q.invariant.0
     (λ q from is. elim (cases_lt q c.in-Some.q) [
-      | inl before ↦ not_there old now c.row_at.result.now n w place q (omega arith) c.row_at.ensures.bits cells (next.none_between q from before) is
+      | inl before ↦ not_there old now c.row_at.result.now n w number q (omega arith) c.row_at.ensures.bits cells (next.none_between q from before) is
       | inr behind ↦ let lt = is.0 in absurd (omega arith)
     ])
     c.clear_table_row.ensures.here (λ q is. is.0) (λ q r go. g.met.S.Side.stays s A c.requires.valid q a r go)
@@ -59,21 +59,21 @@ loop-q-preserved g c =
     let now = c.loop-q.table in
     let w = c.args.width in
     let n = A.states in
-    let place = c.args.place in
+    let number = c.args.number in
     let q = c.in-Some.q in
-    let D : ℕ → Type 0 = HasReply old n w place in
+    let D : ℕ → Type 0 = HasReply old n w number in
     let width = c.requires.width in
     let next = c.in-Some.ensures.found in
     let behind = next.behind in
     let below = c.if-q-states.false in
     let count = c.states.ensures.count in
     let near : q < w * 64 = omega arith in
-    let cells : (x : ℕ) → x < w * 64 → cell_of now w place x ≡ cell_of old w place x =
-    λ x x_near. c.loop-q.invariant.0.others place x x_near (λ e. omega arith) ∙ c.clear_table_row.ensures.others place x x_near (λ e. omega arith) in
-    let here : HasCell old w place q = sym (cells q near) ∙ sym (c.row_at.ensures.bits q near) ∙ next.here in
-    let between = step_zero M ok a p D start now w (place + 1) c.loop-q.at q behind c.loop-q.invariant.0
-    (λ x from before is. not_there old now c.row_at.result.now n w place x (omega arith) c.row_at.ensures.bits cells (next.none_between x from before) is) in
-    (step_more M ok a p D start now c.add_replies.new.table w (place + 1) 0 q (omega arith) between (omega arith, here) c.add_replies.ensures.here c.add_replies.ensures.others, omega arith)
+    let cells : (x : ℕ) → x < w * 64 → cell_of now w number x ≡ cell_of old w number x =
+    λ x x_near. c.loop-q.invariant.0.others number x x_near (λ e. omega arith) ∙ c.clear_table_row.ensures.others number x x_near (λ e. omega arith) in
+    let here : HasCell old w number q = sym (cells q near) ∙ sym (c.row_at.ensures.bits q near) ∙ next.here in
+    let between = step_zero M ok a p D start now w (number + 1) c.loop-q.at q behind c.loop-q.invariant.0
+    (λ x from before is. not_there old now c.row_at.result.now n w number x (omega arith) c.row_at.ensures.bits cells (next.none_between x from before) is) in
+    (step_more M ok a p D start now c.mark_replies.new.table w (number + 1) 0 q (omega arith) between (omega arith, here) c.mark_replies.ensures.here c.mark_replies.ensures.others, omega arith)
 
 pub returns-clause-next : goal.returns-clause-next
 returns-clause-next g c =
@@ -87,11 +87,11 @@ returns-clause-next g c =
     let now = c.loop-q.table in
     let w = c.args.width in
     let n = A.states in
-    let place = c.args.place in
-    let D : ℕ → Type 0 = HasReply old n w place in
+    let number = c.args.number in
+    let D : ℕ → Type 0 = HasReply old n w number in
     let width = c.requires.width in
-    let cells : (q : ℕ) → q < w * 64 → cell_of now w place q ≡ cell_of old w place q =
-    λ q near. c.loop-q.invariant.0.others place q near (λ e. omega arith) ∙ c.clear_table_row.ensures.others place q near (λ e. omega arith) in
-    step_finished M ok a p D c.clear_table_row.new.table now w (place + 1) n c.loop-q.at (omega arith) c.loop-q.invariant.1 c.loop-q.invariant.0
-    (λ q from is. not_there old now c.row_at.result.now n w place q (omega arith) c.row_at.ensures.bits cells (c.in_default.ensures.none q from) is)
+    let cells : (q : ℕ) → q < w * 64 → cell_of now w number q ≡ cell_of old w number q =
+    λ q near. c.loop-q.invariant.0.others number q near (λ e. omega arith) ∙ c.clear_table_row.ensures.others number q near (λ e. omega arith) in
+    step_finished M ok a p D c.clear_table_row.new.table now w (number + 1) n c.loop-q.at (omega arith) c.loop-q.invariant.1 c.loop-q.invariant.0
+    (λ q from is. not_there old now c.row_at.result.now n w number q (omega arith) c.row_at.ensures.bits cells (c.in_default.ensures.none q from) is)
     c.clear_table_row.ensures.here (λ q is. is.0) (λ q r go. g.met.S.Side.stays s A c.requires.valid q a r go)

@@ -104,7 +104,7 @@ step_answered-returns-then-step_into-clause-told g t c =
     let D : ℕ → Type 0 = HasReply c.args.sets.now n w (length c.args.path.now.items) in
     let E : ℕ → Type 0 = HasReplyFrom M ok a p D in
     let P : ℕ → Type 0 = λ x. IsTrue c.step_into.result ↔ ((r : ℕ) × HasReplyFrom M ok a p (HasReply c.args.sets.now n w x) r × HasBit c.row-related.result.now r) in
-    let one = subst P c.len-place.ensures.value c.step_into.ensures.told in
+    let one = subst P c.len-number.ensures.value c.step_into.ensures.told in
     let found = one.0 c.if-step_into.true in (
       λ h. met M ok W c.args.left a p D E (λ r. (λ x. x, λ x. x)) found.0 found.1 ((c.row-related.ensures.bits found.0).0 found.2),
       λ h. refl,
@@ -124,7 +124,7 @@ step_answered-returns-then-is_met-clause-told g t c =
     let D : ℕ → Type 0 = HasReply c.args.sets.now n w (length c.args.path.now.items) in
     let E : ℕ → Type 0 = HasReplyFrom M ok a p D in
     let P : ℕ → Type 0 = λ x. (r : ℕ) × HasReplyFrom M ok a p (HasReply c.args.sets.now n w x) r × W p r in
-    let found = subst P c.len-place.ensures.value (c.is_met.ensures c.if-is_met.true) in (
+    let found = subst P c.len-number.ensures.value (c.is_met.ensures c.if-is_met.true) in (
       λ h. met M ok W c.args.left a p D E (λ r. (λ x. x, λ x. x)) found.0 found.1 found.2,
       λ h. refl,
     )
@@ -143,7 +143,7 @@ step_answered-returns-then-left-eq1-clause-told g t c =
     let D : ℕ → Type 0 = HasReply c.args.sets.now n w (length c.args.path.now.items) in
     let E : ℕ → Type 0 = HasReplyFrom M ok a p D in
     let P : ℕ → Type 0 = λ x. IsTrue c.one_has_reply_in.result ↔ ((r : ℕ) × HasReplyFrom M ok a p (HasReply c.args.sets.now n w x) r × HasBit c.row-related.result.now r) in
-    let one = subst P c.len-place.ensures.value c.one_has_reply_in.ensures in (
+    let one = subst P c.len-number.ensures.value c.one_has_reply_in.ensures in (
       λ h. let found = one.0 h in met M ok W c.args.left a p D E (λ r. (λ x. x, λ x. x)) found.0 found.1 ((c.row-related.ensures.bits found.0).0 found.2),
       λ h. true_if one (λ apart. ended M ok W c.args.left a p D E (λ r. (λ x. x, λ x. x)) (λ r is related. apart (r, is, (c.row-related.ensures.bits r).1 related)) (inl c.if-left-eq1.true) h),
     )
@@ -162,7 +162,7 @@ step_answered-returns-then-moves-eq0-clause-told g t c =
     let D : ℕ → Type 0 = HasReply c.args.sets.now n w (length c.args.path.now.items) in
     let E : ℕ → Type 0 = HasReplyFrom M ok a p D in
     let P : ℕ → Type 0 = λ x. IsTrue c.step_into.result ↔ ((r : ℕ) × HasReplyFrom M ok a p (HasReply c.args.sets.now n w x) r × HasBit c.row-related.result.now r) in
-    let one = subst P c.len-place.ensures.value c.step_into.ensures.told in
+    let one = subst P c.len-number.ensures.value c.step_into.ensures.told in
     let apart = iff_false one c.if-step_into.false in
     let none : (r : ℕ) → E r → W p r → ⊥ = λ r is related. apart (r, is, (c.row-related.ensures.bits r).1 related) in
     let dead : IsDead M p = dead_from M (g.S.Side.list s A p) p (g.met.S.Side.lists s A p) (sym c.moves.ensures ∙ c.if-moves-eq0.true) in
@@ -188,8 +188,8 @@ step_answered-returns-then-is_known-clause-told g t c =
     let near : p < w * 64 = omega (arith, c.requires.step) in
     let known = c.is_known.ensures c.if-is_known.true in
     let P : ℕ → Type 0 = λ x. RoundAfter M ok W c.args.left a p (HasReply c.args.sets.now n w x) in
-    let answered = known_answered M ok W n w room c.args.letters.now c.args.held.now c.args.known.now c.args.sets.now c.row_at-row.result.now c.args.left c.len-place.result a p near c.requires.answered known.0 known.1 c.row_at-row.ensures.bits in
-    (λ h. subst P c.len-place.ensures.value answered, λ h. refl)
+    let answered = known_answered M ok W n w room c.args.letters.now c.args.held.now c.args.known.now c.args.sets.now c.row_at-row.result.now c.args.left c.len-number.result a p near c.requires.answered known.0 known.1 c.row_at-row.ensures.bits in
+    (λ h. subst P c.len-number.ensures.value answered, λ h. refl)
 
 pub step_answered-returns-then-not-answered-clause-told : goal.step_answered-returns-then-not-answered-clause-told
 step_answered-returns-then-not-answered-clause-told g t c =
@@ -204,19 +204,19 @@ step_answered-returns-then-not-answered-clause-told g t c =
     let p = c.args.step.to in
     let old = c.args.sets.now in
     let new = c.step_into.new.table in
-    let place = c.len-place.result in
-    let P : ℕ → Type 0 = λ x. (r : ℕ) → HasReply new n w (place + 1) r ↔ HasReplyFrom M ok a p (HasReply old n w x) r in
-    let replies = subst P c.len-place.ensures.value c.step_into.ensures.next in
+    let number = c.len-number.result in
+    let P : ℕ → Type 0 = λ x. (r : ℕ) → HasReply new n w (number + 1) r ↔ HasReplyFrom M ok a p (HasReply old n w x) r in
+    let replies = subst P c.len-number.ensures.value c.step_into.ensures.next in
     let Q1 : ℕ → Type 0 = λ x. IsTrue c.step_into.result ↔ ((r : ℕ) × HasReplyFrom M ok a p (HasReply old n w x) r × HasBit c.row-related.result.now r) in
-    let one = subst Q1 c.len-place.ensures.value c.step_into.ensures.told in
+    let one = subst Q1 c.len-number.ensures.value c.step_into.ensures.told in
     let apart = iff_false one c.if-step_into.false in
-    let none : (r : ℕ) → HasReply new n w (place + 1) r → W p r → ⊥ = λ r is related. apart (r, (replies r).0 is, (c.row-related.ensures.bits r).1 related) in
+    let none : (r : ℕ) → HasReply new n w (number + 1) r → W p r → ⊥ = λ r is related. apart (r, (replies r).0 is, (c.row-related.ensures.bits r).1 related) in
     let alive : IsDead M p → ⊥ = alive_from M (g.S.Side.list s A p) p (g.met.S.Side.lists s A p) (λ e. c.if-moves-eq0.false (c.moves.ensures ∙ e)) in
     let some = c.requires.left in
     let more : 1 < c.args.left = omega (arith, c.if-left-eq1.false) in
-    let both = goes_on M ok W c.args.left a p (HasReply old n w (length c.args.path.now.items)) (HasReply new n w (place + 1)) replies (c.args.left - 1) (omega arith) (omega arith) none alive in
-    let size : length c.push_reserved.new.self.items ≡ place + 1 =
-    ap length c.push_reserved.ensures.items ∙ length-append c.args.path.now.items (c.args.step ∷ []) ∙ ap (λ x. x + 1) (sym c.len-place.ensures.value) in
+    let both = goes_on M ok W c.args.left a p (HasReply old n w (length c.args.path.now.items)) (HasReply new n w (number + 1)) replies (c.args.left - 1) (omega arith) (omega arith) none alive in
+    let size : length c.push_reserved.new.self.items ≡ number + 1 =
+    ap length c.push_reserved.ensures.items ∙ length-append c.args.path.now.items (c.args.step ∷ []) ∙ ap (λ x. x + 1) (sym c.len-number.ensures.value) in
     let Q : ℕ → Type 0 = λ x. IsTrue c.round_from-answered.result ↔ RoundFrom M ok W (c.args.left - 1) p (HasReply new n w x) in
     let told = subst Q size c.round_from-answered.ensures.told in
     let failed : c.round_from-answered.result ≡ false = search rules in
@@ -235,19 +235,19 @@ step_answered-returns-clause-told g t c =
     let p = c.args.step.to in
     let old = c.args.sets.now in
     let new = c.step_into.new.table in
-    let place = c.len-place.result in
-    let P : ℕ → Type 0 = λ x. (r : ℕ) → HasReply new n w (place + 1) r ↔ HasReplyFrom M ok a p (HasReply old n w x) r in
-    let replies = subst P c.len-place.ensures.value c.step_into.ensures.next in
+    let number = c.len-number.result in
+    let P : ℕ → Type 0 = λ x. (r : ℕ) → HasReply new n w (number + 1) r ↔ HasReplyFrom M ok a p (HasReply old n w x) r in
+    let replies = subst P c.len-number.ensures.value c.step_into.ensures.next in
     let Q1 : ℕ → Type 0 = λ x. IsTrue c.step_into.result ↔ ((r : ℕ) × HasReplyFrom M ok a p (HasReply old n w x) r × HasBit c.row-related.result.now r) in
-    let one = subst Q1 c.len-place.ensures.value c.step_into.ensures.told in
+    let one = subst Q1 c.len-number.ensures.value c.step_into.ensures.told in
     let apart = iff_false one c.if-step_into.false in
-    let none : (r : ℕ) → HasReply new n w (place + 1) r → W p r → ⊥ = λ r is related. apart (r, (replies r).0 is, (c.row-related.ensures.bits r).1 related) in
+    let none : (r : ℕ) → HasReply new n w (number + 1) r → W p r → ⊥ = λ r is related. apart (r, (replies r).0 is, (c.row-related.ensures.bits r).1 related) in
     let alive : IsDead M p → ⊥ = alive_from M (g.S.Side.list s A p) p (g.met.S.Side.lists s A p) (λ e. c.if-moves-eq0.false (c.moves.ensures ∙ e)) in
     let some = c.requires.left in
     let more : 1 < c.args.left = omega (arith, c.if-left-eq1.false) in
-    let both = goes_on M ok W c.args.left a p (HasReply old n w (length c.args.path.now.items)) (HasReply new n w (place + 1)) replies (c.args.left - 1) (omega arith) (omega arith) none alive in
-    let size : length c.push_reserved.new.self.items ≡ place + 1 =
-    ap length c.push_reserved.ensures.items ∙ length-append c.args.path.now.items (c.args.step ∷ []) ∙ ap (λ x. x + 1) (sym c.len-place.ensures.value) in
+    let both = goes_on M ok W c.args.left a p (HasReply old n w (length c.args.path.now.items)) (HasReply new n w (number + 1)) replies (c.args.left - 1) (omega arith) (omega arith) none alive in
+    let size : length c.push_reserved.new.self.items ≡ number + 1 =
+    ap length c.push_reserved.ensures.items ∙ length-append c.args.path.now.items (c.args.step ∷ []) ∙ ap (λ x. x + 1) (sym c.len-number.ensures.value) in
     let Q : ℕ → Type 0 = λ x. IsTrue c.round_from-answered.result ↔ RoundFrom M ok W (c.args.left - 1) p (HasReply new n w x) in
     let told = subst Q size c.round_from-answered.ensures.told in
     let holds : c.round_from-answered.result ≡ true = search rules in
@@ -266,62 +266,62 @@ step_answered-returns-clause-answered g t c =
     let p = c.args.step.to in
     let old = c.args.sets.now in
     let new = c.step_into.new.table in
-    let place = c.len-place.result in
-    let P : ℕ → Type 0 = λ x. (r : ℕ) → HasReply new n w (place + 1) r ↔ HasReplyFrom M ok a p (HasReply old n w x) r in
-    let replies = subst P c.len-place.ensures.value c.step_into.ensures.next in
+    let number = c.len-number.result in
+    let P : ℕ → Type 0 = λ x. (r : ℕ) → HasReply new n w (number + 1) r ↔ HasReplyFrom M ok a p (HasReply old n w x) r in
+    let replies = subst P c.len-number.ensures.value c.step_into.ensures.next in
     let Q1 : ℕ → Type 0 = λ x. IsTrue c.step_into.result ↔ ((r : ℕ) × HasReplyFrom M ok a p (HasReply old n w x) r × HasBit c.row-related.result.now r) in
-    let one = subst Q1 c.len-place.ensures.value c.step_into.ensures.told in
+    let one = subst Q1 c.len-number.ensures.value c.step_into.ensures.told in
     let apart = iff_false one c.if-step_into.false in
-    let none : (r : ℕ) → HasReply new n w (place + 1) r → W p r → ⊥ = λ r is related. apart (r, (replies r).0 is, (c.row-related.ensures.bits r).1 related) in
+    let none : (r : ℕ) → HasReply new n w (number + 1) r → W p r → ⊥ = λ r is related. apart (r, (replies r).0 is, (c.row-related.ensures.bits r).1 related) in
     let alive : IsDead M p → ⊥ = alive_from M (g.S.Side.list s A p) p (g.met.S.Side.lists s A p) (λ e. c.if-moves-eq0.false (c.moves.ensures ∙ e)) in
     let some = c.requires.left in
     let more : 1 < c.args.left = omega (arith, c.if-left-eq1.false) in
-    let both = goes_on M ok W c.args.left a p (HasReply old n w (length c.args.path.now.items)) (HasReply new n w (place + 1)) replies (c.args.left - 1) (omega arith) (omega arith) none alive in
-    let size : length c.push_reserved.new.self.items ≡ place + 1 =
-    ap length c.push_reserved.ensures.items ∙ length-append c.args.path.now.items (c.args.step ∷ []) ∙ ap (λ x. x + 1) (sym c.len-place.ensures.value) in
+    let both = goes_on M ok W c.args.left a p (HasReply old n w (length c.args.path.now.items)) (HasReply new n w (number + 1)) replies (c.args.left - 1) (omega arith) (omega arith) none alive in
+    let size : length c.push_reserved.new.self.items ≡ number + 1 =
+    ap length c.push_reserved.ensures.items ∙ length-append c.args.path.now.items (c.args.step ∷ []) ∙ ap (λ x. x + 1) (sym c.len-number.ensures.value) in
     let Q : ℕ → Type 0 = λ x. IsTrue c.round_from-answered.result ↔ RoundFrom M ok W (c.args.left - 1) p (HasReply new n w x) in
     let told = subst Q size c.round_from-answered.ensures.told in
     let holds : c.round_from-answered.result ≡ true = search rules in
     let answered = both.1 (told.0 holds) in
-    let value : place ≡ length c.args.path.now.items = c.len-place.ensures.value in
+    let value : number ≡ length c.args.path.now.items = c.len-number.ensures.value in
     let room : n ≤ w * 64 = omega (arith, c.requires.width) in
     let sets = c.round_from-answered.new.sets in
-    let kept : (q : ℕ) → q < w * 64 → cell_of sets w place q ≡ cell_of old w place q =
-    λ q near. c.round_from-answered.ensures.kept place q (omega (arith, size)) near ∙ c.step_into.ensures.others place q near (λ e. omega arith) in
-    let same = reply_same old sets n w place room kept in
-    let D : ℕ → Type 0 = HasReply sets n w place in
+    let kept : (q : ℕ) → q < w * 64 → cell_of sets w number q ≡ cell_of old w number q =
+    λ q near. c.round_from-answered.ensures.kept number q (omega (arith, size)) near ∙ c.step_into.ensures.others number q near (λ e. omega arith) in
+    let same = reply_same old sets n w number room kept in
+    let D : ℕ → Type 0 = HasReply sets n w number in
     let P2 : ℕ → Type 0 = λ x. RoundAfter M ok W c.args.left a p (HasReply old n w x) in
-    let here : RoundAfter M ok W c.args.left a p (HasReply old n w place) = subst P2 (sym value) answered in
-    let now : RoundAfter M ok W c.args.left a p D = after_same M ok W (HasReply old n w place) D (λ q. (same q).1) c.args.left a p here in
+    let here : RoundAfter M ok W c.args.left a p (HasReply old n w number) = subst P2 (sym value) answered in
+    let now : RoundAfter M ok W c.args.left a p D = after_same M ok W (HasReply old n w number) D (λ q. (same q).1) c.args.left a p here in
     known_more M ok W n w room c.round_from-answered.new.letters c.round_from-answered.new.held c.round_from-answered.new.known c.note.new.letters c.note.new.held c.note.new.known sets c.row_at-row-2.result.now
-    c.args.left place a p c.round_from-answered.ensures.answered c.note.ensures c.row_at-row-2.ensures.bits now
+    c.args.left number a p c.round_from-answered.ensures.answered c.note.ensures c.row_at-row-2.ensures.bits now
 
 pub step_answered-returns-then-not-answered-clause-kept : goal.step_answered-returns-then-not-answered-clause-kept
 step_answered-returns-then-not-answered-clause-kept g t c =
-    let place = c.len-place.result in
-    let value : place ≡ length c.args.path.now.items = c.len-place.ensures.value in
-    let size : length c.push_reserved.new.self.items ≡ place + 1 =
-    ap length c.push_reserved.ensures.items ∙ length-append c.args.path.now.items (c.args.step ∷ []) ∙ ap (λ x. x + 1) (sym c.len-place.ensures.value) in
+    let number = c.len-number.result in
+    let value : number ≡ length c.args.path.now.items = c.len-number.ensures.value in
+    let size : length c.push_reserved.new.self.items ≡ number + 1 =
+    ap length c.push_reserved.ensures.items ∙ length-append c.args.path.now.items (c.args.step ∷ []) ∙ ap (λ x. x + 1) (sym c.len-number.ensures.value) in
     λ i q i_in near.
     c.round_from-answered.ensures.kept i q (omega (arith, size, value)) near ∙ c.step_into.ensures.others i q near (λ e. omega (arith, value))
 
 pub step_answered-returns-clause-kept : goal.step_answered-returns-clause-kept
 step_answered-returns-clause-kept g t c =
-    let place = c.len-place.result in
-    let value : place ≡ length c.args.path.now.items = c.len-place.ensures.value in
-    let size : length c.push_reserved.new.self.items ≡ place + 1 =
-    ap length c.push_reserved.ensures.items ∙ length-append c.args.path.now.items (c.args.step ∷ []) ∙ ap (λ x. x + 1) (sym c.len-place.ensures.value) in
+    let number = c.len-number.result in
+    let value : number ≡ length c.args.path.now.items = c.len-number.ensures.value in
+    let size : length c.push_reserved.new.self.items ≡ number + 1 =
+    ap length c.push_reserved.ensures.items ∙ length-append c.args.path.now.items (c.args.step ∷ []) ∙ ap (λ x. x + 1) (sym c.len-number.ensures.value) in
     λ i q i_in near.
     c.round_from-answered.ensures.kept i q (omega (arith, size, value)) near ∙ c.step_into.ensures.others i q near (λ e. omega (arith, value))
 
 pub step_answered-returns-then-step_into-clause-kept : goal.step_answered-returns-then-step_into-clause-kept
 step_answered-returns-then-step_into-clause-kept g t c =
-    let value : c.len-place.result ≡ length c.args.path.now.items = c.len-place.ensures.value in
+    let value : c.len-number.result ≡ length c.args.path.now.items = c.len-number.ensures.value in
     λ i q i_in near. c.step_into.ensures.others i q near (λ e. omega (arith, value))
 
 pub step_answered-returns-then-moves-eq0-clause-kept : goal.step_answered-returns-then-moves-eq0-clause-kept
 step_answered-returns-then-moves-eq0-clause-kept g t c =
-    let value : c.len-place.result ≡ length c.args.path.now.items = c.len-place.ensures.value in
+    let value : c.len-number.result ≡ length c.args.path.now.items = c.len-number.ensures.value in
     λ i q i_in near. c.step_into.ensures.others i q near (λ e. omega (arith, value))
 
 pub step_answered-step_into-requires-clause-states : goal.step_answered-step_into-requires-clause-states

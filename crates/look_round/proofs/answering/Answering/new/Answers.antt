@@ -1,7 +1,7 @@
 use Rattle.std.proofs.Common.{◌≡◌, ◌+◌, ◌/◌, inl, inr, sym, ◌∙◌, subst, arith}
 use Rattle.std.proofs.lemmas.Bool.{cases_eq}
 use Rattle.auto_core.specs.Game.{Holds}
-use Rattle.look_round.specs.Answering.{AreAnswersTo}
+use Rattle.look_round.specs.Answering.{IsRowOfAnswers}
 use Rattle.look_round.specs.ReplyLists.{AreReplyLists}
 use Rattle.look_round.proofs.AnsweringLemmas.{answers_kept}
 use Rattle.look_round.proofs.answering.Answering.new.Goals as goal
@@ -31,7 +31,7 @@ loop-t-preserved g c =
       e.width ∙ h.0,
       omega arith,
       λ p p_in p_kept. elim (cases_eq p c.loop-t.t) [
-        | inl same ↦ subst (λ x. AreAnswersTo M ok W c.refresh.new.self x) (sym same) (e.here (omega arith))
+        | inl same ↦ subst (λ x. IsRowOfAnswers M ok W c.refresh.new.self x) (sym same) (e.here (omega arith))
         | inr apart ↦ answers_kept M ok W c.loop-t.made c.refresh.new.self p e.labels e.width (λ x x_in. e.others p x x_in apart) (h.2 p (omega arith) (omega arith))
       ],
       subst (AreReplyLists M ok c.args.automaton.now.states) (sym e.lists) h.3,

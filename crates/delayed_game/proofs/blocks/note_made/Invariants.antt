@@ -1,5 +1,0 @@
-use Rattle.delayed_game.proofs.BlockLemmas.{AreRowsNoted}
-use Rattle.delayed_game.proofs.blocks.note_made.Given as goal
-
-abbrev pub invariant-loop-number : goal.invariant-loop-number
-invariant-loop-number l = AreRowsNoted l.places l.fn.answered l.answered l.made l.width l.label l.block l.number
