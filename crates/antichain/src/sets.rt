@@ -1,6 +1,6 @@
 //! The sets that letters lead to, remembered: many elements have one set.
 
-ghost use Rattle.std.specs.Prelude.{◌≡◌, ◌<◌, ◌^◌, ◌⊎◌, ◌↔◌, ℕ, List, [], length, IsTrue, IfOk, IfSome};
+ghost use Rattle.std.specs.Prelude.{◌≡◌, ◌<◌, ◌^◌, ◌⊎◌, ℕ, List, [], length, IfOk, IfSome};
 ghost use Rattle.auto_core.specs.Automaton.{Automaton};
 ghost use Rattle.set_rows.specs.Sets.{IsRow};
 ghost use Rattle.antichain.specs.Made.{IsMade, AreMade, IsRemembered, HasRemembered};
@@ -8,6 +8,7 @@ ghost use Rattle.antichain.specs.Made.{IsMade, AreMade, IsRemembered, HasRemembe
 use crate::candidates::below;
 use auto_core::{Auto, Memory, rows};
 use bit_rel::Rel;
+use row_steps::are_equal;
 use set_rows::write_after;
 use std::alloc::Global;
 
@@ -52,13 +53,6 @@ fn make(alloc: Global, second: &Auto, order: &Rel, label: u32, from: &[u64]) -> 
     })
 }
 
-/// Tells whether both rows are the same.
-fn is_same(row: &[u64], other: &[u64]) -> bool
-    ensures { IsTrue result ↔ row.now ≡ other.now }
-{
-    row == other
-}
-
 /// The place for what the letter leads to from the set.
 fn place_of(label: u32, from: &[u64]) -> usize {
     let mut mixed = label as u64;
@@ -92,7 +86,7 @@ impl Sets {
             return None;
         }
         let made = &self.made[number as usize];
-        if made.label == label && is_same(&made.from, from) {
+        if made.label == label && are_equal(&made.from, from) {
             return Some(number);
         }
         None

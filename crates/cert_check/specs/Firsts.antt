@@ -1,17 +1,16 @@
 -- For each graph the number of the first one with the same block.
 use Rattle.std.specs.Prelude.{◌≡◌, ℕ, ◌<◌, ◌↔◌, ◌⊎◌, List, length, slice_index_or, Option, Some}
 use Rattle.std.specs.Borrow.{Bor}
-use Rattle.std.specs.BTreeMap.{BTreeMap, get_by}
-use Rattle.std.specs.Cmp.Lexicographic.{slice_cmp}
-use Rattle.std.specs.Ordering.{nat_cmp}
+use Rattle.std.specs.HashMap.{HashMap, get_by}
+use Rattle.std.specs.Str.{bytes_eq}
 use Rattle.shared_graphs.specs.Graphs.{block_at}
 
 -- The number that the block is known by.
-abbrev pub known_by : BTreeMap (Bor (List ℕ)) ℕ → List ℕ → Option ℕ
-known_by known block = get_by (λ key. slice_cmp nat_cmp block key.now) known
+abbrev pub known_by : {S : Type 0} → HashMap (Bor (List ℕ)) ℕ S → List ℕ → Option ℕ
+known_by known block = get_by (λ key. bytes_eq block key.now) known
 
 -- The block is known by the first number, and others as before; if it was not known, that is the new number.
-pub record IsBlockKnown (old new : BTreeMap (Bor (List ℕ)) ℕ) (block : List ℕ) (number first : ℕ) : Type 0 where
+pub record IsBlockKnown {S : Type 0} (old new : HashMap (Bor (List ℕ)) ℕ S) (block : List ℕ) (number first : ℕ) : Type 0 where
   pub here : known_by new block ≡ Some first
   pub stay : (b : List ℕ) (k : ℕ) → known_by old b ≡ Some k → known_by new b ≡ Some k
   pub only : (b : List ℕ) (k : ℕ) → known_by new b ≡ Some k → (known_by old b ≡ Some k) ⊎ ((b ≡ block) × (k ≡ number))

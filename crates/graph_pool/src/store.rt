@@ -1,8 +1,9 @@
 //! Blocks of one size, numbered from 0, in chunks of 64.
-ghost use Rattle.std.specs.Prelude.{◌≡◌, ◌≢◌, ◌+◌, ◌<◌, ◌++◌, ◌-◌, ℕ, List, [], length, get_or, slice_set, replicate, take, OnErr, OnOk};
+ghost use Rattle.std.specs.Prelude.{◌≡◌, ◌≢◌, ◌+◌, ◌<◌, ◌++◌, ◌-◌, ℕ, List, [], length, get_or, slice_set, replicate, take, IfOk, OnErr, OnOk};
 ghost use Rattle.std.specs.Borrow.{sem};
 ghost use Rattle.graph_pool.specs.BlockList.{BlockList, with_block};
 ghost use Rattle.graph_pool.specs.Chunks.{IsChunk};
+ghost use Rattle.graph_pool.specs.Laid.{AreZeros};
 ghost use Rattle.graph_pool.specs.Segments.{EndsAt};
 ghost use Rattle.graph_pool.specs.StoreLends.{LendsBlock};
 
@@ -21,11 +22,12 @@ struct Chunk {
     lease: Lease<u64, Global>,
 }
 
-/// Blocks of `size` words.
+/// Blocks of `size` words, and the words of a new chunk, once there was one.
 pub(crate) struct Store {
     size: usize,
     chunks: Vec<Chunk>,
     segments: Segments,
+    zeros: Vec<u64>,
     alloc: Global,
 }
 
@@ -43,6 +45,18 @@ impl Model for Store {
     ghost invariant = { IsStore };
 }
 
+/// Makes so many zeros, if they are not there yet.
+fn fill(alloc: Global, zeros: &mut Vec<u64>, count: usize) -> Result<(), Memory>
+    requires { AreZeros count zeros.old.items }
+    ensures filled { IfOk result (λ _. zeros.new.items ≡ replicate count 0) }
+    ensures refused { OnErr result (zeros.new ≡ zeros.old) }
+{
+    if zeros.len() == 0 {
+        *zeros = Vec::from_elem(alloc, 0, count)?;
+    }
+    Ok(())
+}
+
 impl Store {
     /// No blocks yet, each to have `size` words.
     pub(crate) fn new(alloc: Global, size: usize) -> Store
@@ -53,6 +67,7 @@ impl Store {
             size,
             chunks: Vec::new(alloc),
             segments: Segments::new(),
+            zeros: Vec::new(alloc),
             alloc,
         }
     }
@@ -132,9 +147,9 @@ impl Store {
             return Err(Memory);
         }
         self.chunks.reserve(1)?;
-        let zeros = Vec::from_elem(self.alloc, 0, CHUNK * self.size)?;
-        let (mut words, lease) = unsafe { reserve(&self.alloc, zeros.as_slice()) }?;
-        words.copy_in(0, zeros.as_slice());
+        fill(self.alloc, &mut self.zeros, CHUNK * self.size)?;
+        let (mut words, lease) = unsafe { reserve(&self.alloc, self.zeros.as_slice()) }?;
+        words.copy_in(0, self.zeros.as_slice());
         let start = self.segments.take_in(words, self.size, CHUNK);
         self.chunks.push_reserved(Chunk { start, lease });
         Ok(())
@@ -147,6 +162,7 @@ impl Drop for Store {
             size,
             mut chunks,
             mut segments,
+            zeros: _,
             alloc,
         } = self;
         while let Some(chunk) = chunks.pop() {

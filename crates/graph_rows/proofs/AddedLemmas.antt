@@ -1,6 +1,6 @@
 -- Columns added to a row, one addition after another, and row after row.
-use Rattle.std.proofs.Common.{◌≡◌, ℕ, ◌+◌, ◌*◌, ◌<◌, ◌≤◌, ◌↔◌, ◌⊎◌, ◌||◌, inl, inr, List, refl, sym, ◌∙◌, subst, arith}
-use Rattle.std.proofs.lemmas.Bool.{cases_eq, or_cases, or_left, or_right}
+use Rattle.std.proofs.Common.{◌≡◌, ℕ, ◌+◌, ◌*◌, ◌<◌, ◌≤◌, ◌↔◌, ◌⊎◌, ◌||◌, inl, inr, false, List, refl, sym, ◌∙◌, subst, arith}
+use Rattle.std.proofs.lemmas.Bool.{cases_eq, cases_lt, false≢true, or_cases, or_left, or_right}
 use Rattle.auto_core.specs.Automaton.{Automaton, Moves, IsSuccessors, trans_at}
 use Rattle.auto_core.proofs.MoveLemmas.{successor_moves, moves_in_successors}
 use Rattle.auto_core.specs.Rows.{HasBit, bit_of, cell_of}
@@ -117,3 +117,28 @@ added_row width row P bits old new marks here others = record {
   );
   others = others;
 }
+
+-- What was added to an empty row of one table, added to the row of another one by its bits.
+pub row_taken :
+    (width row : ℕ) (P : ℕ → Type 0) (old new bits from to : List ℕ)
+    → ((q : ℕ) → q < width * 64 → cell_of old width row q ≡ false)
+    → ((q : ℕ) → P q → q < width * 64)
+    → HasAdded width row P old new
+    → ((q : ℕ) → q < width * 64 → bit_of bits q ≡ cell_of new width row q)
+    → ((q : ℕ) → width * 64 ≤ q → bit_of bits q ≡ false)
+    → ((q : ℕ) → q < width * 64 → cell_of to width row q ≡ (cell_of from width row q || bit_of bits q))
+    → ((r q : ℕ) → q < width * 64 → ¬ (r ≡ row) → cell_of to width r q ≡ cell_of from width r q)
+    → HasAdded width row P from to
+row_taken width row P old new bits from to empty near added inside outside here others = added_row width row P bits from to marks here others
+  where
+    marks : (q : ℕ) → HasBit bits q ↔ P q
+    marks q = (
+      λ bit. elim (cases_lt q (width * 64)) [
+        | inl low ↦ elim ((added.here q low).0 (sym (inside q low) ∙ bit)) [
+          | inl was ↦ absurd (false≢true (sym (empty q low) ∙ was))
+          | inr one ↦ one
+        ]
+        | inr far ↦ absurd (false≢true (sym (outside q far) ∙ bit))
+      ],
+      λ one. inside q (near q one) ∙ (added.here q (near q one)).1 (inr one),
+    )

@@ -1,12 +1,13 @@
 -- Rows with a bit in common, and covering word by word.
-use Rattle.std.proofs.Common.{◌≡◌, ℕ, ◌+◌, ◌-◌, ◌*◌, ◌^◌, ◌/◌, ◌%◌, ◌==◌, ◌&&◌, ◌<◌, ◌↔◌, ◌⊎◌, inl, inr, Bool, true, false, List, [], ◌∷◌, get_or, bit_and, min, refl, sym, ap, ◌∙◌, subst, arith, w64}
+use Rattle.std.proofs.Common.{◌≡◌, ℕ, ◌+◌, ◌-◌, ◌*◌, ◌^◌, ◌/◌, ◌%◌, ◌==◌, ◌&&◌, ◌<◌, ◌↔◌, ◌⊎◌, inl, inr, Bool, true, false, List, [], ◌∷◌, ◌||◌, get_or, bit_and, bit_or, min, refl, sym, ap, ◌∙◌, subst, arith, w64}
 use Rattle.std.specs.Int.{bit_at, bit_not}
-use Rattle.std.proofs.lemmas.Bool.{cases_lt, cases_Bool, false≢true}
+use Rattle.std.proofs.lemmas.Bool.{cases_eq, cases_lt, cases_Bool, or_cases, or_left, or_right, false≢true}
 use Rattle.std.proofs.lemmas.Bool.Decides.{nat_tests}
 use Rattle.std.proofs.lemmas.Nat.Bits.{bit_at_and, bit_at_not, bit_at-lt}
 use Rattle.std.specs.Int.Bits.{and_lt}
-use Rattle.auto_core.specs.Rows.{HasBit, bit_of}
-use Rattle.auto_core.proofs.BitLemmas.{bit_past}
+use Rattle.auto_core.specs.Rows.{HasBit, HasCell, bit_of, cell_of}
+use Rattle.auto_core.proofs.BitLemmas.{bit_or_tests, bit_past}
+use Rattle.auto_core.proofs.CellLemmas.{cell_at}
 use Rattle.row_steps.proofs.WordLemmas.{bit_and_tests}
 use Rattle.graph_rows.specs.Covering.{IsTargetAnswered, AreOwnAnswers}
 
@@ -113,3 +114,37 @@ word_answered S targets others word themselves fits own_fits own rest t in_word 
       | inr (other, itself) ↦ (word * 64 + j, bit_in_row others word j other, own j itself)
     ] in
     subst (λ k. IsTargetAnswered S (HasBit others) k) (sym is) answer
+
+-- The targets of one row more.
+module _ (table : List ℕ) (width word row targets j : ℕ) (j_in : j < 64) where
+  of_word : HasCell table width row (word * 64 + j) ↔ HasBit (get_or table (row * width + word) 0 ∷ []) j
+  of_word =
+      let at : (word * 64 + j) / 64 ≡ word = omega arith in
+      let bit_is : (word * 64 + j) % 64 ≡ j % 64 = omega arith in
+      let same : cell_of table width row (word * 64 + j) ≡ bit_of (get_or table (row * width + word) 0 ∷ []) j =
+      cell_at table width row (word * 64 + j)
+      ∙ (ap (λ k. bit_at (get_or table (row * width + k) 0) ((word * 64 + j) % 64) == 1) at
+      ∙ (ap (λ k. bit_at (get_or table (row * width + word) 0) k == 1) bit_is
+      ∙ sym (single (get_or table (row * width + word) 0) j (omega arith)))) in
+      (λ cell. sym same ∙ cell, λ bit. same ∙ bit)
+
+  pub targets_more :
+      HasBit (targets ∷ []) j ↔ ((s : ℕ) × (s < row) × HasCell table width s (word * 64 + j))
+      → HasBit (bit_or targets (get_or table (row * width + word) 0) ∷ []) j ↔ ((s : ℕ) × (s < row + 1) × HasCell table width s (word * 64 + j))
+  targets_more before =
+      let more : ℕ = get_or table (row * width + word) 0 in
+      let e : j / 64 ≡ 0 = omega arith in
+      let told : bit_of (bit_or targets more ∷ []) j ≡ (bit_of (targets ∷ []) j || bit_of (more ∷ []) j) =
+      single (bit_or targets more) j e
+      ∙ (bit_or_tests targets more (j % 64) ∙ sym (ap (λ b. b || bit_of (more ∷ []) j) (single targets j e) ∙ ap (λ b. (bit_at targets (j % 64) == 1) || b) (single more j e))) in (
+        λ bit.
+            elim (or_cases (bit_of (targets ∷ []) j) (bit_of (more ∷ []) j) (sym told ∙ bit)) [
+              | inl old ↦ let (s, s_in, cell) = before.0 old in (s, omega (arith, s_in), cell)
+              | inr new ↦ (row, omega arith, of_word.1 new)
+            ],
+        λ (s, s_in, cell).
+            elim (cases_eq s row) [
+              | inl here ↦ told ∙ or_right (bit_of (targets ∷ []) j) (bit_of (more ∷ []) j) (of_word.0 (subst (λ k. HasCell table width k (word * 64 + j)) here cell))
+              | inr other ↦ told ∙ or_left (bit_of (targets ∷ []) j) (bit_of (more ∷ []) j) (before.1 (s, omega (arith, s_in, other), cell))
+            ],
+      )

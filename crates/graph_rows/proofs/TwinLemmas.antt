@@ -1,12 +1,12 @@
 -- Rows of a table that are the same, and what extends them.
-use Rattle.std.proofs.Common.{◌≡◌, ℕ, ◌+◌, ◌*◌, ◌/◌, ◌%◌, ◌<◌, ◌≤◌, ◌↔◌, ◌==◌, inl, inr, List, get_or, sym, ap, ◌∙◌, arith}
+use Rattle.std.proofs.Common.{◌≡◌, ℕ, ◌+◌, ◌*◌, ◌/◌, ◌%◌, ◌<◌, ◌≤◌, ◌↔◌, ◌==◌, inl, inr, false, List, get_or, sym, ap, ◌∙◌, arith}
 use Rattle.std.specs.Int.{bit_at}
 use Rattle.std.proofs.lemmas.Bool.{false≢true}
 use Rattle.std.proofs.lemmas.Nat.{row_fits}
 use Rattle.auto_core.specs.Automaton.{Automaton}
 use Rattle.auto_core.specs.Rows.{cell_of}
 use Rattle.auto_core.specs.Reach.{HasArc}
-use Rattle.auto_core.specs.Graph.{extended, graph_of_tables}
+use Rattle.auto_core.specs.Graph.{IsGraph, extended, graph_of_tables}
 use Rattle.auto_core.proofs.CellLemmas.{cell_at}
 use Rattle.graph_rows.specs.Added.{HasAdded}
 use Rattle.graph_rows.proofs.RowsLemmas.{HasRows}
@@ -98,3 +98,25 @@ module _ (A : Automaton) (joined past : List ℕ) (w a p o : ℕ) (room : A.stat
       → (extended A (graph_of_tables joined past A.states w) a).past o q ↔ (extended A (graph_of_tables joined past A.states w) a).past p q
   twin_past same same_past q =
       (past_moves o p p_in (λ k k_in. sym (same k k_in)) (λ k k_in. sym (same_past k k_in)) q, past_moves p o o_in same same_past q)
+
+-- A state without arcs has none that go on.
+pub none_joined :
+    (A : Automaton) (joined past : List ℕ) (w a p : ℕ)
+    → A.states ≤ w * 64
+    → ((q : ℕ) → q < w * 64 → cell_of joined w p q ≡ false)
+    → (q : ℕ)
+    → (extended A (graph_of_tables joined past A.states w) a).joined p q
+    → ⊥
+none_joined A joined past w a p room empty q (m, (p_in, m_in, cell), move) = false≢true (sym (empty m (omega (arith, room, m_in))) ∙ cell)
+
+pub none_past :
+    (A : Automaton) (joined past : List ℕ) (w a p : ℕ)
+    → A.states ≤ w * 64
+    → IsGraph (graph_of_tables joined past A.states w)
+    → ((q : ℕ) → q < w * 64 → cell_of joined w p q ≡ false)
+    → (q : ℕ)
+    → (extended A (graph_of_tables joined past A.states w) a).past p q
+    → ⊥
+none_past A joined past w a p room within empty q (m, move, way) =
+    let arc : HasArc joined A.states w p m = elim way [ inl one ↦ within p m one | inr both ↦ both.0 ] in
+    none_joined A joined past w a p room empty q (m, arc, move)

@@ -1,5 +1,5 @@
 -- What is added to one row of a table, and joined over the places that have a mark.
-use Rattle.std.specs.Prelude.{◌≡◌, ℕ, ◌+◌, ◌*◌, ◌<◌, ◌↔◌, ◌⊎◌, Bool, false, List}
+use Rattle.std.specs.Prelude.{◌≡◌, ℕ, ◌+◌, ◌*◌, ◌<◌, ◌↔◌, ◌⊎◌, List}
 use Rattle.auto_core.specs.Rows.{HasBit, HasCell, cell_of}
 
 -- The row has, besides its old bits, those of the columns of P; the other rows are as they were.
@@ -14,7 +14,3 @@ FollowsFrom From R q = (m : ℕ) × From m × R m q
 -- So many bits of the words say, from the column on, what R leads to from the places that have the mark.
 abbrev pub IsUnionOfRows : (ℕ → Type 0) → (ℕ → ℕ → Type 0) → ℕ → ℕ → List ℕ → Type 0
 IsUnionOfRows From R column len words = (i : ℕ) → i < len → HasBit words i ↔ FollowsFrom From R (column + i)
-
--- The places that have the mark and no bit in the row.
-abbrev pub IsUnmarked : (ℕ → Type 0) → (ℕ → Bool) → ℕ → Type 0
-IsUnmarked From bit m = From m × (bit m ≡ false)

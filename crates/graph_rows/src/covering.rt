@@ -122,28 +122,45 @@ fn answers_itself(order: &Rel, state: u64) -> bool
     state < order.size() as u64 && order.get(state as u32, state as u32)
 }
 
-/// Sets the bits of the states of the word that the order relates to themselves.
-fn mark_own_answers(order: &Rel, word: usize, row: &mut [u64])
+/// The states of the word with this number, 64 states to a word, that arcs of the table lead to: bit `j` stands for the state
+/// `64 * word + j`.
+pub fn targets_in(width: usize, word: usize, count: u32, table: &[u64]) -> u64
+    requires word { word < width }
+    requires table { IsTable table.now count width }
+    ensures { (j : ℕ) → j < 64 → HasBit (result ∷ []) j ↔ ((s : ℕ) × HasArc table.now count width s (word * 64 + j)) }
+{
+    let mut targets = 0;
+    for row in 0..count as usize {
+        targets |= table[row * width + word];
+    }
+    targets
+}
+
+/// Sets the bits of those of the states of the word that the order relates to themselves.
+fn mark_own_answers(order: &Rel, word: usize, states: u64, row: &mut [u64])
     requires word { word < 2 ^ 32 }
     requires states_fit { order.now.size < 2 ^ 32 }
     requires none { row.old ≡ 0 ∷ [] }
     ensures { (x : ℕ) → row.new ≡ x ∷ [] → AreOwnAnswers (Holds order.now.pairs) word x }
 {
+    let asked = [states];
     for j in 0..64 {
-        if answers_itself(order, word as u64 * 64 + j as u64) {
-            rows::set_bit(row, j);
+        if rows::has_bit(&asked, j) {
+            if answers_itself(order, word as u64 * 64 + j as u64) {
+                rows::set_bit(row, j);
+            }
         }
     }
 }
 
-/// The states of the word that the order relates to themselves: an arc to one of them answers itself.
-fn own_answers(order: &Rel, word: usize) -> u64
+/// Those of the states of the word that the order relates to themselves: an arc to one of them answers itself.
+fn own_answers(order: &Rel, word: usize, states: u64) -> u64
     requires word { word < 2 ^ 32 }
     requires states_fit { order.now.size < 2 ^ 32 }
     ensures { AreOwnAnswers (Holds order.now.pairs) word result }
 {
     let mut row = [0];
-    mark_own_answers(order, word, &mut row);
+    mark_own_answers(order, word, states, &mut row);
     row[0]
 }
 
@@ -156,7 +173,7 @@ fn is_word_answered(order: &Rel, width: usize, word: usize, own: &[u64], others:
     requires others { IsTable others.now order.now.size width }
     ensures { IsTrue result ↔ AnswersWord (Holds order.now.pairs) (HasArc own.now order.now.size width) (HasArc others.now order.now.size width) word }
 {
-    let themselves = own_answers(order, word);
+    let themselves = own_answers(order, word, targets_in(width, word, order.size(), own));
     for row in 0..order.size() {
         let targets = rows::row_at(own, width, row as usize)[word];
         let other_targets = rows::row_at(others, width, row as usize);

@@ -1,12 +1,12 @@
 //! The graph of a letter, and a graph extended by a letter.
 
-ghost use Rattle.std.specs.Prelude.{◌≡◌, ◌+◌, ◌*◌, ◌^◌, ◌<◌, ◌≤◌, ◌⊎◌, ◌↔◌, ℕ, true, length};
+ghost use Rattle.std.specs.Prelude.{◌≡◌, ◌+◌, ◌*◌, ◌^◌, ◌<◌, ◌≤◌, ◌⊎◌, ℕ, true, false, length};
 ghost use Rattle.auto_core.specs.Automaton.{Moves, IsAccepting};
 ghost use Rattle.auto_core.specs.Rows.{HasBit, cell_of};
 ghost use Rattle.auto_core.specs.Reach.{IsTable, HasArc};
 ghost use Rattle.auto_core.specs.Graph.{IsGraph, SameGraph, graph_of_tables, letter_graph, extended};
 ghost use Rattle.graph_rows.specs.Block.{width_of, block_graph, IsFormed};
-ghost use Rattle.graph_rows.specs.Added.{HasAdded, FollowsFrom, IsUnmarked};
+ghost use Rattle.graph_rows.specs.Added.{HasAdded};
 
 use crate::block;
 use crate::unions::add_union;
@@ -65,35 +65,6 @@ pub(crate) fn add_moves(
     }
 }
 
-/// Joins the state of the row to each state that a move with the label leads to from `from`, by the graph of the letter; past an
-/// accepting state if the target is one.
-fn add_step(
-    automaton: &Auto,
-    label: u32,
-    from: u32,
-    width: usize,
-    row: u32,
-    letter_joined: &[u64],
-    letter_past: &[u64],
-    joined: &mut [u64],
-    past: &mut [u64],
-)
-    requires is_state { from < automaton.now.states }
-    requires is_row { row < automaton.now.states }
-    requires letter_joined { IsTable letter_joined.now automaton.now.states width }
-    requires letter_past { IsTable letter_past.now automaton.now.states width }
-    requires letter { SameGraph (graph_of_tables letter_joined.now letter_past.now automaton.now.states width) (letter_graph automaton.now label) }
-    requires joined_len { length joined.old ≡ automaton.now.states * width }
-    requires past_len { length past.old ≡ automaton.now.states * width }
-    ensures joined { HasAdded width row (λ q. Moves automaton.now from label q) joined.old joined.new }
-    ensures past { HasAdded width row (λ q. Moves automaton.now from label q × IsAccepting automaton.now q) past.old past.new }
-{
-    let moves = rows::row_at(letter_joined, width, from as usize);
-    rows::or_row(joined, width, row as usize, moves);
-    let marked = rows::row_at(letter_past, width, from as usize);
-    rows::or_row(past, width, row as usize, marked);
-}
-
 /// Tells whether the second row, of the same length, has all bits of the first.
 fn are_within(row: &[u64], other: &[u64]) -> bool
     requires equal { length row.now ≡ length other.now }
@@ -106,57 +77,8 @@ fn are_within(row: &[u64], other: &[u64]) -> bool
     }
 }
 
-/// Extends by the moves with the label those arcs out of the state of the row that do not pass an accepting state.
-fn add_unmarked(
-    automaton: &Auto,
-    label: u32,
-    width: usize,
-    row: u32,
-    from_joined: &[u64],
-    from_past: &[u64],
-    letter_joined: &[u64],
-    letter_past: &[u64],
-    joined: &mut [u64],
-    past: &mut [u64],
-)
-    requires few { width < 2 ^ 32 }
-    requires states_fit { automaton.now.states < 2 ^ 32 }
-    requires is_row { row < automaton.now.states }
-    requires from_joined { IsTable from_joined.now automaton.now.states width }
-    requires from_past { IsTable from_past.now automaton.now.states width }
-    requires letter_joined { IsTable letter_joined.now automaton.now.states width }
-    requires letter_past { IsTable letter_past.now automaton.now.states width }
-    requires letter { SameGraph (graph_of_tables letter_joined.now letter_past.now automaton.now.states width) (letter_graph automaton.now label) }
-    requires joined_len { length joined.old ≡ automaton.now.states * width }
-    requires past_len { length past.old ≡ automaton.now.states * width }
-    ensures joined { HasAdded width row
-        (FollowsFrom (IsUnmarked (HasArc from_joined.now automaton.now.states width row) (cell_of from_past.now width row)) (λ m q. Moves automaton.now m label q))
-        joined.old joined.new }
-    ensures past { HasAdded width row
-        (FollowsFrom (IsUnmarked (HasArc from_joined.now automaton.now.states width row) (cell_of from_past.now width row)) (λ m q. Moves automaton.now m label q × IsAccepting automaton.now q))
-        past.old past.new }
-{
-    let reached = rows::row_at(from_joined, width, row as usize);
-    let mut at = 0;
-    while let Some(middle) = next_bit(reached, at) {
-        if !rows::has_cell(from_past, width, row as usize, middle) {
-            add_step(
-                automaton,
-                label,
-                middle as u32,
-                width,
-                row,
-                letter_joined,
-                letter_past,
-                joined,
-                past,
-            );
-        }
-        at = middle + 1;
-    }
-}
-
-/// Extends the arcs out of the state of the row by the moves with the label: first those past an accepting state, then the others.
+/// Extends the arcs out of the state of the row, which is empty, by the moves with the label: those past an accepting state by all moves in
+/// both tables, then, where there are others, all in the first and by the moves to accepting states in the second.
 fn add_row(
     automaton: &Auto,
     label: u32,
@@ -180,27 +102,24 @@ fn add_row(
     requires within { IsGraph (graph_of_tables from_joined.now from_past.now automaton.now.states width) }
     requires joined_len { length joined.old ≡ automaton.now.states * width }
     requires past_len { length past.old ≡ automaton.now.states * width }
+    requires empty { (q : ℕ) → q < width * 64 → cell_of past.old width row q ≡ false }
     ensures joined { HasAdded width row ((extended automaton.now (graph_of_tables from_joined.now from_past.now automaton.now.states width) label).joined row) joined.old joined.new }
     ensures past { HasAdded width row ((extended automaton.now (graph_of_tables from_joined.now from_past.now automaton.now.states width) label).past row) past.old past.new }
 {
     let states = automaton.states();
+    let reached = rows::row_at(from_joined, width, row as usize);
     let marked = rows::row_at(from_past, width, row as usize);
-    add_union(letter_joined, states, width, marked, row, joined, past);
-    if are_within(rows::row_at(from_joined, width, row as usize), marked) {
-        return;
-    }
-    add_unmarked(
-        automaton,
-        label,
-        width,
-        row,
-        from_joined,
-        from_past,
-        letter_joined,
-        letter_past,
+    add_union(letter_joined, states, width, marked, row, past);
+    rows::or_row(
         joined,
-        past,
+        width,
+        row as usize,
+        rows::row_at(past, width, row as usize),
     );
+    if !are_within(reached, marked) {
+        add_union(letter_joined, states, width, reached, row, joined);
+        add_union(letter_past, states, width, reached, row, past);
+    }
 }
 
 fn write_letter(automaton: &Auto, label: u32, width: usize, joined: &mut [u64], past: &mut [u64])
@@ -216,6 +135,15 @@ fn write_letter(automaton: &Auto, label: u32, width: usize, joined: &mut [u64], 
     for state in 0..automaton.states() {
         add_moves(automaton, label, state, false, width, state, joined, past);
     }
+}
+
+/// Tells whether the row of the table has a bit.
+fn has_arc(table: &[u64], width: usize, row: u32) -> bool
+    requires few { width < 2 ^ 32 }
+    requires row { row * width + width ≤ length table.now }
+    ensures { result ≡ false → (q : ℕ) → q < width * 64 → cell_of table.now width row q ≡ false }
+{
+    next_bit(rows::row_at(table, width, row as usize), 0).is_some()
 }
 
 /// How many places there are for the latest rows that differ.
@@ -245,17 +173,14 @@ fn are_same(table: &[u64], width: usize, row: u32, other: u32) -> bool
     )
 }
 
-/// The state at the place of the row, if it comes before the state of the row and has the same rows in both tables; else the state of
-/// the row.
-fn twin_of(latest: &[u32], joined: &[u64], past: &[u64], width: usize, row: u32) -> u32
-    requires places { length latest.now ≡ 64 }
+/// The other state, if it comes before the state of the row and has the same rows in both tables; else the state of the row.
+fn twin_of(other: u32, joined: &[u64], past: &[u64], width: usize, row: u32) -> u32
     requires joined { row * width + width ≤ length joined.now }
     requires past { row * width + width ≤ length past.now }
     ensures joined { (q : ℕ) → q < width * 64 → cell_of joined.now width row q ≡ cell_of joined.now width result q }
     ensures past { (q : ℕ) → q < width * 64 → cell_of past.now width row q ≡ cell_of past.now width result q }
     ensures most { result ≤ row }
 {
-    let other = latest[place_of(joined, width, row)];
     if other >= row {
         return row;
     }
@@ -308,24 +233,27 @@ fn write_extension(
     rows::clear_row(past);
     let mut latest = [0; PLACES];
     for state in 0..automaton.states() {
-        let other = twin_of(&latest, from_joined, from_past, width, state);
-        if other < state {
-            copy_row(joined, width, other, state);
-            copy_row(past, width, other, state);
-        } else {
-            add_row(
-                automaton,
-                label,
-                width,
-                state,
-                from_joined,
-                from_past,
-                letter_joined,
-                letter_past,
-                joined,
-                past,
-            );
-            latest[place_of(from_joined, width, state)] = state;
+        if has_arc(from_joined, width, state) {
+            let place = place_of(from_joined, width, state);
+            let other = twin_of(latest[place], from_joined, from_past, width, state);
+            if other < state {
+                copy_row(joined, width, other, state);
+                copy_row(past, width, other, state);
+            } else {
+                add_row(
+                    automaton,
+                    label,
+                    width,
+                    state,
+                    from_joined,
+                    from_past,
+                    letter_joined,
+                    letter_past,
+                    joined,
+                    past,
+                );
+                latest[place] = state;
+            }
         }
     }
 }

@@ -11,7 +11,7 @@ mod prints;
 mod unions;
 
 pub use block::{arc, joined, past, same, words_of};
-pub use covering::{answers, covers};
+pub use covering::{answers, covers, targets_in};
 pub use lanes::or_into;
 pub use letters::{extend_by, letter};
 pub use moves::extend;

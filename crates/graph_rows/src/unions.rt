@@ -74,16 +74,14 @@ fn gather<const N: usize>(
     }
 }
 
-/// Adds the rows of the table, joined over the marks, to the row of both other tables, by words for the first half and for the last
-/// one.
+/// Adds the rows of the table, joined over the marks, to the row of the other table, by words for the first half and for the last one.
 fn add_ends<const N: usize>(
     table: &[u64],
     count: u32,
     width: usize,
     marks: &[u64],
     row: u32,
-    joined: &mut [u64],
-    past: &mut [u64],
+    into: &mut [u64],
 )
     requires table { IsTable table.now count width }
     requires few { width < 2 ^ 32 }
@@ -92,18 +90,14 @@ fn add_ends<const N: usize>(
     requires is_row { row < count }
     requires half { N ≤ width }
     requires halves { width ≤ N + N }
-    requires joined_len { length joined.old ≡ count * width }
-    requires past_len { length past.old ≡ count * width }
-    ensures joined { HasAdded width row (FollowsFrom (HasBit marks.now) (HasArc table.now count width)) joined.old joined.new }
-    ensures past { HasAdded width row (FollowsFrom (HasBit marks.now) (HasArc table.now count width)) past.old past.new }
+    requires len { length into.old ≡ count * width }
+    ensures { HasAdded width row (FollowsFrom (HasBit marks.now) (HasArc table.now count width)) into.old into.new }
 {
     let mut low = [0; N];
     let mut high = [0; N];
     gather::<N>(table, count, width, marks, &mut low, &mut high);
-    add_words::<N>(joined, width, row as usize, 0, &low);
-    add_words::<N>(joined, width, row as usize, width - N, &high);
-    add_words::<N>(past, width, row as usize, 0, &low);
-    add_words::<N>(past, width, row as usize, width - N, &high);
+    add_words::<N>(into, width, row as usize, 0, &low);
+    add_words::<N>(into, width, row as usize, width - N, &high);
 }
 
 /// Adds the bits of the other row to the row of the table, by lanes of four words.
@@ -130,60 +124,52 @@ fn add_whole_row(table: &mut [u64], width: usize, row: usize, from: &[u64])
     }
 }
 
-/// Adds the rows of the table to the row of both other tables one after the other, those that the marks stand for.
-fn add_rows(
-    table: &[u64],
-    count: u32,
-    width: usize,
-    marks: &[u64],
-    row: u32,
-    joined: &mut [u64],
-    past: &mut [u64],
-)
+/// Adds the rows of the table to the row of the other table one after the other, those that the marks stand for.
+fn add_rows(table: &[u64], count: u32, width: usize, marks: &[u64], row: u32, into: &mut [u64])
     requires table { IsTable table.now count width }
     requires few { width < 2 ^ 32 }
     requires marks_len { length marks.now ≡ width }
     requires marks_below { MarksBelow marks.now count }
     requires is_row { row < count }
-    requires joined_len { length joined.old ≡ count * width }
-    requires past_len { length past.old ≡ count * width }
-    ensures joined { HasAdded width row (FollowsFrom (HasBit marks.now) (HasArc table.now count width)) joined.old joined.new }
-    ensures past { HasAdded width row (FollowsFrom (HasBit marks.now) (HasArc table.now count width)) past.old past.new }
+    requires len { length into.old ≡ count * width }
+    ensures { HasAdded width row (FollowsFrom (HasBit marks.now) (HasArc table.now count width)) into.old into.new }
 {
     let mut at = 0;
     while let Some(middle) = next_bit(marks, at) {
-        let moves = rows::row_at(table, width, middle);
-        add_whole_row(joined, width, row as usize, moves);
-        add_whole_row(past, width, row as usize, moves);
+        add_whole_row(
+            into,
+            width,
+            row as usize,
+            rows::row_at(table, width, middle),
+        );
         at = middle + 1;
     }
 }
 
-/// Adds the rows of the table, joined over the marks, to the row of both other tables.
+/// Adds the rows of the table, joined over the marks, to the row of the other table.
 pub(crate) fn add_union(
     table: &[u64],
     count: u32,
     width: usize,
     marks: &[u64],
     row: u32,
-    joined: &mut [u64],
-    past: &mut [u64],
+    into: &mut [u64],
 )
     requires table { IsTable table.now count width }
     requires few { width < 2 ^ 32 }
     requires marks_len { length marks.now ≡ width }
     requires marks_below { MarksBelow marks.now count }
     requires is_row { row < count }
-    requires joined_len { length joined.old ≡ count * width }
-    requires past_len { length past.old ≡ count * width }
-    ensures joined { HasAdded width row (FollowsFrom (HasBit marks.now) (HasArc table.now count width)) joined.old joined.new }
-    ensures past { HasAdded width row (FollowsFrom (HasBit marks.now) (HasArc table.now count width)) past.old past.new }
+    requires len { length into.old ≡ count * width }
+    ensures { HasAdded width row (FollowsFrom (HasBit marks.now) (HasArc table.now count width)) into.old into.new }
 {
-    if width < 2 || width > MOST_SHORT {
-        add_rows(table, count, width, marks, row, joined, past);
+    if width == 0 || width > MOST_SHORT {
+        add_rows(table, count, width, marks, row, into);
+    } else if width == 1 {
+        add_ends::<1>(table, count, width, marks, row, into);
     } else if width < 4 {
-        add_ends::<2>(table, count, width, marks, row, joined, past);
+        add_ends::<2>(table, count, width, marks, row, into);
     } else {
-        add_ends::<4>(table, count, width, marks, row, joined, past);
+        add_ends::<4>(table, count, width, marks, row, into);
     }
 }

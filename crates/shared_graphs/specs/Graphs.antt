@@ -30,7 +30,8 @@ pub data Keeping : Type 0 where
   AsTheyAre : Keeping
   MinimisedBy : List (ℕ × ℕ) → Keeping
 
--- The kept graph and the whole one cover each other, and no arc of the kept one is dominated.
+-- The kept graph and the whole one cover each other, and no arc of the kept one is dominated. It need not be a part of the whole one: the kept graph
+-- of a longer word is what is left of the extension of a kept graph, where an arc may have a lesser value than in the graph of the word.
 pub record IsMinimised (S : List (ℕ × ℕ)) (kept whole : words.Graph) : Type 0 where
   pub cover : CoverEachOther (Holds S) whole kept
   pub minimal : IsMinimal (Holds S) kept

@@ -1,8 +1,8 @@
 -- Arcs taken out of a row and put back, and what stays minimal.
-use Rattle.std.proofs.Common.{◌≡◌, ℕ, ◌*◌, ◌<◌, ◌≤◌, ◌↔◌, ◌⊎◌, inl, inr, Bool, true, false, List, ◌++◌, length, take, drop, refl, sym, ap, ◌∙◌, subst, arith}
+use Rattle.std.proofs.Common.{◌≡◌, ℕ, ◌+◌, ◌*◌, ◌<◌, ◌≤◌, ◌↔◌, ◌⊎◌, inl, inr, Bool, true, false, List, ◌++◌, length, take, drop, refl, sym, ap, ◌∙◌, subst, arith}
 use Rattle.std.proofs.Math.Seq.{take-append_seam, drop-append_seam}
-use Rattle.std.proofs.lemmas.Bool.{cases_eq, false≢true}
-use Rattle.auto_core.specs.Rows.{HasCell, cell_of}
+use Rattle.std.proofs.lemmas.Bool.{cases_eq, cases_lt, false≢true}
+use Rattle.auto_core.specs.Rows.{HasBit, HasCell, bit_of, cell_of}
 use Rattle.auto_core.specs.Reach.{HasArc, IsTable}
 use Rattle.auto_core.specs.Graph.{Graph, IsGraph, SameGraph, graph_of_tables}
 use Rattle.graph_laws.proofs.GraphLemmas.{covers_trans, same_refl}
@@ -73,6 +73,40 @@ dominated_before S part whole is s t arc d = record {
   related = d.related;
   value = λ past. (is.past s d.other d.arc).0 (d.value ((is.past s t arc).1 past));
 }
+
+-- ---- bits
+
+-- What holds of the bits below a place holds of those up to the next bit too.
+pub bits_more :
+    (P : ℕ → Type 0) (row : List ℕ) (at bit : ℕ)
+    → ((k : ℕ) → at ≤ k → k < bit → bit_of row k ≡ false)
+    → P bit
+    → ((j : ℕ) → j < at → HasBit row j → P j)
+    → (j : ℕ)
+    → j < bit + 1
+    → HasBit row j
+    → P j
+bits_more P row at bit none here before j below own =
+    elim (cases_eq j bit) [
+      | inl e ↦ subst P (sym e) here
+      | inr n ↦ elim (cases_lt j at) [
+        | inl early ↦ before j early own
+        | inr late ↦ absurd (false≢true (sym (none j late (omega arith)) ∙ own))
+      ]
+    ]
+
+-- What holds of the bits below a place behind which there is none holds of all.
+pub bits_all :
+    (P : ℕ → Type 0) (row : List ℕ) (at : ℕ)
+    → ((k : ℕ) → at ≤ k → bit_of row k ≡ false)
+    → ((j : ℕ) → j < at → HasBit row j → P j)
+    → (j : ℕ)
+    → HasBit row j
+    → P j
+bits_all P row at none before j own = elim (cases_lt j at) [
+  | inl early ↦ before j early own
+  | inr late ↦ absurd (false≢true (sym (none j late) ∙ own))
+]
 
 -- ---- tables
 

@@ -1,9 +1,10 @@
 //! Graphs without the arcs that others of the same row make needless.
 
-ghost use Rattle.std.specs.Prelude.{◌≡◌, ◌+◌, ◌*◌, ◌<◌, ◌≤◌, ◌^◌, ℕ, true, length, IfNone, IfSome};
+ghost use Rattle.std.specs.Prelude.{◌≡◌, ◌+◌, ◌*◌, ◌/◌, ◌<◌, ◌≤◌, ◌^◌, ℕ, [], ◌∷◌, true, length, IfNone, IfSome};
 ghost use Rattle.auto_core.specs.Game.{Holds};
 ghost use Rattle.auto_core.specs.Graph.{IsGraph, graph_of_tables};
 ghost use Rattle.auto_core.specs.Reach.{HasArc, IsTable};
+ghost use Rattle.auto_core.specs.Rows.{HasBit};
 ghost use Rattle.bit_rel.specs.Relation.{IsPreorder};
 ghost use Rattle.graph_rows.specs.Added.{HasAdded};
 ghost use Rattle.graph_rows.specs.Block.{IsFormed, block_graph, width_of};
@@ -11,8 +12,8 @@ ghost use Rattle.supergraph.specs.Minimal.{CoverEachOther, IsDominated, IsLessen
 
 use auto_core::rows;
 use bit_rel::Rel;
-use graph_rows::answers;
-use row_steps::has_no_other;
+use graph_rows::{answers, targets_in};
+use row_steps::{has_no_other, next_bit};
 
 /// Takes the arc to the target out of the row of both tables.
 fn take_out(width: usize, row: u32, target: u32, joined: &mut [u64], past: &mut [u64])
@@ -105,6 +106,58 @@ fn lessen_target(order: &Rel, width: usize, target: u32, joined: &mut [u64], pas
     }
 }
 
+/// Takes the needless arcs to these states of the word, its bits, out of all rows.
+fn lessen_targets(
+    order: &Rel,
+    width: usize,
+    word: usize,
+    targets: u64,
+    joined: &mut [u64],
+    past: &mut [u64],
+)
+    requires order { IsPreorder order.now.size order.now.pairs }
+    requires few { width < 2 ^ 32 }
+    requires width { width ≡ width_of order.now.size }
+    requires joined { IsTable joined.old order.now.size width }
+    requires past { IsTable past.old order.now.size width }
+    requires within { IsGraph (graph_of_tables joined.old past.old order.now.size width) }
+    requires states_fit { order.now.size < 2 ^ 32 }
+    requires states { (j : ℕ) → HasBit (targets ∷ []) j → word * 64 + j < order.now.size }
+    ensures joined { IsTable joined.new order.now.size width }
+    ensures past { IsTable past.new order.now.size width }
+    ensures lessened { IsLessened (Holds order.now.pairs) (graph_of_tables joined.old past.old order.now.size width)
+        (graph_of_tables joined.new past.new order.now.size width) }
+    ensures minimal { (j : ℕ) → HasBit (targets ∷ []) j → (s : ℕ) → HasArc joined.new order.now.size width s (word * 64 + j)
+        → IsDominated (Holds order.now.pairs) (graph_of_tables joined.new past.new order.now.size width) s (word * 64 + j) → ⊥ }
+{
+    let asked = [targets];
+    let mut at = 0;
+    while let Some(bit) = next_bit(&asked, at) {
+        lessen_target(order, width, (word * 64 + bit) as u32, joined, past);
+        at = bit + 1;
+    }
+}
+
+/// Takes the needless arcs to the states of the word out of all rows. Only the states that arcs lead to are looked at.
+fn lessen_word(order: &Rel, width: usize, word: usize, joined: &mut [u64], past: &mut [u64])
+    requires order { IsPreorder order.now.size order.now.pairs }
+    requires few { width < 2 ^ 32 }
+    requires width { width ≡ width_of order.now.size }
+    requires joined { IsTable joined.old order.now.size width }
+    requires past { IsTable past.old order.now.size width }
+    requires within { IsGraph (graph_of_tables joined.old past.old order.now.size width) }
+    requires word { word < width }
+    ensures joined { IsTable joined.new order.now.size width }
+    ensures past { IsTable past.new order.now.size width }
+    ensures lessened { IsLessened (Holds order.now.pairs) (graph_of_tables joined.old past.old order.now.size width)
+        (graph_of_tables joined.new past.new order.now.size width) }
+    ensures minimal { (s t : ℕ) → t / 64 ≡ word → HasArc joined.new order.now.size width s t
+        → IsDominated (Holds order.now.pairs) (graph_of_tables joined.new past.new order.now.size width) s t → ⊥ }
+{
+    let targets = targets_in(width, word, order.size(), joined);
+    lessen_targets(order, width, word, targets, joined, past);
+}
+
 /// Takes the needless arcs out of both tables.
 fn lessen(order: &Rel, width: usize, joined: &mut [u64], past: &mut [u64])
     requires order { IsPreorder order.now.size order.now.pairs }
@@ -118,8 +171,8 @@ fn lessen(order: &Rel, width: usize, joined: &mut [u64], past: &mut [u64])
         (graph_of_tables joined.new past.new order.now.size width) }
     ensures minimal { IsMinimal (Holds order.now.pairs) (graph_of_tables joined.new past.new order.now.size width) }
 {
-    for target in 0..order.size() {
-        lessen_target(order, width, target, joined, past);
+    for word in 0..width {
+        lessen_word(order, width, word, joined, past);
     }
 }
 

@@ -9,8 +9,8 @@ use Rattle.graph_rows.proofs.ArcLemmas.{row_marks}
 use Rattle.graph_rows.proofs.ExtensionLemmas.{Through, through_none, through_more, through_all}
 use Rattle.graph_rows.proofs.unions.add_rows.Goals as goal
 
-pub row_at-moves-requires : goal.row_at-moves-requires
-row_at-moves-requires c =
+pub row_at-requires : goal.row_at-requires
+row_at-requires c =
     let here : HasBit c.args.marks.now c.in-Some.middle = search rules in
     omega (arith, row_fits c.in-Some.middle c.args.width c.args.count c.args.width (c.requires.marks_below c.in-Some.middle here) (omega arith), c.requires.table.len)
 
@@ -19,8 +19,7 @@ loop-middle-init c =
     let w : ℕ = c.args.width in
     let From : ℕ → Type 0 = HasBit c.args.marks.now in
     let R : ℕ → ℕ → Type 0 = HasArc c.args.table.now c.args.count w in (
-      added_none w c.args.row (Through From 0 R) c.args.joined.now (through_none From R),
-      added_none w c.args.row (Through From 0 R) c.args.past.now (through_none From R),
+      added_none w c.args.row (Through From 0 R) c.args.into.now (through_none From R),
       omega arith,
     )
 
@@ -38,33 +37,20 @@ loop-middle-preserved c =
     let none : (k : ℕ) → at ≤ k → k < middle → bit_of c.args.marks.now k ≡ false = search rules in
     let near : middle < w * 64 = search rules in
     let middle_in : middle < n = c.requires.marks_below middle here in
-    let marks = row_marks c.args.table.now c.row_at-moves.result.now n w middle c.requires.table middle_in c.row_at-moves.ensures.bits c.row_at-moves.ensures.outside in
+    let marks = row_marks c.args.table.now c.row_at.result.now n w middle c.requires.table middle_in c.row_at.ensures.bits c.row_at.ensures.outside in
     let free : (k : ℕ) → at ≤ k → k < middle → From k → ⊥ = λ k k_from k_to has. false≢true (sym (none k k_from k_to) ∙ has) in (
-      added_then w row (Through From at R) (R middle) (Through From (middle + 1) R) c.args.joined.now c.loop-middle.joined c.add_whole_row.new.table
+      added_then w row (Through From at R) (R middle) (Through From (middle + 1) R) c.args.into.now c.loop-middle.into c.add_whole_row.new.table
           (λ q q_in. through_more From at middle R (R middle) from here free q (λ h. h, λ h. h))
           c.loop-middle.invariant.0
-          (added_row w row (R middle) c.row_at-moves.result.now c.loop-middle.joined c.add_whole_row.new.table marks c.add_whole_row.ensures.here c.add_whole_row.ensures.others),
-      added_then w row (Through From at R) (R middle) (Through From (middle + 1) R) c.args.past.now c.loop-middle.past c.add_whole_row-in-Some.new.table
-          (λ q q_in. through_more From at middle R (R middle) from here free q (λ h. h, λ h. h))
-          c.loop-middle.invariant.1
-          (added_row w row (R middle) c.row_at-moves.result.now c.loop-middle.past c.add_whole_row-in-Some.new.table marks c.add_whole_row-in-Some.ensures.here c.add_whole_row-in-Some.ensures.others),
+          (added_row w row (R middle) c.row_at.result.now c.loop-middle.into c.add_whole_row.new.table marks c.add_whole_row.ensures.here c.add_whole_row.ensures.others),
       omega arith,
     )
 
-pub returns-clause-joined : goal.returns-clause-joined
-returns-clause-joined c =
+pub returns : goal.returns
+returns c =
     let w : ℕ = c.args.width in
     let From : ℕ → Type 0 = HasBit c.args.marks.now in
     let R : ℕ → ℕ → Type 0 = HasArc c.args.table.now c.args.count w in
     let none : (k : ℕ) → c.loop-middle.at ≤ k → bit_of c.args.marks.now k ≡ false = search rules in
-    added_as w c.args.row (Through From c.loop-middle.at R) (FollowsFrom From R) c.args.joined.now c.loop-middle.joined
+    added_as w c.args.row (Through From c.loop-middle.at R) (FollowsFrom From R) c.args.into.now c.loop-middle.into
     (λ q q_in. through_all From c.loop-middle.at R (λ k k_from has. false≢true (sym (none k k_from) ∙ has)) q) c.loop-middle.invariant.0
-
-pub returns-clause-past : goal.returns-clause-past
-returns-clause-past c =
-    let w : ℕ = c.args.width in
-    let From : ℕ → Type 0 = HasBit c.args.marks.now in
-    let R : ℕ → ℕ → Type 0 = HasArc c.args.table.now c.args.count w in
-    let none : (k : ℕ) → c.loop-middle.at ≤ k → bit_of c.args.marks.now k ≡ false = search rules in
-    added_as w c.args.row (Through From c.loop-middle.at R) (FollowsFrom From R) c.args.past.now c.loop-middle.past
-    (λ q q_in. through_all From c.loop-middle.at R (λ k k_from has. false≢true (sym (none k k_from) ∙ has)) q) c.loop-middle.invariant.1

@@ -7,8 +7,7 @@ use Rattle.graph_rows.proofs.unions.add_rows.Given as goal
 
 abbrev pub invariant-loop-middle : goal.invariant-loop-middle
 invariant-loop-middle l =
-    HasAdded l.width l.row (Through (HasBit l.marks) l.at (HasArc l.table l.count l.width)) l.fn.joined l.joined
-    × HasAdded l.width l.row (Through (HasBit l.marks) l.at (HasArc l.table l.count l.width)) l.fn.past l.past
+    HasAdded l.width l.row (Through (HasBit l.marks) l.at (HasArc l.table l.count l.width)) l.fn.into l.into
     × (l.at ≤ l.width * 64)
 
 abbrev pub decreases-loop-middle : goal.decreases-loop-middle

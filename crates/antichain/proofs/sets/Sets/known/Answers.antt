@@ -3,8 +3,8 @@ use Rattle.antichain.specs.declared.sets.Made.{Made}
 use Rattle.search_laws.proofs.PlaceLemmas.{read_at}
 use Rattle.antichain.proofs.sets.Sets.known.Goals as goal
 
-pub returns-then-is_same : goal.returns-then-is_same
-returns-then-is_same c =
+pub returns-then-are_equal : goal.returns-then-are_equal
+returns-then-are_equal c =
     let made : List Made = c.args.self.now.made.items in
     let number : ℕ = c.index-number.result.now in
     let element : Made = c.index-made.result.now in
@@ -16,5 +16,5 @@ returns-then-is_same c =
       element = element;
       is = read_at made number element element within c.index-made.ensures;
       label_is = c.if-made-label.true;
-      from_is = sym c.deref.ensures.value ∙ c.is_same.ensures.0 c.if-is_same.true;
+      from_is = sym c.deref.ensures.value ∙ c.are_equal.ensures.0 c.if-are_equal.true;
     }

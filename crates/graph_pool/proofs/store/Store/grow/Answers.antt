@@ -1,4 +1,4 @@
-use Rattle.std.proofs.Common.{rules, ◌≡◌, ◌<◌, ◌*◌, ◌∷◌, ◌++◌, ◌^◌, ℕ, List, [], length, replicate, ap, sym, subst, ◌∙◌}
+use Rattle.std.proofs.Common.{rules, inr, ◌≡◌, ◌<◌, ◌*◌, ◌∷◌, ◌++◌, ◌^◌, ℕ, List, [], length, replicate, ap, sym, subst, ◌∙◌}
 use Rattle.std.proofs.lemmas.List.{length-replicate}
 use Rattle.std.proofs.lemmas.List.Elements.{All-replicate}
 use Rattle.core.specs.Mem.Slots.{slots_counts, slots_items}
@@ -9,23 +9,20 @@ use Rattle.graph_pool.specs.declared.store.Chunk.{Chunk}
 use Rattle.graph_pool.proofs.StoreLemmas.{copied, even_parts_zeros, laid_grown, grown_words, words_of}
 use Rattle.graph_pool.proofs.store.Store.grow.Goals as goal
 
--- The zeros, as they were made.
-zeros_made : (c : goal.After-drop-zeros-2) → c.in_ok-zeros.zeros.items ≡ replicate (64 * c.self.inside.size) 0
-zeros_made c = c.in_ok-zeros.ensures.items_if_clones_equal (λ y e. e)
-
-zeros_many : (c : goal.After-drop-zeros-2) → length c.as_slice.result.now ≡ 64 * c.self.inside.size
-zeros_many c = ap (λ (l : List ℕ). length l) (c.as_slice.ensures.value ∙ zeros_made c) ∙ length-replicate {A = ℕ} (64 * c.self.inside.size) 0
+-- What the new chunk is filled with are zeros.
+zeros_made : (c : goal.After-push_reserved) → c.fill.new.zeros.items ≡ replicate (64 * c.self.inside.size) 0
+zeros_made c = search rules
 
 -- The words of the new chunk are zeros.
-words_made : (c : goal.After-drop-zeros-2) → slots_items c.copy_in.new.self ≡ replicate (64 * c.self.inside.size) 0
+words_made : (c : goal.After-push_reserved) → slots_items c.copy_in.new.self ≡ replicate (64 * c.self.inside.size) 0
 words_made c =
-    let like : c.as_slice-2.result.now ≡ c.in_ok-zeros.zeros.items = c.as_slice-2.ensures.value in
+    let like : c.as_slice-2.result.now ≡ c.fill.new.zeros.items = c.as_slice-2.ensures.value in
     let many : length (slots_items c.in_ok-words.words) ≡ length c.as_slice-2.result.now =
     sym (slots_counts c.in_ok-words.words).0 ∙ c.in_ok-words.ensures.0 ∙ ap (λ (l : List ℕ). length l) (c.as_slice.ensures.value ∙ sym like) in
     copied (slots_items c.in_ok-words.words) c.as_slice-2.result.now (slots_items c.copy_in.new.self) c.copy_in.ensures.items many ∙ like ∙ zeros_made c
 
 -- The segments are the old ones and those of the new chunk.
-segments_grown : (c : goal.After-drop-zeros-2)
+segments_grown : (c : goal.After-push_reserved)
     → c.take_in-start.new.self.all ≡ c.self.inside.segments.all ++ segments_from c.take_in-start.result.ptr (c.self.inside.size * 8) (replicate 64 (replicate c.self.inside.size 0))
 segments_grown c =
     let size : ℕ = c.self.inside.size in
@@ -41,12 +38,16 @@ invariant_of-self-2 c =
     let wss : List (List ℕ) = replicate 64 (replicate size 0) in
     let small : 64 * size * 8 < 2 ^ 63 = search rules in
     let is : IsChunk c.self.inside.alloc size chunk =
-    (c.take_in-start.ensures.1, made.1 ∙ sym c.copy_in.ensures.places.start ∙ sym c.take_in-start.ensures.0, made.2 ∙ made.0 ∙ zeros_many c, made.3, small) in
+    (c.take_in-start.ensures.1, made.1 ∙ sym c.copy_in.ensures.places.start ∙ sym c.take_in-start.ensures.0, made.2 ∙ made.0 ∙ ap (λ (l : List ℕ). length l) (c.as_slice.ensures.value ∙ zeros_made c) ∙ length-replicate {A = ℕ} (64 * size) 0, made.3, small) in
     let chunks : c.push_reserved.new.self.items ≡ c.self.inside.chunks.items ++ chunk ∷ [] = c.push_reserved.ensures.items ∙ ap (λ (l : List Chunk). l ++ chunk ∷ []) c.reserve.ensures.items in
-    subst (λ (l : List Chunk). IsLaid c.self.inside.alloc size l c.take_in-start.new.self.all) (sym chunks)
-    (subst (λ (l : List Segment). IsLaid c.self.inside.alloc size (c.self.inside.chunks.items ++ chunk ∷ []) l) (sym (segments_grown c))
-    (laid_grown c.self.inside.alloc size c.self.inside.chunks.items c.self.inside.segments.all chunk wss c.self.invariant is (length-replicate 64 (replicate {A = ℕ} size 0))
-    (All-replicate (λ ws. length ws ≡ size) 64 (replicate size 0) (length-replicate {A = ℕ} size 0))))
+    record {
+      laid =
+          subst (λ (l : List Chunk). IsLaid c.self.inside.alloc size l c.take_in-start.new.self.all) (sym chunks)
+          (subst (λ (l : List Segment). IsLaid c.self.inside.alloc size (c.self.inside.chunks.items ++ chunk ∷ []) l) (sym (segments_grown c))
+          (laid_grown c.self.inside.alloc size c.self.inside.chunks.items c.self.inside.segments.all chunk wss c.self.invariant.laid is (length-replicate 64 (replicate {A = ℕ} size 0))
+          (All-replicate (λ ws. length ws ≡ size) 64 (replicate size 0) (length-replicate {A = ℕ} size 0))));
+      zeros = inr (zeros_made c);
+    }
 
 pub returns-clause-grown : goal.returns-clause-grown
 returns-clause-grown c =
