@@ -1,9 +1,7 @@
 //! Decisions with announced letters on files in memory: the certificate of version 2 that is left, and what a check says of it.
 
-use crate::include_tests::{answers, says};
-use crate::shrink_tests::{holds, shelf_of};
-use crate::tests::check;
-use crate::yes_tests::with_lines;
+use crate::include_tests::decides;
+use crate::yes_tests::{untold, with_lines};
 use std::test::Fail;
 
 const ONE_A: &str = "[0]\na,[0]->[0]\n[0]\n";
@@ -74,53 +72,36 @@ fn decisions_with_letters_write_version_2(rt: HostRuntime) -> Result<(), Fail> {
         ),
     ];
     for (words, first, second, status, printed, certificate) in rows {
-        let mut shelf = shelf_of(alloc, &[("A", first), ("B", second)], &[])?;
-        assert_eq!(rt;
-            says(alloc, words, &mut shelf, &[], printed)?,
-            (status, true)
-        );
-        assert!(rt; holds(alloc, &mut shelf, "C", certificate));
-        assert_eq!(rt;
-            answers(alloc, "check", &mut shelf, &[], printed)?,
-            (status, true)
-        );
+        let told = (status, printed);
+        assert!(rt; decides(alloc, words, first, second, told, Some(certificate))?);
     }
     Ok(())
 }
 
 #[test]
 fn one_changed_line_of_version_2_is_named(rt: HostRuntime) -> Result<(), Fail> {
-    let alloc = rt.alloc();
-    let rows = [
-        (6, "rel 1\n", 8, "", "certificate item 1: rule 5\n"),
-        (
-            4,
-            "merge delayed 5\n",
-            6,
-            "rel 2\n",
-            "certificate line 5: Shape\n",
-        ),
-        (
-            10,
-            "row 0 1 0\n",
-            6,
-            "rel 2\n",
-            "certificate line 11: Order\n",
-        ),
-        (
-            7,
-            "row 0 1 0 1 1 2\n",
-            6,
-            "rel 2\n",
-            "certificate item 1: rule 1\n",
-        ),
-    ];
-    for (place, line, other, new, printed) in rows {
-        let text = with_lines(alloc, &MERGED, &[(place, line), (other, new)])?;
-        assert_eq!(rt;
-            check(alloc, ONE_A, TURNS, text.as_str(), printed)?,
-            (5, true)
-        );
-    }
+    let wrong = untold(
+        rt.alloc(),
+        ONE_A,
+        TURNS,
+        &MERGED,
+        5,
+        &[
+            (&[(6, "rel 1\n"), (8, "")], "certificate item 1: rule 5\n"),
+            (
+                &[(4, "merge delayed 5\n"), (6, "rel 2\n")],
+                "certificate line 5: Shape\n",
+            ),
+            (
+                &[(10, "row 0 1 0\n"), (6, "rel 2\n")],
+                "certificate line 11: Order\n",
+            ),
+            (
+                &[(7, "row 0 1 0 1 1 2\n"), (6, "rel 2\n")],
+                "certificate item 1: rule 1\n",
+            ),
+        ],
+    )?;
+    assert_eq!(rt; wrong, 0);
     Ok(())
 }

@@ -1,8 +1,10 @@
 //! Lists of questions in files in memory: what is printed, and which certificates are left.
 
-use crate::include_tests::says;
-use crate::shrink_tests::{holds, shelf_of};
-use shelf_io::{Failed, Shelf};
+use crate::fault_tests::takes_next;
+use crate::include_tests::{leaves, says};
+use crate::shrink_tests::shelf_of;
+use auto_core::Memory;
+use std::alloc::Global;
 use std::test::Fail;
 
 const ONE_A: &str = "[0]\na,[0]->[0]\n[0]\n";
@@ -11,6 +13,8 @@ const YES: &str =
     "rabit-cert 1 buchi yes\nsizes 1 1 1\nlog1 0\nlog2 0\nrel 1\nrow 0 0\nelements 1\nlive base 0\ncover 0\nstep 0 0\nend\n";
 
 const OLDER: &str = "older";
+
+const BATCH: [&str; 2] = ["batch", "L"];
 
 #[test]
 fn a_question_ends_no_batch_and_a_refused_line_does(rt: HostRuntime) -> Result<(), Fail> {
@@ -34,11 +38,9 @@ fn a_question_ends_no_batch_and_a_refused_line_does(rt: HostRuntime) -> Result<(
             ("D", OLDER),
             ("L", "A A C\nA A D\n"),
         ];
-        let mut shelf = shelf_of(alloc, &files, fails)?;
-        let said = says(alloc, &["batch", "L"], &mut shelf, sink_fails, printed)?;
-        assert_eq!(rt; said, (status, true));
-        assert!(rt; holds(alloc, &mut shelf, "C", certificate));
-        assert!(rt; holds(alloc, &mut shelf, "D", other));
+        let left = [("C", certificate), ("D", other)];
+        let told = (status, printed);
+        assert!(rt; leaves(alloc, &files, fails, &BATCH, sink_fails, told, &left)?);
     }
     Ok(())
 }
@@ -54,12 +56,27 @@ fn lists_of_no_questions_and_of_names_without_files(rt: HostRuntime) -> Result<(
     ];
     for (list, status, printed) in rows {
         let files = [("A", ONE_A), ("D", OLDER), ("L", list)];
-        let mut shelf = shelf_of(alloc, &files, &[])?;
-        let said = says(alloc, &["batch", "L"], &mut shelf, &[], printed)?;
-        assert_eq!(rt; said, (status, true), "{list:?}");
-        assert!(rt; holds(alloc, &mut shelf, "D", OLDER));
+        let told = (status, printed);
+        assert!(rt;
+            leaves(alloc, &files, &[], &BATCH, &[], told, &[("D", OLDER)])?,
+            "{list:?}"
+        );
     }
     Ok(())
+}
+
+/// Whether the batch ends with status 7 and just this text where the sink refuses this call, and the shelf has then still to begin `A` before
+/// the call that it refuses.
+fn stops(
+    alloc: Global,
+    files: &[(&str, &str)],
+    fails: u64,
+    refused: u64,
+    printed: &str,
+) -> Result<bool, Memory> {
+    let mut shelf = shelf_of(alloc, files, &[fails])?;
+    let (status, sent) = says(alloc, &BATCH, &mut shelf, &[refused], printed)?;
+    Ok(status == 7 && sent && takes_next(&mut shelf, "A"))
 }
 
 #[test]
@@ -69,14 +86,7 @@ fn no_file_is_begun_after_a_refused_line(rt: HostRuntime) -> Result<(), Fail> {
     // the list is read in three calls, and each question makes seven; the first `take` of the question after the refused line would fail
     let rows = [(0, 11, ""), (1, 18, "1 0\n")];
     for (refused, fails, printed) in rows {
-        let mut shelf = shelf_of(alloc, &files, &[fails])?;
-        let said = says(alloc, &["batch", "L"], &mut shelf, &[refused], printed)?;
-        assert_eq!(rt; said, (7, true));
-
-        // the call before that `take` was not made: it is the next
-        let mut buf = [0; 4];
-        assert_eq!(rt; shelf.begin("A"), Ok(()));
-        assert_eq!(rt; shelf.take(&mut buf), Err(Failed));
+        assert!(rt; stops(alloc, &files, fails, refused, printed)?);
     }
     Ok(())
 }
@@ -86,8 +96,6 @@ fn a_file_with_a_fault_is_begun_by_each_question(rt: HostRuntime) -> Result<(), 
     let alloc = rt.alloc();
     let files = [("A", "[0]\na,[0]\n"), ("L", "A A C\nA A D\n")];
     // the list and the first question's file are read in three calls each; the second question's begin fails
-    let mut shelf = shelf_of(alloc, &files, &[6])?;
-    let said = says(alloc, &["batch", "L"], &mut shelf, &[], "1 4\n2 6\n")?;
-    assert_eq!(rt; said, (0, true));
+    assert!(rt; leaves(alloc, &files, &[6], &BATCH, &[], (0, "1 4\n2 6\n"), &[])?);
     Ok(())
 }

@@ -1,9 +1,8 @@
 //! The union and the intersection of two automata in files in memory: what they print, and what they leave.
 
 use crate::fault_tests::many_lines;
-use crate::include_tests::says;
-use crate::shrink_tests::holds;
-use crate::tests::{ONLY_B, USAGE, answers, shelf_of};
+use crate::include_tests::leaves;
+use crate::tests::{ONLY_B, USAGE, answers, unanswered};
 use auto_core::Memory;
 use std::alloc::Global;
 use std::test::Fail;
@@ -138,27 +137,26 @@ fn faults_and_limits_of_both_files_are_told(rt: HostRuntime) -> Result<(), Fail>
 fn other_words_and_failing_calls_are_told(rt: HostRuntime) -> Result<(), Fail> {
     let alloc = rt.alloc();
     let files = [("A", ONE_A), ("B", ONLY_B)];
-    let rows: [(&[&str], &[u64], &[u64], &str, u8); 7] = [
-        (&["union", "A"], &[], &[], USAGE, 3),
-        (&["intersect", "A", "B", "A"], &[], &[], USAGE, 3),
-        (&["union", "A", "B", "--look", "2"], &[], &[], USAGE, 3),
-        (
-            &["intersect", "A", "B", "--finite", "--finite"],
-            &[],
-            &[],
-            USAGE,
-            3,
-        ),
-        (&["union", "A", "X"], &[], &[], "read fault\n", 6),
-        (&["union", "A", "B"], &[4], &[], "read fault\n", 6),
-        (&["union", "A", "B"], &[], &[0], "", 7),
-    ];
-    for (words, fails, sink_fails, printed, status) in rows {
-        assert_eq!(rt;
-            answers(alloc, words, &files, fails, sink_fails, printed)?,
-            (status, true)
-        );
-    }
+    let wrong = unanswered(
+        alloc,
+        &files,
+        &[
+            (&["union", "A"], &[], &[], 3, USAGE),
+            (&["intersect", "A", "B", "A"], &[], &[], 3, USAGE),
+            (&["union", "A", "B", "--look", "2"], &[], &[], 3, USAGE),
+            (
+                &["intersect", "A", "B", "--finite", "--finite"],
+                &[],
+                &[],
+                3,
+                USAGE,
+            ),
+            (&["union", "A", "X"], &[], &[], 6, "read fault\n"),
+            (&["union", "A", "B"], &[4], &[], 6, "read fault\n"),
+            (&["union", "A", "B"], &[], &[0], 7, ""),
+        ],
+    )?;
+    assert_eq!(rt; wrong, 0);
     Ok(())
 }
 
@@ -166,13 +164,7 @@ fn other_words_and_failing_calls_are_told(rt: HostRuntime) -> Result<(), Fail> {
 fn both_files_stay(rt: HostRuntime) -> Result<(), Fail> {
     let alloc = rt.alloc();
     let files = [("A", ONE_A), ("B", ONLY_B)];
-    let mut shelf = shelf_of(alloc, &files, &[])?;
-    assert_eq!(rt;
-        says(alloc, &["union", "A", "B"], &mut shelf, &[], A_OR_B)?,
-        (0, true)
-    );
-    for (name, text) in files {
-        assert!(rt; holds(alloc, &mut shelf, name, text));
-    }
+    let words = ["union", "A", "B"];
+    assert!(rt; leaves(alloc, &files, &[], &words, &[], (0, A_OR_B), &files)?);
     Ok(())
 }

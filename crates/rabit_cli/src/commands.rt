@@ -1,10 +1,10 @@
 //! From the question to its files and its reply: one arm a command.
 
-ghost use Rattle.std.specs.Prelude.{◌≡◌, Ok, Some, option_map, IfOk, IfSome, MatchOption};
+ghost use Rattle.std.specs.Prelude.{◌≡◌, ◌≢◌, [], Ok, Some, option_map, IfOk, IfSome, MatchOption};
 ghost use Rattle.rabit_frame.specs.Reading.{AreOfKinds};
 ghost use Rattle.rabit_words.specs.declared.parts.Question.{Question as AQuestion};
 ghost use Rattle.rabit_words.specs.Question.{Batch, told, IsProper};
-ghost use Rattle.rabit_cli.specs.Commands.{asked_by, IsSingle, inputs_of, Means};
+ghost use Rattle.rabit_cli.specs.Commands.{asked_by, IsSingle, inputs_of, outputs_of, Means};
 
 use crate::files::{FIRST_LIMITS, SECOND_LIMITS};
 use crate::including::AskedInclude;
@@ -79,21 +79,18 @@ fn slots_of<'a>(alloc: Global, question: &'a Question) -> Result<List<Slot<'a>>,
     }
 }
 
-/// The reply to what the question's files read as.
-fn reply_to<'a>(
+/// The reply to what the question's files read as, of a command that writes files.
+fn writing_reply<'a>(
     alloc: Global,
     question: &'a Question,
     values: &[Value],
 ) -> Result<Reply<'a>, Memory>
     requires proper { IsProper (told question.now) }
-    requires single { IsSingle (Some (told question.now)) }
+    requires writes { outputs_of (Some (told question.now)) ≢ [] }
     requires kinds { AreOfKinds (inputs_of (Some (told question.now))) values.now }
     ensures { IfOk result (Means (Some (told question.entry.now)) values.now) }
 {
     match question {
-        Question::Check { .. } => {
-            return checking::reply(alloc, values);
-        },
         Question::Include {
             certificate,
             mode,
@@ -109,6 +106,57 @@ fn reply_to<'a>(
                 letters: *letters,
             };
             return including::reply(alloc, certificate.as_str(), asked, values);
+        },
+        Question::Upgrade { upgraded, .. } => {
+            return upgrading::reply(alloc, upgraded.as_str(), values);
+        },
+        Question::Cross { relation, look, .. } => {
+            return crossing::reply(alloc, relation.as_str(), *look, values);
+        },
+        Question::Equal {
+            certificate,
+            converse,
+            ..
+        } => {
+            return equality::reply(alloc, certificate.as_str(), converse.as_str(), values);
+        },
+        Question::Shrink { shorter, .. } => {
+            return shrinking::reply(alloc, shorter.as_str(), values);
+        },
+        Question::Empty {
+            made,
+            certificate,
+            mode,
+            ..
+        } => {
+            return emptiness::reply(alloc, made.as_str(), certificate.as_str(), *mode, values);
+        },
+        Question::Universal {
+            made,
+            certificate,
+            mode,
+            ..
+        } => {
+            return universality::reply(alloc, made.as_str(), certificate.as_str(), *mode, values);
+        },
+        _ => unreachable!(),
+    }
+}
+
+/// The reply to what the question's files read as.
+fn reply_to<'a>(
+    alloc: Global,
+    question: &'a Question,
+    values: &[Value],
+) -> Result<Reply<'a>, Memory>
+    requires proper { IsProper (told question.now) }
+    requires single { IsSingle (Some (told question.now)) }
+    requires kinds { AreOfKinds (inputs_of (Some (told question.now))) values.now }
+    ensures { IfOk result (Means (Some (told question.entry.now)) values.now) }
+{
+    match question {
+        Question::Check { .. } => {
+            return checking::reply(alloc, values);
         },
         Question::Reduce {
             mode,
@@ -134,21 +182,8 @@ fn reply_to<'a>(
             };
             return drilling::reply(alloc, drill);
         },
-        Question::Upgrade { upgraded, .. } => {
-            return upgrading::reply(alloc, upgraded.as_str(), values);
-        },
-        Question::Cross { relation, look, .. } => {
-            return crossing::reply(alloc, relation.as_str(), *look, values);
-        },
         Question::CrossCheck { .. } => {
             return cross_checking::reply(alloc, values);
-        },
-        Question::Equal {
-            certificate,
-            converse,
-            ..
-        } => {
-            return equality::reply(alloc, certificate.as_str(), converse.as_str(), values);
         },
         Question::Batch { .. } => unreachable!(),
         Question::Union { mode, .. } => {
@@ -157,24 +192,8 @@ fn reply_to<'a>(
         Question::Intersect { mode, .. } => {
             return intersecting::reply(alloc, *mode, values);
         },
-        Question::Shrink { shorter, .. } => {
-            return shrinking::reply(alloc, shorter.as_str(), values);
-        },
-        Question::Empty {
-            made,
-            certificate,
-            mode,
-            ..
-        } => {
-            return emptiness::reply(alloc, made.as_str(), certificate.as_str(), *mode, values);
-        },
-        Question::Universal {
-            made,
-            certificate,
-            mode,
-            ..
-        } => {
-            return universality::reply(alloc, made.as_str(), certificate.as_str(), *mode, values);
+        _ => {
+            return writing_reply(alloc, question, values);
         },
     }
 }

@@ -1,8 +1,7 @@
 //! Simulations of one automaton by another: what is printed, what is left, and that a check accepts it.
 
 use crate::automaton_text_tests::named;
-use crate::include_tests::says;
-use crate::shrink_tests::{holds, shelf_of};
+use crate::include_tests::{leaves, says_in_turn};
 use auto_core::Memory;
 use ba_format::{Joined, join};
 use cross_sim::relation;
@@ -23,11 +22,14 @@ const RELATED: &str = "included by simulation\n";
 fn what_is_found_is_accepted(rt: HostRuntime) -> Result<(), Fail> {
     let alloc = rt.alloc();
     let files = [("A", ONE_A), ("B", TWO_LETTERS)];
-    let mut shelf = shelf_of(alloc, &files, &[])?;
-    for words in [["cross", "A", "B", "C"], ["cross-check", "A", "B", "C"]] {
-        assert_eq!(rt; says(alloc, &words, &mut shelf, &[], RELATED)?, (0, true));
-        assert!(rt; holds(alloc, &mut shelf, "C", CROSS));
-    }
+    let find = ["cross", "A", "B", "C"];
+    let asked: [(&[&str], &[u64], u8, &str); 2] = [
+        (&find, &[], 0, RELATED),
+        (&["cross-check", "A", "B", "C"], &[], 0, RELATED),
+    ];
+    let left = [("C", CROSS)];
+    assert!(rt; leaves(alloc, &files, &[], &find, &[], (0, RELATED), &left)?);
+    assert!(rt; says_in_turn(alloc, &files, &asked, &left)?);
     Ok(())
 }
 
@@ -53,13 +55,19 @@ fn a_search_for_a_relation_leaves_it_or_nothing(rt: HostRuntime) -> Result<(), F
     ];
     for (first, second, fails, sink_fails, status, printed, left) in rows {
         let files = [("A", first), ("B", second), ("C", OLDER)];
-        let mut shelf = shelf_of(alloc, &files, fails)?;
         let words = ["cross", "A", "B", "C"];
-        assert_eq!(rt;
-            says(alloc, &words, &mut shelf, sink_fails, printed)?,
-            (status, true)
+        let told = (status, printed);
+        assert!(rt;
+            leaves(
+                alloc,
+                &files,
+                fails,
+                &words,
+                sink_fails,
+                told,
+                &[("C", left)]
+            )?
         );
-        assert!(rt; holds(alloc, &mut shelf, "C", left));
     }
     Ok(())
 }
@@ -78,12 +86,8 @@ fn a_check_of_a_relation_tells_its_faults(rt: HostRuntime) -> Result<(), Fail> {
     ];
     for (relation, fails, status, printed) in rows {
         let files = [("A", ONE_A), ("B", TWO_LETTERS), ("C", relation)];
-        let mut shelf = shelf_of(alloc, &files, fails)?;
         let words = ["cross-check", "A", "B", "C"];
-        assert_eq!(rt;
-            says(alloc, &words, &mut shelf, &[], printed)?,
-            (status, true)
-        );
+        assert!(rt; leaves(alloc, &files, fails, &words, &[], (status, printed), &[])?);
     }
     Ok(())
 }

@@ -2,8 +2,8 @@
 
 use crate::include_tests::PAIR;
 use crate::log_tests::{BRANCH, BRANCHES, CUT, MERGED, TURNS};
-use crate::tests::{LETTERS_NO, ONE_A, TWO_LETTERS, check};
-use crate::yes_tests::{LINES, with_lines};
+use crate::tests::{LETTERS_NO, ONE_A, TWO_LETTERS, unsaid};
+use crate::yes_tests::{LINES, untold};
 use auto_core::Memory;
 use std::alloc::Global;
 use std::test::Fail;
@@ -28,24 +28,6 @@ const NO_LASSO: &str =
 /// A lasso that both automata accept.
 const ACCEPTED_NO: &str = "rabit-cert 1 buchi no\nsizes 1 1 2\nprefix 0\nloop 0\nend\n";
 
-/// How many of the damages get another answer than the one beside them. A damage is the lines that change, by their numbers from 0.
-fn untold(
-    alloc: Global,
-    first: &str,
-    second: &str,
-    whole: &[&str],
-    damages: &[(&[(usize, &str)], &str)],
-) -> Result<u32, Memory> {
-    let mut untold: u32 = 0;
-    for (changes, said) in damages {
-        let text = with_lines(alloc, whole, changes)?;
-        if check(alloc, first, second, text.as_str(), said)? != (5, true) {
-            untold = untold.saturating_add(1);
-        }
-    }
-    Ok(untold)
-}
-
 /// A file of two automata that are not reduced.
 fn damaged_elements(alloc: Global) -> Result<u32, Memory> {
     untold(
@@ -53,6 +35,7 @@ fn damaged_elements(alloc: Global) -> Result<u32, Memory> {
         PAIR,
         PAIR,
         &LINES,
+        5,
         &[
             (
                 &[(0, "rabit-cert 3 buchi yes\n")],
@@ -75,6 +58,7 @@ fn damaged_merge(alloc: Global) -> Result<u32, Memory> {
         ONE_A,
         TURNS,
         &MERGED,
+        5,
         &[
             (&[(5, "classes 1 0\n")], "certificate item 1: rule 3\n"),
             (&[(7, "row 0 0 1 1 1\n")], "certificate item 1: rule 5\n"),
@@ -94,6 +78,7 @@ fn damaged_cuts(alloc: Global) -> Result<u32, Memory> {
         BRANCHES,
         BRANCH,
         &CUT,
+        5,
         &[
             (&[(1, "sizes 3 2 2\n")], "certificate item 0: rule 1\n"),
             (&[(4, "gone 0 9\n")], "certificate item 1: rule 1\n"),
@@ -122,6 +107,7 @@ fn damaged_list(alloc: Global) -> Result<u32, Memory> {
         PAIR,
         PAIR,
         &LISTED,
+        5,
         &[
             (&[(4, "limit 2\n")], "certificate item 1: rule 18\n"),
             (&[(7, "base 0\n")], "certificate item 3: rule 18\n"),
@@ -139,28 +125,33 @@ fn each_damage_is_told(rt: HostRuntime) -> Result<(), Fail> {
         damaged_list(alloc)?,
     ];
     assert_eq!(rt; untold, [0, 0, 0, 0]);
-    for (first, second, certificate, said) in [
-        (ONE_A, ONE_A, "", "certificate line 1: Truncated\n"),
-        (
-            TWO_LETTERS,
-            ONE_A,
-            NO_LASSO,
-            "certificate item 2: rule 15\n",
-        ),
-        (
-            ONE_A,
-            TWO_LETTERS,
-            LETTERS_NO,
-            "certificate item 2: rule 16\n",
-        ),
-        (
-            TWO_LETTERS,
-            ONE_A,
-            ACCEPTED_NO,
-            "certificate item 2: rule 17\n",
-        ),
-    ] {
-        assert_eq!(rt; check(alloc, first, second, certificate, said)?, (5, true));
-    }
+    let wrong = unsaid(
+        alloc,
+        &[
+            (ONE_A, ONE_A, "", 5, "certificate line 1: Truncated\n"),
+            (
+                TWO_LETTERS,
+                ONE_A,
+                NO_LASSO,
+                5,
+                "certificate item 2: rule 15\n",
+            ),
+            (
+                ONE_A,
+                TWO_LETTERS,
+                LETTERS_NO,
+                5,
+                "certificate item 2: rule 16\n",
+            ),
+            (
+                TWO_LETTERS,
+                ONE_A,
+                ACCEPTED_NO,
+                5,
+                "certificate item 2: rule 17\n",
+            ),
+        ],
+    )?;
+    assert_eq!(rt; wrong, 0);
     Ok(())
 }

@@ -9,12 +9,12 @@ ghost use Rattle.drawing.specs.Drawn.{IsInBounds};
 ghost use Rattle.rabit_frame.specs.declared.parts.Value.{Value};
 ghost use Rattle.rabit_cli.specs.Drill.{drill_terms, exchanged, size_line, finding, MeansDrill};
 
-use auto_core::{Auto, List, Memory, Mode};
+use auto_core::{Auto, List, Memory, Mode, append};
 use ba_format::Joined;
 use cert_check::CheckFault;
 use cert_text::{Body, Cert};
 use drawing::Drill;
-use rabit_frame::{Reply, Status, append, line};
+use rabit_frame::{Reply, Status, line};
 use rabit_words::{USUAL_LIMIT, USUAL_LOOK};
 use std::alloc::Global;
 

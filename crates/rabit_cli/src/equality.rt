@@ -19,12 +19,12 @@ ghost use Rattle.rabit_cli.specs.Equal.{equal_inputs, first_apart_reply, both_re
 
 use crate::files::{SECOND_LIMITS, automaton_slot, joined};
 use crate::properties::{push_lasso, push_word_line};
-use crate::replies::limit_met;
-use auto_core::{List, Memory, Mode};
+use crate::replies::{limit_met, reply_with};
+use auto_core::{List, Memory, Mode, append};
 use ba_format::{Joined, Named, Texts};
 use cert_text::{Body, Cert, write_cert};
 use equal_batch::{Both, both};
-use rabit_frame::{Put, Reply, Slot, Status, Value, append, line};
+use rabit_frame::{Put, Reply, Slot, Status, Value, line};
 use rabit_words::{USUAL_LIMIT, USUAL_LOOK};
 use std::alloc::Global;
 
@@ -109,27 +109,15 @@ fn both_reply<'a>(
     match said {
         Both::Equal => {
             let text = line(alloc, "equal\n")?;
-            Ok(Reply {
-                status: Status::Done,
-                text,
-                puts,
-            })
+            Ok(reply_with(Status::Done, text, puts))
         },
         Both::Limit => {
             let text = limit_met(alloc, USUAL_LIMIT)?;
-            Ok(Reply {
-                status: Status::Limit,
-                text,
-                puts,
-            })
+            Ok(reply_with(Status::Limit, text, puts))
         },
         Both::FirstApart | Both::SecondApart => {
             let text = apart_text(alloc, "second not in first\n", labels, body)?;
-            Ok(Reply {
-                status: Status::Refuted,
-                text,
-                puts,
-            })
+            Ok(reply_with(Status::Refuted, text, puts))
         },
     }
 }
@@ -175,11 +163,7 @@ fn first_apart<'a>(
     let text = apart_text(alloc, "first not in second\n", &pair.labels, &cert.body)?;
     let mut puts = List::new(alloc);
     puts.push(put_of(alloc, certificate, cert)?)?;
-    Ok(Reply {
-        status: Status::Refuted,
-        text,
-        puts,
-    })
+    Ok(reply_with(Status::Refuted, text, puts))
 }
 
 /// The reply to the automata. All that is needed is decided before anything is written.

@@ -1,9 +1,8 @@
 //! Whether two automata in files in memory accept the same: what is printed, and which certificates are left.
 
-use crate::include_tests::says;
-use crate::shrink_tests::{holds, shelf_of};
+use crate::include_tests::{leaves, says};
+use crate::shrink_tests::{begins, shelf_of};
 use auto_core::Memory;
-use shelf_io::{MemShelf, load};
 use std::alloc::Global;
 use std::test::Fail;
 
@@ -27,21 +26,8 @@ const NO: &str = "rabit-cert 1 buchi no\nsizes 1 1 2\nprefix 1\nloop 1\nend\n";
 
 const OLDER: &str = "older";
 
-/// The status of a comparison of `A` and `B`, and whether just this text was sent.
-fn compares(
-    alloc: Global,
-    shelf: &mut MemShelf,
-    sink_fails: &[u64],
-    printed: &str,
-) -> Result<(u8, bool), Memory> {
-    says(
-        alloc,
-        &["equal", "A", "B", "C", "D"],
-        shelf,
-        sink_fails,
-        printed,
-    )
-}
+/// The words of a comparison of `A` and `B`.
+const COMPARE: [&str; 5] = ["equal", "A", "B", "C", "D"];
 
 #[test]
 fn both_certificates_or_the_first_alone_are_left(rt: HostRuntime) -> Result<(), Fail> {
@@ -55,10 +41,9 @@ fn both_certificates_or_the_first_alone_are_left(rt: HostRuntime) -> Result<(), 
     ];
     for (one, two, status, printed, certificate, converse) in rows {
         let files = [("A", one), ("B", two), ("D", OLDER)];
-        let mut shelf = shelf_of(alloc, &files, &[])?;
-        assert_eq!(rt; compares(alloc, &mut shelf, &[], printed)?, (status, true));
-        assert!(rt; holds(alloc, &mut shelf, "C", certificate));
-        assert!(rt; holds(alloc, &mut shelf, "D", converse));
+        let left = [("C", certificate), ("D", converse)];
+        let told = (status, printed);
+        assert!(rt; leaves(alloc, &files, &[], &COMPARE, &[], told, &left)?);
     }
     Ok(())
 }
@@ -77,23 +62,26 @@ fn failing_calls_of_a_comparison_are_told(rt: HostRuntime) -> Result<(), Fail> {
     ];
     for (fails, sink_fails, status, printed, certificate, converse) in rows {
         let files = [("A", ONE_A), ("B", ONE_A), ("C", OLDER), ("D", OLDER)];
-        let mut shelf = shelf_of(alloc, &files, fails)?;
-        assert_eq!(rt;
-            compares(alloc, &mut shelf, sink_fails, printed)?,
-            (status, true)
-        );
-        assert!(rt; holds(alloc, &mut shelf, "C", certificate));
-        assert!(rt; holds(alloc, &mut shelf, "D", converse));
+        let left = [("C", certificate), ("D", converse)];
+        let told = (status, printed);
+        assert!(rt; leaves(alloc, &files, fails, &COMPARE, sink_fails, told, &left)?);
     }
     Ok(())
 }
 
-/// Whether the file begins with this text.
-fn begins(alloc: Global, shelf: &mut MemShelf, name: &str, front: &str) -> bool {
-    match load(alloc, shelf, name, 1_000_000) {
-        Ok(bytes) => bytes.as_slice().starts_with(front.as_bytes()),
-        Err(_) => false,
-    }
+/// Whether the seven states and the second automaton are compared with this status and just this text, and the two certificates begin so.
+fn compares(
+    alloc: Global,
+    second: &str,
+    told: (u8, &str),
+    certificate: &str,
+    converse: &str,
+) -> Result<bool, Memory> {
+    let mut shelf = shelf_of(alloc, &[("A", ORDERS), ("B", second)], &[])?;
+    let (status, printed) = told;
+    let (ended, sent) = says(alloc, &COMPARE, &mut shelf, &[], printed)?;
+    let left = begins(alloc, &mut shelf, "C", certificate);
+    Ok(ended == status && sent && left && begins(alloc, &mut shelf, "D", converse))
 }
 
 #[test]
@@ -110,10 +98,7 @@ fn a_lasso_goes_before_a_limit(rt: HostRuntime) -> Result<(), Fail> {
         (more.as_str(), 1, told, no),
     ];
     for (two, status, printed, converse) in rows {
-        let mut shelf = shelf_of(alloc, &[("A", ORDERS), ("B", two)], &[])?;
-        assert_eq!(rt; compares(alloc, &mut shelf, &[], printed)?, (status, true));
-        assert!(rt; begins(alloc, &mut shelf, "C", list));
-        assert!(rt; begins(alloc, &mut shelf, "D", converse));
+        assert!(rt; compares(alloc, two, (status, printed), list, converse)?);
     }
     Ok(())
 }

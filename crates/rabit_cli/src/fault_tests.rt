@@ -1,10 +1,10 @@
 //! Faulty texts of automata, and what the program says of each.
 
-use crate::include_tests::says;
+use crate::include_tests::{leaves, says};
 use crate::tests::{ONLY_B, RING, RING_NO, check, shelf_of};
 use auto_core::Memory;
 use ba_format::{BaFault, BaKind, Limits, ReadFault, read};
-use shelf_io::{Failed, Shelf};
+use shelf_io::{Failed, MemShelf, Shelf};
 use std::alloc::Global;
 use std::test::Fail;
 
@@ -76,26 +76,29 @@ fn each_text_has_its_first_fault(rt: HostRuntime) -> Result<(), Fail> {
     Ok(())
 }
 
+/// Whether the shelf's next call begins the name, and the one after it is refused.
+pub(crate) fn takes_next(shelf: &mut MemShelf, name: &str) -> bool {
+    let mut buf = [0; 4];
+    shelf.begin(name) == Ok(()) && shelf.take(&mut buf) == Err(Failed)
+}
+
+/// Whether the fault of the first file is told before the second is begun: each file is read in three calls, so the fifth call, which would fail,
+/// is the first `take` of the second file.
+fn ends_at_once(alloc: Global, files: &[(&str, &str)], words: &[&str]) -> Result<bool, Memory> {
+    let mut shelf = shelf_of(alloc, files, &[4])?;
+    let (status, sent) = says(alloc, words, &mut shelf, &[], "file 1 line 1: Shape\n")?;
+    Ok(status == 4 && sent && takes_next(&mut shelf, "B"))
+}
+
 #[test]
 fn the_first_fault_decides(rt: HostRuntime) -> Result<(), Fail> {
     let alloc = rt.alloc();
     let files = [("A", "a,[0]-[1]\n"), ("B", ONLY_B), ("C", RING_NO)];
     for command in ["include", "check"] {
-        // a fault of the text is told after the file's end: the third call finds it, and may fail
-        let mut failing = shelf_of(alloc, &files, &[2])?;
         let words = [command, "A", "B", "C"];
-        let said = says(alloc, &words, &mut failing, &[], "read fault\n")?;
-        assert_eq!(rt; said, (6, true));
-
-        // each file is read in three calls, so the fifth call is the first `take` of the second file
-        let mut shelf = shelf_of(alloc, &files, &[4])?;
-        let said = says(alloc, &words, &mut shelf, &[], "file 1 line 1: Shape\n")?;
-        assert_eq!(rt; said, (4, true));
-
-        // only three calls were made: the fourth is the next, and the fifth fails now
-        let mut buf = [0; 4];
-        assert_eq!(rt; shelf.begin("B"), Ok(()));
-        assert_eq!(rt; shelf.take(&mut buf), Err(Failed));
+        // a fault of the text is told after the file's end: the third call finds it, and may fail
+        assert!(rt; leaves(alloc, &files, &[2], &words, &[], (6, "read fault\n"), &[])?);
+        assert!(rt; ends_at_once(alloc, &files, &words)?);
     }
     Ok(())
 }

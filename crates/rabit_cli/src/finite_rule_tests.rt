@@ -1,7 +1,7 @@
 //! Certificates of finite words: valid ones, and one line changed so that each rule in turn is the first that is broken.
 
-use crate::tests::check;
-use crate::yes_tests::with_lines;
+use crate::tests::{check, unsaid};
+use crate::yes_tests::{untold, with_lines};
 use std::alloc::Global;
 use std::test::Fail;
 
@@ -29,51 +29,55 @@ const LINES: [&str; 13] = [
 
 #[test]
 fn valid_certificates_of_words_show_inclusion(rt: HostRuntime) -> Result<(), Fail> {
-    let alloc = rt.alloc();
-    let rows: [&[(usize, &str)]; 3] = [
-        &[],
-        // the useful states of the second are all of them
-        &[(3, "log2 1\ntrim 0\n")],
-        // an element under one that subsumes it
+    let said = "included, finite\n";
+    let wrong = untold(
+        rt.alloc(),
+        TURNS,
+        ONE_A,
+        &LINES,
+        0,
         &[
-            (6, "elements 3\n"),
-            (8, "live next 0 0\nunder 0 next 1 1\n"),
+            (&[], said),
+            // the useful states of the second are all of them
+            (&[(3, "log2 1\ntrim 0\n")], said),
+            // an element under one that subsumes it
+            (
+                &[
+                    (6, "elements 3\n"),
+                    (8, "live next 0 0\nunder 0 next 1 1\n"),
+                ],
+                said,
+            ),
         ],
-    ];
-    for changes in rows {
-        let text = with_lines(alloc, &LINES, changes)?;
-        assert_eq!(rt;
-            check(alloc, TURNS, ONE_A, text.as_str(), "included, finite\n")?,
-            (0, true)
-        );
-    }
+    )?;
+    assert_eq!(rt; wrong, 0);
     Ok(())
 }
 
 #[test]
 fn each_rule_of_words_is_tested(rt: HostRuntime) -> Result<(), Fail> {
-    let alloc = rt.alloc();
-    let rows: [(&[(usize, &str)], &str); 6] = [
-        (&[(1, "sizes 3 1 1\n")], "certificate item 0: rule 1\n"),
-        (&[(8, "live next 0 1\n")], "certificate item 3: rule 11\n"),
-        (
-            &[
-                (6, "elements 3\n"),
-                (8, "live next 0 0\nunder 1 next 1 1\n"),
-            ],
-            "certificate item 4: rule 12\n",
-        ),
-        (&[(9, "cover 1\n")], "certificate item 4: rule 13\n"),
-        (&[(10, "step 0 0\n")], "certificate item 5: rule 14\n"),
-        (&[(8, "live start\n")], "certificate item 5: rule 14\n"),
-    ];
-    for (changes, printed) in rows {
-        let text = with_lines(alloc, &LINES, changes)?;
-        assert_eq!(rt;
-            check(alloc, TURNS, ONE_A, text.as_str(), printed)?,
-            (5, true)
-        );
-    }
+    let wrong = untold(
+        rt.alloc(),
+        TURNS,
+        ONE_A,
+        &LINES,
+        5,
+        &[
+            (&[(1, "sizes 3 1 1\n")], "certificate item 0: rule 1\n"),
+            (&[(8, "live next 0 1\n")], "certificate item 3: rule 11\n"),
+            (
+                &[
+                    (6, "elements 3\n"),
+                    (8, "live next 0 0\nunder 1 next 1 1\n"),
+                ],
+                "certificate item 4: rule 12\n",
+            ),
+            (&[(9, "cover 1\n")], "certificate item 4: rule 13\n"),
+            (&[(10, "step 0 0\n")], "certificate item 5: rule 14\n"),
+            (&[(8, "live start\n")], "certificate item 5: rule 14\n"),
+        ],
+    )?;
+    assert_eq!(rt; wrong, 0);
     Ok(())
 }
 
@@ -120,23 +124,23 @@ fn other_files_break_rules_of_words(rt: HostRuntime) -> Result<(), Fail> {
 
 #[test]
 fn words_that_do_not_separate_are_refused(rt: HostRuntime) -> Result<(), Fail> {
-    let alloc = rt.alloc();
-    let rows = [
-        (
-            "rabit-cert 1 finite no\nsizes 1 1 1\nword 0 0\nend\n",
-            "certificate item 0: rule 1\n",
-        ),
-        (
-            "rabit-cert 1 finite no\nsizes 2 1 1\nword 0\nend\n",
-            "certificate item 1: rule 16\n",
-        ),
-        (
-            "rabit-cert 1 finite no\nsizes 2 1 1\nword 0 0\nend\n",
-            "certificate item 1: rule 17\n",
-        ),
-    ];
-    for (text, printed) in rows {
-        assert_eq!(rt; check(alloc, TURNS, ONE_A, text, printed)?, (5, true));
-    }
+    let other_sizes = "rabit-cert 1 finite no\nsizes 1 1 1\nword 0 0\nend\n";
+    let not_read = "rabit-cert 1 finite no\nsizes 2 1 1\nword 0\nend\n";
+    let read_by_both = "rabit-cert 1 finite no\nsizes 2 1 1\nword 0 0\nend\n";
+    let wrong = unsaid(
+        rt.alloc(),
+        &[
+            (TURNS, ONE_A, other_sizes, 5, "certificate item 0: rule 1\n"),
+            (TURNS, ONE_A, not_read, 5, "certificate item 1: rule 16\n"),
+            (
+                TURNS,
+                ONE_A,
+                read_by_both,
+                5,
+                "certificate item 1: rule 17\n",
+            ),
+        ],
+    )?;
+    assert_eq!(rt; wrong, 0);
     Ok(())
 }

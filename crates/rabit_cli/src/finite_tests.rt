@@ -1,7 +1,6 @@
 //! Finite words: decisions, checks of what they wrote, and reductions; and a run over a lasso.
 
-use crate::include_tests::says;
-use crate::shrink_tests::{holds, shelf_of};
+use crate::include_tests::{decides, leaves};
 use crate::tests::answers;
 use auto_core::{Auto, Lasso, List, Memory, Trans, Word};
 use lasso_accept::{accepts_word, run_of};
@@ -15,6 +14,9 @@ const TURNS: &str = "[0]\na,[0]->[1]\na,[1]->[0]\n[0]\n";
 
 const TURNS_YES: &str =
     "rabit-cert 1 finite yes\nsizes 2 1 1\nlog1 0\nlog2 0\nrel 1\nrow 0 0\nelements 2\nlive start\nlive next 0 0\ncover 0\nstep 0 1\nstep 1 0\nend\n";
+
+/// The words of a decision over finite words.
+const DECIDE: [&str; 5] = ["include", "A", "B", "C", "--finite"];
 
 #[test]
 fn words_are_decided_and_checked(rt: HostRuntime) -> Result<(), Fail> {
@@ -36,18 +38,9 @@ fn words_are_decided_and_checked(rt: HostRuntime) -> Result<(), Fail> {
             "rabit-cert 1 finite no\nsizes 1 2 0\nword\nend\n",
         ),
     ];
-    let decide = ["include", "A", "B", "C", "--finite"];
     for (first, second, status, printed, certificate) in rows {
-        let mut shelf = shelf_of(alloc, &[("A", first), ("B", second)], &[])?;
-        assert_eq!(rt;
-            says(alloc, &decide, &mut shelf, &[], printed)?,
-            (status, true)
-        );
-        assert!(rt; holds(alloc, &mut shelf, "C", certificate));
-        assert_eq!(rt;
-            says(alloc, &["check", "A", "B", "C"], &mut shelf, &[], printed)?,
-            (status, true)
-        );
+        let told = (status, printed);
+        assert!(rt; decides(alloc, &DECIDE, first, second, told, Some(certificate))?);
     }
     Ok(())
 }
@@ -61,48 +54,29 @@ const UNDER_YES: &str =
 #[test]
 fn words_are_decided_by_reduced_automata(rt: HostRuntime) -> Result<(), Fail> {
     let alloc = rt.alloc();
-    let mut shelf = shelf_of(alloc, &[("A", UNDER), ("B", UNDER)], &[])?;
-    assert_eq!(rt;
-        says(
-            alloc,
-            &["include", "A", "B", "C", "--finite"],
-            &mut shelf,
-            &[],
-            "included, finite\n"
-        )?,
-        (0, true)
-    );
-    assert!(rt; holds(alloc, &mut shelf, "C", UNDER_YES));
-    assert_eq!(rt;
-        says(
-            alloc,
-            &["check", "A", "B", "C"],
-            &mut shelf,
-            &[],
-            "included, finite\n"
-        )?,
-        (0, true)
-    );
+    let told = (0, "included, finite\n");
+    assert!(rt; decides(alloc, &DECIDE, UNDER, UNDER, told, Some(UNDER_YES))?);
     Ok(())
 }
 
 #[test]
 fn words_past_the_limit_are_listed(rt: HostRuntime) -> Result<(), Fail> {
     let alloc = rt.alloc();
-    let mut shelf = shelf_of(alloc, &[("A", TURNS), ("B", TURNS)], &[])?;
-    assert_eq!(rt;
-        says(
-            alloc,
-            &["include", "A", "B", "C", "--finite", "--limit", "1"],
-            &mut shelf,
-            &[],
-            "limit 1\n"
-        )?,
-        (2, true)
-    );
+    let files = [("A", TURNS), ("B", TURNS)];
+    let words = ["include", "A", "B", "C", "--finite", "--limit", "1"];
     let list =
         "rabit-cert 1 finite list\nsizes 2 2 1\nlog1 0\nlog2 0\nlimit 1\nelements 2\nstart\nnext 0 0\nend\n";
-    assert!(rt; holds(alloc, &mut shelf, "C", list));
+    assert!(rt;
+        leaves(
+            alloc,
+            &files,
+            &[],
+            &words,
+            &[],
+            (2, "limit 1\n"),
+            &[("C", list)]
+        )?
+    );
     Ok(())
 }
 

@@ -54,6 +54,74 @@ pub(crate) fn answers(
     says(alloc, &[command, "A", "B", "C"], shelf, sink_fails, printed)
 }
 
+/// The words of a decision.
+const INCLUDE: [&str; 4] = ["include", "A", "B", "C"];
+
+/// Whether the shelf holds just these texts under their names.
+pub(crate) fn holds_all(alloc: Global, shelf: &mut MemShelf, texts: &[(&str, &str)]) -> bool {
+    for (name, text) in texts {
+        if !holds(alloc, shelf, name, text) {
+            return false;
+        }
+    }
+    true
+}
+
+/// Whether the words on files with room for more end with this status and just this text, and leave just these texts under their names.
+pub(crate) fn leaves(
+    alloc: Global,
+    files: &[(&str, &str)],
+    fails: &[u64],
+    words: &[&str],
+    sink_fails: &[u64],
+    told: (u8, &str),
+    left: &[(&str, &str)],
+) -> Result<bool, Memory> {
+    let mut shelf = shelf_of(alloc, files, fails)?;
+    let (status, printed) = told;
+    let (ended, sent) = says(alloc, words, &mut shelf, sink_fails, printed)?;
+    let held = holds_all(alloc, &mut shelf, left);
+    Ok(ended == status && sent && held)
+}
+
+/// Whether these words, one after the other on the same files, end each with its status and just its text, where the sink refuses these calls, and
+/// leave just these texts under these names.
+pub(crate) fn says_in_turn(
+    alloc: Global,
+    files: &[(&str, &str)],
+    asked: &[(&[&str], &[u64], u8, &str)],
+    left: &[(&str, &str)],
+) -> Result<bool, Memory> {
+    let mut shelf = shelf_of(alloc, files, &[])?;
+    for (words, sink_fails, status, printed) in asked {
+        if says(alloc, words, &mut shelf, sink_fails, printed)? != (*status, true) {
+            return Ok(false);
+        }
+    }
+    Ok(holds_all(alloc, &mut shelf, left))
+}
+
+/// Whether the words on the two files, and then a check of the certificate that they left, end with this status and just this text, and the
+/// certificate is just this one, if one is given.
+pub(crate) fn decides(
+    alloc: Global,
+    words: &[&str],
+    first: &str,
+    second: &str,
+    told: (u8, &str),
+    certificate: Option<&str>,
+) -> Result<bool, Memory> {
+    let mut shelf = shelf_of(alloc, &[("A", first), ("B", second)], &[])?;
+    let (status, printed) = told;
+    let (ended, sent) = says(alloc, words, &mut shelf, &[], printed)?;
+    let left = match certificate {
+        Some(text) => holds(alloc, &mut shelf, "C", text),
+        None => true,
+    };
+    let (checked, said) = answers(alloc, "check", &mut shelf, &[], printed)?;
+    Ok(ended == status && sent && left && checked == status && said)
+}
+
 #[test]
 fn a_check_says_what_the_decision_said(rt: HostRuntime) -> Result<(), Fail> {
     let alloc = rt.alloc();
@@ -66,15 +134,8 @@ fn a_check_says_what_the_decision_said(rt: HostRuntime) -> Result<(), Fail> {
         (PAIR, PAIR, 0, "included\n"),
     ];
     for (first, second, status, printed) in rows {
-        let mut shelf = shelf_of(alloc, &[("A", first), ("B", second)], &[])?;
-        assert_eq!(rt;
-            answers(alloc, "include", &mut shelf, &[], printed)?,
-            (status, true)
-        );
-        assert_eq!(rt;
-            answers(alloc, "check", &mut shelf, &[], printed)?,
-            (status, true)
-        );
+        let told = (status, printed);
+        assert!(rt; decides(alloc, &INCLUDE, first, second, told, None)?);
     }
     Ok(())
 }
@@ -83,24 +144,61 @@ fn a_check_says_what_the_decision_said(rt: HostRuntime) -> Result<(), Fail> {
 fn certificates_are_written_whole(rt: HostRuntime) -> Result<(), Fail> {
     let alloc = rt.alloc();
     let rows = [
-        (ONE_A, ONE_A, ONE_YES),
+        (ONE_A, ONE_A, 0, "included\n", ONE_YES),
         (
             TWO_LETTERS,
             ONE_A,
+            1,
+            "not included\nprefix: b\nloop: b\n",
             "rabit-cert 1 buchi no\nsizes 1 1 2\nprefix 1\nloop 1\nend\n",
         ),
         (
             PAIR,
             PAIR,
+            0,
+            "included\n",
             "rabit-cert 1 buchi yes\nsizes 2 2 2\nlog1 0\nlog2 0\nrel 2\nrow 0 0\nrow 1 1\nelements 4\nlive base 0\nlive base 1\nlive next 0 1\nlive next 1 0\ncover 0 1\nstep 0 2\nstep 1 3\nstep 2 0\nstep 3 1\nend\n",
         ),
     ];
-    for (first, second, certificate) in rows {
-        let mut shelf = shelf_of(alloc, &[("A", first), ("B", second)], &[])?;
-        answers(alloc, "include", &mut shelf, &[], "")?;
-        assert!(rt; holds(alloc, &mut shelf, "C", certificate));
+    for (first, second, status, printed, certificate) in rows {
+        let files = [("A", first), ("B", second)];
+        let told = (status, printed);
+        assert!(rt;
+            leaves(
+                alloc,
+                &files,
+                &[],
+                &INCLUDE,
+                &[],
+                told,
+                &[("C", certificate)]
+            )?
+        );
     }
     Ok(())
+}
+
+/// Whether a decision of whether the automaton is included in itself ends so, and a check after it says the same, or that its own read failed.
+fn includes(
+    alloc: Global,
+    text: &str,
+    fails: &[u64],
+    sink_fails: &[u64],
+    told: (u8, &str),
+) -> Result<bool, Memory> {
+    let mut shelf = shelf_of(alloc, &[("A", text), ("B", text)], fails)?;
+    let (status, printed) = told;
+    let (ended, sent) = answers(alloc, "include", &mut shelf, sink_fails, printed)?;
+    if status != 0 {
+        return Ok(ended == status && sent);
+    }
+    let (failed, line) = if fails.is_empty() {
+        (0, "included\n")
+    } else {
+        (6, "read fault\n")
+    };
+    let (checked, said) = answers(alloc, "check", &mut shelf, &[], line)?;
+    Ok(ended == 0 && sent && checked == failed && said)
 }
 
 #[test]
@@ -119,24 +217,20 @@ fn failing_calls_of_a_decision_are_told(rt: HostRuntime) -> Result<(), Fail> {
         (&[7], &[], 0, "included\n"),
     ];
     for (fails, sink_fails, status, printed) in rows {
-        let mut shelf = shelf_of(alloc, &[("A", text.as_str()), ("B", text.as_str())], fails)?;
-        assert_eq!(rt;
-            answers(alloc, "include", &mut shelf, sink_fails, printed)?,
-            (status, true)
-        );
-        if status == 0 {
-            let (checked, told) = if fails.is_empty() {
-                (0, "included\n")
-            } else {
-                (6, "read fault\n")
-            };
-            assert_eq!(rt;
-                answers(alloc, "check", &mut shelf, &[], told)?,
-                (checked, true)
-            );
-        }
+        assert!(rt; includes(alloc, text.as_str(), fails, sink_fails, (status, printed))?);
     }
     Ok(())
+}
+
+/// Whether a decision of whose calls this one fails ends so, with both automata as they were and no certificate.
+fn changes_none(alloc: Global, call: u64, told: (u8, &str)) -> Result<bool, Memory> {
+    let files = [("A", ONE_A), ("B", ONE_A)];
+    let mut shelf = shelf_of(alloc, &files, &[call])?;
+    let (status, printed) = told;
+    let (ended, sent) = answers(alloc, "include", &mut shelf, &[], printed)?;
+    let held = holds_all(alloc, &mut shelf, &files);
+    let missing = load(alloc, &mut shelf, "C", 1000).err() == Some(LoadFault::Failed);
+    Ok(ended == status && sent && held && missing)
 }
 
 #[test]
@@ -144,26 +238,41 @@ fn each_call_that_fails_before_the_put_changes_no_file(rt: HostRuntime) -> Resul
     let alloc = rt.alloc();
     // each of the two files is begun and then taken in two calls, and the put is the seventh call
     for call in 0..7 {
-        let mut shelf = shelf_of(alloc, &[("A", ONE_A), ("B", ONE_A)], &[call])?;
-        let (status, printed) = if call < 6 {
+        let told = if call < 6 {
             (6, "read fault\n")
         } else {
             (7, "write fault\n")
         };
-        assert_eq!(rt;
-            answers(alloc, "include", &mut shelf, &[], printed)?,
-            (status, true)
-        );
-        for name in ["A", "B"] {
-            assert!(rt; holds(alloc, &mut shelf, name, ONE_A));
-        }
-        let missing = load(alloc, &mut shelf, "C", 1000).err();
-        assert_eq!(rt; missing, Some(LoadFault::Failed));
+        assert!(rt; changes_none(alloc, call, told)?);
     }
-    let mut shelf = shelf_of(alloc, &[("A", ONE_A), ("B", ONE_A)], &[])?;
-    assert_eq!(rt; answers(alloc, "include", &mut shelf, &[0], "")?, (7, true));
-    assert!(rt; holds(alloc, &mut shelf, "C", ONE_YES));
+    let files = [("A", ONE_A), ("B", ONE_A)];
+    assert!(rt;
+        leaves(
+            alloc,
+            &files,
+            &[],
+            &INCLUDE,
+            &[0],
+            (7, ""),
+            &[("C", ONE_YES)]
+        )?
+    );
     Ok(())
+}
+
+/// Whether a decision of the two files, of which `B` has a fault, ends so, and leaves a certificate just if it has status 0.
+fn writes_if_decided(
+    alloc: Global,
+    first: &str,
+    second: &str,
+    told: (u8, &str),
+) -> Result<bool, Memory> {
+    let mut shelf = shelf_of(alloc, &[("A", ONE_A), ("B", "a,[0]-[1]\n")], &[])?;
+    let (status, printed) = told;
+    let words = ["include", first, second, "C"];
+    let (ended, sent) = says(alloc, &words, &mut shelf, &[], printed)?;
+    let left = load(alloc, &mut shelf, "C", 1000).is_ok();
+    Ok(ended == status && sent && left == (status == 0))
 }
 
 #[test]
@@ -178,13 +287,7 @@ fn names_may_be_the_same_and_files_faulty(rt: HostRuntime) -> Result<(), Fail> {
         ("X", "B", 6, "read fault\n"),
     ];
     for (first, second, status, printed) in rows {
-        let mut shelf = shelf_of(alloc, &[("A", ONE_A), ("B", "a,[0]-[1]\n")], &[])?;
-        let words = ["include", first, second, "C"];
-        assert_eq!(rt;
-            says(alloc, &words, &mut shelf, &[], printed)?,
-            (status, true)
-        );
-        assert_eq!(rt; load(alloc, &mut shelf, "C", 1000).is_ok(), status == 0);
+        assert!(rt; writes_if_decided(alloc, first, second, (status, printed))?);
     }
     Ok(())
 }
@@ -209,6 +312,23 @@ fn a_decision_meets_its_limit(rt: HostRuntime) -> Result<(), Fail> {
     Ok(())
 }
 
+/// Whether a decision of the pair by itself with this limit leaves this list, if it ends so.
+fn is_listed(
+    alloc: Global,
+    limit: &str,
+    list: &str,
+    told: (u8, &str),
+) -> Result<Option<bool>, Memory> {
+    let mut shelf = shelf_of(alloc, &[("A", PAIR), ("B", PAIR)], &[])?;
+    let (status, printed) = told;
+    let words = ["include", "A", "B", "C", "--limit", limit];
+    let (ended, sent) = says(alloc, &words, &mut shelf, &[], printed)?;
+    if ended != status || !sent {
+        return Ok(None);
+    }
+    Ok(Some(holds(alloc, &mut shelf, "C", list)))
+}
+
 #[test]
 fn a_limit_that_is_met_makes_a_list(rt: HostRuntime) -> Result<(), Fail> {
     let alloc = rt.alloc();
@@ -220,13 +340,8 @@ fn a_limit_that_is_met_makes_a_list(rt: HostRuntime) -> Result<(), Fail> {
         ("4", 0, "included\n"),
     ];
     for (limit, status, printed) in rows {
-        let mut shelf = shelf_of(alloc, &[("A", PAIR), ("B", PAIR)], &[])?;
-        let words = ["include", "A", "B", "C", "--limit", limit];
-        assert_eq!(rt;
-            says(alloc, &words, &mut shelf, &[], printed)?,
-            (status, true)
-        );
-        assert_eq!(rt; holds(alloc, &mut shelf, "C", list), limit == "1");
+        let left = is_listed(alloc, limit, list, (status, printed))?;
+        assert_eq!(rt; left, Some(limit == "1"));
     }
     Ok(())
 }

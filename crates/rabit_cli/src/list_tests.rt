@@ -1,9 +1,8 @@
 //! Lists of both modes: valid ones, those that a decision writes, and one line changed so that each rule in turn is the first that is broken.
 
-use crate::include_tests::says;
-use crate::shrink_tests::shelf_of;
+use crate::include_tests::decides;
 use crate::tests::check;
-use crate::yes_tests::with_lines;
+use crate::yes_tests::{untold, with_lines};
 use std::test::Fail;
 
 /// Two states that take turns.
@@ -53,29 +52,29 @@ fn valid_lists_say_their_limit(rt: HostRuntime) -> Result<(), Fail> {
 
 #[test]
 fn each_rule_of_lists_is_tested(rt: HostRuntime) -> Result<(), Fail> {
-    let alloc = rt.alloc();
-    let rows: [(&[(usize, &str)], &str); 9] = [
-        (&[(1, "sizes 2 2 1\n")], "certificate item 0: rule 1\n"),
-        (&[(2, "log1 1\ntrim 0\n")], "certificate item 1: rule 2\n"),
-        (&[(6, "base 2\n")], "certificate item 2: rule 1\n"),
-        (&[(8, "next 2 1\n")], "certificate item 4: rule 10\n"),
-        (&[(8, "next 0 0\n")], "certificate item 4: rule 11\n"),
-        (&[(4, "limit 2\n")], "certificate item 1: rule 18\n"),
-        (&[(4, "limit 4\n")], "certificate item 1: rule 18\n"),
-        (&[(9, "base 1\n")], "certificate item 5: rule 18\n"),
-        // the number of elements goes before that two are the same
-        (
-            &[(4, "limit 4\n"), (9, "base 1\n")],
-            "certificate item 1: rule 18\n",
-        ),
-    ];
-    for (changes, printed) in rows {
-        let text = with_lines(alloc, &LIST, changes)?;
-        assert_eq!(rt;
-            check(alloc, PAIR, PAIR, text.as_str(), printed)?,
-            (5, true)
-        );
-    }
+    let wrong = untold(
+        rt.alloc(),
+        PAIR,
+        PAIR,
+        &LIST,
+        5,
+        &[
+            (&[(1, "sizes 2 2 1\n")], "certificate item 0: rule 1\n"),
+            (&[(2, "log1 1\ntrim 0\n")], "certificate item 1: rule 2\n"),
+            (&[(6, "base 2\n")], "certificate item 2: rule 1\n"),
+            (&[(8, "next 2 1\n")], "certificate item 4: rule 10\n"),
+            (&[(8, "next 0 0\n")], "certificate item 4: rule 11\n"),
+            (&[(4, "limit 2\n")], "certificate item 1: rule 18\n"),
+            (&[(4, "limit 4\n")], "certificate item 1: rule 18\n"),
+            (&[(9, "base 1\n")], "certificate item 5: rule 18\n"),
+            // the number of elements goes before that two are the same
+            (
+                &[(4, "limit 4\n"), (9, "base 1\n")],
+                "certificate item 1: rule 18\n",
+            ),
+        ],
+    )?;
+    assert_eq!(rt; wrong, 0);
     Ok(())
 }
 
@@ -113,17 +112,12 @@ fn lists_that_are_written_are_accepted(rt: HostRuntime) -> Result<(), Fail> {
         &["include", "A", "B", "C", "--limit", "1", "--finite"],
     ];
     for words in rows {
-        let mut shelf = shelf_of(alloc, &[("A", PAIR), ("B", PAIR)], &[])?;
         let printed = if words.len() == 6 {
             "limit 2\n"
         } else {
             "limit 1\n"
         };
-        assert_eq!(rt; says(alloc, words, &mut shelf, &[], printed)?, (2, true));
-        assert_eq!(rt;
-            says(alloc, &["check", "A", "B", "C"], &mut shelf, &[], printed)?,
-            (2, true)
-        );
+        assert!(rt; decides(alloc, words, PAIR, PAIR, (2, printed), None)?);
     }
     Ok(())
 }

@@ -4,6 +4,7 @@ use crate::include_tests::answers;
 use crate::shrink_tests::{holds, shelf_of};
 use crate::tests::{ONE_A, check};
 use crate::yes_tests::with_lines;
+use auto_core::Memory;
 use std::alloc::Global;
 use std::test::Fail;
 
@@ -79,6 +80,16 @@ const ONE_B: &str = "[0]\nb,[0]->[0]\n[0]\n";
 const TRIMMED: &str =
     "rabit-cert 1 buchi yes\nsizes 2 1 2\nlog1 1\ntrim\nlog2 0\nrel 1\nrow 0 0\nelements 0\ncover\nend\n";
 
+/// Whether the first automaton is included in the second, with just this certificate, and a check says so and leaves it.
+fn writes(alloc: Global, first: &str, second: &str, certificate: &str) -> Result<bool, Memory> {
+    let mut shelf = shelf_of(alloc, &[("A", first), ("B", second)], &[])?;
+    let decided = answers(alloc, "include", &mut shelf, &[], "included\n")?;
+    let written = holds(alloc, &mut shelf, "C", certificate);
+    let checked = answers(alloc, "check", &mut shelf, &[], "included\n")?;
+    let kept = holds(alloc, &mut shelf, "C", certificate);
+    Ok(decided == (0, true) && written && checked == (0, true) && kept)
+}
+
 #[test]
 fn decisions_write_their_logs(rt: HostRuntime) -> Result<(), Fail> {
     let alloc = rt.alloc();
@@ -90,14 +101,7 @@ fn decisions_write_their_logs(rt: HostRuntime) -> Result<(), Fail> {
         (A_ONCE, ONE_B, TRIMMED),
     ];
     for (first, second, certificate) in rows {
-        let mut shelf = shelf_of(alloc, &[("A", first), ("B", second)], &[])?;
-        for command in ["include", "check"] {
-            assert_eq!(rt;
-                answers(alloc, command, &mut shelf, &[], "included\n")?,
-                (0, true)
-            );
-            assert!(rt; holds(alloc, &mut shelf, "C", certificate));
-        }
+        assert!(rt; writes(alloc, first, second, certificate)?);
     }
     assert_eq!(rt;
         check(

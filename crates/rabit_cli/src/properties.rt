@@ -12,12 +12,12 @@ ghost use Rattle.rabit_cli.specs.Files.{second_limits, automaton_file};
 ghost use Rattle.rabit_cli.specs.Property.{IsPropertyReply, IsPropertyDecided};
 
 use crate::files::{SECOND_LIMITS, automaton_slot};
-use crate::replies::limit_met;
+use crate::replies::{limit_met, reply_with};
 use crate::word_texts::push_word;
-use auto_core::{Lasso, List, Memory, Mode, Word};
+use auto_core::{Lasso, List, Memory, Mode, Word, append};
 use ba_format::{Joined, Limits, Named, ReadFault, Texts};
 use cert_text::{Body, write_cert};
-use rabit_frame::{Put, Reply, Slot, Status, append};
+use rabit_frame::{Put, Reply, Slot, Status};
 use rabit_words::{USUAL_LIMIT, USUAL_LOOK};
 use std::alloc::Global;
 
@@ -134,35 +134,19 @@ fn verdict<'a>(
     match body {
         Body::Yes(_) => {
             let text = holds(alloc, property)?;
-            Ok(Reply {
-                status: Status::Done,
-                text,
-                puts,
-            })
+            Ok(reply_with(Status::Done, text, puts))
         },
         Body::NoLasso(lasso) => {
             let text = fails_by_lasso(alloc, property, &pair.labels, lasso)?;
-            Ok(Reply {
-                status: Status::Refuted,
-                text,
-                puts,
-            })
+            Ok(reply_with(Status::Refuted, text, puts))
         },
         Body::NoWord(word) => {
             let text = fails_by_word(alloc, property, &pair.labels, word)?;
-            Ok(Reply {
-                status: Status::Refuted,
-                text,
-                puts,
-            })
+            Ok(reply_with(Status::Refuted, text, puts))
         },
         Body::Listing(list) => {
             let text = limit_met(alloc, list.limit)?;
-            Ok(Reply {
-                status: Status::Limit,
-                text,
-                puts,
-            })
+            Ok(reply_with(Status::Limit, text, puts))
         },
     }
 }

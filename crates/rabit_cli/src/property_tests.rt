@@ -1,7 +1,7 @@
 //! Emptiness and universality of an automaton in a file in memory: what is printed, the two files that are left, and what a check says of them.
 
 use crate::fault_tests::many_lines;
-use crate::include_tests::says;
+use crate::include_tests::{says, says_in_turn};
 use crate::shrink_tests::{holds, shelf_of};
 use crate::tests::USAGE;
 use auto_core::Memory;
@@ -155,22 +155,40 @@ fn a_universal_automaton_is_told(rt: HostRuntime) -> Result<(), Fail> {
 #[test]
 fn the_three_names_have_to_differ(rt: HostRuntime) -> Result<(), Fail> {
     let alloc = rt.alloc();
-    let mut shelf = shelf_of(alloc, &[("A", TWO_LETTERS)], &[])?;
+    let files = [("A", TWO_LETTERS)];
     for command in ["empty", "universal"] {
-        let unasked: [&[&str]; 6] = [
-            &[command, "A", "A", "C"],
-            &[command, "A", "M", "A"],
-            &[command, "A", "C", "C"],
-            &[command, "A", "M"],
-            &[command, "A", "M", "C", "D"],
-            &[command, "A", "M", "C", "--look", "2"],
+        let unasked: [(&[&str], &[u64], u8, &str); 6] = [
+            (&[command, "A", "A", "C"], &[], 3, USAGE),
+            (&[command, "A", "M", "A"], &[], 3, USAGE),
+            (&[command, "A", "C", "C"], &[], 3, USAGE),
+            (&[command, "A", "M"], &[], 3, USAGE),
+            (&[command, "A", "M", "C", "D"], &[], 3, USAGE),
+            (&[command, "A", "M", "C", "--look", "2"], &[], 3, USAGE),
         ];
-        for words in unasked {
-            assert_eq!(rt; says(alloc, words, &mut shelf, &[], USAGE)?, (3, true));
-        }
+        assert!(rt; says_in_turn(alloc, &files, &unasked, &files)?);
     }
-    assert!(rt; holds(alloc, &mut shelf, "A", TWO_LETTERS));
     Ok(())
+}
+
+/// Whether the two letters are told to be all so, and, where that is said, whether the text and the certificate are left as it is said.
+fn puts(
+    alloc: Global,
+    fails: &[u64],
+    sink_fails: &[u64],
+    told: (u8, &str),
+    left: Option<(bool, bool)>,
+) -> Result<bool, Memory> {
+    let mut shelf = shelf_of(alloc, &[("A", TWO_LETTERS)], fails)?;
+    let (status, printed) = told;
+    let words = ["universal", "A", "M", "C"];
+    let (ended, sent) = says(alloc, &words, &mut shelf, sink_fails, printed)?;
+    let made = holds(alloc, &mut shelf, "M", TWO_LETTERS);
+    let certificate = holds(alloc, &mut shelf, "C", UNIVERSAL_YES);
+    let is_left = match left {
+        Some(left) => left == (made, certificate),
+        None => true,
+    };
+    Ok(ended == status && sent && is_left)
 }
 
 #[test]
@@ -187,18 +205,23 @@ fn the_certificate_is_put_after_the_text(rt: HostRuntime) -> Result<(), Fail> {
         (&[], &[], 0, told, true, true),
     ];
     for (fails, sink_fails, status, printed, made, certificate) in rows {
-        let mut shelf = shelf_of(alloc, &[("A", TWO_LETTERS)], fails)?;
-        let words = ["universal", "A", "M", "C"];
-        assert_eq!(rt;
-            says(alloc, &words, &mut shelf, sink_fails, printed)?,
-            (status, true)
-        );
-        if fails.is_empty() || status == 7 {
-            assert_eq!(rt; holds(alloc, &mut shelf, "M", TWO_LETTERS), made);
-            assert_eq!(rt; holds(alloc, &mut shelf, "C", UNIVERSAL_YES), certificate);
-        }
+        let told = (status, printed);
+        let left = if fails.is_empty() || status == 7 {
+            Some((made, certificate))
+        } else {
+            None
+        };
+        assert!(rt; puts(alloc, fails, sink_fails, told, left)?);
     }
     Ok(())
+}
+
+/// Whether the command says just this of the file's fault, and makes no text.
+fn faults(alloc: Global, command: &str, text: &str, printed: &str) -> Result<bool, Memory> {
+    let mut shelf = shelf_of(alloc, &[("A", text)], &[])?;
+    let words = [command, "A", "M", "C"];
+    let (status, sent) = says(alloc, &words, &mut shelf, &[], printed)?;
+    Ok(status == 4 && sent && !holds(alloc, &mut shelf, "M", ""))
 }
 
 #[test]
@@ -220,10 +243,7 @@ fn faults_and_limits_of_the_file_are_told(rt: HostRuntime) -> Result<(), Fail> {
         ("universal", "", "file 1 line 0: Empty\n"),
     ];
     for (command, text, printed) in rows {
-        let mut shelf = shelf_of(alloc, &[("A", text)], &[])?;
-        let words = [command, "A", "M", "C"];
-        assert_eq!(rt; says(alloc, &words, &mut shelf, &[], printed)?, (4, true));
-        assert!(rt; !holds(alloc, &mut shelf, "M", ""));
+        assert!(rt; faults(alloc, command, text, printed)?);
     }
     Ok(())
 }

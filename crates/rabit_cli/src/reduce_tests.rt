@@ -1,9 +1,8 @@
 //! The reduction of an automaton in a file in memory: what it prints, and what it leaves.
 
-use crate::include_tests::says;
+use crate::include_tests::{leaves, says};
 use crate::search_tests::looped_ring;
-use crate::shrink_tests::holds;
-use crate::tests::{USAGE, answers, list_of, shelf_of};
+use crate::tests::{USAGE, answers, list_of};
 use auto_core::{List, Memory};
 use shelf_io::{File, MemShelf};
 use std::alloc::Global;
@@ -193,12 +192,18 @@ fn a_file_that_is_one_byte_too_long_is_told(rt: HostRuntime) -> Result<(), Fail>
 #[test]
 fn the_file_stays(rt: HostRuntime) -> Result<(), Fail> {
     let alloc = rt.alloc();
-    let mut shelf = shelf_of(alloc, &[("A", PAIR)], &[])?;
+    let files = [("A", PAIR)];
     let reduced = "[0]\na,[0]->[1]\nb,[1]->[0]\n[0]\n[1]\n";
-    assert_eq!(rt;
-        says(alloc, &["reduce", "A"], &mut shelf, &[], reduced)?,
-        (0, true)
+    assert!(rt;
+        leaves(
+            alloc,
+            &files,
+            &[],
+            &["reduce", "A"],
+            &[],
+            (0, reduced),
+            &files
+        )?
     );
-    assert!(rt; holds(alloc, &mut shelf, "A", PAIR));
     Ok(())
 }

@@ -9,16 +9,23 @@ ghost use Rattle.rabit_cli.specs.Printed.{refused_text, included_text, not_inclu
 ghost use Rattle.rabit_cli.specs.Replies.{usage_reply, IsVerdictReply};
 
 use crate::word_texts::push_word;
-use auto_core::{Lasso, List, Memory, Mode, Word};
+use auto_core::{Lasso, List, Memory, Mode, Word, append};
 use ba_format::{Joined, Texts};
 use cert_check::Refusal;
 use cert_text::Body;
-use rabit_frame::{Put, Reply, Status, append, line};
+use rabit_frame::{Put, Reply, Status, line};
 use std::alloc::Global;
 
 /// How the program is used.
 const USAGE: &str =
     "usage: rabit include A B CERT [--finite] [--look K] [--limit N] [--letters M] | check A B CERT | reduce A [--finite] [--look K] [--letters M] | drill SEED STATES LABELS | upgrade CERT OUT | cross A B OUT [--look K] | cross-check A B FILE | equal A B C1 C2 | batch LIST | union A B [--finite] | intersect A B [--finite] | shrink A B CERT OUT | empty A E CERT [--finite] | universal A U CERT [--finite]\n";
+
+/// The reply with this status and this text, before which these files are written.
+pub fn reply_with<'a>(status: Status, text: List<u8>, puts: List<Put<'a>>) -> Reply<'a>
+    ensures { result ≡ reply_with status text puts.entry }
+{
+    Reply { status, text, puts }
+}
 
 /// The words ask nothing.
 pub fn usage<'a>(alloc: Global) -> Result<Reply<'a>, Memory>
@@ -99,35 +106,19 @@ pub fn verdict<'a>(
     match body {
         Body::Yes(_) => {
             let text = included(alloc, mode)?;
-            Ok(Reply {
-                status: Status::Done,
-                text,
-                puts,
-            })
+            Ok(reply_with(Status::Done, text, puts))
         },
         Body::NoLasso(lasso) => {
             let text = not_included(alloc, &pair.labels, lasso)?;
-            Ok(Reply {
-                status: Status::Refuted,
-                text,
-                puts,
-            })
+            Ok(reply_with(Status::Refuted, text, puts))
         },
         Body::Listing(list) => {
             let text = limit_met(alloc, list.limit)?;
-            Ok(Reply {
-                status: Status::Limit,
-                text,
-                puts,
-            })
+            Ok(reply_with(Status::Limit, text, puts))
         },
         Body::NoWord(word) => {
             let text = word_not_included(alloc, &pair.labels, word)?;
-            Ok(Reply {
-                status: Status::Refuted,
-                text,
-                puts,
-            })
+            Ok(reply_with(Status::Refuted, text, puts))
         },
     }
 }

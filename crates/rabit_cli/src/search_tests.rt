@@ -99,14 +99,17 @@ fn closes(
     cover: &[u32],
     steps: &[WantedLine],
 ) -> Result<bool, Memory> {
-    let Outcome::Closed(closure) = outcome_of(alloc, first, second, 20000)? else {
-        return Ok(false);
+    let outcome = outcome_of(alloc, first, second, 20000)?;
+    let same = match &outcome {
+        Outcome::Closed(closure) => {
+            closure.elements.as_slice() == elements
+                && closure.cover.as_slice() == cover
+                && are_steps(closure.steps.as_slice(), steps)
+        },
+        _ => false,
     };
-    Ok(
-        closure.elements.as_slice() == elements
-            && closure.cover.as_slice() == cover
-            && are_steps(closure.steps.as_slice(), steps),
-    )
+    drop(outcome);
+    Ok(same)
 }
 
 fn live(origin: Origin) -> Element {
@@ -131,10 +134,13 @@ fn told_apart(
     prefix: &[u32],
     turn: &[u32],
 ) -> Result<bool, Memory> {
-    let Outcome::Apart(lasso) = outcome_of(alloc, first, second, 20000)? else {
-        return Ok(false);
+    let outcome = outcome_of(alloc, first, second, 20000)?;
+    let same = match &outcome {
+        Outcome::Apart(lasso) => lasso.prefix.as_slice() == prefix && lasso.turn.as_slice() == turn,
+        _ => false,
     };
-    Ok(lasso.prefix.as_slice() == prefix && lasso.turn.as_slice() == turn)
+    drop(outcome);
+    Ok(same)
 }
 
 fn line(element: u32, by: &[u32]) -> WantedLine<'_> {
@@ -266,7 +272,7 @@ fn are_same_steps(steps: &[StepLine], others: &[StepLine]) -> bool {
 }
 
 /// Whether both searches close with the same evidence, in which at most so many elements are live.
-fn close_alike(one: Outcome, other: Outcome, most: u64) -> bool {
+fn close_alike(one: &Outcome, other: &Outcome, most: u64) -> bool {
     let Outcome::Closed(one) = one else {
         return false;
     };
@@ -295,12 +301,10 @@ fn leaves_a_block_of_ones(alloc: Global, text: &str) -> Result<bool, Memory> {
     }
     let lent = search_in(alloc, &mut pool, &pair.first, &pair.second, &order, 20000)?;
     let own = search(alloc, &pair.first, &pair.second, &order, 20000)?;
-    Ok(
-        pool.live() == 1
-            && pool.is_live(ones)
-            && are_ones(pool.block(ones))
-            && close_alike(lent, own, pool.free()),
-    )
+    let alike = close_alike(&lent, &own, pool.free());
+    drop(own);
+    drop(lent);
+    Ok(pool.live() == 1 && pool.is_live(ones) && are_ones(pool.block(ones)) && alike)
 }
 
 #[test]

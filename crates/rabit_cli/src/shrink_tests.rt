@@ -1,7 +1,7 @@
 //! Certificates that say no without the letters that they do not need: what is printed, and what is left.
 
 use crate::fault_tests::many_lines;
-use crate::include_tests::{PAIR, says};
+use crate::include_tests::{PAIR, says, says_in_turn};
 use crate::tests::{ONLY_B, RING, RING_NO, USAGE, shelf_with};
 use auto_core::Memory;
 use shelf_io::{MemShelf, load};
@@ -42,6 +42,14 @@ pub(crate) fn holds(alloc: Global, shelf: &mut MemShelf, name: &str, text: &str)
     }
 }
 
+/// Whether what the shelf holds under the name begins with this text.
+pub(crate) fn begins(alloc: Global, shelf: &mut MemShelf, name: &str, front: &str) -> bool {
+    match load(alloc, shelf, name, 1_000_000) {
+        Ok(bytes) => bytes.as_slice().starts_with(front.as_bytes()),
+        Err(_) => false,
+    }
+}
+
 /// The status of a shrinking of the certificate for the two automata, and whether just this text was sent and just that one is left.
 fn shrinks(
     alloc: Global,
@@ -52,9 +60,21 @@ fn shrinks(
     left: &str,
 ) -> Result<(u8, bool, bool), Memory> {
     let files = [("A", first), ("B", second), ("C", certificate)];
-    let mut shelf = shelf_of(alloc, &files, &[])?;
+    shrinks_files(alloc, &files, &[], &[], printed, left)
+}
+
+/// The same of files where these calls of the shelf and of the sink fail.
+fn shrinks_files(
+    alloc: Global,
+    files: &[(&str, &str)],
+    fails: &[u64],
+    sink_fails: &[u64],
+    printed: &str,
+    left: &str,
+) -> Result<(u8, bool, bool), Memory> {
+    let mut shelf = shelf_of(alloc, files, fails)?;
     let words = ["shrink", "A", "B", "C", "D"];
-    let (status, sent) = says(alloc, &words, &mut shelf, &[], printed)?;
+    let (status, sent) = says(alloc, &words, &mut shelf, sink_fails, printed)?;
     Ok((status, sent, holds(alloc, &mut shelf, "D", left)))
 }
 
@@ -134,23 +154,14 @@ fn other_certificates_have_nothing_to_shrink(rt: HostRuntime) -> Result<(), Fail
         (13, true, false)
     );
     // a list; the status stays where the sink refuses the line
-    let mut shelf = shelf_of(alloc, &[("A", PAIR), ("B", PAIR)], &[])?;
-    let rows: [(&[&str], &[u64], &str, u8); 3] = [
-        (
-            &["include", "A", "B", "C", "--limit", "1"],
-            &[],
-            "limit 1\n",
-            2,
-        ),
-        (&["shrink", "A", "B", "C", "D"], &[], told, 13),
-        (&["shrink", "A", "B", "C", "D"], &[0], "", 13),
+    let decide = ["include", "A", "B", "C", "--limit", "1"];
+    let shrink = ["shrink", "A", "B", "C", "D"];
+    let asked: [(&[&str], &[u64], u8, &str); 3] = [
+        (&decide, &[], 2, "limit 1\n"),
+        (&shrink, &[], 13, told),
+        (&shrink, &[0], 13, ""),
     ];
-    for (words, sink_fails, printed, status) in rows {
-        assert_eq!(rt;
-            says(alloc, words, &mut shelf, sink_fails, printed)?,
-            (status, true)
-        );
-    }
+    assert!(rt; says_in_turn(alloc, &[("A", PAIR), ("B", PAIR)], &asked, &[])?);
     Ok(())
 }
 
@@ -200,13 +211,8 @@ fn failing_calls_of_a_shrinking_are_told(rt: HostRuntime) -> Result<(), Fail> {
         (&[], &[], 1, told, true),
     ];
     for (fails, sink_fails, status, printed, left) in rows {
-        let mut shelf = shelf_of(alloc, &files, fails)?;
-        let words = ["shrink", "A", "B", "C", "D"];
-        assert_eq!(rt;
-            says(alloc, &words, &mut shelf, sink_fails, printed)?,
-            (status, true)
-        );
-        assert_eq!(rt; holds(alloc, &mut shelf, "D", SHORT_NO), left);
+        let told = shrinks_files(alloc, &files, fails, sink_fails, printed, SHORT_NO)?;
+        assert_eq!(rt; told, (status, true, left));
     }
     Ok(())
 }
@@ -216,30 +222,23 @@ fn the_shorter_certificate_may_take_the_place_of_the_longer(rt: HostRuntime) -> 
     let alloc = rt.alloc();
     let files = [("A", TWO_LETTERS), ("B", ONE_A), ("C", LONG_NO)];
     let told = "not included\nprefix:\nloop: b\n";
-    let mut shelf = shelf_of(alloc, &files, &[])?;
-    let asked: [&[&str]; 2] = [&["shrink", "A", "B", "C", "C"], &["check", "A", "B", "C"]];
-    for words in asked {
-        assert_eq!(rt; says(alloc, words, &mut shelf, &[], told)?, (1, true));
-    }
-    assert!(rt; holds(alloc, &mut shelf, "C", SHORT_NO));
+    let asked: [(&[&str], &[u64], u8, &str); 2] = [
+        (&["shrink", "A", "B", "C", "C"], &[], 1, told),
+        (&["check", "A", "B", "C"], &[], 1, told),
+    ];
+    assert!(rt; says_in_turn(alloc, &files, &asked, &[("C", SHORT_NO)])?);
     Ok(())
 }
 
 #[test]
 fn other_words_ask_nothing(rt: HostRuntime) -> Result<(), Fail> {
     let alloc = rt.alloc();
-    let mut shelf = shelf_of(
-        alloc,
-        &[("A", TWO_LETTERS), ("B", ONE_A), ("C", LONG_NO)],
-        &[],
-    )?;
-    let unasked: [&[&str]; 3] = [
-        &["shrink", "A", "B", "C"],
-        &["shrink", "A", "B", "C", "D", "A"],
-        &["shrink", "A", "B", "C", "D", "--finite"],
+    let files = [("A", TWO_LETTERS), ("B", ONE_A), ("C", LONG_NO)];
+    let unasked: [(&[&str], &[u64], u8, &str); 3] = [
+        (&["shrink", "A", "B", "C"], &[], 3, USAGE),
+        (&["shrink", "A", "B", "C", "D", "A"], &[], 3, USAGE),
+        (&["shrink", "A", "B", "C", "D", "--finite"], &[], 3, USAGE),
     ];
-    for words in unasked {
-        assert_eq!(rt; says(alloc, words, &mut shelf, &[], USAGE)?, (3, true));
-    }
+    assert!(rt; says_in_turn(alloc, &files, &unasked, &[])?);
     Ok(())
 }

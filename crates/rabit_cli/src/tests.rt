@@ -99,64 +99,90 @@ pub(crate) fn check(
     answers(alloc, &["check", "A", "B", "C"], &files, &[], &[], printed)
 }
 
+/// How many of these checks end otherwise: of the first automaton and the second, by the certificate, with the status and just the text.
+pub(crate) fn unsaid(alloc: Global, rows: &[(&str, &str, &str, u8, &str)]) -> Result<u32, Memory> {
+    let mut unsaid: u32 = 0;
+    for (first, second, certificate, status, printed) in rows {
+        if check(alloc, first, second, certificate, printed)? != (*status, true) {
+            unsaid = unsaid.saturating_add(1);
+        }
+    }
+    Ok(unsaid)
+}
+
+/// How many of these end otherwise on the files: the words, where these calls of the shelf and of the sink fail, with the status and just the text.
+pub(crate) fn unanswered(
+    alloc: Global,
+    files: &[(&str, &str)],
+    rows: &[(&[&str], &[u64], &[u64], u8, &str)],
+) -> Result<u32, Memory> {
+    let mut unanswered: u32 = 0;
+    for (words, fails, sink_fails, status, printed) in rows {
+        if answers(alloc, words, files, fails, sink_fails, printed)? != (*status, true) {
+            unanswered = unanswered.saturating_add(1);
+        }
+    }
+    Ok(unanswered)
+}
+
 #[test]
 fn a_lasso_that_separates_is_printed(rt: HostRuntime) -> Result<(), Fail> {
-    let alloc = rt.alloc();
-    let rows = [
-        (RING, ONLY_B, RING_NO, "not included\nprefix:\nloop: a\n"),
-        (
-            TWO_LETTERS,
-            ONE_A,
-            LETTERS_NO,
-            "not included\nprefix: b\nloop: b\n",
-        ),
-    ];
-    for (first, second, certificate, printed) in rows {
-        assert_eq!(rt;
-            check(alloc, first, second, certificate, printed)?,
-            (1, true)
-        );
-    }
+    let ring = "not included\nprefix:\nloop: a\n";
+    let letters = "not included\nprefix: b\nloop: b\n";
+    let wrong = unsaid(
+        rt.alloc(),
+        &[
+            (RING, ONLY_B, RING_NO, 1, ring),
+            (TWO_LETTERS, ONE_A, LETTERS_NO, 1, letters),
+        ],
+    )?;
+    assert_eq!(rt; wrong, 0);
     Ok(())
 }
 
 #[test]
 fn other_ends_have_their_status(rt: HostRuntime) -> Result<(), Fail> {
-    let alloc = rt.alloc();
     let list = "rabit-cert 1 buchi list\nsizes 1 1 1\nlog1 0\nlog2 0\nlimit 1\nelements 0\nend\n";
-    let rows = [
-        (ONE_A, ONE_A, list, "certificate item 1: rule 18\n", 5),
-        (ONE_A, ONE_A, RING_NO, "certificate item 0: rule 1\n", 5),
-        ("a,[0]-[1]\n", ONE_A, list, "file 1 line 1: Shape\n", 4),
-        (ONE_A, "", list, "file 2 line 0: Empty\n", 4),
-        (ONE_A, ONE_A, "", "certificate line 1: Truncated\n", 5),
-    ];
-    for (first, second, certificate, printed, status) in rows {
-        assert_eq!(rt;
-            check(alloc, first, second, certificate, printed)?,
-            (status, true)
-        );
-    }
+    let wrong = unsaid(
+        rt.alloc(),
+        &[
+            (ONE_A, ONE_A, list, 5, "certificate item 1: rule 18\n"),
+            (ONE_A, ONE_A, RING_NO, 5, "certificate item 0: rule 1\n"),
+            ("a,[0]-[1]\n", ONE_A, list, 4, "file 1 line 1: Shape\n"),
+            (ONE_A, "", list, 4, "file 2 line 0: Empty\n"),
+            (ONE_A, ONE_A, "", 5, "certificate line 1: Truncated\n"),
+        ],
+    )?;
+    assert_eq!(rt; wrong, 0);
     Ok(())
 }
 
 #[test]
 fn a_faulty_file_goes_before_a_missing_one(rt: HostRuntime) -> Result<(), Fail> {
-    let alloc = rt.alloc();
-    let files = [("A", "a,[0]-[1]\n"), ("B", ONE_A), ("C", RING_NO)];
-    let rows: [(&[&str], &str, u8); 5] = [
-        (&["check", "A", "X", "X"], "file 1 line 1: Shape\n", 4),
-        (&["check", "B", "A", "X"], "file 2 line 1: Shape\n", 4),
-        (&["check", "X", "B", "C"], "read fault\n", 6),
-        (&["check", "A", "B"], USAGE, 3),
-        (&[], USAGE, 3),
-    ];
-    for (words, printed, status) in rows {
-        assert_eq!(rt;
-            answers(alloc, words, &files, &[], &[], printed)?,
-            (status, true)
-        );
-    }
+    let wrong = unanswered(
+        rt.alloc(),
+        &[("A", "a,[0]-[1]\n"), ("B", ONE_A), ("C", RING_NO)],
+        &[
+            (
+                &["check", "A", "X", "X"],
+                &[],
+                &[],
+                4,
+                "file 1 line 1: Shape\n",
+            ),
+            (
+                &["check", "B", "A", "X"],
+                &[],
+                &[],
+                4,
+                "file 2 line 1: Shape\n",
+            ),
+            (&["check", "X", "B", "C"], &[], &[], 6, "read fault\n"),
+            (&["check", "A", "B"], &[], &[], 3, USAGE),
+            (&[], &[], &[], 3, USAGE),
+        ],
+    )?;
+    assert_eq!(rt; wrong, 0);
     Ok(())
 }
 
@@ -167,23 +193,20 @@ fn failing_calls_of_the_outside_are_told(rt: HostRuntime) -> Result<(), Fail> {
     let words = ["check", "A", "B", "C"];
     // each of the three files is begun and then taken in two calls
     for call in 0..9 {
-        assert_eq!(rt;
-            answers(alloc, &words, &files, &[call], &[], "read fault\n")?,
-            (6, true)
-        );
+        let wrong = unanswered(alloc, &files, &[(&words, &[call], &[], 6, "read fault\n")])?;
+        assert_eq!(rt; wrong, 0, "{call}");
     }
     let told = "not included\nprefix:\nloop: a\n";
-    let rows: [(&[u64], &[u64], &str, u8); 3] = [
-        (&[9], &[], told, 1),
-        (&[], &[1], told, 1),
-        (&[], &[0], "", 7),
-    ];
-    for (fails, sink_fails, printed, status) in rows {
-        assert_eq!(rt;
-            answers(alloc, &words, &files, fails, sink_fails, printed)?,
-            (status, true)
-        );
-    }
+    let wrong = unanswered(
+        alloc,
+        &files,
+        &[
+            (&words, &[9], &[], 1, told),
+            (&words, &[], &[1], 1, told),
+            (&words, &[], &[0], 7, ""),
+        ],
+    )?;
+    assert_eq!(rt; wrong, 0);
     Ok(())
 }
 
@@ -197,17 +220,10 @@ fn the_ring_may_be_written_in_many_ways(rt: HostRuntime) -> Result<(), Fail> {
         "a,0->1\na,1->2\na,2->0\n",
         "[0]\na,[0]->[1]\n[0]\na,[1]->[2]\na,[0]->[1]\na,[2]->[0]\n[0]\n",
     ];
+    let said = "not included\nprefix:\nloop: a\n";
     for text in texts {
-        assert_eq!(rt;
-            check(
-                alloc,
-                text,
-                ONLY_B,
-                RING_NO,
-                "not included\nprefix:\nloop: a\n"
-            )?,
-            (1, true)
-        );
+        let wrong = unsaid(alloc, &[(text, ONLY_B, RING_NO, 1, said)])?;
+        assert_eq!(rt; wrong, 0, "{text:?}");
     }
     Ok(())
 }

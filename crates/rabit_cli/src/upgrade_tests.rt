@@ -1,9 +1,8 @@
 //! Certificates put in version 2: what is printed, what is left, and that a check says the same of both.
 
-use crate::include_tests::{PAIR, says};
+use crate::include_tests::{PAIR, holds_all, leaves, says};
 use crate::shrink_tests::{holds, shelf_of};
 use auto_core::Memory;
-use shelf_io::MemShelf;
 use std::alloc::Global;
 use std::test::Fail;
 
@@ -20,14 +19,23 @@ const YES: &str =
 const YES_2: &str =
     "rabit-cert 2 buchi yes\nsizes 2 2 2\nlog1 0\nlog2 0\nrel 2\nrow 0 0 0\nrow 1 1 1\nelements 4\nlive base 0\nlive base 1\nlive next 0 1\nlive next 1 0\ncover 0 1\nstep 0 2\nstep 1 3\nstep 2 0\nstep 3 1\nend\n";
 
-/// The status of an upgrade of `C` into `D`, and whether just this text was sent.
+/// The words of an upgrade of `C` into `D`.
+const UPGRADE: [&str; 3] = ["upgrade", "C", "D"];
+
+/// Whether the certificate of these files is upgraded to this text, and checks of both say the same.
 fn upgrades(
     alloc: Global,
-    shelf: &mut MemShelf,
-    sink_fails: &[u64],
-    printed: &str,
-) -> Result<(u8, bool), Memory> {
-    says(alloc, &["upgrade", "C", "D"], shelf, sink_fails, printed)
+    files: &[(&str, &str)],
+    upgraded: &str,
+    told: (u8, &str),
+) -> Result<bool, Memory> {
+    let mut shelf = shelf_of(alloc, files, &[])?;
+    let (status, printed) = told;
+    let (ended, sent) = says(alloc, &UPGRADE, &mut shelf, &[], "upgraded\n")?;
+    let held = holds_all(alloc, &mut shelf, files) && holds(alloc, &mut shelf, "D", upgraded);
+    let old = says(alloc, &["check", "A", "B", "C"], &mut shelf, &[], printed)?;
+    let new = says(alloc, &["check", "A", "B", "D"], &mut shelf, &[], printed)?;
+    Ok(ended == 0 && sent && held && old == (status, true) && new == (status, true))
 }
 
 #[test]
@@ -56,17 +64,7 @@ fn both_versions_are_checked_alike(rt: HostRuntime) -> Result<(), Fail> {
     ];
     for (first, second, certificate, upgraded, status, printed) in rows {
         let files = [("A", first), ("B", second), ("C", certificate)];
-        let mut shelf = shelf_of(alloc, &files, &[])?;
-        assert_eq!(rt; upgrades(alloc, &mut shelf, &[], "upgraded\n")?, (0, true));
-        assert!(rt; holds(alloc, &mut shelf, "C", certificate));
-        assert!(rt; holds(alloc, &mut shelf, "D", upgraded));
-        for name in ["C", "D"] {
-            let words = ["check", "A", "B", name];
-            assert_eq!(rt;
-                says(alloc, &words, &mut shelf, &[], printed)?,
-                (status, true)
-            );
-        }
+        assert!(rt; upgrades(alloc, &files, upgraded, (status, printed))?);
     }
     Ok(())
 }
@@ -99,12 +97,18 @@ fn faulty_texts_and_failing_calls_are_told(rt: HostRuntime) -> Result<(), Fail> 
     ];
     for (certificate, fails, sink_fails, status, printed, left) in rows {
         let files = [("C", certificate), ("D", "older")];
-        let mut shelf = shelf_of(alloc, &files, fails)?;
-        assert_eq!(rt;
-            upgrades(alloc, &mut shelf, sink_fails, printed)?,
-            (status, true)
+        let told = (status, printed);
+        assert!(rt;
+            leaves(
+                alloc,
+                &files,
+                fails,
+                &UPGRADE,
+                sink_fails,
+                told,
+                &[("D", left)]
+            )?
         );
-        assert!(rt; holds(alloc, &mut shelf, "D", left));
     }
     Ok(())
 }
@@ -112,12 +116,18 @@ fn faulty_texts_and_failing_calls_are_told(rt: HostRuntime) -> Result<(), Fail> 
 #[test]
 fn the_new_text_may_take_the_place_of_the_old(rt: HostRuntime) -> Result<(), Fail> {
     let alloc = rt.alloc();
-    let mut shelf = shelf_of(alloc, &[("C", YES)], &[])?;
+    let files = [("C", YES)];
     let words = ["upgrade", "C", "C"];
-    assert_eq!(rt;
-        says(alloc, &words, &mut shelf, &[], "upgraded\n")?,
-        (0, true)
+    assert!(rt;
+        leaves(
+            alloc,
+            &files,
+            &[],
+            &words,
+            &[],
+            (0, "upgraded\n"),
+            &[("C", YES_2)]
+        )?
     );
-    assert!(rt; holds(alloc, &mut shelf, "C", YES_2));
     Ok(())
 }

@@ -3,9 +3,8 @@
 ghost use Rattle.std.specs.Prelude.{◌≡◌, ◌<◌, ◌++◌, length, All, OnOk};
 ghost use Rattle.rabit_cli.specs.Printed.{word_text, further_letters};
 
-use auto_core::{List, Memory};
+use auto_core::{List, Memory, append};
 use ba_format::Texts;
-use rabit_frame::append;
 
 /// Appends a comma and the text of its label for each letter of the word.
 fn push_further(out: &mut List<u8>, labels: &Texts, word: &[u32]) -> Result<(), Memory>

@@ -1,7 +1,7 @@
 //! Certificates of inclusion: valid ones, and one line changed so that each rule in turn is the first that is broken.
 
 use crate::include_tests::ONE_YES;
-use crate::tests::{ONE_A, check};
+use crate::tests::{ONE_A, check, unsaid};
 use auto_core::Memory;
 use std::alloc::Global;
 use std::test::Fail;
@@ -50,119 +50,126 @@ pub(crate) fn with_lines(
     Ok(text)
 }
 
+/// How many of the damages of the whole text are told otherwise than by this status and what stands beside them. A damage is the lines that
+/// change, by their numbers from 0.
+pub(crate) fn untold(
+    alloc: Global,
+    first: &str,
+    second: &str,
+    whole: &[&str],
+    status: u8,
+    damages: &[(&[(usize, &str)], &str)],
+) -> Result<u32, Memory> {
+    let mut untold: u32 = 0;
+    for (changes, said) in damages {
+        let text = with_lines(alloc, whole, changes)?;
+        if check(alloc, first, second, text.as_str(), said)? != (status, true) {
+            untold = untold.saturating_add(1);
+        }
+    }
+    Ok(untold)
+}
+
 #[test]
 fn valid_certificates_show_inclusion(rt: HostRuntime) -> Result<(), Fail> {
     let alloc = rt.alloc();
     let text = with_lines(alloc, &LINES, &[])?;
     let two =
         "rabit-cert 1 buchi yes\nsizes 1 1 1\nlog1 0\nlog2 0\nrel 1\nrow 0 0\nelements 2\nunder 1 base 0\nlive next 0 0\ncover 1\nstep 1 1\nend\n";
-    for (both, certificate) in [(PAIR, text.as_str()), (ONE_A, ONE_YES), (ONE_A, two)] {
-        assert_eq!(rt;
-            check(alloc, both, both, certificate, "included\n")?,
-            (0, true)
-        );
-    }
+    let wrong = unsaid(
+        alloc,
+        &[
+            (PAIR, PAIR, text.as_str(), 0, "included\n"),
+            (ONE_A, ONE_A, ONE_YES, 0, "included\n"),
+            (ONE_A, ONE_A, two, 0, "included\n"),
+        ],
+    )?;
+    assert_eq!(rt; wrong, 0);
     Ok(())
 }
 
 #[test]
 fn one_changed_line_breaks_its_rule(rt: HostRuntime) -> Result<(), Fail> {
-    let alloc = rt.alloc();
-    let cases = [
-        (6, "row 1 2\n", "certificate item 1: rule 1\n"),
-        (6, "row 1 0 1\n", "certificate item 1: rule 9\n"),
-        (8, "live base 2\n", "certificate item 2: rule 1\n"),
-        (10, "live next 2 1\n", "certificate item 4: rule 10\n"),
-        (10, "live next 0 0\n", "certificate item 4: rule 11\n"),
-        (12, "cover 0 4\n", "certificate item 6: rule 1\n"),
-        (12, "cover 0\n", "certificate item 6: rule 13\n"),
-        (12, "cover 1 0\n", "certificate item 6: rule 13\n"),
-        (14, "step 1 4\n", "certificate item 8: rule 1\n"),
-        (15, "step 2 1\n", "certificate item 9: rule 14\n"),
-        (13, "step 0 2 2\n", "certificate item 7: rule 14\n"),
-    ];
-    for (place, line, printed) in cases {
-        let text = with_lines(alloc, &LINES, &[(place, line)])?;
-        assert_eq!(rt;
-            check(alloc, PAIR, PAIR, text.as_str(), printed)?,
-            (5, true)
-        );
-    }
+    let wrong = untold(
+        rt.alloc(),
+        PAIR,
+        PAIR,
+        &LINES,
+        5,
+        &[
+            (&[(6, "row 1 2\n")], "certificate item 1: rule 1\n"),
+            (&[(6, "row 1 0 1\n")], "certificate item 1: rule 9\n"),
+            (&[(8, "live base 2\n")], "certificate item 2: rule 1\n"),
+            (&[(10, "live next 2 1\n")], "certificate item 4: rule 10\n"),
+            (&[(10, "live next 0 0\n")], "certificate item 4: rule 11\n"),
+            (&[(12, "cover 0 4\n")], "certificate item 6: rule 1\n"),
+            (&[(12, "cover 0\n")], "certificate item 6: rule 13\n"),
+            (&[(12, "cover 1 0\n")], "certificate item 6: rule 13\n"),
+            (&[(14, "step 1 4\n")], "certificate item 8: rule 1\n"),
+            (&[(15, "step 2 1\n")], "certificate item 9: rule 14\n"),
+            (&[(13, "step 0 2 2\n")], "certificate item 7: rule 14\n"),
+        ],
+    )?;
+    assert_eq!(rt; wrong, 0);
     Ok(())
 }
 
 /// Elements that are said to be under another one; the step line of each, which is then not live, is left out.
 #[test]
 fn elements_under_others_are_tested(rt: HostRuntime) -> Result<(), Fail> {
-    let alloc = rt.alloc();
-    let cases = [
-        (8, "under 4 base 0\n", 13, "certificate item 2: rule 1\n"),
-        (8, "under 0 base 0\n", 13, "certificate item 2: rule 12\n"),
-        (
-            10,
-            "under 0 next 0 1\n",
-            15,
-            "certificate item 4: rule 12\n",
-        ),
-    ];
-    for (place, line, step, printed) in cases {
-        let text = with_lines(alloc, &LINES, &[(place, line), (step, "")])?;
-        assert_eq!(rt;
-            check(alloc, PAIR, PAIR, text.as_str(), printed)?,
-            (5, true)
-        );
-    }
+    let wrong = untold(
+        rt.alloc(),
+        PAIR,
+        PAIR,
+        &LINES,
+        5,
+        &[
+            (
+                &[(8, "under 4 base 0\n"), (13, "")],
+                "certificate item 2: rule 1\n",
+            ),
+            (
+                &[(8, "under 0 base 0\n"), (13, "")],
+                "certificate item 2: rule 12\n",
+            ),
+            (
+                &[(10, "under 0 next 0 1\n"), (15, "")],
+                "certificate item 4: rule 12\n",
+            ),
+        ],
+    )?;
+    assert_eq!(rt; wrong, 0);
     Ok(())
 }
 
 #[test]
 fn other_files_are_told_too(rt: HostRuntime) -> Result<(), Fail> {
     let alloc = rt.alloc();
-    let cases = [
-        (17, "", 17, "", "certificate line 18: Truncated\n"),
-        (
-            10,
-            "live next 4 1\n",
-            10,
-            "live next 4 1\n",
-            "certificate item 4: rule 1\n",
-        ),
-        (
-            12,
-            "cover 0 1 0\n",
-            12,
-            "cover 0 1 0\n",
-            "certificate item 6: rule 13\n",
-        ),
-        (
-            15,
-            "step 2 1\n",
-            6,
-            "row 1 0 1\n",
-            "certificate item 1: rule 9\n",
-        ),
-        (
-            8,
-            "under 2 base 0\n",
-            13,
-            "",
-            "certificate item 2: rule 12\n",
-        ),
-        (
-            15,
-            "step 2 1\n",
-            11,
-            "live next 1 1\n",
-            "certificate item 5: rule 11\n",
-        ),
-    ];
-    for (place, line, other, new, printed) in cases {
-        let text = with_lines(alloc, &LINES, &[(place, line), (other, new)])?;
-        assert_eq!(rt;
-            check(alloc, PAIR, PAIR, text.as_str(), printed)?,
-            (5, true)
-        );
-    }
+    let wrong = untold(
+        alloc,
+        PAIR,
+        PAIR,
+        &LINES,
+        5,
+        &[
+            (&[(17, "")], "certificate line 18: Truncated\n"),
+            (&[(10, "live next 4 1\n")], "certificate item 4: rule 1\n"),
+            (&[(12, "cover 0 1 0\n")], "certificate item 6: rule 13\n"),
+            (
+                &[(15, "step 2 1\n"), (6, "row 1 0 1\n")],
+                "certificate item 1: rule 9\n",
+            ),
+            (
+                &[(8, "under 2 base 0\n"), (13, "")],
+                "certificate item 2: rule 12\n",
+            ),
+            (
+                &[(15, "step 2 1\n"), (11, "live next 1 1\n")],
+                "certificate item 5: rule 11\n",
+            ),
+        ],
+    )?;
+    assert_eq!(rt; wrong, 0);
     let loops = "[0]\na,[0]->[0]\n[0]\n";
     let dropped =
         "rabit-cert 1 buchi yes\nsizes 1 1 1\nlog1 0\nlog2 0\nrel 1\nrow 0 0\nelements 2\nunder 1 base 0\nlive next 0 0\ncover 0\nstep 1 1\nend\n";

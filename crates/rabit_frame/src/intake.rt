@@ -11,11 +11,11 @@ ghost use Rattle.rabit_frame.specs.Intake.{HasTaken, HasTakenAll};
 
 use crate::parts::{FileKind, Halt, Value};
 use crate::stopping::{certificate_reply, file_reply, halted, list_reply};
-use auto_core::{List, Memory};
+use auto_core::{List, Memory, append};
 use ba_format::{ReadFault, Reader};
 use cert_text::{CertReadFault, CertReader};
 use equal_batch::ListFault;
-use shelf_io::{Eat, append};
+use shelf_io::Eat;
 use std::alloc::Global;
 
 /// What the pieces of a file come to so far. Of an automaton and of a certificate it keeps what was understood and one unfinished line, so

@@ -3,10 +3,9 @@
 ghost use Rattle.std.specs.Prelude.{◌≡◌, IfOk};
 ghost use Rattle.rabit_frame.specs.Lines.{kind_name, text_kind_name, file_line, certificate_line, list_line};
 
-use auto_core::{List, Memory};
+use auto_core::{List, Memory, append};
 use ba_format::BaKind;
 use cert_text::TextKind;
-use shelf_io::append;
 use std::alloc::Global;
 
 /// The text as a list of its bytes.

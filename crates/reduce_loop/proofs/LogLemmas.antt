@@ -15,6 +15,7 @@ use Rattle.delayed_sim.proofs.OneLemmas.{greatest_one}
 use Rattle.direct_sim.proofs.GreatestLemmas.{greatest_is_one as forward_is_one}
 use Rattle.prune_pairs.specs.Least.{AreLeastBetter}
 use Rattle.prune_pairs.specs.declared.removing.Gone.{Gone}
+use Rattle.prune_pairs.proofs.OneLaws.{least_one}
 use Rattle.reduce_loop.specs.declared.steps.Foresight.{Foresight}
 use Rattle.reduce_loop.specs.declared.steps.Kind.{Kind}
 use Rattle.reduce_loop.specs.declared.steps.Kind.TheVariants.{Trim, Forward, Backward, Delayed, Prune}
@@ -28,7 +29,6 @@ use Rattle.reduce_loop.specs.Laws.{LogIsOne}
 use Rattle.reduce_loop.proofs.RelationLemmas.{same_relation}
 use Rattle.reduce_loop.proofs.MergeLemmas.{same_classes, same_closure}
 use Rattle.reduce_loop.proofs.DelayedLemmas.{same_related}
-use Rattle.reduce_loop.proofs.PruneLemmas.{least_one}
 use Rattle.reduce_loop.proofs.StepLemmas.{after_valid, after_one}
 use Rattle.reduce_loop.proofs.PassLemmas.{log_through, through_valid, through_one}
 

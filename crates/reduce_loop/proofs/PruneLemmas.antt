@@ -1,16 +1,14 @@
--- The laws of prunings within the reduction: they are smaller, the list of what is gone is one, and closures of the relations find it.
-use Rattle.std.proofs.Common.{◌≡◌, ℕ, ◌<◌, ◌↔◌, inl, inr, Option, None, Some, IfSome, List, length, Contains, ap, subst, arith}
-use Rattle.std.proofs.lemmas.List.Elements.{All-contains, All-weaker}
-use Rattle.std.proofs.lemmas.List.Kept.{AllPairs-from_increasing}
+-- The laws of prunings within the reduction: they are smaller, and closures of the relations find the list of what is gone.
+use Rattle.std.proofs.Common.{◌≡◌, ℕ, ◌<◌, ◌↔◌, inl, inr, Option, None, Some, IfSome, List, length, ap, arith}
+use Rattle.std.proofs.lemmas.List.Elements.{All-weaker}
 use Rattle.auto_core.specs.Automaton.{Automaton, IsAutomaton}
 use Rattle.auto_core.specs.Game.{Close, Holds}
-use Rattle.auto_core.specs.Pruning.{IsBetterAt, HasBetter, IsCut, IsPruned}
-use Rattle.auto_core.proofs.MemberLemmas.{rises_from_pairs, same_members, map_from}
+use Rattle.auto_core.specs.Pruning.{IsBetterAt, IsCut, IsPruned}
 use Rattle.bit_rel.specs.Relation.{Relation, IsClosed}
 use Rattle.prune_pairs.specs.Laws.{AgreeOnStates}
-use Rattle.prune_pairs.specs.Least.{IsLeastBetter, AreLeastBetter, numbers_of_gone}
+use Rattle.prune_pairs.specs.Least.{AreLeastBetter, numbers_of_gone}
 use Rattle.prune_pairs.specs.declared.removing.Gone.{Gone}
-use Rattle.prune_pairs.proofs.OneLaws.{pruned_shorter, better_goes, same_gone, gone_rises}
+use Rattle.prune_pairs.proofs.OneLaws.{pruned_shorter, better_goes, Least, has_better}
 use Rattle.reduce_loop.specs.Logs.{IsRelationOf, IsGivenWhere, pairs_given, IsBackOf, IsAheadOf}
 use Rattle.reduce_loop.proofs.SizeLemmas.{IsSmaller}
 
@@ -29,33 +27,6 @@ pruned_smaller A B n k valid p =
     }
 
 -- ---- the list of what is gone
-
-module _ (A : Automaton) (n : ℕ) (back ahead : ℕ → ℕ → Type 0) where
-  abbrev Least : Gone → Type 0
-  Least g = IsLeastBetter A n back ahead g.trans g.by
-
-  gone_within : (gone other : List Gone) → AreLeastBetter A n back ahead gone → AreLeastBetter A n back ahead other → (g : Gone) → Contains gone g → Contains other g
-  gone_within gone other are these g there =
-      let mine : IsLeastBetter A n back ahead g.trans g.by = All-contains Least gone g are.each there in
-      let (h, h_there, is) = map_from (λ (g : Gone). g.trans) other g.trans (these.all g.trans (g.by, mine.better)) in
-      let theirs : IsLeastBetter A n back ahead h.trans h.by = All-contains Least other h these.each h_there in
-      let moved : IsLeastBetter A n back ahead g.trans h.by = subst (λ t. IsLeastBetter A n back ahead t h.by) is theirs in
-      let low = mine.least h.by moved.better in
-      let high = moved.least g.by mine.better in
-      subst (Contains other) (same_gone h g is (omega arith)) h_there
-
-  pub least_one : (gone other : List Gone) → AreLeastBetter A n back ahead gone → AreLeastBetter A n back ahead other → gone ≡ other
-  least_one gone other are these =
-      same_members (λ (g h : Gone). g.trans < h.trans) (λ g h a b. omega arith) gone other
-      (rises_from_pairs _ gone (gone_rises gone (AllPairs-from_increasing (numbers_of_gone gone) are.ascending)))
-      (rises_from_pairs _ other (gone_rises other (AllPairs-from_increasing (numbers_of_gone other) these.ascending)))
-      (gone_within gone other are these) (gone_within other gone these are)
-
-  has_better : (gone : List Gone) → AreLeastBetter A n back ahead gone → (t : ℕ) → Contains (numbers_of_gone gone) t → HasBetter A n back ahead t
-  has_better gone are t h =
-      let (g, there, is) = map_from (λ (g : Gone). g.trans) gone t h in
-      let least : IsLeastBetter A n back ahead g.trans g.by = All-contains Least gone g are.each there in
-      subst (HasBetter A n back ahead) is (g.by, least.better)
 
 -- relations by which the same ones are better give the same list
 pub least_as :

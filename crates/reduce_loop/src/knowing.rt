@@ -11,7 +11,7 @@ use look_game::greatest_at_one;
 use look_round::{Backward, Forward};
 use std::alloc::Global;
 
-/// The greatest relations of an automaton that were found so wider, at the lookahead of the reduction and at lookahead 1.
+/// The greatest relations of an automaton that were found so far, at the lookahead of the reduction and at lookahead 1.
 #[derive(Debug, Drop)]
 pub(crate) struct Known {
     pub(crate) forward: Option<Rel>,
