@@ -1,27 +1,25 @@
-//! The states from which a move by a letter leads into a row of states, for all letters by which moves lead to one state at once.
+//! The states from which a move by a letter leads into a row of states, for all letters by which moves lead to one place.
 
 ghost use Rattle.std.specs.Prelude.{◌≡◌, ◌+◌, ◌*◌, ◌/◌, ◌<◌, ◌≤◌, ◌↔◌, ◌⊎◌, ℕ, false, length};
 ghost use Rattle.auto_core.specs.Automaton.{IsAutomaton, Moves};
-ghost use Rattle.auto_core.specs.Rows.{bit_of, cell_of, HasBit, HasCell};
+ghost use Rattle.auto_core.specs.Rows.{cell_of, HasBit, HasCell};
 ghost use Rattle.delayed_game.specs.Before.{LeadsTo, AreSetsIfAny};
 
 use crate::sets::mark_ends_by;
 use auto_core::{Auto, rows};
-use row_steps::{next_bit, write_row};
+use row_steps::{clear_table_row, next_bit};
 
-/// Clears the rows of the letters by which moves lead to the place. The row `none` has no bit.
-fn clear_letters(places: &Auto, to: u32, none: &[u64], made: &mut [u64], width: usize)
+/// Clears the rows of the letters by which moves lead to the place.
+fn clear_letters(places: &Auto, to: u32, made: &mut [u64], width: usize)
     requires valid { IsAutomaton places.now }
     requires place { to < places.now.states }
-    requires none { (q : ℕ) → bit_of none.now q ≡ false }
-    requires none_len { length none.now ≡ width }
     requires made { length made.old ≡ places.now.labels * width }
     ensures { (p a q : ℕ) → Moves places.now p a to → q < width * 64 → cell_of made.new width a q ≡ false }
 {
     let before = places.predecessors(to);
     for i in 0..before.len() {
         let step = places.transitions()[before[i] as usize];
-        write_row(made, width, step.label as usize, none);
+        clear_table_row(made, width, step.label as usize);
     }
 }
 
@@ -57,7 +55,7 @@ pub fn mark_ends(automaton: &Auto, ends: &[u64], made: &mut [u64], width: usize)
 }
 
 /// Writes into the row of each letter by which moves lead to the place `to` the states from which a move by it leads to a state of
-/// `ends`. `sets` has the table of sets, or nothing, and `row` is room for one row.
+/// `ends`. `sets` has the table of sets, or nothing.
 pub fn write_before(
     places: &Auto,
     automaton: &Auto,
@@ -66,7 +64,6 @@ pub fn write_before(
     ends: &[u64],
     made: &mut [u64],
     width: usize,
-    row: &mut [u64],
 )
     requires sound { IsAutomaton places.now }
     requires valid { IsAutomaton automaton.now }
@@ -77,11 +74,9 @@ pub fn write_before(
     requires width { width ≡ (automaton.now.states + 63) / 64 }
     requires ends_len { length ends.now ≡ width }
     requires made { length made.old ≡ automaton.now.labels * width }
-    requires row { length row.old ≡ width }
     ensures { (p a q : ℕ) → Moves places.now p a to → q < width * 64 → HasCell made.new width a q ↔ LeadsTo automaton.now a ends.now q }
 {
-    rows::clear_row(row);
-    clear_letters(places, to, row, made, width);
+    clear_letters(places, to, made, width);
     if sets.is_empty() {
         mark_ends(automaton, ends, made, width);
     } else {

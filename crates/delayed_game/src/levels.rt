@@ -155,8 +155,7 @@ fn rank_accepting(
     }
 }
 
-/// Notes the answers to the transitions into the place by the states of its row. `made` is room for a row for each letter, `row` for one
-/// row.
+/// Notes the answers to the transitions into the place by the states of its row. `made` is room for a row for each letter.
 fn note_answers(
     places: &Auto,
     automaton: &Auto,
@@ -166,7 +165,6 @@ fn note_answers(
     answered: &mut [u64],
     width: usize,
     made: &mut [u64],
-    row: &mut [u64],
 )
     requires place { to < places.now.states }
     requires over { IsAutomaton places.now }
@@ -178,11 +176,10 @@ fn note_answers(
     requires ends_len { length ends.now ≡ width }
     requires answered { length answered.old ≡ length places.now.transitions * width }
     requires made { length made.old ≡ automaton.now.labels * width }
-    requires row { length row.old ≡ width }
     ensures { (t q : ℕ) → t < length places.now.transitions → q < width * 64 → HasCell answered.new width t q
         ↔ (HasCell answered.old width t q ⊎ (((trans_at places.now t).target ≡ to) × LeadsTo automaton.now (trans_at places.now t).label ends.now q)) }
 {
-    write_before(places, automaton, sets, to, ends, made, width, row);
+    write_before(places, automaton, sets, to, ends, made, width);
     let before = places.predecessors(to);
     for i in 0..before.len() {
         let number = before[i] as usize;
@@ -191,8 +188,7 @@ fn note_answers(
     }
 }
 
-/// Notes the answers by the pairs that stand in the rows of `fresh`, place by place. `made` is room for a row for each letter, `row` for one
-/// row.
+/// Notes the answers by the pairs that stand in the rows of `fresh`, place by place. `made` is room for a row for each letter.
 fn note_each(
     places: &Auto,
     automaton: &Auto,
@@ -201,7 +197,6 @@ fn note_each(
     answered: &mut [u64],
     width: usize,
     made: &mut [u64],
-    row: &mut [u64],
 )
     requires over { IsAutomaton places.now }
     requires labels { places.now.labels ≡ automaton.now.labels }
@@ -212,23 +207,20 @@ fn note_each(
     requires columns { (p q : ℕ) → p < places.now.states → q < width * 64 → HasCell fresh.now width p q → q < automaton.now.states }
     requires answered { length answered.old ≡ length places.now.transitions * width }
     requires made { length made.old ≡ automaton.now.labels * width }
-    requires row { length row.old ≡ width }
     ensures { (t q : ℕ) → t < length places.now.transitions → q < width * 64 → HasCell answered.new width t q
         ↔ (HasCell answered.old width t q ⊎ HasFreshAnswer places.now automaton.now fresh.now t q) }
 {
     for to in 0..places.states() {
         let ends = rows::row_at(fresh, width, to as usize);
         match next_bit(ends, 0) {
-            Some(_first) => note_answers(
-                places, automaton, sets, to, ends, answered, width, made, row,
-            ),
+            Some(_first) => note_answers(places, automaton, sets, to, ends, answered, width, made),
             None => {}
         }
     }
 }
 
-/// Notes the answers by the pairs that stand in the rows of `fresh`. `made` is room for a row for each letter, `row` for one row,
-/// `words` and `found` for a word for each state, and `turned` for 64 rows.
+/// Notes the answers by the pairs that stand in the rows of `fresh`. `made` is room for a row for each letter, `words` and `found` for a
+/// word for each state, and `turned` for 64 rows.
 fn note_fresh(
     places: &Auto,
     automaton: &Auto,
@@ -237,7 +229,6 @@ fn note_fresh(
     answered: &mut [u64],
     width: usize,
     made: &mut [u64],
-    row: &mut [u64],
     words: &mut [u64],
     found: &mut [u64],
     turned: &mut [u64],
@@ -251,7 +242,6 @@ fn note_fresh(
     requires columns { (p q : ℕ) → p < places.now.states → q < width * 64 → HasCell fresh.now width p q → q < automaton.now.states }
     requires answered { length answered.old ≡ length places.now.transitions * width }
     requires made { length made.old ≡ automaton.now.labels * width }
-    requires row { length row.old ≡ width }
     requires words { length words.old ≡ automaton.now.states }
     requires found { length found.old ≡ automaton.now.states }
     requires turned { length turned.old ≡ 64 * width }
@@ -263,7 +253,7 @@ fn note_fresh(
             places, automaton, fresh, answered, width, words, found, turned,
         );
     } else {
-        note_each(places, automaton, sets, fresh, answered, width, made, row);
+        note_each(places, automaton, sets, fresh, answered, width, made);
     }
 }
 
@@ -305,7 +295,7 @@ fn climb(
     let mut any = true;
     'levels: while any {
         note_fresh(
-            places, automaton, sets, fresh, answered, width, made, row, words, found, turned,
+            places, automaton, sets, fresh, answered, width, made, words, found, turned,
         );
         rank += 1;
         any = rank_ready(
@@ -315,7 +305,7 @@ fn climb(
 }
 
 /// Writes the least ranks into the table, which has none yet. `unranked` is a copy of the relation, `answered` is room for a row for each
-/// transition, `fresh` for one for each state, `made` for one for each letter, `row` and `ends` for one row, `words` and `found` for a word
+/// transition, `fresh` for one for each place, `made` for one for each letter, `row` and `ends` for one row, `words` and `found` for a word
 /// for each state, and `turned` for 64 rows.
 fn rank_within(
     places: &Auto,

@@ -95,7 +95,7 @@ fn write_answering(
     if lost_few(tried, to, row, ends) {
         mend_before(automaton, row, ends, made, width);
     } else {
-        write_before(places, automaton, sets, to, ends, made, width, row);
+        write_before(places, automaton, sets, to, ends, made, width);
     }
 }
 

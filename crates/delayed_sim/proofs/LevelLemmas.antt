@@ -36,12 +36,11 @@ module _ (S : Triple → Option ℕ → Type 0) (old new : Ranking) (h : IsReran
 
 -- ---- while ranks are given
 
--- answers stay where the ranks below the limit do
+-- answers stay where the ranks below this one do
 answers_keep : (A : Automaton) (X Z : RankedTriples) (r : ℕ) → ((b : List ℕ) (p q s : ℕ) → s < r → HasRank X b p q s → HasRank Z b p q s) → (b : List ℕ) (p q : ℕ) → HasAnswers A X (Some r) b p q → HasAnswers A Z (Some r) b p q
 answers_keep A X Z r keep b p q all a p' move more c lt e =
     let answer = all a p' move more c lt e in
-    let there = answer.2 in
-    (answer.0, answer.1, (there.0, keep c p' answer.0 there.0 there.2 there.1, there.2))
+    (answer.0, answer.1, answer.2, keep c p' answer.0 answer.1 answer.4 answer.3, answer.4)
 
 -- A triple is done, or has the rank of before.
 abbrev GetsOrKeeps : (Triple → Option ℕ → Type 0) → Triple → Option ℕ → Type 0
@@ -144,7 +143,7 @@ answers_below A n r X Y least range right b p q s k h some le small a p' move mo
     let below = answer.4 in
     let has = least Y range right c p' answer.0 answer.1 answer.3 (omega arith) in
     let upto = has.2 in
-    (answer.0, answer.2, (has.0, has.1, small c p' answer.0 has.0 has.1 (omega arith)))
+    (answer.0, has.0, answer.2, has.1, small c p' answer.0 has.0 has.1 (omega arith))
 
 module _ (A : Automaton) (n r : ℕ) (old new : Ranking) (each : HasEachTriple A n old.triples) (ranked : AreRankedUpto A n r old.triples) (h : IsReranked (GetsRank A old.triples (suc r)) (length old.triples) old new) where
   Gets : Triple → Option ℕ → Type 0
@@ -208,7 +207,7 @@ module _ (A : Automaton) (n r : ℕ) (old new : Ranking) (each : HasEachTriple A
     ];
   }
 
--- ---- when a round gives no rank
+-- ---- when a pass gives no rank
 
 module _ (A : Automaton) (n r : ℕ) (X : RankedTriples) (each : HasEachTriple A n X) (ranked : AreRankedUpto A n r X) (all : (b : List ℕ) (p q : ℕ) → HoldsTriple X b p q → HasAnswers A X (Some (suc r)) b p q → (s : ℕ) × HasRank X b p q s) where
   pub ranked_all : (k : ℕ) → HasRanksUpto A n k X
@@ -222,7 +221,7 @@ module _ (A : Automaton) (n r : ℕ) (X : RankedTriples) (each : HasEachTriple A
         (found.0, found.1, omega arith)
   ]
 
--- ---- the end of a turn
+-- ---- what is left once ranks are given
 
 pub each_same : (A : Automaton) (n : ℕ) (old new : Ranking) → HasSameTriples old new → HasEachTriple A n old.triples → HasEachTriple A n new.triples
 each_same A n old new same each Y range right b p q h = same.forth b p q (each Y range right b p q h)

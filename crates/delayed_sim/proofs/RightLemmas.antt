@@ -4,10 +4,10 @@ use Rattle.std.specs.Prelude.{IsTrue}
 use Rattle.std.proofs.lemmas.Bool.{false≢true}
 use Rattle.std.proofs.lemmas.List.{get_or_default}
 use Rattle.std.proofs.lemmas.List.Elements.{Contains-get_or}
-use Rattle.auto_core.specs.Automaton.{Automaton, IsAccepting}
+use Rattle.auto_core.specs.Automaton.{Automaton, Moves, IsAccepting}
 use Rattle.auto_core.specs.Delayed.{RankedTriples, HasRank, HasTriplesOnce, IsTripleWord, IsRight}
 use Rattle.delayed_sim.specs.Rankings.{Triple, Ranking, IsRanking, triple_at}
-use Rattle.delayed_sim.specs.Right.{Suits, IsAnsweredWithin, IsAnsweredAhead, HasAnswers, IsTripleRight}
+use Rattle.delayed_sim.specs.Right.{Suits, HasAnswerBelow, IsAnsweredAhead, HasAnswers, IsTripleRight}
 use Rattle.delayed_sim.proofs.AheadLemmas.{announced_parts, parts_announced, first_of}
 
 same_some : (a b : ℕ) → Some a ≡ Some b → a ≡ b
@@ -16,51 +16,59 @@ same_some a b e = cc
 pub one_rank : (X : RankedTriples) → HasTriplesOnce X → (b : List ℕ) (p q r s : ℕ) → HasRank X b p q r → HasRank X b p q s → r ≡ s
 one_rank X once b p q r s h g = same_some r s (once b p q (Some r) (Some s) h g)
 
+-- ---- one answer
+
+-- the state that the answer leads to, with its triple
+pub answer_by : (A : Automaton) (X : RankedTriples) (below : Option ℕ) (c : List ℕ) (q a p' q' : ℕ) → Moves A q a q' → Suits X below c p' q' → HasAnswerBelow A X below c q a p'
+answer_by A X None c q a p' q' move suits = (q', move, suits)
+answer_by A X (Some r) c q a p' q' move suits = (q', suits.0, move, suits.1, suits.2)
+
+pub answer_parts : (A : Automaton) (X : RankedTriples) (below : Option ℕ) (c : List ℕ) (q a p' : ℕ) → HasAnswerBelow A X below c q a p' → (q' : ℕ) × Moves A q a q' × Suits X below c p' q'
+answer_parts A X None c q a p' answer = answer
+answer_parts A X (Some r) c q a p' answer = (answer.0, answer.2, (answer.1, answer.3, answer.4))
+
 -- ---- the further letter
 
 -- With no letters before it the move is answered at once.
 pub ahead_at_once :
-    (A : Automaton) (X : RankedTriples) (limit : Option ℕ) (b : List ℕ) (q a p' : ℕ) (t : Bool)
+    (A : Automaton) (X : RankedTriples) (below : Option ℕ) (b : List ℕ) (q a p' : ℕ) (t : Bool)
     → length b ≡ 0
     → a < A.labels
-    → (IsTrue t ↔ IsAnsweredWithin A X limit b q a p')
-    → IsTrue t ↔ IsAnsweredAhead A X limit b q a p'
-ahead_at_once A X limit [] q a p' t none a_in told = (
-  λ yes more c lt e. subst (λ d. IsAnsweredWithin A X limit d q a p') (announced_parts [] more a c e).1 (told.0 yes),
+    → (IsTrue t ↔ HasAnswerBelow A X below b q a p')
+    → IsTrue t ↔ IsAnsweredAhead A X below b q a p'
+ahead_at_once A X below [] q a p' t none a_in told = (
+  λ yes more c lt e. subst (λ d. HasAnswerBelow A X below d q a p') (announced_parts [] more a c e).1 (told.0 yes),
   λ all. told.1 (all a [] a_in refl),
 )
-ahead_at_once A X limit (x ∷ b) q a p' t none a_in told = absurd (omega arith)
+ahead_at_once A X below (x ∷ b) q a p' t none a_in told = absurd (omega arith)
 
 -- A move by another letter than the first is not asked for.
-pub ahead_of_other : (A : Automaton) (X : RankedTriples) (limit : Option ℕ) (b : List ℕ) (q a p' : ℕ) → 0 < length b → (get_or b 0 0 ≡ a → ⊥) → IsAnsweredAhead A X limit b q a p'
-ahead_of_other A X limit b q a p' some other more c lt e = absurd (other (sym (first_of b more some) ∙ (announced_parts b more a c e).0))
+pub ahead_of_other : (A : Automaton) (X : RankedTriples) (below : Option ℕ) (b : List ℕ) (q a p' : ℕ) → 0 < length b → (get_or b 0 0 ≡ a → ⊥) → IsAnsweredAhead A X below b q a p'
+ahead_of_other A X below b q a p' some other more c lt e = absurd (other (sym (first_of b more some) ∙ (announced_parts b more a c e).0))
 
 -- The first letters are tried.
 abbrev pub IsAnsweredUpto : Automaton → RankedTriples → Option ℕ → List ℕ → ℕ → ℕ → ℕ → ℕ → Type 0
-IsAnsweredUpto A X limit b q a p' upto = (m : ℕ) → m < upto → IsAnsweredWithin A X limit (drop 1 (b ++ m ∷ [])) q a p'
+IsAnsweredUpto A X below b q a p' upto = (m : ℕ) → m < upto → HasAnswerBelow A X below (drop 1 (b ++ m ∷ [])) q a p'
 
-pub ahead_of_all : (A : Automaton) (X : RankedTriples) (limit : Option ℕ) (b : List ℕ) (q a p' upto : ℕ) → A.labels ≤ upto → IsAnsweredUpto A X limit b q a p' upto → IsAnsweredAhead A X limit b q a p'
-ahead_of_all A X limit b q a p' upto all h more c lt e = subst (λ d. IsAnsweredWithin A X limit d q a p') (announced_parts b more a c e).1 (h more (omega arith))
+pub ahead_of_all : (A : Automaton) (X : RankedTriples) (below : Option ℕ) (b : List ℕ) (q a p' upto : ℕ) → A.labels ≤ upto → IsAnsweredUpto A X below b q a p' upto → IsAnsweredAhead A X below b q a p'
+ahead_of_all A X below b q a p' upto all h more c lt e = subst (λ d. HasAnswerBelow A X below d q a p') (announced_parts b more a c e).1 (h more (omega arith))
 
 pub one_of_ahead :
-    (A : Automaton) (X : RankedTriples) (limit : Option ℕ) (b : List ℕ) (q a p' more : ℕ)
+    (A : Automaton) (X : RankedTriples) (below : Option ℕ) (b : List ℕ) (q a p' more : ℕ)
     → 0 < length b
     → get_or b 0 0 ≡ a
     → more < A.labels
-    → IsAnsweredAhead A X limit b q a p'
-    → IsAnsweredWithin A X limit (drop 1 (b ++ more ∷ [])) q a p'
-one_of_ahead A X limit b q a p' more some first lt h = h more (drop 1 (b ++ more ∷ [])) lt (parts_announced b more a (first_of b more some ∙ first))
+    → IsAnsweredAhead A X below b q a p'
+    → HasAnswerBelow A X below (drop 1 (b ++ more ∷ [])) q a p'
+one_of_ahead A X below b q a p' more some first lt h = h more (drop 1 (b ++ more ∷ [])) lt (parts_announced b more a (first_of b more some ∙ first))
 
 -- ---- one triple
 
 -- answers of lesser rank are answers
-suits_some : (X : RankedTriples) (r : ℕ) (c : List ℕ) (p q : ℕ) → Suits X (Some r) c p q → Suits X None c p q
-suits_some X r c p q h = (Some h.0, h.1)
-
 answers_some : (A : Automaton) (X : RankedTriples) (r : ℕ) (b : List ℕ) (p q : ℕ) → HasAnswers A X (Some r) b p q → HasAnswers A X None b p q
 answers_some A X r b p q h a p' move more c lt e =
     let answer = h a p' move more c lt e in
-    (answer.0, answer.1, suits_some X r c p' answer.0 answer.2)
+    (answer.0, answer.2, (Some answer.1, answer.3))
 
 none_some : (r : ℕ) → None ≡ Some r → ⊥
 none_some r e = cc
@@ -107,14 +115,14 @@ module _ (A : Automaton) (X : RankedTriples) (p : ℕ) (b : List ℕ) (q : ℕ) 
 
 -- the same answers, by the parts of the triple
 pub answers_at :
-    (A : Automaton) (X : RankedTriples) (limit : Option ℕ) (t : Triple) (p : ℕ) (b : List ℕ) (q : ℕ) (r : Bool)
+    (A : Automaton) (X : RankedTriples) (below : Option ℕ) (t : Triple) (p : ℕ) (b : List ℕ) (q : ℕ) (r : Bool)
     → p ≡ t.0
     → b ≡ t.1
     → q ≡ t.2
-    → (IsTrue r ↔ HasAnswers A X limit b p q)
-    → IsTrue r ↔ HasAnswers A X limit t.1 t.0 t.2
-answers_at A X limit t p b q r e f g told =
-    subst (λ x. IsTrue r ↔ HasAnswers A X limit t.1 x t.2) e (subst (λ y. IsTrue r ↔ HasAnswers A X limit y p t.2) f (subst (λ z. IsTrue r ↔ HasAnswers A X limit b p z) g told))
+    → (IsTrue r ↔ HasAnswers A X below b p q)
+    → IsTrue r ↔ HasAnswers A X below t.1 t.0 t.2
+answers_at A X below t p b q r e f g told =
+    subst (λ x. IsTrue r ↔ HasAnswers A X below t.1 x t.2) e (subst (λ y. IsTrue r ↔ HasAnswers A X below y p t.2) f (subst (λ z. IsTrue r ↔ HasAnswers A X below b p z) g told))
 
 -- a triple of the list is of the states and labels
 pub triple_range : (R : Ranking) → IsRanking R → (i : ℕ) → i < length R.triples → IsTripleWord R.labels R.letters (triple_at R.triples i).1 × ((triple_at R.triples i).0 < R.states) × ((triple_at R.triples i).2 < R.states)
@@ -131,9 +139,7 @@ right_of_triples A X all = record {
       let has = (all (p, b, q, h.0) h.1).ranked accepting in
       (has.0, subst (λ o. Contains X (p, b, q, o)) has.1 h.1);
   at_zero = λ b p q h. (all (p, b, q, Some 0) h).at_zero refl;
-  above_zero = λ b p q r more a c p' h some lt e move.
-      let answer = (all (p, b, q, Some r) h).above_zero r refl some a p' move more c lt e in
-      (answer.0, answer.2.0, answer.1, answer.2.1, answer.2.2);
+  above_zero = λ b p q r more a c p' h some lt e move. (all (p, b, q, Some r) h).above_zero r refl some a p' move more c lt e;
 }
 
 pub triple_of_right : (A : Automaton) (X : RankedTriples) → HasTriplesOnce X → IsRight A X → (p : ℕ) (b : List ℕ) (q : ℕ) (o : Option ℕ) → Contains X (p, b, q, o) → IsTripleRight A X (p, b, q, o)
@@ -141,9 +147,7 @@ triple_of_right A X once right p b q o has = record {
   answers = λ a p' move more c lt e. right.answers b p q more a c p' (o, has) lt e move;
   ranked = λ accepting. let rank = right.ranked b p q (o, has) accepting in (rank.0, once b p q o (Some rank.0) has rank.1);
   at_zero = λ e. right.at_zero b p q (subst (λ m. Contains X (p, b, q, m)) e has);
-  above_zero = λ r e some a p' move more c lt is.
-      let answer = right.above_zero b p q r more a c p' (subst (λ m. Contains X (p, b, q, m)) e has) some lt is move in
-      (answer.0, answer.2, (answer.1, answer.3, answer.4));
+  above_zero = λ r e some a p' move more c lt is. right.above_zero b p q r more a c p' (subst (λ m. Contains X (p, b, q, m)) e has) some lt is move;
 }
 
 pub right_of_places : (A : Automaton) (X : RankedTriples) (upto : ℕ) → length X ≤ upto → ((i : ℕ) → i < upto → IsTripleRight A X (triple_at X i)) → IsRight A X

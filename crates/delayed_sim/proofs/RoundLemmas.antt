@@ -1,4 +1,4 @@
--- Triples that go and ranks that are given, round by round.
+-- Triples that go and ranks that are given, pass by pass.
 use Rattle.std.proofs.Common.{◌≡◌, ℕ, suc, ◌+◌, ◌-◌, ◌<◌, ◌≤◌, inl, inr, Bool, true, false, Option, None, Some, List, [], ◌∷◌, ◌++◌, length, map, get_or, set, take, drop, Contains, refl, sym, ap, ◌∙◌, subst, arith}
 use Rattle.std.specs.List.{remove}
 use Rattle.std.specs.Option.{is_some, unwrap_or, option_map}

@@ -1,4 +1,4 @@
--- What the rounds of the plain program do to a relation with ranks.
+-- What the passes of the plain program do to a relation with ranks.
 use Rattle.std.specs.Prelude.{◌≡◌, ℕ, ◌<◌, ◌≤◌, ◌⊎◌, Bool, true, false, Option, None, Some, List, length, Contains, set}
 use Rattle.std.specs.List.{remove, sum_by}
 use Rattle.std.specs.Option.{unwrap_or, option_map}

@@ -80,8 +80,8 @@ fn greatest_within(
     })
 }
 
-/// The greatest delayed relation with one letter. It is sought inside the bound by short words.
-fn greatest_at_once(alloc: Global, automaton: &Auto) -> Result<Delayed, Memory>
+/// The greatest delayed relation with one announced letter. It is sought inside the bound by short words.
+fn greatest_by_pairs(alloc: Global, automaton: &Auto) -> Result<Delayed, Memory>
     requires few { automaton.now.states ≤ 65535 }
     requires valid { IsAutomaton automaton.now }
     ensures states { IfOk result (λ d. d.states ≡ automaton.now.states) }
@@ -126,7 +126,7 @@ pub fn greatest(alloc: Global, automaton: &Auto, letters: u32) -> Result<Delayed
 {
     let _states = automaton.states();
     if letters == 1 {
-        return greatest_at_once(alloc, automaton);
+        return greatest_by_pairs(alloc, automaton);
     }
     greatest_ahead(alloc, automaton, letters)
 }

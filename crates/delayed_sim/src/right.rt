@@ -4,7 +4,7 @@ ghost use Rattle.std.specs.Prelude.{◌≡◌, ◌+◌, ◌<◌, ◌≤◌, ◌�
 ghost use Rattle.auto_core.specs.Automaton.{Moves, IsAccepting, trans_at};
 ghost use Rattle.auto_core.specs.Delayed.{IsTripleWord, HasRank, IsRight};
 ghost use Rattle.delayed_sim.specs.Rankings.{triple_at};
-ghost use Rattle.delayed_sim.specs.Right.{Suits, IsAnsweredWithin, IsAnsweredAhead, HasAnswers, IsTripleRight, IsTripleAnswered};
+ghost use Rattle.delayed_sim.specs.Right.{Suits, HasAnswerBelow, IsAnsweredAhead, HasAnswers, IsTripleRight, IsTripleAnswered};
 
 use crate::delayed::Delayed;
 use auto_core::{Auto, Trans};
@@ -22,39 +22,39 @@ fn is_below(delayed: &Delayed, p: u32, ahead: &[u32], q: u32, rank: u32) -> bool
     }
 }
 
-/// Tells whether the relation holds the triple, with a rank below the limit if there is one.
-fn suits(delayed: &Delayed, p: u32, ahead: &[u32], q: u32, limit: Option<u32>) -> bool
+/// Tells whether the relation holds the triple, with a rank below this one if one is given.
+fn suits(delayed: &Delayed, p: u32, ahead: &[u32], q: u32, below: Option<u32>) -> bool
     requires letters { IsTripleWord delayed.now.labels delayed.now.letters ahead.now }
     requires left { p < delayed.now.states }
     requires right { q < delayed.now.states }
-    ensures { IsTrue result ↔ Suits delayed.now.triples limit ahead.now p q }
+    ensures { IsTrue result ↔ Suits delayed.now.triples below ahead.now p q }
 {
-    match limit {
+    match below {
         None => delayed.relates(p, ahead, q),
         Some(rank) => is_below(delayed, p, ahead, q, rank),
     }
 }
 
-/// Tells whether the state answers the move, after which the word is this one, with a triple of the relation, of a rank below the
-/// limit if there is one.
+/// Tells whether the state answers the move, after which the word is this one, with a triple of the relation, of a rank below this
+/// one if one is given.
 fn is_answered(
     automaton: &Auto,
     delayed: &Delayed,
     q: u32,
     step: Trans,
     ahead: &[u32],
-    limit: Option<u32>,
+    below: Option<u32>,
 ) -> bool
     requires equal { delayed.now.states ≡ automaton.now.states }
     requires state { q < automaton.now.states }
     requires target { step.target < automaton.now.states }
     requires letters { IsTripleWord delayed.now.labels delayed.now.letters ahead.now }
-    ensures { IsTrue result ↔ IsAnsweredWithin automaton.now delayed.now.triples limit ahead.now q step.label step.target }
+    ensures { IsTrue result ↔ HasAnswerBelow automaton.now delayed.now.triples below ahead.now q step.label step.target }
 {
     let span = automaton.successors(q, step.label);
     for u in span.begin..span.end {
         let target = automaton.transitions()[u as usize].target;
-        if suits(delayed, step.target, ahead, target, limit) {
+        if suits(delayed, step.target, ahead, target, below) {
             return true;
         }
     }
@@ -85,14 +85,14 @@ fn next_ahead(ahead: &[u32], more: u32) -> [u32; 3]
     next
 }
 
-/// Tells whether the state answers the move whatever further letter is announced, with triples of a rank below the limit if there is one.
+/// Tells whether the state answers the move whatever further letter is announced, with triples of a rank below this one if one is given.
 fn is_answered_ahead(
     automaton: &Auto,
     delayed: &Delayed,
     q: u32,
     step: Trans,
     ahead: &[u32],
-    limit: Option<u32>,
+    below: Option<u32>,
 ) -> bool
     requires equal { delayed.now.states ≡ automaton.now.states }
     requires same { delayed.now.labels ≡ automaton.now.labels }
@@ -103,11 +103,11 @@ fn is_answered_ahead(
     requires some { 0 < length ahead.now }
     requires short { length ahead.now ≤ 3 }
     requires first { slice_index ahead.now 0 ≡ step.label }
-    ensures { IsTrue result ↔ IsAnsweredAhead automaton.now delayed.now.triples limit ahead.now q step.label step.target }
+    ensures { IsTrue result ↔ IsAnsweredAhead automaton.now delayed.now.triples below ahead.now q step.label step.target }
 {
     for more in 0..automaton.labels() {
         let next = next_ahead(ahead, more);
-        if !is_answered(automaton, delayed, q, step, &next[..ahead.len()], limit) {
+        if !is_answered(automaton, delayed, q, step, &next[..ahead.len()], below) {
             return false;
         }
     }
@@ -122,7 +122,7 @@ fn answers_move(
     q: u32,
     step: Trans,
     ahead: &[u32],
-    limit: Option<u32>,
+    below: Option<u32>,
 ) -> bool
     requires equal { delayed.now.states ≡ automaton.now.states }
     requires same { delayed.now.labels ≡ automaton.now.labels }
@@ -131,26 +131,26 @@ fn answers_move(
     requires label { step.label < automaton.now.labels }
     requires letters { IsTripleWord delayed.now.labels delayed.now.letters ahead.now }
     requires short { length ahead.now ≤ 3 }
-    ensures { IsTrue result ↔ IsAnsweredAhead automaton.now delayed.now.triples limit ahead.now q step.label step.target }
+    ensures { IsTrue result ↔ IsAnsweredAhead automaton.now delayed.now.triples below ahead.now q step.label step.target }
 {
     if ahead.is_empty() {
-        return is_answered(automaton, delayed, q, step, ahead, limit);
+        return is_answered(automaton, delayed, q, step, ahead, below);
     }
     if ahead[0] != step.label {
         return true;
     }
-    is_answered_ahead(automaton, delayed, q, step, ahead, limit)
+    is_answered_ahead(automaton, delayed, q, step, ahead, below)
 }
 
-/// Tells whether the right state answers each move of the left one with this word, with triples of a rank below the limit if there is
-/// one.
+/// Tells whether the right state answers each move of the left one with this word, with triples of a rank below this one if one is
+/// given.
 fn has_answers(
     automaton: &Auto,
     delayed: &Delayed,
     p: u32,
     ahead: &[u32],
     q: u32,
-    limit: Option<u32>,
+    below: Option<u32>,
 ) -> bool
     requires equal { delayed.now.states ≡ automaton.now.states }
     requires same { delayed.now.labels ≡ automaton.now.labels }
@@ -158,24 +158,24 @@ fn has_answers(
     requires right { q < automaton.now.states }
     requires letters { IsTripleWord delayed.now.labels delayed.now.letters ahead.now }
     requires short { length ahead.now ≤ 3 }
-    ensures { IsTrue result ↔ HasAnswers automaton.now delayed.now.triples limit ahead.now p q }
+    ensures { IsTrue result ↔ HasAnswers automaton.now delayed.now.triples below ahead.now p q }
 {
     let span = automaton.outgoing(p);
     for t in span.begin..span.end {
         let step = automaton.transitions()[t as usize];
-        if !answers_move(automaton, delayed, q, step, ahead, limit) {
+        if !answers_move(automaton, delayed, q, step, ahead, below) {
             return false;
         }
     }
     true
 }
 
-/// Tells whether the moves of the triple with this number are answered, by triples of a rank below the limit if there is one.
-pub fn is_answered_at(automaton: &Auto, delayed: &Delayed, at: usize, limit: Option<u32>) -> bool
+/// Tells whether the moves of the triple with this number are answered, by triples of a rank below this one if one is given.
+pub fn is_answered_at(automaton: &Auto, delayed: &Delayed, at: usize, below: Option<u32>) -> bool
     requires equal { delayed.now.states ≡ automaton.now.states }
     requires same { delayed.now.labels ≡ automaton.now.labels }
     requires inside { at < length delayed.now.triples }
-    ensures { IsTrue result ↔ IsTripleAnswered automaton.now delayed.now.triples limit (triple_at delayed.now.triples at) }
+    ensures { IsTrue result ↔ IsTripleAnswered automaton.now delayed.now.triples below (triple_at delayed.now.triples at) }
 {
     has_answers(
         automaton,
@@ -183,7 +183,7 @@ pub fn is_answered_at(automaton: &Auto, delayed: &Delayed, at: usize, limit: Opt
         delayed.left(at),
         delayed.ahead(at),
         delayed.right(at),
-        limit,
+        below,
     )
 }
 

@@ -1,4 +1,4 @@
-//! The greatest delayed relation by a plain program: rounds over all triples, which drop what cannot be held and rank what can be ranked.
+//! The greatest delayed relation by a plain program: passes over all triples, which drop what cannot be held and rank what can be ranked.
 
 ghost use Rattle.std.specs.Prelude.{◌≡◌, ◌+◌, ◌-◌, ◌*◌, ◌^◌, ◌<◌, ◌≤◌, ◌↔◌, ℕ, List, Option, length, true, false, IsTrue, IfOk};
 ghost use Rattle.auto_core.specs.Automaton.{IsAutomaton};
@@ -50,7 +50,7 @@ fn all_triples(alloc: Global, automaton: &Auto, letters: u32) -> Result<Delayed,
     })
 }
 
-/// One round: drops each triple with a move that is not answered, and tells whether there were any.
+/// One pass: drops each triple with a move that is not answered, and tells whether there were any.
 fn drop_unanswered(automaton: &Auto, delayed: &mut Delayed) -> bool
     requires equal { delayed.old.states ≡ automaton.now.states }
     requires same { delayed.old.labels ≡ automaton.now.labels }
@@ -83,7 +83,7 @@ fn settle(automaton: &Auto, delayed: &mut Delayed)
     ensures each { HasEachTriple automaton.now delayed.new.letters delayed.new.triples }
     ensures answered { AreAllAnswered automaton.now delayed.new.triples }
 {
-    'rounds: while drop_unanswered(automaton, delayed) {}
+    'passes: while drop_unanswered(automaton, delayed) {}
 }
 
 /// Gives rank 0 to each triple whose right state is accepting, and takes the ranks of the others.
@@ -101,7 +101,7 @@ fn rank_accepting(automaton: &Auto, delayed: &mut Delayed)
     }
 }
 
-/// One round: gives the rank to each triple that has none and whose moves are answered by triples of lesser rank, and tells whether
+/// One pass: gives the rank to each triple that has none and whose moves are answered by triples of lesser rank, and tells whether
 /// there were any.
 fn rank_next(automaton: &Auto, delayed: &mut Delayed, rank: u32) -> bool
     requires equal { delayed.old.states ≡ automaton.now.states }
@@ -123,7 +123,7 @@ fn rank_next(automaton: &Auto, delayed: &mut Delayed, rank: u32) -> bool
     any
 }
 
-/// Gives each triple the least rank that it can have, level by level, until a round gives none.
+/// Gives each triple the least rank that it can have, level by level, until a pass gives none.
 fn rank_all(automaton: &Auto, delayed: &mut Delayed)
     requires equal { delayed.old.states ≡ automaton.now.states }
     requires same { delayed.old.labels ≡ automaton.now.labels }
@@ -165,7 +165,7 @@ fn drop_unranked(automaton: &Auto, delayed: &mut Delayed) -> bool
 }
 
 /// Drops triples until their moves are answered, ranks them, drops those that need a rank and have none, and tells whether there were any.
-fn turn(automaton: &Auto, delayed: &mut Delayed) -> bool
+fn settle_and_rank(automaton: &Auto, delayed: &mut Delayed) -> bool
     requires equal { delayed.old.states ≡ automaton.now.states }
     requires same { delayed.old.labels ≡ automaton.now.labels }
     requires valid { IsRanking delayed.old }
@@ -181,7 +181,7 @@ fn turn(automaton: &Auto, delayed: &mut Delayed) -> bool
     drop_unranked(automaton, delayed)
 }
 
-/// The same relation as `greatest` by a plain program: turns over all triples until one drops none.
+/// The same relation as `greatest` by a plain program: passes over all triples until one drops none.
 pub fn greatest_by_rounds(alloc: Global, automaton: &Auto, letters: u32) -> Result<Delayed, Memory>
     requires from { 1 ≤ letters }
     requires upto { letters ≤ 4 }
@@ -195,6 +195,6 @@ pub fn greatest_by_rounds(alloc: Global, automaton: &Auto, letters: u32) -> Resu
 {
     let _states = automaton.states();
     let mut left = all_triples(alloc, automaton, letters)?;
-    'turns: while turn(automaton, &mut left) {}
+    'passes: while settle_and_rank(automaton, &mut left) {}
     Ok(left)
 }

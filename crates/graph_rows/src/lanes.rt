@@ -1,4 +1,4 @@
-//! Rows and whole planes joined by lanes.
+//! Rows or-ed by lanes.
 
 ghost use Rattle.std.specs.Prelude.{◌≡◌, length};
 ghost use Rattle.auto_core.specs.Rows.{AreWordsOred};

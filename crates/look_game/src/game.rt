@@ -12,6 +12,7 @@ ghost use Rattle.look_game.specs.Visiting.{IsRoomFor};
 use crate::asked::{Pair, is_lost, may_stay};
 use crate::losing::played_on;
 use crate::near;
+use crate::sweeping::{rows_to_sweep, sweep_often};
 use crate::visiting::{Visits, visit_row};
 use auto_core::{Auto, Memory, rows};
 use bit_rel::Rel;
@@ -100,7 +101,8 @@ fn settle<S: Side>(
 }
 
 /// The greatest relation at this lookahead, sought inside a relation that has each stable list inside; or None, where a pair is asked for that no
-/// stable list has. A row is tried again only if one that is reached from it within the lookahead has lost a pair.
+/// stable list has. Where a pair is asked for the rows are swept over at first. Then a row is tried again only if one that is reached from it within
+/// the lookahead has lost a pair.
 fn greatest_within<S: Side>(
     alloc: Global,
     side: &S,
@@ -128,6 +130,20 @@ fn greatest_within<S: Side>(
     let mut changed = vec![in alloc; 0; width]?;
     let mut spare = vec![in alloc; 0; width]?;
     let mut visits = Visits::new(alloc, side, automaton, &rel)?;
+    let order = rows_to_sweep(alloc, side, automaton, asked, &mut marks)?;
+    sweep_often(
+        side,
+        automaton,
+        look,
+        asked,
+        &order,
+        &mut rel,
+        &mut scratch,
+        &mut visits,
+    );
+    if is_lost(&rel, asked) {
+        return Ok(None);
+    }
     let is_settled = settle(
         side,
         automaton,

@@ -6,6 +6,7 @@ mod game;
 mod losing;
 mod near;
 mod rounds;
+mod sweeping;
 mod visiting;
 
 pub use game::{greatest, greatest_at_one, greatest_with};

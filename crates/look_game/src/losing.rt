@@ -15,7 +15,7 @@ use std::alloc::Global;
 const PAIRS_A_ROUND: usize = 1024;
 
 /// So many rounds are played on from a pair.
-const MOST_DEPTH: u32 = 9;
+const MOST_DEPTH: u32 = 8;
 
 /// A path that Duplicator answers in more states is not followed.
 const MOST_REPLIES: usize = 16;
@@ -158,16 +158,16 @@ impl<'a, S: Side> Play<'a, S> {
         }
     }
 
-    /// Tells whether all pairs of Spoiler's state with one of these are lost, where each is tried so deep.
+    /// Tells whether all pairs of Spoiler's state `p` with one of these are lost, where each is tried so deep.
     #[cycle(losing)]
-    fn all_lose(&mut self, depth: u32, left: u32, replies: &[u32]) -> Result<bool, Memory>
-        requires state { left < self.old.automaton.now.states }
+    fn all_lose(&mut self, depth: u32, p: u32, replies: &[u32]) -> Result<bool, Memory>
+        requires state { p < self.old.automaton.now.states }
         requires replies { All (λ r. r < self.old.automaton.now.states) replies.now }
         ensures { IfOk result (λ _. PlaysOn self.old self.new) }
     {
         for i in 0..replies.len() {
             let pair = Pair {
-                left,
+                left: p,
                 right: replies[i],
             };
             if !self.loses(depth, pair)? {
@@ -177,11 +177,11 @@ impl<'a, S: Side> Play<'a, S> {
         Ok(true)
     }
 
-    /// Tells whether Spoiler wins by this move, or by it and some after it, `room` in all, where Duplicator is in one of these states and
+    /// Tells whether Spoiler wins by this move, or by it and some after it, `left` in all, where Duplicator is in one of these states and
     /// each pair is tried so deep.
     #[cycle(losing)]
-    fn move_wins(&mut self, depth: u32, room: u32, step: Move, from: &[u32]) -> Result<bool, Memory>
-        requires room { 1 ≤ room }
+    fn move_wins(&mut self, depth: u32, left: u32, step: Move, from: &[u32]) -> Result<bool, Memory>
+        requires left { 1 ≤ left }
         requires step { step.to < self.old.automaton.now.states }
         requires from { All (λ q. q < self.old.automaton.now.states) from.now }
         ensures { IfOk result (λ _. PlaysOn self.old self.new) }
@@ -193,24 +193,24 @@ impl<'a, S: Side> Play<'a, S> {
         if !self.all_lose(depth, step.to, &replies)? {
             return Ok(false);
         }
-        if replies.is_empty() || room == 1 || self.side.moves(self.automaton, step.to) == 0 {
+        if replies.is_empty() || left == 1 || self.side.moves(self.automaton, step.to) == 0 {
             return Ok(true);
         }
-        self.path_wins(depth, room - 1, step.to, &replies)
+        self.path_wins(depth, left - 1, step.to, &replies)
     }
 
-    /// Tells whether Spoiler wins by some moves from `p`, at most `room`, where Duplicator is in one of these states and each pair is tried
+    /// Tells whether Spoiler wins by some moves from `p`, at most `left`, where Duplicator is in one of these states and each pair is tried
     /// so deep.
     #[cycle(losing)]
-    fn path_wins(&mut self, depth: u32, room: u32, p: u32, from: &[u32]) -> Result<bool, Memory>
-        requires room { 1 ≤ room }
+    fn path_wins(&mut self, depth: u32, left: u32, p: u32, from: &[u32]) -> Result<bool, Memory>
+        requires left { 1 ≤ left }
         requires state { p < self.old.automaton.now.states }
         requires from { All (λ q. q < self.old.automaton.now.states) from.now }
         ensures { IfOk result (λ _. PlaysOn self.old self.new) }
     {
         for at in 0..self.side.moves(self.automaton, p) {
             let step = self.side.nth(self.automaton, p, at);
-            if self.move_wins(depth, room, step, from)? {
+            if self.move_wins(depth, left, step, from)? {
                 return Ok(true);
             }
         }
@@ -249,7 +249,7 @@ impl<'a, S: Side> Play<'a, S> {
         requires right { pair.right < self.old.automaton.now.states }
         ensures { IfOk result (λ _. PlaysOn self.old self.new) }
     {
-        for depth in 1..MOST_DEPTH {
+        for depth in 1..=MOST_DEPTH {
             if self.loses(depth, pair)? {
                 return Ok(());
             }

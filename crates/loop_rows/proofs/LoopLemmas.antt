@@ -1,4 +1,4 @@
--- Tables turned round, components, and what they settle.
+-- Tables turned round, components, and what they mark.
 use Rattle.std.proofs.Common.{◌≡◌, ℕ, zero, suc, ◌+◌, ◌*◌, ◌<◌, ◌≤◌, ◌⊎◌, ◌↔◌, inl, inr, ◌||◌, ◌&&◌, Bool, true, false, List, length, refl, sym, ap, ◌∙◌, subst, arith}
 use Rattle.std.proofs.lemmas.Bool.{cases_eq, cases_lt, false≢true}
 use Rattle.auto_core.specs.Game.{Chain, Close}
@@ -7,7 +7,7 @@ use Rattle.auto_core.specs.Reach.{IsTable, HasArc, ReturnsTo}
 use Rattle.auto_core.proofs.ReachLemmas.{close_refl, close_trans, close_one}
 use Rattle.row_steps.specs.Walks.{IsNextBit}
 use Rattle.loop_rows.specs.Loops.{LeadsToLoop, AreArcs, IsTurned}
-use Rattle.loop_rows.specs.Settling.{HasArcWithin, IsComponent, AreSettled}
+use Rattle.loop_rows.specs.Marking.{HasArcWithin, IsComponent, AreDone}
 
 -- ---- bits
 
@@ -155,7 +155,7 @@ row_arc table n width at t at_in row inside outside q = (
   λ (_, q_in, cell). let room = t.room in inside q (omega arith) ∙ cell,
 )
 
--- ---- what a component settles
+-- ---- what a component marks
 
 module _ (any flagged : ℕ → ℕ → Type 0) (arcs : AreArcs flagged any) (at : ℕ) (component : List ℕ) (is : IsComponent any at component) where
   -- a flagged arc within it leads back
@@ -168,22 +168,22 @@ module _ (any flagged : ℕ → ℕ → Type 0) (arcs : AreArcs flagged any) (at
       let (to, from) = (is x).0 x_in in
       (x, next, x_in, arc, (is next).1 (close_trans any at x next to (close_one any x next (arcs x next arc)), close_trans any next x at back from))
 
-module _ (any flagged : ℕ → ℕ → Type 0) (count at : ℕ) (looping settled : List ℕ) (s : AreSettled any flagged count looping settled at) where
-  pub settled_over : HasBit looping at ⊎ HasBit settled at → AreSettled any flagged count looping settled (at + 1)
-  settled_over here = record {
+module _ (any flagged : ℕ → ℕ → Type 0) (count at : ℕ) (looping done_places : List ℕ) (s : AreDone any flagged count looping done_places at) where
+  pub done_over : HasBit looping at ⊎ HasBit done_places at → AreDone any flagged count looping done_places (at + 1)
+  done_over here = record {
     sound = s.sound;
     closed = s.closed;
     plain = s.plain;
     all = λ q lt. elim (cases_eq q at) [
-      | inl e ↦ elim here [ inl h ↦ inl (subst (λ x. HasBit looping x) (sym e) h) | inr h ↦ inr (subst (λ x. HasBit settled x) (sym e) h) ]
+      | inl e ↦ elim here [ inl h ↦ inl (subst (λ x. HasBit looping x) (sym e) h) | inr h ↦ inr (subst (λ x. HasBit done_places x) (sym e) h) ]
       | inr apart ↦ s.all q (omega arith)
     ];
   }
 
-  pub settled_looping : (behind new : List ℕ) → ((q : ℕ) → HasBit behind q ↔ Close any q at) → ((q : ℕ) → Close any q at → q < count) → ((i : ℕ) → bit_of new i ≡ (bit_of looping i || bit_of behind i))
+  pub done_looping : (behind new : List ℕ) → ((q : ℕ) → HasBit behind q ↔ Close any q at) → ((q : ℕ) → Close any q at → q < count) → ((i : ℕ) → bit_of new i ≡ (bit_of looping i || bit_of behind i))
       → ((x : ℕ) × Close any at x × ReturnsTo any flagged x)
-      → AreSettled any flagged count new settled (at + 1)
-  settled_looping behind new reach below is (x, way, returns) = record {
+      → AreDone any flagged count new done_places (at + 1)
+  done_looping behind new reach below is (x, way, returns) = record {
     sound = λ q h. elim ((or_has (bit_of looping q) (bit_of behind q)).0 (sym (is q) ∙ h)) [
       | inl was ↦ s.sound q was
       | inr now ↦ let to = (reach q).0 now in (below q to, (x, close_trans any q at x to way, returns))
@@ -202,28 +202,28 @@ module _ (any flagged : ℕ → ℕ → Type 0) (count at : ℕ) (looping settle
     ];
   }
 
-  pub settled_plain : (component new : List ℕ) → IsComponent any at component → ((i : ℕ) → bit_of new i ≡ (bit_of settled i || bit_of component i)) → ((x : ℕ) → HasBit component x → ReturnsTo any flagged x → ⊥)
-      → AreSettled any flagged count looping new (at + 1)
-  settled_plain component new reach is none = record {
+  pub done_plain : (component new : List ℕ) → IsComponent any at component → ((i : ℕ) → bit_of new i ≡ (bit_of done_places i || bit_of component i)) → ((x : ℕ) → HasBit component x → ReturnsTo any flagged x → ⊥)
+      → AreDone any flagged count looping new (at + 1)
+  done_plain component new reach is none = record {
     sound = s.sound;
     closed = s.closed;
-    plain = λ q h. elim ((or_has (bit_of settled q) (bit_of component q)).0 (sym (is q) ∙ h)) [
+    plain = λ q h. elim ((or_has (bit_of done_places q) (bit_of component q)).0 (sym (is q) ∙ h)) [
       | inl was ↦ s.plain q was
       | inr now ↦ none q now
     ];
     all = λ q lt. elim (cases_eq q at) [
-      | inl e ↦ inr (is q ∙ (or_has (bit_of settled q) (bit_of component q)).1 (inr ((reach q).1 (subst (λ z. Close any at z × Close any z at) (sym e) (close_refl any at, close_refl any at)))))
+      | inl e ↦ inr (is q ∙ (or_has (bit_of done_places q) (bit_of component q)).1 (inr ((reach q).1 (subst (λ z. Close any at z × Close any z at) (sym e) (close_refl any at, close_refl any at)))))
       | inr apart ↦ elim (s.all q (omega arith)) [
         | inl was ↦ inl was
-        | inr was ↦ inr (is q ∙ (or_has (bit_of settled q) (bit_of component q)).1 (inl was))
+        | inr was ↦ inr (is q ∙ (or_has (bit_of done_places q) (bit_of component q)).1 (inl was))
       ]
     ];
   }
 
--- once all are settled, just those are marked that lead to a loop
-pub all_settled : (any flagged : ℕ → ℕ → Type 0) (count at : ℕ) (looping settled : List ℕ) → count ≤ at → ((p q : ℕ) → flagged p q → p < count) → AreSettled any flagged count looping settled at
+-- once all are done, just those are marked that lead to a loop
+pub all_done : (any flagged : ℕ → ℕ → Type 0) (count at : ℕ) (looping done_places : List ℕ) → count ≤ at → ((p q : ℕ) → flagged p q → p < count) → AreDone any flagged count looping done_places at
     → (q : ℕ) → HasBit looping q ↔ ((q < count) × LeadsToLoop any flagged q)
-all_settled any flagged count at looping settled over inside s q = (
+all_done any flagged count at looping done_places over inside s q = (
   s.sound q,
   λ (q_in, (x, way, returns)). elim (s.all x (let lt = inside x returns.0 returns.1 in omega arith)) [
     | inl has ↦ s.closed q x way has

@@ -1,3 +1,3 @@
 pub mod Loops
-pub mod Settling
+pub mod Marking
 pub mod Room

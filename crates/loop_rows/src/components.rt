@@ -1,11 +1,11 @@
-//! Components of a table of arcs, and what they settle.
+//! Components of a table of arcs, and what they mark.
 
 ghost use Rattle.std.specs.Prelude.{◌≡◌, ◌+◌, ◌^◌, ◌<◌, ◌↔◌, ℕ, length, IsTrue};
 ghost use Rattle.auto_core.specs.Game.{Close};
 ghost use Rattle.auto_core.specs.Rows.{HasBit};
 ghost use Rattle.auto_core.specs.Reach.{IsTable, HasArc};
 ghost use Rattle.loop_rows.specs.Loops.{AreArcs, IsTurned};
-ghost use Rattle.loop_rows.specs.Settling.{HasArcWithin, IsComponent, AreSettled};
+ghost use Rattle.loop_rows.specs.Marking.{HasArcWithin, IsComponent, AreDone};
 
 use auto_core::{reach, rows};
 use row_steps::{and_row, meets, next_bit};
@@ -75,9 +75,9 @@ fn has_arc_within(flagged: &[u64], count: u32, width: usize, places: &[u64]) -> 
     false
 }
 
-/// Settles the component of the place: where a flagged arc leads within it, all that reaches it is marked. The last three rows are used on
-/// the way.
-pub fn settle(
+/// Marks all that reaches the place as looping where a flagged arc leads within its component, and otherwise its component as done. The
+/// last three rows are used on the way.
+pub fn mark_component(
     any: &[u64],
     flagged: &[u64],
     turned: &[u64],
@@ -85,7 +85,7 @@ pub fn settle(
     width: usize,
     at: usize,
     looping: &mut [u64],
-    settled: &mut [u64],
+    done_places: &mut [u64],
     component: &mut [u64],
     behind: &mut [u64],
     done: &mut [u64],
@@ -97,17 +97,17 @@ pub fn settle(
     requires few { width < 2 ^ 32 }
     requires at_in { at < count }
     requires looping_len { length looping.old ≡ width }
-    requires settled_len { length settled.old ≡ width }
+    requires done_places_len { length done_places.old ≡ width }
     requires component_len { length component.old ≡ width }
     requires behind_len { length behind.old ≡ width }
     requires done_len { length done.old ≡ width }
-    requires so_far { AreSettled (HasArc any.now count width) (HasArc flagged.now count width) count looping.old settled.old at }
-    ensures { AreSettled (HasArc any.now count width) (HasArc flagged.now count width) count looping.new settled.new (at + 1) }
+    requires so_far { AreDone (HasArc any.now count width) (HasArc flagged.now count width) count looping.old done_places.old at }
+    ensures { AreDone (HasArc any.now count width) (HasArc flagged.now count width) count looping.new done_places.new (at + 1) }
 {
     write_component(any, turned, count, width, at, component, behind, done);
     if has_arc_within(flagged, count, width, component) {
         rows::add_bits(looping, behind);
     } else {
-        rows::add_bits(settled, component);
+        rows::add_bits(done_places, component);
     }
 }

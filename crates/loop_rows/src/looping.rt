@@ -5,7 +5,7 @@ ghost use Rattle.auto_core.specs.Rows.{HasBit};
 ghost use Rattle.auto_core.specs.Reach.{IsTable, HasArc};
 ghost use Rattle.loop_rows.specs.Loops.{AreArcs, IsTurned, LeadsToLoop};
 
-use crate::components::settle;
+use crate::components::mark_component;
 use crate::turning::turn;
 use auto_core::{Memory, rows};
 use std::alloc::Global;
@@ -16,7 +16,7 @@ use std::marker::Model;
 pub struct Room {
     places: u32,
     turned: Vec<u64>,
-    settled: Vec<u64>,
+    done_places: Vec<u64>,
     component: Vec<u64>,
     behind: Vec<u64>,
     done: Vec<u64>,
@@ -42,7 +42,7 @@ fn mark_in(
     width: usize,
     looping: &mut [u64],
     turned: &mut [u64],
-    settled: &mut [u64],
+    done_places: &mut [u64],
     component: &mut [u64],
     behind: &mut [u64],
     done: &mut [u64],
@@ -53,7 +53,7 @@ fn mark_in(
     requires few { width < 2 ^ 32 }
     requires looping_len { length looping.old ≡ width }
     requires turned_len { length turned.old ≡ count * width }
-    requires settled_len { length settled.old ≡ width }
+    requires done_places_len { length done_places.old ≡ width }
     requires component_len { length component.old ≡ width }
     requires behind_len { length behind.old ≡ width }
     requires done_len { length done.old ≡ width }
@@ -63,13 +63,23 @@ fn mark_in(
 {
     turn(any, count, width, turned);
     rows::clear_row(looping);
-    rows::clear_row(settled);
+    rows::clear_row(done_places);
     for at in 0..count as usize {
-        if rows::has_bit(looping, at) || rows::has_bit(settled, at) {
+        if rows::has_bit(looping, at) || rows::has_bit(done_places, at) {
             continue;
         }
-        settle(
-            any, flagged, turned, count, width, at, looping, settled, component, behind, done,
+        mark_component(
+            any,
+            flagged,
+            turned,
+            count,
+            width,
+            at,
+            looping,
+            done_places,
+            component,
+            behind,
+            done,
         );
     }
 }
@@ -86,14 +96,14 @@ impl Room {
         ensures { IfOk result (λ room. room ≡ places) }
     {
         let turned = vec![in alloc; 0; places as usize * rows::words_for(places)]?;
-        let settled = row(alloc, places)?;
+        let done_places = row(alloc, places)?;
         let component = row(alloc, places)?;
         let behind = row(alloc, places)?;
         let done = row(alloc, places)?;
         Ok(Room {
             places,
             turned,
-            settled,
+            done_places,
             component,
             behind,
             done,
@@ -121,7 +131,7 @@ pub fn mark_loops(any: &[u64], flagged: &[u64], count: u32, looping: &mut [u64],
         rows::words_for(count),
         looping,
         &mut room.turned,
-        &mut room.settled,
+        &mut room.done_places,
         &mut room.component,
         &mut room.behind,
         &mut room.done,

@@ -2,7 +2,7 @@
 
 ghost use Rattle.std.specs.Prelude.{◌≤◌};
 
-use crate::copying::is_same;
+use crate::copying::is_same_automaton;
 use crate::tests::step;
 use crate::{MergeBy, Reduced, Step, reduce_ahead};
 use auto_core::{Auto, Memory, Mode, Trans};
@@ -95,9 +95,9 @@ fn a_second_letter_joins_what_one_does_not(rt: HostRuntime) -> Result<(), Fail> 
     let joined = Auto::build(alloc, 6, 9, 0, &moves, &[5])?;
     if automaton.states() == 7 {
         let one = reduce_ahead(alloc, &automaton, Mode::Buchi, 1, 1)?;
-        assert!(rt; is_same(&one.auto, &automaton));
+        assert!(rt; is_same_automaton(&one.auto, &automaton));
         let two = reduce_ahead(alloc, &automaton, Mode::Buchi, 1, 2)?;
-        assert!(rt; is_same(&two.auto, &joined));
+        assert!(rt; is_same_automaton(&two.auto, &joined));
         assert_eq!(rt; letters_of(&two), Some(2));
     }
     Ok(())

@@ -33,7 +33,7 @@ fn members(alloc: Global, set: &StateSet, states: u32) -> Result<List<u32>, Memo
     Ok(made)
 }
 
-/// The useful states and the initial one.
+/// The useful states and the initial one stay.
 fn trim(alloc: Global, automaton: &Auto, mode: Mode, sight: Foresight) -> Result<Made, Memory>
     ensures after { IfOk result (λ made. After automaton.now mode sight Kind.Trim made.automaton) }
     ensures entry { IfOk result (λ made. IsStepEntry automaton.now mode sight Kind.Trim made.entry) }

@@ -10,7 +10,7 @@ ghost use Rattle.reduce_loop.specs.Settled.{IsSettled};
 ghost use Rattle.reduce_loop.specs.Logs.{IsLogged, LogsOn, IsLog};
 ghost use Rattle.reduce_loop.specs.declared.steps.Step.{Step};
 
-use crate::copying::{copied, is_same};
+use crate::copying::{copied, is_same_automaton};
 use crate::knowing::nothing_known;
 use crate::making::make;
 use crate::steps::{Foresight, Going, Kind, Reduced, Step};
@@ -102,7 +102,7 @@ fn take(
     }
     let mut known = state.known;
     let made = make(alloc, &state.auto, &mut known, kind, mode, sight)?;
-    if is_same(&made.automaton, &state.auto) {
+    if is_same_automaton(&made.automaton, &state.auto) {
         let mut idle = state.idle;
         idle.push(kind)?;
         return Ok(Going {

@@ -11,18 +11,18 @@ loop-i-preserved c = λ k q k_in near.
     let L = c.args.places.now in
     let ns = c.predecessors-before.result.now in
     let i : ℕ = c.loop-i.i in
-    let made = c.write_row.new.table in
+    let made = c.clear_table_row.new.table in
     let w : ℕ = c.args.width in
     let now : Trans = get_or c.transitions.result.now (get_or ns i 0) (trans 0 0 0) in
     let label : now.label ≡ (trans_at L (get_or ns i 0)).label = ap (λ ts. (get_or ts (get_or ns i 0) (trans 0 0 0)).label) c.transitions.ensures.list in
     elim (cases_eq (trans_at L (get_or ns k 0)).label now.label) [
-      | inl e ↦ ap (λ x. cell_of made w x q) e ∙ (c.write_row.ensures.here q near ∙ c.requires.none q)
+      | inl e ↦ ap (λ x. cell_of made w x q) e ∙ c.clear_table_row.ensures.here q near
       | inr apart ↦
           let before : k < i = elim (cases_eq k i) [
             | inl f ↦ absurd (apart (ap (λ j. (trans_at L (get_or ns j 0)).label) f ∙ sym label))
             | inr far ↦ omega arith
           ] in
-          c.write_row.ensures.others (trans_at L (get_or ns k 0)).label q near apart ∙ c.loop-i.invariant k q before near
+          c.clear_table_row.ensures.others (trans_at L (get_or ns k 0)).label q near apart ∙ c.loop-i.invariant k q before near
     ]
 
 pub returns : goal.returns

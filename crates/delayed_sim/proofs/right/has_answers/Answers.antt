@@ -9,7 +9,7 @@ use Rattle.delayed_sim.proofs.right.has_answers.Goals as goal
 pub loop-t-preserved : goal.loop-t-preserved
 loop-t-preserved c = λ v from lt.
     let A = c.args.automaton.now in
-    let Here : Trans → Type 0 = λ u. IsAnsweredAhead A c.args.delayed.now.triples c.args.limit c.args.ahead.now c.args.q u.label u.target in
+    let Here : Trans → Type 0 = λ u. IsAnsweredAhead A c.args.delayed.now.triples c.args.below c.args.ahead.now c.args.q u.label u.target in
     elim (cases_eq v c.loop-t.t) [
       | inl e ↦
           let Q : List Trans → Type 0 = λ ts. Here (get_or ts c.loop-t.t (trans 0 0 0)) in
@@ -21,7 +21,7 @@ loop-t-preserved c = λ v from lt.
 pub returns : goal.returns
 returns c =
     let A = c.args.automaton.now in
-    let Here : Trans → Type 0 = λ u. IsAnsweredAhead A c.args.delayed.now.triples c.args.limit c.args.ahead.now c.args.q u.label u.target in (
+    let Here : Trans → Type 0 = λ u. IsAnsweredAhead A c.args.delayed.now.triples c.args.below c.args.ahead.now c.args.q u.label u.target in (
       (λ yes a p' move.
           let (t, from, below, is) = moves_in_outgoing A c.args.p c.outgoing-span.result.begin c.outgoing-span.result.end c.outgoing-span.ensures.range a p' move in
           subst Here is (c.loop-t.invariant t from (omega (arith, below, c.loop-t-test.false)))),
@@ -31,7 +31,7 @@ returns c =
 pub returns-then-not-answers_move : goal.returns-then-not-answers_move
 returns-then-not-answers_move c =
     let A = c.args.automaton.now in
-    let Here : Trans → Type 0 = λ u. IsAnsweredAhead A c.args.delayed.now.triples c.args.limit c.args.ahead.now c.args.q u.label u.target in
+    let Here : Trans → Type 0 = λ u. IsAnsweredAhead A c.args.delayed.now.triples c.args.below c.args.ahead.now c.args.q u.label u.target in
     let Q : List Trans → Type 0 = λ ts. Here (get_or ts c.loop-t.t (trans 0 0 0)) in
     let move = outgoing_moves A c.args.p c.outgoing-span.result.begin c.outgoing-span.result.end c.outgoing-span.ensures.range c.loop-t.t c.loop-t.auto.t c.loop-t-test.true in (
       (λ yes. absurd (false≢true yes)),

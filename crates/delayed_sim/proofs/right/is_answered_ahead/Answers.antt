@@ -1,7 +1,7 @@
 use Rattle.std.proofs.Common.{ℕ, ◌↔◌, inl, inr, List, [], ◌∷◌, ◌++◌, drop, refl, sym, subst, arith}
 use Rattle.std.specs.Prelude.{IsTrue}
 use Rattle.std.proofs.lemmas.Bool.{cases_eq}
-use Rattle.delayed_sim.specs.Right.{IsAnsweredWithin}
+use Rattle.delayed_sim.specs.Right.{HasAnswerBelow}
 use Rattle.delayed_sim.proofs.RightLemmas.{ahead_of_all}
 use Rattle.delayed_sim.proofs.right.is_answered_ahead.Goals as goal
 
@@ -11,7 +11,7 @@ loop-more-preserved c = λ m lt.
     let X = c.args.delayed.now.triples in
     let b = c.args.ahead.now in
     let more = c.loop-more.more in
-    let Here : List ℕ → Type 0 = λ d. IsAnsweredWithin A X c.args.limit d c.args.q c.args.step.label c.args.step.target in
+    let Here : List ℕ → Type 0 = λ d. HasAnswerBelow A X c.args.below d c.args.q c.args.step.label c.args.step.target in
     elim (cases_eq m more) [
       | inl e ↦
           let told : IsTrue c.is_answered.result ↔ Here (drop 1 (b ++ more ∷ [])) = subst (λ d. IsTrue c.is_answered.result ↔ Here d) c.next_ahead-next.ensures c.is_answered.ensures in
@@ -21,6 +21,6 @@ loop-more-preserved c = λ m lt.
 
 pub returns : goal.returns
 returns c = (
-  (λ yes. ahead_of_all c.args.automaton.now c.args.delayed.now.triples c.args.limit c.args.ahead.now c.args.q c.args.step.label c.args.step.target c.loop-more.more (omega (arith, c.loop-more-test.false, c.labels-more-end.ensures.count)) c.loop-more.invariant),
+  (λ yes. ahead_of_all c.args.automaton.now c.args.delayed.now.triples c.args.below c.args.ahead.now c.args.q c.args.step.label c.args.step.target c.loop-more.more (omega (arith, c.loop-more-test.false, c.labels-more-end.ensures.count)) c.loop-more.invariant),
   λ all. refl,
 )

@@ -27,4 +27,4 @@ has_answers-requires-clause-short c =
 pub returns : goal.returns
 returns c =
     let X = c.args.delayed.now.triples in
-    answers_at c.args.automaton.now X c.args.limit (triple_at X c.args.at) c.left.result c.ahead.result.now c.right.result c.has_answers.result c.left.ensures.state c.ahead.ensures.letters c.right.ensures.state c.has_answers.ensures
+    answers_at c.args.automaton.now X c.args.below (triple_at X c.args.at) c.left.result c.ahead.result.now c.right.result c.has_answers.result c.left.ensures.state c.ahead.ensures.letters c.right.ensures.state c.has_answers.ensures

@@ -15,8 +15,8 @@ all_triples-requires-clause-places c = (listable c.args.automaton.now c.args.let
 pub all_triples-requires-clause-few : goal.all_triples-requires-clause-few
 all_triples-requires-clause-few c = (listable c.args.automaton.now c.args.letters c.states-states.ensures.valid c.requires.from c.requires.fitting c.requires.few).pairs
 
-pub turns-init : goal.turns-init
-turns-init c = (
+pub passes-init : goal.passes-init
+passes-init c = (
   c.in_ok-left.ensures.states,
   c.in_ok-left.ensures.labels,
   c.in_ok-left.ensures.letters,

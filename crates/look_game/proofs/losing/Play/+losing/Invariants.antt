@@ -9,10 +9,10 @@ abbrev pub decreases-all_lose : goal.decreases-all_lose
 decreases-all_lose g l = 32 * l.depth + 1
 
 abbrev pub decreases-move_wins : goal.decreases-move_wins
-decreases-move_wins g l = 32 * l.depth + 2 * l.room + 2
+decreases-move_wins g l = 32 * l.depth + 2 * l.left + 2
 
 abbrev pub decreases-path_wins : goal.decreases-path_wins
-decreases-path_wins g l = 32 * l.depth + 2 * l.room + 3
+decreases-path_wins g l = 32 * l.depth + 2 * l.left + 3
 
 abbrev pub invariant-all_lose-loop-i : goal.invariant-all_lose-loop-i
 invariant-all_lose-loop-i g l = PlaysOn l.fn.self l.self

@@ -3,7 +3,7 @@ use Rattle.std.proofs.lemmas.Nat.{mul-le}
 use Rattle.delayed_sim.proofs.BoundLemmas.{bound_has}
 use Rattle.delayed_sim.proofs.StepLemmas.{places_alone}
 use Rattle.delayed_sim.proofs.WordLemmas.{power_zero}
-use Rattle.delayed_sim.proofs.game.greatest_at_once.Goals as goal
+use Rattle.delayed_sim.proofs.game.greatest_by_pairs.Goals as goal
 
 pub greatest_within-requires-clause-places : goal.greatest_within-requires-clause-places
 greatest_within-requires-clause-places c = places_alone c.args.automaton.now c.requires.valid

@@ -1,6 +1,6 @@
 use Rattle.std.proofs.Common.{◌≡◌, rules, sym, ◌∙◌}
 use Rattle.reduce_loop.proofs.CopyLemmas.{same_parts, alike_if_same}
-use Rattle.reduce_loop.proofs.copying.is_same.Goals as goal
+use Rattle.reduce_loop.proofs.copying.is_same_automaton.Goals as goal
 
 pub returns : goal.returns
 returns c =

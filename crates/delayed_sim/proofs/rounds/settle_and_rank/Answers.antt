@@ -3,7 +3,7 @@ use Rattle.auto_core.specs.Delayed.{IsGreatestDelayed}
 use Rattle.delayed_sim.specs.Rankings.{Ranking}
 use Rattle.delayed_sim.specs.Rounds.{HasEachTriple, AreAcceptingRanked}
 use Rattle.delayed_sim.proofs.LevelLemmas.{each_same, answered_same, greatest_of}
-use Rattle.delayed_sim.proofs.rounds.turn.Goals as goal
+use Rattle.delayed_sim.proofs.rounds.settle_and_rank.Goals as goal
 
 pub drop_unranked-requires-clause-each : goal.drop_unranked-requires-clause-each
 drop_unranked-requires-clause-each c =

@@ -1,0 +1,5 @@
+use Rattle.std.proofs.Common.{◌<◌, All}
+use Rattle.look_game.proofs.sweeping.add_next.Given as goal
+
+abbrev pub invariant-loop-at : goal.invariant-loop-at
+invariant-loop-at g l = All (λ q. q < l.automaton.states) l.order.items
