@@ -28,6 +28,7 @@ use Rattle.cert_check.specs.Inclusion.{element_arcs}
 use Rattle.cert_check.specs.Listing.{SameIn, DiffersFromEarlier}
 use Rattle.cert_check.specs.Supers.{StandFor, AreSupers, held_arc, held_block, held_number, key_of, key_at, flag_word, Fit, Key, has_key, HasKey}
 use Rattle.cert_check.specs.Firsts.{AreFirsts}
+use Rattle.cert_check.proofs.FirstLemmas.{alike_by_firsts}
 use Rattle.cert_check.specs.declared.elements.Supers.{Supers}
 
 flag_of_word : (a b : Bool) → flag_word a ≡ flag_word b → a ≡ b
@@ -121,12 +122,12 @@ module _ (A B : Automaton) (a b : Arc) (g h : List ℕ) (i j : ℕ) (x y : WordA
       ap (λ k. k ∷ 0 ∷ a.to ∷ 0 ∷ []) (firsts rows) ∙ ap (λ k. j ∷ 0 ∷ k ∷ 0 ∷ []) to
 
 -- The keys of all elements.
-module _ (m : Mode) (A B : Automaton) (elements : List Element) (S : Supers) (are : AreSupers m A B elements (length elements) S) (firsts : List ℕ) (apart : AreFirsts S.graphs.graphs.items firsts) where
+module _ (m : Mode) (A B : Automaton) (elements : List Element) (S : Supers) (are : AreSupers m A B elements (length elements) S) (firsts : List ℕ) (are_firsts : AreFirsts S.graphs.graphs.items firsts) where
   abbrev first_of : ℕ → ℕ
   first_of d = slice_index_or firsts (held_number S d) 0
 
   blocks_alike : (d e : ℕ) → d < length elements → e < length elements → (first_of d ≡ first_of e) ↔ (held_block S d ≡ held_block S e)
-  blocks_alike d e d_in e_in = apart (held_number S d) (held_number S e) (are.within d d_in) (are.within e e_in)
+  blocks_alike d e d_in e_in = alike_by_firsts S.graphs.graphs.items firsts are_firsts (held_number S d) (held_number S e) (are.within d d_in) (are.within e e_in)
 
   pub differs_by_keys : (e : ℕ) → e < length elements → ((d : ℕ) → d < e → Fit (held_block S d)) → Fit (held_block S e) →
       ((d : ℕ) → d < e → key_at m S firsts d ≡ key_at m S firsts e → ⊥) → DiffersFromEarlier m A B elements e

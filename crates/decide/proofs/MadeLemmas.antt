@@ -38,7 +38,7 @@ module _ (A B : Automaton) (logs : Logs) (terms : Terms) (S : List (ℕ × ℕ))
   pub made_word : (x y : Entry) (word : List ℕ) → ComesOut (rules_in terms.mode A B S) terms.limit (Apart x y) → IsWordOf terms.mode x word → Made (NoWord word)
   made_word x y word ends is = record { outcome = Apart x y; ends = ends; is = is }
 
-  pub made_list : (es : List Entry) (origins : List Origin) (body : Body) → ComesOut (rules_in terms.mode A B S) terms.limit (Limit es) → origins ≡ origins_in es → IsListWith logs terms.limit origins body → Made body
+  pub made_list : (es : List Entry) (origins : List Origin) (body : Body) → ComesOut (rules_in terms.mode A B S) terms.limit (Limit es) → origins ≡ origins_in es → IsListWith logs terms origins body → Made body
   made_list es origins body ends is body_is =
       subst Made (sym body_is) (record { outcome = Limit es; ends = ends; is = record { first_log = refl; second_log = refl; limit_is = refl; origins = is } })
 

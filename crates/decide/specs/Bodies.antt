@@ -24,8 +24,8 @@ abbrev pub IsYesWith : Logs → List (ℕ × ℕ) → Closure → Body → Type 
 IsYesWith logs S c body = (block : RelBlock) × IsBlockOfPairs S block × (body ≡ Yes (evidence_of logs c block))
 
 -- The list of the origins.
-abbrev pub IsListWith : Logs → ℕ → List Origin → Body → Type 0
-IsListWith logs limit origins body = body ≡ Listing (record { first = logs.first; second = logs.second; limit = limit; elements = origins })
+abbrev pub IsListWith : Logs → Terms → List Origin → Body → Type 0
+IsListWith logs terms origins body = body ≡ Listing (record { first = logs.first; second = logs.second; limit = terms.limit; elements = origins })
 
 -- These automata with these logs.
 abbrev pub ends_with : Automaton → Automaton → Logs → Reductions

@@ -32,13 +32,13 @@ fn yes_of(alloc: Global, logs: Logs, closure: Closure, order: &Rel) -> Result<Bo
 }
 
 /// The list of the elements of these origins.
-fn list_of(logs: Logs, limit: u32, origins: List<Origin>) -> Body
-    ensures { IsListWith logs limit origins result }
+fn list_of(logs: Logs, terms: Terms, origins: List<Origin>) -> Body
+    ensures { IsListWith logs terms origins result }
 {
     Body::Listing(ListBody {
         first: logs.first,
         second: logs.second,
-        limit,
+        limit: terms.limit,
         elements: origins,
     })
 }
@@ -64,7 +64,7 @@ fn lasso_body(
     match ramsey_search::search(alloc, first, second, order, terms.limit)? {
         Outcome::Closed(closure) => yes_of(alloc, logs, closure, order),
         Outcome::Apart(lasso) => Ok(Body::NoLasso(lasso)),
-        Outcome::Limit(origins) => Ok(list_of(logs, terms.limit, origins)),
+        Outcome::Limit(origins) => Ok(list_of(logs, terms, origins)),
     }
 }
 
@@ -89,7 +89,7 @@ fn word_body(
     match antichain::search(alloc, first, second, order, terms.limit)? {
         WordOutcome::Closed(closure) => yes_of(alloc, logs, closure, order),
         WordOutcome::Apart(word) => Ok(Body::NoWord(word)),
-        WordOutcome::Limit(origins) => Ok(list_of(logs, terms.limit, origins)),
+        WordOutcome::Limit(origins) => Ok(list_of(logs, terms, origins)),
     }
 }
 

@@ -1,5 +1,6 @@
 -- The search, candidate by candidate.
-use Rattle.std.proofs.Common.{◌≡◌, ℕ, ◌+◌, ◌-◌, ◌*◌, ◌<◌, ◌≤◌, Bool, true, false, List, [], ◌∷◌, ◌++◌, length, map, slice_index_or, refl, sym, ap, ◌∙◌, subst, arith, length-append}
+use Rattle.std.proofs.Common.{◌≡◌, ℕ, ◌+◌, ◌-◌, ◌*◌, ◌<◌, ◌≤◌, Bool, true, false, cond, List, [], ◌∷◌, ◌++◌, length, map, slice_index_or, refl, sym, ap, ◌∙◌, subst, arith, length-append}
+use Rattle.std.specs.Prelude.{Contains, filter}
 use Rattle.std.specs.List.{range_with_len}
 use Rattle.auto_core.specs.Automaton.{Automaton, IsAutomaton, trans_at, IsOutgoing}
 use Rattle.auto_core.specs.Run.{Run}
@@ -8,6 +9,7 @@ use Rattle.auto_core.specs.Graph.{WordArc, IsPlacedAt}
 use Rattle.auto_core.specs.Outcome.{At, Entry, Closed, Apart, Limit, HasSubsumer, HasNoSubsumer, PassesBefore, FirstFailing, Comes, passed_over, limit_met, told_apart, entered, done, base_entry, next_entry, supergraph_rules, arcs_in}
 use Rattle.auto_core.specs.declared.parts.Origin.TheVariants.{Base, Next}
 use Rattle.auto_core.proofs.MoveLemmas.{move_in_range}
+use Rattle.auto_core.proofs.PathLemmas.{Contains-here, Contains-later}
 use Rattle.graph_rows.specs.Block.{IsFormed}
 use Rattle.search_laws.specs.Outcomes.{HaveOrigins}
 use Rattle.search_laws.proofs.PlaceLemmas.{at_within, at_some, at_more, at_new, read_at}
@@ -48,6 +50,13 @@ held_in_range A B S valid es have i x h is kept =
       subst (λ k. k < A.states) (sym (ap (λ (a : WordArc). a.to) kept.arc)) ends.1,
     )
 
+-- A test that all pass leaves the list as it is.
+all_stay : (p : ℕ → Bool) (l : List ℕ) → ((j : ℕ) → Contains l j → p j ≡ true) → filter p l ≡ l
+all_stay p [] all = refl
+all_stay p (j ∷ l) all =
+    ap (λ b. cond b (j ∷ filter p l) (filter p l)) (all j (Contains-here j j l refl))
+    ∙ ap (λ m. j ∷ m) (all_stay p l (λ k has. all k (Contains-later j k l has)))
+
 -- A family's parts fit together.
 pub fits_together : (A B : Automaton) (S : List (ℕ × ℕ)) (n : ℕ) (f : View) (es : List Entry) → n ≡ B.states → IsFamily A B S f es → FitsTogether n f
 fits_together A B S n f es same family = record {
@@ -61,6 +70,11 @@ fits_together A B S n f es same family = record {
       let within = at_within es j lies.element lies.is in
       let size = family.size in
       omega arith;
+  live = λ p q p_in q_in.
+      let flag : ℕ → Bool = λ j. slice_index_or f.live j false in
+      let among = family.between p q (subst (λ m. p < m) family.states p_in) (subst (λ m. q < m) family.states q_in) in
+      subst (λ m. filter flag (numbers_at f.ends (p * m + q)) ≡ numbers_at f.ends (p * m + q)) (sym family.states)
+      (all_stay flag (numbers_at f.ends (p * A.states + q)) (λ j has. (among.only j has).stays));
   formed = λ i h h_is.
       let within = at_within f.held i h h_is in
       let size = family.size in

@@ -6,6 +6,8 @@ use Rattle.auto_core.specs.Game.{Holds}
 use Rattle.auto_core.specs.Graph.{Supergraph, Covers, Subsumes, Passes, Fails, graph_of}
 use Rattle.auto_core.specs.Outcome.{At, Entry, Outcome, Closed, Apart, Limit, Comes, SearchEnds, TellsLive, PassesBefore, FirstFailing, supergraph_rules}
 use Rattle.graph_rows.specs.Block.{IsFormed, block_graph}
+use Rattle.graph_rows.specs.declared.prints.Print.{Print}
+use Rattle.graph_rows.specs.Prints.{IsPrint}
 use Rattle.supergraph.specs.Minimal.{IsMinimal}
 use Rattle.supergraph.specs.Stands.{with_word, with_graph}
 use Rattle.search_laws.specs.Outcomes.{HaveOrigins}
@@ -59,6 +61,14 @@ pub record AreBetween (es : List Entry) (live : List Bool) (p q : ℕ) (numbers 
   pub only : (j : ℕ) → Contains numbers j → LiesBetween es live p q j
   pub all : (j : ℕ) → LiesBetween es live p q j → Contains numbers j
 
+-- The kept elements have prints, each that of its graph.
+pub record ArePrintsOf (n : ℕ) (S : List (ℕ × ℕ)) (held : List Seen) (prints : List Print) : Type 0 where
+  pub size : length prints ≡ length held
+  pub each : (j : ℕ) (h : Seen) (print : Print) → At held j h → At prints j print → IsPrint n (Holds S) h.graph print
+
+abbrev pub HavePrints : ℕ → List (ℕ × ℕ) → View → Type 0
+HavePrints n S f = ArePrintsOf n S f.held f.prints
+
 -- The family holds these elements.
 pub record IsFamily (A B : Automaton) (S : List (ℕ × ℕ)) (f : View) (es : List Entry) : Type 0 where
   pub states : f.states ≡ A.states
@@ -67,6 +77,7 @@ pub record IsFamily (A B : Automaton) (S : List (ℕ × ℕ)) (f : View) (es : L
   pub ends_size : length f.ends ≡ A.states * A.states
   pub origins : HaveOrigins A es
   pub kept : (i : ℕ) (h : Seen) (x : Entry) → At f.held i h → At es i x → IsKept B S h x
+  pub prints : HavePrints B.states S f
   pub tells : TellsLive (supergraph_rules A B S) es (λ i. slice_index_or f.live i false)
   pub between : (p q : ℕ) → p < A.states → q < A.states → AreBetween es f.live p q (numbers_at f.ends (p * A.states + q))
 
@@ -123,11 +134,13 @@ pub record AreDropped (n : ℕ) (S : List (ℕ × ℕ)) (held : List Seen) (numb
   pub all : (j : ℕ) → IsSubsumedOf n S held numbers x j → slice_index_or new j false ≡ false
 
 -- The parts of the family fit one another, for graphs of n states: there are as many flags as elements, a list of numbers for each
--- two states, each number is that of an element, and the graphs are formed.
+-- two states, each number is that of an element that is live, and the graphs are formed.
 pub record FitsTogether (n : ℕ) (f : View) : Type 0 where
   pub live_size : length f.live ≡ length f.held
   pub ends_size : length f.ends ≡ f.states * f.states
   pub there : (p q : ℕ) → p < f.states → q < f.states → AreThere (numbers_at f.ends (p * f.states + q)) (length f.held)
+  pub live : (p q : ℕ) → p < f.states → q < f.states
+      → filter (λ j. slice_index_or f.live j false) (numbers_at f.ends (p * f.states + q)) ≡ numbers_at f.ends (p * f.states + q)
   pub formed : AreFormed n f.held
 
 -- The new element has entered the family behind the others and is live; of those with its ends, the ones that it subsumes are
@@ -135,6 +148,7 @@ pub record FitsTogether (n : ℕ) (f : View) : Type 0 where
 pub record HasEntered (n : ℕ) (S : List (ℕ × ℕ)) (new : Seen) (old now : View) : Type 0 where
   pub states : now.states ≡ old.states
   pub held : now.held ≡ old.held ++ new ∷ []
+  pub prints : HavePrints n S now
   pub flags : List Bool
   pub dropped : AreDropped n S old.held (numbers_at old.ends (new.arc.from * old.states + new.arc.to)) (held_super n new) old.live flags
   pub live : now.live ≡ flags ++ true ∷ []

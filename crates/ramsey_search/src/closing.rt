@@ -14,7 +14,7 @@ ghost use Rattle.shared_graphs.specs.GraphBlocks.{SamePool};
 ghost use Rattle.shared_graphs.specs.Graphs.{HasGrown, IsStock, MinimisedBy, block_at};
 ghost use Rattle.shared_graphs.specs.GraphPairs.{AreCoverings};
 ghost use Rattle.ramsey_search.specs.Views.{seen, view};
-ghost use Rattle.ramsey_search.specs.Kept.{FitsTogether, IsWhole, entries_held};
+ghost use Rattle.ramsey_search.specs.Kept.{FitsTogether, HavePrints, IsWhole, entries_held};
 ghost use Rattle.evidence.specs.Evidence.{IsEvidenceOf, IsStepOf};
 ghost use Rattle.ramsey_search.specs.Marks.{AreMarked, HasCoverer, IsCovererOf, LiveCoverThemselves};
 
@@ -33,6 +33,7 @@ fn coverer(order: &Rel, graphs: &Graphs, told: &mut Coverings, family: &Family, 
     requires from { of.now.arc.from < family.now.states }
     requires to { of.now.arc.to < family.now.states }
     requires fits { FitsTogether order.now.size (view graphs.now.graphs.items family.now) }
+    requires prints { HavePrints order.now.size order.now.pairs (view graphs.now.graphs.items family.now) }
     requires formed { IsFormed order.now.size (block_at graphs.now.graphs.items of.now.graph) }
     requires some { HasCoverer order.now.size order.now.pairs (view graphs.now.graphs.items family.now) (seen graphs.now.graphs.items of.now) }
     requires told { AreCoverings order.now.size order.now.pairs graphs.now.graphs.items told.old }
@@ -54,6 +55,7 @@ fn elements(
     family: &Family,
 ) -> Result<List<Element>, Memory>
     requires fits { FitsTogether order.now.size (view graphs.now.graphs.items family.now) }
+    requires prints { HavePrints order.now.size order.now.pairs (view graphs.now.graphs.items family.now) }
     requires ends { (i : ℕ) (h : Held) → At family.now.held.items i h → (h.arc.from < family.now.states) × (h.arc.to < family.now.states) }
     requires some { (i : ℕ) (h : Held) → At family.now.held.items i h → slice_index_or family.now.live.items i false ≡ false
         → HasCoverer order.now.size order.now.pairs (view graphs.now.graphs.items family.now) (seen graphs.now.graphs.items h) }
@@ -97,6 +99,7 @@ fn marked_coverer(
     requires from { of.now.arc.from < family.now.states }
     requires to { of.now.arc.to < family.now.states }
     requires fits { FitsTogether order.now.size (view graphs.now.graphs.items family.now) }
+    requires prints { HavePrints order.now.size order.now.pairs (view graphs.now.graphs.items family.now) }
     requires formed { IsFormed order.now.size (block_at graphs.now.graphs.items of.now.graph) }
     requires themselves { LiveCoverThemselves order.now.size order.now.pairs (view graphs.now.graphs.items family.now) }
     requires marked { AreMarked order.now.size order.now.pairs (view graphs.now.graphs.items family.now) (length family.now.held.items) marked.now }

@@ -1,71 +1,72 @@
 //! The elements that have entered.
 
-ghost use Rattle.std.specs.Prelude.{◌≡◌, ◌+◌, ◌*◌, ◌^◌, ◌<◌, ◌≤◌, ℕ, [], ◌∷◌, ◌++◌, length, filter, slice_index_or, false, MatchOption, IfOk, IfSome, OnOk};
+ghost use Rattle.std.specs.Prelude.{◌≡◌, ◌+◌, ◌*◌, ◌^◌, ◌<◌, ◌≤◌, ℕ, [], ◌∷◌, ◌++◌, length, filter, slice_index_or, true, false, MatchOption, IfOk, IfSome, OnOk};
 ghost use Rattle.graph_rows.specs.Block.{IsFormed, block_graph};
 ghost use Rattle.supergraph.specs.Stands.{with_graph};
 ghost use Rattle.evidence.specs.Tables.{numbers_at};
 ghost use Rattle.shared_graphs.specs.Graphs.{block_at};
 ghost use Rattle.shared_graphs.specs.GraphPairs.{AreCoverings};
 ghost use Rattle.ramsey_search.specs.Views.{seen, view};
-ghost use Rattle.ramsey_search.specs.Kept.{AreThere, FitsTogether, HasEntered, IsEqualTo, NoneSubsumes, IsFirstSubsumer};
+ghost use Rattle.ramsey_search.specs.Kept.{AreThere, FitsTogether, HasEntered, HavePrints, IsEqualTo, NoneSubsumes, IsFirstSubsumer};
 
-use crate::meeting::{are_all_live, drop_subsumed, least_subsumer, still_live};
+use crate::meeting::{drop_subsumed, least_subsumer, print_for, still_live};
 use crate::parts::Held;
 use auto_core::Memory;
 use bit_rel::Rel;
+use graph_rows::Print;
 use shared_graphs::{Coverings, Graphs};
 use std::alloc::Global;
 use supergraph::Arc;
 
-/// How many places there are for the numbers of elements.
+/// How many places there are for the numbers of elements, a power of two.
 const PLACES: usize = 16384;
 
-/// The elements in the order in which they entered, whether each is live, for each two states of the first automaton the numbers of
-/// the live elements from the one to the other, and the number of the latest element at each place.
+/// The elements in the order in which they entered, the print of the graph of each, whether each is live, for each two states of the first
+/// automaton the numbers of the live elements from the one to the other, and the number of the latest element at each place.
 #[derive(Debug, Drop)]
 pub(crate) struct Family {
     pub(crate) states: u32,
     pub(crate) held: Vec<Held>,
+    pub(crate) prints: Vec<Print>,
     pub(crate) live: Vec<bool>,
     pub(crate) ends: Vec<Vec<u32>>,
     pub(crate) latest: Vec<u32>,
 }
 
-/// The place, of so many, for an element with this arc and this graph.
-fn place_of(arc: &Arc, graph: u32, places: usize) -> usize {
-    if places == 0 {
-        return 0;
-    }
+/// The place for an element with this arc and this graph.
+fn place_of(arc: &Arc, graph: u32) -> usize {
     let mut mixed: u64 = if arc.accepting { 0x27D4EB2F165667C5 } else { 0 };
     mixed = (mixed ^ arc.from as u64).wrapping_mul(0x9E3779B97F4A7C15);
     mixed = (mixed ^ arc.to as u64).wrapping_mul(0xC2B2AE3D27D4EB4F);
     mixed = (mixed ^ graph as u64).wrapping_mul(0x9E3779B97F4A7C15);
-    ((mixed ^ (mixed >> 32)) % places as u64) as usize
+    (mixed ^ (mixed >> 32)) as usize & (PLACES - 1)
 }
 
 /// Gives the place of the element to its number.
 fn take_place(latest: &mut Vec<u32>, new: &Held, number: u32) {
-    let place = place_of(&new.arc, new.graph, latest.len());
+    let place = place_of(&new.arc, new.graph);
     if place < latest.len() {
         latest[place] = number;
     }
 }
 
-/// Puts the number behind those of the elements of the place that are live.
+/// Puts the number behind those of the elements of the place that are live, or behind all of them if they are all kept.
 fn take_in(
     alloc: Global,
     ends: &mut Vec<Vec<u32>>,
     place: usize,
     live: &[bool],
+    all_kept: bool,
     number: u32,
 ) -> Result<(), Memory>
     requires within { place < length ends.old.items }
     requires there { AreThere (numbers_at ends.old.items place) (length live.now) }
+    requires kept { all_kept ≡ true → filter (λ j. slice_index_or live.now j false) (numbers_at ends.old.items place) ≡ numbers_at ends.old.items place }
     ensures size { OnOk result (length ends.new.items ≡ length ends.old.items) }
     ensures here { OnOk result (numbers_at ends.new.items place ≡ filter (λ j. slice_index_or live.now j false) (numbers_at ends.old.items place) ++ number ∷ []) }
     ensures others { OnOk result ((k : ℕ) → (k ≡ place → ⊥) → numbers_at ends.new.items k ≡ numbers_at ends.old.items k) }
 {
-    if are_all_live(&ends[place], live) {
+    if all_kept {
         ends[place].push(number)?;
         return Ok(());
     }
@@ -80,6 +81,7 @@ impl Family {
     pub(crate) fn new(alloc: Global, states: u32) -> Result<Family, Memory>
         ensures states { IfOk result (λ f. f.states ≡ states) }
         ensures held { IfOk result (λ f. f.held.items ≡ []) }
+        ensures prints { IfOk result (λ f. f.prints.items ≡ []) }
         ensures live { IfOk result (λ f. f.live.items ≡ []) }
         ensures ends_size { IfOk result (λ f. length f.ends.items ≡ states * states) }
         ensures ends { IfOk result (λ f. (k : ℕ) → numbers_at f.ends.items k ≡ []) }
@@ -91,6 +93,7 @@ impl Family {
         Ok(Family {
             states,
             held: Vec::new(alloc),
+            prints: Vec::new(alloc),
             live: Vec::new(alloc),
             ends,
             latest: vec![in alloc; u32::MAX; PLACES]?,
@@ -121,7 +124,7 @@ impl Family {
     pub(crate) fn equal_to(&self, arc: &Arc, graph: u32) -> Option<u32>
         ensures { IfSome result (IsEqualTo self.now.held.items arc.now graph) }
     {
-        let place = place_of(arc, graph, self.latest.len());
+        let place = place_of(arc, graph);
         if place >= self.latest.len() {
             return None;
         }
@@ -148,6 +151,7 @@ impl Family {
         requires from { arc.now.from < self.now.states }
         requires to { arc.now.to < self.now.states }
         requires fits { FitsTogether order.now.size (view graphs.now.graphs.items self.now) }
+        requires prints { HavePrints order.now.size order.now.pairs (view graphs.now.graphs.items self.now) }
         requires formed { IsFormed order.now.size (block_at graphs.now.graphs.items graph) }
         requires told { AreCoverings order.now.size order.now.pairs graphs.now.graphs.items told.old }
         ensures told { AreCoverings order.now.size order.now.pairs graphs.now.graphs.items told.new }
@@ -156,14 +160,17 @@ impl Family {
             let numbers = numbers_at self.now.ends.items (arc.now.from * self.now.states + arc.now.to) in
             MatchOption result (NoneSubsumes order.now.size order.now.pairs held numbers x) (IsFirstSubsumer order.now.size order.now.pairs held numbers x) }
     {
+        let print = print_for(order, &graphs.graphs, told, graph);
         least_subsumer(
             order,
             &graphs.graphs,
             told,
             &self.held,
+            &self.prints,
             self.between(arc.from, arc.to),
             arc,
             graph,
+            &print,
         )
     }
 
@@ -179,6 +186,7 @@ impl Family {
         requires from { new.arc.from < self.old.states }
         requires to { new.arc.to < self.old.states }
         requires fits { FitsTogether order.now.size (view graphs.now.graphs.items self.old) }
+        requires prints { HavePrints order.now.size order.now.pairs (view graphs.now.graphs.items self.old) }
         requires formed { IsFormed order.now.size (block_at graphs.now.graphs.items new.graph) }
         requires few { length self.old.held.items < 2 ^ 32 }
         requires told { AreCoverings order.now.size order.now.pairs graphs.now.graphs.items told.old }
@@ -189,17 +197,21 @@ impl Family {
     {
         let place = self.place(new.arc.from, new.arc.to);
         let number = self.held.len() as u32;
-        drop_subsumed(
+        let print = print_for(order, &graphs.graphs, told, new.graph);
+        let all_kept = drop_subsumed(
             order,
             &graphs.graphs,
             told,
             &self.held,
+            &self.prints,
             &self.ends[place],
             &new,
+            &print,
             &mut self.live,
         );
-        take_in(alloc, &mut self.ends, place, &self.live, number)?;
+        take_in(alloc, &mut self.ends, place, &self.live, all_kept, number)?;
         self.held.push(new)?;
+        self.prints.push(print)?;
         self.live.push(true)?;
         take_place(&mut self.latest, &new, number);
         Ok(())

@@ -122,7 +122,7 @@ pub fn search_in(
     ensures words { pool.new.words ≡ pool.old.words }
     ensures blocks { pool.new.blocks ≡ pool.old.blocks }
     ensures free { IfOk result (λ outcome. HasRoomFor outcome pool.new.free) }
-    ensures kept { pool.old.free ≤ pool.new.free }
+    ensures no_fewer { pool.old.free ≤ pool.new.free }
 {
     let mut family = Family::new(alloc, first.states())?;
     let mut answers = GraphPairs::new(alloc, second.states())?;

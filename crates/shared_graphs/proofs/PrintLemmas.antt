@@ -9,7 +9,7 @@ use Rattle.graph_rows.specs.Block.{block_graph}
 use Rattle.graph_rows.specs.Prints.{AreBitsOf, IsFolded, IsPicked, IsPrint, Misses, MissesAt, joined_pairs}
 use Rattle.search_laws.proofs.PlaceLemmas.{at_cases}
 use Rattle.shared_graphs.specs.Graphs.{block_at}
-use Rattle.shared_graphs.specs.GraphPairs.{ArePrints, AreToldApart}
+use Rattle.shared_graphs.specs.GraphPairs.{ArePrints}
 
 -- One print more.
 pub prints_more :
@@ -60,12 +60,3 @@ misses_apart n S g h first second first_is second_is misses = elim misses [
   | inl at ↦ bits_apart (IsPicked n) (Holds S) (block_graph n g) (block_graph n h) first.picked second.picked first_is.picked second_is.picked at
   | inr at ↦ bits_apart (IsFolded n) (Holds S) (block_graph n g) (block_graph n h) first.folded second.folded first_is.folded second_is.folded at
 ]
-
-pub apart :
-    (n : ℕ) (S : List (ℕ × ℕ)) (graphs : List (List ℕ)) (prints : List Print) (g h : ℕ)
-    → ArePrints n S graphs prints
-    → AreToldApart prints g h
-    → words.Covers (Holds S) (block_graph n (block_at graphs g)) (block_graph n (block_at graphs h))
-    → ⊥
-apart n S graphs prints g h all told =
-    misses_apart n S (block_at graphs g) (block_at graphs h) told.first told.second (all g told.first told.first_is).1 (all h told.second told.second_is).1 told.misses

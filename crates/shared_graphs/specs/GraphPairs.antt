@@ -6,7 +6,7 @@ use Rattle.auto_core.specs.Graph.{Covers}
 use Rattle.auto_core.specs.Outcome.{At}
 use Rattle.graph_rows.specs.Block.{block_graph}
 use Rattle.graph_rows.specs.declared.prints.Print.{Print}
-use Rattle.graph_rows.specs.Prints.{IsPrint, Misses}
+use Rattle.graph_rows.specs.Prints.{IsPrint}
 use Rattle.shared_graphs.specs.declared.memo.Answer.{Answer}
 use Rattle.shared_graphs.specs.declared.memo.Answer.TheVariants.{Number, Truth}
 use Rattle.shared_graphs.specs.declared.coverings.Coverings.{Coverings}
@@ -34,14 +34,6 @@ ArePrints n S graphs prints = (k : ℕ) (print : Print) → At prints k print �
 pub record AreCoverings (n : ℕ) (S : List (ℕ × ℕ)) (graphs : List (List ℕ)) (c : Coverings) : Type 0 where
   pub prints : ArePrints n S graphs c.prints.items
   pub told : AllTold (FitsCovering n S graphs) c.memo.told.items
-
--- The print of the first graph has a pair that the second one's has no answer to.
-pub record AreToldApart (prints : List Print) (g h : ℕ) : Type 0 where
-  pub first : Print
-  pub second : Print
-  pub first_is : At prints g first
-  pub second_is : At prints h second
-  pub misses : Misses first second
 
 -- All that is remembered of pairs is so.
 pub record AreGraphPairs (B : Automaton) (S : List (ℕ × ℕ)) (graphs : List (List ℕ)) (answers : GraphPairs) : Type 0 where

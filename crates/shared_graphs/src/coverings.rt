@@ -8,13 +8,13 @@ ghost use Rattle.graph_rows.specs.Prints.{IsPrint};
 ghost use Rattle.supergraph.specs.Stands.{with_graph};
 ghost use Rattle.shared_graphs.specs.Graphs.{block_at};
 ghost use Rattle.shared_graphs.specs.Memo.{AllTold};
-ghost use Rattle.shared_graphs.specs.GraphPairs.{AreCoverings, AreToldApart, FitsCovering};
+ghost use Rattle.shared_graphs.specs.GraphPairs.{AreCoverings, FitsCovering};
 
 use crate::graph_blocks::GraphBlocks;
 use crate::memo::{Answer, Memo};
 use auto_core::Memory;
 use bit_rel::Rel;
-use graph_rows::{Print, misses, print_of};
+use graph_rows::{Print, print_of};
 use std::alloc::Global;
 use supergraph::Arc;
 
@@ -29,7 +29,7 @@ pub struct Coverings {
 }
 
 /// Tells whether graphs with both numbers are there.
-pub(crate) fn are_there(graphs: &GraphBlocks, g: u32, h: u32) -> bool
+fn are_there(graphs: &GraphBlocks, g: u32, h: u32) -> bool
     ensures { result ≡ true → (g < length graphs.now.items) × (h < length graphs.now.items) }
 {
     (g as usize) < graphs.len() && (h as usize) < graphs.len()
@@ -85,19 +85,6 @@ pub fn subsumes(
     covers(order, graphs, memo, g, h)
 }
 
-/// Tells whether the prints show that the first graph does not cover the second.
-fn are_apart(prints: &[Print], g: u32, h: u32) -> bool
-    ensures { result ≡ true → AreToldApart prints.now g h }
-{
-    if g as usize >= prints.len() {
-        return false;
-    }
-    if h as usize >= prints.len() {
-        return false;
-    }
-    misses(&prints[g as usize], &prints[h as usize])
-}
-
 impl Coverings {
     /// Nothing was told.
     pub fn new(alloc: Global) -> Result<Coverings, Memory>
@@ -143,76 +130,5 @@ impl Coverings {
             return None;
         }
         Some(self.prints[h as usize])
-    }
-
-    /// Tells whether prints show that the first graph does not cover the second, whose print is given.
-    pub fn misses_second(
-        &self,
-        order: &Rel,
-        graphs: &GraphBlocks,
-        g: u32,
-        h: u32,
-        print: &Option<Print>,
-    ) -> bool
-        requires told { AreCoverings order.now.size order.now.pairs graphs.now.items self.now }
-        requires print { IfSome print.now (IsPrint order.now.size (Holds order.now.pairs) (block_at graphs.now.items h)) }
-        ensures { result ≡ true → Covers (Holds order.now.pairs) (block_graph order.now.size (block_at graphs.now.items g)) (block_graph order.now.size (block_at graphs.now.items h)) → ⊥ }
-    {
-        if g as usize >= self.prints.len() {
-            return false;
-        }
-        match *print {
-            Some(print) => misses(&self.prints[g as usize], &print),
-            None => false,
-        }
-    }
-
-    /// Tells whether prints show that the first graph, whose print is given, does not cover the second.
-    pub fn misses_first(
-        &self,
-        order: &Rel,
-        graphs: &GraphBlocks,
-        g: u32,
-        h: u32,
-        print: &Option<Print>,
-    ) -> bool
-        requires told { AreCoverings order.now.size order.now.pairs graphs.now.items self.now }
-        requires print { IfSome print.now (IsPrint order.now.size (Holds order.now.pairs) (block_at graphs.now.items g)) }
-        ensures { result ≡ true → Covers (Holds order.now.pairs) (block_graph order.now.size (block_at graphs.now.items g)) (block_graph order.now.size (block_at graphs.now.items h)) → ⊥ }
-    {
-        if h as usize >= self.prints.len() {
-            return false;
-        }
-        match *print {
-            Some(print) => misses(&print, &self.prints[h as usize]),
-            None => false,
-        }
-    }
-
-    /// Tells whether `x` with the graph `g` subsumes `y` with the graph `h`.
-    pub fn subsumes(
-        &mut self,
-        order: &Rel,
-        graphs: &GraphBlocks,
-        x: &Arc,
-        g: u32,
-        y: &Arc,
-        h: u32,
-    ) -> bool
-        requires first { IsFormed order.now.size (block_at graphs.now.items g) }
-        requires second { IsFormed order.now.size (block_at graphs.now.items h) }
-        requires told { AreCoverings order.now.size order.now.pairs graphs.now.items self.old }
-        ensures told { AreCoverings order.now.size order.now.pairs graphs.now.items self.new }
-        ensures subsumes { IsTrue result
-            ↔ Subsumes (Holds order.now.pairs) (with_graph x.now (block_graph order.now.size (block_at graphs.now.items g)))
-            (with_graph y.now (block_graph order.now.size (block_at graphs.now.items h))) }
-    {
-        if are_apart(&self.prints, g, h) {
-            return false;
-        }
-        if !fits(x, y) {
-            return false;
-        }
-        covers(order, graphs, &mut self.memo, g, h)
     }
 }

@@ -182,7 +182,7 @@ impl GraphBlocks {
         ensures words { result.words ≡ self.words }
         ensures blocks { result.blocks ≡ self.rest }
         ensures free { length self.items < result.free }
-        ensures before { self.free_before ≤ result.free }
+        ensures no_fewer { self.free_before ≤ result.free }
     {
         let GraphBlocks {
             mut pool,

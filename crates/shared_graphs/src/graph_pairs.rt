@@ -104,7 +104,7 @@ impl GraphPairs {
     }
 
     /// Tells whether it is seen at once that the graphs have a lasso from the initial state.
-    pub fn pass_at_sight(&self, second: &Auto, graphs: &GraphBlocks, g: u32, h: u32) -> bool
+    pub fn have_lasso_at_sight(&self, second: &Auto, graphs: &GraphBlocks, g: u32, h: u32) -> bool
         requires second { IsFormed second.now.states (block_at graphs.now.items h) }
         requires told { AreLassosTold second.now graphs.now.items self.now }
         ensures { result ≡ true
@@ -114,16 +114,16 @@ impl GraphPairs {
     }
 
     /// Tells whether the graphs have a lasso from the initial state.
-    pub fn passes(&mut self, second: &Auto, graphs: &GraphBlocks, g: u32, h: u32) -> bool
+    pub fn have_lasso(&mut self, second: &Auto, graphs: &GraphBlocks, g: u32, h: u32) -> bool
         requires first { IsFormed second.now.states (block_at graphs.now.items g) }
         requires second { IsFormed second.now.states (block_at graphs.now.items h) }
         requires told { AreLassosTold second.now graphs.now.items self.old }
         ensures told { AreLassosTold second.now graphs.now.items self.new }
         ensures covers { self.new.covers ≡ self.old.covers }
-        ensures passes { IsTrue result
+        ensures lasso { IsTrue result
             ↔ LassoIn (block_graph second.now.states (block_at graphs.now.items g)) (block_graph second.now.states (block_at graphs.now.items h)) second.now.initial }
     {
-        if self.pass_at_sight(second, graphs, g, h) {
+        if self.have_lasso_at_sight(second, graphs, g, h) {
             return true;
         }
         if let Some(holds) = told(second, graphs, &self.glimpses, g, h) {

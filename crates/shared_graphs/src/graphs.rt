@@ -357,7 +357,7 @@ impl Graphs {
         ensures words { result.words ≡ self.graphs.words }
         ensures blocks { result.blocks ≡ self.graphs.rest }
         ensures free { length self.graphs.items < result.free }
-        ensures before { self.graphs.free_before ≤ result.free }
+        ensures no_fewer { self.graphs.free_before ≤ result.free }
     {
         self.graphs.into_pool()
     }

@@ -22,12 +22,12 @@ loop-e-preserved c =
     let inv = c.loop-e.invariant in
     let lt : e < length es = omega (arith, c.loop-e-test.true, ap length c.as_slice-items.ensures) in
     let F : List ℕ = c.in_ok-firsts.firsts.items in
-    let apart : AreFirsts S.graphs.graphs.items F = c.in_ok-firsts.ensures.firsts in
+    let are_firsts : AreFirsts S.graphs.graphs.items F = c.in_ok-firsts.ensures.firsts in
     let K : ℕ → List ℕ = key_at m S F in
     let key_is : c.key_from-key.result ≡ K e = c.key_from-key.ensures.key ∙ ap (λ (l : List ℕ). key_at m S l e) c.deref.ensures.value in
     let fit : Fit (held_block S e) = c.key_from-key.ensures.fits in
     let missing : has_key c.loop-e.seen c.key_from-key.result ≡ false = search rules in
-    let new = differs_by_keys m A B es S c.requires.supers F apart e lt inv.fits fit
+    let new = differs_by_keys m A B es S c.requires.supers F are_firsts e lt inv.fits fit
     (λ d before same. false≢true (sym missing ∙ (inv.seen c.key_from-key.result).1 (d, before, key_is ∙ sym same))) in
     record {
       told = more_of (difference_checks m A B es c.args.item) e es c.as_slice-items.result.now no_element c.as_slice-items.ensures c.loop-e-test.true inv.told (new, tt);
@@ -58,10 +58,10 @@ returns-then-not-branch c =
     let inv = c.loop-e.invariant in
     let lt : e < length es = omega (arith, c.loop-e-test.true, ap length c.as_slice-items.ensures) in
     let F : List ℕ = c.in_ok-firsts.firsts.items in
-    let apart : AreFirsts S.graphs.graphs.items F = c.in_ok-firsts.ensures.firsts in
+    let are_firsts : AreFirsts S.graphs.graphs.items F = c.in_ok-firsts.ensures.firsts in
     let K : ℕ → List ℕ = key_at m S F in
     let key_is : c.key_from-key.result ≡ K e = c.key_from-key.ensures.key ∙ ap (λ (l : List ℕ). key_at m S l e) c.deref.ensures.value in
     let there : has_key c.loop-e.seen c.key_from-key.result ≡ true = search rules in
     let (d, before, is) = (inv.seen c.key_from-key.result).0 there in
     broken_of (difference_checks m A B es c.args.item) e es c.as_slice-items.result.now no_element (record { rule = 18; item = c.args.item + e }) c.as_slice-items.ensures c.loop-e-test.true inv.told
-    (inl (same_by_keys m A B es S c.requires.supers F apart d e before lt (sym is ∙ key_is), refl))
+    (inl (same_by_keys m A B es S c.requires.supers F are_firsts d e before lt (sym is ∙ key_is), refl))

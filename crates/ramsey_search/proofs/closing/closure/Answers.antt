@@ -10,7 +10,7 @@ use Rattle.ramsey_search.specs.declared.family.Family.{Family}
 use Rattle.shared_graphs.specs.GraphPairs.{AreCoverings}
 use Rattle.ramsey_search.specs.Views.{View, seen, view}
 use Rattle.ramsey_search.specs.Marks.{AreMarked, LiveCoverThemselves}
-use Rattle.ramsey_search.specs.Kept.{entries_held}
+use Rattle.ramsey_search.specs.Kept.{HavePrints, entries_held}
 use Rattle.ramsey_search.proofs.StayLemmas.{whole_stays}
 use Rattle.ramsey_search.proofs.SeenLemmas.{entry_at, held_stands}
 use Rattle.ramsey_search.proofs.TurnLemmas.{held_in_range, fits_together}
@@ -32,6 +32,7 @@ elements-requires c =
     let v : View = view g f in
     record {
       fits = fits_together A B S n v (entries_held A v) c.requires.order_size c.requires.whole;
+      prints = subst (λ m. HavePrints m S v) (sym c.requires.order_size) c.requires.whole.prints;
       ends = λ i h h_is.
           let x = entry_at A B S g f c.requires.whole i (at_within f.held.items i h h_is) in
           let range = held_in_range A B S c.requires.first_valid (entries_held A v) c.requires.whole.origins i x.0 (seen g h) x.1 (held_stands A B S g f c.requires.whole i h x.0 h_is x.1) in

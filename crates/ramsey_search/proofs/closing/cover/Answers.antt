@@ -8,7 +8,7 @@ use Rattle.ramsey_search.specs.declared.family.Family.{Family}
 use Rattle.shared_graphs.specs.GraphPairs.{AreCoverings}
 use Rattle.ramsey_search.specs.Views.{View, seen, view}
 use Rattle.ramsey_search.specs.Marks.{AreMarked, LiveCoverThemselves}
-use Rattle.ramsey_search.specs.Kept.{IsWhole, entries_held}
+use Rattle.ramsey_search.specs.Kept.{HavePrints, IsWhole, entries_held}
 use Rattle.shared_graphs.proofs.GraphsLemmas.{grown_none, grown_more, all_coverings_stay}
 use Rattle.ramsey_search.proofs.StayLemmas.{whole_stays}
 use Rattle.ramsey_search.proofs.TurnLemmas.{IsComing, fits_together, base_comes}
@@ -64,6 +64,7 @@ marked_coverer-requires c =
       from = subst (λ m. h.arc.from < m) (sym whole.states) coming.ends_in.0;
       to = subst (λ m. h.arc.to < m) (sym whole.states) coming.ends_in.1;
       fits = fits_together A c.args.second.now S c.args.order.now.size (view g_now f) (entries_held A (view g_now f)) c.requires.order_size whole;
+      prints = subst (λ m. HavePrints m S (view g_now f)) (sym c.requires.order_size) whole.prints;
       formed = subst (λ m. IsFormed m (seen g_now h).graph) (sym c.requires.order_size) coming.kept.formed;
       themselves = subst (LiveCoverThemselves c.args.order.now.size S) (sym (stays path).0) c.requires.themselves;
       marked = subst (λ v. AreMarked c.args.order.now.size S v (length f.held.items) c.args.marked.now) (sym (stays path).0) c.requires.marked;

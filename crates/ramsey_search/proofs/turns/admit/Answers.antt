@@ -8,7 +8,7 @@ use Rattle.shared_graphs.specs.declared.coverings.Coverings.{Coverings}
 use Rattle.evidence.specs.Entries.{entry_of}
 use Rattle.shared_graphs.specs.GraphPairs.{AreCoverings}
 use Rattle.ramsey_search.specs.Views.{Seen, View, seen, view}
-use Rattle.ramsey_search.specs.Kept.{IsFamily, HasEntered, IsTold, entries_held, IsWhole}
+use Rattle.ramsey_search.specs.Kept.{IsFamily, HasEntered, HavePrints, IsTold, entries_held, IsWhole}
 use Rattle.ramsey_search.proofs.EntriesLemmas.{entries_entered}
 use Rattle.ramsey_search.proofs.SeenLemmas.{entry_at, held_stands}
 use Rattle.ramsey_search.proofs.TurnLemmas.{ends_in_family, held_in_range, fits_together, entered_whole, come_limit, come_in, is_whole}
@@ -31,6 +31,9 @@ enter-requires-clause-to c = (ends_in_family c.args.first.now c.args.second.now 
 pub enter-requires-clause-fits : goal.enter-requires-clause-fits
 enter-requires-clause-fits c =
     fits_together c.args.first.now c.args.second.now c.args.order.now.pairs c.args.order.now.size (view c.args.graphs.now.graphs.items c.args.family.now) (entries_held c.args.first.now (view c.args.graphs.now.graphs.items c.args.family.now)) c.requires.order_size c.requires.whole
+
+pub enter-requires-clause-prints : goal.enter-requires-clause-prints
+enter-requires-clause-prints c = subst (λ m. HavePrints m c.args.order.now.pairs (view c.args.graphs.now.graphs.items c.args.family.now)) (sym c.requires.order_size) c.requires.whole.prints
 
 pub enter-requires-clause-formed : goal.enter-requires-clause-formed
 enter-requires-clause-formed c =

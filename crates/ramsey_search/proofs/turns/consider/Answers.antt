@@ -8,7 +8,7 @@ use Rattle.shared_graphs.specs.declared.coverings.Coverings.{Coverings}
 use Rattle.shared_graphs.specs.Graphs.{block_at}
 use Rattle.shared_graphs.specs.GraphPairs.{AreCoverings}
 use Rattle.ramsey_search.specs.Views.{Seen, View, seen, view}
-use Rattle.ramsey_search.specs.Kept.{entries_held, NoneSubsumes, IsFirstSubsumer, held_super}
+use Rattle.ramsey_search.specs.Kept.{HavePrints, entries_held, NoneSubsumes, IsFirstSubsumer, held_super}
 use Rattle.ramsey_search.proofs.EqualLemmas.{equal_subsumes}
 use Rattle.ramsey_search.proofs.MeetLemmas.{none_at_all, first_subsumes}
 use Rattle.ramsey_search.proofs.SeenLemmas.{few_seen}
@@ -24,6 +24,9 @@ least-requires-clause-to c = (ends_in_family c.args.first.now c.args.second.now 
 pub least-requires-clause-fits : goal.least-requires-clause-fits
 least-requires-clause-fits c =
     fits_together c.args.first.now c.args.second.now c.args.order.now.pairs c.args.order.now.size (view c.args.graphs.now.graphs.items c.args.family.now) (entries_held c.args.first.now (view c.args.graphs.now.graphs.items c.args.family.now)) c.requires.order_size c.requires.whole
+
+pub least-requires-clause-prints : goal.least-requires-clause-prints
+least-requires-clause-prints c = subst (λ m. HavePrints m c.args.order.now.pairs (view c.args.graphs.now.graphs.items c.args.family.now)) (sym c.requires.order_size) c.requires.whole.prints
 
 pub least-requires-clause-formed : goal.least-requires-clause-formed
 least-requires-clause-formed c =

@@ -24,7 +24,7 @@ loop-block-init c =
       rest = ap (λ (m : BlockMap). all_but m (handles c.self.inside.blocks.items)) c.give_back.ensures.blocks ∙ given.1 ∙ ap (λ (b : Blocks). b.rest) c.self.view_is;
       words = c.give_back.ensures.words ∙ ap (λ (b : Blocks). b.words) c.self.view_is;
       free = omega arith;
-      before = omega arith;
+      no_fewer = omega arith;
     }
 
 -- The handle that is taken is the last.
@@ -41,7 +41,7 @@ loop-block-preserved c =
     let list = taken (goal.at.loop-block-preserved c).In-Some in
     let given = last_given (handles c.pop.new.self.items) c.loop-block.pool.blocks c.in-Some.block.0 (subst (λ (l : List ℕ). AllLive c.loop-block.pool.blocks l) list c.loop-block.invariant.live) in
     let was = c.loop-block.invariant.free in
-    let before = c.loop-block.invariant.before in
+    let before = c.loop-block.invariant.no_fewer in
     let more = c.give_back-in-Some.ensures.free in
     let many = ap (λ (l : List Handle). length l) c.in-Some.ensures.items ∙ length-append c.pop.new.self.items (c.in-Some.block ∷ []) in
     record {
@@ -49,7 +49,7 @@ loop-block-preserved c =
       rest = ap (λ (m : BlockMap). all_but m (handles c.pop.new.self.items)) c.give_back-in-Some.ensures.blocks ∙ given.1 ∙ ap (λ (l : List ℕ). all_but c.loop-block.pool.blocks l) (sym list) ∙ c.loop-block.invariant.rest;
       words = c.give_back-in-Some.ensures.words ∙ c.loop-block.invariant.words;
       free = omega arith;
-      before = omega arith;
+      no_fewer = omega arith;
     }
 
 -- No block is left.
@@ -65,8 +65,8 @@ returns-clause-free c =
     let none = ap (λ (l : List Handle). length l) (none_left c) in
     omega arith
 
-pub returns-clause-before : goal.returns-clause-before
-returns-clause-before c =
-    let was = c.loop-block.invariant.before in
+pub returns-clause-no_fewer : goal.returns-clause-no_fewer
+returns-clause-no_fewer c =
+    let was = c.loop-block.invariant.no_fewer in
     let none = ap (λ (l : List Handle). length l) (none_left c) in
     omega arith

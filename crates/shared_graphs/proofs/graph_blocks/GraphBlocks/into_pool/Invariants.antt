@@ -8,7 +8,7 @@ invariant-loop-block l = record {
   rest : all_but l.pool.blocks (handles l.blocks.items) ≡ l.fn.self.rest;
   words : l.pool.words ≡ l.fn.self.words;
   free : length l.fn.self.items < l.pool.free + length l.blocks.items;
-  before : l.fn.self.free_before ≤ l.pool.free + length l.blocks.items;
+  no_fewer : l.fn.self.free_before ≤ l.pool.free + length l.blocks.items;
 }
 
 abbrev pub decreases-loop-block : goal.decreases-loop-block

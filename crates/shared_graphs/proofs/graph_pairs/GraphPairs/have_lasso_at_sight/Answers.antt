@@ -2,7 +2,7 @@ use Rattle.std.proofs.Common.{List, subst}
 use Rattle.shared_graphs.specs.declared.glimpses.Glimpse.{Glimpse}
 use Rattle.shared_graphs.specs.Glimpses.{MeetAtSight}
 use Rattle.shared_graphs.proofs.GlimpseLemmas.{seen_lasso}
-use Rattle.shared_graphs.proofs.graph_pairs.GraphPairs.pass_at_sight.Goals as goal
+use Rattle.shared_graphs.proofs.graph_pairs.GraphPairs.have_lasso_at_sight.Goals as goal
 
 pub returns : goal.returns
 returns c = λ told.
