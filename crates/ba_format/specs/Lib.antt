@@ -1,6 +1,7 @@
 pub mod Sight
 pub mod Grammar
 pub mod Faults
+pub mod KindNames
 pub mod Seen
 pub mod Draft
 pub mod Joining

@@ -1,5 +1,8 @@
 //! The types of reading and joining.
 
+ghost use Rattle.std.specs.Prelude.{◌≡◌};
+ghost use Rattle.ba_format.specs.KindNames.{kind_name};
+
 use crate::texts::Texts;
 use auto_core::{Auto, Memory};
 use std::alloc::AllocError;
@@ -37,6 +40,25 @@ pub enum BaKind {
     TooManyLabels,
     /// The line brings a different transition past the limit.
     TooManyTransitions,
+}
+
+impl BaKind {
+    /// The kind's name.
+    pub fn name(self) -> &'static str
+        ensures { result.now ≡ kind_name self }
+    {
+        match self {
+            BaKind::Empty => "Empty",
+            BaKind::BadByte => "BadByte",
+            BaKind::Shape => "Shape",
+            BaKind::EmptyToken => "EmptyToken",
+            BaKind::TokenLong => "TokenLong",
+            BaKind::TwoInitial => "TwoInitial",
+            BaKind::TooManyStates => "TooManyStates",
+            BaKind::TooManyLabels => "TooManyLabels",
+            BaKind::TooManyTransitions => "TooManyTransitions",
+        }
+    }
 }
 
 /// The fault of a text: the first faulty line, numbered from 1, and the least kind of fault that it has.

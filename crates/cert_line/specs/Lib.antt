@@ -1,3 +1,4 @@
+pub mod KindNames
 pub mod Shapes
 pub mod Lines
 pub mod Agrees

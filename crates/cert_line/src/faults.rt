@@ -1,5 +1,8 @@
 //! What can be wrong with a line of a text.
 
+ghost use Rattle.std.specs.Prelude.{◌≡◌};
+ghost use Rattle.cert_line.specs.KindNames.{text_kind_name};
+
 use auto_core::Memory;
 
 /// What is wrong with a line of a certificate's text.
@@ -17,6 +20,22 @@ pub enum TextKind {
     Truncated,
     /// A byte follows the last line.
     Trailing,
+}
+
+impl TextKind {
+    /// The kind's name.
+    pub fn name(self) -> &'static str
+        ensures { result.now ≡ text_kind_name self }
+    {
+        match self {
+            TextKind::Header => "Header",
+            TextKind::Number => "Number",
+            TextKind::Shape => "Shape",
+            TextKind::Order => "Order",
+            TextKind::Truncated => "Truncated",
+            TextKind::Trailing => "Trailing",
+        }
+    }
 }
 
 /// Why a line was not read.

@@ -6,7 +6,7 @@ use Rattle.cert_line.specs.declared.faults.TextKind.{TextKind}
 use Rattle.cert_text.specs.declared.faults.TextFault.{TextFault}
 use Rattle.cert_value.specs.Text.{Line}
 use Rattle.cert_text.specs.Told.{Told}
-use Rattle.cert_text.specs.Grammar.{LinesOutcome, Read, Stopped, lines_of, reading_by, told_at, first_left}
+use Rattle.cert_text.specs.Grammar.{LinesOutcome, Read, Stopped, lines_of, reading_by, told_at, line_left}
 
 -- A reader that stops so tells this fault.
 pub stopped_by : {C : Type 0} (read : List Line → LinesOutcome C) (bytes : List ℕ) (fault : TextKind) (here : List Line) (n : ℕ)
@@ -15,7 +15,7 @@ pub stopped_by : {C : Type 0} (read : List Line → LinesOutcome C) (bytes : Lis
     → reading_by read bytes ≡ Err (record { line = n; kind = fault })
 stopped_by {C = C} read bytes fault here n e k =
     let L = lines_of bytes in
-    let f : LinesOutcome C → Result C TextFault = λ o. told_at (first_left L o) o in
+    let f : LinesOutcome C → Result C TextFault = λ o. told_at (line_left L o) o in
     let g : ℕ → Result C TextFault = λ m. Err (record { line = m; kind = fault }) in
     let m : (length L + 1) - length here ≡ n = omega arith in
     ap f e ∙ ap g m
@@ -24,7 +24,7 @@ stopped_by {C = C} read bytes fault here n e k =
 pub read_by : {C : Type 0} (read : List Line → LinesOutcome C) (bytes : List ℕ) (c : C) → read (lines_of bytes) ≡ Read c → reading_by read bytes ≡ Ok c
 read_by {C = C} read bytes c e =
     let L = lines_of bytes in
-    let f : LinesOutcome C → Result C TextFault = λ o. told_at (first_left L o) o in
+    let f : LinesOutcome C → Result C TextFault = λ o. told_at (line_left L o) o in
     ap f e
 
 pub told_inv : {C : Type 0} (n : ℕ) (o : LinesOutcome C) (c : C) → told_at n o ≡ Ok c → o ≡ Read c

@@ -284,14 +284,14 @@ abbrev pub told_at : {C : Type 0} → ℕ → LinesOutcome C → Result C TextFa
 told_at line (Read c) = Ok c
 told_at line (Stopped fault rest) = Err (record { line = line; kind = fault })
 
--- The number of the first line that is left, of these lines.
-abbrev pub first_left : {C : Type 0} → List Line → LinesOutcome C → ℕ
-first_left lines (Read c) = 0
-first_left lines (Stopped fault rest) = (length lines + 1) - length rest
+-- The number of the first line that is left where reading stopped, of these lines.
+abbrev pub line_left : {C : Type 0} → List Line → LinesOutcome C → ℕ
+line_left lines (Read c) = 0
+line_left lines (Stopped fault rest) = (length lines + 1) - length rest
 
 -- What the bytes are, as this grammar reads lines: a value's text, or where they first begin none, and why.
 abbrev pub reading_by : {C : Type 0} → (List Line → LinesOutcome C) → List ℕ → Result C TextFault
-reading_by read bytes = told_at (first_left (lines_of bytes) (read (lines_of bytes))) (read (lines_of bytes))
+reading_by read bytes = told_at (line_left (lines_of bytes) (read (lines_of bytes))) (read (lines_of bytes))
 
 -- What the bytes are: a certificate's text, or where they first begin none, and why.
 abbrev pub reading : List ℕ → Result Cert TextFault

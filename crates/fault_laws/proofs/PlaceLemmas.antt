@@ -4,7 +4,7 @@ use Rattle.std.proofs.lemmas.Bool.{cases_lt}
 use Rattle.cert_line.specs.declared.faults.TextKind.TheVariants.{Truncated, Trailing}
 use Rattle.cert_text.specs.declared.faults.TextFault.{TextFault}
 use Rattle.cert_value.specs.Text.{Line, text_of}
-use Rattle.cert_text.specs.Grammar.{LinesOutcome, Read, Stopped, lines_of, told_at, first_left, reading_by}
+use Rattle.cert_text.specs.Grammar.{LinesOutcome, Read, Stopped, lines_of, told_at, line_left, reading_by}
 use Rattle.fault_laws.specs.FirstFaults.{whole_lines, BeginAlike}
 use Rattle.fault_laws.proofs.LineLemmas.{lines_count, same_lines}
 use Rattle.fault_laws.proofs.ReaderLemmas.{StopsSo}
@@ -24,7 +24,7 @@ pub record Stands {C : Type 0} (read : List Line → LinesOutcome C) (bytes : Li
   pub line : fault.line ≡ (length (lines_of bytes) + 1) - length rest
   pub so : StopsSo true read (lines_of bytes) fault.kind rest
 
-stop_of : {C : Type 0} (lines : List Line) (o : LinesOutcome C) (fault : TextFault) → told_at (first_left lines o) o ≡ Err fault
+stop_of : {C : Type 0} (lines : List Line) (o : LinesOutcome C) (fault : TextFault) → told_at (line_left lines o) o ≡ Err fault
     → (rest : List Line) × (o ≡ Stopped fault.kind rest) × (fault.line ≡ (length lines + 1) - length rest)
 stop_of lines (Read c) fault e = absurd (cc)
 stop_of {C = C} lines (Stopped kind rest) fault e =

@@ -32,7 +32,7 @@ use Rattle.reduce_loop.specs.declared.steps.Foresight.{Foresight}
 use Rattle.reduce_loop.specs.Passes.{IsReduced}
 use Rattle.reduce_loop.specs.Settled.{IsSettled}
 use Rattle.reduce_loop.proofs.PassLemmas.{reduced_no_larger}
-use Rattle.rabit_cli.specs.Files.{first_limits}
+use Rattle.rabit_replies.specs.Files.{first_limits}
 use Rattle.rabit_cli.specs.Reduce.{printed_limits, ReadsBackSame}
 use Rattle.rabit_cli.proofs.LabelLemmas.{reduced_labels}
 

@@ -210,7 +210,7 @@ known_append (Some x) a b = ap Some (append_assoc x a b)
 
 pub made_calls : (q : Question) (status : ℕ) (held held' : Option FileMap) (calls calls' : ShelfCounts)
     → BegunByStatus (question_inputs q) status held calls'.blamed calls.begins calls'.begins
-    → PutsByStatus (MeansQuestion q) (question_inputs q) status held held' calls.puts calls'.puts
+    → PutsByStatus (MeansQuestion q) (question_inputs q) status held held' calls.put_faults calls'.put_faults calls.put_calls calls'.put_calls
     → (status ≡ 6 → Rose calls.read_faults calls'.read_faults) → (status ≢ 6 → calls'.read_faults ≡ calls.read_faults)
     → (status ≡ 7 → Rose calls.put_faults calls'.put_faults) → (status ≢ 7 → calls'.put_faults ≡ calls.put_faults)
     → IfSome held (λ files. MadeCalls q status files held' calls calls')
@@ -377,8 +377,8 @@ unread_status list held held' status sent sent' give give' read read' put put' c
     ]
 
 -- and nothing is put
-pub puts_none : (list : List ℕ) (status : ℕ) (held held' : Option FileMap) (before now : ℕ) → IsStatusOfNoneAsked status → PutsByStatus NoReply (batch_inputs list) status held held' before now → now ≡ before
-puts_none list status held held' before now known puts = elim known [
+pub puts_none : (list : List ℕ) (status : ℕ) (held held' : Option FileMap) (put_faults put_faults' before now : ℕ) → IsStatusOfNoneAsked status → PutsByStatus NoReply (batch_inputs list) status held held' put_faults put_faults' before now → now ≡ before
+puts_none list status held held' put_faults put_faults' before now known puts = elim known [
   | inl six ↦ puts.read_fault six
   | inr more ↦ elim more [
     | inl eight ↦ puts.memory eight
@@ -473,10 +473,10 @@ list_is_of_questions questions (bytes, is) = (is.words, is.few)
 
 -- the list is not read
 pub batch_unread : (list : List ℕ) (slot : Input) (held held' : Option FileMap) (status : ℕ) (sent sent' : Option (List ℕ)) (give give' gives gives' read read' put put' missed missed' : ℕ) (calls calls' : ShelfCounts) (e : Ending)
-    → slot ≡ list_file list → EndsSo NoReply (slot ∷ []) e held held' read read' put put' → WasSaid e status sent sent' give give' → gives' ≡ counted gives → CountsMissing held slot.name missed missed' → calls'.puts ≡ calls.puts
+    → slot ≡ list_file list → EndsSo NoReply (slot ∷ []) e held held' read read' put put' → WasSaid e status sent sent' give give' → gives' ≡ counted gives → CountsMissing held slot.name missed missed' → calls'.put_calls ≡ calls.put_calls
     → BegunByStatus (slot ∷ []) (status_of e) held calls'.blamed calls.begins calls'.begins
     → IsBatch list held held' status sent sent' give give' gives gives' read read' put put' missed missed' calls calls'
-batch_unread list slot held held' status sent sent' give give' gives gives' read read' put put' missed missed' calls calls' e is ends said given counts puts_stay begun =
+batch_unread list slot held held' status sent sent' give give' gives gives' read read' put put' missed missed' calls calls' e is ends said given counts put_calls_stay begun =
     let carried : IsCarriedOut NoReply (batch_inputs list) held held' status sent sent' give give' read read' put put' =
     record { end = e; ends = subst (λ (i : Input). EndsSo NoReply (i ∷ []) e held held' read read' put put') is ends; said = said } in
     inl (record {
@@ -487,7 +487,7 @@ batch_unread list slot held held' status sent sent' give give' gives gives' read
       begun =
           begun_by_status (batch_inputs list) held calls'.blamed calls.begins calls'.begins e status
           (subst (λ (i : Input). BegunByStatus (i ∷ []) (status_of e) held calls'.blamed calls.begins calls'.begins) is begun) (elim said [ inl whole ↦ inl whole.0 | inr front ↦ inr front.0 ]);
-      puts_stay = puts_stay;
+      put_calls_stay = put_calls_stay;
     })
 
 -- the list was read, so its name was not missed
@@ -501,10 +501,10 @@ read_is_held files i v before now (bytes, has, few, reads) counts = counts ∙ g
 -- the list is read, and its questions are carried out
 pub batch_asked : (list : List ℕ) (slot : Input) (held held1 held' : Option FileMap) (status : ℕ) (sent sent' : Option (List ℕ)) (give give' gives gives' read read1 read' put put1 put' missed missed1 missed' : ℕ) (calls calls1 calls' : ShelfCounts) (questions : List Question)
     → slot ≡ list_file list → IsOfKind slot.kind (value.Questions questions) → IfSome held (λ files. FileReads files slot (value.Questions questions)) → CountsMissing held slot.name missed missed1
-    → held1 ≡ held → read1 ≡ read → put1 ≡ put → calls1.begins ≡ counted calls.begins → calls1.puts ≡ calls.puts → calls1.read_faults ≡ calls.read_faults → calls1.put_faults ≡ calls.put_faults
+    → held1 ≡ held → read1 ≡ read → put1 ≡ put → calls1.begins ≡ counted calls.begins → calls1.put_calls ≡ calls.put_calls → calls1.read_faults ≡ calls.read_faults → calls1.put_faults ≡ calls.put_faults
     → IsCarriedEach 1 questions held1 held' status sent sent' give give' gives gives' read1 read' put1 put' missed1 missed' calls1 calls'
     → IsBatch list held held' status sent sent' give give' gives gives' read read' put put' missed missed' calls calls'
-batch_asked list slot held held1 held' status sent sent' give give' gives gives' read read1 read' put put1 put' missed missed1 missed' calls calls1 calls' questions is kind reads counts held_stays read_stays put_stays begun puts_stay no_read no_put each =
+batch_asked list slot held held1 held' status sent sent' give give' gives gives' read read1 read' put put1 put' missed missed1 missed' calls calls1 calls' questions is kind reads counts held_stays read_stays put_stays begun put_calls_stay no_read no_put each =
     let of = list_is_of_questions questions (subst (λ (i : Input). IsOfKind i.kind (value.Questions questions)) is kind) in
     inr (record {
       questions = questions;
@@ -519,10 +519,10 @@ batch_asked list slot held held1 held' status sent sent' give give' gives gives'
         said = each.said;
         given_each = each.given_each;
         in_turn =
-            subst (λ n. BeforeAndAfter held held' (λ files files'. LeaveInTurn questions each.statuses files files' (shelf_counts n calls.puts calls.read_faults calls.put_faults calls1.blamed) calls')) begun
-            (subst (λ n. BeforeAndAfter held held' (λ files files'. LeaveInTurn questions each.statuses files files' (shelf_counts calls1.begins n calls.read_faults calls.put_faults calls1.blamed) calls')) puts_stay
-            (subst (λ n. BeforeAndAfter held held' (λ files files'. LeaveInTurn questions each.statuses files files' (shelf_counts calls1.begins calls1.puts n calls.put_faults calls1.blamed) calls')) no_read
-            (subst (λ n. BeforeAndAfter held held' (λ files files'. LeaveInTurn questions each.statuses files files' (shelf_counts calls1.begins calls1.puts calls1.read_faults n calls1.blamed) calls')) no_put
+            subst (λ n. BeforeAndAfter held held' (λ files files'. LeaveInTurn questions each.statuses files files' (shelf_counts n calls.put_calls calls.read_faults calls.put_faults calls1.blamed) calls')) begun
+            (subst (λ n. BeforeAndAfter held held' (λ files files'. LeaveInTurn questions each.statuses files files' (shelf_counts calls1.begins n calls.read_faults calls.put_faults calls1.blamed) calls')) put_calls_stay
+            (subst (λ n. BeforeAndAfter held held' (λ files files'. LeaveInTurn questions each.statuses files files' (shelf_counts calls1.begins calls1.put_calls n calls.put_faults calls1.blamed) calls')) no_read
+            (subst (λ n. BeforeAndAfter held held' (λ files files'. LeaveInTurn questions each.statuses files files' (shelf_counts calls1.begins calls1.put_calls calls1.read_faults n calls1.blamed) calls')) no_put
             (subst (λ (h : Option FileMap). BeforeAndAfter h held' (λ files files'. LeaveInTurn questions each.statuses files files' calls1 calls')) held_stays each.in_turn))));
         read_faults_rose = subst (λ n. RoseBy (times 6 each.statuses) n read') read_stays each.read_faults_rose;
         put_faults_rose = subst (λ n. RoseBy (times 7 each.statuses) n put') put_stays each.put_faults_rose;

@@ -18,9 +18,9 @@ use Rattle.rabit_frame.specs.declared.parts.Status.TheVariants as status
 use Rattle.rabit_frame.specs.declared.parts.Reply.{Reply}
 use Rattle.rabit_frame.specs.Statuses.{status_number}
 use Rattle.rabit_frame.specs.Reading.{only_said, ReadInTurn}
-use Rattle.rabit_cli.specs.Printed.{refused_text}
-use Rattle.rabit_cli.specs.Files.{ReadsPair, ReadsCertificate}
-use Rattle.rabit_cli.specs.Replies.{IsVerdictReply, SaysApart}
+use Rattle.rabit_replies.specs.Printed.{refused_text}
+use Rattle.rabit_replies.specs.Files.{ReadsPair, ReadsCertificate}
+use Rattle.rabit_replies.specs.Replies.{IsVerdictReply, SaysApart}
 use Rattle.rabit_cli.specs.Check.{check_inputs, Concludes, MeansCheck, ShowsCheck}
 use Rattle.rabit_cli.proofs.VerdictLemmas.{one_verdict, puts_of_verdict, low_verdict}
 

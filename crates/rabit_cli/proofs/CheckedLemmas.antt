@@ -30,9 +30,9 @@ use Rattle.rabit_frame.specs.Ending.{IsReplyFor, filed}
 use Rattle.rabit_frame.proofs.EndLemmas.{stop_plain}
 use Rattle.rabit_frame.proofs.OneLemmas.{one_read_in_turn, stop_or_read_in_turn}
 use Rattle.rabit_words.specs.Question.{NamesDiffer}
-use Rattle.rabit_cli.specs.Printed.{included_text, not_included_text, word_not_included_text, limit_text}
-use Rattle.rabit_cli.specs.Files.{first_limits, second_limits, automaton_file, certificate_file, ReadsCertificate}
-use Rattle.rabit_cli.specs.Replies.{IsVerdictReply}
+use Rattle.rabit_replies.specs.Printed.{included_text, not_included_text, word_not_included_text, limit_text}
+use Rattle.rabit_replies.specs.Files.{first_limits, second_limits, automaton_file, certificate_file, ReadsCertificate}
+use Rattle.rabit_replies.specs.Replies.{IsVerdictReply}
 use Rattle.rabit_cli.specs.Property.{IsPropertyReply, property_puts}
 use Rattle.rabit_cli.specs.Empty.{empty_text, emptiness}
 use Rattle.rabit_cli.specs.Universal.{all_loops, universality}

@@ -31,7 +31,7 @@ use Rattle.rabit_frame.specs.declared.parts.Status.TheVariants as status
 use Rattle.rabit_frame.specs.declared.parts.Reply.{Reply}
 use Rattle.rabit_frame.specs.Statuses.{status_number}
 use Rattle.rabit_frame.specs.Reading.{only_said, ReadInTurn}
-use Rattle.rabit_cli.specs.Files.{second_limits, first_limits}
+use Rattle.rabit_replies.specs.Files.{second_limits, first_limits}
 use Rattle.rabit_cli.specs.Include.{pair_inputs}
 use Rattle.rabit_cli.specs.Combine.{MeansCombined, IsCombinedReply, ShowsCombined}
 use Rattle.rabit_cli.specs.Union.{IsUnionOf, IsUnionReply, IsUnionStatus, MeansUnion, AcceptsWhatEitherDoes, ShowsUnion}

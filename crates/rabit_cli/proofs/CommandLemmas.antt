@@ -218,11 +218,11 @@ module _ (held held' : Option FileMap) (status : ℕ) (sent sent' : Option (List
   leaves (Some (Universal a u d m)) range c = leaves_property universality universality_decidable u d m held held' status sent sent' give_faults give_faults' faults faults' put_faults put_faults' a c.end c.ends c.said
 
   -- a batch that was carried out as if it had a reply of its own has no question asked
-  pub batches : (q : Option Question) → Carried q → (gives gives' missed missed' : ℕ) (calls calls' : ShelfCounts) → gives' ≡ counted gives → PutsByStatus (Means q) (inputs_of q) status held held' calls.puts calls'.puts → IfSome held (λ files. MissedInTurn files (inputs_of q) missed missed') → BegunByStatus (inputs_of q) status held calls'.blamed calls.begins calls'.begins
+  pub batches : (q : Option Question) → Carried q → (gives gives' missed missed' : ℕ) (calls calls' : ShelfCounts) → gives' ≡ counted gives → PutsByStatus (Means q) (inputs_of q) status held held' put_faults put_faults' calls.put_calls calls'.put_calls → IfSome held (λ files. MissedInTurn files (inputs_of q) missed missed') → BegunByStatus (inputs_of q) status held calls'.blamed calls.begins calls'.begins
       → IfSome q (λ asked. Batches asked held held' status sent sent' give_faults give_faults' gives gives' faults faults' put_faults put_faults' missed missed' calls calls')
   batches (Some (Batch l)) c gives gives' missed missed' calls calls' given puts missing begun =
       let known = unread_status l held held' status sent sent' give_faults give_faults' faults faults' put_faults put_faults' c in
-      inl (record { carried = c; known = known; given_once = given; missing = missing; begun = begun; puts_stay = puts_none l status held held' calls.puts calls'.puts known puts })
+      inl (record { carried = c; known = known; given_once = given; missing = missing; begun = begun; put_calls_stay = puts_none l status held held' put_faults put_faults' calls.put_calls calls'.put_calls known puts })
   batches None c gives gives' missed missed' calls calls' given puts missing begun = tt
   batches (Some (Check a b d)) c gives gives' missed missed' calls calls' given puts missing begun = tt
   batches (Some (Include a b d m look limit letters)) c gives gives' missed missed' calls calls' given puts missing begun = tt
@@ -239,7 +239,7 @@ module _ (held held' : Option FileMap) (status : ℕ) (sent sent' : Option (List
   batches (Some (Universal a u d m)) c gives gives' missed missed' calls calls' given puts missing begun = tt
 
   -- and its status
-  pub answers_batches : (q : Option Question) → Carried q → (gives gives' missed missed' : ℕ) (calls calls' : ShelfCounts) → gives' ≡ counted gives → PutsByStatus (Means q) (inputs_of q) status held held' calls.puts calls'.puts → IfSome held (λ files. MissedInTurn files (inputs_of q) missed missed') → BegunByStatus (inputs_of q) status held calls'.blamed calls.begins calls'.begins → IfSome q (λ asked. AnswersBatch asked status give_faults give_faults' faults faults')
+  pub answers_batches : (q : Option Question) → Carried q → (gives gives' missed missed' : ℕ) (calls calls' : ShelfCounts) → gives' ≡ counted gives → PutsByStatus (Means q) (inputs_of q) status held held' put_faults put_faults' calls.put_calls calls'.put_calls → IfSome held (λ files. MissedInTurn files (inputs_of q) missed missed') → BegunByStatus (inputs_of q) status held calls'.blamed calls.begins calls'.begins → IfSome q (λ asked. AnswersBatch asked status give_faults give_faults' faults faults')
   answers_batches (Some (Batch l)) c gives gives' missed missed' calls calls' given puts missing begun = answers_batch l held held' status sent sent' give_faults give_faults' gives gives' faults faults' put_faults put_faults' missed missed' calls calls' (batches (Some (Batch l)) c gives gives' missed missed' calls calls' given puts missing begun)
   answers_batches None c gives gives' missed missed' calls calls' given puts missing begun = tt
   answers_batches (Some (Check a b d)) c gives gives' missed missed' calls calls' given puts missing begun = tt

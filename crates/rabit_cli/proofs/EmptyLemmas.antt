@@ -18,7 +18,7 @@ use Rattle.ba_format.specs.Joining.{IsJoined, relabelled}
 use Rattle.ba_format.specs.Reading.{Reads}
 use Rattle.ba_format.specs.Sight.{same_text}
 use Rattle.ba_format.proofs.LawLemmas.{contains_first, joins_as_one}
-use Rattle.rabit_cli.specs.Files.{first_limits, second_limits}
+use Rattle.rabit_replies.specs.Files.{first_limits, second_limits}
 use Rattle.rabit_cli.specs.Empty.{empty_text, AcceptsNothing, emptiness}
 use Rattle.rabit_cli.specs.Laws.{EmptyTextAcceptsNothing}
 use Rattle.rabit_cli.proofs.OwnLemmas.{stays_itself}

@@ -30,7 +30,7 @@ use Rattle.rabit_frame.specs.Reading.{ReadInTurn, FileReads}
 use Rattle.rabit_frame.specs.Ending.{BeforeAndAfter, IsCutShort, WasSaid, filed}
 use Rattle.rabit_frame.specs.Carrying.{EndsSo}
 use Rattle.rabit_frame.proofs.EndLemmas.{leaves_by_status}
-use Rattle.rabit_cli.specs.Files.{second_limits, automaton_file}
+use Rattle.rabit_replies.specs.Files.{second_limits, automaton_file}
 use Rattle.rabit_cli.specs.Include.{usual_terms, IsCertForWithin}
 use Rattle.rabit_cli.specs.Shrink.{IsNo}
 use Rattle.rabit_cli.specs.Equal.{equal_inputs, first_apart_reply, both_reply, both_puts, IsEqualReply, MeansEqual, AreCertsBothWays, AreEqualPuts, HoldsEqual, HoldsEqualPart, LeavesEqual, Separates, IsListBody, ShowsEqual}

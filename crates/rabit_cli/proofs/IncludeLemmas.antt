@@ -33,9 +33,9 @@ use Rattle.rabit_frame.specs.Reading.{ReadInTurn}
 use Rattle.rabit_frame.specs.Ending.{BeforeAndAfter, IsCutShort, WasSaid, filed}
 use Rattle.rabit_frame.specs.Carrying.{EndsSo}
 use Rattle.rabit_frame.proofs.EndLemmas.{leaves_by_status}
-use Rattle.rabit_cli.specs.Printed.{limit_text}
-use Rattle.rabit_cli.specs.Files.{first_limits, second_limits, ReadsPairWithin, ReadsPair}
-use Rattle.rabit_cli.specs.Replies.{IsVerdictReply, SaysApart}
+use Rattle.rabit_replies.specs.Printed.{limit_text}
+use Rattle.rabit_replies.specs.Files.{first_limits, second_limits, ReadsPairWithin, ReadsPair}
+use Rattle.rabit_replies.specs.Replies.{IsVerdictReply, SaysApart}
 use Rattle.rabit_cli.specs.Include.{usual_terms, pair_inputs, certificate_put, MeansInclude, IsCertForWithin, IsCertFor, HoldsAnswer, HoldsAnswerFront, LeavesDecided, ShowsInclude}
 use Rattle.rabit_cli.proofs.PairLemmas.{can_decide}
 use Rattle.rabit_cli.proofs.VerdictLemmas.{one_verdict, puts_of_verdict, low_verdict}

@@ -26,9 +26,9 @@ use Rattle.rabit_frame.specs.declared.parts.Value.TheVariants as value
 use Rattle.rabit_frame.specs.declared.parts.Reply.{Reply}
 use Rattle.rabit_frame.specs.Files.{Input, Output}
 use Rattle.rabit_frame.specs.Reading.{only_said, FileReads, FileStops}
-use Rattle.rabit_cli.specs.Files.{first_limits, second_limits, automaton_file}
+use Rattle.rabit_replies.specs.Files.{first_limits, second_limits, automaton_file}
 use Rattle.rabit_frame.proofs.OneLemmas.{one_read_in_turn, stop_or_read_in_turn}
-use Rattle.rabit_cli.specs.Replies.{IsVerdictReply}
+use Rattle.rabit_replies.specs.Replies.{IsVerdictReply}
 use Rattle.rabit_cli.specs.Include.{pair_inputs, certificate_put}
 use Rattle.rabit_cli.specs.Laws.{IsCheckReply, CheckAgrees, IncludeIsChecked, AnswersAreAccepted}
 use Rattle.rabit_cli.proofs.IncludeLemmas.{cert_for, reads_cert}

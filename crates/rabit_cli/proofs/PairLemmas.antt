@@ -15,7 +15,7 @@ use Rattle.decide.specs.Answer.{HasFewParts}
 use Rattle.decide.specs.Laws.{CanDecide}
 use Rattle.ba_format.proofs.FaultlessLemmas.{read_is_within}
 use Rattle.shelf_io.specs.Shelf.{FileMap}
-use Rattle.rabit_cli.specs.Files.{first_limits, second_limits, ReadsPair}
+use Rattle.rabit_replies.specs.Files.{first_limits, second_limits, ReadsPair}
 
 filter_shorter : {X : Type 0} (p : X → Bool) (xs : List X) → length (filter p xs) ≤ length xs
 filter_shorter p [] = omega arith

@@ -38,8 +38,8 @@ use Rattle.rabit_frame.specs.Ending.{IsReplyFor, BeforeAndAfter, IsCutShort, Was
 use Rattle.rabit_frame.specs.Carrying.{EndsSo}
 use Rattle.rabit_frame.proofs.EndLemmas.{leaves_by_status}
 use Rattle.rabit_frame.proofs.OneLemmas.{one_read_in_turn, stop_or_read_in_turn}
-use Rattle.rabit_cli.specs.Printed.{refused_text}
-use Rattle.rabit_cli.specs.Replies.{IsVerdictReply, SaysApart}
+use Rattle.rabit_replies.specs.Printed.{refused_text}
+use Rattle.rabit_replies.specs.Replies.{IsVerdictReply, SaysApart}
 use Rattle.rabit_cli.specs.Include.{certificate_put}
 use Rattle.rabit_cli.specs.Check.{check_inputs}
 use Rattle.rabit_cli.specs.Shrink.{IsNo, IsShrunkBody, shrunk_no, IsShrinkReply, MeansShrink, IsShrunkFor, HoldsShrunk, HoldsShrunkFront, LeavesShrunk, ShowsShrink, IsShrinkStatus}

@@ -34,7 +34,7 @@ use Rattle.ba_format.proofs.LawLemmas.{contains_cases, contains_first, contains_
 use Rattle.ba_format.proofs.SightLemmas.{same_text-refl, noted-new, not_found}
 use Rattle.ba_format.proofs.WrittenLemmas.{transition_entry_of, contents_of-written}
 use Rattle.cert_check.specs.Rules.{AreLabels}
-use Rattle.rabit_cli.specs.Files.{second_limits}
+use Rattle.rabit_replies.specs.Files.{second_limits}
 use Rattle.rabit_cli.specs.Universal.{loops, all_loops, IsLassoOver, AcceptsAll, universality}
 use Rattle.rabit_cli.specs.Laws.{UniversalTextAcceptsAll}
 use Rattle.rabit_cli.proofs.BackLemmas.{written_same, with_labels, includes_then}

@@ -18,7 +18,7 @@ use Rattle.rabit_frame.specs.Ending.{IsReplyFor, BeforeAndAfter, IsCutShort, Was
 use Rattle.rabit_frame.specs.Carrying.{EndsSo}
 use Rattle.rabit_frame.proofs.EndLemmas.{leaves_by_status}
 use Rattle.rabit_frame.proofs.OneLemmas.{stop_or_read_in_turn}
-use Rattle.rabit_cli.specs.Files.{ReadsCertificate}
+use Rattle.rabit_replies.specs.Files.{ReadsCertificate}
 use Rattle.rabit_cli.specs.Check.{Concludes, MeansCheck}
 use Rattle.rabit_cli.specs.Laws.{CheckAgreesOnUpgrade}
 use Rattle.rabit_cli.specs.Upgrade.{upgrade_inputs, upgrade_reply, MeansUpgrade, HoldsUpgraded, HoldsUpgradedFront, LeavesUpgraded, ShowsUpgrade, IsUpgradeStatus}

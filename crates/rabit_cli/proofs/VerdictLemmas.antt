@@ -12,7 +12,7 @@ use Rattle.cert_check.specs.Laws.{IsValid}
 use Rattle.rabit_frame.specs.Files.{Output}
 use Rattle.rabit_frame.specs.declared.parts.Reply.{Reply}
 use Rattle.rabit_frame.specs.Statuses.{status_number}
-use Rattle.rabit_cli.specs.Replies.{IsVerdictReply}
+use Rattle.rabit_replies.specs.Replies.{IsVerdictReply}
 
 -- the letters of a lasso
 abbrev pub HaveTexts : Joined → Lasso → Type 0

@@ -64,23 +64,23 @@ AreQuestions questions = list_all is_question (map line_of questions) ≡ true
 -- ---- one after the other
 
 -- What a shelf tells of its calls: how many files were begun and how many put, how many reads and how many puts failed, and of which file a read was
--- refused last.
+-- refused last. Where these stand beside counts of failures by name, they are the same counts.
 pub record ShelfCounts : Type 0 where
   pub begins : ℕ
-  pub puts : ℕ
+  pub put_calls : ℕ
   pub read_faults : ℕ
   pub put_faults : ℕ
   pub blamed : WhichFile
 
 -- These counts, and this file.
 abbrev pub shelf_counts : ℕ → ℕ → ℕ → ℕ → WhichFile → ShelfCounts
-shelf_counts begins puts read_faults put_faults blamed = record { begins = begins; puts = puts; read_faults = read_faults; put_faults = put_faults; blamed = blamed }
+shelf_counts begins put_calls read_faults put_faults blamed = record { begins = begins; put_calls = put_calls; read_faults = read_faults; put_faults = put_faults; blamed = blamed }
 
 -- The calls that a question made, which ended with this status: it began just the files that the status needs, each once, and put those of its reply
 -- once each, up to one that was refused. A read failed just where the status is 6, of the last file that was begun, and a put just where it is 7.
 pub record MadeCalls (q : Question) (status : ℕ) (files : FileMap) (held' : Option FileMap) (calls calls' : ShelfCounts) : Type 0 where
   pub begun : BegunByStatus (question_inputs q) status (Some files) calls'.blamed calls.begins calls'.begins
-  pub put_once : PutsByStatus (MeansQuestion q) (question_inputs q) status (Some files) held' calls.puts calls'.puts
+  pub put_once : PutsByStatus (MeansQuestion q) (question_inputs q) status (Some files) held' calls.put_faults calls'.put_faults calls.put_calls calls'.put_calls
   pub read_fault : status ≡ 6 → Rose calls.read_faults calls'.read_faults
   pub no_read_fault : status ≢ 6 → calls'.read_faults ≡ calls.read_faults
   pub write_fault : status ≡ 7 → Rose calls.put_faults calls'.put_faults
@@ -186,11 +186,11 @@ pub record NoneAsked (list : List ℕ) (held held' : Option FileMap) (status : �
   pub given_once : gives' ≡ counted gives
   pub missing : IfSome held (λ files. MissedInTurn files (batch_inputs list) missed missed')
   pub begun : BegunByStatus (batch_inputs list) status held calls'.blamed calls.begins calls'.begins
-  pub puts_stay : calls'.puts ≡ calls.puts
+  pub put_calls_stay : calls'.put_calls ≡ calls.put_calls
 
 -- The calls once one more file was begun and read; which file a read was refused of before is not told.
 abbrev pub after_reading : ShelfCounts → WhichFile → ShelfCounts
-after_reading calls blamed = shelf_counts (counted calls.begins) calls.puts calls.read_faults calls.put_faults blamed
+after_reading calls blamed = shelf_counts (counted calls.begins) calls.put_calls calls.read_faults calls.put_faults blamed
 
 -- The list, the first file begun, was read, and its questions were carried out from the first on.
 pub record AreAsked (list : List ℕ) (held held' : Option FileMap) (status : ℕ) (sent sent' : Option (List ℕ)) (give_faults give_faults' gives gives' read_faults read_faults' put_faults put_faults' missed missed' : ℕ) (calls calls' : ShelfCounts) : Type 0 where

@@ -15,8 +15,8 @@ use Rattle.rabit_frame.specs.declared.parts.Value.TheVariants as value
 use Rattle.rabit_frame.specs.declared.parts.Status.TheVariants as status
 use Rattle.rabit_frame.specs.declared.parts.Reply.{Reply}
 use Rattle.rabit_frame.specs.Reading.{only_said}
-use Rattle.rabit_cli.specs.Files.{ReadsPair}
-use Rattle.rabit_cli.specs.Replies.{too_large_reply}
+use Rattle.rabit_replies.specs.Files.{ReadsPair}
+use Rattle.rabit_replies.specs.Replies.{too_large_reply}
 use Rattle.rabit_cli.specs.Reduce.{printed_limits}
 
 -- The reply to what was read, if this is the one to the two joined automata.

@@ -8,8 +8,8 @@ use Rattle.rabit_frame.specs.Lines.{memory_line}
 use Rattle.rabit_frame.specs.Ending.{SaysOnly}
 use Rattle.rabit_frame.specs.Carrying.{NoReply}
 use Rattle.rabit_words.specs.Question.{Question, Include, Check, Reduce, Drill, Upgrade, Cross, CrossCheck, Equal, Batch, Union, Intersect, Shrink, Empty, Universal, question_of}
-use Rattle.rabit_cli.specs.Printed.{usage_text}
-use Rattle.rabit_cli.specs.Replies.{usage_reply}
+use Rattle.rabit_replies.specs.Printed.{usage_text}
+use Rattle.rabit_replies.specs.Replies.{usage_reply}
 use Rattle.rabit_cli.specs.Check.{check_inputs, MeansCheck, ShowsCheck}
 use Rattle.rabit_cli.specs.Include.{pair_inputs, terms_by, MeansInclude, ShowsInclude, LeavesDecided}
 use Rattle.rabit_cli.specs.Reduce.{reduce_inputs, sight_by, MeansReduce, ShowsReduce}

@@ -23,8 +23,8 @@ use Rattle.rabit_frame.specs.Files.{Input, Output}
 use Rattle.rabit_frame.specs.Reading.{FileReads, reply_with, only_said}
 use Rattle.rabit_frame.specs.Ending.{IsCutShort}
 use Rattle.rabit_frame.specs.Carrying.{LeavesByStatus}
-use Rattle.rabit_cli.specs.Printed.{by_simulation_text, no_relation_text, refused_text}
-use Rattle.rabit_cli.specs.Files.{first_limits, second_limits, automaton_file, ReadsPair}
+use Rattle.rabit_replies.specs.Printed.{by_simulation_text, no_relation_text, refused_text}
+use Rattle.rabit_replies.specs.Files.{first_limits, second_limits, automaton_file, ReadsPair}
 
 -- ---- `cross`
 

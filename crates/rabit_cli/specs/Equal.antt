@@ -25,8 +25,8 @@ use Rattle.rabit_frame.specs.Reading.{reply_with}
 use Rattle.rabit_frame.specs.Ending.{filed, IsCutShort}
 use Rattle.rabit_frame.specs.Carrying.{LeavesByStatus}
 use Rattle.rabit_words.specs.Question.{usual_limit}
-use Rattle.rabit_cli.specs.Printed.{equal_text, first_apart_text, second_apart_text, limit_text}
-use Rattle.rabit_cli.specs.Files.{second_limits, automaton_file}
+use Rattle.rabit_replies.specs.Printed.{equal_text, first_apart_text, second_apart_text, limit_text}
+use Rattle.rabit_replies.specs.Files.{second_limits, automaton_file}
 use Rattle.rabit_cli.specs.Include.{certificate_put, usual_terms, IsCertForWithin}
 use Rattle.rabit_cli.specs.Shrink.{IsNo}
 

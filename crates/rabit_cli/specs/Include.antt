@@ -27,9 +27,9 @@ use Rattle.rabit_frame.specs.Files.{Input, Output}
 use Rattle.rabit_frame.specs.Ending.{IsCutShort}
 use Rattle.rabit_frame.specs.Carrying.{LeavesByStatus}
 use Rattle.rabit_words.specs.Question.{usual_look, usual_limit, usual_letters}
-use Rattle.rabit_cli.specs.Printed.{included_text, limit_text}
-use Rattle.rabit_cli.specs.Files.{first_limits, second_limits, automaton_file, ReadsPairWithin, ReadsPair}
-use Rattle.rabit_cli.specs.Replies.{IsVerdictReply, SaysApart}
+use Rattle.rabit_replies.specs.Printed.{included_text, limit_text}
+use Rattle.rabit_replies.specs.Files.{first_limits, second_limits, automaton_file, ReadsPairWithin, ReadsPair}
+use Rattle.rabit_replies.specs.Replies.{IsVerdictReply, SaysApart}
 
 -- The terms of a decision that names neither a lookahead nor a limit nor letters.
 abbrev pub usual_terms : Mode → Terms

@@ -1,6 +1,3 @@
-pub mod Printed
-pub mod Files
-pub mod Replies
 pub mod Check
 pub mod Include
 pub mod Asked

@@ -26,8 +26,8 @@ use Rattle.rabit_frame.specs.Files.{Input, Output}
 use Rattle.rabit_frame.specs.Reading.{reply_with, FileReads}
 use Rattle.rabit_frame.specs.Ending.{filed, IsCutShort}
 use Rattle.rabit_frame.specs.Carrying.{LeavesByStatus}
-use Rattle.rabit_cli.specs.Printed.{holds_text, lasso_against_text, word_against_text, limit_text}
-use Rattle.rabit_cli.specs.Files.{second_limits, automaton_file}
+use Rattle.rabit_replies.specs.Printed.{holds_text, lasso_against_text, word_against_text, limit_text}
+use Rattle.rabit_replies.specs.Files.{second_limits, automaton_file}
 use Rattle.rabit_words.specs.Question.{usual_limit}
 use Rattle.rabit_cli.specs.Include.{certificate_put, usual_terms}
 

@@ -20,7 +20,7 @@ use Rattle.rabit_frame.specs.declared.parts.Status.TheVariants as status
 use Rattle.rabit_frame.specs.declared.parts.Reply.{Reply}
 use Rattle.rabit_frame.specs.Files.{Input}
 use Rattle.rabit_frame.specs.Reading.{only_said, FileReads}
-use Rattle.rabit_cli.specs.Files.{first_limits, automaton_file}
+use Rattle.rabit_replies.specs.Files.{first_limits, automaton_file}
 
 -- The file that it reads: the automaton.
 abbrev pub reduce_inputs : List ℕ → List Input

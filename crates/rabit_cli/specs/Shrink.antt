@@ -18,8 +18,8 @@ use Rattle.rabit_frame.specs.declared.parts.Value.TheVariants as value
 use Rattle.rabit_frame.specs.declared.parts.Reply.{Reply}
 use Rattle.rabit_frame.specs.Ending.{IsCutShort}
 use Rattle.rabit_frame.specs.Carrying.{LeavesByStatus}
-use Rattle.rabit_cli.specs.Files.{ReadsPair, ReadsCertificate}
-use Rattle.rabit_cli.specs.Replies.{nothing_to_shrink_reply, IsRefusedReply, IsVerdictReply, SaysApart}
+use Rattle.rabit_replies.specs.Files.{ReadsPair, ReadsCertificate}
+use Rattle.rabit_replies.specs.Replies.{nothing_to_shrink_reply, IsRefusedReply, IsVerdictReply, SaysApart}
 use Rattle.rabit_cli.specs.Include.{certificate_put}
 
 -- The body is a no: it has a lasso, or a word.

@@ -9,7 +9,7 @@ use Rattle.auto_core.specs.declared.parts.Trans.{Trans}
 use Rattle.ba_format.specs.Joining.{IsJoined}
 use Rattle.ba_format.specs.Writing.{written}
 use Rattle.cert_check.specs.Rules.{AreLabels}
-use Rattle.rabit_cli.specs.Files.{second_limits}
+use Rattle.rabit_replies.specs.Files.{second_limits}
 use Rattle.rabit_cli.specs.Property.{Property}
 
 -- A loop on the one state for each of so many labels.

@@ -83,7 +83,7 @@ pub fn answer_one<H: Shelf>(alloc: Global, question: &Question, shelf: &mut H) -
     ensures memory { result ≡ 8 → H.held shelf.new ≡ H.held shelf.old }
 
     // By the count of puts: each file of the reply was put once, or up to one that was refused.
-    ensures put_once { PutsByStatus (MeansQuestion question.now) (question_inputs question.now) result (H.held shelf.old) (H.held shelf.new) (H.put_calls shelf.old) (H.put_calls shelf.new) }
+    ensures put_once { PutsByStatus (MeansQuestion question.now) (question_inputs question.now) result (H.held shelf.old) (H.held shelf.new) (H.put_faults shelf.old) (H.put_faults shelf.new) (H.put_calls shelf.old) (H.put_calls shelf.new) }
 
     // Faults of the outside, each with its count.
     ensures read_fault { result ≡ 6 → Rose (H.faults shelf.old) (H.faults shelf.new) }

@@ -6,19 +6,19 @@ ghost use Rattle.ba_format.specs.Reading.{IsWithinLimits};
 ghost use Rattle.ba_format.specs.Joining.{IsJoined};
 ghost use Rattle.cert_value.specs.WellFormed.{WellFormed};
 ghost use Rattle.rabit_frame.specs.Reading.{AreOfKinds};
-ghost use Rattle.rabit_cli.specs.Files.{first_limits, second_limits, HasLabelTexts};
+ghost use Rattle.rabit_replies.specs.Files.{first_limits, second_limits, HasLabelTexts};
 ghost use Rattle.rabit_cli.specs.Check.{check_inputs, Concludes, MeansCheck};
 
-use crate::files::{
-    certificate, certificate_slot, first_automaton, first_slot, joined, second_automaton,
-    second_slot,
-};
-use crate::replies;
+use crate::joining::joined;
 use auto_core::{List, Memory};
 use ba_format::{Joined, Named};
 use cert_check::CheckFault;
 use cert_text::Cert;
 use rabit_frame::{Reply, Slot, Value};
+use rabit_replies::{
+    certificate, certificate_slot, first_automaton, first_slot, refused, second_automaton,
+    second_slot, verdict,
+};
 use std::alloc::Global;
 
 /// The files that it reads.
@@ -44,8 +44,8 @@ fn concluded<'a>(alloc: Global, pair: &Joined, cert: &Cert) -> Result<Reply<'a>,
     ensures { IfOk result (Concludes pair.now cert.now) }
 {
     match cert_check::check(alloc, pair, cert) {
-        Ok(_verdict) => replies::verdict(alloc, cert.mode, pair, &cert.body, List::new(alloc)),
-        Err(CheckFault::Refused(refusal)) => replies::refused(alloc, refusal),
+        Ok(_verdict) => verdict(alloc, cert.mode, pair, &cert.body, List::new(alloc)),
+        Err(CheckFault::Refused(refusal)) => refused(alloc, refusal),
         Err(CheckFault::Memory) => Err(Memory),
     }
 }

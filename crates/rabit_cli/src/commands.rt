@@ -6,15 +6,15 @@ ghost use Rattle.rabit_words.specs.declared.parts.Question.{Question as AQuestio
 ghost use Rattle.rabit_words.specs.Question.{Batch, told, IsProper};
 ghost use Rattle.rabit_cli.specs.Commands.{asked_by, IsSingle, inputs_of, outputs_of, Means};
 
-use crate::files::{FIRST_LIMITS, SECOND_LIMITS};
 use crate::including::AskedInclude;
 use crate::{
     checking, cross_checking, crossing, drilling, emptiness, equality, including, intersecting,
-    properties, reducing, replies, shrinking, uniting, universality, upgrading,
+    properties, reducing, shrinking, uniting, universality, upgrading,
 };
 use auto_core::{List, Memory};
 use drawing::Drill;
 use rabit_frame::{Reply, Slot, Value, Work};
+use rabit_replies::{FIRST_LIMITS, SECOND_LIMITS};
 use rabit_words::Question;
 use reduce_loop::Foresight;
 use std::alloc::Global;
@@ -244,7 +244,7 @@ impl<'a> Work for Command<'a> {
                 return reply_to(alloc, question, values);
             },
             Ok(None) => {
-                return replies::usage(alloc);
+                return rabit_replies::usage(alloc);
             },
             Err(_refused) => {
                 return Err(Memory);

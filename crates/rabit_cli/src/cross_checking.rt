@@ -8,17 +8,17 @@ ghost use Rattle.cross_text.specs.Text.{CrossFormed};
 ghost use Rattle.decide.specs.Laws.{CanDecide};
 ghost use Rattle.rabit_frame.specs.declared.parts.FileKind.TheVariants as kind;
 ghost use Rattle.rabit_frame.specs.Reading.{AreOfKinds, IsOfKind, only_said};
-ghost use Rattle.rabit_cli.specs.Files.{first_limits, second_limits};
-ghost use Rattle.rabit_cli.specs.Printed.{by_simulation_text};
+ghost use Rattle.rabit_replies.specs.Files.{first_limits, second_limits};
+ghost use Rattle.rabit_replies.specs.Printed.{by_simulation_text};
 ghost use Rattle.rabit_cli.specs.Cross.{cross_file, cross_check_inputs, ConcludesCross, MeansCrossCheck};
 
-use crate::files::{first_automaton, first_slot, joined, second_automaton, second_slot};
-use crate::replies;
+use crate::joining::joined;
 use auto_core::{List, Memory};
 use ba_format::{Joined, Named};
 use cert_check::Refusal;
 use cross_sim::{CheckCrossFault, Cross, check_cross};
 use rabit_frame::{FileKind, Reply, Slot, Status, Value, line};
+use rabit_replies::{first_automaton, first_slot, second_automaton, second_slot};
 use std::alloc::Global;
 
 /// A cross relation's file.
@@ -79,7 +79,7 @@ fn concluded<'a>(alloc: Global, pair: &Joined, cross: &Cross) -> Result<Reply<'a
                 rule: refusal.rule,
                 item: refusal.item,
             };
-            replies::refused(alloc, broken)
+            rabit_replies::refused(alloc, broken)
         },
         Err(CheckCrossFault::Memory) => Err(Memory),
     }

@@ -1,7 +1,7 @@
 //! Simulations of one automaton by another: what is printed, what is left, and that a check accepts it.
 
 use crate::automaton_text_tests::named;
-use crate::include_tests::{leaves, says_in_turn};
+use crate::include_tests::leaves;
 use auto_core::Memory;
 use ba_format::{Joined, join};
 use cross_sim::relation;
@@ -17,21 +17,6 @@ const CROSS: &str = "rabit-cross 1\nsizes 1 1 2\nlook 3\nrel 1\nrow 0 0\nend\n";
 const OLDER: &str = "older";
 
 const RELATED: &str = "included by simulation\n";
-
-#[test]
-fn what_is_found_is_accepted(rt: HostRuntime) -> Result<(), Fail> {
-    let alloc = rt.alloc();
-    let files = [("A", ONE_A), ("B", TWO_LETTERS)];
-    let find = ["cross", "A", "B", "C"];
-    let asked: [(&[&str], &[u64], u8, &str); 2] = [
-        (&find, &[], 0, RELATED),
-        (&["cross-check", "A", "B", "C"], &[], 0, RELATED),
-    ];
-    let left = [("C", CROSS)];
-    assert!(rt; leaves(alloc, &files, &[], &find, &[], (0, RELATED), &left)?);
-    assert!(rt; says_in_turn(alloc, &files, &asked, &left)?);
-    Ok(())
-}
 
 #[test]
 fn a_search_for_a_relation_leaves_it_or_nothing(rt: HostRuntime) -> Result<(), Fail> {

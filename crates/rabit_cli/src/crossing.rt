@@ -7,12 +7,12 @@ ghost use Rattle.ba_format.specs.Joining.{IsJoined};
 ghost use Rattle.decide.specs.Laws.{CanDecide};
 ghost use Rattle.cross_sim.specs.Written.{IsCrossOfGreatest};
 ghost use Rattle.rabit_frame.specs.Reading.{AreOfKinds, only_said, reply_with};
-ghost use Rattle.rabit_cli.specs.Files.{first_limits, second_limits};
+ghost use Rattle.rabit_replies.specs.Files.{first_limits, second_limits};
 ghost use Rattle.rabit_cli.specs.Include.{pair_inputs};
-ghost use Rattle.rabit_cli.specs.Printed.{by_simulation_text, no_relation_text};
+ghost use Rattle.rabit_replies.specs.Printed.{by_simulation_text, no_relation_text};
 ghost use Rattle.rabit_cli.specs.Cross.{cross_put, IsCrossReply, MeansCross};
 
-use crate::files::joined;
+use crate::joining::joined;
 use auto_core::{List, Memory};
 use ba_format::{Joined, Named};
 use cross_sim::{Cross, find_cross, write_cross};

@@ -1,12 +1,75 @@
 //! Damaged certificates: whole files with a line or two changed, and what a check says of each.
 
 use crate::include_tests::PAIR;
-use crate::log_tests::{BRANCH, BRANCHES, CUT, MERGED, TURNS};
 use crate::tests::{LETTERS_NO, ONE_A, TWO_LETTERS, unsaid};
 use crate::yes_tests::{LINES, untold};
 use auto_core::Memory;
 use std::alloc::Global;
 use std::test::Fail;
+
+/// Two states in turn, of which the delayed relation makes one.
+const TURNS: &str = "[0]\na,[0]->[1]\na,[1]->[0]\n[0]\n";
+
+/// The certificate for one state and the turns.
+pub const MERGED: [&str; 16] = [
+    "rabit-cert 1 buchi yes\n",
+    "sizes 1 2 1\n",
+    "log1 0\n",
+    "log2 1\n",
+    "merge delayed\n",
+    "classes 0 0\n",
+    "rel 2\n",
+    "row 0 0 1 1 2\n",
+    "row 1 0 1 1 2\n",
+    "rel 1\n",
+    "row 0 0\n",
+    "elements 1\n",
+    "live base 0\n",
+    "cover 0\n",
+    "step 0 0\n",
+    "end\n",
+];
+
+/// State 1 is below state 2, so that the way to it goes, then its loop, and then the state.
+const BRANCHES: &str =
+    "[0]\na,[0]->[1]\na,[0]->[2]\nb,[1]->[1]\nb,[2]->[2]\nc,[2]->[2]\n[1]\n[2]\n";
+
+const BRANCH: &str = "[0]\na,[0]->[1]\nb,[1]->[1]\nc,[1]->[1]\n[1]\n";
+
+/// The certificate for the branches and the one branch.
+pub const CUT: [&str; 31] = [
+    "rabit-cert 1 buchi yes\n",
+    "sizes 3 2 3\n",
+    "log1 3\n",
+    "cut 1 3\n",
+    "gone 0 1\n",
+    "rel 3\n",
+    "row 0 0\n",
+    "row 1 1 2\n",
+    "row 2 2\n",
+    "cut 3 3\n",
+    "gone 1 2\n",
+    "rel 3\n",
+    "row 0 0\n",
+    "row 1 1 2\n",
+    "row 2 2\n",
+    "rel 3\n",
+    "row 0 0\n",
+    "row 1 1 2\n",
+    "row 2 2\n",
+    "trim 0 2\n",
+    "log2 0\n",
+    "rel 2\n",
+    "row 0 0\n",
+    "row 1 1\n",
+    "elements 2\n",
+    "live base 0\n",
+    "live base 1\n",
+    "cover 0 1 1\n",
+    "step 0 0 0\n",
+    "step 1 1 1\n",
+    "end\n",
+];
 
 /// The list of the pair's first two elements.
 const LISTED: [&str; 9] = [

@@ -3,11 +3,11 @@
 ghost use Rattle.std.specs.Prelude.{◌≡◌, ℕ, List as Items, IfOk};
 ghost use Rattle.ba_format.specs.Reading.{IsWithinLimits};
 ghost use Rattle.rabit_frame.specs.Reading.{AreOfKinds};
-ghost use Rattle.rabit_cli.specs.Files.{first_limits, second_limits};
+ghost use Rattle.rabit_replies.specs.Files.{first_limits, second_limits};
 ghost use Rattle.rabit_cli.specs.Property.{property_inputs, IsPropertyDecidedFor, MeansProperty};
 ghost use Rattle.rabit_cli.specs.Empty.{empty_text, emptiness};
 
-use crate::files::joined;
+use crate::joining::joined;
 use crate::properties::{decided, read_back};
 use auto_core::{List, Memory, Mode};
 use ba_format::Named;

@@ -11,20 +11,21 @@ ghost use Rattle.decide.specs.Laws.{CanDecide};
 ghost use Rattle.decide.specs.Answer.{IsAnswer};
 ghost use Rattle.equal_batch.specs.declared.outcome.Both.{Both as ABoth};
 ghost use Rattle.rabit_frame.specs.Reading.{AreOfKinds};
-ghost use Rattle.rabit_cli.specs.Files.{second_limits};
-ghost use Rattle.rabit_cli.specs.Printed.{witness_lines, first_apart_text, second_apart_text};
+ghost use Rattle.rabit_replies.specs.Files.{second_limits};
+ghost use Rattle.rabit_replies.specs.Printed.{witness_lines, first_apart_text, second_apart_text};
 ghost use Rattle.rabit_cli.specs.Include.{usual_terms, certificate_put};
 ghost use Rattle.rabit_cli.specs.Shrink.{IsNo};
 ghost use Rattle.rabit_cli.specs.Equal.{equal_inputs, first_apart_reply, both_reply, IsBothReply, IsEqualReply, MeansEqual};
 
-use crate::files::{SECOND_LIMITS, automaton_slot, joined};
-use crate::properties::{push_lasso, push_word_line};
-use crate::replies::{limit_met, reply_with};
+use crate::joining::joined;
 use auto_core::{List, Memory, Mode, append};
 use ba_format::{Joined, Named, Texts};
 use cert_text::{Body, Cert, write_cert};
 use equal_batch::{Both, both};
 use rabit_frame::{Put, Reply, Slot, Status, Value, line};
+use rabit_replies::{
+    SECOND_LIMITS, automaton_slot, limit_met, push_lasso, push_word_line, reply_with,
+};
 use rabit_words::{USUAL_LIMIT, USUAL_LOOK};
 use std::alloc::Global;
 

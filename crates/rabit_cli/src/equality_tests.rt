@@ -8,8 +8,6 @@ use std::test::Fail;
 
 const ONE_A: &str = "[0]\na,[0]->[0]\n[0]\n";
 
-const TWO_LETTERS: &str = "[0]\na,[0]->[0]\nb,[0]->[0]\n[0]\n";
-
 /// The two letters lead from the seven states to these in each order, so that a search meets its limit.
 const ORDERS: &str =
     "[0]\na,[0]->[1]\na,[1]->[2]\na,[2]->[3]\na,[3]->[4]\na,[4]->[5]\na,[5]->[6]\na,[6]->[0]\nb,[0]->[1]\nb,[1]->[0]\nb,[2]->[2]\nb,[3]->[3]\nb,[4]->[4]\nb,[5]->[5]\nb,[6]->[6]\n[0]\n";
@@ -17,36 +15,10 @@ const ORDERS: &str =
 const YES: &str =
     "rabit-cert 1 buchi yes\nsizes 1 1 1\nlog1 0\nlog2 0\nrel 1\nrow 0 0\nelements 1\nlive base 0\ncover 0\nstep 0 0\nend\n";
 
-/// The certificate that one letter is included in two.
-const FEWER: &str =
-    "rabit-cert 1 buchi yes\nsizes 1 1 2\nlog1 0\nlog2 0\nrel 1\nrow 0 0\nelements 1\nlive base 0\ncover 0\nstep 0 0\nend\n";
-
-/// The certificate that two letters are not included in one.
-const NO: &str = "rabit-cert 1 buchi no\nsizes 1 1 2\nprefix 1\nloop 1\nend\n";
-
 const OLDER: &str = "older";
 
 /// The words of a comparison of `A` and `B`.
 const COMPARE: [&str; 5] = ["equal", "A", "B", "C", "D"];
-
-#[test]
-fn both_certificates_or_the_first_alone_are_left(rt: HostRuntime) -> Result<(), Fail> {
-    let alloc = rt.alloc();
-    let first = "first not in second\nprefix: b\nloop: b\n";
-    let second = "second not in first\nprefix: b\nloop: b\n";
-    let rows = [
-        (ONE_A, ONE_A, 0, "equal\n", YES, YES),
-        (TWO_LETTERS, ONE_A, 1, first, NO, OLDER),
-        (ONE_A, TWO_LETTERS, 1, second, FEWER, NO),
-    ];
-    for (one, two, status, printed, certificate, converse) in rows {
-        let files = [("A", one), ("B", two), ("D", OLDER)];
-        let left = [("C", certificate), ("D", converse)];
-        let told = (status, printed);
-        assert!(rt; leaves(alloc, &files, &[], &COMPARE, &[], told, &left)?);
-    }
-    Ok(())
-}
 
 #[test]
 fn failing_calls_of_a_comparison_are_told(rt: HostRuntime) -> Result<(), Fail> {

@@ -11,17 +11,6 @@ use std::test::Fail;
 
 const ONE_A: &str = "[0]\na,[0]->[0]\n[0]\n";
 
-const TWO_LETTERS: &str = "[0]\na,[0]->[0]\nb,[0]->[0]\n[0]\n";
-
-/// A `b`, and then `a` for ever.
-const B_THEN_A: &str = "[0]\nb,[0]->[1]\na,[1]->[1]\n[1]\n";
-
-/// Guesses that no further `b` comes.
-const GUESS: &str = "[0]\na,[0]->[0]\nb,[0]->[0]\na,[0]->[1]\na,[1]->[1]\n[1]\n";
-
-/// An `a` once, and then no more.
-const A_ONCE: &str = "[0]\na,[0]->[1]\n[1]\n";
-
 /// Two states, each left by a letter of its own.
 pub const PAIR: &str = "a,[5]->[7]\nb,[7]->[5]\n";
 
@@ -99,83 +88,6 @@ pub(crate) fn says_in_turn(
         }
     }
     Ok(holds_all(alloc, &mut shelf, left))
-}
-
-/// Whether the words on the two files, and then a check of the certificate that they left, end with this status and just this text, and the
-/// certificate is just this one, if one is given.
-pub(crate) fn decides(
-    alloc: Global,
-    words: &[&str],
-    first: &str,
-    second: &str,
-    told: (u8, &str),
-    certificate: Option<&str>,
-) -> Result<bool, Memory> {
-    let mut shelf = shelf_of(alloc, &[("A", first), ("B", second)], &[])?;
-    let (status, printed) = told;
-    let (ended, sent) = says(alloc, words, &mut shelf, &[], printed)?;
-    let left = match certificate {
-        Some(text) => holds(alloc, &mut shelf, "C", text),
-        None => true,
-    };
-    let (checked, said) = answers(alloc, "check", &mut shelf, &[], printed)?;
-    Ok(ended == status && sent && left && checked == status && said)
-}
-
-#[test]
-fn a_check_says_what_the_decision_said(rt: HostRuntime) -> Result<(), Fail> {
-    let alloc = rt.alloc();
-    let rows = [
-        (ONE_A, ONE_A, 0, "included\n"),
-        (TWO_LETTERS, ONE_A, 1, "not included\nprefix: b\nloop: b\n"),
-        (B_THEN_A, GUESS, 0, "included\n"),
-        (GUESS, B_THEN_A, 1, "not included\nprefix: a\nloop: a\n"),
-        (ONE_A, A_ONCE, 1, "not included\nprefix: a\nloop: a\n"),
-        (PAIR, PAIR, 0, "included\n"),
-    ];
-    for (first, second, status, printed) in rows {
-        let told = (status, printed);
-        assert!(rt; decides(alloc, &INCLUDE, first, second, told, None)?);
-    }
-    Ok(())
-}
-
-#[test]
-fn certificates_are_written_whole(rt: HostRuntime) -> Result<(), Fail> {
-    let alloc = rt.alloc();
-    let rows = [
-        (ONE_A, ONE_A, 0, "included\n", ONE_YES),
-        (
-            TWO_LETTERS,
-            ONE_A,
-            1,
-            "not included\nprefix: b\nloop: b\n",
-            "rabit-cert 1 buchi no\nsizes 1 1 2\nprefix 1\nloop 1\nend\n",
-        ),
-        (
-            PAIR,
-            PAIR,
-            0,
-            "included\n",
-            "rabit-cert 1 buchi yes\nsizes 2 2 2\nlog1 0\nlog2 0\nrel 2\nrow 0 0\nrow 1 1\nelements 4\nlive base 0\nlive base 1\nlive next 0 1\nlive next 1 0\ncover 0 1\nstep 0 2\nstep 1 3\nstep 2 0\nstep 3 1\nend\n",
-        ),
-    ];
-    for (first, second, status, printed, certificate) in rows {
-        let files = [("A", first), ("B", second)];
-        let told = (status, printed);
-        assert!(rt;
-            leaves(
-                alloc,
-                &files,
-                &[],
-                &INCLUDE,
-                &[],
-                told,
-                &[("C", certificate)]
-            )?
-        );
-    }
-    Ok(())
 }
 
 /// Whether a decision of whether the automaton is included in itself ends so, and a check after it says the same, or that its own read failed.
@@ -260,38 +172,6 @@ fn each_call_that_fails_before_the_put_changes_no_file(rt: HostRuntime) -> Resul
     Ok(())
 }
 
-/// Whether a decision of the two files, of which `B` has a fault, ends so, and leaves a certificate just if it has status 0.
-fn writes_if_decided(
-    alloc: Global,
-    first: &str,
-    second: &str,
-    told: (u8, &str),
-) -> Result<bool, Memory> {
-    let mut shelf = shelf_of(alloc, &[("A", ONE_A), ("B", "a,[0]-[1]\n")], &[])?;
-    let (status, printed) = told;
-    let words = ["include", first, second, "C"];
-    let (ended, sent) = says(alloc, &words, &mut shelf, &[], printed)?;
-    let left = load(alloc, &mut shelf, "C", 1000).is_ok();
-    Ok(ended == status && sent && left == (status == 0))
-}
-
-#[test]
-fn names_may_be_the_same_and_files_faulty(rt: HostRuntime) -> Result<(), Fail> {
-    let alloc = rt.alloc();
-    let rows = [
-        ("A", "A", 0, "included\n"),
-        ("A", "B", 4, "file 2 line 1: Shape\n"),
-        ("B", "A", 4, "file 1 line 1: Shape\n"),
-        ("B", "X", 4, "file 1 line 1: Shape\n"),
-        ("A", "X", 6, "read fault\n"),
-        ("X", "B", 6, "read fault\n"),
-    ];
-    for (first, second, status, printed) in rows {
-        assert!(rt; writes_if_decided(alloc, first, second, (status, printed))?);
-    }
-    Ok(())
-}
-
 /// One state with a loop by each letter of the rings.
 const ANY: &str = "[0]\na0,[0]->[0]\na1,[0]->[0]\n[0]\n";
 
@@ -309,39 +189,5 @@ fn a_decision_meets_its_limit(rt: HostRuntime) -> Result<(), Fail> {
     let front =
         b"rabit-cert 1 buchi list\nsizes 142 1 2\nlog1 0\nlog2 0\nlimit 20000\nelements 20001\n";
     assert!(rt; bytes.as_slice().starts_with(front));
-    Ok(())
-}
-
-/// Whether a decision of the pair by itself with this limit leaves this list, if it ends so.
-fn is_listed(
-    alloc: Global,
-    limit: &str,
-    list: &str,
-    told: (u8, &str),
-) -> Result<Option<bool>, Memory> {
-    let mut shelf = shelf_of(alloc, &[("A", PAIR), ("B", PAIR)], &[])?;
-    let (status, printed) = told;
-    let words = ["include", "A", "B", "C", "--limit", limit];
-    let (ended, sent) = says(alloc, &words, &mut shelf, &[], printed)?;
-    if ended != status || !sent {
-        return Ok(None);
-    }
-    Ok(Some(holds(alloc, &mut shelf, "C", list)))
-}
-
-#[test]
-fn a_limit_that_is_met_makes_a_list(rt: HostRuntime) -> Result<(), Fail> {
-    let alloc = rt.alloc();
-    let list =
-        "rabit-cert 1 buchi list\nsizes 2 2 2\nlog1 0\nlog2 0\nlimit 1\nelements 2\nbase 0\nbase 1\nend\n";
-    let rows = [
-        ("1", 2, "limit 1\n"),
-        ("3", 2, "limit 3\n"),
-        ("4", 0, "included\n"),
-    ];
-    for (limit, status, printed) in rows {
-        let left = is_listed(alloc, limit, list, (status, printed))?;
-        assert_eq!(rt; left, Some(limit == "1"));
-    }
     Ok(())
 }

@@ -10,16 +10,16 @@ ghost use Rattle.decide.specs.Answer.{IsAnswer};
 ghost use Rattle.decide.specs.Laws.{CanDecide};
 ghost use Rattle.decide.specs.Terms.{AreBounded};
 ghost use Rattle.rabit_frame.specs.Reading.{AreOfKinds};
-ghost use Rattle.rabit_cli.specs.Files.{first_limits, second_limits};
+ghost use Rattle.rabit_replies.specs.Files.{first_limits, second_limits};
 ghost use Rattle.rabit_cli.specs.Include.{pair_inputs, IsDecided, MeansInclude};
 ghost use Rattle.rabit_cli.specs.Asked.{terms_of_asked};
 
-use crate::files::{first_slot, joined, second_slot};
-use crate::replies;
+use crate::joining::joined;
 use auto_core::{List, Memory, Mode};
 use ba_format::{Joined, Named};
 use cert_text::{Cert, write_cert};
 use rabit_frame::{Put, Reply, Slot, Value};
+use rabit_replies::{first_slot, second_slot};
 use std::alloc::Global;
 
 /// The files that it reads.
@@ -78,7 +78,7 @@ fn decided<'a>(
     let bytes = write_cert(alloc, &cert)?;
     let mut puts = List::new(alloc);
     puts.push(Put { name, bytes })?;
-    replies::verdict(alloc, asked.mode, pair, &cert.body, puts)
+    rabit_replies::verdict(alloc, asked.mode, pair, &cert.body, puts)
 }
 
 /// The reply to the automata.

@@ -5,16 +5,16 @@ ghost use Rattle.ba_format.specs.declared.parts.Joined.{Joined as AJoined};
 ghost use Rattle.ba_format.specs.Reading.{IsWithinLimits};
 ghost use Rattle.ba_format.specs.Joining.{IsJoined};
 ghost use Rattle.rabit_frame.specs.Reading.{AreOfKinds};
-ghost use Rattle.rabit_cli.specs.Files.{second_limits, first_limits, HasLabelTexts};
+ghost use Rattle.rabit_replies.specs.Files.{second_limits, first_limits, HasLabelTexts};
 ghost use Rattle.rabit_cli.specs.Include.{pair_inputs};
 ghost use Rattle.rabit_cli.specs.Intersect.{IsIntersectionReply, MeansIntersect};
 
-use crate::combining::{printed, too_large};
-use crate::files::joined;
+use crate::joining::joined;
 use auto_core::{Memory, Mode};
 use auto_ops::OpFault;
 use ba_format::{Joined, Named};
 use rabit_frame::{Reply, Value};
+use rabit_replies::{printed, too_large};
 use std::alloc::Global;
 
 /// The reply to the joined automata: their intersection is printed, unless it is too large.

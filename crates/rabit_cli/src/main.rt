@@ -4,26 +4,23 @@
 
 mod batching;
 mod checking;
-mod combining;
 mod commands;
 mod cross_checking;
 mod crossing;
 mod drilling;
 mod emptiness;
 mod equality;
-mod files;
 mod including;
 mod intersecting;
+mod joining;
 mod laws;
 mod properties;
 mod reducing;
-mod replies;
 mod shrinking;
 mod top;
 mod uniting;
 mod universality;
 mod upgrading;
-mod word_texts;
 
 use shelf_io::{DiskShelf, OutSink};
 use std::env;
@@ -44,8 +41,6 @@ fn main(rt: HostRuntime) -> ExitCode {
 }
 
 #[cfg(test)]
-mod announced_tests;
-#[cfg(test)]
 mod automaton_tests;
 #[cfg(test)]
 mod automaton_text_tests;
@@ -64,17 +59,11 @@ mod equality_tests;
 #[cfg(test)]
 mod fault_tests;
 #[cfg(test)]
-mod finite_rule_tests;
-#[cfg(test)]
 mod finite_tests;
 #[cfg(test)]
 mod graph_tests;
 #[cfg(test)]
 mod include_tests;
-#[cfg(test)]
-mod list_tests;
-#[cfg(test)]
-mod log_tests;
 #[cfg(test)]
 mod piece_tests;
 #[cfg(test)]

@@ -1,7 +1,7 @@
 //! Texts in pieces and cut short: each cut of whole files, and files that come byte by byte.
 
+use crate::damage_tests::{CUT, MERGED};
 use crate::include_tests::{ONE_YES, says};
-use crate::log_tests::{CUT, MERGED};
 use crate::tests::{ONE_A, shelf_with};
 use crate::yes_tests::{LINES, with_lines};
 use cert_text::{CertReadFault, CertReader, TextKind, read_cert, write_cert};

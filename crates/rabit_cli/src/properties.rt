@@ -7,17 +7,17 @@ ghost use Rattle.ba_format.specs.Reading.{Reads, IsWithinLimits};
 ghost use Rattle.cert_value.specs.declared.types.Body.TheVariants.{NoLasso, NoWord};
 ghost use Rattle.decide.specs.Laws.{CanDecide};
 ghost use Rattle.rabit_frame.specs.Lines.{line_end};
-ghost use Rattle.rabit_cli.specs.Printed.{lasso_lines, word_line, holds_text, lasso_against_text, word_against_text};
-ghost use Rattle.rabit_cli.specs.Files.{second_limits, automaton_file};
+ghost use Rattle.rabit_replies.specs.Printed.{lasso_lines, word_line, holds_text, lasso_against_text, word_against_text};
+ghost use Rattle.rabit_replies.specs.Files.{second_limits, automaton_file};
 ghost use Rattle.rabit_cli.specs.Property.{IsPropertyReply, IsPropertyDecided};
 
-use crate::files::{SECOND_LIMITS, automaton_slot};
-use crate::replies::{limit_met, reply_with};
-use crate::word_texts::push_word;
 use auto_core::{Lasso, List, Memory, Mode, Word, append};
 use ba_format::{Joined, Limits, Named, ReadFault, Texts};
 use cert_text::{Body, write_cert};
 use rabit_frame::{Put, Reply, Slot, Status};
+use rabit_replies::{
+    SECOND_LIMITS, automaton_slot, limit_met, push_lasso, push_word_line, reply_with,
+};
 use rabit_words::{USUAL_LIMIT, USUAL_LOOK};
 use std::alloc::Global;
 
@@ -63,29 +63,6 @@ fn fails(alloc: Global, property: &str) -> Result<List<u8>, Memory>
     append(&mut text, property.as_bytes())?;
     append(&mut text, b"\n")?;
     Ok(text)
-}
-
-/// Appends the lines of the lasso.
-pub(crate) fn push_lasso(out: &mut List<u8>, labels: &Texts, lasso: &Lasso) -> Result<(), Memory>
-    requires prefix { All (λ a. a < length labels.now) lasso.now.prefix }
-    requires turn { All (λ a. a < length labels.now) lasso.now.turn }
-    ensures { OnOk result (out.new ≡ out.old ++ lasso_lines labels.now lasso.now) }
-{
-    append(out, b"prefix:")?;
-    push_word(out, labels, lasso.prefix.as_slice())?;
-    append(out, b"\nloop:")?;
-    push_word(out, labels, lasso.turn.as_slice())?;
-    append(out, b"\n")
-}
-
-/// Appends the line of the word.
-pub(crate) fn push_word_line(out: &mut List<u8>, labels: &Texts, word: &Word) -> Result<(), Memory>
-    requires { All (λ a. a < length labels.now) word.now }
-    ensures { OnOk result (out.new ≡ out.old ++ word_line labels.now word.now) }
-{
-    append(out, b"word:")?;
-    push_word(out, labels, word.as_slice())?;
-    append(out, b"\n")
 }
 
 /// The lasso shows that the automaton has not the property.

@@ -2,14 +2,15 @@
 
 ghost use Rattle.std.specs.Prelude.{◌≡◌, ◌≤◌, ◌<◌, length, IfOk};
 ghost use Rattle.ba_format.specs.Reading.{IsWithinLimits};
-ghost use Rattle.rabit_cli.specs.Files.{HasLabelTexts};
+ghost use Rattle.rabit_replies.specs.Files.{HasLabelTexts};
 
-use crate::files::{FIRST_LIMITS, SECOND_LIMITS, joined};
+use crate::joining::joined;
 use auto_core::{Memory, Origin};
 use ba_format::{Joined, Limits, Named, read};
 use cert_text::{Element, Mark, StepLine};
 use graph_pool::Pool;
 use graph_rows::words_of;
+use rabit_replies::{FIRST_LIMITS, SECOND_LIMITS};
 use ramsey_search::{Outcome, search, search_in};
 use std::alloc::Global;
 use std::test::Fail;

@@ -7,19 +7,19 @@ ghost use Rattle.ba_format.specs.Joining.{IsJoined};
 ghost use Rattle.cert_value.specs.WellFormed.{WellFormed};
 ghost use Rattle.cert_check.specs.Rules.{KeepsRules};
 ghost use Rattle.rabit_frame.specs.Reading.{AreOfKinds};
-ghost use Rattle.rabit_cli.specs.Files.{second_limits, first_limits, HasLabelTexts};
-ghost use Rattle.rabit_cli.specs.Replies.{nothing_to_shrink_reply};
+ghost use Rattle.rabit_replies.specs.Files.{second_limits, first_limits, HasLabelTexts};
+ghost use Rattle.rabit_replies.specs.Replies.{nothing_to_shrink_reply};
 ghost use Rattle.rabit_cli.specs.Check.{check_inputs};
 ghost use Rattle.rabit_cli.specs.Shrink.{IsNo, IsShrunkBody, IsShrinkReply, MeansShrink};
 
-use crate::files::{certificate, first_automaton, joined, second_automaton};
-use crate::replies;
+use crate::joining::joined;
 use auto_core::{List, Memory};
 use ba_format::{Joined, Named};
 use cert_check::CheckFault;
 use cert_text::{Body, Cert, write_cert};
 use lasso_shrink::{shrink, shrink_word};
 use rabit_frame::{Put, Reply, Status, Value, line};
+use rabit_replies::{certificate, first_automaton, second_automaton};
 use std::alloc::Global;
 
 /// The certificate is valid, and has neither a lasso nor a word.
@@ -68,7 +68,7 @@ fn shrunk<'a>(alloc: Global, name: &'a str, pair: &Joined, cert: &Cert) -> Resul
     let bytes = write_cert(alloc, &left)?;
     let mut puts = List::new(alloc);
     puts.push(Put { name, bytes })?;
-    replies::verdict(alloc, left.mode, pair, &left.body, puts)
+    rabit_replies::verdict(alloc, left.mode, pair, &left.body, puts)
 }
 
 /// The reply to the joined automata and the certificate.
@@ -84,7 +84,7 @@ fn checked<'a>(
 {
     match cert_check::check(alloc, pair, cert) {
         Ok(_verdict) => shrunk(alloc, name, pair, cert),
-        Err(CheckFault::Refused(refusal)) => replies::refused(alloc, refusal),
+        Err(CheckFault::Refused(refusal)) => rabit_replies::refused(alloc, refusal),
         Err(CheckFault::Memory) => Err(Memory),
     }
 }

@@ -126,67 +126,6 @@ pub(crate) fn unanswered(
 }
 
 #[test]
-fn a_lasso_that_separates_is_printed(rt: HostRuntime) -> Result<(), Fail> {
-    let ring = "not included\nprefix:\nloop: a\n";
-    let letters = "not included\nprefix: b\nloop: b\n";
-    let wrong = unsaid(
-        rt.alloc(),
-        &[
-            (RING, ONLY_B, RING_NO, 1, ring),
-            (TWO_LETTERS, ONE_A, LETTERS_NO, 1, letters),
-        ],
-    )?;
-    assert_eq!(rt; wrong, 0);
-    Ok(())
-}
-
-#[test]
-fn other_ends_have_their_status(rt: HostRuntime) -> Result<(), Fail> {
-    let list = "rabit-cert 1 buchi list\nsizes 1 1 1\nlog1 0\nlog2 0\nlimit 1\nelements 0\nend\n";
-    let wrong = unsaid(
-        rt.alloc(),
-        &[
-            (ONE_A, ONE_A, list, 5, "certificate item 1: rule 18\n"),
-            (ONE_A, ONE_A, RING_NO, 5, "certificate item 0: rule 1\n"),
-            ("a,[0]-[1]\n", ONE_A, list, 4, "file 1 line 1: Shape\n"),
-            (ONE_A, "", list, 4, "file 2 line 0: Empty\n"),
-            (ONE_A, ONE_A, "", 5, "certificate line 1: Truncated\n"),
-        ],
-    )?;
-    assert_eq!(rt; wrong, 0);
-    Ok(())
-}
-
-#[test]
-fn a_faulty_file_goes_before_a_missing_one(rt: HostRuntime) -> Result<(), Fail> {
-    let wrong = unanswered(
-        rt.alloc(),
-        &[("A", "a,[0]-[1]\n"), ("B", ONE_A), ("C", RING_NO)],
-        &[
-            (
-                &["check", "A", "X", "X"],
-                &[],
-                &[],
-                4,
-                "file 1 line 1: Shape\n",
-            ),
-            (
-                &["check", "B", "A", "X"],
-                &[],
-                &[],
-                4,
-                "file 2 line 1: Shape\n",
-            ),
-            (&["check", "X", "B", "C"], &[], &[], 6, "read fault\n"),
-            (&["check", "A", "B"], &[], &[], 3, USAGE),
-            (&[], &[], &[], 3, USAGE),
-        ],
-    )?;
-    assert_eq!(rt; wrong, 0);
-    Ok(())
-}
-
-#[test]
 fn failing_calls_of_the_outside_are_told(rt: HostRuntime) -> Result<(), Fail> {
     let alloc = rt.alloc();
     let files = [("A", RING), ("B", ONLY_B), ("C", RING_NO)];
@@ -207,23 +146,5 @@ fn failing_calls_of_the_outside_are_told(rt: HostRuntime) -> Result<(), Fail> {
         ],
     )?;
     assert_eq!(rt; wrong, 0);
-    Ok(())
-}
-
-#[test]
-fn the_ring_may_be_written_in_many_ways(rt: HostRuntime) -> Result<(), Fail> {
-    let alloc = rt.alloc();
-    let texts = [
-        "[0]\r\na,[0]->[1]\r\na,[1]->[2]\r\na,[2]->[0]\r\n[0]\r\n",
-        "\n [0] \n\n a , [0] -> [1]\n\ta,[1]->[2]\na,[2]->\t[0]\n[0]",
-        "x\na,x->y\na,y->z\na,z->x\nx\n",
-        "a,0->1\na,1->2\na,2->0\n",
-        "[0]\na,[0]->[1]\n[0]\na,[1]->[2]\na,[0]->[1]\na,[2]->[0]\n[0]\n",
-    ];
-    let said = "not included\nprefix:\nloop: a\n";
-    for text in texts {
-        let wrong = unsaid(alloc, &[(text, ONLY_B, RING_NO, 1, said)])?;
-        assert_eq!(rt; wrong, 0, "{text:?}");
-    }
     Ok(())
 }

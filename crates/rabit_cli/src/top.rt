@@ -89,7 +89,7 @@ pub fn run<H: Shelf, K: Sink>(alloc: Global, words: &[String], shelf: &mut H, ou
 
     // By the counts of calls: each file of the reply was put once, or up to one that was refused, and the whole text was one give.
     ensures put_once { IsSingle (asked_by words.now) →
-        PutsByStatus (Means (asked_by words.now)) (inputs_of (asked_by words.now)) result (H.held shelf.old) (H.held shelf.new) (H.put_calls shelf.old) (H.put_calls shelf.new) }
+        PutsByStatus (Means (asked_by words.now)) (inputs_of (asked_by words.now)) result (H.held shelf.old) (H.held shelf.new) (H.put_faults shelf.old) (H.put_faults shelf.new) (H.put_calls shelf.old) (H.put_calls shelf.new) }
     ensures given_once { IsSingle (asked_by words.now) → K.give_calls out.new ≡ counted (K.give_calls out.old) }
 
     // The first fault decides: by the count of begins just the files were begun that the status needs, each once, and a missing one is counted only in its turn.

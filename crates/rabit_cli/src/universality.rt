@@ -4,11 +4,11 @@ ghost use Rattle.std.specs.Prelude.{◌≡◌, ◌≤◌, ℕ, List as Items, le
 ghost use Rattle.ba_format.specs.Reading.{IsWithinLimits};
 ghost use Rattle.ba_format.specs.Writing.{written};
 ghost use Rattle.rabit_frame.specs.Reading.{AreOfKinds, HasWritableLabels};
-ghost use Rattle.rabit_cli.specs.Files.{second_limits};
+ghost use Rattle.rabit_replies.specs.Files.{second_limits};
 ghost use Rattle.rabit_cli.specs.Property.{property_inputs, IsPropertyDecidedFor, MeansProperty};
 ghost use Rattle.rabit_cli.specs.Universal.{loops, all_loops, universality};
 
-use crate::files::joined;
+use crate::joining::joined;
 use crate::properties::{decided, read_back};
 use auto_core::{Auto, List, Memory, Mode, Trans, of_parts};
 use ba_format::{Named, Texts};

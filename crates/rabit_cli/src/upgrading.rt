@@ -5,10 +5,10 @@ ghost use Rattle.cert_value.specs.WellFormed.{WellFormed};
 ghost use Rattle.rabit_frame.specs.Reading.{AreOfKinds};
 ghost use Rattle.rabit_cli.specs.Upgrade.{upgrade_inputs, upgrade_reply, MeansUpgrade};
 
-use crate::files::{certificate, certificate_slot};
 use auto_core::{List, Memory};
 use cert_text::{Cert, write_upgraded};
 use rabit_frame::{Put, Reply, Slot, Status, Value, line};
+use rabit_replies::{certificate, certificate_slot};
 use std::alloc::Global;
 
 /// The file that it reads.

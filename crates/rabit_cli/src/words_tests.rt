@@ -1,64 +1,7 @@
 //! The words of the command line: which ask something, and which ask nothing; and drills, which read no file.
 
-use crate::tests::{USAGE, answers};
+use crate::tests::answers;
 use std::test::Fail;
-
-const ONE_A: &str = "[0]\na,[0]->[0]\n[0]\n";
-
-#[test]
-fn words_that_ask_nothing_get_the_usage(rt: HostRuntime) -> Result<(), Fail> {
-    let alloc = rt.alloc();
-    let files = [("A", ONE_A)];
-    let rows: [&[&str]; 25] = [
-        &["help"],
-        &["help", "reduce"],
-        &["reduce", "A", "-h"],
-        &["--help"],
-        &["reduce"],
-        &["reduce", "A", "A"],
-        &["reduce", "A", "--limit", "5"],
-        &["reduce", "A", "--look", "2", "--look", "2"],
-        &["reduce", "A", "--look", "02"],
-        &["reduce", "A", "--look=+2"],
-        &["reduce", "A", "--letters", "0"],
-        &["reduce", "A", "--letters", "5"],
-        &["include", "A", "A", "C", "--letters", "two"],
-        &["include", "A", "A", "C", "--letters=1", "--letters=1"],
-        &["check", "A", "A", "C", "--letters", "2"],
-        &["upgrade", "A"],
-        &["cross", "A", "A"],
-        &["cross", "A", "A", "C", "--look", "7"],
-        &["cross-check", "A", "A", "C", "--look", "2"],
-        &["batch"],
-        &["batch", "A", "A"],
-        &["equal", "A", "A", "C"],
-        &["equal", "A", "A", "C", "C"],
-        &["drill", "4294967296", "2", "1"],
-        &["Reduce", "A"],
-    ];
-    for words in rows {
-        assert_eq!(rt; answers(alloc, words, &files, &[], &[], USAGE)?, (3, true));
-    }
-    Ok(())
-}
-
-#[test]
-fn options_stand_anywhere_after_the_command(rt: HostRuntime) -> Result<(), Fail> {
-    let alloc = rt.alloc();
-    let files = [("A", ONE_A)];
-    let rows: [&[&str]; 6] = [
-        &["reduce", "A", "--look", "1"],
-        &["reduce", "--look=6", "A"],
-        &["reduce", "--look", "3", "A"],
-        &["reduce", "--", "A"],
-        &["reduce", "A", "--letters", "4"],
-        &["reduce", "--letters=1", "--look", "2", "A"],
-    ];
-    for words in rows {
-        assert_eq!(rt; answers(alloc, words, &files, &[], &[], ONE_A)?, (0, true));
-    }
-    Ok(())
-}
 
 #[test]
 fn a_seed_draws_the_generators_words(rt: HostRuntime) -> Result<(), Fail> {

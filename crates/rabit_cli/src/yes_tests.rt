@@ -1,7 +1,6 @@
 //! Certificates of inclusion: valid ones, and one line changed so that each rule in turn is the first that is broken.
 
-use crate::include_tests::ONE_YES;
-use crate::tests::{ONE_A, check, unsaid};
+use crate::tests::{ONE_A, check};
 use auto_core::Memory;
 use std::alloc::Global;
 use std::test::Fail;
@@ -71,139 +70,6 @@ pub(crate) fn untold(
 }
 
 #[test]
-fn valid_certificates_show_inclusion(rt: HostRuntime) -> Result<(), Fail> {
-    let alloc = rt.alloc();
-    let text = with_lines(alloc, &LINES, &[])?;
-    let two =
-        "rabit-cert 1 buchi yes\nsizes 1 1 1\nlog1 0\nlog2 0\nrel 1\nrow 0 0\nelements 2\nunder 1 base 0\nlive next 0 0\ncover 1\nstep 1 1\nend\n";
-    let wrong = unsaid(
-        alloc,
-        &[
-            (PAIR, PAIR, text.as_str(), 0, "included\n"),
-            (ONE_A, ONE_A, ONE_YES, 0, "included\n"),
-            (ONE_A, ONE_A, two, 0, "included\n"),
-        ],
-    )?;
-    assert_eq!(rt; wrong, 0);
-    Ok(())
-}
-
-#[test]
-fn one_changed_line_breaks_its_rule(rt: HostRuntime) -> Result<(), Fail> {
-    let wrong = untold(
-        rt.alloc(),
-        PAIR,
-        PAIR,
-        &LINES,
-        5,
-        &[
-            (&[(6, "row 1 2\n")], "certificate item 1: rule 1\n"),
-            (&[(6, "row 1 0 1\n")], "certificate item 1: rule 9\n"),
-            (&[(8, "live base 2\n")], "certificate item 2: rule 1\n"),
-            (&[(10, "live next 2 1\n")], "certificate item 4: rule 10\n"),
-            (&[(10, "live next 0 0\n")], "certificate item 4: rule 11\n"),
-            (&[(12, "cover 0 4\n")], "certificate item 6: rule 1\n"),
-            (&[(12, "cover 0\n")], "certificate item 6: rule 13\n"),
-            (&[(12, "cover 1 0\n")], "certificate item 6: rule 13\n"),
-            (&[(14, "step 1 4\n")], "certificate item 8: rule 1\n"),
-            (&[(15, "step 2 1\n")], "certificate item 9: rule 14\n"),
-            (&[(13, "step 0 2 2\n")], "certificate item 7: rule 14\n"),
-        ],
-    )?;
-    assert_eq!(rt; wrong, 0);
-    Ok(())
-}
-
-/// Elements that are said to be under another one; the step line of each, which is then not live, is left out.
-#[test]
-fn elements_under_others_are_tested(rt: HostRuntime) -> Result<(), Fail> {
-    let wrong = untold(
-        rt.alloc(),
-        PAIR,
-        PAIR,
-        &LINES,
-        5,
-        &[
-            (
-                &[(8, "under 4 base 0\n"), (13, "")],
-                "certificate item 2: rule 1\n",
-            ),
-            (
-                &[(8, "under 0 base 0\n"), (13, "")],
-                "certificate item 2: rule 12\n",
-            ),
-            (
-                &[(10, "under 0 next 0 1\n"), (15, "")],
-                "certificate item 4: rule 12\n",
-            ),
-        ],
-    )?;
-    assert_eq!(rt; wrong, 0);
-    Ok(())
-}
-
-#[test]
-fn other_files_are_told_too(rt: HostRuntime) -> Result<(), Fail> {
-    let alloc = rt.alloc();
-    let wrong = untold(
-        alloc,
-        PAIR,
-        PAIR,
-        &LINES,
-        5,
-        &[
-            (&[(17, "")], "certificate line 18: Truncated\n"),
-            (&[(10, "live next 4 1\n")], "certificate item 4: rule 1\n"),
-            (&[(12, "cover 0 1 0\n")], "certificate item 6: rule 13\n"),
-            (
-                &[(15, "step 2 1\n"), (6, "row 1 0 1\n")],
-                "certificate item 1: rule 9\n",
-            ),
-            (
-                &[(8, "under 2 base 0\n"), (13, "")],
-                "certificate item 2: rule 12\n",
-            ),
-            (
-                &[(15, "step 2 1\n"), (11, "live next 1 1\n")],
-                "certificate item 5: rule 11\n",
-            ),
-        ],
-    )?;
-    assert_eq!(rt; wrong, 0);
-    let loops = "[0]\na,[0]->[0]\n[0]\n";
-    let dropped =
-        "rabit-cert 1 buchi yes\nsizes 1 1 1\nlog1 0\nlog2 0\nrel 1\nrow 0 0\nelements 2\nunder 1 base 0\nlive next 0 0\ncover 0\nstep 1 1\nend\n";
-    assert_eq!(rt;
-        check(
-            alloc,
-            loops,
-            loops,
-            dropped,
-            "certificate item 4: rule 13\n"
-        )?,
-        (5, true)
-    );
-    Ok(())
-}
-
-#[test]
-fn a_text_may_promise_more_than_it_has(rt: HostRuntime) -> Result<(), Fail> {
-    let alloc = rt.alloc();
-    let promise = "rabit-cert 1 buchi yes\nsizes 1 1 1\nlog1 999999999\n";
-    assert_eq!(rt;
-        check(
-            alloc,
-            ONE_A,
-            ONE_A,
-            promise,
-            "certificate line 4: Truncated\n"
-        )?,
-        (5, true)
-    );
-    Ok(())
-}
-
-#[test]
 fn many_elements_may_be_under_one(rt: HostRuntime) -> Result<(), Fail> {
     let alloc = rt.alloc();
     let mut text = String::new(alloc);
@@ -217,23 +83,6 @@ fn many_elements_may_be_under_one(rt: HostRuntime) -> Result<(), Fail> {
     assert_eq!(rt;
         check(alloc, ONE_A, ONE_A, text.as_str(), "included\n")?,
         (0, true)
-    );
-    Ok(())
-}
-
-#[test]
-fn an_empty_relation_orders_nothing(rt: HostRuntime) -> Result<(), Fail> {
-    let alloc = rt.alloc();
-    let text = with_lines(alloc, &LINES, &[(4, "rel 0\n"), (5, ""), (6, "")])?;
-    assert_eq!(rt;
-        check(
-            alloc,
-            PAIR,
-            PAIR,
-            text.as_str(),
-            "certificate item 6: rule 13\n"
-        )?,
-        (5, true)
     );
     Ok(())
 }

@@ -330,8 +330,8 @@ module _ (means : List Value → Reply → Type 0) (inputs : List Input) (held h
           both_map held held' (λ files files'. files' ≡ files) Left (λ files files' left. left_other files files' (omega arith) (λ e. omega arith) left) ends.leaves
 
 -- the puts by the ending are those by its status, be its text sent or not
-module _ (means : List Value → Reply → Type 0) (inputs : List Input) (held held' : Option FileMap) (before now : ℕ) where
-  none_put : (status n : ℕ) → ¬ IsOwn n → ¬ (n ≡ 7) → status ≡ n → now ≡ before → PutsByStatus means inputs status held held' before now
+module _ (means : List Value → Reply → Type 0) (inputs : List Input) (held held' : Option FileMap) (put_faults put_faults' before now : ℕ) where
+  none_put : (status n : ℕ) → ¬ IsOwn n → ¬ (n ≡ 7) → status ≡ n → now ≡ before → PutsByStatus means inputs status held held' put_faults put_faults' before now
   none_put status n other not is same = record {
     own = λ own. absurd (other (subst IsOwn is own));
     write_fault = λ seven. absurd (not (sym is ∙ seven));
@@ -339,7 +339,7 @@ module _ (means : List Value → Reply → Type 0) (inputs : List Input) (held h
     memory = λ eight. same;
   }
 
-  all_put : (r : Reply) (status : ℕ) → IsReplyOf means inputs held r → PutEach r.puts before now → status ≡ status_number r.status → PutsByStatus means inputs status held held' before now
+  all_put : (r : Reply) (status : ℕ) → IsReplyOf means inputs held r → PutEach r.puts before now → status ≡ status_number r.status → PutsByStatus means inputs status held held' put_faults put_faults' before now
   all_put r status right each is =
       let own = own_number r.status in record {
         own = λ mine. (r, right, sym is, each);
@@ -348,7 +348,7 @@ module _ (means : List Value → Reply → Type 0) (inputs : List Input) (held h
         memory = λ eight. absurd (own.2 (sym is ∙ eight));
       }
 
-  at_seven : (r : Reply) (status : ℕ) → IsReplyOf means inputs held r → PutEach r.puts before now ⊎ PutFront r.puts held held' before now → status ≡ 7 → PutsByStatus means inputs status held held' before now
+  at_seven : (r : Reply) (status : ℕ) → IsReplyOf means inputs held r → (PutEach r.puts before now × (put_faults' ≡ put_faults)) ⊎ (PutFront r.puts held held' before now × Rose put_faults put_faults') → status ≡ 7 → PutsByStatus means inputs status held held' put_faults put_faults' before now
   at_seven r status right put is = record {
     own = λ own. absurd (own.1 is);
     write_fault = λ seven. (r, right, put);
@@ -356,15 +356,15 @@ module _ (means : List Value → Reply → Type 0) (inputs : List Input) (held h
     memory = λ eight. absurd (omega arith);
   }
 
-  pub puts_by_status : (e : Ending) (status : ℕ) → PutsOnce means inputs e held held' before now → (status ≡ status_of e) ⊎ (status ≡ status_unsent e) → PutsByStatus means inputs status held held' before now
-  puts_by_status (ending.Reached r) status (right, each) is =
+  pub puts_by_status : (e : Ending) (status : ℕ) → PutsOnce means inputs e held held' before now → (e ≡ ending.WriteFault → Rose put_faults put_faults') → (¬ (e ≡ ending.WriteFault) → put_faults' ≡ put_faults) → (status ≡ status_of e) ⊎ (status ≡ status_unsent e) → PutsByStatus means inputs status held held' put_faults put_faults' before now
+  puts_by_status (ending.Reached r) status (right, each) rose stays is =
       elim is [
         | inl sent ↦ all_put r status right each sent
-        | inr unsent ↦ elim (unsent_number r.status) [ inl seven ↦ at_seven r status right (inl each) (unsent ∙ seven) | inr stays ↦ all_put r status right each (unsent ∙ stays.0) ]
+        | inr unsent ↦ elim (unsent_number r.status) [ inl seven ↦ at_seven r status right (inl (each, stays (λ e. cc))) (unsent ∙ seven) | inr stays ↦ all_put r status right each (unsent ∙ stays.0) ]
       ]
-  puts_by_status (ending.WriteFault) status (r, right, front) is = at_seven r status right (inr front) (elim is [ inl sent ↦ sent | inr unsent ↦ unsent ])
-  puts_by_status (ending.ReadFault) status same is = none_put status 6 (λ own. own.0 refl) (λ e. omega arith) (elim is [ inl sent ↦ sent | inr unsent ↦ unsent ]) same
-  puts_by_status (ending.OutOfMemory) status same is = none_put status 8 (λ own. own.2 refl) (λ e. omega arith) (elim is [ inl sent ↦ sent | inr unsent ↦ unsent ]) same
+  puts_by_status (ending.WriteFault) status (r, right, front) rose stays is = at_seven r status right (inr (front, rose refl)) (elim is [ inl sent ↦ sent | inr unsent ↦ unsent ])
+  puts_by_status (ending.ReadFault) status same rose stays is = none_put status 6 (λ own. own.0 refl) (λ e. omega arith) (elim is [ inl sent ↦ sent | inr unsent ↦ unsent ]) same
+  puts_by_status (ending.OutOfMemory) status same rose stays is = none_put status 8 (λ own. own.2 refl) (λ e. omega arith) (elim is [ inl sent ↦ sent | inr unsent ↦ unsent ]) same
 
 -- what was begun by the ending, and so by its status, be its text sent or not
 module _ (inputs : List Input) (held : Option FileMap) (blamed : WhichFile) (before now : ℕ) where

@@ -4,6 +4,8 @@ use Rattle.shelf_io.specs.Shelf.{FileMap}
 use Rattle.ba_format.proofs.LawLemmas.{reads_as_one}
 use Rattle.ba_format.proofs.FaultlessLemmas.{read_is_within}
 use Rattle.ba_format.proofs.LabelLemmas.{labels_fit}
+use Rattle.ba_format.specs.KindNames.{kind_name}
+use Rattle.cert_line.specs.KindNames.{text_kind_name}
 use Rattle.cert_text.specs.Grammar.{reading}
 use Rattle.cert_text.proofs.Theorem.{reading_text}
 use Rattle.cross_text.specs.Grammar.{cross_reading}
@@ -16,7 +18,7 @@ use Rattle.rabit_frame.specs.declared.parts.Value.TheVariants as value
 use Rattle.rabit_frame.specs.declared.parts.Status.TheVariants as status
 use Rattle.rabit_frame.specs.declared.parts.Reply.{Reply}
 use Rattle.rabit_frame.specs.Files.{Input}
-use Rattle.rabit_frame.specs.Lines.{kind_name, text_kind_name, file_line, certificate_line, list_line}
+use Rattle.rabit_frame.specs.Lines.{file_line, certificate_line, list_line}
 use Rattle.rabit_frame.specs.Reading.{only_said, FileReads, FileStops, ReadsAs, HasFault, IsOfKind, ReadInTurn, AreOfKinds, StopInTurn}
 
 same_some : {X : Type 0} (a b : X) (o : Option X) → o ≡ Some a → o ≡ Some b → a ≡ b

@@ -80,10 +80,15 @@ PutsOnce means inputs (ending.WriteFault) held held' before now = (r : Reply) ×
 PutsOnce means inputs (ending.ReadFault) held held' before now = now ≡ before
 PutsOnce means inputs (ending.OutOfMemory) held held' before now = now ≡ before
 
--- The same by its status. At a write fault all of the files were put where the sink refused the text.
-pub record PutsByStatus (means : List Value → Reply → Type 0) (inputs : List Input) (status : ℕ) (held held' : Option FileMap) (before now : ℕ) : Type 0 where
+-- The same by its status. At a write fault either each of the files was put and no put failed, so that it was the sink that refused the text, or they were
+-- put up to one whose put failed.
+pub record PutsByStatus (means : List Value → Reply → Type 0) (inputs : List Input) (status : ℕ) (held held' : Option FileMap) (put_faults put_faults' before now : ℕ) : Type 0 where
   pub own : IsOwn status → (r : Reply) × IsReplyOf means inputs held r × (status_number r.status ≡ status) × PutEach r.puts before now
-  pub write_fault : status ≡ 7 → (r : Reply) × IsReplyOf means inputs held r × (PutEach r.puts before now ⊎ PutFront r.puts held held' before now)
+  pub write_fault :
+      status ≡ 7
+      → (r : Reply)
+      × IsReplyOf means inputs held r
+      × ((PutEach r.puts before now × (put_faults' ≡ put_faults)) ⊎ (PutFront r.puts held held' before now × Rose put_faults put_faults'))
   pub read_fault : status ≡ 6 → now ≡ before
   pub memory : status ≡ 8 → now ≡ before
 

@@ -10,6 +10,8 @@ use Rattle.ba_format.specs.Faults.{fault_of}
 use Rattle.ba_format.specs.Laws.{IsLabelText}
 use Rattle.ba_format.specs.Sight.{AreDifferent}
 use Rattle.ba_format.specs.Reading.{Reads, IsWithinLimits}
+use Rattle.ba_format.specs.KindNames.{kind_name}
+use Rattle.cert_line.specs.KindNames.{text_kind_name}
 use Rattle.cert_text.specs.declared.faults.TextFault.{TextFault}
 use Rattle.cert_text.specs.Law.{FirstFault}
 use Rattle.cert_value.specs.Text.{text}
@@ -27,7 +29,7 @@ use Rattle.rabit_frame.specs.declared.parts.Reply.{Reply}
 use Rattle.rabit_frame.specs.declared.parts.Halt.{Halt}
 use Rattle.rabit_frame.specs.declared.parts.Halt.TheVariants as halt
 use Rattle.rabit_frame.specs.Files.{Input, Output}
-use Rattle.rabit_frame.specs.Lines.{kind_name, text_kind_name, file_line, certificate_line, list_line}
+use Rattle.rabit_frame.specs.Lines.{file_line, certificate_line, list_line}
 
 -- A reply with this text, which writes these files.
 abbrev pub reply_with : Status → List ℕ → List Output → Reply

@@ -138,7 +138,7 @@ pub fn read_alone<H: Shelf>(
 pub fn carry_out_unsaid<W: Work, H: Shelf>(alloc: Global, work: &W, shelf: &mut H) -> u8
     requires fit { W.is_fit work.now }
     ensures ends { (end : AnEnding) × EndsSo (W.means work.now) (W.inputs work.now) end (H.held shelf.old) (H.held shelf.new) (H.faults shelf.old) (H.faults shelf.new) (H.put_faults shelf.old) (H.put_faults shelf.new) × (result ≡ status_of end) }
-    ensures put_once { PutsByStatus (W.means work.now) (W.inputs work.now) result (H.held shelf.old) (H.held shelf.new) (H.put_calls shelf.old) (H.put_calls shelf.new) }
+    ensures put_once { PutsByStatus (W.means work.now) (W.inputs work.now) result (H.held shelf.old) (H.held shelf.new) (H.put_faults shelf.old) (H.put_faults shelf.new) (H.put_calls shelf.old) (H.put_calls shelf.new) }
     ensures missing { IfSome (H.held shelf.old) (λ files. MissedInTurn files (W.inputs work.now) (H.missed shelf.old) (H.missed shelf.new)) }
     ensures begun { BegunByStatus (W.inputs work.now) result (H.held shelf.old) (H.blamed shelf.new) (H.begins shelf.old) (H.begins shelf.new) }
 {
@@ -195,7 +195,7 @@ pub fn carry_out<W: Work, H: Shelf, K: Sink>(
         LeavesAtWriteFault (W.means work.now) (W.inputs work.now) (K.sent out.old) (K.sent out.new) (K.faults out.old) (K.faults out.new) (H.put_faults shelf.old) (H.put_faults shelf.new) files files') }
 
     // By the counts of calls: each file of the reply was put once, or up to one that was refused, and the whole text was one give.
-    ensures put_once { PutsByStatus (W.means work.now) (W.inputs work.now) result (H.held shelf.old) (H.held shelf.new) (H.put_calls shelf.old) (H.put_calls shelf.new) }
+    ensures put_once { PutsByStatus (W.means work.now) (W.inputs work.now) result (H.held shelf.old) (H.held shelf.new) (H.put_faults shelf.old) (H.put_faults shelf.new) (H.put_calls shelf.old) (H.put_calls shelf.new) }
     ensures given_once { K.give_calls out.new ≡ counted (K.give_calls out.old) }
 
     // By the count of begins: just the files were begun that the status needs, each once. A missing one is counted only in its turn.

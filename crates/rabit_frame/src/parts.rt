@@ -90,9 +90,9 @@ pub enum Status {
     Usage,
     /// 4: a file of an automaton has a fault.
     BadFile,
-    /// 5: a certificate has a fault, or breaks a rule.
+    /// 5: a certificate or a cross relation has a fault, or breaks a rule.
     BadCertificate,
-    /// 10: no simulation across the automata relates their initial states.
+    /// 10: no simulation across the automata at the lookahead relates their initial states.
     NoRelation,
     /// 11: a list of questions has a bad line.
     BadList,

@@ -15,7 +15,7 @@ pub returns-clause-at_write_fault : goal.returns-clause-at_write_fault
 returns-clause-at_write_fault g c seven = says_at_write_fault _ _ _ _ _ _ _ _ _ _ _ _ _ c.ending_of-ending.result c.ending_of-ending.ensures.ends c.say-status.ensures.said seven
 
 pub returns-clause-put_once : goal.returns-clause-put_once
-returns-clause-put_once g c = puts_by_status _ _ _ _ _ _ c.ending_of-ending.result _ c.ending_of-ending.ensures.put_once (elim c.say-status.ensures.said [ inl whole ↦ inl whole.0 | inr front ↦ inr front.0 ])
+returns-clause-put_once g c = puts_by_status _ _ _ _ _ _ _ _ c.ending_of-ending.result _ c.ending_of-ending.ensures.put_once c.ending_of-ending.ensures.ends.write_fault c.ending_of-ending.ensures.ends.no_write_fault (elim c.say-status.ensures.said [ inl whole ↦ inl whole.0 | inr front ↦ inr front.0 ])
 
 pub returns-clause-begun : goal.returns-clause-begun
 returns-clause-begun g c = begun_by_status _ _ _ _ _ c.ending_of-ending.result _ c.ending_of-ending.ensures.begun (elim c.say-status.ensures.said [ inl whole ↦ inl whole.0 | inr front ↦ inr front.0 ])

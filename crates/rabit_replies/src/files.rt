@@ -1,28 +1,23 @@
 //! The files of the commands, as they were read.
 
-ghost use Rattle.std.specs.Prelude.{◌≡◌, IfOk};
-ghost use Rattle.ba_format.specs.Reading.{IsWithinLimits};
-ghost use Rattle.ba_format.specs.Joining.{IsJoined};
-ghost use Rattle.decide.specs.Laws.{CanDecide};
+ghost use Rattle.std.specs.Prelude.{◌≡◌};
 ghost use Rattle.rabit_frame.specs.declared.parts.FileKind.TheVariants as kind;
 ghost use Rattle.rabit_frame.specs.Reading.{IsOfKind};
-ghost use Rattle.rabit_cli.specs.Files.{second_limits, first_limits, automaton_file, certificate_file, HasLabelTexts};
+ghost use Rattle.rabit_replies.specs.Files.{second_limits, first_limits, automaton_file, certificate_file};
 
-use auto_core::Memory;
-use ba_format::{Joined, Limits, Named};
+use ba_format::{Limits, Named};
 use cert_text::Cert;
 use rabit_frame::{FileKind, Slot, Value};
-use std::alloc::Global;
 
 /// The most states, labels and transitions of a second file.
-pub(crate) const SECOND_LIMITS: Limits = Limits {
+pub const SECOND_LIMITS: Limits = Limits {
     states: 512,
     labels: 256,
     transitions: 65_536,
 };
 
 /// The most states, labels and transitions of a first file.
-pub(crate) const FIRST_LIMITS: Limits = Limits {
+pub const FIRST_LIMITS: Limits = Limits {
     states: 2048,
     labels: 256,
     transitions: 65_536,
@@ -93,15 +88,4 @@ pub fn certificate(value: &Value) -> &Cert
         Value::Certificate(cert) => cert,
         _ => unreachable!(),
     }
-}
-
-/// Joins the labels of the two automata.
-pub fn joined(alloc: Global, one: &Named, two: &Named) -> Result<Joined, Memory>
-    requires one { IsWithinLimits first_limits one.now }
-    requires two { IsWithinLimits second_limits two.now }
-    ensures joined { IfOk result (IsJoined one.now two.now) }
-    ensures labels { IfOk result HasLabelTexts }
-    ensures small { IfOk result CanDecide }
-{
-    ba_format::join(alloc, one, two)
 }

@@ -1,15 +1,16 @@
 //! Replies that several commands have.
 
-ghost use Rattle.std.specs.Prelude.{◌≡◌, ◌<◌, IfOk, All, List as Items, ℕ, length};
+ghost use Rattle.std.specs.Prelude.{◌≡◌, ◌<◌, ◌≤◌, IfOk, All, List as Items, ℕ, length};
 ghost use Rattle.auto_core.specs.declared.parts.Lasso.{Lasso as ALasso};
 ghost use Rattle.ba_format.specs.declared.parts.Joined.{Joined};
+ghost use Rattle.ba_format.specs.Writing.{written};
 ghost use Rattle.cert_value.specs.declared.types.Body.TheVariants.{NoLasso, NoWord};
 ghost use Rattle.rabit_frame.specs.Reading.{only_said, reply_with};
-ghost use Rattle.rabit_cli.specs.Printed.{refused_text, included_text, not_included_text, word_not_included_text, limit_text};
-ghost use Rattle.rabit_cli.specs.Replies.{usage_reply, IsVerdictReply};
+ghost use Rattle.rabit_replies.specs.Printed.{refused_text, included_text, not_included_text, word_not_included_text, limit_text};
+ghost use Rattle.rabit_replies.specs.Replies.{usage_reply, too_large_reply, IsVerdictReply};
 
-use crate::word_texts::push_word;
-use auto_core::{Lasso, List, Memory, Mode, Word, append};
+use crate::word_texts::{push_lasso, push_word_line};
+use auto_core::{Auto, Lasso, List, Memory, Mode, Word, append};
 use ba_format::{Joined, Texts};
 use cert_check::Refusal;
 use cert_text::Body;
@@ -46,6 +47,23 @@ pub fn refused<'a>(alloc: Global, refusal: Refusal) -> Result<Reply<'a>, Memory>
     Ok(Reply::saying(alloc, Status::BadCertificate, text))
 }
 
+/// The automaton is printed.
+pub fn printed<'a>(alloc: Global, made: &Auto, labels: &Texts) -> Result<Reply<'a>, Memory>
+    requires { made.now.labels ≤ length labels.now }
+    ensures { IfOk result (λ reply. reply ≡ only_said Status.Done (written made.now labels.now)) }
+{
+    let text = ba_format::write(alloc, made, labels)?;
+    Ok(Reply::saying(alloc, Status::Done, text))
+}
+
+/// The automaton that was asked for is too large.
+pub fn too_large<'a>(alloc: Global) -> Result<Reply<'a>, Memory>
+    ensures { IfOk result (λ reply. reply ≡ too_large_reply) }
+{
+    let text = line(alloc, "too large\n")?;
+    Ok(Reply::saying(alloc, Status::TooLarge, text))
+}
+
 /// The first automaton accepts the lasso, and the second does not.
 fn not_included(alloc: Global, labels: &Texts, lasso: &Lasso) -> Result<List<u8>, Memory>
     requires prefix { All (λ a. a < length labels.now) lasso.now.prefix }
@@ -53,11 +71,8 @@ fn not_included(alloc: Global, labels: &Texts, lasso: &Lasso) -> Result<List<u8>
     ensures { IfOk result (λ text. text ≡ not_included_text labels.now lasso.now) }
 {
     let mut text = List::new(alloc);
-    append(&mut text, b"not included\nprefix:")?;
-    push_word(&mut text, labels, lasso.prefix.as_slice())?;
-    append(&mut text, b"\nloop:")?;
-    push_word(&mut text, labels, lasso.turn.as_slice())?;
-    append(&mut text, b"\n")?;
+    append(&mut text, b"not included\n")?;
+    push_lasso(&mut text, labels, lasso)?;
     Ok(text)
 }
 
@@ -67,9 +82,8 @@ fn word_not_included(alloc: Global, labels: &Texts, word: &Word) -> Result<List<
     ensures { IfOk result (λ text. text ≡ word_not_included_text labels.now word.now) }
 {
     let mut text = List::new(alloc);
-    append(&mut text, b"not included, finite\nword:")?;
-    push_word(&mut text, labels, word.as_slice())?;
-    append(&mut text, b"\n")?;
+    append(&mut text, b"not included, finite\n")?;
+    push_word_line(&mut text, labels, word)?;
     Ok(text)
 }
 

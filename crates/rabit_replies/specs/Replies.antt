@@ -13,7 +13,7 @@ use Rattle.rabit_frame.specs.declared.parts.Status.TheVariants as status
 use Rattle.rabit_frame.specs.declared.parts.Reply.{Reply}
 use Rattle.rabit_frame.specs.Files.{Output}
 use Rattle.rabit_frame.specs.Reading.{reply_with, only_said}
-use Rattle.rabit_cli.specs.Printed.{usage_text, too_large_text, nothing_to_shrink_text, refused_text, included_text, not_included_text, word_not_included_text, limit_text}
+use Rattle.rabit_replies.specs.Printed.{usage_text, too_large_text, nothing_to_shrink_text, refused_text, included_text, not_included_text, word_not_included_text, limit_text}
 
 -- The words ask nothing.
 abbrev pub usage_reply : Reply

@@ -1,7 +1,7 @@
 use Rattle.ba_format.specs.Joining.{IsJoined}
 use Rattle.decide.specs.Laws.{CanDecide}
 use Rattle.rabit_cli.proofs.PairLemmas.{can_decide, ok_gives}
-use Rattle.rabit_cli.proofs.files.joined.Goals as goal
+use Rattle.rabit_cli.proofs.joining.joined.Goals as goal
 
 pub returns-clause-small : goal.returns-clause-small
 returns-clause-small c =
