@@ -109,6 +109,20 @@ between_all n entries key = record {
   above = λ i from lt. absurd (omega arith);
 }
 
+-- All entries stand before the triple where the last one does.
+pub between_end :
+    (n : ℕ) (entries : List Entry) (key : Triple) (last : ℕ)
+    → AreTriplesInOrder (entry_triples n entries)
+    → last + 1 ≡ length entries
+    → triple_cmp (triple_of n (get_or entries last no_entry)) key ≡ Less
+    → IsBetween n entries key (length entries) (length entries)
+between_end n entries key last order end less = record {
+  upto = omega arith;
+  within = omega arith;
+  below = λ i lt. less_upto n entries key last order (omega arith) less i (omega arith);
+  above = λ i from lt. absurd (omega arith);
+}
+
 module _ (n : ℕ) (entries : List Entry) (key : Triple) (low high middle : ℕ) (order : AreTriplesInOrder (entry_triples n entries)) (h : IsBetween n entries key low high) (from : low ≤ middle) (lt : middle < high) where
   pub between_upper : triple_cmp (triple_of n (get_or entries middle no_entry)) key ≡ Less → IsBetween n entries key (middle + 1) high
   between_upper less =

@@ -39,11 +39,16 @@ fn compare(entry: &Entry, letters: u32, left: u32, ahead: &[u32], right: u32) ->
     match entry.left.cmp(&left) {
         Ordering::Less => Ordering::Less,
         Ordering::Greater => Ordering::Greater,
-        Ordering::Equal => match ahead_of(entry, letters).cmp(ahead) {
-            Ordering::Less => Ordering::Less,
-            Ordering::Greater => Ordering::Greater,
-            Ordering::Equal => entry.right.cmp(&right),
-        },
+        Ordering::Equal => {
+            if letters == 1 && ahead.is_empty() {
+                return entry.right.cmp(&right);
+            }
+            match ahead_of(entry, letters).cmp(ahead) {
+                Ordering::Less => Ordering::Less,
+                Ordering::Greater => Ordering::Greater,
+                Ordering::Equal => entry.right.cmp(&right),
+            }
+        }
     }
 }
 
@@ -113,6 +118,31 @@ pub(crate) fn first_from(
     low
 }
 
+/// Tells whether there is an entry with this number and it has these states and this word.
+fn is_at(entries: &[Entry], letters: u32, at: usize, left: u32, ahead: &[u32], right: u32) -> bool
+    requires from { 1 ≤ letters }
+    requires upto { letters ≤ 4 }
+    ensures { IsTrue result → IsTripleAt letters entries.now left ahead.now right at }
+{
+    if entries.len() <= at {
+        return false;
+    }
+    match compare(&entries[at], letters, left, ahead, right) {
+        Ordering::Less => false,
+        Ordering::Equal => true,
+        Ordering::Greater => false,
+    }
+}
+
+/// The number that the entry has where words are empty and each pair of states has its entry; in general, one to be tried first.
+fn place_among_all(entries: &[Entry], left: u32, right: u32) -> usize {
+    if entries.is_empty() {
+        return 0;
+    }
+    let columns = entries[entries.len() - 1].right as usize + 1;
+    left as usize * columns + right as usize
+}
+
 /// The number of the entry with these states and this word.
 pub(crate) fn find(
     entries: &[Entry],
@@ -127,10 +157,33 @@ pub(crate) fn find(
     ensures found { IfSome result (IsTripleAt letters entries.now left ahead.now right) }
     ensures none { IfNone result ((rank : Option ℕ) → Contains (entry_triples letters entries.now) (left, ahead.now, right, rank) → ⊥) }
 {
+    let first = place_among_all(entries, left, right);
+    if is_at(entries, letters, first, left, ahead, right) {
+        return Some(first);
+    }
     match search(entries, letters, left, ahead, right) {
         Ok(at) => Some(at),
         Err(_at) => None,
     }
+}
+
+/// Tells whether each of the entries stands before this one.
+fn is_behind_all(entries: &[Entry], letters: u32, entry: &Entry) -> bool
+    requires from { 1 ≤ letters }
+    requires upto { letters ≤ 4 }
+    requires in_order { AreTriplesInOrder (entry_triples letters entries.now) }
+    ensures { IsTrue result → IsBetween letters entries.now (triple_of letters entry.now) (length entries.now) (length entries.now) }
+{
+    if entries.is_empty() {
+        return true;
+    }
+    is_before(
+        &entries[entries.len() - 1],
+        letters,
+        entry.left,
+        ahead_of(entry, letters),
+        entry.right,
+    )
 }
 
 /// Puts the entry where it belongs; none has its states and its word yet.
@@ -141,6 +194,10 @@ pub(crate) fn put_in(entries: &mut Vec<Entry>, letters: u32, entry: Entry) -> Re
     requires lacks { (rank : Option ℕ) → Contains (entry_triples letters entries.old.items) (entry.left, (triple_of letters entry).1, entry.right, rank) → ⊥ }
     ensures { IfOk result (λ _. IsPutIn letters entries.old.items entries.new.items entry) }
 {
+    if is_behind_all(entries, letters, &entry) {
+        entries.push(entry)?;
+        return Ok(());
+    }
     match search(
         entries,
         letters,

@@ -1,5 +1,6 @@
 -- Covering, arc by arc.
-use Rattle.std.specs.Prelude.{◌≡◌, ℕ, ◌+◌, ◌*◌, ◌/◌, [], ◌∷◌}
+use Rattle.std.specs.Prelude.{◌≡◌, ℕ, ◌+◌, ◌*◌, ◌/◌, ◌<◌, [], ◌∷◌}
+use Rattle.auto_core.specs.Graph.{Graph}
 use Rattle.auto_core.specs.Rows.{HasBit}
 
 -- An arc to t has an answer among the states of Q: one that S relates t to.
@@ -23,3 +24,12 @@ pub record LacksAnswer (S R Q : ℕ → ℕ → Type 0) (s : ℕ) : Type 0 where
   pub target : ℕ
   pub arc : R s target
   pub none : (u : ℕ) → Q s u → S target u → ⊥
+
+-- The second graph has each arc of the first, of at least its value.
+pub record IsWithin (g h : Graph) : Type 0 where
+  pub joined : (s t : ℕ) → g.joined s t → h.joined s t
+  pub past : (s t : ℕ) → g.past s t → h.past s t
+
+-- S relates each state below n to itself.
+abbrev pub IsReflexiveBelow : ℕ → (ℕ → ℕ → Type 0) → Type 0
+IsReflexiveBelow n S = (p : ℕ) → p < n → S p p

@@ -10,12 +10,16 @@ use Rattle.graph_rows.specs.declared.prints.Print.{Print}
 abbrev pub folded_bit : ℕ → ℕ → ℕ
 folded_bit p q = (p * 37 + q * 11) % 64
 
+-- The state at which the j-th multiple of the step falls, where the numbers below 2^32 are spread over the n states.
+abbrev pub spread : ℕ → ℕ → ℕ → ℕ
+spread n step j = j * step % 4294967296 * n / 4294967296
+
 -- The picked pair with the number j, and whether it is asked for past an accepting state.
 abbrev pub picked_source : ℕ → ℕ → ℕ
-picked_source n j = (j * 160 + j / 4 + 32) % n
+picked_source n j = spread n 2654435769 j
 
 abbrev pub picked_target : ℕ → ℕ → ℕ
-picked_target n j = (j * 77 + j / 2 + 18) % n
+picked_target n j = spread n 2246822519 j
 
 abbrev pub is_past : ℕ → Bool
 is_past j = j % 2 == 1

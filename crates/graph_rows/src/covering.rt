@@ -6,12 +6,12 @@ ghost use Rattle.auto_core.specs.Reach.{IsTable, HasArc};
 ghost use Rattle.auto_core.specs.Game.{Holds};
 ghost use Rattle.auto_core.specs.Graph.{Covers};
 ghost use Rattle.graph_rows.specs.Block.{width_of, block_graph, IsFormed};
-ghost use Rattle.graph_rows.specs.Covering.{AnswersArcs, AnswersWord, AreOwnAnswers, IsTargetAnswered, LacksAnswer};
+ghost use Rattle.graph_rows.specs.Covering.{AnswersArcs, AnswersWord, AreOwnAnswers, IsReflexiveBelow, IsTargetAnswered, IsWithin, LacksAnswer};
 
 use crate::block;
 use auto_core::rows;
 use bit_rel::Rel;
-use row_steps::{meets, next_bit};
+use row_steps::{meets, next_bit, subset};
 
 /// Tells whether an arc leads from the state of the row to some state that the order relates the target to: one of `past` if
 /// `flagged` says so, else one of `joined`.
@@ -201,6 +201,38 @@ fn is_table_answered(order: &Rel, own: &[u64], others: &[u64]) -> bool
     true
 }
 
+/// Tells whether the order relates each state to itself.
+fn is_reflexive(order: &Rel) -> bool
+    requires states_fit { order.now.size < 2 ^ 32 }
+    ensures { result ≡ true → IsReflexiveBelow order.now.size (Holds order.now.pairs) }
+{
+    for state in 0..order.size() {
+        if !order.get(state, state) {
+            return false;
+        }
+    }
+    true
+}
+
+/// Tells whether the second graph has each arc of the first, of at least its value.
+fn is_within(states: u32, g: &[u64], h: &[u64]) -> bool
+    requires first { IsFormed states g.now }
+    requires second { IsFormed states h.now }
+    ensures { result ≡ true → IsWithin (block_graph states g.now) (block_graph states h.now) }
+{
+    subset(block::joined(states, g), block::joined(states, h))
+        && subset(block::past(states, g), block::past(states, h))
+}
+
+/// Tells whether the second graph has all arcs of the first, and the order relates each state to itself: then each arc answers itself.
+fn answers_itself_throughout(order: &Rel, g: &[u64], h: &[u64]) -> bool
+    requires first { IsFormed order.now.size g.now }
+    requires second { IsFormed order.now.size h.now }
+    ensures { result ≡ true → Covers (Holds order.now.pairs) (block_graph order.now.size g.now) (block_graph order.now.size h.now) }
+{
+    is_within(order.size(), g, h) && is_reflexive(order)
+}
+
 /// Tells whether each arc of `g` has in `h` an arc from the same state, of at least its value, to some state that the order relates
 /// its target to.
 pub fn covers(order: &Rel, g: &[u64], h: &[u64]) -> bool
@@ -208,6 +240,9 @@ pub fn covers(order: &Rel, g: &[u64], h: &[u64]) -> bool
     requires second { IsFormed order.now.size h.now }
     ensures { IsTrue result ↔ Covers (Holds order.now.pairs) (block_graph order.now.size g.now) (block_graph order.now.size h.now) }
 {
+    if answers_itself_throughout(order, g, h) {
+        return true;
+    }
     if is_refused(order, g, h) {
         return false;
     }

@@ -4,7 +4,7 @@ ghost use Rattle.std.specs.Prelude.{◌≡◌, ◌<◌, ◌≤◌, ◌⊎◌, �
 ghost use Rattle.auto_core.specs.Game.{Holds};
 ghost use Rattle.auto_core.specs.Rows.{bit_of, HasBit};
 ghost use Rattle.graph_rows.specs.Block.{block_graph, IsFormed};
-ghost use Rattle.graph_rows.specs.Prints.{AreBitsOf, HasAnswered, HasNoAnswer, HasOwn, IsFolded, IsPicked, IsPrint, Misses, MissesAt, folded_bit, is_past, joined_pairs, picked_source, picked_target};
+ghost use Rattle.graph_rows.specs.Prints.{AreBitsOf, HasAnswered, HasNoAnswer, HasOwn, IsFolded, IsPicked, IsPrint, Misses, MissesAt, folded_bit, is_past, joined_pairs, picked_source, picked_target, spread};
 
 use crate::block;
 use crate::covering::answers;
@@ -40,33 +40,45 @@ fn folded(p: u32, q: u32) -> u32
     (p * 37 + q * 11) % 64
 }
 
+/// The state at which the j-th multiple of the step falls, where the numbers below 2^32 are spread over the n states.
+fn spread(n: u32, step: u32, j: u32) -> u32
+    requires some { 1 ≤ n }
+    requires few { j < 64 }
+    ensures is { result ≡ spread n step j }
+    ensures below { result < n }
+{
+    let place = u64::from(j) * u64::from(step) % 4_294_967_296;
+    (place * u64::from(n) / 4_294_967_296) as u32
+}
+
 /// The first state of the pair with the number `j`.
 fn source_of(n: u32, j: u32) -> u32
     requires some { 1 ≤ n }
     requires few { j < 64 }
-    ensures { result ≡ picked_source n j }
+    ensures is { result ≡ picked_source n j }
+    ensures below { result < n }
 {
-    (j * 160 + j / 4 + 32) % n
+    spread(n, 2_654_435_769, j)
 }
 
 /// The second state of the pair with the number `j`.
 fn target_of(n: u32, j: u32) -> u32
     requires some { 1 ≤ n }
     requires few { j < 64 }
-    ensures { result ≡ picked_target n j }
+    ensures is { result ≡ picked_target n j }
+    ensures below { result < n }
 {
-    (j * 77 + j / 2 + 18) % n
+    spread(n, 2_246_822_519, j)
 }
 
-/// Tells whether the graph has the pair with the number `j`.
-fn has_picked(order: &Rel, g: &[u64], j: u32) -> bool
+/// Tells whether the graph has the pair with the number `j`, which is that of these states.
+fn has_picked(order: &Rel, g: &[u64], j: u32, p: u32, q: u32) -> bool
     requires formed { IsFormed order.now.size g.now }
-    requires some { 1 ≤ order.now.size }
-    requires few { j < 64 }
-    ensures { result ≡ true → joined_pairs (block_graph order.now.size g.now) (is_past j) (picked_source order.now.size j) (picked_target order.now.size j) }
+    requires left { p < order.now.size }
+    requires right { q < order.now.size }
+    ensures { result ≡ true → joined_pairs (block_graph order.now.size g.now) (is_past j) p q }
 {
-    let n = order.size();
-    let value = block::arc(n, g, source_of(n, j), target_of(n, j));
+    let value = block::arc(order.size(), g, p, q);
     if j % 2 == 1 { value == 2 } else { value >= 1 }
 }
 
@@ -93,10 +105,12 @@ fn mark_picked(order: &Rel, g: &[u64], own: &mut [u64], answered: &mut [u64])
 {
     let n = order.size();
     for j in 0..64 {
-        if has_picked(order, g, j) {
+        let p = source_of(n, j);
+        let q = target_of(n, j);
+        if has_picked(order, g, j, p, q) {
             rows::set_bit(own, j as usize);
         }
-        if answers_pair(order, g, source_of(n, j), target_of(n, j), j % 2 == 1) {
+        if answers_pair(order, g, p, q, j % 2 == 1) {
             rows::set_bit(answered, j as usize);
         }
     }

@@ -30,23 +30,44 @@ pub(crate) struct Family {
     pub(crate) prints: Vec<Print>,
     pub(crate) live: Vec<bool>,
     pub(crate) ends: Vec<Vec<u32>>,
-    pub(crate) latest: Vec<u32>,
+    pub(crate) latest: Vec<Latest>,
 }
 
-/// The place for an element with this arc and this graph.
-fn place_of(arc: &Arc, graph: u32) -> usize {
+/// An element's number, and part of what is mixed of its arc and its graph.
+#[derive(Clone, Copy, Debug)]
+pub(crate) struct Latest {
+    pub(crate) tag: u32,
+    pub(crate) number: u32,
+}
+
+/// The arc and the graph, mixed.
+fn mixed_of(arc: &Arc, graph: u32) -> u64 {
     let mut mixed: u64 = if arc.accepting { 0x27D4EB2F165667C5 } else { 0 };
     mixed = (mixed ^ arc.from as u64).wrapping_mul(0x9E3779B97F4A7C15);
     mixed = (mixed ^ arc.to as u64).wrapping_mul(0xC2B2AE3D27D4EB4F);
     mixed = (mixed ^ graph as u64).wrapping_mul(0x9E3779B97F4A7C15);
-    (mixed ^ (mixed >> 32)) as usize & (PLACES - 1)
+    mixed ^ (mixed >> 32)
+}
+
+/// The place for an element of which this is mixed.
+fn place_of(mixed: u64) -> usize {
+    mixed as usize & (PLACES - 1)
+}
+
+/// What tells most elements at one place apart.
+fn tag_of(mixed: u64) -> u32 {
+    (mixed >> 32) as u32
 }
 
 /// Gives the place of the element to its number.
-fn take_place(latest: &mut Vec<u32>, new: &Held, number: u32) {
-    let place = place_of(&new.arc, new.graph);
+fn take_place(latest: &mut Vec<Latest>, new: &Held, number: u32) {
+    let mixed = mixed_of(&new.arc, new.graph);
+    let place = place_of(mixed);
     if place < latest.len() {
-        latest[place] = number;
+        latest[place] = Latest {
+            tag: tag_of(mixed),
+            number,
+        };
     }
 }
 
@@ -96,7 +117,10 @@ impl Family {
             prints: Vec::new(alloc),
             live: Vec::new(alloc),
             ends,
-            latest: vec![in alloc; u32::MAX; PLACES]?,
+            latest: vec![in alloc; Latest {
+                tag: 0,
+                number: u32::MAX
+            }; PLACES]?,
         })
     }
 
@@ -124,12 +148,13 @@ impl Family {
     pub(crate) fn equal_to(&self, arc: &Arc, graph: u32) -> Option<u32>
         ensures { IfSome result (IsEqualTo self.now.held.items arc.now graph) }
     {
-        let place = place_of(arc, graph);
+        let mixed = mixed_of(arc, graph);
+        let place = place_of(mixed);
         if place >= self.latest.len() {
             return None;
         }
-        let number = self.latest[place];
-        if number as usize >= self.held.len() {
+        let Latest { tag, number } = self.latest[place];
+        if tag != tag_of(mixed) || number as usize >= self.held.len() {
             return None;
         }
         let element = &self.held[number as usize];

@@ -53,24 +53,33 @@ pub struct Graphs {
     pub letter_block: Vec<u64>,
 }
 
-/// A word mixed into what is mixed already.
-fn mix(mixed: u64, word: u64) -> u64 {
-    let product = (mixed ^ word).wrapping_mul(0x9E3779B97F4A7C15);
+/// Two words mixed into what is mixed already.
+fn mix(mixed: u64, word: u64, other: u64) -> u64 {
+    let both = word ^ other.wrapping_mul(0xC2B2AE3D27D4EB4F);
+    let product = (mixed ^ both).wrapping_mul(0x9E3779B97F4A7C15);
     product ^ (product >> 29)
 }
 
-/// The words of the block, mixed: those at even places, those at odd ones, and at last both.
+/// The words of the row mixed into what is mixed already, one by one.
+fn mixed_with(mixed: u64, row: &[u64]) -> u64 {
+    let mut all = mixed;
+    for word in row {
+        all = mix(all, *word, 0);
+    }
+    all
+}
+
+/// The words of the block, mixed: of each four the first two, and the last two apart from these, and at last both.
 fn mixed_of(block: &[u64]) -> u64 {
-    let mut even = 0;
-    let mut odd = 1;
-    for i in 0..block.len() / 2 {
-        even = mix(even, block[2 * i]);
-        odd = mix(odd, block[2 * i + 1]);
+    let mut front = 0;
+    let mut back = 1;
+    let quads = block.len() / 4;
+    for i in 0..quads {
+        let quad = &block[4 * i..4 * i + 4];
+        front = mix(front, quad[0], quad[1]);
+        back = mix(back, quad[2], quad[3]);
     }
-    if block.len() % 2 == 1 {
-        even = mix(even, block[block.len() - 1]);
-    }
-    mix(even, odd)
+    mixed_with(mix(front, back, 0), &block[4 * quads..])
 }
 
 impl Graphs {

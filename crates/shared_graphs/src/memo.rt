@@ -37,7 +37,7 @@ fn place_of(first: u32, second: u32, places: usize) -> usize {
     }
     let mut mixed = (first as u64).wrapping_mul(0x9E3779B97F4A7C15);
     mixed = (mixed ^ second as u64).wrapping_mul(0xC2B2AE3D27D4EB4F);
-    ((mixed ^ (mixed >> 32)) % places as u64) as usize
+    (mixed ^ (mixed >> 32)) as usize & (places - 1)
 }
 
 impl Memo {

@@ -24,12 +24,15 @@ loop-j-preserved c =
     let P : ℕ → Type 0 = λ i. joined_pairs g (is_past i) (picked_source n i) (picked_target n i) in
     let Q : ℕ → Type 0 = λ i. (u : ℕ) → joined_pairs g (is_past i) (picked_source n i) u → Holds c.args.order.now.pairs (picked_target n i) u → ⊥ in
     let answered_not : c.answers_pair.result ≡ false → Q j = λ no u has rel.
-    c.answers_pair.ensures no u (subst (λ s. joined_pairs g (is_past j) s u) (sym (c.source_of.ensures ∙ ap (λ k. picked_source k j) c.size-n.ensures.count)) has) (subst (λ t. Holds c.args.order.now.pairs t u) (sym (c.target_of.ensures ∙ ap (λ k. picked_target k j) c.size-n.ensures.count)) rel) in
+    c.answers_pair.ensures no u (subst (λ s. joined_pairs g (is_past j) s u) (sym (c.source_of-p.ensures.is ∙ ap (λ k. picked_source k j) c.size-n.ensures.count)) has) (subst (λ t. Holds c.args.order.now.pairs t u) (sym (c.target_of-q.ensures.is ∙ ap (λ k. picked_target k j) c.size-n.ensures.count)) rel) in
+    let has_it : joined_pairs g (is_past j) c.source_of-p.result c.target_of-q.result → P j = λ has.
+    subst (λ t. joined_pairs g (is_past j) (picked_source n j) t) (c.target_of-q.ensures.is ∙ ap (λ k. picked_target k j) c.size-n.ensures.count)
+    (subst (λ s. joined_pairs g (is_past j) s c.target_of-q.result) (c.source_of-p.ensures.is ∙ ap (λ k. picked_source k j) c.size-n.ensures.count) has) in
     let own : (i : ℕ) → HasBit c.if-has_picked.own i → P i =
     elim c.if-has_picked.branch [
       | then-has_picked w ↦
           subst (λ l. (i : ℕ) → HasBit l i → P i) (sym w.own-is)
-          (own_more P c.loop-j.own w.set_bit.new.row j (c.has_picked.ensures w.if-has_picked.true) w.set_bit.ensures.others c.loop-j.invariant.0)
+          (own_more P c.loop-j.own w.set_bit.new.row j (has_it (c.has_picked.ensures w.if-has_picked.true)) w.set_bit.ensures.others c.loop-j.invariant.0)
       | else-has_picked w ↦ subst (λ l. (i : ℕ) → HasBit l i → P i) (sym w.own-is) c.loop-j.invariant.0
     ] in
     let answered : (i : ℕ) → i < j + 1 → bit_of c.if-answers_pair.answered i ≡ false → Q i =
