@@ -29,7 +29,7 @@ pub record IsStoredRanking (d : Inside) : Type 0 where
 abbrev pub no_entry : Entry
 no_entry = record { left = 0; ahead = []; right = 0; rank = None }
 
--- The entry with this number has the triple of p, the word b and q.
+-- There is an entry with this number, and the triple of p, the word b and q is listed with its rank.
 abbrev pub IsTripleAt : ℕ → List Entry → ℕ → List ℕ → ℕ → ℕ → Type 0
 IsTripleAt n entries p b q i = (i < length entries) × Contains (entry_triples n entries) (p, b, q, (slice_index_or entries i no_entry).rank)
 

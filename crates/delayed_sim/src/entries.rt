@@ -118,7 +118,7 @@ pub(crate) fn first_from(
     low
 }
 
-/// Tells whether there is an entry with this number and it has these states and this word.
+/// Is true only where there is an entry with this number and it has these states and this word.
 fn is_at(entries: &[Entry], letters: u32, at: usize, left: u32, ahead: &[u32], right: u32) -> bool
     requires from { 1 ≤ letters }
     requires upto { letters ≤ 4 }
@@ -135,7 +135,7 @@ fn is_at(entries: &[Entry], letters: u32, at: usize, left: u32, ahead: &[u32], r
 }
 
 /// The number that the entry has where words are empty and each pair of states has its entry; in general, one to be tried first.
-fn place_among_all(entries: &[Entry], left: u32, right: u32) -> usize {
+fn number_among_all(entries: &[Entry], left: u32, right: u32) -> usize {
     if entries.is_empty() {
         return 0;
     }
@@ -157,7 +157,7 @@ pub(crate) fn find(
     ensures found { IfSome result (IsTripleAt letters entries.now left ahead.now right) }
     ensures none { IfNone result ((rank : Option ℕ) → Contains (entry_triples letters entries.now) (left, ahead.now, right, rank) → ⊥) }
 {
-    let first = place_among_all(entries, left, right);
+    let first = number_among_all(entries, left, right);
     if is_at(entries, letters, first, left, ahead, right) {
         return Some(first);
     }
@@ -167,7 +167,7 @@ pub(crate) fn find(
     }
 }
 
-/// Tells whether each of the entries stands before this one.
+/// Is true only where each of the entries stands before this one.
 fn is_behind_all(entries: &[Entry], letters: u32, entry: &Entry) -> bool
     requires from { 1 ≤ letters }
     requires upto { letters ≤ 4 }

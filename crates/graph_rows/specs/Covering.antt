@@ -26,7 +26,7 @@ pub record LacksAnswer (S R Q : ℕ → ℕ → Type 0) (s : ℕ) : Type 0 where
   pub none : (u : ℕ) → Q s u → S target u → ⊥
 
 -- The second graph has each arc of the first, of at least its value.
-pub record IsWithin (g h : Graph) : Type 0 where
+pub record HasEachArc (g h : Graph) : Type 0 where
   pub joined : (s t : ℕ) → g.joined s t → h.joined s t
   pub past : (s t : ℕ) → g.past s t → h.past s t
 

@@ -5,6 +5,7 @@ use Rattle.auto_core.specs.Graph.{Graph}
 use Rattle.graph_rows.specs.Block.{block_graph}
 use Rattle.graph_rows.specs.declared.prints.PairBits.{PairBits}
 use Rattle.graph_rows.specs.declared.prints.Print.{Print}
+use Rattle.graph_rows.specs.declared.prints.TheConstants.{MOST_FOLDED, SOURCE_STEP, TARGET_STEP}
 
 -- The bit that the pair shares with others.
 abbrev pub folded_bit : ℕ → ℕ → ℕ
@@ -16,10 +17,10 @@ spread n step j = j * step % 4294967296 * n / 4294967296
 
 -- The picked pair with the number j, and whether it is asked for past an accepting state.
 abbrev pub picked_source : ℕ → ℕ → ℕ
-picked_source n j = spread n 2654435769 j
+picked_source n j = spread n SOURCE_STEP j
 
 abbrev pub picked_target : ℕ → ℕ → ℕ
-picked_target n j = spread n 2246822519 j
+picked_target n j = spread n TARGET_STEP j
 
 abbrev pub is_past : ℕ → Bool
 is_past j = j % 2 == 1
@@ -37,9 +38,9 @@ HasNoAnswer S g past p q = (u : ℕ) → joined_pairs g past p u → S q u → �
 abbrev pub IsPicked : ℕ → ℕ → Bool → ℕ → ℕ → Type 0
 IsPicked n j past p q = (1 ≤ n) × (past ≡ is_past j) × (p ≡ picked_source n j) × (q ≡ picked_target n j)
 
--- The bit j is asked about each pair that has it, up to 24 states.
+-- The bit j is asked about each pair that has it, where there are few states.
 abbrev pub IsFolded : ℕ → ℕ → Bool → ℕ → ℕ → Type 0
-IsFolded n j past p q = (n ≤ 24) × (p < n) × (q < n) × (past ≡ false) × (folded_bit p q ≡ j)
+IsFolded n j past p q = (n ≤ MOST_FOLDED) × (p < n) × (q < n) × (past ≡ false) × (folded_bit p q ≡ j)
 
 -- A bit of `own` is asked about some pair that the graph has, and a bit that `answered` has not is asked about pairs that the graph has no answer to.
 abbrev pub HasOwn : (ℕ → Bool → ℕ → ℕ → Type 0) → Graph → ℕ → Type 0

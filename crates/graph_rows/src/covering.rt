@@ -6,7 +6,7 @@ ghost use Rattle.auto_core.specs.Reach.{IsTable, HasArc};
 ghost use Rattle.auto_core.specs.Game.{Holds};
 ghost use Rattle.auto_core.specs.Graph.{Covers};
 ghost use Rattle.graph_rows.specs.Block.{width_of, block_graph, IsFormed};
-ghost use Rattle.graph_rows.specs.Covering.{AnswersArcs, AnswersWord, AreOwnAnswers, IsReflexiveBelow, IsTargetAnswered, IsWithin, LacksAnswer};
+ghost use Rattle.graph_rows.specs.Covering.{AnswersArcs, AnswersWord, AreOwnAnswers, HasEachArc, IsReflexiveBelow, IsTargetAnswered, LacksAnswer};
 
 use crate::block;
 use auto_core::rows;
@@ -115,7 +115,7 @@ fn are_answered(order: &Rel, word: usize, targets: u64, others: &[u64]) -> bool
 }
 
 /// Tells whether the number is of a state that the order relates to itself.
-fn answers_itself(order: &Rel, state: u64) -> bool
+fn is_own_answer(order: &Rel, state: u64) -> bool
     requires states_fit { order.now.size < 2 ^ 32 }
     ensures { result ≡ true → Holds order.now.pairs state state }
 {
@@ -146,7 +146,7 @@ fn mark_own_answers(order: &Rel, word: usize, states: u64, row: &mut [u64])
     let asked = [states];
     for j in 0..64 {
         if rows::has_bit(&asked, j) {
-            if answers_itself(order, word as u64 * 64 + j as u64) {
+            if is_own_answer(order, word as u64 * 64 + j as u64) {
                 rows::set_bit(row, j);
             }
         }
@@ -165,18 +165,24 @@ fn own_answers(order: &Rel, word: usize, states: u64) -> u64
 }
 
 /// Tells whether each arc of the one table to a target of the word has an answer in the other table.
-fn is_word_answered(order: &Rel, width: usize, word: usize, own: &[u64], others: &[u64]) -> bool
+fn is_word_answered(
+    order: &Rel,
+    width: usize,
+    word: usize,
+    arcs: &[u64],
+    other_arcs: &[u64],
+) -> bool
     requires width { width ≡ width_of order.now.size }
     requires states_fit { order.now.size < 2 ^ 32 }
     requires word { word < width }
-    requires own { IsTable own.now order.now.size width }
-    requires others { IsTable others.now order.now.size width }
-    ensures { IsTrue result ↔ AnswersWord (Holds order.now.pairs) (HasArc own.now order.now.size width) (HasArc others.now order.now.size width) word }
+    requires arcs { IsTable arcs.now order.now.size width }
+    requires other_arcs { IsTable other_arcs.now order.now.size width }
+    ensures { IsTrue result ↔ AnswersWord (Holds order.now.pairs) (HasArc arcs.now order.now.size width) (HasArc other_arcs.now order.now.size width) word }
 {
-    let themselves = own_answers(order, word, targets_in(width, word, order.size(), own));
+    let themselves = own_answers(order, word, targets_in(width, word, order.size(), arcs));
     for row in 0..order.size() {
-        let targets = rows::row_at(own, width, row as usize)[word];
-        let other_targets = rows::row_at(others, width, row as usize);
+        let targets = rows::row_at(arcs, width, row as usize)[word];
+        let other_targets = rows::row_at(other_arcs, width, row as usize);
         let unsure = targets & !(other_targets[word] & themselves);
         if !are_answered(order, word, unsure, other_targets) {
             return false;
@@ -186,22 +192,22 @@ fn is_word_answered(order: &Rel, width: usize, word: usize, own: &[u64], others:
 }
 
 /// Tells whether each arc of the one table has an answer in the other table.
-fn is_table_answered(order: &Rel, own: &[u64], others: &[u64]) -> bool
+fn is_table_answered(order: &Rel, arcs: &[u64], other_arcs: &[u64]) -> bool
     requires states_fit { order.now.size < 2 ^ 32 }
-    requires own { IsTable own.now order.now.size (width_of order.now.size) }
-    requires others { IsTable others.now order.now.size (width_of order.now.size) }
-    ensures { IsTrue result ↔ AnswersArcs (Holds order.now.pairs) (HasArc own.now order.now.size (width_of order.now.size)) (HasArc others.now order.now.size (width_of order.now.size)) }
+    requires arcs { IsTable arcs.now order.now.size (width_of order.now.size) }
+    requires other_arcs { IsTable other_arcs.now order.now.size (width_of order.now.size) }
+    ensures { IsTrue result ↔ AnswersArcs (Holds order.now.pairs) (HasArc arcs.now order.now.size (width_of order.now.size)) (HasArc other_arcs.now order.now.size (width_of order.now.size)) }
 {
     let width = rows::words_for(order.size());
     for word in 0..width {
-        if !is_word_answered(order, width, word, own, others) {
+        if !is_word_answered(order, width, word, arcs, other_arcs) {
             return false;
         }
     }
     true
 }
 
-/// Tells whether the order relates each state to itself.
+/// Is true only where the order relates each state to itself.
 fn is_reflexive(order: &Rel) -> bool
     requires states_fit { order.now.size < 2 ^ 32 }
     ensures { result ≡ true → IsReflexiveBelow order.now.size (Holds order.now.pairs) }
@@ -214,23 +220,23 @@ fn is_reflexive(order: &Rel) -> bool
     true
 }
 
-/// Tells whether the second graph has each arc of the first, of at least its value.
-fn is_within(states: u32, g: &[u64], h: &[u64]) -> bool
+/// Is true only where the second graph has each arc of the first, of at least its value.
+fn has_each_arc(states: u32, g: &[u64], h: &[u64]) -> bool
     requires first { IsFormed states g.now }
     requires second { IsFormed states h.now }
-    ensures { result ≡ true → IsWithin (block_graph states g.now) (block_graph states h.now) }
+    ensures { result ≡ true → HasEachArc (block_graph states g.now) (block_graph states h.now) }
 {
     subset(block::joined(states, g), block::joined(states, h))
         && subset(block::past(states, g), block::past(states, h))
 }
 
-/// Tells whether the second graph has all arcs of the first, and the order relates each state to itself: then each arc answers itself.
-fn answers_itself_throughout(order: &Rel, g: &[u64], h: &[u64]) -> bool
+/// Is true only where the first graph covers the second: the second has all arcs of the first, and the order relates each state to itself, so each arc answers itself.
+fn each_arc_answers_itself(order: &Rel, g: &[u64], h: &[u64]) -> bool
     requires first { IsFormed order.now.size g.now }
     requires second { IsFormed order.now.size h.now }
     ensures { result ≡ true → Covers (Holds order.now.pairs) (block_graph order.now.size g.now) (block_graph order.now.size h.now) }
 {
-    is_within(order.size(), g, h) && is_reflexive(order)
+    has_each_arc(order.size(), g, h) && is_reflexive(order)
 }
 
 /// Tells whether each arc of `g` has in `h` an arc from the same state, of at least its value, to some state that the order relates
@@ -240,7 +246,7 @@ pub fn covers(order: &Rel, g: &[u64], h: &[u64]) -> bool
     requires second { IsFormed order.now.size h.now }
     ensures { IsTrue result ↔ Covers (Holds order.now.pairs) (block_graph order.now.size g.now) (block_graph order.now.size h.now) }
 {
-    if answers_itself_throughout(order, g, h) {
+    if each_arc_answers_itself(order, g, h) {
         return true;
     }
     if is_refused(order, g, h) {

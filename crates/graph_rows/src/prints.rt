@@ -14,6 +14,11 @@ use bit_rel::Rel;
 /// Up to so many states, a print tells of each pair of states.
 const MOST_FOLDED: u32 = 24;
 
+/// By how much the numbers rise that are spread over the states for the first state of a picked pair, and for the second.
+const SOURCE_STEP: u32 = 2_654_435_769;
+
+const TARGET_STEP: u32 = 2_246_822_519;
+
 /// What a graph says of pairs of states by 64 bits, each of which is asked about some pairs: which of them it has, and to which of them it has an
 /// answer.
 #[derive(Clone, Copy, Debug)]
@@ -31,7 +36,7 @@ pub struct Print {
 }
 
 /// The bit that the pair shares with others.
-fn folded(p: u32, q: u32) -> u32
+fn folded_bit(p: u32, q: u32) -> u32
     requires left { p < 64 }
     requires right { q < 64 }
     ensures is { result ≡ folded_bit p q }
@@ -52,23 +57,23 @@ fn spread(n: u32, step: u32, j: u32) -> u32
 }
 
 /// The first state of the pair with the number `j`.
-fn source_of(n: u32, j: u32) -> u32
+fn picked_source(n: u32, j: u32) -> u32
     requires some { 1 ≤ n }
     requires few { j < 64 }
     ensures is { result ≡ picked_source n j }
     ensures below { result < n }
 {
-    spread(n, 2_654_435_769, j)
+    spread(n, SOURCE_STEP, j)
 }
 
 /// The second state of the pair with the number `j`.
-fn target_of(n: u32, j: u32) -> u32
+fn picked_target(n: u32, j: u32) -> u32
     requires some { 1 ≤ n }
     requires few { j < 64 }
     ensures is { result ≡ picked_target n j }
     ensures below { result < n }
 {
-    spread(n, 2_246_822_519, j)
+    spread(n, TARGET_STEP, j)
 }
 
 /// Tells whether the graph has the pair with the number `j`, which is that of these states.
@@ -105,8 +110,8 @@ fn mark_picked(order: &Rel, g: &[u64], own: &mut [u64], answered: &mut [u64])
 {
     let n = order.size();
     for j in 0..64 {
-        let p = source_of(n, j);
-        let q = target_of(n, j);
+        let p = picked_source(n, j);
+        let q = picked_target(n, j);
         if has_picked(order, g, j, p, q) {
             rows::set_bit(own, j as usize);
         }
@@ -119,7 +124,7 @@ fn mark_picked(order: &Rel, g: &[u64], own: &mut [u64], answered: &mut [u64])
 /// Sets the bit of the pair, if the graph has it, and if it has an answer to it.
 fn mark_pair(order: &Rel, g: &[u64], p: u32, q: u32, own: &mut [u64], answered: &mut [u64])
     requires formed { IsFormed order.now.size g.now }
-    requires few { order.now.size ≤ 24 }
+    requires few { order.now.size ≤ MOST_FOLDED }
     requires left { p < order.now.size }
     requires right { q < order.now.size }
     requires own { length own.old ≡ 1 }
@@ -130,7 +135,7 @@ fn mark_pair(order: &Rel, g: &[u64], p: u32, q: u32, own: &mut [u64], answered: 
     ensures own_len { length own.new ≡ 1 }
     ensures answered_len { length answered.new ≡ 1 }
 {
-    let bit = folded(p, q) as usize;
+    let bit = folded_bit(p, q) as usize;
     if block::arc(order.size(), g, p, q) >= 1 {
         rows::set_bit(own, bit);
     }
@@ -142,7 +147,7 @@ fn mark_pair(order: &Rel, g: &[u64], p: u32, q: u32, own: &mut [u64], answered: 
 /// Sets the bits of the pairs of `p`, those that the graph has, and those that it has an answer to.
 fn mark_row(order: &Rel, g: &[u64], p: u32, own: &mut [u64], answered: &mut [u64])
     requires formed { IsFormed order.now.size g.now }
-    requires few { order.now.size ≤ 24 }
+    requires few { order.now.size ≤ MOST_FOLDED }
     requires left { p < order.now.size }
     requires own { length own.old ≡ 1 }
     requires answered { length answered.old ≡ 1 }
@@ -160,7 +165,7 @@ fn mark_row(order: &Rel, g: &[u64], p: u32, own: &mut [u64], answered: &mut [u64
 /// Sets the bits of all pairs that the graph has, and of those that it has an answer to.
 fn mark_all(order: &Rel, g: &[u64], own: &mut [u64], answered: &mut [u64])
     requires formed { IsFormed order.now.size g.now }
-    requires few { order.now.size ≤ 24 }
+    requires few { order.now.size ≤ MOST_FOLDED }
     requires own { own.old ≡ 0 ∷ [] }
     requires answered { answered.old ≡ 0 ∷ [] }
     ensures own { (x : ℕ) → own.new ≡ x ∷ [] → HasOwn (IsFolded order.now.size) (block_graph order.now.size g.now) x }

@@ -18,7 +18,7 @@ returns-then-not-is_word_answered c =
       λ all.
           absurd (false≢true (sym refused
           ∙ c.is_word_answered.ensures.1
-          (subst (λ w. AnswersWord (Holds c.args.order.now.pairs) (HasArc c.args.own.now n w) (HasArc c.args.others.now n w) c.loop-word.word) (sym same) (λ s t in_word arc. all s t arc)))),
+          (subst (λ w. AnswersWord (Holds c.args.order.now.pairs) (HasArc c.args.arcs.now n w) (HasArc c.args.other_arcs.now n w) c.loop-word.word) (sym same) (λ s t in_word arc. all s t arc)))),
     )
 
 pub loop-word-preserved : goal.loop-word-preserved
@@ -33,7 +33,7 @@ pub returns : goal.returns
 returns c =
     let n : ℕ = c.args.order.now.size in
     let same : c.words_for-width.result ≡ width_of n = search rules in (
-      λ told. subst (λ w. AnswersArcs (Holds c.args.order.now.pairs) (HasArc c.args.own.now n w) (HasArc c.args.others.now n w)) same
+      λ told. subst (λ w. AnswersArcs (Holds c.args.order.now.pairs) (HasArc c.args.arcs.now n w) (HasArc c.args.other_arcs.now n w)) same
           (λ s t arc. c.loop-word.invariant s t (omega (arith, arc.1, same)) arc),
       λ all. refl,
     )

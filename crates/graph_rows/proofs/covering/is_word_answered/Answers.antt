@@ -21,8 +21,8 @@ are_answered-requires-clause-states c = λ j bit.
     let targets : List ℕ = c.row_at.result.now in
     let others : List ℕ = c.row_at-other_targets.result.now in
     let own : HasBit (get_or targets word 0 ∷ []) j = kept_bit (get_or targets word 0) (bit_not w64 (bit_and (get_or others word 0) c.own_answers-themselves.result)) j bit in
-    let arc : HasArc c.args.own.now n w c.loop-row.row (word * 64 + j) =
-    (row_marks c.args.own.now targets n w c.loop-row.row c.requires.own in_row c.row_at.ensures.bits c.row_at.ensures.outside (word * 64 + j)).0 (bit_in_row targets word j own) in
+    let arc : HasArc c.args.arcs.now n w c.loop-row.row (word * 64 + j) =
+    (row_marks c.args.arcs.now targets n w c.loop-row.row c.requires.arcs in_row c.row_at.ensures.bits c.row_at.ensures.outside (word * 64 + j)).0 (bit_in_row targets word j own) in
     arc.1
 
 pub returns-then-not-are_answered : goal.returns-then-not-are_answered
@@ -41,11 +41,11 @@ returns-then-not-are_answered c =
           let every : (j : ℕ) → HasBit (bit_and (get_or targets word 0) kept ∷ []) j → IsTargetAnswered (Holds c.args.order.now.pairs) (HasBit others) (word * 64 + j) = λ j bit.
           let below = bit_below (bit_and (get_or targets word 0) kept) j bit in
           let in_word : (word * 64 + j) / 64 ≡ word = omega (arith, below) in
-          let arc : HasArc c.args.own.now n w row (word * 64 + j) =
-          (row_marks c.args.own.now targets n w row c.requires.own in_row c.row_at.ensures.bits c.row_at.ensures.outside (word * 64 + j)).0
+          let arc : HasArc c.args.arcs.now n w row (word * 64 + j) =
+          (row_marks c.args.arcs.now targets n w row c.requires.arcs in_row c.row_at.ensures.bits c.row_at.ensures.outside (word * 64 + j)).0
           (bit_in_row targets word j (kept_bit (get_or targets word 0) kept j bit)) in
           let (u, other, rel) = all row (word * 64 + j) in_word arc in
-          (u, (row_marks c.args.others.now others n w row c.requires.others in_row c.row_at-other_targets.ensures.bits c.row_at-other_targets.ensures.outside u).1 other, rel) in
+          (u, (row_marks c.args.other_arcs.now others n w row c.requires.other_arcs in_row c.row_at-other_targets.ensures.bits c.row_at-other_targets.ensures.outside u).1 other, rel) in
           absurd (false≢true (sym refused ∙ c.are_answered.ensures.1 every)),
     )
 
@@ -64,11 +64,11 @@ loop-row-preserved c = λ s t below in_word arc.
     let own_fits : c.own_answers-themselves.result < 2 ^ 64 = search rules in
     elim (cases_eq s row) [
       | inl e ↦
-          let here : HasArc c.args.own.now n w row t = subst (λ k. HasArc c.args.own.now n w k t) e arc in
-          let bit : HasBit targets t = (row_marks c.args.own.now targets n w row c.requires.own in_row c.row_at.ensures.bits c.row_at.ensures.outside t).1 here in
+          let here : HasArc c.args.arcs.now n w row t = subst (λ k. HasArc c.args.arcs.now n w k t) e arc in
+          let bit : HasBit targets t = (row_marks c.args.arcs.now targets n w row c.requires.arcs in_row c.row_at.ensures.bits c.row_at.ensures.outside t).1 here in
           let (u, other, rel) = word_answered S targets others word c.own_answers-themselves.result fits own_fits c.own_answers-themselves.ensures (c.are_answered.ensures.0 told) t in_word bit in
-          let answer : IsTargetAnswered S (HasArc c.args.others.now n w row) t = (u, (row_marks c.args.others.now others n w row c.requires.others in_row c.row_at-other_targets.ensures.bits c.row_at-other_targets.ensures.outside u).0 other, rel) in
-          subst (λ k. IsTargetAnswered S (HasArc c.args.others.now n w k) t) (sym e) answer
+          let answer : IsTargetAnswered S (HasArc c.args.other_arcs.now n w row) t = (u, (row_marks c.args.other_arcs.now others n w row c.requires.other_arcs in_row c.row_at-other_targets.ensures.bits c.row_at-other_targets.ensures.outside u).0 other, rel) in
+          subst (λ k. IsTargetAnswered S (HasArc c.args.other_arcs.now n w k) t) (sym e) answer
       | inr other ↦ c.loop-row.invariant s t (omega arith) in_word arc
     ]
 

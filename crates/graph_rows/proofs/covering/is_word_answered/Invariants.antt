@@ -5,4 +5,4 @@ use Rattle.graph_rows.specs.Covering.{IsTargetAnswered}
 use Rattle.graph_rows.proofs.covering.is_word_answered.Given as goal
 
 abbrev pub invariant-loop-row : goal.invariant-loop-row
-invariant-loop-row l = (s t : ℕ) → s < l.row → t / 64 ≡ l.word → HasArc l.own l.order.size l.width s t → IsTargetAnswered (Holds l.order.pairs) (HasArc l.others l.order.size l.width s) t
+invariant-loop-row l = (s t : ℕ) → s < l.row → t / 64 ≡ l.word → HasArc l.arcs l.order.size l.width s t → IsTargetAnswered (Holds l.order.pairs) (HasArc l.other_arcs l.order.size l.width s) t

@@ -24,10 +24,10 @@ loop-j-preserved c =
     let P : ℕ → Type 0 = λ i. joined_pairs g (is_past i) (picked_source n i) (picked_target n i) in
     let Q : ℕ → Type 0 = λ i. (u : ℕ) → joined_pairs g (is_past i) (picked_source n i) u → Holds c.args.order.now.pairs (picked_target n i) u → ⊥ in
     let answered_not : c.answers_pair.result ≡ false → Q j = λ no u has rel.
-    c.answers_pair.ensures no u (subst (λ s. joined_pairs g (is_past j) s u) (sym (c.source_of-p.ensures.is ∙ ap (λ k. picked_source k j) c.size-n.ensures.count)) has) (subst (λ t. Holds c.args.order.now.pairs t u) (sym (c.target_of-q.ensures.is ∙ ap (λ k. picked_target k j) c.size-n.ensures.count)) rel) in
-    let has_it : joined_pairs g (is_past j) c.source_of-p.result c.target_of-q.result → P j = λ has.
-    subst (λ t. joined_pairs g (is_past j) (picked_source n j) t) (c.target_of-q.ensures.is ∙ ap (λ k. picked_target k j) c.size-n.ensures.count)
-    (subst (λ s. joined_pairs g (is_past j) s c.target_of-q.result) (c.source_of-p.ensures.is ∙ ap (λ k. picked_source k j) c.size-n.ensures.count) has) in
+    c.answers_pair.ensures no u (subst (λ s. joined_pairs g (is_past j) s u) (sym (c.picked_source-p.ensures.is ∙ ap (λ k. picked_source k j) c.size-n.ensures.count)) has) (subst (λ t. Holds c.args.order.now.pairs t u) (sym (c.picked_target-q.ensures.is ∙ ap (λ k. picked_target k j) c.size-n.ensures.count)) rel) in
+    let has_it : joined_pairs g (is_past j) c.picked_source-p.result c.picked_target-q.result → P j = λ has.
+    subst (λ t. joined_pairs g (is_past j) (picked_source n j) t) (c.picked_target-q.ensures.is ∙ ap (λ k. picked_target k j) c.size-n.ensures.count)
+    (subst (λ s. joined_pairs g (is_past j) s c.picked_target-q.result) (c.picked_source-p.ensures.is ∙ ap (λ k. picked_source k j) c.size-n.ensures.count) has) in
     let own : (i : ℕ) → HasBit c.if-has_picked.own i → P i =
     elim c.if-has_picked.branch [
       | then-has_picked w ↦
