@@ -1,14 +1,15 @@
 -- A game across two automata is a game on the automaton of both side by side.
-use Rattle.std.proofs.Common.{◌≡◌, ◌↔◌, ℕ, ◌+◌, ◌-◌, ◌<◌, ◌≤◌, inl, inr, List, [], ◌∷◌, map, refl, sym, ap, subst, arith}
+use Rattle.std.proofs.Common.{◌≡◌, ℕ, ◌+◌, ◌-◌, ◌<◌, ◌≤◌, inl, inr, Bool, leb, List, [], ◌∷◌, map, filter, refl, sym, ap, subst, arith}
+use Rattle.std.proofs.lemmas.Bool.{le-leb, leb-true}
 use Rattle.auto_core.specs.Automaton.{Automaton, IsAutomaton, Moves}
 use Rattle.auto_core.specs.Run.{PathBy, Path, end_of}
 use Rattle.auto_core.specs.Game.{MatchesForward, MayShow, Answers, Round, Stable, Holds, ArePairsBelow, IsWithin, IsGreatest, StableAcross}
 use Rattle.auto_core.proofs.MoveLemmas.{move_in_range}
-use Rattle.auto_core.proofs.MemberLemmas.{map_has, map_from}
+use Rattle.auto_core.proofs.MemberLemmas.{filter_has, filter_from, map_has, map_from}
 use Rattle.path_laws.proofs.AppliedLemmas.{across_includes}
-use Rattle.cross_sim.specs.Cross.{IsGreatestSideBySide, CrossIncludes}
+use Rattle.cross_sim.specs.Cross.{IsGreatestSideBySide, HoldsGreatestAcross, CrossIncludes}
 use Rattle.bit_rel.specs.Relation.{Relation}
-use Rattle.cross_sim.specs.Sides.{IsSideBySide, Raises, MatchesAcross, LeavesAcross}
+use Rattle.cross_sim.specs.Sides.{IsSideBySide, Raises, Lowers, MatchesAcross, LeavesAcross}
 
 -- The pair with its right number raised by n.
 abbrev pub raise : ℕ → ℕ × ℕ → ℕ × ℕ
@@ -42,10 +43,6 @@ raised_back n S R raises p r h =
     let (s, e, there) = (raises p (n + r)).0 h in
     let same : s ≡ r = omega arith in
     subst (λ z. Holds S p z) same there
-
--- The pairs of the one list are those that the other has with right numbers of n or more.
-abbrev pub Lowers : ℕ → List (ℕ × ℕ) → List (ℕ × ℕ) → Type 0
-Lowers n S R = (p r : ℕ) → Holds S p r ↔ Holds R p (n + r)
 
 pub raised_lowers : (n : ℕ) (S R : List (ℕ × ℕ)) → Raises n S R → Lowers n S R
 raised_lowers n S R raises p r = (λ h. (raises p (n + r)).1 (r, refl, h), λ h. raised_back n S R raises p r h)
@@ -132,49 +129,68 @@ module _ (A B U : Automaton) (a_valid : IsAutomaton A) (both : IsSideBySide A B 
           λ w ps path may. answered_in_second r w ps (round w ps (path_in_both p w ps path) (shown_in_both p w ps ok.0 path may)),
         )
 
+  -- The pairs of the greatest list on the automaton of both that lead into B's states are those of the greatest list across.
+  module _ (R : List (ℕ × ℕ)) (g : IsGreatest (Moves U) (Moves U) (MatchesAcross A.states U) k U.states U.states R) where
+    abbrev is_high : ℕ × ℕ → Bool
+    is_high x = leb A.states x.1
+
+    abbrev highs : List (ℕ × ℕ)
+    highs = filter is_high R
+
+    abbrev across : List (ℕ × ℕ)
+    across = map (lower A.states) highs
+
+    across_lowers : Lowers A.states across R
+    across_lowers p r =
+        let both_ways = raised_lowers A.states across highs (lowered A.states highs (λ x y h. leb-true A.states y (filter_from is_high R (x, y) h).1)) p r in (
+          λ h. (filter_from is_high R (p, A.states + r) (both_ways.0 h)).0,
+          λ h. both_ways.1 (filter_has is_high R (p, A.states + r) h (le-leb A.states (A.states + r) (omega arith))),
+        )
+
+    across_in_range : ArePairsBelow A.states B.states across
+    across_in_range p r h =
+        let there = (across_lowers p r).0 h in
+        let (_, lt) = g.in_range p (A.states + r) there in
+        ((g.stable p (A.states + r) there).0.0, omega (arith, lt, both.states))
+
+    across_has_each : (V : List (ℕ × ℕ)) → ArePairsBelow A.states B.states V → StableAcross A B k V → IsWithin V across
+    across_has_each V below stable p r h =
+        let up = raised A.states V in
+        let W = map (raise A.states) V in
+        let within : ArePairsBelow U.states U.states W = λ x y v. inside V below x y ((up x y).0 v) in
+        (across_lowers p r).1 (g.has_each W within (stable_in_both V W up below stable) p (A.states + r) ((up p (A.states + r)).1 (r, refl, h)))
+      where
+        inside : (V : List (ℕ × ℕ)) → ArePairsBelow A.states B.states V → (x y : ℕ) → ((r : ℕ) × (y ≡ A.states + r) × Holds V x r) → (x < U.states) × (y < U.states)
+        inside V below x y (r, e, there) =
+            let (left, right) = below x r there in
+            (omega (arith, left, both.states), omega (arith, right, e, both.states))
+
+    pub greatest_held : HoldsGreatestAcross A B k R
+    greatest_held = record {
+      across = across;
+      is_greatest = record { in_range = across_in_range; stable = stable_apart across R across_lowers g.stable; has_each = across_has_each };
+      pairs = across_lowers;
+    }
+
   pub greatest_cross :
       (R T : Relation)
       → IsGreatest (Moves U) (Moves U) (MatchesAcross A.states U) k U.states U.states R.pairs
       → LeavesAcross A.states A.states R T
       → IsGreatestSideBySide A B k T.pairs
-  greatest_cross R T g leaves = record {
-    across = S;
-    is_greatest = record { in_range = in_range; stable = stable_apart S R.pairs lowers g.stable; has_each = has_each };
-    pairs = raises;
-  }
-    where
-      S : List (ℕ × ℕ)
-      S = map (lower A.states) T.pairs
-
-      high : (p q : ℕ) → Holds T.pairs p q → A.states ≤ q
-      high p q h = let (held, right) = (leaves.pairs p q).0 h in right (g.stable p q held).0.0
-
-      raises : Raises A.states S T.pairs
-      raises = lowered A.states T.pairs high
-
-      lowers : Lowers A.states S R.pairs
-      lowers p r = (
-        λ h. ((leaves.pairs p (A.states + r)).0 ((raises p (A.states + r)).1 (r, refl, h))).0,
-        λ h. raised_back A.states S T.pairs raises p r ((leaves.pairs p (A.states + r)).1 (h, λ _. omega arith)),
-      )
-
-      in_range : ArePairsBelow A.states B.states S
-      in_range p r h =
-          let there = (lowers p r).0 h in
-          let (_, lt) = g.in_range p (A.states + r) there in
-          ((g.stable p (A.states + r) there).0.0, omega (arith, lt, both.states))
-
-      has_each : (V : List (ℕ × ℕ)) → ArePairsBelow A.states B.states V → StableAcross A B k V → IsWithin V S
-      has_each V below stable p r h =
-          let up = raised A.states V in
-          let W = map (raise A.states) V in
-          let within : ArePairsBelow U.states U.states W = λ x y v. inside V below x y ((up x y).0 v) in
-          (lowers p r).1 (g.has_each W within (stable_in_both V W up below stable) p (A.states + r) ((up p (A.states + r)).1 (r, refl, h)))
-        where
-          inside : (V : List (ℕ × ℕ)) → ArePairsBelow A.states B.states V → (x y : ℕ) → ((r : ℕ) × (y ≡ A.states + r) × Holds V x r) → (x < U.states) × (y < U.states)
-          inside V below x y (r, e, there) =
-              let (left, right) = below x r there in
-              (omega (arith, left, both.states), omega (arith, right, e, both.states))
+  greatest_cross R T g leaves =
+      let held = greatest_held R.pairs g in
+      record {
+        across = held.across;
+        is_greatest = held.is_greatest;
+        pairs = λ p q. (
+          λ h.
+              let (there, high) = (leaves.pairs p q).0 h in
+              let le = high (g.stable p q there).0.0 in
+              let same : q ≡ A.states + (q - A.states) = omega (arith, le) in
+              (q - A.states, same, (held.pairs p (q - A.states)).1 (subst (λ z. Holds R.pairs p z) same there)),
+          λ (r, e, h). subst (λ z. Holds T.pairs p z) (sym e) ((leaves.pairs p (A.states + r)).1 ((held.pairs p r).0 h, λ _. omega arith)),
+        );
+      }
 
   -- A pair that no stable list on the automaton of both has is in no list that is stable across.
   pub never_across :
@@ -195,6 +211,9 @@ module _ (A B U : Automaton) (a_valid : IsAutomaton A) (both : IsSideBySide A B 
       inside x y (r, e, there) =
           let (left, right) = below x r there in
           (omega (arith, left, both.states), omega (arith, right, e, both.states))
+
+pub held_side_by_side : (A B : Automaton) (k : ℕ) (R : List (ℕ × ℕ)) → IsGreatestSideBySide A B k R → HoldsGreatestAcross A B k R
+held_side_by_side A B k R g = record { across = g.across; is_greatest = g.is_greatest; pairs = raised_lowers A.states g.across R g.pairs }
 
 pub cross_includes : CrossIncludes
 cross_includes A B k R valid some g held mode =

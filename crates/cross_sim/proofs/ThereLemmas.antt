@@ -7,9 +7,9 @@ use Rattle.greatest_laws.proofs.GreatestLemmas.{greatest_across_is_there}
 use Rattle.relation_rows.specs.Rows.{HoldsFrom, AreRights, AreRows}
 use Rattle.relation_rows.proofs.RowLemmas.{rights_none, rights_more, rights_same, rows_none, rows_more, rows_same}
 use Rattle.cross_text.specs.declared.types.Cross.{Cross}
-use Rattle.cross_sim.specs.Cross.{IsGreatestSideBySide}
+use Rattle.cross_sim.specs.Cross.{HoldsGreatestAcross}
 use Rattle.cross_sim.specs.Written.{GreatestCrossIsThere}
-use Rattle.cross_sim.proofs.CrossLemmas.{raise, raised}
+use Rattle.cross_sim.proofs.CrossLemmas.{raise, raised, raised_lowers}
 use Rattle.cross_sim.proofs.WrittenLemmas.{cross_made}
 
 rights_there : (S : List (ℕ × ℕ)) (n left i : ℕ) → (rights : List ℕ) × AreRights (HoldsFrom S n i) left rights
@@ -48,7 +48,7 @@ greatest_cross_is_there pair look first second labels upto =
     let B = pair.second in
     let (S, g) = greatest_across_is_there A B look in
     let R = map (raise A.states) S in
-    let greatest : IsGreatestSideBySide A B look R = record { across = S; is_greatest = g; pairs = raised A.states S } in
+    let greatest : HoldsGreatestAcross A B look R = record { across = S; is_greatest = g; pairs = raised_lowers A.states S R (raised A.states S) } in
     let (rows, are) = rows_there R A.states B.states (omega arith) A.states (omega arith) in
     let cross : Cross = record { first_states = A.states; second_states = B.states; labels = length pair.labels; look = look; rows = rows } in
     (cross, cross_made pair look R cross first second labels upto (refl, refl, refl) refl greatest are)

@@ -1,5 +1,5 @@
 -- The rows of the greatest cross relation, and what follows for a cross relation that is written.
-use Rattle.std.proofs.Common.{◌≡◌, ◌↔◌, ℕ, ◌+◌, ◌<◌, ◌≤◌, List, length, refl, sym, ◌∙◌, subst, arith}
+use Rattle.std.proofs.Common.{◌≡◌, ◌↔◌, ℕ, ◌+◌, ◌<◌, ◌≤◌, List, length, sym, ◌∙◌, subst, arith}
 use Rattle.std.proofs.lemmas.Bool.{and_from, lt-ltb}
 use Rattle.auto_core.specs.Automaton.{Automaton, Moves}
 use Rattle.auto_core.specs.Game.{Holds, MatchesForward, StableAcross, IsGreatestAcross}
@@ -12,10 +12,9 @@ use Rattle.relation_rows.specs.Rows.{HoldsFrom, AreRows}
 use Rattle.relation_rows.proofs.RowBoundLemmas.{rows_below}
 use Rattle.relation_rows.proofs.SameRowsLemmas.{one_rows}
 use Rattle.cross_text.specs.declared.types.Cross.{Cross}
-use Rattle.cross_sim.specs.Cross.{IsGreatestSideBySide}
+use Rattle.cross_sim.specs.Cross.{HoldsGreatestAcross}
 use Rattle.cross_sim.specs.Rules.{HasCrossSizes, pairs_across}
 use Rattle.cross_sim.specs.Written.{IsCrossOfGreatest, CrossIsOne, GreatestCrossKeepsRules}
-use Rattle.cross_sim.proofs.CrossLemmas.{raised_back}
 use Rattle.cross_sim.proofs.CheckLemmas.{rows_formed}
 
 -- Which list is the greatest is a matter of its pairs alone.
@@ -29,11 +28,11 @@ greatest_alike A B k S T same g = record {
 }
 
 -- The rows of the relation on both automata list the pairs across.
-module _ (A B : Automaton) (k : ℕ) (R : List (ℕ × ℕ)) (g : IsGreatestSideBySide A B k R) (rows : List Row) (are : AreRows (HoldsFrom R A.states B.states) A.states rows) where
+module _ (A B : Automaton) (k : ℕ) (R : List (ℕ × ℕ)) (g : HoldsGreatestAcross A B k R) (rows : List Row) (are : AreRows (HoldsFrom R A.states B.states) A.states rows) where
   rows_list : (p q : ℕ) → Holds g.across p q ↔ Holds (pairs_of (record { rows = rows })) p q
   rows_list p q = (
-    λ h. let (left, right) = g.is_greatest.in_range p q h in (are.has p q).1 (left, (right, (g.pairs p (A.states + q)).1 (q, refl, h))),
-    λ h. raised_back A.states g.across R g.pairs p q ((are.has p q).0 h).1.1,
+    λ h. let (left, right) = g.is_greatest.in_range p q h in (are.has p q).1 (left, (right, (g.pairs p q).0 h)),
+    λ h. (g.pairs p q).1 ((are.has p q).0 h).1.1,
   )
 
   pub greatest_listed : IsGreatestAcross A B k (pairs_of (record { rows = rows }))
@@ -51,7 +50,7 @@ pub cross_made :
     → look ≤ 6
     → HasCrossSizes pair cross
     → cross.look ≡ look
-    → IsGreatestSideBySide pair.first pair.second look R
+    → HoldsGreatestAcross pair.first pair.second look R
     → AreRows (HoldsFrom R pair.first.states pair.second.states) pair.first.states cross.rows
     → IsCrossOfGreatest pair look cross
 cross_made pair look R cross first second labels upto sizes look_is g are = record {

@@ -16,6 +16,10 @@ pub record IsSideBySide (A B U : Automaton) : Type 0 where
 abbrev pub Raises : ℕ → List (ℕ × ℕ) → List (ℕ × ℕ) → Type 0
 Raises n S R = (p q : ℕ) → Holds R p q ↔ ((r : ℕ) × (q ≡ n + r) × Holds S p r)
 
+-- S holds the pairs of R whose right numbers are n or more, these lowered by n.
+abbrev pub Lowers : ℕ → List (ℕ × ℕ) → List (ℕ × ℕ) → Type 0
+Lowers n S R = (p r : ℕ) → Holds S p r ↔ Holds R p (n + r)
+
 -- p is one of the first n states, and q is accepting if p is.
 abbrev pub MatchesAcross : ℕ → Automaton → ℕ → ℕ → Type 0
 MatchesAcross n U p q = (p < n) × MatchesForward U U p q

@@ -7,8 +7,8 @@ ghost use Rattle.cross_sim.specs.Rules.{pairs_across};
 ghost use Rattle.cross_sim.specs.Written.{IsCrossOfGreatest};
 
 use crate::across::Across;
-use crate::simulation::{leave_across, side_by_side};
-use crate::written::cross_of;
+use crate::simulation::side_by_side;
+use crate::written::cross_within;
 use auto_core::Memory;
 use ba_format::Joined;
 use cross_text::Cross;
@@ -41,11 +41,7 @@ pub fn find_cross(alloc: Global, pair: &Joined, look: u32) -> Result<Option<Cros
     let left = pair.first.initial();
     let right = firsts + pair.second.initial();
     match greatest_with(alloc, &side, &both, look, left, right)? {
-        Some(found) => {
-            let mut rel = found;
-            leave_across(&mut rel, firsts);
-            Ok(Some(cross_of(alloc, pair, look, &rel)?))
-        }
+        Some(rel) => Ok(Some(cross_within(alloc, pair, look, &rel)?)),
         None => Ok(None),
     }
 }

@@ -49,7 +49,7 @@ fn leave_row_across(rel: &mut Rel, p: u32, firsts: u32)
 }
 
 /// Takes away the pairs of two of the first `firsts` states.
-pub(crate) fn leave_across(rel: &mut Rel, firsts: u32)
+fn leave_across(rel: &mut Rel, firsts: u32)
     requires firsts { firsts ≤ rel.old.size }
     ensures { LeavesAcross firsts firsts rel.old rel.new }
 {

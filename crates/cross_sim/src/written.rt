@@ -2,7 +2,7 @@
 
 ghost use Rattle.std.specs.Prelude.{◌≡◌, ◌+◌, ◌≤◌, ◌↔◌, length, IfOk};
 ghost use Rattle.auto_core.specs.Game.{Holds};
-ghost use Rattle.cross_sim.specs.Cross.{IsGreatestSideBySide};
+ghost use Rattle.cross_sim.specs.Cross.{IsGreatestSideBySide, HoldsGreatestAcross};
 ghost use Rattle.cross_sim.specs.Rules.{pairs_across};
 ghost use Rattle.cross_sim.specs.Written.{IsCrossOfGreatest};
 
@@ -13,10 +13,15 @@ use cross_text::Cross;
 use relation_rows::rows_of;
 use std::alloc::Global;
 
-/// The cross relation of what `relation` gives at this lookahead, its right numbers the second automaton's own. It has a text.
-pub fn cross_of(alloc: Global, pair: &Joined, look: u32, rel: &Rel) -> Result<Cross, Memory>
+/// The cross relation of the pairs that lead into the second automaton's states, its right numbers the second automaton's own. It has a text.
+pub(crate) fn cross_within(
+    alloc: Global,
+    pair: &Joined,
+    look: u32,
+    rel: &Rel,
+) -> Result<Cross, Memory>
     requires size { rel.now.size ≡ pair.now.first.states + pair.now.second.states }
-    requires greatest { IsGreatestSideBySide pair.now.first pair.now.second look rel.now.pairs }
+    requires greatest { HoldsGreatestAcross pair.now.first pair.now.second look rel.now.pairs }
     requires first_few { pair.now.first.states ≤ 2048 }
     requires second_few { pair.now.second.states ≤ 512 }
     requires labels { length pair.now.labels ≤ 512 }
@@ -36,4 +41,20 @@ pub fn cross_of(alloc: Global, pair: &Joined, look: u32, rel: &Rel) -> Result<Cr
         look,
         rows,
     })
+}
+
+/// The cross relation of what `relation` gives at this lookahead, its right numbers the second automaton's own. It has a text.
+pub fn cross_of(alloc: Global, pair: &Joined, look: u32, rel: &Rel) -> Result<Cross, Memory>
+    requires size { rel.now.size ≡ pair.now.first.states + pair.now.second.states }
+    requires greatest { IsGreatestSideBySide pair.now.first pair.now.second look rel.now.pairs }
+    requires first_few { pair.now.first.states ≤ 2048 }
+    requires second_few { pair.now.second.states ≤ 512 }
+    requires labels { length pair.now.labels ≤ 512 }
+    requires look_upto { look ≤ 6 }
+    ensures of { IfOk result (IsCrossOfGreatest pair.now look) }
+    ensures initial { IfOk result (λ cross.
+        Holds rel.now.pairs pair.now.first.initial (pair.now.first.states + pair.now.second.initial)
+        ↔ Holds (pairs_across cross) pair.now.first.initial pair.now.second.initial) }
+{
+    cross_within(alloc, pair, look, rel)
 }

@@ -1,33 +1,28 @@
-use Rattle.std.proofs.Common.{ℕ, ◌+◌, ◌<◌, ◌≤◌, List, IfSome, sym, subst, arith, rules}
+use Rattle.std.proofs.Common.{ℕ, ◌+◌, List, IfSome, sym, subst, rules}
 use Rattle.auto_core.specs.Automaton.{Moves}
 use Rattle.auto_core.specs.Game.{Holds, IsGreatest, ArePairsBelow, Stable}
 use Rattle.cross_sim.specs.Rules.{pairs_across}
 use Rattle.bit_rel.specs.Relation.{Relation}
-use Rattle.cross_sim.specs.Sides.{MatchesAcross, LeavesAcross}
-use Rattle.cross_sim.proofs.CrossLemmas.{greatest_cross, never_across}
+use Rattle.cross_sim.specs.Sides.{MatchesAcross}
+use Rattle.cross_sim.proofs.CrossLemmas.{greatest_held, never_across}
 use Rattle.cross_sim.proofs.finding.find_cross.Goals as goal
 
-pub cross_of-requires-clause-greatest : goal.cross_of-requires-clause-greatest
-cross_of-requires-clause-greatest c =
+pub cross_within-requires-clause-greatest : goal.cross_within-requires-clause-greatest
+cross_within-requires-clause-greatest c =
     let A = c.args.pair.now.first in
     let B = c.args.pair.now.second in
     let U = c.in_ok-both.both in
-    let R = c.in-Some.found in
-    let T = c.leave_across.new.rel in
-    let count = c.states-firsts.ensures.count in
     let Q : ℕ → Relation → Type 0 = λ n r. IsGreatest (Moves U) (Moves U) (MatchesAcross n U) c.args.look U.states U.states r.pairs in
-    let P : ℕ → Type 0 = λ n. IfSome c.in_ok-found.field-0 (Q n) in
-    let L : ℕ → Type 0 = λ n. LeavesAcross n n R T in
-    let g = subst (λ o. IfSome o (Q A.states)) c.in-Some.is (subst P count c.in_ok-found.ensures.greatest) in
-    greatest_cross A B U c.states-firsts.ensures.valid c.in_ok-both.ensures c.args.look R T g (subst L count c.leave_across.ensures)
+    let P : ℕ → Type 0 = λ n. IfSome c.in_ok-rel.field-0 (Q n) in
+    let g = subst (λ o. IfSome o (Q A.states)) c.in-Some.is (subst P c.states-firsts.ensures.count c.in_ok-rel.ensures.greatest) in
+    greatest_held A B U c.states-firsts.ensures.valid c.in_ok-both.ensures c.args.look c.in-Some.rel.pairs g
 
 pub returns-in-Some-clause-has : goal.returns-in-Some-clause-has
 returns-in-Some-clause-has c =
     let A = c.args.pair.now.first in
     let B = c.args.pair.now.second in
-    let has : Holds c.in-Some.found.pairs A.initial (A.states + B.initial) = search rules in
-    let high : A.initial < c.states-firsts.result → c.states-firsts.result ≤ A.states + B.initial = λ _. omega (arith, c.states-firsts.ensures.count) in
-    c.in_ok-cross_of-in-Some.ensures.initial.0 ((c.leave_across.ensures.pairs A.initial (A.states + B.initial)).1 (has, high))
+    let has : Holds c.in-Some.rel.pairs A.initial (A.states + B.initial) = search rules in
+    c.in_ok-cross_within-in-Some.ensures.initial.0 has
 
 pub returns-clause-lacks : goal.returns-clause-lacks
 returns-clause-lacks c = λ _ cross of held.
@@ -39,7 +34,7 @@ returns-clause-lacks c = λ _ cross of held.
     let count = sym c.states-firsts.ensures.count in
     let left : Holds T c.initial-left.result (A.states + B.initial) = subst (λ p. Holds T p (A.states + B.initial)) (sym c.initial-left.ensures.state) there in
     let right : Holds T c.initial-left.result (A.states + c.initial.result) = subst (λ q. Holds T c.initial-left.result (A.states + q)) (sym c.initial.ensures.state) left in
-    c.in_ok-found.ensures.lacks c.in-None.is T below
+    c.in_ok-rel.ensures.lacks c.in-None.is T below
     (subst (λ n. Stable (Moves U) (Moves U) (MatchesAcross n U) c.args.look (Holds T)) count stable)
     (subst (λ n. Holds T c.initial-left.result (n + c.initial.result)) count right)
     in
