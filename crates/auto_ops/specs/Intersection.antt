@@ -9,7 +9,8 @@ use Rattle.auto_core.specs.declared.parts.Mode.TheVariants.{Buchi, Finite}
 use Rattle.auto_core.specs.declared.parts.Trans.{Trans}
 use Rattle.ba_format.specs.Sight.{first_seen}
 use Rattle.auto_ops.specs.declared.product_states.ProductState.{ProductState}
-use Rattle.auto_ops.specs.Limits.{most_states, most_transitions, most_labels, AreMoreThan}
+use Rattle.auto_ops.specs.declared.limits.TheConstants.{MOST_STATES, MOST_TRANSITIONS, MOST_LABELS}
+use Rattle.auto_ops.specs.Limits.{AreMoreThan}
 
 -- The product state with these parts.
 abbrev pub product_state : ℕ → ℕ → Bool → ProductState
@@ -105,6 +106,6 @@ pub record IsIntersection (mode : Mode) (A B C : Automaton) : Type 0 where
 -- The intersection has more states, transitions or labels than a result may have.
 abbrev pub IsIntersectionTooLarge : Mode → Automaton → Automaton → Type 0
 IsIntersectionTooLarge mode A B =
-    (most_labels < A.labels)
-    ⊎ AreMoreThan most_states (IsProductReached mode A B)
-    ⊎ AreMoreThan most_transitions (λ (m : ProductMove). IsProductReached mode A B m.source × GoesBeside mode A B m.source m.label m.target)
+    (MOST_LABELS < A.labels)
+    ⊎ AreMoreThan MOST_STATES (IsProductReached mode A B)
+    ⊎ AreMoreThan MOST_TRANSITIONS (λ (m : ProductMove). IsProductReached mode A B m.source × GoesBeside mode A B m.source m.label m.target)

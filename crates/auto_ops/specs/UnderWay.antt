@@ -7,7 +7,7 @@ use Rattle.auto_core.specs.declared.parts.Trans.{Trans}
 use Rattle.ba_format.specs.Sight.{first_seen}
 use Rattle.auto_ops.specs.declared.product_states.ProductState.{ProductState}
 use Rattle.auto_ops.specs.Intersection.{ProductMove, same_product_state, seen_by, start_of, moves_from, IsProductReached, AreNumberedBySight}
-use Rattle.auto_ops.specs.Limits.{most_states, most_transitions}
+use Rattle.auto_ops.specs.declared.limits.TheConstants.{MOST_STATES, MOST_TRANSITIONS}
 
 -- The transition is the move under the numbers of the product states.
 abbrev pub IsMoveNumbered : List ProductState → Trans → ProductMove → Type 0
@@ -31,12 +31,12 @@ pub record IsUnderWay (A B : Automaton) (moves : List ProductMove) (product_stat
 
 -- These moves see too many product states, or are too many.
 abbrev pub AreTooMany : Automaton → Automaton → List ProductMove → Type 0
-AreTooMany A B moves = (most_states < length (first_seen same_product_state (seen_by A B moves))) ⊎ (most_transitions < length moves)
+AreTooMany A B moves = (MOST_STATES < length (first_seen same_product_state (seen_by A B moves))) ⊎ (MOST_TRANSITIONS < length moves)
 
 -- No more product states and transitions than a result may have, and parts of the product states that are states.
 pub record IsRoomy (A B : Automaton) (product_states : List ProductState) (transitions : List Trans) : Type 0 where
-  pub few : length product_states ≤ most_states
-  pub few_transitions : length transitions ≤ most_transitions
+  pub few : length product_states ≤ MOST_STATES
+  pub few_transitions : length transitions ≤ MOST_TRANSITIONS
   pub inside : All (IsInside A B) product_states
 
 -- Nothing was gone through: there is the start alone.

@@ -4,7 +4,8 @@ use Rattle.auto_core.specs.Automaton.{Automaton, IsAutomaton, Moves, IsAccepting
 use Rattle.auto_core.specs.declared.parts.Mode.{Mode}
 use Rattle.auto_core.specs.declared.parts.Mode.TheVariants.{Finite}
 use Rattle.auto_core.specs.declared.parts.Trans.{Trans}
-use Rattle.auto_ops.specs.Limits.{most_states, most_transitions, most_labels, AreMoreThan}
+use Rattle.auto_ops.specs.declared.limits.TheConstants.{MOST_STATES, MOST_TRANSITIONS, MOST_LABELS}
+use Rattle.auto_ops.specs.Limits.{AreMoreThan}
 
 -- Where the state r of A has the number offset + r: a move of A under these numbers, or a copy that leaves the new state 0 of a move
 -- that leaves A's initial state.
@@ -42,6 +43,6 @@ pub record IsUnion (mode : Mode) (A B U : Automaton) : Type 0 where
 -- The union has more states, transitions or labels than a result may have.
 abbrev pub IsUnionTooLarge : Automaton → Automaton → Type 0
 IsUnionTooLarge A B =
-    (most_labels < A.labels)
-    ⊎ (most_states < second_offset A + B.states)
-    ⊎ AreMoreThan most_transitions (λ (t : Trans). UnionMoves A B t.source t.label t.target)
+    (MOST_LABELS < A.labels)
+    ⊎ (MOST_STATES < second_offset A + B.states)
+    ⊎ AreMoreThan MOST_TRANSITIONS (λ (t : Trans). UnionMoves A B t.source t.label t.target)

@@ -6,7 +6,7 @@ use Rattle.auto_core.specs.declared.parts.Mode.{Mode}
 use Rattle.auto_core.specs.declared.parts.Mode.TheVariants.{Buchi, Finite}
 use Rattle.auto_core.specs.declared.parts.Trans.{Trans}
 use Rattle.auto_ops.specs.Union.{second_offset}
-use Rattle.auto_ops.specs.Limits.{most_states, most_transitions, most_labels}
+use Rattle.auto_ops.specs.declared.limits.TheConstants.{MOST_STATES, MOST_TRANSITIONS, MOST_LABELS}
 
 -- The transition with both of its states shifted by the offset.
 abbrev pub shifted : ℕ → Trans → Trans
@@ -52,6 +52,6 @@ union_accepting mode A B =
 
 -- The union is not too large.
 pub record IsSmallUnion (A B : Automaton) : Type 0 where
-  pub labels : A.labels ≤ most_labels
-  pub states : second_offset A + B.states ≤ most_states
-  pub transitions : length (union_transitions A B) ≤ most_transitions
+  pub labels : A.labels ≤ MOST_LABELS
+  pub states : second_offset A + B.states ≤ MOST_STATES
+  pub transitions : length (union_transitions A B) ≤ MOST_TRANSITIONS

@@ -6,7 +6,6 @@ ghost use Rattle.auto_core.specs.Automaton.{IsAutomaton, trans};
 ghost use Rattle.auto_core.specs.Outcome.{At};
 ghost use Rattle.auto_core.specs.declared.parts.Trans.{Trans as Step};
 ghost use Rattle.ba_format.specs.Sight.{noted};
-ghost use Rattle.auto_ops.specs.Limits.{most_states, most_transitions};
 ghost use Rattle.auto_ops.specs.Intersection.{ProductMove, same_product_state, awaits_after, moves_beside, moves_of, moves_from, start_of, AreNumberedBySight, IsProductReached};
 ghost use Rattle.auto_ops.specs.UnderWay.{AreMoves, IsInside, IsUnderWay, AreTooMany, IsRoomy, IsBegun};
 
@@ -46,12 +45,12 @@ impl Product {
 
     /// The number of the product state, which is a new one if it is not there.
     fn number_of(&mut self, product_state: ProductState) -> Result<u32, OpFault>
-        requires { length self.old.product_states.items ≤ most_states }
+        requires { length self.old.product_states.items ≤ MOST_STATES }
         ensures numbered { IfOk result (λ n. At self.new.product_states.items n product_state) }
         ensures noted { OnOk result (self.new.product_states.items ≡ noted same_product_state self.old.product_states.items product_state) }
-        ensures few { OnOk result (length self.new.product_states.items ≤ most_states) }
+        ensures few { OnOk result (length self.new.product_states.items ≤ MOST_STATES) }
         ensures transitions { OnOk result (self.new.transitions.items ≡ self.old.transitions.items) }
-        ensures too_large { result ≡ Err OpFault.TooLarge → most_states < length (noted same_product_state self.old.product_states.items product_state) }
+        ensures too_large { result ≡ Err OpFault.TooLarge → MOST_STATES < length (noted same_product_state self.old.product_states.items product_state) }
     {
         let number = find(&self.product_states, product_state);
         if number < self.product_states.len() {
@@ -66,17 +65,17 @@ impl Product {
 
     /// Adds a transition from a product state's number to a product state, which is numbered if it is new.
     fn add(&mut self, number: u32, label: u32, to: ProductState) -> Result<(), OpFault>
-        requires few { length self.old.product_states.items ≤ most_states }
-        requires few_transitions { length self.old.transitions.items ≤ most_transitions }
+        requires few { length self.old.product_states.items ≤ MOST_STATES }
+        requires few_transitions { length self.old.transitions.items ≤ MOST_TRANSITIONS }
         ensures noted { OnOk result (self.new.product_states.items ≡ noted same_product_state self.old.product_states.items to) }
         ensures added { OnOk result ((target : ℕ)
             × At self.new.product_states.items target to
             × (self.new.transitions.items ≡ self.old.transitions.items ++ trans number label target ∷ [])) }
-        ensures few { OnOk result (length self.new.product_states.items ≤ most_states) }
-        ensures few_transitions { OnOk result (length self.new.transitions.items ≤ most_transitions) }
+        ensures few { OnOk result (length self.new.product_states.items ≤ MOST_STATES) }
+        ensures few_transitions { OnOk result (length self.new.transitions.items ≤ MOST_TRANSITIONS) }
         ensures too_large { result ≡ Err OpFault.TooLarge
-            → (most_states < length (noted same_product_state self.old.product_states.items to))
-            ⊎ (most_transitions < length self.old.transitions.items + 1) }
+            → (MOST_STATES < length (noted same_product_state self.old.product_states.items to))
+            ⊎ (MOST_TRANSITIONS < length self.old.transitions.items + 1) }
     {
         if self.transitions.len() == MOST_TRANSITIONS {
             return Err(OpFault::TooLarge);

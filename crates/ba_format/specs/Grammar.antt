@@ -2,6 +2,7 @@
 use Rattle.std.specs.Prelude.{ℕ, ◌+◌, Bool, not, ◌&&◌, ◌||◌, List, [], ◌∷◌, reverse, length, count_by, if◌then◌else◌, ◌==◌, nat_lt, Option, None, Some}
 use Rattle.std.specs.List.{list_any, slice_split, before_first, after_first}
 use Rattle.text_lines.specs.Cut.{is_newline}
+use Rattle.ba_format.specs.declared.lines.TheConstants.{TOKEN_LIMIT}
 use Rattle.ba_format.specs.declared.parts.BaKind.{BaKind}
 use Rattle.ba_format.specs.declared.parts.BaKind.TheVariants.{BadByte, Shape, EmptyToken, TokenLong}
 
@@ -96,7 +97,7 @@ is_empty token = length token == 0
 
 -- A token has at most 255 bytes.
 abbrev pub is_long : List ℕ → Bool
-is_long token = nat_lt 255 (length token)
+is_long token = nat_lt TOKEN_LIMIT (length token)
 
 -- What is wrong with the tokens of a line: the least kind.
 abbrev pub token_fault : LineContent → Option BaKind

@@ -7,6 +7,7 @@ use Rattle.auto_core.specs.declared.parts.Mode.{Mode}
 use Rattle.ba_format.specs.declared.parts.Limits.{Limits}
 use Rattle.ba_format.specs.declared.parts.Named.{Named}
 use Rattle.ba_format.specs.declared.parts.Joined.{Joined}
+use Rattle.ba_format.specs.declared.lines.TheConstants.{TOKEN_LIMIT}
 use Rattle.ba_format.specs.Sight.{AreDifferent}
 use Rattle.ba_format.specs.Grammar.{is_bad, is_blank, is_comma, arrows}
 use Rattle.ba_format.specs.Faults.{fault_of, contents_of, names_of, labels_of, transitions_of}
@@ -40,7 +41,7 @@ JoinsAsOne = (first second : Named) (one two : Joined) → IsJoined first second
 -- without a blank at its ends.
 pub record IsLabelText (text : List ℕ) : Type 0 where
   pub some : 0 < length text
-  pub short : length text ≤ 255
+  pub short : length text ≤ TOKEN_LIMIT
   pub good : list_any is_bad text ≡ false
   pub no_comma : list_any is_comma text ≡ false
   pub no_arrow : arrows text ≡ 0

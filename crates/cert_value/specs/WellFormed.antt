@@ -30,10 +30,11 @@ use Rattle.cert_value.specs.declared.types.Element.{Element}
 use Rattle.cert_value.specs.declared.types.Mark.{Mark}
 use Rattle.cert_value.specs.declared.types.Mark.TheVariants as mark
 use Rattle.cert_value.specs.declared.types.StepLine.{StepLine}
+use Rattle.cert_value.specs.declared.checks.TheConstants.{TOO_LONG}
 
 -- A number of at most nine digits.
 abbrev pub is_short : ℕ → Bool
-is_short n = nat_lt n 1000000000
+is_short n = nat_lt n TOO_LONG
 
 -- Numbers of at most nine digits.
 abbrev pub are_short : List ℕ → Bool

@@ -27,7 +27,7 @@ pub fn is_short(number: u32) -> bool
 pub fn is_short_count(count: usize) -> bool
     ensures { result ≡ is_short count }
 {
-    count < 1_000_000_000
+    count < TOO_LONG as usize
 }
 
 /// Whether all numbers have at most nine digits.

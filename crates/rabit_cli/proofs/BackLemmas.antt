@@ -32,7 +32,7 @@ use Rattle.reduce_loop.specs.declared.steps.Foresight.{Foresight}
 use Rattle.reduce_loop.specs.Passes.{IsReduced}
 use Rattle.reduce_loop.specs.Settled.{IsSettled}
 use Rattle.reduce_loop.proofs.PassLemmas.{reduced_no_larger}
-use Rattle.rabit_replies.specs.Files.{first_limits}
+use Rattle.rabit_replies.specs.declared.files.TheConstants.{FIRST_LIMITS}
 use Rattle.rabit_cli.specs.Reduce.{printed_limits, ReadsBackSame}
 use Rattle.rabit_cli.proofs.LabelLemmas.{reduced_labels}
 
@@ -196,18 +196,18 @@ module _ (file_limits : Limits) (bytes : List ℕ) (named : Named) (B : Automato
           )
 
 -- the text reads within limits of one state more than those of the file
-module _ (bytes : List ℕ) (named : Named) (B : Automaton) (m : Mode) (sight : Foresight) (from : 1 ≤ sight.look) (reads : Reads bytes first_limits named) (reduced : IsReduced named.auto m sight B)
+module _ (bytes : List ℕ) (named : Named) (B : Automaton) (m : Mode) (sight : Foresight) (from : 1 ≤ sight.look) (reads : Reads bytes FIRST_LIMITS named) (reduced : IsReduced named.auto m sight B)
     (same : Same named.auto B m) (settled : IsSettled B m sight)
   where
     reads_again : (again : Named) × Reads (written B named.labels) printed_limits again
     reads_again =
-        let within = read_is_within bytes first_limits named reads in
+        let within = read_is_within bytes FIRST_LIMITS named reads in
         let small = reduced_no_larger named.auto B m sight reads.reading.auto.valid from reduced in
-        reads_with_room B named.labels (fit first_limits bytes named B m sight reads reduced same settled)
+        reads_with_room B named.labels (fit FIRST_LIMITS bytes named B m sight reads reduced same settled)
         (omega (arith, within.states, small.states)) (omega (arith, within.labels, small.labels)) (omega (arith, within.transitions, small.transitions))
 
     pub reads_back_same : ReadsBackSame named m (written B named.labels)
     reads_back_same = record {
       reads = reads_again;
-      same = joined_same first_limits bytes named B m sight reads reduced same settled;
+      same = joined_same FIRST_LIMITS bytes named B m sight reads reduced same settled;
     }

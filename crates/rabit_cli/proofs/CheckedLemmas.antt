@@ -31,7 +31,8 @@ use Rattle.rabit_frame.proofs.EndLemmas.{stop_plain}
 use Rattle.rabit_frame.proofs.OneLemmas.{one_read_in_turn, stop_or_read_in_turn}
 use Rattle.rabit_words.specs.Question.{NamesDiffer}
 use Rattle.rabit_replies.specs.Printed.{included_text, not_included_text, word_not_included_text, limit_text}
-use Rattle.rabit_replies.specs.Files.{first_limits, second_limits, automaton_file, certificate_file, ReadsCertificate}
+use Rattle.rabit_replies.specs.declared.files.TheConstants.{FIRST_LIMITS, SECOND_LIMITS}
+use Rattle.rabit_replies.specs.Files.{automaton_file, certificate_file, ReadsCertificate}
 use Rattle.rabit_replies.specs.Replies.{IsVerdictReply}
 use Rattle.rabit_cli.specs.Property.{IsPropertyReply, property_puts}
 use Rattle.rabit_cli.specs.Empty.{empty_text, emptiness}
@@ -84,7 +85,7 @@ empty_checked files a e c mode one other pair cert r apart is short says =
       answer.checked,
       inr (
         value.Automaton one ∷ value.Automaton other ∷ value.Certificate cert ∷ [],
-        (read_one files a e c empty_text cert apart first_limits one 1 is.read, (read_made files a e c empty_text cert apart second_limits other 2 empty_is_short is.other_reads, (read_cert files a e c empty_text cert apart pair is.valid short, tt))),
+        (read_one files a e c empty_text cert apart FIRST_LIMITS one 1 is.read, (read_made files a e c empty_text cert apart SECOND_LIMITS other 2 empty_is_short is.other_reads, (read_cert files a e c empty_text cert apart pair is.valid short, tt))),
         (one, other, cert, refl, (pair, is.joined, inr (is.valid.keeps, answer.says))),
       ),
       answer.same,
@@ -94,16 +95,16 @@ pub universal_checked : UniversalIsChecked
 universal_checked files a u c mode one other pair cert r apart is short says =
     let made = written (all_loops (length one.labels)) one.labels in
     let (bytes, has, few, read) = is.read in
-    let within = read_is_within bytes second_limits one read in
-    let fit = labels_fit bytes second_limits one read in
+    let within = read_is_within bytes SECOND_LIMITS one read in
+    let fit = labels_fit bytes SECOND_LIMITS one read in
     let few_labels : length one.labels ≤ 256 = omega (arith, within.labels, within.labels_named) in
     let made_short = universal_is_short one.labels few_labels fit.0 in
-    let made_reads : Reads made first_limits other = record { no_fault = universal_has_no_fault one.labels few_labels fit first_limits (omega arith) (omega arith) (omega arith); reading = is.other_reads.reading } in
+    let made_reads : Reads made FIRST_LIMITS other = record { no_fault = universal_has_no_fault one.labels few_labels fit FIRST_LIMITS (omega arith) (omega arith) (omega arith); reading = is.other_reads.reading } in
     let answer = agrees cert.mode universality.name pair cert.body (property_puts u made c cert) r says in (
       answer.checked,
       inr (
         value.Automaton other ∷ value.Automaton one ∷ value.Certificate cert ∷ [],
-        (read_made files a u c made cert apart first_limits other 1 made_short made_reads, (read_one files a u c made cert apart second_limits one 2 is.read, (read_cert files a u c made cert apart pair is.valid short, tt))),
+        (read_made files a u c made cert apart FIRST_LIMITS other 1 made_short made_reads, (read_one files a u c made cert apart SECOND_LIMITS one 2 is.read, (read_cert files a u c made cert apart pair is.valid short, tt))),
         (other, one, cert, refl, (pair, is.joined, inr (is.valid.keeps, answer.says))),
       ),
       answer.same,
@@ -117,9 +118,9 @@ check_over : (files files' : FileMap) (a b c c' : List ℕ) (cert cert' : Cert) 
     → (s : Reply) → IsCheckReply files a b c s → IsCheckReply files' a b c' s
 check_over files files' a b c c' cert cert' same_a same_b reads reads' alike s right = elim right [
   | inl stop ↦ elim stop [
-    | inl first ↦ inl (inl (stops_alike files files' (automaton_file 1 first_limits a) s same_a first))
+    | inl first ↦ inl (inl (stops_alike files files' (automaton_file 1 FIRST_LIMITS a) s same_a first))
     | inr (v, read, later) ↦ elim later [
-      | inl second ↦ inl (inr (v, reads_alike files files' (automaton_file 1 first_limits a) v same_a read, inl (stops_alike files files' (automaton_file 2 second_limits b) s same_b second)))
+      | inl second ↦ inl (inr (v, reads_alike files files' (automaton_file 1 FIRST_LIMITS a) v same_a read, inl (stops_alike files files' (automaton_file 2 SECOND_LIMITS b) s same_b second)))
       | inr (w, read', last) ↦ absurd (stop_or_read_in_turn files (certificate_file c ∷ []) s (value.Certificate cert ∷ []) last (reads, tt))
     ]
   ]
@@ -129,7 +130,7 @@ check_over files files' a b c c' cert cert' same_a same_b reads reads' alike s r
       let same : found ≡ cert = cc in
       inr (
         value.Automaton one ∷ value.Automaton two ∷ value.Certificate cert' ∷ [],
-        (reads_alike files files' (automaton_file 1 first_limits a) (value.Automaton one) same_a first, (reads_alike files files' (automaton_file 2 second_limits b) (value.Automaton two) same_b second, (reads', tt))),
+        (reads_alike files files' (automaton_file 1 FIRST_LIMITS a) (value.Automaton one) same_a first, (reads_alike files files' (automaton_file 2 SECOND_LIMITS b) (value.Automaton two) same_b second, (reads', tt))),
         alike one two s (one, two, cert, refl, (pair, joined, subst (λ z. Concludes pair z s) same says)),
       )
 ]
@@ -165,9 +166,9 @@ cross_checked files a b out look r not_a not_b from upto right zero short = elim
         (inr (
           value.Automaton one ∷ value.Automaton two ∷ value.Cross cross ∷ [],
           (
-            reads_still files out (cross_text cross) (automaton_file 1 first_limits a) (value.Automaton one) not_a first,
+            reads_still files out (cross_text cross) (automaton_file 1 FIRST_LIMITS a) (value.Automaton one) not_a first,
             (
-              reads_still files out (cross_text cross) (automaton_file 2 second_limits b) (value.Automaton two) not_b second,
+              reads_still files out (cross_text cross) (automaton_file 2 SECOND_LIMITS b) (value.Automaton two) not_b second,
               ((cross_text cross, put_there files out (cross_text cross), few, (of.formed, refl)), tt),
             ),
           ),

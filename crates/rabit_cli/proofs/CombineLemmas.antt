@@ -31,7 +31,7 @@ use Rattle.rabit_frame.specs.declared.parts.Status.TheVariants as status
 use Rattle.rabit_frame.specs.declared.parts.Reply.{Reply}
 use Rattle.rabit_frame.specs.Statuses.{status_number}
 use Rattle.rabit_frame.specs.Reading.{only_said, ReadInTurn}
-use Rattle.rabit_replies.specs.Files.{second_limits, first_limits}
+use Rattle.rabit_replies.specs.declared.files.TheConstants.{SECOND_LIMITS, FIRST_LIMITS}
 use Rattle.rabit_cli.specs.Include.{pair_inputs}
 use Rattle.rabit_cli.specs.Combine.{MeansCombined, IsCombinedReply, ShowsCombined}
 use Rattle.rabit_cli.specs.Union.{IsUnionOf, IsUnionReply, IsUnionStatus, MeansUnion, AcceptsWhatEitherDoes, ShowsUnion}
@@ -135,7 +135,7 @@ module _ (mode : Mode) (is_result accepts : Joined → Automaton → Type 0) (is
     shows_combined values reads (one, two, is, (pair, joined, inr (C, made, within, e))) =
         let ((bytes, has, few, first), ((bytes', has', few', second), end)) = subst (ReadInTurn files (pair_inputs a b)) is reads in
         let zero : status ≡ 0 = sym number ∙ ap (λ z. status_number z.status) e in
-        let labels = joined_fit one two pair joined (labels_fit bytes first_limits one first) (labels_fit bytes' second_limits two second) in
+        let labels = joined_fit one two pair joined (labels_fit bytes FIRST_LIMITS one first) (labels_fit bytes' SECOND_LIMITS two second) in
         let writable : IsWritable C pair.labels = record { valid = valid pair C made; all_named = omega (arith, over pair C made, joined.first.labels_given); different = labels.1; fit = labels.0 } in
         let so = right pair C joined.first.valid joined.second.valid made in
         record {

@@ -12,7 +12,8 @@ use Rattle.rabit_frame.specs.Ending.{IsReplyFor, Leaves, BeforeAndAfter, WasSaid
 use Rattle.rabit_frame.specs.Carrying.{EndsSo, IsCarriedOut}
 use Rattle.rabit_frame.proofs.OneLemmas.{stop_or_read_in_turn}
 use Rattle.rabit_words.specs.Question.{Question, Include, Check, Reduce, Drill, Upgrade, Cross, CrossCheck, Equal, Batch, Union, Intersect, Shrink, Empty, Universal}
-use Rattle.rabit_replies.specs.Files.{second_limits, first_limits, automaton_file, certificate_file}
+use Rattle.rabit_replies.specs.declared.files.TheConstants.{SECOND_LIMITS, FIRST_LIMITS}
+use Rattle.rabit_replies.specs.Files.{automaton_file, certificate_file}
 use Rattle.rabit_cli.specs.Include.{pair_inputs, terms_by}
 use Rattle.rabit_cli.specs.Reduce.{reduce_inputs}
 use Rattle.rabit_cli.specs.Cross.{cross_file}
@@ -63,7 +64,7 @@ third_stops files i j k (v ∷ w ∷ x ∷ more) reads r refused stop = absurd r
 answers : (q : Question) → IsSingle (Some q) → (files : FileMap) (values : List Value) → ReadInTurn files (automata_of q) values → (r : Reply) → IsReplyFor (Means (Some q)) (inputs_of (Some q)) files r →
     (n : ℕ) → n ≡ status_number r.status → MayAnswer q files n
 answers (Check a b c) single files values reads r right n is = elim right [
-  | inl stop ↦ inr (inl (is ∙ third_stops files (automaton_file 1 first_limits a) (automaton_file 2 second_limits b) (certificate_file c) values reads r (certificate_stops files c) stop))
+  | inl stop ↦ inr (inl (is ∙ third_stops files (automaton_file 1 FIRST_LIMITS a) (automaton_file 2 SECOND_LIMITS b) (certificate_file c) values reads r (certificate_stops files c) stop))
   | inr (vs, in_turn, means) ↦ elim (check_answers vs r means) [ inl low ↦ inl (omega arith) | inr five ↦ inr (inl (is ∙ five)) ]
 ]
 answers (Include a b c m look limit letters) single files values reads r right n is = elim right [
@@ -84,7 +85,7 @@ answers (Cross a b out look) single files values reads r right n is = elim right
   | inr (vs, in_turn, means) ↦ inl (cross_status files a b out look r vs in_turn means n is)
 ]
 answers (CrossCheck a b f) single files values reads r right n is =
-    inl (cross_check_status files a b f r (λ stop. third_stops files (automaton_file 1 first_limits a) (automaton_file 2 second_limits b) (cross_file f) values reads r (cross_stops files f) stop) right n is)
+    inl (cross_check_status files a b f r (λ stop. third_stops files (automaton_file 1 FIRST_LIMITS a) (automaton_file 2 SECOND_LIMITS b) (cross_file f) values reads r (cross_stops files f) stop) right n is)
 answers (Equal a b c d) single files values reads r right n is = elim right [
   | inl stop ↦ absurd (stop_or_read_in_turn files (equal_inputs a b) r values stop reads)
   | inr (vs, in_turn, means) ↦ (let low = equal_low c d vs r means in inl (omega arith))
@@ -99,7 +100,7 @@ answers (Intersect a b m) single files values reads r right n is = elim right [
   | inr (vs, in_turn, means) ↦ inl (intersection_status m files a b vs r in_turn means n is)
 ]
 answers (Shrink a b c out) single files values reads r right n is =
-    inl (shrink_status files a b c out r (λ stop. third_stops files (automaton_file 1 first_limits a) (automaton_file 2 second_limits b) (certificate_file c) values reads r (certificate_stops files c) stop) right n is)
+    inl (shrink_status files a b c out r (λ stop. third_stops files (automaton_file 1 FIRST_LIMITS a) (automaton_file 2 SECOND_LIMITS b) (certificate_file c) values reads r (certificate_stops files c) stop) right n is)
 answers (Empty a e c m) single files values reads r right n is = elim right [
   | inl stop ↦ absurd (stop_or_read_in_turn files (property_inputs emptiness a) r values stop reads)
   | inr (vs, in_turn, means) ↦ (let low = decided_low emptiness emptiness_decidable e c m vs r means in inl (omega arith))

@@ -18,7 +18,7 @@ use Rattle.ba_format.specs.Joining.{IsJoined, relabelled}
 use Rattle.ba_format.specs.Reading.{Reads}
 use Rattle.ba_format.specs.Sight.{same_text}
 use Rattle.ba_format.proofs.LawLemmas.{contains_first, joins_as_one}
-use Rattle.rabit_replies.specs.Files.{first_limits, second_limits}
+use Rattle.rabit_replies.specs.declared.files.TheConstants.{FIRST_LIMITS, SECOND_LIMITS}
 use Rattle.rabit_cli.specs.Empty.{empty_text, AcceptsNothing, emptiness}
 use Rattle.rabit_cli.specs.Laws.{EmptyTextAcceptsNothing}
 use Rattle.rabit_cli.proofs.OwnLemmas.{stays_itself}
@@ -29,7 +29,7 @@ use Rattle.rabit_cli.proofs.PropertyLemmas.{IsDecidable}
 pub empty_is_short : length empty_text ≤ 2 ^ 24
 empty_is_short = let eight : length empty_text ≡ 8 = refl in omega arith
 
-pub empty_has_no_fault : fault_of empty_text second_limits ≡ None
+pub empty_has_no_fault : fault_of empty_text SECOND_LIMITS ≡ None
 empty_has_no_fault = refl
 
 no_member : {X : Type 0} (x : X) → Contains [] x → ⊥
@@ -85,7 +85,7 @@ text_accepts_nothing limits named mode made = accepts_nothing limits named made 
 
 -- ---- the joined automata
 
-module _ (bytes : List ℕ) (one other : Named) (pair : Joined) (read : Reads bytes first_limits one) (made : Reads empty_text second_limits other) (joined : IsJoined one other pair) where
+module _ (bytes : List ℕ) (one other : Named) (pair : Joined) (read : Reads bytes FIRST_LIMITS one) (made : Reads empty_text SECOND_LIMITS other) (joined : IsJoined one other pair) where
   other_labels : other.labels ≡ []
   other_labels = made.reading.labels
 
@@ -93,18 +93,18 @@ module _ (bytes : List ℕ) (one other : Named) (pair : Joined) (read : Reads by
   empty_labels = joined.labels ∙ ap (λ ls. one.labels ++ filter (λ l. not (list_any (same_text l) one.labels)) ls) other_labels ∙ append-nil one.labels
 
   first_stays : pair.first ≡ one.auto
-  first_stays = stays_itself bytes first_limits one read pair.labels pair.first empty_labels joined.first
+  first_stays = stays_itself bytes FIRST_LIMITS one read pair.labels pair.first empty_labels joined.first
 
   still : (t : Trans) → Contains pair.second.transitions t → ⊥
   still t has =
-      let given : IsPermutation [] pair.second.transitions = subst (λ ts. IsPermutation (map (relabelled other.labels pair.labels) ts) pair.second.transitions) (none_there second_limits other made) joined.second.transitions_given in
+      let given : IsPermutation [] pair.second.transitions = subst (λ ts. IsPermutation (map (relabelled other.labels pair.labels) ts) pair.second.transitions) (none_there SECOND_LIMITS other made) joined.second.transitions_given in
       no_member t (Contains-permutation pair.second.transitions [] t (IsPermutation-sym [] pair.second.transitions given) has)
 
   first_rejects : Contains pair.second.accepting pair.second.initial → ⊥
   first_rejects has =
-      let first : pair.second.initial ≡ 0 = joined.second.initial_given ∙ (built second_limits other made).initial_given in
+      let first : pair.second.initial ≡ 0 = joined.second.initial_given ∙ (built SECOND_LIMITS other made).initial_given in
       let there = Contains-permutation pair.second.accepting other.auto.accepting pair.second.initial (IsPermutation-sym other.auto.accepting pair.second.accepting joined.second.accepting_given) has in
-      accepting_is_other second_limits other made pair.second.initial first there
+      accepting_is_other SECOND_LIMITS other made pair.second.initial first there
 
   empty_holds : (m : Mode) → Includes pair.first pair.second m → AcceptsNothing m one.auto
   empty_holds Buchi includes = λ u v accepts. no_lasso pair.second still u v (includes u v (subst (λ A. AcceptsLasso A u v) (sym first_stays) accepts))

@@ -30,7 +30,8 @@ use Rattle.rabit_frame.specs.Reading.{ReadInTurn, FileReads}
 use Rattle.rabit_frame.specs.Ending.{BeforeAndAfter, IsCutShort, WasSaid, filed}
 use Rattle.rabit_frame.specs.Carrying.{EndsSo}
 use Rattle.rabit_frame.proofs.EndLemmas.{leaves_by_status}
-use Rattle.rabit_replies.specs.Files.{second_limits, automaton_file}
+use Rattle.rabit_replies.specs.declared.files.TheConstants.{SECOND_LIMITS}
+use Rattle.rabit_replies.specs.Files.{automaton_file}
 use Rattle.rabit_cli.specs.Include.{usual_terms, IsCertForWithin}
 use Rattle.rabit_cli.specs.Shrink.{IsNo}
 use Rattle.rabit_cli.specs.Equal.{equal_inputs, first_apart_reply, both_reply, both_puts, IsEqualReply, MeansEqual, AreCertsBothWays, AreEqualPuts, HoldsEqual, HoldsEqualPart, LeavesEqual, Separates, IsListBody, ShowsEqual}
@@ -115,22 +116,22 @@ separated pair (Listing list) is truth = absurd is
 
 module _ (files : FileMap) (a b c d : List ℕ) where
   -- a file reads as the same, whatever its number
-  numbered : (name : List ℕ) (number other : ℕ) (named : Named) → FileReads files (automaton_file number second_limits name) (value.Automaton named) → FileReads files (automaton_file other second_limits name) (value.Automaton named)
+  numbered : (name : List ℕ) (number other : ℕ) (named : Named) → FileReads files (automaton_file number SECOND_LIMITS name) (value.Automaton named) → FileReads files (automaton_file other SECOND_LIMITS name) (value.Automaton named)
   numbered name number other named (bytes, has, few, reads) = (bytes, has, few, reads)
 
-  module _ (one two : Named) (pair : Joined) (first : FileReads files (automaton_file 1 second_limits a) (value.Automaton one)) (second : FileReads files (automaton_file 2 second_limits b) (value.Automaton two)) (joined : IsJoined one two pair) where
-    first_for : (cert : Cert) → IsAnswer pair (usual_terms Buchi) cert → IsCertForWithin second_limits files a b (usual_terms Buchi) pair cert
-    first_for cert answer = cert_for_within second_limits within_first files a b (usual_terms Buchi) (usual_bounded Buchi) pair cert (one, two, first, second, joined) answer
+  module _ (one two : Named) (pair : Joined) (first : FileReads files (automaton_file 1 SECOND_LIMITS a) (value.Automaton one)) (second : FileReads files (automaton_file 2 SECOND_LIMITS b) (value.Automaton two)) (joined : IsJoined one two pair) where
+    first_for : (cert : Cert) → IsAnswer pair (usual_terms Buchi) cert → IsCertForWithin SECOND_LIMITS files a b (usual_terms Buchi) pair cert
+    first_for cert answer = cert_for_within SECOND_LIMITS within_first files a b (usual_terms Buchi) (usual_bounded Buchi) pair cert (one, two, first, second, joined) answer
 
-    second_for : (exchanged : Joined) (converse : Cert) → IsJoined two one exchanged → IsAnswer exchanged (usual_terms Buchi) converse → IsCertForWithin second_limits files b a (usual_terms Buchi) exchanged converse
-    second_for exchanged converse turned answer = cert_for_within second_limits within_first files b a (usual_terms Buchi) (usual_bounded Buchi) exchanged converse (two, one, numbered b 2 1 two second, numbered a 1 2 one first, turned) answer
+    second_for : (exchanged : Joined) (converse : Cert) → IsJoined two one exchanged → IsAnswer exchanged (usual_terms Buchi) converse → IsCertForWithin SECOND_LIMITS files b a (usual_terms Buchi) exchanged converse
+    second_for exchanged converse turned answer = cert_for_within SECOND_LIMITS within_first files b a (usual_terms Buchi) (usual_bounded Buchi) exchanged converse (two, one, numbered b 2 1 two second, numbered a 1 2 one first, turned) answer
 
     -- two inclusions are equality
     same_by : (exchanged : Joined) → IsJoined two one exchanged → Includes pair.first pair.second Buchi → Includes exchanged.first exchanged.second Buchi → Same pair.first pair.second Buchi
     same_by exchanged turned forth back =
         let (bytes, has, few, reads) = first in
         let (bytes', has', few', reads') = second in
-        (forth, join_order_does_not_matter bytes' bytes second_limits second_limits two one exchanged pair Buchi reads' reads turned joined back)
+        (forth, join_order_does_not_matter bytes' bytes SECOND_LIMITS SECOND_LIMITS two one exchanged pair Buchi reads' reads turned joined back)
 
     written_by : (r : Reply) → IsEqualReply c d one two pair r → AreEqualPuts files a b c d r.puts
     written_by r (cert, answer, says) = elim says [

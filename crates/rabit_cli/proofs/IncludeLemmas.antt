@@ -34,7 +34,8 @@ use Rattle.rabit_frame.specs.Ending.{BeforeAndAfter, IsCutShort, WasSaid, filed}
 use Rattle.rabit_frame.specs.Carrying.{EndsSo}
 use Rattle.rabit_frame.proofs.EndLemmas.{leaves_by_status}
 use Rattle.rabit_replies.specs.Printed.{limit_text}
-use Rattle.rabit_replies.specs.Files.{first_limits, second_limits, ReadsPairWithin, ReadsPair}
+use Rattle.rabit_replies.specs.declared.files.TheConstants.{FIRST_LIMITS, SECOND_LIMITS}
+use Rattle.rabit_replies.specs.Files.{ReadsPairWithin, ReadsPair}
 use Rattle.rabit_replies.specs.Replies.{IsVerdictReply, SaysApart}
 use Rattle.rabit_cli.specs.Include.{usual_terms, pair_inputs, certificate_put, MeansInclude, IsCertForWithin, IsCertFor, HoldsAnswer, HoldsAnswerFront, LeavesDecided, ShowsInclude}
 use Rattle.rabit_cli.proofs.PairLemmas.{can_decide}
@@ -78,11 +79,11 @@ pub limit_in : (pair : Joined) (terms : Terms) (cert : Cert) → IsAnswer pair t
 limit_in pair terms cert (at, ends, answer) l body = limit_of at terms answer.pairs answer.outcome l (subst (IsBodyOf at terms answer.pairs answer.outcome) body answer.body)
 
 -- what is written is right for two files, whatever the limits of the first
-pub cert_for_within : (limits : Limits) → ((named : Named) → IsWithinLimits limits named → IsWithinLimits first_limits named) → (files : FileMap) (a b : List ℕ) (terms : Terms) → AreBounded terms →
+pub cert_for_within : (limits : Limits) → ((named : Named) → IsWithinLimits limits named → IsWithinLimits FIRST_LIMITS named) → (files : FileMap) (a b : List ℕ) (terms : Terms) → AreBounded terms →
     (pair : Joined) (cert : Cert) → ReadsPairWithin limits files a b pair → IsAnswer pair terms cert → IsCertForWithin limits files a b terms pair cert
 cert_for_within limits inside files a b terms bounds pair cert read answer =
     let (first, second, (bytes, has, few, reads), (bytes', has', few', reads'), joined) = read in
-    let can = can_decide first second pair (inside first (read_is_within bytes limits first reads)) (read_is_within bytes' second_limits second reads') joined in
+    let can = can_decide first second pair (inside first (read_is_within bytes limits first reads)) (read_is_within bytes' SECOND_LIMITS second reads') joined in
     record {
       read = read;
       answer = answer;
@@ -93,7 +94,7 @@ cert_for_within limits inside files a b terms bounds pair cert read answer =
 
 module _ (files : FileMap) (a b c : List ℕ) (terms : Terms) (bounds : AreBounded terms) where
   pub cert_for : (pair : Joined) (cert : Cert) → ReadsPair files a b pair → IsAnswer pair terms cert → IsCertFor files a b terms pair cert
-  cert_for pair cert read answer = cert_for_within first_limits (λ named within. within) files a b terms bounds pair cert read answer
+  cert_for pair cert read answer = cert_for_within FIRST_LIMITS (λ named within. within) files a b terms bounds pair cert read answer
 
   pub reads_cert : (values : List Value) (r : Reply) → ReadInTurn files (pair_inputs a b) values → MeansInclude c terms values r →
       (pair : Joined) × (cert : Cert) × IsCertFor files a b terms pair cert × IsVerdictReply terms.mode pair cert.body (certificate_put c cert ∷ []) r

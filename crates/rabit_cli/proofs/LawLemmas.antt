@@ -26,7 +26,8 @@ use Rattle.rabit_frame.specs.declared.parts.Value.TheVariants as value
 use Rattle.rabit_frame.specs.declared.parts.Reply.{Reply}
 use Rattle.rabit_frame.specs.Files.{Input, Output}
 use Rattle.rabit_frame.specs.Reading.{only_said, FileReads, FileStops}
-use Rattle.rabit_replies.specs.Files.{first_limits, second_limits, automaton_file}
+use Rattle.rabit_replies.specs.declared.files.TheConstants.{FIRST_LIMITS, SECOND_LIMITS}
+use Rattle.rabit_replies.specs.Files.{automaton_file}
 use Rattle.rabit_frame.proofs.OneLemmas.{one_read_in_turn, stop_or_read_in_turn}
 use Rattle.rabit_replies.specs.Replies.{IsVerdictReply}
 use Rattle.rabit_cli.specs.Include.{pair_inputs, certificate_put}
@@ -93,7 +94,7 @@ check_agrees files a b c terms pair cert r not_a not_b bounds read answer few ri
     ] in
     inr (
       value.Automaton one ∷ value.Automaton two ∷ value.Certificate cert ∷ [],
-      (reads_still files c (text cert) (automaton_file 1 first_limits a) (value.Automaton one) not_a first, (reads_still files c (text cert) (automaton_file 2 second_limits b) (value.Automaton two) not_b second, ((text cert, written files c (text cert), few, (is.formed, refl)), tt))),
+      (reads_still files c (text cert) (automaton_file 1 FIRST_LIMITS a) (value.Automaton one) not_a first, (reads_still files c (text cert) (automaton_file 2 SECOND_LIMITS b) (value.Automaton two) not_b second, ((text cert, written files c (text cert), few, (is.formed, refl)), tt))),
       (one, two, cert, refl, (pair, joined, inr (is.valid.keeps, said_alone cert.mode pair cert.body (certificate_put c cert ∷ []) r (subst (λ m. IsVerdictReply m pair cert.body (certificate_put c cert ∷ []) r) (sym (mode_of is.answer)) says)))),
     )
 

@@ -15,7 +15,8 @@ use Rattle.decide.specs.Answer.{HasFewParts}
 use Rattle.decide.specs.Laws.{CanDecide}
 use Rattle.ba_format.proofs.FaultlessLemmas.{read_is_within}
 use Rattle.shelf_io.specs.Shelf.{FileMap}
-use Rattle.rabit_replies.specs.Files.{first_limits, second_limits, ReadsPair}
+use Rattle.rabit_replies.specs.declared.files.TheConstants.{FIRST_LIMITS, SECOND_LIMITS}
+use Rattle.rabit_replies.specs.Files.{ReadsPair}
 
 filter_shorter : {X : Type 0} (p : X → Bool) (xs : List X) → length (filter p xs) ≤ length xs
 filter_shorter p [] = omega arith
@@ -35,7 +36,7 @@ few_parts limits most named joined A within is =
     record { states = omega arith; transitions = omega arith }
 
 -- what is small enough for a second file is so for a first one
-pub within_first : (named : Named) → IsWithinLimits second_limits named → IsWithinLimits first_limits named
+pub within_first : (named : Named) → IsWithinLimits SECOND_LIMITS named → IsWithinLimits FIRST_LIMITS named
 within_first named within = record {
   states_named = within.states_named;
   labels_named = within.labels_named;
@@ -44,7 +45,7 @@ within_first named within = record {
   transitions = within.transitions;
 }
 
-pub can_decide : (one two : Named) (pair : Joined) → IsWithinLimits first_limits one → IsWithinLimits second_limits two → IsJoined one two pair → CanDecide pair
+pub can_decide : (one two : Named) (pair : Joined) → IsWithinLimits FIRST_LIMITS one → IsWithinLimits SECOND_LIMITS two → IsJoined one two pair → CanDecide pair
 can_decide one two pair first second joined = record {
   first = joined.first.valid;
   second = joined.second.valid;
@@ -59,14 +60,14 @@ can_decide one two pair first second joined = record {
       let c = first.labels_named in
       let d = second.labels_named in
       omega arith;
-  first_parts = few_parts first_limits (omega arith) one pair.labels pair.first first joined.first;
-  second_parts = few_parts second_limits (omega arith) two pair.labels pair.second second joined.second;
+  first_parts = few_parts FIRST_LIMITS (omega arith) one pair.labels pair.first first joined.first;
+  second_parts = few_parts SECOND_LIMITS (omega arith) two pair.labels pair.second second joined.second;
 }
 
 -- so are those that two files read as
 pub pair_can_decide : (files : FileMap) (a b : List ℕ) (pair : Joined) → ReadsPair files a b pair → CanDecide pair
 pair_can_decide files a b pair (one, two, (bytes, held, few, first), (bytes', held', few', second), joined) =
-    can_decide one two pair (read_is_within bytes first_limits one first) (read_is_within bytes' second_limits two second) joined
+    can_decide one two pair (read_is_within bytes FIRST_LIMITS one first) (read_is_within bytes' SECOND_LIMITS two second) joined
 
 pub ok_gives : {T E : Type 0} (P Q : T → Type 0) (r : Result T E) → ((x : T) → P x → Q x) → IfOk r P → IfOk r Q
 ok_gives P Q (Ok x) f h = f x h

@@ -28,7 +28,7 @@ use Rattle.rabit_frame.specs.Ending.{BeforeAndAfter, IsCutShort, WasSaid, filed}
 use Rattle.rabit_frame.specs.Carrying.{EndsSo}
 use Rattle.rabit_frame.proofs.EndLemmas.{leaves_by_status}
 use Rattle.rabit_replies.specs.Printed.{lasso_against_text, word_against_text, limit_text}
-use Rattle.rabit_replies.specs.Files.{second_limits}
+use Rattle.rabit_replies.specs.declared.files.TheConstants.{SECOND_LIMITS}
 use Rattle.rabit_cli.specs.Include.{usual_terms}
 use Rattle.rabit_cli.specs.Property.{property_inputs, Property, property_puts, IsPropertyReply, MeansProperty, IsPropertyCertFor, HoldsProperty, HoldsPropertyPart, LeavesProperty, IsRefuted, ShowsProperty}
 use Rattle.rabit_cli.proofs.IncludeLemmas.{usual_bounded, limit_in}
@@ -60,21 +60,21 @@ low_reply name pair (Listing l) puts r p = subst (λ z. status_number z.status �
 pub record IsDecidable (p : Property) : Type 0 where
   pub one_pair : (one other : Named) (x y : Joined) → p.joins one other x → p.joins one other y → x ≡ y
   pub valid : (one other : Named) (pair : Joined) → p.joins one other pair → IsAutomaton pair.first × IsAutomaton pair.second
-  pub can : (one other : Named) (pair : Joined) → IsWithinLimits p.limits one → IsWithinLimits second_limits other → p.joins one other pair → CanDecide pair
-  pub labels : (bytes : List ℕ) (one other : Named) (pair : Joined) → Reads bytes p.limits one → Reads (p.made one) second_limits other → p.joins one other pair → pair.labels ≡ one.labels
-  pub holds : (bytes : List ℕ) (one other : Named) (pair : Joined) → Reads bytes p.limits one → Reads (p.made one) second_limits other → p.joins one other pair → (m : Mode) → Includes pair.first pair.second m → p.holds m one.auto
+  pub can : (one other : Named) (pair : Joined) → IsWithinLimits p.limits one → IsWithinLimits SECOND_LIMITS other → p.joins one other pair → CanDecide pair
+  pub labels : (bytes : List ℕ) (one other : Named) (pair : Joined) → Reads bytes p.limits one → Reads (p.made one) SECOND_LIMITS other → p.joins one other pair → pair.labels ≡ one.labels
+  pub holds : (bytes : List ℕ) (one other : Named) (pair : Joined) → Reads bytes p.limits one → Reads (p.made one) SECOND_LIMITS other → p.joins one other pair → (m : Mode) → Includes pair.first pair.second m → p.holds m one.auto
   pub lasso :
-      (bytes : List ℕ) (one other : Named) (pair : Joined) → Reads bytes p.limits one → Reads (p.made one) second_limits other → p.joins one other pair → (l : Lasso) → SeparatesLasso pair.first pair.second l.prefix l.turn → p.lasso_against one.auto l
+      (bytes : List ℕ) (one other : Named) (pair : Joined) → Reads bytes p.limits one → Reads (p.made one) SECOND_LIMITS other → p.joins one other pair → (l : Lasso) → SeparatesLasso pair.first pair.second l.prefix l.turn → p.lasso_against one.auto l
   pub word :
-      (bytes : List ℕ) (one other : Named) (pair : Joined) → Reads bytes p.limits one → Reads (p.made one) second_limits other → p.joins one other pair → (w : List ℕ) → SeparatesWord pair.first pair.second w → p.word_against one.auto w
+      (bytes : List ℕ) (one other : Named) (pair : Joined) → Reads bytes p.limits one → Reads (p.made one) SECOND_LIMITS other → p.joins one other pair → (w : List ℕ) → SeparatesWord pair.first pair.second w → p.word_against one.auto w
 
 module _ (p : Property) (known : IsDecidable p) (m c : List ℕ) (mode : Mode) where
   pub one_decided : (values : List Value) (r s : Reply) → MeansProperty p m c mode values r → MeansProperty p m c mode values s → r ≡ s
   one_decided values r s (one, is, (other, made, (pair, joined, (cert, answer, says)))) (one', is', (other', made', (pair', joined', (cert', answer', says')))) =
       let all = sym is ∙ is' in
       let first : one ≡ one' = cc in
-      let M : Named → Type 0 = λ z. Reads (p.made z) second_limits other in
-      let second : other ≡ other' = reads_as_one (p.made one') second_limits other other' (subst M first made) made' in
+      let M : Named → Type 0 = λ z. Reads (p.made z) SECOND_LIMITS other in
+      let second : other ≡ other' = reads_as_one (p.made one') SECOND_LIMITS other other' (subst M first made) made' in
       let P : Named → Type 0 = λ z. p.joins z other pair in
       let Q : Named → Type 0 = λ z. p.joins one' z pair in
       let same : pair ≡ pair' = known.one_pair one' other' pair pair' (subst Q second (subst P first joined)) joined' in
@@ -112,7 +112,7 @@ module _ (p : Property) (known : IsDecidable p) (m c : List ℕ) (mode : Mode) w
     decided_reads values r reads (one, is, (other, made, (pair, joined, (cert, answer, says)))) =
         let (first, end) = subst (ReadInTurn files (property_inputs p a)) is reads in
         let (bytes, has, few, read) = first in
-        let can = known.can one other pair (read_is_within bytes p.limits one read) (read_is_within (p.made one) second_limits other made) joined in
+        let can = known.can one other pair (read_is_within bytes p.limits one read) (read_is_within (p.made one) SECOND_LIMITS other made) joined in
         record {
           one = one;
           other = other;

@@ -34,7 +34,7 @@ use Rattle.ba_format.proofs.LawLemmas.{contains_cases, contains_first, contains_
 use Rattle.ba_format.proofs.SightLemmas.{same_text-refl, noted-new, not_found}
 use Rattle.ba_format.proofs.WrittenLemmas.{transition_entry_of, contents_of-written}
 use Rattle.cert_check.specs.Rules.{AreLabels}
-use Rattle.rabit_replies.specs.Files.{second_limits}
+use Rattle.rabit_replies.specs.declared.files.TheConstants.{SECOND_LIMITS}
 use Rattle.rabit_cli.specs.Universal.{loops, all_loops, IsLassoOver, AcceptsAll, universality}
 use Rattle.rabit_cli.specs.Laws.{UniversalTextAcceptsAll}
 use Rattle.rabit_cli.proofs.BackLemmas.{written_same, with_labels, includes_then}
@@ -262,9 +262,9 @@ text_accepts_all labels limits named m few texts different made =
 
 -- ---- the joined automata
 
-module _ (bytes : List ℕ) (one other : Named) (pair : Joined) (read : Reads bytes second_limits one) (made : Reads (written (all_loops (length one.labels)) one.labels) second_limits other) (joined : IsJoined other one pair) (few : length one.labels ≤ 256) where
+module _ (bytes : List ℕ) (one other : Named) (pair : Joined) (read : Reads bytes SECOND_LIMITS one) (made : Reads (written (all_loops (length one.labels)) one.labels) SECOND_LIMITS other) (joined : IsJoined other one pair) (few : length one.labels ≤ 256) where
   fit : All IsLabelText one.labels × AreDifferent one.labels
-  fit = labels_fit bytes second_limits one read
+  fit = labels_fit bytes SECOND_LIMITS one read
 
   other_labels : other.labels ≡ one.labels
   other_labels = made.reading.labels ∙ labels_written one.labels few fit
@@ -273,7 +273,7 @@ module _ (bytes : List ℕ) (one other : Named) (pair : Joined) (read : Reads by
   universal_labels = joined.labels ∙ ap (λ ls. joined_labels ls one.labels) other_labels ∙ joined_itself one.labels
 
   second_stays : pair.second ≡ one.auto
-  second_stays = stays_itself bytes second_limits one read pair.labels pair.second universal_labels joined.second
+  second_stays = stays_itself bytes SECOND_LIMITS one read pair.labels pair.second universal_labels joined.second
 
   first_accepts : (m : Mode) → Includes (all_loops (length one.labels)) pair.first m
   first_accepts m =
@@ -281,13 +281,13 @@ module _ (bytes : List ℕ) (one other : Named) (pair : Joined) (read : Reads by
       let turned : Joined = record { first = with_labels (all_loops n) (length pair.labels); second = pair.first; labels = pair.labels } in
       let all : pair.labels ≡ joined_labels one.labels other.labels = universal_labels ∙ sym (ap (joined_labels one.labels) other_labels ∙ joined_itself one.labels) in
       let short : length pair.labels < 2 ^ 32 = omega (arith, ap length universal_labels) in
-      (written_same one.labels (all_loops n) m (loops_writable one.labels few fit) second_limits other turned made all short joined.first).0
+      (written_same one.labels (all_loops n) m (loops_writable one.labels few fit) SECOND_LIMITS other turned made all short joined.first).0
 
   abbrev n : ℕ
   n = length one.labels
 
   count : one.auto.labels ≡ n
-  count = labels_count bytes second_limits one read
+  count = labels_count bytes SECOND_LIMITS one read
 
   universal_holds : (m : Mode) → Includes pair.first pair.second m → AcceptsAll m one.auto
   universal_holds m includes = includes_all one.auto n count m (subst (λ A. Includes (all_loops n) A m) second_stays (includes_then m (all_loops n) pair.first pair.second (first_accepts m) includes))
@@ -328,5 +328,5 @@ universality_decidable = record {
   );
 }
   where
-    few_labels : (bytes : List ℕ) (one : Named) → Reads bytes second_limits one → length one.labels ≤ 256
-    few_labels bytes one read = (let within = read_is_within bytes second_limits one read in omega (arith, within.labels, within.labels_named))
+    few_labels : (bytes : List ℕ) (one : Named) → Reads bytes SECOND_LIMITS one → length one.labels ≤ 256
+    few_labels bytes one read = (let within = read_is_within bytes SECOND_LIMITS one read in omega (arith, within.labels, within.labels_named))

@@ -17,12 +17,13 @@ use Rattle.rabit_frame.specs.declared.parts.Value.TheVariants as value
 use Rattle.rabit_frame.specs.declared.parts.Reply.{Reply}
 use Rattle.rabit_frame.specs.Files.{Input}
 use Rattle.rabit_replies.specs.Printed.{included_text, limit_text}
-use Rattle.rabit_replies.specs.Files.{first_limits, second_limits, automaton_file, certificate_file, ReadsPair, ReadsCertificate}
+use Rattle.rabit_replies.specs.declared.files.TheConstants.{FIRST_LIMITS, SECOND_LIMITS}
+use Rattle.rabit_replies.specs.Files.{automaton_file, certificate_file, ReadsPair, ReadsCertificate}
 use Rattle.rabit_replies.specs.Replies.{IsRefusedReply, IsVerdictReply, SaysApart}
 
 -- The files that it reads: the two automata, and then the certificate.
 abbrev pub check_inputs : List ℕ → List ℕ → List ℕ → List Input
-check_inputs a b c = automaton_file 1 first_limits a ∷ automaton_file 2 second_limits b ∷ certificate_file c ∷ []
+check_inputs a b c = automaton_file 1 FIRST_LIMITS a ∷ automaton_file 2 SECOND_LIMITS b ∷ certificate_file c ∷ []
 
 -- The reply to two joined automata and a certificate: it is refused, or it is valid and its verdict is said.
 abbrev pub Concludes : Joined → Cert → Reply → Type 0

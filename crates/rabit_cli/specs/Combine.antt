@@ -1,8 +1,9 @@
 -- What `union` and `intersect` have in common: two automata are read, and one is printed.
-use Rattle.std.specs.Prelude.{◌≡◌, ◌⊎◌, List, [], ◌∷◌, ℕ, Option}
+use Rattle.std.specs.Prelude.{◌≡◌, ◌+◌, ◌⊎◌, List, [], ◌∷◌, ℕ, Option}
 use Rattle.std.specs.Io.KnownBytes.{append_known}
 use Rattle.shelf_io.specs.Shelf.{FileMap}
 use Rattle.auto_core.specs.Automaton.{Automaton}
+use Rattle.auto_ops.specs.declared.limits.TheConstants.{MOST_STATES, MOST_LABELS, MOST_TRANSITIONS}
 use Rattle.auto_ops.specs.Limits.{IsSmallResult}
 use Rattle.ba_format.specs.declared.parts.Limits.{Limits}
 use Rattle.ba_format.specs.declared.parts.Named.{Named}
@@ -17,7 +18,6 @@ use Rattle.rabit_frame.specs.declared.parts.Reply.{Reply}
 use Rattle.rabit_frame.specs.Reading.{only_said}
 use Rattle.rabit_replies.specs.Files.{ReadsPair}
 use Rattle.rabit_replies.specs.Replies.{too_large_reply}
-use Rattle.rabit_cli.specs.Reduce.{printed_limits}
 
 -- The reply to what was read, if this is the one to the two joined automata.
 abbrev pub MeansCombined : (Joined → Reply → Type 0) → List Value → Reply → Type 0
@@ -41,10 +41,15 @@ IsCombinedStatus is_too_large files a b status =
 abbrev pub with_texts : Automaton → List (List ℕ) → Named
 with_texts A labels = record { auto = A; names = []; labels = labels }
 
--- The text reads as an automaton within limits of one state more than a result may have. Whatever it reads as, joined to the pair by its labels'
+-- The most states, labels and transitions of the text of a result: one state more than a result may have, for the line that keeps an automaton without
+-- accepting states from reading as one whose states all are.
+abbrev pub result_limits : Limits
+result_limits = record { states = MOST_STATES + 1; labels = MOST_LABELS; transitions = MOST_TRANSITIONS }
+
+-- The text reads as an automaton within these limits. Whatever it reads as, joined to the pair by its labels'
 -- texts, so that the pair's labels keep their numbers, accepts what is asked.
 pub record ReadsBackFor (pair : Joined) (accepts : Automaton → Type 0) (text : List ℕ) : Type 0 where
-  pub reads : (again : Named) × Reads text printed_limits again
+  pub reads : (again : Named) × Reads text result_limits again
   pub joined : (limits : Limits) (again : Named) (joined : Joined) → Reads text limits again → IsJoined (with_texts pair.first pair.labels) again joined → accepts joined.second
 
 -- The named files read as two automata, and what was sent is the text of a result of the operation on them. The result accepts what is asked, and so

@@ -24,7 +24,8 @@ use Rattle.rabit_frame.specs.Reading.{FileReads, reply_with, only_said}
 use Rattle.rabit_frame.specs.Ending.{IsCutShort}
 use Rattle.rabit_frame.specs.Carrying.{LeavesByStatus}
 use Rattle.rabit_replies.specs.Printed.{by_simulation_text, no_relation_text, refused_text}
-use Rattle.rabit_replies.specs.Files.{first_limits, second_limits, automaton_file, ReadsPair}
+use Rattle.rabit_replies.specs.declared.files.TheConstants.{FIRST_LIMITS, SECOND_LIMITS}
+use Rattle.rabit_replies.specs.Files.{automaton_file, ReadsPair}
 
 -- ---- `cross`
 
@@ -106,7 +107,7 @@ ReadsCross files name cross = FileReads files (cross_file name) (value.Cross cro
 
 -- The files that it reads: the two automata, and then the cross relation.
 abbrev pub cross_check_inputs : List ℕ → List ℕ → List ℕ → List Input
-cross_check_inputs a b f = automaton_file 1 first_limits a ∷ automaton_file 2 second_limits b ∷ cross_file f ∷ []
+cross_check_inputs a b f = automaton_file 1 FIRST_LIMITS a ∷ automaton_file 2 SECOND_LIMITS b ∷ cross_file f ∷ []
 
 -- A rule is broken, the first being this one.
 abbrev pub IsCrossRefused : Joined → Cross → Reply → Type 0

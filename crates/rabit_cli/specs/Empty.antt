@@ -5,7 +5,7 @@ use Rattle.auto_core.specs.Accept.{AcceptsLasso, AcceptsWord}
 use Rattle.auto_core.specs.declared.parts.Mode.{Mode}
 use Rattle.auto_core.specs.declared.parts.Mode.TheVariants.{Buchi, Finite}
 use Rattle.ba_format.specs.Joining.{IsJoined}
-use Rattle.rabit_replies.specs.Files.{first_limits}
+use Rattle.rabit_replies.specs.declared.files.TheConstants.{FIRST_LIMITS}
 use Rattle.rabit_cli.specs.Property.{Property}
 
 -- The text of an automaton that accepts nothing: its initial state is not accepting, and it has no transition.
@@ -21,7 +21,7 @@ AcceptsNothing Finite A = (w : List ℕ) → AcceptsWord A w → ⊥
 abbrev pub emptiness : Property
 emptiness = record {
   name = codes "empty";
-  limits = first_limits;
+  limits = FIRST_LIMITS;
   made = λ one. empty_text;
   joins = λ one other. IsJoined one other;
   holds = AcceptsNothing;

@@ -24,15 +24,16 @@ use Rattle.rabit_frame.specs.Files.{Input, Output}
 use Rattle.rabit_frame.specs.Reading.{reply_with}
 use Rattle.rabit_frame.specs.Ending.{filed, IsCutShort}
 use Rattle.rabit_frame.specs.Carrying.{LeavesByStatus}
-use Rattle.rabit_words.specs.Question.{usual_limit}
+use Rattle.rabit_words.specs.declared.parts.TheConstants.{USUAL_LIMIT}
 use Rattle.rabit_replies.specs.Printed.{equal_text, first_apart_text, second_apart_text, limit_text}
-use Rattle.rabit_replies.specs.Files.{second_limits, automaton_file}
+use Rattle.rabit_replies.specs.declared.files.TheConstants.{SECOND_LIMITS}
+use Rattle.rabit_replies.specs.Files.{automaton_file}
 use Rattle.rabit_cli.specs.Include.{certificate_put, usual_terms, IsCertForWithin}
 use Rattle.rabit_cli.specs.Shrink.{IsNo}
 
 -- The files that it reads: the two automata, each of which is a second one once.
 abbrev pub equal_inputs : List ℕ → List ℕ → List Input
-equal_inputs a b = automaton_file 1 second_limits a ∷ automaton_file 2 second_limits b ∷ []
+equal_inputs a b = automaton_file 1 SECOND_LIMITS a ∷ automaton_file 2 SECOND_LIMITS b ∷ []
 
 -- The reply where the first is not included in the second: the certificate of that alone is written.
 abbrev pub first_apart_reply : List ℕ → Joined → Cert → Reply
@@ -44,7 +45,7 @@ abbrev pub both_reply : Both → List (List ℕ) → Body → List Output → Re
 both_reply (both.Equal) labels body puts = reply_with status.Done equal_text puts
 both_reply (both.FirstApart) labels body puts = reply_with status.Refuted (second_apart_text labels body) puts
 both_reply (both.SecondApart) labels body puts = reply_with status.Refuted (second_apart_text labels body) puts
-both_reply (both.Limit) labels body puts = reply_with status.Limit (limit_text usual_limit) puts
+both_reply (both.Limit) labels body puts = reply_with status.Limit (limit_text USUAL_LIMIT) puts
 
 -- The files that are written where both were decided, in order.
 abbrev pub both_puts : List ℕ → List ℕ → Cert → Cert → List Output
@@ -75,13 +76,13 @@ MeansEqual c d values r =
 
 -- The files read as two automata, and the certificates are the answers for the first in the second and for the second in the first.
 pub record AreCertsBothWays (files : FileMap) (a b : List ℕ) (pair exchanged : Joined) (cert converse : Cert) : Type 0 where
-  pub first : IsCertForWithin second_limits files a b (usual_terms Buchi) pair cert
-  pub second : IsCertForWithin second_limits files b a (usual_terms Buchi) exchanged converse
+  pub first : IsCertForWithin SECOND_LIMITS files a b (usual_terms Buchi) pair cert
+  pub second : IsCertForWithin SECOND_LIMITS files b a (usual_terms Buchi) exchanged converse
 
 -- What is written for these files: the first answer alone where that is a no, and else both.
 abbrev pub AreEqualPuts : FileMap → List ℕ → List ℕ → List ℕ → List ℕ → List Output → Type 0
 AreEqualPuts files a b c d puts =
-    ((pair : Joined) × (cert : Cert) × IsCertForWithin second_limits files a b (usual_terms Buchi) pair cert × IsNo cert.body × (puts ≡ certificate_put c cert ∷ []))
+    ((pair : Joined) × (cert : Cert) × IsCertForWithin SECOND_LIMITS files a b (usual_terms Buchi) pair cert × IsNo cert.body × (puts ≡ certificate_put c cert ∷ []))
     ⊎ ((pair exchanged : Joined)
     × (cert converse : Cert)
     × AreCertsBothWays files a b pair exchanged cert converse
@@ -132,7 +133,7 @@ pub record AreShownEqual (files : FileMap) (a b c d : List ℕ) (files' : FileMa
 pub record IsFirstApart (files : FileMap) (a b c : List ℕ) (files' : FileMap) (sent sent' : Option (List ℕ)) : Type 0 where
   pub pair : Joined
   pub cert : Cert
-  pub first : IsCertForWithin second_limits files a b (usual_terms Buchi) pair cert
+  pub first : IsCertForWithin SECOND_LIMITS files a b (usual_terms Buchi) pair cert
   pub apart : Separates pair cert.body
   pub held : files' ≡ filed files (certificate_put c cert ∷ [])
   pub printed : sent' ≡ append_known sent (first_apart_text pair.labels cert.body)
@@ -160,7 +161,7 @@ pub record IsEqualListed (files : FileMap) (a b c d : List ℕ) (files' : FileMa
   pub not_second : ¬ IsNo converse.body
   pub lists : IsListBody cert.body ⊎ IsListBody converse.body
   pub held : files' ≡ filed files (both_puts c d cert converse)
-  pub printed : sent' ≡ append_known sent (limit_text usual_limit)
+  pub printed : sent' ≡ append_known sent (limit_text USUAL_LIMIT)
 
 -- What a status up to 2 shows: 0 that both accept the same, 1 what separates them one way or the other, 2 that a limit was met.
 pub record ShowsEqual (files : FileMap) (a b c d : List ℕ) (status : ℕ) (files' : FileMap) (sent sent' : Option (List ℕ)) : Type 0 where

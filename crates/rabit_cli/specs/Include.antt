@@ -26,18 +26,19 @@ use Rattle.rabit_frame.specs.declared.parts.Reply.{Reply}
 use Rattle.rabit_frame.specs.Files.{Input, Output}
 use Rattle.rabit_frame.specs.Ending.{IsCutShort}
 use Rattle.rabit_frame.specs.Carrying.{LeavesByStatus}
-use Rattle.rabit_words.specs.Question.{usual_look, usual_limit, usual_letters}
+use Rattle.rabit_words.specs.declared.parts.TheConstants.{USUAL_LOOK, USUAL_LIMIT, USUAL_LETTERS}
 use Rattle.rabit_replies.specs.Printed.{included_text, limit_text}
-use Rattle.rabit_replies.specs.Files.{first_limits, second_limits, automaton_file, ReadsPairWithin, ReadsPair}
+use Rattle.rabit_replies.specs.declared.files.TheConstants.{FIRST_LIMITS, SECOND_LIMITS}
+use Rattle.rabit_replies.specs.Files.{automaton_file, ReadsPairWithin, ReadsPair}
 use Rattle.rabit_replies.specs.Replies.{IsVerdictReply, SaysApart}
 
 -- The terms of a decision that names neither a lookahead nor a limit nor letters.
 abbrev pub usual_terms : Mode → Terms
-usual_terms mode = terms_of_version_1 mode usual_look usual_limit
+usual_terms mode = terms_of_version_1 mode USUAL_LOOK USUAL_LIMIT
 
 -- How many letters a decision asks for: the usual number where none are named.
 abbrev pub letters_by : Option ℕ → ℕ
-letters_by None = usual_letters
+letters_by None = USUAL_LETTERS
 letters_by (Some letters) = letters
 
 -- The version of its certificate: 2 where letters are named, and otherwise 1.
@@ -51,7 +52,7 @@ terms_by mode look limit letters = record { mode = mode; look = look; letters = 
 
 -- The files that it reads: the two automata.
 abbrev pub pair_inputs : List ℕ → List ℕ → List Input
-pair_inputs a b = automaton_file 1 first_limits a ∷ automaton_file 2 second_limits b ∷ []
+pair_inputs a b = automaton_file 1 FIRST_LIMITS a ∷ automaton_file 2 SECOND_LIMITS b ∷ []
 
 -- The file that it writes: the certificate's text, under its name.
 abbrev pub certificate_put : List ℕ → Cert → Output
@@ -79,7 +80,7 @@ pub record IsCertForWithin (limits : Limits) (files : FileMap) (a b : List ℕ) 
 
 -- The same within the limits of a first file.
 abbrev pub IsCertFor : FileMap → List ℕ → List ℕ → Terms → Joined → Cert → Type 0
-IsCertFor = IsCertForWithin first_limits
+IsCertFor = IsCertForWithin FIRST_LIMITS
 
 -- The name holds the whole text of the answer for the two files, and all other files are as before.
 abbrev pub HoldsAnswer : FileMap → List ℕ → List ℕ → List ℕ → Terms → FileMap → Type 0

@@ -17,3 +17,4 @@ pub mod Batch
 pub mod Commands
 pub mod Complete
 pub mod Laws
+pub mod Limits

@@ -27,8 +27,9 @@ use Rattle.rabit_frame.specs.Reading.{reply_with, FileReads}
 use Rattle.rabit_frame.specs.Ending.{filed, IsCutShort}
 use Rattle.rabit_frame.specs.Carrying.{LeavesByStatus}
 use Rattle.rabit_replies.specs.Printed.{holds_text, lasso_against_text, word_against_text, limit_text}
-use Rattle.rabit_replies.specs.Files.{second_limits, automaton_file}
-use Rattle.rabit_words.specs.Question.{usual_limit}
+use Rattle.rabit_replies.specs.declared.files.TheConstants.{SECOND_LIMITS}
+use Rattle.rabit_replies.specs.Files.{automaton_file}
+use Rattle.rabit_words.specs.declared.parts.TheConstants.{USUAL_LIMIT}
 use Rattle.rabit_cli.specs.Include.{certificate_put, usual_terms}
 
 -- A property of automata, as it is decided: its name; the limits of the automaton that is read; the text of the automaton that is made for a read one, and how the two are joined to the
@@ -65,7 +66,7 @@ IsPropertyDecided property made m c mode pair r =
 -- The reply to the read automaton and what the made text reads as.
 abbrev pub IsPropertyDecidedFor : Property → List ℕ → List ℕ → Mode → Named → Reply → Type 0
 IsPropertyDecidedFor p m c mode one r =
-    (other : Named) × Reads (p.made one) second_limits other × ((pair : Joined) × p.joins one other pair × IsPropertyDecided p.name (p.made one) m c mode pair r)
+    (other : Named) × Reads (p.made one) SECOND_LIMITS other × ((pair : Joined) × p.joins one other pair × IsPropertyDecided p.name (p.made one) m c mode pair r)
 
 -- The reply to what was read.
 abbrev pub MeansProperty : Property → List ℕ → List ℕ → Mode → List Value → Reply → Type 0
@@ -75,7 +76,7 @@ MeansProperty p m c mode values r = (one : Named) × (values ≡ value.Automaton
 -- is so.
 pub record IsPropertyCertFor (p : Property) (mode : Mode) (files : FileMap) (a : List ℕ) (one other : Named) (pair : Joined) (cert : Cert) : Type 0 where
   pub read : FileReads files (automaton_file 1 p.limits a) (value.Automaton one)
-  pub other_reads : Reads (p.made one) second_limits other
+  pub other_reads : Reads (p.made one) SECOND_LIMITS other
   pub joined : p.joins one other pair
   pub answer : IsAnswer pair (usual_terms mode) cert
   pub valid : IsValid pair cert
@@ -131,7 +132,7 @@ pub record IsPropertyListed (p : Property) (files : FileMap) (a m c : List ℕ) 
   pub list : ListBody
   pub lists : written.cert.body ≡ Listing list
   pub listed : ListsNew written.pair (usual_terms mode) list
-  pub printed : sent' ≡ append_known sent (limit_text usual_limit)
+  pub printed : sent' ≡ append_known sent (limit_text USUAL_LIMIT)
 
 -- What a status up to 2 shows: 0 that the read automaton has the property, 1 that it has not, 2 a list of more elements than the limit.
 pub record ShowsProperty (p : Property) (files : FileMap) (a m c : List ℕ) (mode : Mode) (status : ℕ) (files' : FileMap) (sent sent' : Option (List ℕ)) : Type 0 where

@@ -1,5 +1,5 @@
 -- `reduce A`, with `--finite`, `--look K` and `--letters M`
-use Rattle.std.specs.Prelude.{◌≡◌, ℕ, List, [], ◌∷◌, Option}
+use Rattle.std.specs.Prelude.{◌≡◌, ◌+◌, ℕ, List, [], ◌∷◌, Option}
 use Rattle.std.specs.Io.KnownBytes.{append_known}
 use Rattle.shelf_io.specs.Shelf.{FileMap}
 use Rattle.auto_core.specs.Automaton.{Automaton}
@@ -20,11 +20,12 @@ use Rattle.rabit_frame.specs.declared.parts.Status.TheVariants as status
 use Rattle.rabit_frame.specs.declared.parts.Reply.{Reply}
 use Rattle.rabit_frame.specs.Files.{Input}
 use Rattle.rabit_frame.specs.Reading.{only_said, FileReads}
-use Rattle.rabit_replies.specs.Files.{first_limits, automaton_file}
+use Rattle.rabit_replies.specs.declared.files.TheConstants.{FIRST_LIMITS}
+use Rattle.rabit_replies.specs.Files.{automaton_file}
 
 -- The file that it reads: the automaton.
 abbrev pub reduce_inputs : List ℕ → List Input
-reduce_inputs name = automaton_file 1 first_limits name ∷ []
+reduce_inputs name = automaton_file 1 FIRST_LIMITS name ∷ []
 
 -- How far the games of the reduction look.
 abbrev pub sight_by : ℕ → ℕ → Foresight
@@ -42,7 +43,7 @@ MeansReduce mode sight values r =
 -- The most states, labels and transitions of a printed automaton: one state more than the file may have, for the line that keeps an
 -- automaton without accepting states from reading as one whose states all are.
 abbrev pub printed_limits : Limits
-printed_limits = record { states = 2049; labels = 256; transitions = 65536 }
+printed_limits = record { states = FIRST_LIMITS.states + 1; labels = FIRST_LIMITS.labels; transitions = FIRST_LIMITS.transitions }
 
 -- The text reads as an automaton within these limits, and whatever it reads as and the read automaton, joined by their labels' texts,
 -- accept the same lassos, in finite mode the same words.
@@ -56,7 +57,7 @@ pub record ReadsBackSame (named : Named) (mode : Mode) (text : List ℕ) : Type 
 pub record IsReducedShown (files : FileMap) (name : List ℕ) (mode : Mode) (sight : Foresight) (sent sent' : Option (List ℕ)) : Type 0 where
   pub named : Named
   pub reduced : Automaton
-  pub read : FileReads files (automaton_file 1 first_limits name) (value.Automaton named)
+  pub read : FileReads files (automaton_file 1 FIRST_LIMITS name) (value.Automaton named)
   pub is_reduced : IsReduced named.auto mode sight reduced
   pub same : Same named.auto reduced mode
   pub reads_back : ReadsBackSame named mode (written reduced named.labels)

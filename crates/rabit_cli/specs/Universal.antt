@@ -9,7 +9,7 @@ use Rattle.auto_core.specs.declared.parts.Trans.{Trans}
 use Rattle.ba_format.specs.Joining.{IsJoined}
 use Rattle.ba_format.specs.Writing.{written}
 use Rattle.cert_check.specs.Rules.{AreLabels}
-use Rattle.rabit_replies.specs.Files.{second_limits}
+use Rattle.rabit_replies.specs.declared.files.TheConstants.{SECOND_LIMITS}
 use Rattle.rabit_cli.specs.Property.{Property}
 
 -- A loop on the one state for each of so many labels.
@@ -34,7 +34,7 @@ AcceptsAll Finite A = (w : List ℕ) → AreLabels A.labels w → AcceptsWord A 
 abbrev pub universality : Property
 universality = record {
   name = codes "universal";
-  limits = second_limits;
+  limits = SECOND_LIMITS;
   made = λ one. written (all_loops (length one.labels)) one.labels;
   joins = λ one other. IsJoined other one;
   holds = AcceptsAll;

@@ -8,7 +8,7 @@ ghost use Rattle.cross_text.specs.Text.{CrossFormed};
 ghost use Rattle.decide.specs.Laws.{CanDecide};
 ghost use Rattle.rabit_frame.specs.declared.parts.FileKind.TheVariants as kind;
 ghost use Rattle.rabit_frame.specs.Reading.{AreOfKinds, IsOfKind, only_said};
-ghost use Rattle.rabit_replies.specs.Files.{first_limits, second_limits};
+ghost use Rattle.rabit_replies.specs.declared.files.TheConstants.{FIRST_LIMITS, SECOND_LIMITS};
 ghost use Rattle.rabit_replies.specs.Printed.{by_simulation_text};
 ghost use Rattle.rabit_cli.specs.Cross.{cross_file, cross_check_inputs, ConcludesCross, MeansCrossCheck};
 
@@ -87,8 +87,8 @@ fn concluded<'a>(alloc: Global, pair: &Joined, cross: &Cross) -> Result<Reply<'a
 
 /// The reply to the automata and the cross relation.
 fn checked<'a>(alloc: Global, one: &Named, two: &Named, cross: &Cross) -> Result<Reply<'a>, Memory>
-    requires one { IsWithinLimits first_limits one.now }
-    requires two { IsWithinLimits second_limits two.now }
+    requires one { IsWithinLimits FIRST_LIMITS one.now }
+    requires two { IsWithinLimits SECOND_LIMITS two.now }
     requires formed { CrossFormed cross.now }
     ensures { IfOk result (λ reply. (pair : AJoined) × IsJoined one.now two.now pair × ConcludesCross pair cross.now reply) }
 {

@@ -7,7 +7,7 @@ ghost use Rattle.ba_format.specs.Joining.{IsJoined};
 ghost use Rattle.decide.specs.Laws.{CanDecide};
 ghost use Rattle.cross_sim.specs.Written.{IsCrossOfGreatest};
 ghost use Rattle.rabit_frame.specs.Reading.{AreOfKinds, only_said, reply_with};
-ghost use Rattle.rabit_replies.specs.Files.{first_limits, second_limits};
+ghost use Rattle.rabit_replies.specs.declared.files.TheConstants.{FIRST_LIMITS, SECOND_LIMITS};
 ghost use Rattle.rabit_cli.specs.Include.{pair_inputs};
 ghost use Rattle.rabit_replies.specs.Printed.{by_simulation_text, no_relation_text};
 ghost use Rattle.rabit_cli.specs.Cross.{cross_put, IsCrossReply, MeansCross};
@@ -63,8 +63,8 @@ fn crossed<'a>(
     one: &Named,
     two: &Named,
 ) -> Result<Reply<'a>, Memory>
-    requires one { IsWithinLimits first_limits one.now }
-    requires two { IsWithinLimits second_limits two.now }
+    requires one { IsWithinLimits FIRST_LIMITS one.now }
+    requires two { IsWithinLimits SECOND_LIMITS two.now }
     requires look_from { 1 ≤ look }
     requires look_upto { look ≤ 6 }
     ensures { IfOk result (λ reply. (pair : AJoined) × IsJoined one.now two.now pair × IsCrossReply name.entry.now look pair reply) }

@@ -3,7 +3,7 @@
 ghost use Rattle.std.specs.Prelude.{◌≡◌, ℕ, List as Items, IfOk};
 ghost use Rattle.ba_format.specs.Reading.{IsWithinLimits};
 ghost use Rattle.rabit_frame.specs.Reading.{AreOfKinds};
-ghost use Rattle.rabit_replies.specs.Files.{first_limits, second_limits};
+ghost use Rattle.rabit_replies.specs.declared.files.TheConstants.{FIRST_LIMITS};
 ghost use Rattle.rabit_cli.specs.Property.{property_inputs, IsPropertyDecidedFor, MeansProperty};
 ghost use Rattle.rabit_cli.specs.Empty.{empty_text, emptiness};
 
@@ -29,7 +29,7 @@ fn of_one<'a>(
     mode: Mode,
     one: &Named,
 ) -> Result<Reply<'a>, Memory>
-    requires { IsWithinLimits first_limits one.now }
+    requires { IsWithinLimits FIRST_LIMITS one.now }
     ensures { IfOk result (IsPropertyDecidedFor emptiness made_name.entry.now certificate.entry.now mode one.now) }
 {
     let bytes = empty_text(alloc)?;

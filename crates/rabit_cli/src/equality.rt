@@ -11,7 +11,6 @@ ghost use Rattle.decide.specs.Laws.{CanDecide};
 ghost use Rattle.decide.specs.Answer.{IsAnswer};
 ghost use Rattle.equal_batch.specs.declared.outcome.Both.{Both as ABoth};
 ghost use Rattle.rabit_frame.specs.Reading.{AreOfKinds};
-ghost use Rattle.rabit_replies.specs.Files.{second_limits};
 ghost use Rattle.rabit_replies.specs.Printed.{witness_lines, first_apart_text, second_apart_text};
 ghost use Rattle.rabit_cli.specs.Include.{usual_terms, certificate_put};
 ghost use Rattle.rabit_cli.specs.Shrink.{IsNo};
@@ -132,8 +131,8 @@ fn of_both<'a>(
     two: &Named,
     cert: &Cert,
 ) -> Result<Reply<'a>, Memory>
-    requires one { IsWithinLimits second_limits one.now }
-    requires two { IsWithinLimits second_limits two.now }
+    requires one { IsWithinLimits SECOND_LIMITS one.now }
+    requires two { IsWithinLimits SECOND_LIMITS two.now }
     ensures { IfOk result (IsBothReply certificate.entry.now converse_name.entry.now one.now two.now cert.now) }
 {
     let exchanged = joined(alloc, two, one)?;
@@ -175,8 +174,8 @@ fn compared<'a>(
     one: &Named,
     two: &Named,
 ) -> Result<Reply<'a>, Memory>
-    requires one { IsWithinLimits second_limits one.now }
-    requires two { IsWithinLimits second_limits two.now }
+    requires one { IsWithinLimits SECOND_LIMITS one.now }
+    requires two { IsWithinLimits SECOND_LIMITS two.now }
     ensures { IfOk result (λ reply. (pair : AJoined) × IsJoined one.now two.now pair × IsEqualReply certificate.entry.now converse_name.entry.now one.now two.now pair reply) }
 {
     let pair = joined(alloc, one, two)?;

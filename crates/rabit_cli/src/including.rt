@@ -10,7 +10,7 @@ ghost use Rattle.decide.specs.Answer.{IsAnswer};
 ghost use Rattle.decide.specs.Laws.{CanDecide};
 ghost use Rattle.decide.specs.Terms.{AreBounded};
 ghost use Rattle.rabit_frame.specs.Reading.{AreOfKinds};
-ghost use Rattle.rabit_replies.specs.Files.{first_limits, second_limits};
+ghost use Rattle.rabit_replies.specs.declared.files.TheConstants.{FIRST_LIMITS, SECOND_LIMITS};
 ghost use Rattle.rabit_cli.specs.Include.{pair_inputs, IsDecided, MeansInclude};
 ghost use Rattle.rabit_cli.specs.Asked.{terms_of_asked};
 
@@ -89,8 +89,8 @@ fn included<'a>(
     one: &Named,
     two: &Named,
 ) -> Result<Reply<'a>, Memory>
-    requires one { IsWithinLimits first_limits one.now }
-    requires two { IsWithinLimits second_limits two.now }
+    requires one { IsWithinLimits FIRST_LIMITS one.now }
+    requires two { IsWithinLimits SECOND_LIMITS two.now }
     requires bounded { AreBounded (terms_of_asked asked) }
     requires limit_from { 1 ≤ asked.limit }
     ensures { IfOk result (λ reply. (pair : AJoined) × IsJoined one.now two.now pair × IsDecided name.entry.now (terms_of_asked asked) pair reply) }

@@ -4,7 +4,8 @@ ghost use Rattle.std.specs.Prelude.{IfOk};
 ghost use Rattle.ba_format.specs.Reading.{IsWithinLimits};
 ghost use Rattle.ba_format.specs.Joining.{IsJoined};
 ghost use Rattle.decide.specs.Laws.{CanDecide};
-ghost use Rattle.rabit_replies.specs.Files.{second_limits, first_limits, HasLabelTexts};
+ghost use Rattle.rabit_replies.specs.declared.files.TheConstants.{SECOND_LIMITS, FIRST_LIMITS};
+ghost use Rattle.rabit_replies.specs.Files.{HasLabelTexts};
 
 use auto_core::Memory;
 use ba_format::{Joined, Named};
@@ -12,8 +13,8 @@ use std::alloc::Global;
 
 /// Joins the labels of the two automata.
 pub fn joined(alloc: Global, one: &Named, two: &Named) -> Result<Joined, Memory>
-    requires one { IsWithinLimits first_limits one.now }
-    requires two { IsWithinLimits second_limits two.now }
+    requires one { IsWithinLimits FIRST_LIMITS one.now }
+    requires two { IsWithinLimits SECOND_LIMITS two.now }
     ensures joined { IfOk result (IsJoined one.now two.now) }
     ensures labels { IfOk result HasLabelTexts }
     ensures small { IfOk result CanDecide }

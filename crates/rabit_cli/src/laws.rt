@@ -1,6 +1,7 @@
 //! What the commands have to do with one another: each law is the contract of a function that does nothing.
 
 ghost use Rattle.rabit_cli.specs.Laws.{CheckAgrees, IncludeIsChecked, AnswersAreAccepted, CheckAgreesOnUpgrade, UpgradeIsChecked, CrossIsChecked, CrossRelationsAreAccepted, QuestionsShowInTurn, EmptyTextAcceptsNothing, UniversalTextAcceptsAll, EmptyIsChecked, UniversalIsChecked};
+ghost use Rattle.rabit_cli.specs.Limits.{LimitsInNumbers};
 
 /// A check of the answer that a decision wrote under a name of its own says what the decision said, where the file has at most 1 GiB.
 pub fn check_agrees()
@@ -60,4 +61,9 @@ pub fn empty_is_checked()
 /// A check of the universal automaton that was made for another, of that and of the certificate answers with the status that `universal` had.
 pub fn universal_is_checked()
     ensures { UniversalIsChecked }
+{}
+
+/// The limits and the usual terms of the program are these numbers.
+pub fn limits_are_these()
+    ensures { LimitsInNumbers }
 {}

@@ -8,7 +8,7 @@ ghost use Rattle.cert_value.specs.declared.types.Body.TheVariants.{NoLasso, NoWo
 ghost use Rattle.decide.specs.Laws.{CanDecide};
 ghost use Rattle.rabit_frame.specs.Lines.{line_end};
 ghost use Rattle.rabit_replies.specs.Printed.{lasso_lines, word_line, holds_text, lasso_against_text, word_against_text};
-ghost use Rattle.rabit_replies.specs.Files.{second_limits, automaton_file};
+ghost use Rattle.rabit_replies.specs.Files.{automaton_file};
 ghost use Rattle.rabit_cli.specs.Property.{IsPropertyReply, IsPropertyDecided};
 
 use auto_core::{Lasso, List, Memory, Mode, Word, append};
@@ -33,9 +33,9 @@ pub fn slots<'a>(alloc: Global, limits: Limits, name: &'a str) -> Result<List<Sl
 /// The automaton that the made text reads as.
 pub fn read_back(alloc: Global, text: &[u8]) -> Result<Named, Memory>
     requires short { length text.now ≤ 2 ^ 24 }
-    requires faultless { fault_of text.now second_limits ≡ None }
-    ensures reads { IfOk result (Reads text.now second_limits) }
-    ensures within { IfOk result (IsWithinLimits second_limits) }
+    requires faultless { fault_of text.now SECOND_LIMITS ≡ None }
+    ensures reads { IfOk result (Reads text.now SECOND_LIMITS) }
+    ensures within { IfOk result (IsWithinLimits SECOND_LIMITS) }
 {
     match ba_format::read(alloc, text, &SECOND_LIMITS) {
         Ok(named) => Ok(named),

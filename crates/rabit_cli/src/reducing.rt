@@ -3,7 +3,7 @@
 ghost use Rattle.std.specs.Prelude.{◌≡◌, ◌≤◌, ℕ, List as Items, IfOk};
 ghost use Rattle.ba_format.specs.Reading.{IsWithinLimits};
 ghost use Rattle.rabit_frame.specs.Reading.{AreOfKinds};
-ghost use Rattle.rabit_replies.specs.Files.{first_limits};
+ghost use Rattle.rabit_replies.specs.declared.files.TheConstants.{FIRST_LIMITS};
 ghost use Rattle.rabit_cli.specs.Reduce.{reduce_inputs, IsReducedText, MeansReduce};
 
 use auto_core::{List, Memory, Mode};
@@ -29,7 +29,7 @@ fn reduced_text(
     mode: Mode,
     sight: Foresight,
 ) -> Result<List<u8>, Memory>
-    requires within { IsWithinLimits first_limits named.now }
+    requires within { IsWithinLimits FIRST_LIMITS named.now }
     requires look_from { 1 ≤ sight.look }
     requires look_upto { sight.look ≤ 6 }
     requires letters_from { 1 ≤ sight.letters }

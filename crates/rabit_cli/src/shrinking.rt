@@ -7,7 +7,8 @@ ghost use Rattle.ba_format.specs.Joining.{IsJoined};
 ghost use Rattle.cert_value.specs.WellFormed.{WellFormed};
 ghost use Rattle.cert_check.specs.Rules.{KeepsRules};
 ghost use Rattle.rabit_frame.specs.Reading.{AreOfKinds};
-ghost use Rattle.rabit_replies.specs.Files.{second_limits, first_limits, HasLabelTexts};
+ghost use Rattle.rabit_replies.specs.declared.files.TheConstants.{SECOND_LIMITS, FIRST_LIMITS};
+ghost use Rattle.rabit_replies.specs.Files.{HasLabelTexts};
 ghost use Rattle.rabit_replies.specs.Replies.{nothing_to_shrink_reply};
 ghost use Rattle.rabit_cli.specs.Check.{check_inputs};
 ghost use Rattle.rabit_cli.specs.Shrink.{IsNo, IsShrunkBody, IsShrinkReply, MeansShrink};
@@ -97,8 +98,8 @@ fn of_three<'a>(
     two: &Named,
     cert: &Cert,
 ) -> Result<Reply<'a>, Memory>
-    requires one { IsWithinLimits first_limits one.now }
-    requires two { IsWithinLimits second_limits two.now }
+    requires one { IsWithinLimits FIRST_LIMITS one.now }
+    requires two { IsWithinLimits SECOND_LIMITS two.now }
     requires well_formed { WellFormed cert.now }
     ensures { IfOk result (λ reply. (pair : AJoined) × IsJoined one.now two.now pair × IsShrinkReply name.entry.now pair cert.now reply) }
 {

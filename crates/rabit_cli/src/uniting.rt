@@ -5,7 +5,8 @@ ghost use Rattle.ba_format.specs.declared.parts.Joined.{Joined as AJoined};
 ghost use Rattle.ba_format.specs.Reading.{IsWithinLimits};
 ghost use Rattle.ba_format.specs.Joining.{IsJoined};
 ghost use Rattle.rabit_frame.specs.Reading.{AreOfKinds};
-ghost use Rattle.rabit_replies.specs.Files.{second_limits, first_limits, HasLabelTexts};
+ghost use Rattle.rabit_replies.specs.declared.files.TheConstants.{SECOND_LIMITS, FIRST_LIMITS};
+ghost use Rattle.rabit_replies.specs.Files.{HasLabelTexts};
 ghost use Rattle.rabit_cli.specs.Include.{pair_inputs};
 ghost use Rattle.rabit_cli.specs.Union.{IsUnionReply, MeansUnion};
 
@@ -31,8 +32,8 @@ fn united<'a>(alloc: Global, mode: Mode, pair: &Joined) -> Result<Reply<'a>, Mem
 
 /// The reply to the automata.
 fn of_two<'a>(alloc: Global, mode: Mode, one: &Named, two: &Named) -> Result<Reply<'a>, Memory>
-    requires one { IsWithinLimits first_limits one.now }
-    requires two { IsWithinLimits second_limits two.now }
+    requires one { IsWithinLimits FIRST_LIMITS one.now }
+    requires two { IsWithinLimits SECOND_LIMITS two.now }
     ensures { IfOk result (λ reply. (pair : AJoined) × IsJoined one.now two.now pair × IsUnionReply mode pair reply) }
 {
     let pair = joined(alloc, one, two)?;

@@ -4,7 +4,7 @@ ghost use Rattle.std.specs.Prelude.{◌≡◌, ◌≤◌, ℕ, List as Items, le
 ghost use Rattle.ba_format.specs.Reading.{IsWithinLimits};
 ghost use Rattle.ba_format.specs.Writing.{written};
 ghost use Rattle.rabit_frame.specs.Reading.{AreOfKinds, HasWritableLabels};
-ghost use Rattle.rabit_replies.specs.Files.{second_limits};
+ghost use Rattle.rabit_replies.specs.declared.files.TheConstants.{SECOND_LIMITS};
 ghost use Rattle.rabit_cli.specs.Property.{property_inputs, IsPropertyDecidedFor, MeansProperty};
 ghost use Rattle.rabit_cli.specs.Universal.{loops, all_loops, universality};
 
@@ -56,7 +56,7 @@ fn of_one<'a>(
     mode: Mode,
     one: &Named,
 ) -> Result<Reply<'a>, Memory>
-    requires within { IsWithinLimits second_limits one.now }
+    requires within { IsWithinLimits SECOND_LIMITS one.now }
     requires writable { HasWritableLabels one.now }
     ensures { IfOk result (IsPropertyDecidedFor universality made_name.entry.now certificate.entry.now mode one.now) }
 {

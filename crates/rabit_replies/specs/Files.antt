@@ -10,14 +10,7 @@ use Rattle.rabit_frame.specs.Files.{Input}
 use Rattle.rabit_frame.specs.Reading.{FileReads}
 use Rattle.rabit_frame.specs.declared.parts.FileKind.TheVariants as kind
 use Rattle.rabit_frame.specs.declared.parts.Value.TheVariants as value
-
--- The most states, labels and transitions of a second file.
-abbrev pub second_limits : Limits
-second_limits = record { states = 512; labels = 256; transitions = 65536 }
-
--- The most states, labels and transitions of a first file.
-abbrev pub first_limits : Limits
-first_limits = record { states = 2048; labels = 256; transitions = 65536 }
+use Rattle.rabit_replies.specs.declared.files.TheConstants.{SECOND_LIMITS, FIRST_LIMITS}
 
 -- A file that is read as an automaton, with the number that its faults are told with.
 abbrev pub automaton_file : ℕ → Limits → List ℕ → Input
@@ -36,12 +29,12 @@ abbrev pub ReadsPairWithin : Limits → FileMap → List ℕ → List ℕ → Jo
 ReadsPairWithin limits files a b pair =
     (one two : Named)
     × FileReads files (automaton_file 1 limits a) (value.Automaton one)
-    × FileReads files (automaton_file 2 second_limits b) (value.Automaton two)
+    × FileReads files (automaton_file 2 SECOND_LIMITS b) (value.Automaton two)
     × IsJoined one two pair
 
 -- Both files read as such a pair, the first within the limits of a first file.
 abbrev pub ReadsPair : FileMap → List ℕ → List ℕ → Joined → Type 0
-ReadsPair = ReadsPairWithin first_limits
+ReadsPair = ReadsPairWithin FIRST_LIMITS
 
 -- Both automata have as many labels as there are texts of labels.
 pub record HasLabelTexts (pair : Joined) : Type 0 where

@@ -3,7 +3,7 @@
 ghost use Rattle.std.specs.Prelude.{◌≡◌};
 ghost use Rattle.rabit_frame.specs.declared.parts.FileKind.TheVariants as kind;
 ghost use Rattle.rabit_frame.specs.Reading.{IsOfKind};
-ghost use Rattle.rabit_replies.specs.Files.{second_limits, first_limits, automaton_file, certificate_file};
+ghost use Rattle.rabit_replies.specs.Files.{automaton_file, certificate_file};
 
 use ba_format::{Limits, Named};
 use cert_text::Cert;
@@ -35,14 +35,14 @@ pub fn automaton_slot<'a>(number: u32, limits: Limits, name: &'a str) -> Slot<'a
 
 /// A first automaton's file.
 pub fn first_slot<'a>(name: &'a str) -> Slot<'a>
-    ensures { result ≡ automaton_file 1 first_limits name.entry.now }
+    ensures { result ≡ automaton_file 1 FIRST_LIMITS name.entry.now }
 {
     automaton_slot(1, FIRST_LIMITS, name)
 }
 
 /// A second automaton's file.
 pub fn second_slot<'a>(name: &'a str) -> Slot<'a>
-    ensures { result ≡ automaton_file 2 second_limits name.entry.now }
+    ensures { result ≡ automaton_file 2 SECOND_LIMITS name.entry.now }
 {
     automaton_slot(2, SECOND_LIMITS, name)
 }
@@ -59,7 +59,7 @@ pub fn certificate_slot<'a>(name: &'a str) -> Slot<'a>
 
 /// The second automaton that was read.
 pub fn second_automaton(value: &Value) -> &Named
-    requires { IsOfKind (kind.Automaton 2 second_limits) value.now }
+    requires { IsOfKind (kind.Automaton 2 SECOND_LIMITS) value.now }
     ensures { value.now ≡ Value.Automaton result.now }
 {
     match value {
@@ -70,7 +70,7 @@ pub fn second_automaton(value: &Value) -> &Named
 
 /// The first automaton that was read.
 pub fn first_automaton(value: &Value) -> &Named
-    requires { IsOfKind (kind.Automaton 1 first_limits) value.now }
+    requires { IsOfKind (kind.Automaton 1 FIRST_LIMITS) value.now }
     ensures { value.now ≡ Value.Automaton result.now }
 {
     match value {

@@ -8,6 +8,7 @@ use Rattle.auto_core.specs.declared.parts.Mode.TheVariants.{Buchi, Finite}
 use Rattle.clap.specs.Words.{Row, first_of, fault_of, subcommand_of, Kinds}
 use Rattle.rabit_words.specs.declared.parts.Question.{Question as Held}
 use Rattle.rabit_words.specs.declared.parts.Question.TheVariants as held
+use Rattle.rabit_words.specs.declared.parts.TheConstants.{USUAL_LOOK, USUAL_LIMIT, USUAL_LETTERS}
 use Rattle.rabit_words.specs.Number.{number_between, number_or, number_if_named}
 use Rattle.rabit_words.specs.Command.{rabit_app}
 
@@ -50,27 +51,17 @@ abbrev pub mode_by : Option (List ℕ) → Mode
 mode_by None = Buchi
 mode_by (Some text) = if bytes_eq text (codes "true") then Finite else Buchi
 
--- The lookahead, the limit and the number of letters asked for, where none is named.
-abbrev pub usual_look : ℕ
-usual_look = 3
-
-abbrev pub usual_limit : ℕ
-usual_limit = 20000
-
-abbrev pub usual_letters : ℕ
-usual_letters = 1
-
 -- The lookahead, from 1 to 6, and the usual one where none is named.
 abbrev pub look_in : List Row → Option ℕ
-look_in rows = number_or usual_look 1 6 (first_of (codes "look") rows)
+look_in rows = number_or USUAL_LOOK 1 6 (first_of (codes "look") rows)
 
 -- The limit of a search, from 1 to 100,000, and the usual one where none is named.
 abbrev pub limit_in : List Row → Option ℕ
-limit_in rows = number_or usual_limit 1 100000 (first_of (codes "limit") rows)
+limit_in rows = number_or USUAL_LIMIT 1 100000 (first_of (codes "limit") rows)
 
 -- How many letters are asked for in a reduction, from 1 to 4, and the usual number where none is named.
 abbrev pub letters_in : List Row → Option ℕ
-letters_in rows = number_or usual_letters 1 4 (first_of (codes "letters") rows)
+letters_in rows = number_or USUAL_LETTERS 1 4 (first_of (codes "letters") rows)
 
 -- How many letters are asked for in an inclusion, from 1 to 4, if they are named.
 abbrev pub letters_named_in : List Row → Option (Option ℕ)

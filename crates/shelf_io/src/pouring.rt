@@ -86,7 +86,7 @@ fn pour_rest<H: Shelf, E: Eat>(
     cap: u64,
     eater: &mut E,
 ) -> Result<u64, LoadFault>
-    requires some_room { (0 < length piece.old) × (length piece.old ≤ 65536) }
+    requires some_room { (0 < length piece.old) × (length piece.old ≤ PIECE) }
     requires from_start { H.taken shelf.old ≡ 0 }
     ensures bytes { IfOk result (λ count. (terms : E.Terms) (before : List ℕ) → HasRoom (E.eaten terms eater.old) (E.most terms) cap before → HasEatenAll (Consumes (H.left shelf.old) (H.left shelf.new)) count (E.eaten terms eater.new) before) }
     ensures all_taken { IfOk result (λ count. count ≡ H.taken shelf.new) }

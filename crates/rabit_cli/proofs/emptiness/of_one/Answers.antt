@@ -1,7 +1,7 @@
 use Rattle.std.proofs.Common.{codes, ◌∙◌, subst}
 use Rattle.ba_format.specs.Reading.{Reads}
 use Rattle.rabit_frame.specs.declared.parts.Reply.{Reply}
-use Rattle.rabit_replies.specs.Files.{second_limits}
+use Rattle.rabit_replies.specs.declared.files.TheConstants.{SECOND_LIMITS}
 use Rattle.rabit_cli.specs.Property.{IsPropertyDecided, IsPropertyDecidedFor}
 use Rattle.rabit_cli.specs.Empty.{emptiness}
 use Rattle.rabit_cli.proofs.PairLemmas.{ok_gives}
@@ -15,6 +15,6 @@ returns c =
     let bytes = c.in_ok-bytes.bytes in
     let other = c.in_ok-other.other in
     let pair = c.in_ok-pair.pair in
-    let reads = subst (λ t. Reads t second_limits other) (c.as_slice.ensures ∙ c.in_ok-bytes.ensures) c.in_ok-other.ensures.reads in
+    let reads = subst (λ t. Reads t SECOND_LIMITS other) (c.as_slice.ensures ∙ c.in_ok-bytes.ensures) c.in_ok-other.ensures.reads in
     ok_gives (IsPropertyDecided (codes "empty") bytes e cert m pair) (IsPropertyDecidedFor emptiness e cert m c.args.one.now) c.decided.result
     (λ (r : Reply) is. (other, reads, (pair, c.in_ok-pair.ensures.joined, subst (λ t. IsPropertyDecided (codes "empty") t e cert m pair r) c.in_ok-bytes.ensures is))) c.decided.ensures

@@ -1,13 +1,14 @@
 use Rattle.std.proofs.Common.{◌≡◌, ℕ, ◌-◌, ◌<◌, ◌≤◌, ◌^◌, List, ◌++◌, length}
 use Rattle.std.specs.Io.KnownBytes.{Consumes}
 use Rattle.shelf_io.specs.Load.{HasRoom}
+use Rattle.shelf_io.specs.declared.pouring.TheConstants.{PIECE}
 use Rattle.shelf_io.proofs.pouring.pour_rest.Given as goal
 
 -- the bytes that were fed are those that the shelf gave; nothing else on the shelf has changed
 abbrev pub invariant-pieces : goal.invariant-pieces
 invariant-pieces g l =
     (0 < length l.piece)
-    × (length l.piece ≤ 65536)
+    × (length l.piece ≤ PIECE)
     × (l.fed ≤ l.cap)
     × (l.cap < 2 ^ 64)
     × (g.H.Shelf.taken l.shelf ≡ l.fed)

@@ -1,0 +1,5 @@
+use Rattle.std.proofs.Common.{refl}
+use Rattle.rabit_cli.proofs.laws.limits_are_these.Goals as goal
+
+pub returns : goal.returns
+returns c = record { first_file = refl; second_file = refl; result = refl; look = refl; limit = refl; letters = refl }

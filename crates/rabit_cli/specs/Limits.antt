@@ -1,0 +1,19 @@
+-- The limits of files and of results and the usual terms of the program, in numbers. Definitions cite the constants of the code; here is what these are.
+use Rattle.std.specs.Prelude.{◌≡◌, ℕ}
+use Rattle.ba_format.specs.declared.parts.Limits.{Limits}
+use Rattle.auto_ops.specs.declared.limits.TheConstants.{MOST_STATES, MOST_TRANSITIONS, MOST_LABELS}
+use Rattle.rabit_words.specs.declared.parts.TheConstants.{USUAL_LOOK, USUAL_LIMIT, USUAL_LETTERS}
+use Rattle.rabit_replies.specs.declared.files.TheConstants.{FIRST_LIMITS, SECOND_LIMITS}
+
+-- The most states, labels and transitions of a file or a result, each by itself.
+abbrev pub limits_of : ℕ → ℕ → ℕ → Limits
+limits_of states labels transitions = record { states = states; labels = labels; transitions = transitions }
+
+-- What a first and a second file may have, and a result; the usual lookahead, limit and number of letters.
+pub record LimitsInNumbers : Type 0 where
+  pub first_file : FIRST_LIMITS ≡ limits_of 2048 256 65536
+  pub second_file : SECOND_LIMITS ≡ limits_of 512 256 65536
+  pub result : limits_of MOST_STATES MOST_LABELS MOST_TRANSITIONS ≡ limits_of 2048 256 65536
+  pub look : USUAL_LOOK ≡ 3
+  pub limit : USUAL_LIMIT ≡ 20000
+  pub letters : USUAL_LETTERS ≡ 1
