@@ -3,6 +3,7 @@ pub mod ClosedLemmas
 pub mod SuperLemmas
 pub mod FirstLemmas
 pub mod KeyLemmas
+pub mod SeenLemmas
 pub mod ListingLemmas
 pub mod PairLemmas
 pub mod InclusionLemmas

@@ -25,7 +25,9 @@ use supergraph::Arc;
 /// An arc, and the number of its word's graph, in finite mode of its word's set.
 #[derive(Clone, Copy)]
 pub struct Numbered {
+    /// The arc.
     pub arc: Arc,
+    /// The number of the graph, in finite mode of the set.
     pub number: u32,
 }
 

@@ -24,7 +24,7 @@ fn mix(mixed: u64, word: u64) -> u64
 }
 
 /// The mixed number with these words more, one after the other.
-fn mix_words(mixed: u64, words: &[u64]) -> u64
+pub fn mix_words(mixed: u64, words: &[u64]) -> u64
     ensures { result ≡ mixed_words mixed words.now }
 {
     let mut now = mixed;

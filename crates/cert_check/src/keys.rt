@@ -1,16 +1,10 @@
-//! What elements are compared by, and whether each differs from those before it.
+//! What elements are compared by.
 
-ghost use Rattle.std.specs.Prelude.{◌≡◌, ◌⊎◌, ◌↔◌, ◌+◌, ◌^◌, ◌<◌, ℕ, not, length, IfOk};
-ghost use Rattle.log_check.specs.Checks.{Tells, checks_of_each};
-ghost use Rattle.cert_check.specs.Listing.{difference_checks};
-ghost use Rattle.cert_check.specs.Supers.{held_block, held_number, key_of, key_at, flag_word, Fit, Key, has_key, HasKey, AreSupers};
+ghost use Rattle.std.specs.Prelude.{◌≡◌, ◌⊎◌, ◌↔◌, ◌<◌, not, length, IfOk};
+ghost use Rattle.cert_check.specs.Supers.{held_block, held_number, key_of, key_at, flag_word, Fit, Key, has_key, HasKey};
 
 use crate::elements::Supers;
-use crate::firsts::first_numbers;
-use auto_core::{Auto, List, Memory, Mode};
-use cert_value::Element;
-use log_check::{CheckFault, Refusal};
-use std::alloc::Global;
+use auto_core::{Memory, Mode};
 use std::collections::BTreeSet;
 use supergraph::Arc;
 
@@ -37,7 +31,7 @@ fn note_fit(words: &[u64])
 {}
 
 /// The key of the element `e`.
-fn key_from(mode: Mode, supers: &Supers, firsts: &[u64], e: usize) -> [u64; 4]
+pub fn key_from(mode: Mode, supers: &Supers, firsts: &[u64], e: usize) -> [u64; 4]
     requires arcs { e < length supers.now.arcs.items }
     requires numbers { e < length supers.now.numbers.items }
     requires firsts { held_number supers.now e < length firsts.now }
@@ -58,34 +52,4 @@ pub fn is_new<const N: usize>(seen: &mut BTreeSet<[u64; N]>, key: [u64; N]) -> R
         Ok(new) => Ok(new),
         Err(_refused) => Err(Memory),
     }
-}
-
-/// Tests that each element differs from those before it, in order. `item` is the number of the first one's item.
-pub fn check_differences(
-    alloc: Global,
-    mode: Mode,
-    first: &Auto,
-    second: &Auto,
-    elements: &List<Element>,
-    item: u32,
-    supers: &Supers,
-) -> Result<(), CheckFault>
-    requires supers { AreSupers mode first.now second.now elements.now (length elements.now) supers.now }
-    requires few { length elements.now < 10 ^ 9 }
-    requires few_items { item + length elements.now < 2 ^ 32 }
-    ensures { Tells (checks_of_each (difference_checks mode first.now second.now elements.now item) 0 elements.now) result }
-{
-    let firsts = first_numbers(alloc, &supers.graphs.graphs)?;
-    let mut seen = BTreeSet::new(alloc);
-    let items = elements.as_slice();
-    for e in 0..items.len() {
-        let key = key_from(mode, supers, &firsts, e);
-        if !is_new(&mut seen, key)? {
-            return Err(CheckFault::Refused(Refusal {
-                rule: 18,
-                item: item + e as u32,
-            }));
-        }
-    }
-    Ok(())
 }

@@ -15,6 +15,7 @@ mod listing;
 mod orders;
 mod pairs;
 mod passing;
+mod seen;
 mod steps;
 mod words;
 

@@ -6,7 +6,7 @@ ghost use Rattle.cert_value.specs.WellFormed.{is_origin};
 ghost use Rattle.log_check.specs.Checks.{Tells};
 ghost use Rattle.cert_check.specs.Listing.{as_elements, listing_checks};
 
-use crate::{elements, keys};
+use crate::{elements, seen};
 use auto_core::{Auto, List, Memory, Mode, Origin};
 use cert_value::{Element, ListBody, Mark};
 use log_check::{CheckFault, Refusal};
@@ -45,5 +45,5 @@ pub fn check_listing(
     if elements.as_slice().len() as u64 != list.limit as u64 + 1 {
         return Err(CheckFault::Refused(Refusal { rule: 18, item }));
     }
-    keys::check_differences(alloc, mode, first, second, &elements, item + 1, &supers)
+    seen::check_differences(alloc, mode, first, second, &elements, item + 1, &supers)
 }

@@ -19,7 +19,9 @@ const PAIRS: usize = 16384;
 /// The relation of a certificate, and which graphs cover which by it, as far as that is remembered.
 #[derive(Drop)]
 pub struct Order {
+    /// The relation.
     pub rel: Rel,
+    /// Of pairs of graphs whether the first covers the second.
     pub covers: Memo,
 }
 

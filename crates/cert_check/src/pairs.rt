@@ -23,13 +23,16 @@ use shared_graphs::{GraphBlocks, marked_row};
 use std::alloc::Global;
 use std::collections::BTreeSet;
 
-/// What is remembered of tests: the states and graphs that passed, for each graph how often it was asked for, and the states from which it
-/// has a loop past an accepting state, if it was asked for often, and room.
+/// What is remembered of tests.
 #[derive(Drop)]
 pub struct Tests {
+    /// The states with graphs that passed.
     pub passed: BTreeSet<[u64; 2]>,
+    /// For each graph how often it was asked for.
     pub asked: Vec<u32>,
+    /// For each graph that was asked for often the states from which it has a loop past an accepting state; for others no row.
     pub loops: Vec<Vec<u64>>,
+    /// Room for the test of one pair.
     pub scratch: Scratch,
 }
 

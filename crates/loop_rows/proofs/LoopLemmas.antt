@@ -1,11 +1,10 @@
 -- Tables turned round, components, and what they mark.
-use Rattle.std.proofs.Common.{◌≡◌, ℕ, zero, suc, ◌+◌, ◌*◌, ◌<◌, ◌≤◌, ◌⊎◌, ◌↔◌, inl, inr, ◌||◌, ◌&&◌, Bool, true, false, List, length, refl, sym, ap, ◌∙◌, subst, arith}
+use Rattle.std.proofs.Common.{◌≡◌, ℕ, zero, suc, ◌+◌, ◌*◌, ◌<◌, ◌≤◌, ◌⊎◌, ◌↔◌, inl, inr, ◌||◌, ◌&&◌, Bool, true, false, List, length, refl, sym, ◌∙◌, subst, arith}
 use Rattle.std.proofs.lemmas.Bool.{cases_eq, cases_lt, false≢true}
 use Rattle.auto_core.specs.Game.{Chain, Close}
 use Rattle.auto_core.specs.Rows.{bit_of, cell_of, HasBit, HasCell}
 use Rattle.auto_core.specs.Reach.{IsTable, HasArc, ReturnsTo}
 use Rattle.auto_core.proofs.ReachLemmas.{close_refl, close_trans, close_one}
-use Rattle.row_steps.specs.Walks.{IsNextBit}
 use Rattle.loop_rows.specs.Loops.{LeadsToLoop, AreArcs, IsTurned}
 use Rattle.loop_rows.specs.Marking.{HasArcWithin, IsComponent, AreDone}
 
@@ -19,95 +18,21 @@ pub and_has : (a b : Bool) → (a && b) ≡ true ↔ ((a ≡ true) × (b ≡ tru
 and_has true b = (λ h. (refl, h), λ h. h.1)
 and_has false b = (λ h. absurd (false≢true h), λ h. absurd (false≢true h.0))
 
--- ---- one column more
-
--- The cells of a table after this column was set in the rows that the row has bits for, up to one of them.
-abbrev pub HasColumn : List ℕ → List ℕ → List ℕ → ℕ → ℕ → ℕ → Type 0
-HasColumn row old new width column from =
-    (p q : ℕ) → q < width * 64 → HasCell new width p q ↔ (HasCell old width p q ⊎ ((q ≡ column) × (p < from) × HasBit row p))
-
-pub column_more :
-    (row old now new : List ℕ) (width column from place : ℕ)
-    → column < width * 64
-    → HasColumn row old now width column from
-    → IsNextBit row from place
-    → cell_of new width place column ≡ true
-    → ((r s : ℕ) → s < width * 64 → ((r ≡ place) × (s ≡ column) → ⊥) → cell_of new width r s ≡ cell_of now width r s)
-    → HasColumn row old new width column (place + 1)
-column_more row old now new width column from place column_in before next here others p q q_in =
-    let behind = next.behind in
-    elim (cases_eq p place) [
-      | inr apart ↦ elsewhere (λ e. apart e.0)
-      | inl p_is ↦ elim (cases_eq q column) [
-        | inr apart ↦ elsewhere (λ e. apart e.1)
-        | inl q_is ↦
-            let set : HasCell new width p q = subst (λ r. HasCell new width r q) (sym p_is) (subst (λ s. HasCell new width place s) (sym q_is) here) in (
-              λ h. inr (q_is, omega arith, subst (λ r. HasBit row r) (sym p_is) next.here),
-              λ h. set,
-            )
-      ]
-    ]
-  where
-    elsewhere : ((p ≡ place) × (q ≡ column) → ⊥) → HasCell new width p q ↔ (HasCell old width p q ⊎ ((q ≡ column) × (p < place + 1) × HasBit row p))
-    elsewhere apart =
-        let same = others p q q_in apart in
-        let behind = next.behind in (
-          λ h. elim ((before p q q_in).0 (sym same ∙ h)) [
-            | inl was ↦ inl was
-            | inr (q_is, lt, has) ↦ inr (q_is, omega (arith, lt), has)
-          ],
-          λ h. elim h [
-            | inl was ↦ same ∙ (before p q q_in).1 (inl was)
-            | inr (q_is, lt, has) ↦ elim (cases_lt p from) [
-              | inl low ↦ same ∙ (before p q q_in).1 (inr (q_is, low, has))
-              | inr high ↦ elim (cases_eq p place) [
-                | inl p_is ↦ absurd (apart (p_is, q_is))
-                | inr p_not ↦ absurd (false≢true (sym (next.none_between p high (omega (arith, lt))) ∙ has))
-              ]
-            ]
-          ],
-        )
-
 -- ---- a table turned round
 
--- Its cells, so far as the rows below `from` are turned.
-abbrev pub IsTurnedBelow : List ℕ → List ℕ → ℕ → ℕ → Type 0
-IsTurnedBelow table turned width from =
-    (p q : ℕ) → q < width * 64 → HasCell turned width p q ↔ ((q < from) × (p < width * 64) × HasCell table width q p)
-
-pub turned_more :
-    (table now new row : List ℕ) (width from : ℕ)
-    → IsTurnedBelow table now width from
-    → ((p : ℕ) → p < width * 64 → bit_of row p ≡ cell_of table width from p)
-    → ((p : ℕ) → width * 64 ≤ p → bit_of row p ≡ false)
-    → ((p q : ℕ) → q < width * 64 → HasCell new width p q ↔ (HasCell now width p q ⊎ ((q ≡ from) × HasBit row p)))
-    → IsTurnedBelow table new width (from + 1)
-turned_more table now new row width from before inside outside is p q q_in = (
-  λ h. elim ((is p q q_in).0 h) [
-    | inl was ↦ let (lt, p_in, cell) = (before p q q_in).0 was in (omega (arith, lt), p_in, cell)
-    | inr (q_is, has) ↦ elim (cases_lt p (width * 64)) [
-      | inl near ↦ (omega arith, near, subst (λ s. HasCell table width s p) (sym q_is) (sym (inside p near) ∙ has))
-      | inr far ↦ absurd (false≢true (sym (outside p far) ∙ has))
-    ]
-  ],
-  λ (lt, p_in, cell). elim (cases_eq q from) [
-    | inl q_is ↦ (is p q q_in).1 (inr (q_is, inside p p_in ∙ subst (λ s. HasCell table width s p) q_is cell))
-    | inr q_not ↦ (is p q q_in).1 (inl ((before p q q_in).1 (omega (arith, lt), p_in, cell)))
-  ],
-)
-
-pub turned_all : (table turned : List ℕ) (n width from : ℕ) → IsTable table n width → length turned ≡ n * width → from ≡ n → IsTurnedBelow table turned width from → IsTurned table turned n width
-turned_all table turned n width from t len whole is =
+pub turned_all :
+    (table turned : List ℕ) (n width : ℕ)
+    → IsTable table n width
+    → length turned ≡ n * width
+    → ((p q : ℕ) → p < n → q < width * 64 → HasCell turned width p q ↔ ((q < n) × HasCell table width q p))
+    → IsTurned table turned n width
+turned_all table turned n width t len is =
     let room = t.room in
     record {
-      fits = record {
-        len = len;
-        room = room;
-        columns = λ p q p_in q_in h. let (lt, _, _) = (is p q q_in).0 h in omega (arith, lt);
-      };
+      fits = record { len = len; room = room; columns = λ p q p_in q_in h. ((is p q p_in q_in).0 h).0 };
       each = λ p q. (
-        λ (p_in, q_in, h). (q_in, p_in, ((is p q (omega arith)).0 h).2),
-        λ (q_in, p_in, h). (p_in, q_in, (is p q (omega arith)).1 (omega arith, omega arith, h)),
+        λ (p_in, q_in, h). (q_in, p_in, ((is p q p_in (omega arith)).0 h).1),
+        λ (q_in, p_in, h). (p_in, q_in, (is p q p_in (omega arith)).1 (q_in, h)),
       );
     }
 

@@ -10,16 +10,22 @@ use std::test::Fail;
 pub const USAGE: &str =
     "usage: rabit include A B CERT [--finite] [--look K] [--limit N] [--letters M] | check A B CERT | reduce A [--finite] [--look K] [--letters M] | drill SEED STATES LABELS | upgrade CERT OUT | cross A B OUT [--look K] | cross-check A B FILE | equal A B C1 C2 | batch LIST | union A B [--finite] | intersect A B [--finite] | shrink A B CERT OUT | empty A E CERT [--finite] | universal A U CERT [--finite]\n";
 
+/// A ring of three states by one label.
 pub const RING: &str = "[0]\na,[0]->[1]\na,[1]->[2]\na,[2]->[0]\n[0]\n";
 
+/// One state with a loop by the label `b` alone.
 pub const ONLY_B: &str = "[0]\nb,[0]->[0]\n[0]\n";
 
+/// The certificate that tells the ring of three apart from the loop by `b`.
 pub const RING_NO: &str = "rabit-cert 1 buchi no\nsizes 3 1 2\nprefix\nloop 0\nend\n";
 
+/// One state with a loop by the label `a` alone.
 pub const ONE_A: &str = "[0]\na,[0]->[0]\n[0]\n";
 
+/// One state with a loop by each of two labels.
 pub const TWO_LETTERS: &str = "[0]\na,[0]->[0]\nb,[0]->[0]\n[0]\n";
 
+/// The certificate that tells the loop by two labels apart from the one by `a`.
 pub const LETTERS_NO: &str = "rabit-cert 1 buchi no\nsizes 1 1 2\nprefix 1\nloop 1\nend\n";
 
 pub(crate) fn list_of(alloc: Global, bytes: &[u8]) -> Result<List<u8>, Memory> {

@@ -21,10 +21,12 @@ use supergraph::Arc;
 /// How many answers about pairs of graphs are remembered, of either kind.
 const PAIRS: usize = 4096;
 
-/// The prints of the first graphs, by their numbers, and what was told of pairs of graphs.
+/// What is remembered of graphs that cover one another.
 #[derive(Debug, Drop)]
 pub struct Coverings {
+    /// The prints of the first graphs, by their numbers.
     pub prints: Vec<Print>,
+    /// Of pairs of graphs whether the first covers the second.
     pub memo: Memo,
 }
 

@@ -14,12 +14,14 @@ use auto_core::{Auto, Memory, rows};
 use lasso_test::{Scratch, enters};
 use std::alloc::Global;
 
-/// Of the first 64 states those to which an arc of the graph leads from the initial state, and those from which the graph has a loop; and the
-/// row of all states from which it has one. With no row they are not marked.
+/// What is seen of a graph at once, for the lasso test.
 #[derive(Debug, Drop)]
 pub struct Glimpse {
+    /// Of the first 64 states those to which an arc of the graph leads from the initial state.
     pub entered: u64,
+    /// Of the first 64 states those from which the graph has a loop.
     pub looping: u64,
+    /// The row of all states from which it has one; with no row they are not marked.
     pub row: Vec<u64>,
 }
 

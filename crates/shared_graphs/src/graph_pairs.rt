@@ -14,11 +14,14 @@ use auto_core::{Auto, Memory};
 use lasso_test::Scratch;
 use std::alloc::Global;
 
-/// What is remembered of pairs of graphs, the glimpses of graphs by their numbers, and the room for the lasso test.
+/// What is remembered of pairs of graphs.
 #[derive(Debug, Drop)]
 pub struct GraphPairs {
+    /// Which cover which.
     pub covers: Coverings,
+    /// The glimpses of the first graphs, by their numbers.
     pub glimpses: Vec<Glimpse>,
+    /// Room for the lasso test.
     pub scratch: Scratch,
 }
 

@@ -34,22 +34,29 @@ const OWN: u32 = 0;
 
 const KEPT: u32 = 1;
 
-/// The mixed words of the block of a graph, and the number of the graph before it at the same place, which need not be there.
+/// Of a graph, how an equal one is looked for.
 #[derive(Debug, Drop)]
 pub struct Link {
+    /// The mixed words of its block.
     pub mixed: u64,
+    /// The number of the graph before it at the same place, which need not be there.
     pub before: u32,
 }
 
-/// The blocks of the graphs by their numbers, with links, the number of the latest at each place, the graphs of letters, those extended
-/// by letters, and room for the block of a letter while a graph is extended.
+/// Graphs that stand once each, by their numbers.
 #[derive(Drop)]
 pub struct Graphs {
+    /// Their blocks.
     pub graphs: GraphBlocks,
+    /// Their links.
     pub links: Vec<Link>,
+    /// The number of the latest at each place.
     pub latest: Vec<u32>,
+    /// The graphs of letters.
     pub letters: Memo,
+    /// The graphs extended by letters.
     pub steps: Memo,
+    /// Room for the block of a letter while a graph is extended.
     pub letter_block: Vec<u64>,
 }
 

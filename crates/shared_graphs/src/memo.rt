@@ -19,14 +19,18 @@ pub enum Answer {
 /// What was answered about two numbers.
 #[derive(Clone, Copy, Debug)]
 pub struct Noted {
+    /// The first number.
     pub first: u32,
+    /// The second one.
     pub second: u32,
+    /// What was answered.
     pub answer: Answer,
 }
 
-/// The answers, each at the place of its two numbers.
+/// Answers that are remembered.
 #[derive(Debug, Drop)]
 pub struct Memo {
+    /// Each at the place of its two numbers.
     pub told: Vec<Option<Noted>>,
 }
 

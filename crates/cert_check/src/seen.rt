@@ -1,0 +1,112 @@
+//! Whether each element differs from those before it.
+
+ghost use Rattle.std.specs.Prelude.{◌≡◌, ◌+◌, ◌*◌, ◌^◌, ◌<◌, ◌≤◌, ℕ, true, false, length, IfOk};
+ghost use Rattle.log_check.specs.Checks.{Tells, checks_of_each};
+ghost use Rattle.cert_check.specs.Listing.{difference_checks};
+ghost use Rattle.cert_check.specs.Seen.{place_of, HaveSeen, IsUnlikeEarlier};
+ghost use Rattle.cert_check.specs.Supers.{held_block, held_number, key_at, Fit, Key, AreSupers};
+
+use crate::elements::Supers;
+use crate::firsts::{first_numbers, mix_words};
+use crate::keys::{is_new, key_from};
+use auto_core::{Auto, List, Memory, Mode};
+use cert_value::Element;
+use log_check::{CheckFault, Refusal};
+use std::alloc::Global;
+use std::collections::BTreeSet;
+
+/// So many places there are for each element, and one more: most keys come to a place that is free.
+const PLACES_AN_ELEMENT: usize = 4;
+
+/// The elements whose keys were seen. Words of a hostile file can make many keys have one place; these are told apart by the order of their
+/// words.
+#[derive(Drop)]
+struct Seen {
+    /// At the place of a key the number of the first element that came there and one more, or 0.
+    places: Vec<u32>,
+    /// The keys that came to a place where an element with another key was.
+    others: BTreeSet<[u64; 4]>,
+}
+
+/// The place of a key among so many.
+fn place_of(key: &[u64; 4], count: usize) -> usize
+    requires { 0 < count }
+    ensures place { result ≡ place_of count key.now }
+    ensures within { result < count }
+{
+    ((mix_words(0, key) >> 32) % count as u64) as usize
+}
+
+impl Seen {
+    /// No elements, and room for so many.
+    fn new(alloc: Global, most: usize) -> Result<Seen, Memory>
+        requires few { most < 10 ^ 9 }
+        ensures { IfOk result (λ seen. (keys : ℕ → Key) → HaveSeen keys 0 seen) }
+    {
+        Ok(Seen {
+            places: vec![in alloc; 0; most * PLACES_AN_ELEMENT + 1]?,
+            others: BTreeSet::new(alloc),
+        })
+    }
+}
+
+/// Tells whether no element before `e` has its key, and if so has seen it too.
+fn is_unlike_earlier(
+    mode: Mode,
+    supers: &Supers,
+    firsts: &[u64],
+    e: usize,
+    seen: &mut Seen,
+) -> Result<bool, Memory>
+    requires arcs { e < length supers.now.arcs.items }
+    requires numbers { e < length supers.now.numbers.items }
+    requires firsts { (d : ℕ) → d ≤ e → held_number supers.now d < length firsts.now }
+    requires few { e < 10 ^ 9 }
+    requires seen { HaveSeen (key_at mode supers.now firsts.now) e seen.old }
+    ensures fits { IfOk result (λ _. Fit (held_block supers.now e)) }
+    ensures unlike { IfOk result (λ is. is ≡ true → IsUnlikeEarlier (key_at mode supers.now firsts.now) e) }
+    ensures seen { IfOk result (λ is. is ≡ true → HaveSeen (key_at mode supers.now firsts.now) (e + 1) seen.new) }
+    ensures alike { IfOk result (λ is. is ≡ false → IsUnlikeEarlier (key_at mode supers.now firsts.now) e → ⊥) }
+{
+    let key = key_from(mode, supers, firsts, e);
+    let place = place_of(&key, seen.places.len());
+    let known = seen.places[place];
+    if known == 0 {
+        seen.places[place] = e as u32 + 1;
+        return Ok(true);
+    }
+    let first = key_from(mode, supers, firsts, known as usize - 1);
+    if first == key {
+        return Ok(false);
+    }
+    is_new(&mut seen.others, key)
+}
+
+/// Tests that each element differs from those before it, in order. `item` is the number of the first one's item.
+pub fn check_differences(
+    alloc: Global,
+    mode: Mode,
+    first: &Auto,
+    second: &Auto,
+    elements: &List<Element>,
+    item: u32,
+    supers: &Supers,
+) -> Result<(), CheckFault>
+    requires supers { AreSupers mode first.now second.now elements.now (length elements.now) supers.now }
+    requires few { length elements.now < 10 ^ 9 }
+    requires few_items { item + length elements.now < 2 ^ 32 }
+    ensures { Tells (checks_of_each (difference_checks mode first.now second.now elements.now item) 0 elements.now) result }
+{
+    let firsts = first_numbers(alloc, &supers.graphs.graphs)?;
+    let items = elements.as_slice();
+    let mut seen = Seen::new(alloc, items.len())?;
+    for e in 0..items.len() {
+        if !is_unlike_earlier(mode, supers, &firsts, e, &mut seen)? {
+            return Err(CheckFault::Refused(Refusal {
+                rule: 18,
+                item: item + e as u32,
+            }));
+        }
+    }
+    Ok(())
+}
