@@ -1,7 +1,7 @@
 # make install PREFIX=/usr/local    puts the program, its man page and the completions for bash below PREFIX
 # make lint                         looks for automata of examples/ that read as something else than they mean
 # make tutorial                     runs the commands of the tutorial and compares what they print with the text
-# make second-checker               compares the program with tools/check_cert.py on the stored cases
+# make second-checker               compares the program with tools/check_cert.py on the stored cases and on damaged ones
 
 PREFIX ?= /usr/local
 DESTDIR ?=
