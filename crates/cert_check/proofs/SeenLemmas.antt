@@ -63,7 +63,7 @@ module _ (keys : ℕ → Key) (e : ℕ) (old : Seen) (were : HaveSeen keys e old
 
     pub seen_at_place : HaveSeen keys (e + 1) new
     seen_at_place = record {
-      some = let old_some = were.some in omega (arith, size, old_some);
+      not_empty = let old_some = were.not_empty in omega (arith, size, old_some);
       each = λ d below. elim (cases_lt d e) [
         | inl before ↦ elim (were.each d before) [
           | inl (j, there, is) ↦ inl (j, stays (keys d) (omega (arith, there)) ∙ there, is)
@@ -71,13 +71,13 @@ module _ (keys : ℕ → Key) (e : ℕ) (old : Seen) (were : HaveSeen keys e old
         ]
         | inr last ↦ let is : d ≡ e = omega (arith, below, last) in inl (e, subst (λ k. at_place new (keys k) ≡ e + 1) (sym is) here, ap keys (sym is))
       ];
-      places = λ p d there. elim (cases_eq p place) [
+      earlier = λ p d there. elim (cases_eq p place) [
         | inl same ↦
             let now : slice_index_or new.places.items p 0 ≡ e + 1 = ap (λ l. slice_index_or l p 0) put ∙ ap (λ q. slice_index_or (slice_set places place (e + 1)) q 0) same ∙ get_or-set_same places place (e + 1) 0 within in
             omega (arith, now, there)
         | inr other ↦
             let was : slice_index_or places p 0 ≡ d + 1 = sym (ap (λ l. slice_index_or l p 0) put ∙ get_or-set_other places place p (e + 1) 0 other) ∙ there in
-            let before = were.places p d was in
+            let before = were.earlier p d was in
             omega (arith, before)
       ];
       others = λ key has. let (d, before, is) = were.others key (sym (ap (λ s. has_key s key) same_others) ∙ has) in (d, omega (arith, before), is);
@@ -90,7 +90,7 @@ module _ (keys : ℕ → Key) (e : ℕ) (old : Seen) (were : HaveSeen keys e old
   -- An element stands there.
   module _ (d : ℕ) (there : at_place old (keys e) ≡ d + 1) where
     pub alike_at_place : keys d ≡ keys e → IsUnlikeEarlier keys e → ⊥
-    alike_at_place same unlike = unlike d (were.places place d there) same
+    alike_at_place same unlike = unlike d (were.earlier place d there) same
 
     pub unlike_others : (keys d ≡ keys e → ⊥) → (HasKey old.others (keys e) → ⊥) → IsUnlikeEarlier keys e
     unlike_others differs none c before same = elim (were.each c before) [
@@ -103,7 +103,7 @@ module _ (keys : ℕ → Key) (e : ℕ) (old : Seen) (were : HaveSeen keys e old
 
     pub seen_among_others : (new : Seen) → new.places ≡ old.places → ((other : Key) → HasKey new.others other ↔ (HasKey old.others other ⊎ (other ≡ keys e))) → HaveSeen keys (e + 1) new
     seen_among_others new same_places added = record {
-      some = subst (λ v. 0 < length v.items) (sym same_places) were.some;
+      not_empty = subst (λ v. 0 < length v.items) (sym same_places) were.not_empty;
       each = λ c below. elim (cases_lt c e) [
         | inl before ↦ elim (were.each c before) [
           | inl (j, at, is) ↦ inl (j, same_at (keys c) ∙ at, is)
@@ -111,7 +111,7 @@ module _ (keys : ℕ → Key) (e : ℕ) (old : Seen) (were : HaveSeen keys e old
         ]
         | inr last ↦ let is : c ≡ e = omega (arith, below, last) in inr ((added (keys c)).1 (inr (ap keys is)))
       ];
-      places = λ p c at. let before = were.places p c (sym (ap (λ v. slice_index_or v.items p 0) same_places) ∙ at) in omega (arith, before);
+      earlier = λ p c at. let before = were.earlier p c (sym (ap (λ v. slice_index_or v.items p 0) same_places) ∙ at) in omega (arith, before);
       others = λ key has. elim ((added key).0 has) [
         | inl was ↦ let (c, before, is) = were.others key was in (c, omega (arith, before), is)
         | inr is ↦ (e, omega arith, is)

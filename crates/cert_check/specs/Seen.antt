@@ -4,7 +4,7 @@ use Rattle.cert_check.specs.declared.seen.Seen.{Seen}
 use Rattle.cert_check.specs.Firsts.{mixed_words}
 use Rattle.cert_check.specs.Supers.{Key, HasKey}
 
--- The place of a key among so many: what is left of the upper half of its mixed number.
+-- The place of a key among so many: the remainder of the upper half of its mixed number, divided by how many there are.
 abbrev pub place_of : ℕ → Key → ℕ
 place_of count key = (mixed_words 0 key / 2 ^ 32) % count
 
@@ -16,11 +16,12 @@ at_place seen key = slice_index_or seen.places.items (place_of (length seen.plac
 abbrev pub IsSeen : (ℕ → Key) → Seen → Key → Type 0
 IsSeen keys seen key = ((d : ℕ) × (at_place seen key ≡ d + 1) × (keys d ≡ key)) ⊎ HasKey seen.others key
 
--- The elements before e are those that were seen, where `keys` has the key of each; where a key is among the others, its place is taken.
+-- Of each element before e the key, which `keys` has, is at its place or among the others; at places and among the others are only elements before e and
+-- their keys; and the place of a key among the others is taken.
 pub record HaveSeen (keys : ℕ → Key) (e : ℕ) (seen : Seen) : Type 0 where
-  pub some : 0 < length seen.places.items
+  pub not_empty : 0 < length seen.places.items
   pub each : (d : ℕ) → d < e → IsSeen keys seen (keys d)
-  pub places : (p d : ℕ) → slice_index_or seen.places.items p 0 ≡ d + 1 → d < e
+  pub earlier : (p d : ℕ) → slice_index_or seen.places.items p 0 ≡ d + 1 → d < e
   pub others : (key : Key) → HasKey seen.others key → (d : ℕ) × (d < e) × (key ≡ keys d)
   pub taken : (key : Key) → HasKey seen.others key → 0 < at_place seen key
 

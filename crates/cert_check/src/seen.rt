@@ -15,11 +15,12 @@ use log_check::{CheckFault, Refusal};
 use std::alloc::Global;
 use std::collections::BTreeSet;
 
-/// So many places there are for each element, and one more: most keys come to a place that is free.
-const PLACES_AN_ELEMENT: usize = 4;
+/// How many places the table has for each element; the whole table has one more, so that it is never empty. With so many, most keys find theirs
+/// free.
+const PLACES_PER_ELEMENT: usize = 4;
 
-/// The elements whose keys were seen. Words of a hostile file can make many keys have one place; these are told apart by the order of their
-/// words.
+/// The elements whose keys were seen. Words of a hostile file can make many keys have one place; all but the first of them are looked for in the
+/// ordered set.
 #[derive(Drop)]
 struct Seen {
     /// At the place of a key the number of the first element that came there and one more, or 0.
@@ -44,13 +45,13 @@ impl Seen {
         ensures { IfOk result (λ seen. (keys : ℕ → Key) → HaveSeen keys 0 seen) }
     {
         Ok(Seen {
-            places: vec![in alloc; 0; most * PLACES_AN_ELEMENT + 1]?,
+            places: vec![in alloc; 0; most * PLACES_PER_ELEMENT + 1]?,
             others: BTreeSet::new(alloc),
         })
     }
 }
 
-/// Tells whether no element before `e` has its key, and if so has seen it too.
+/// Tells whether no element before `e` has the key of `e`; if so, `seen` has `e` too afterwards.
 fn is_unlike_earlier(
     mode: Mode,
     supers: &Supers,
@@ -70,13 +71,13 @@ fn is_unlike_earlier(
 {
     let key = key_from(mode, supers, firsts, e);
     let place = place_of(&key, seen.places.len());
-    let known = seen.places[place];
-    if known == 0 {
+    let standing = seen.places[place];
+    if standing == 0 {
         seen.places[place] = e as u32 + 1;
         return Ok(true);
     }
-    let first = key_from(mode, supers, firsts, known as usize - 1);
-    if first == key {
+    let other_key = key_from(mode, supers, firsts, standing as usize - 1);
+    if other_key == key {
         return Ok(false);
     }
     is_new(&mut seen.others, key)
