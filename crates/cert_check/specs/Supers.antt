@@ -124,12 +124,12 @@ Fit words = (k : ℕ) → slice_index_or words k 0 < 2 ^ 64
 abbrev pub Key : Type 0
 Key = List ℕ
 
--- Whether the key is among those seen.
+-- Whether the set has the key.
 abbrev pub has_key : BTreeSet Key → Key → Bool
-has_key seen key = contains (slice_cmp nat_cmp) seen key
+has_key keys key = contains (slice_cmp nat_cmp) keys key
 
 abbrev pub HasKey : BTreeSet Key → Key → Type 0
-HasKey seen key = has_key seen key ≡ true
+HasKey keys key = has_key keys key ≡ true
 
 -- The relation is the certificate's, and what is remembered of graphs that cover others by it is so.
 pub record IsEvidenceOrder (B : Automaton) (evidence : YesBody) (graphs : List (List ℕ)) (order : Order) : Type 0 where

@@ -23,7 +23,9 @@ const TARGET_STEP: u32 = 2_246_822_519;
 /// answer.
 #[derive(Clone, Copy, Debug)]
 pub struct PairBits {
+    /// Which of the pairs the graph has.
     pub own: u64,
+    /// To which of them it has an answer.
     pub answered: u64,
 }
 
@@ -31,7 +33,9 @@ pub struct PairBits {
 /// shares with others.
 #[derive(Clone, Copy, Debug)]
 pub struct Print {
+    /// Of the picked pairs, a bit for each.
     pub picked: PairBits,
+    /// Of each pair, a bit that it shares with others, where there are few states; else no bit.
     pub folded: PairBits,
 }
 

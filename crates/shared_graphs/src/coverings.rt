@@ -21,7 +21,7 @@ use supergraph::Arc;
 /// How many answers about pairs of graphs are remembered, of either kind.
 const PAIRS: usize = 4096;
 
-/// What is remembered of graphs that cover one another.
+/// What is remembered of whether graphs cover others.
 #[derive(Debug, Drop)]
 pub struct Coverings {
     /// The prints of the first graphs, by their numbers.

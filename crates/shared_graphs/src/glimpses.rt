@@ -21,7 +21,7 @@ pub struct Glimpse {
     pub entered: u64,
     /// Of the first 64 states those from which the graph has a loop.
     pub looping: u64,
-    /// The row of all states from which it has one; with no row they are not marked.
+    /// The row of all states from which the graph has a loop; with no row they are not marked.
     pub row: Vec<u64>,
 }
 

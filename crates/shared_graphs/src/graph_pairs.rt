@@ -17,7 +17,7 @@ use std::alloc::Global;
 /// What is remembered of pairs of graphs.
 #[derive(Debug, Drop)]
 pub struct GraphPairs {
-    /// Which cover which.
+    /// Which graphs cover which, as far as that is remembered.
     pub covers: Coverings,
     /// The glimpses of the first graphs, by their numbers.
     pub glimpses: Vec<Glimpse>,

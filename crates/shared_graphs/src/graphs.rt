@@ -50,7 +50,7 @@ pub struct Graphs {
     pub graphs: GraphBlocks,
     /// Their links.
     pub links: Vec<Link>,
-    /// The number of the latest at each place.
+    /// For each place of the table the number of the graph that came there last.
     pub latest: Vec<u32>,
     /// The graphs of letters.
     pub letters: Memo,

@@ -30,7 +30,7 @@ pub struct Noted {
 /// Answers that are remembered.
 #[derive(Debug, Drop)]
 pub struct Memo {
-    /// Each at the place of its two numbers.
+    /// The answers, each at the place of its two numbers.
     pub told: Vec<Option<Noted>>,
 }
 

@@ -36,7 +36,7 @@ returns-then-not-branch c =
     let listed : Contains (numbers_at old (held_arc su e).from) (held_number su e) = c.requires.seen c.pair_key-key.result (held_arc su e).from (held_number su e) there key_is in
     record {
       turns = turns_kept ev su e n old c.requires.turns (λ turn. listed);
-      seen = keys_more (λ p h. Contains (numbers_at old p) h) c.args.seen.now c.is_new.new.seen c.pair_key-key.result (held_arc su e).from (held_number su e) key_is
+      seen = keys_more (λ p h. Contains (numbers_at old p) h) c.args.seen.now c.is_new.new.keys c.pair_key-key.result (held_arc su e).from (held_number su e) key_is
           c.in_ok-is_new.ensures.added listed c.requires.seen;
     }
 
@@ -69,8 +69,8 @@ returns c =
     record {
       turns = if_ok_as c.add_at.result (λ _. HasAddedAt old new c.element-it.result.arc.from c.element-it.result.number) (λ _. AreTurns ev su (e + 1) n new)
           (λ _ added. turns_added ev su e n old new c.requires.turns turn (here added)) c.add_at.ensures;
-      seen = if_ok_as c.add_at.result (λ _. HasAddedAt old new c.element-it.result.arc.from c.element-it.result.number) (λ _. AreListedAtStates c.is_new.new.seen new)
-          (λ _ added. keys_more (λ p h. Contains (numbers_at new p) h) c.args.seen.now c.is_new.new.seen c.pair_key-key.result (held_arc su e).from (held_number su e) key_is
+      seen = if_ok_as c.add_at.result (λ _. HasAddedAt old new c.element-it.result.arc.from c.element-it.result.number) (λ _. AreListedAtStates c.is_new.new.keys new)
+          (λ _ added. keys_more (λ p h. Contains (numbers_at new p) h) c.args.seen.now c.is_new.new.keys c.pair_key-key.result (held_arc su e).from (held_number su e) key_is
           c.in_ok-is_new.ensures.added (listed_now old new (held_arc su e).from (held_number su e) (here added))
           (λ k q h has is. listed_stay old new (held_arc su e).from (held_number su e) (here added) q h (c.requires.seen k q h has is))) c.add_at.ensures;
     }

@@ -74,7 +74,7 @@ returns-then-not-branch-clause-tests c = λ _.
     let key_is : c.pair_key-key.result ≡ to ∷ held_number su e ∷ [] = c.pair_key-key.ensures ∙ ap (λ (m : Numbered). m.arc.to ∷ m.number ∷ []) c.element-it.ensures in
     let there : has_key c.args.tests.now.passed c.pair_key-key.result ≡ true = search rules in
     record {
-      passed = keys_more (λ p g. HasLassos B su.graphs.graphs.items g (numbers_at c.args.turns.now p)) c.args.tests.now.passed c.is_new.new.seen c.pair_key-key.result to (held_number su e) key_is
+      passed = keys_more (λ p g. HasLassos B su.graphs.graphs.items g (numbers_at c.args.turns.now p)) c.args.tests.now.passed c.is_new.new.keys c.pair_key-key.result to (held_number su e) key_is
           c.in_ok-is_new.ensures.added (c.requires.tests.passed c.pair_key-key.result to (held_number su e) there key_is) c.requires.tests.passed;
       loops = c.requires.tests.loops;
       size = c.requires.tests.size;
@@ -123,7 +123,7 @@ returns-clause-tests c = λ is.
     let to : ℕ = (held_arc su e).to in
     let key_is : c.pair_key-key.result ≡ to ∷ held_number su e ∷ [] = c.pair_key-key.ensures ∙ ap (λ (m : Numbered). m.arc.to ∷ m.number ∷ []) c.element-it.ensures in
     record {
-      passed = keys_more (λ q g. HasLassos B su.graphs.graphs.items g (numbers_at c.args.turns.now q)) c.args.tests.now.passed c.is_new.new.seen c.pair_key-key.result to (held_number su e) key_is
+      passed = keys_more (λ q g. HasLassos B su.graphs.graphs.items g (numbers_at c.args.turns.now q)) c.args.tests.now.passed c.is_new.new.keys c.pair_key-key.result to (held_number su e) key_is
           c.in_ok-is_new.ensures.added ((asked (goal.at.returns-clause-tests c).In_ok-holds).0 is) c.requires.tests.passed;
       loops = c.in_ok-holds.ensures.loops;
       size = c.in_ok-holds.ensures.size ∙ c.requires.tests.size;

@@ -95,9 +95,9 @@ returns-clause-seen c =
     let some : 0 < c.index-standing.result.now = search rules in
     let stands : at_place c.args.seen.now (K c.args.e) ≡ c.index-standing.result.now - 1 + 1 = at_is ∙ omega (arith, some) in
     let others = c.args.seen.now.others in
-    IfOk-weaker c.is_new.result (λ _. (other : Key) → HasKey c.is_new.new.seen other ↔ (HasKey others other ⊎ (other ≡ c.key_from-key.result))) _
+    IfOk-weaker c.is_new.result (λ _. (other : Key) → HasKey c.is_new.new.keys other ↔ (HasKey others other ⊎ (other ≡ c.key_from-key.result))) _
     (λ is added new. seen_among_others K c.args.e c.args.seen.now c.requires.seen (c.index-standing.result.now - 1) stands _ refl
-    (subst (λ key. (other : Key) → HasKey c.is_new.new.seen other ↔ (HasKey others other ⊎ (other ≡ key))) c.key_from-key.ensures.key added))
+    (subst (λ key. (other : Key) → HasKey c.is_new.new.keys other ↔ (HasKey others other ⊎ (other ≡ key))) c.key_from-key.ensures.key added))
     c.is_new.ensures.added
 
 pub returns-clause-alike : goal.returns-clause-alike
