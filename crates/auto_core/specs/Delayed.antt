@@ -4,6 +4,7 @@
 -- announced, and the move is by the first of the n. The rank of a triple bounds the moves that are left until he is accepting.
 use Rattle.std.specs.Prelude.{ℕ, zero, suc, Bool, ◌<◌, ◌==◌, ◌≡◌, ◌≤◌, ◌*◌, ◌^◌, nat_le, if◌then◌else◌, Option, None, Some, List, [], ◌∷◌, ◌++◌, length, All, Contains}
 use Rattle.auto_core.specs.Automaton.{Automaton, Moves, IsAccepting}
+use Rattle.auto_core.specs.declared.limits.TheConstants.{MOST_TRIPLES_WITH_A_LETTER}
 
 -- The rank for which this number stands, in a table or in a certificate: one less, and none for 0.
 abbrev pub rank_in_code : ℕ → Option ℕ
@@ -84,13 +85,9 @@ pub record IsGreatestDelayed (A : Automaton) (n : ℕ) (X : RankedTriples) : Typ
 abbrev pub AreStateRelated : ℕ → ℕ → RankedTriples → ℕ → ℕ → Type 0
 AreStateRelated labels n X p q = (b : List ℕ) → IsTripleWord labels n b → HoldsTriple X b p q
 
--- Four million: the most triples, each with one further letter, of a game with more than one announced letter.
-abbrev pub most_triples_with_a_letter : ℕ
-most_triples_with_a_letter = 4000000
-
--- With n announced letters there are at most so many triples, each with one further letter.
+-- With n announced letters there are at most so many triples, each with one further letter, as a game with more than one letter may have.
 abbrev pub are_few_triples_with_a_letter : Automaton → ℕ → Bool
-are_few_triples_with_a_letter A n = nat_le (A.states * A.states * A.labels ^ n) most_triples_with_a_letter
+are_few_triples_with_a_letter A n = nat_le (A.states * A.states * A.labels ^ n) MOST_TRIPLES_WITH_A_LETTER
 
 -- The greatest number of announced letters up to n, and at least 1, with which there are so few.
 abbrev pub most_letters : Automaton → ℕ → ℕ

@@ -3,6 +3,7 @@
 
 mod automaton;
 pub mod laws;
+mod limits;
 mod listing;
 mod making;
 mod parts;
@@ -12,6 +13,7 @@ mod state_set;
 mod tables;
 
 pub use automaton::{Auto, BuildFault};
+pub use limits::MOST_TRIPLES_WITH_A_LETTER;
 pub use listing::{List, append};
 pub use making::of_parts;
 pub use parts::{Lasso, Memory, Mode, Origin, Span, Trans, Word};

@@ -8,10 +8,11 @@ use Rattle.std.specs.List.{fold}
 use Rattle.std.specs.Ordering.{nat_cmp}
 use Rattle.shared_graphs.specs.Graphs.{block_at}
 use Rattle.cert_check.specs.declared.firsts.Known.{Known}
+use Rattle.cert_check.specs.declared.firsts.TheConstants.{MIX_TURN, MIX_FACTOR}
 
--- The mixed number with one word more: turned by five bits, joined with the word, and times an odd number whose bits have no pattern.
+-- The mixed number with one word more: turned by MIX_TURN bits, joined with the word, and times MIX_FACTOR.
 unfoldable pub mixed_with : ℕ → ℕ → ℕ
-mixed_with mixed word = (bit_xor (rotate_left w64 mixed 5) word * 5871781006564002453) % 2 ^ 64
+mixed_with mixed word = (bit_xor (rotate_left w64 mixed MIX_TURN) word * MIX_FACTOR) % 2 ^ 64
 
 -- With these words more, one after the other.
 abbrev pub mixed_words : ℕ → List ℕ → ℕ

@@ -8,6 +8,12 @@ use shared_graphs::GraphBlocks;
 use std::alloc::Global;
 use std::collections::BTreeMap;
 
+/// By how many bits a mixed number is turned for the next word.
+const MIX_TURN: u32 = 5;
+
+/// What a mixed number is multiplied by for each word: an odd number whose bits have no pattern.
+const MIX_FACTOR: u64 = 5871781006564002453;
+
 /// By each mixed number the first graph whose block has it, and by their blocks the first ones of those that come later, whose block is another one.
 /// Words of a hostile file can make many blocks have one mixed number; these are told apart by the order of their words.
 #[derive(Drop)]
@@ -20,7 +26,7 @@ struct Known<'a> {
 fn mix(mixed: u64, word: u64) -> u64
     ensures { result ≡ mixed_with mixed word }
 {
-    (mixed.rotate_left(5) ^ word).wrapping_mul(5871781006564002453)
+    (mixed.rotate_left(MIX_TURN) ^ word).wrapping_mul(MIX_FACTOR)
 }
 
 /// The mixed number with these words more, one after the other.

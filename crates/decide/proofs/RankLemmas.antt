@@ -12,6 +12,7 @@ use Rattle.std.proofs.lemmas.Option.{same_Some}
 use Rattle.std.proofs.Math.Nat.{mul_assoc, mul_comm, mul-le-mul_left, mul-le-mul_right, mul-one, pow-le-pow_right, pow-succ', pow-zero}
 use Rattle.auto_core.specs.Automaton.{Automaton}
 use Rattle.auto_core.specs.Delayed.{RankedTriples, HasRank, IsRight, AreTriplesOf, IsGreatestDelayed, letters_for}
+use Rattle.auto_core.specs.declared.limits.TheConstants.{MOST_TRIPLES_WITH_A_LETTER}
 use Rattle.auto_core.proofs.PathLemmas.{Contains-cons_cases, Contains-here, Contains-later, none_in_nil}
 use Rattle.auto_core.proofs.MemberLemmas.{Rises, map_from, map_has, rises_from_pairs}
 use Rattle.delayed_sim.specs.Rankings.{Triple, Ranking, IsRanking, IsTripleBefore}
@@ -258,7 +259,7 @@ words_are_few A n few = elim (letters_are_few A n) [
       let all : A.states * A.states * A.labels ^ 0 ≡ A.states * A.states = ap (λ m. A.states * A.states * m) (pow-zero A.labels) ∙ mul-one (A.states * A.states) in
       subst (λ k. A.states * A.states * A.labels ^ k ≤ 4194304) (sym none) (omega (arith, all, first, few))
   | inr (labels, test) ↦
-      let le = leb-true (A.states * A.states * A.labels ^ letters_for A n) 4000000 test in
+      let le = leb-true (A.states * A.states * A.labels ^ letters_for A n) MOST_TRIPLES_WITH_A_LETTER test in
       let more : A.labels ^ (letters_for A n - 1) ≤ A.labels ^ letters_for A n = pow-le-pow_right labels (omega arith) in
       let up : A.states * A.states * A.labels ^ (letters_for A n - 1) ≤ A.states * A.states * A.labels ^ letters_for A n = mul-le-mul_left (A.states * A.states) more in
       omega (arith, le, up)

@@ -56,7 +56,7 @@ fn mark_set(automaton: &Auto, number: usize, made: &mut [u64], width: usize)
 fn fill_sets(automaton: &Auto, sets: &mut [u64], stride: usize, made: &mut [u64], width: usize)
     requires valid { IsAutomaton automaton.now }
     requires room { automaton.now.states ≤ width * 64 }
-    requires few { width ≤ 32 }
+    requires few { width ≤ MOST_WORDS }
     requires stride { stride ≡ automaton.now.labels * width }
     requires sets { length sets.old ≡ width * 256 * stride }
     requires made { length made.old ≡ stride }

@@ -5,7 +5,8 @@ use Rattle.std.proofs.lemmas.Nat.{mul-le}
 use Rattle.std.proofs.Math.Nat.{pow-zero, pow-suc, mul-le-mul_right, le-mul_of_pos_right}
 use Rattle.auto_core.specs.Automaton.{Automaton, IsAutomaton, IsInRange, IsBefore, trans, trans_at}
 use Rattle.auto_core.specs.declared.parts.Trans.{Trans}
-use Rattle.auto_core.specs.Delayed.{most_triples_with_a_letter, are_few_triples_with_a_letter, most_letters, letters_for}
+use Rattle.auto_core.specs.Delayed.{are_few_triples_with_a_letter, most_letters, letters_for}
+use Rattle.auto_core.specs.declared.limits.TheConstants.{MOST_TRIPLES_WITH_A_LETTER}
 use Rattle.delayed_sim.proofs.LetterLemmas.{with_labels}
 
 -- ---- the number of transitions
@@ -66,11 +67,11 @@ transitions_few A valid = upto (length A.transitions) refl
 pub record IsSmall (A : Automaton) (n : ℕ) : Type 0 where
   pub labels : 0 < A.labels
   pub words : 0 < A.labels ^ (n - 1)
-  pub word_count : A.labels ^ (n - 1) ≤ most_triples_with_a_letter
-  pub places : A.states * A.labels ^ (n - 1) ≤ most_triples_with_a_letter
-  pub letters : A.labels * A.labels ^ (n - 1) ≤ most_triples_with_a_letter
-  pub steps : length A.transitions * A.labels ^ (n - 1) ≤ most_triples_with_a_letter
-  pub pairs : A.states * A.labels ^ (n - 1) * A.states ≤ most_triples_with_a_letter
+  pub word_count : A.labels ^ (n - 1) ≤ MOST_TRIPLES_WITH_A_LETTER
+  pub places : A.states * A.labels ^ (n - 1) ≤ MOST_TRIPLES_WITH_A_LETTER
+  pub letters : A.labels * A.labels ^ (n - 1) ≤ MOST_TRIPLES_WITH_A_LETTER
+  pub steps : length A.transitions * A.labels ^ (n - 1) ≤ MOST_TRIPLES_WITH_A_LETTER
+  pub pairs : A.states * A.labels ^ (n - 1) * A.states ≤ MOST_TRIPLES_WITH_A_LETTER
 
 most_upto : (A : Automaton) (n : ℕ) → most_letters A n ≤ suc n
 most_upto A zero = omega arith
@@ -117,7 +118,7 @@ small_game A n valid more fits =
     let w = l ^ (n - 1) in
     let next : n ≡ suc (n - 1) = omega arith in
     let power : l ^ n ≡ w * l = ap (λ i. l ^ i) next ∙ pow-suc l (n - 1) in
-    let all : s * s * (w * l) ≤ most_triples_with_a_letter = subst (λ x. s * s * x ≤ most_triples_with_a_letter) power all_few in
+    let all : s * s * (w * l) ≤ MOST_TRIPLES_WITH_A_LETTER = subst (λ x. s * s * x ≤ MOST_TRIPLES_WITH_A_LETTER) power all_few in
     let words : 0 < w = some_power l (n - 1) labels_some in
     let square : 0 < s * s = let more = le-mul_of_pos_right s states_some in let some = states_some in omega arith in
     let some_letters : 0 < s * l = let more = le-mul_of_pos_right s labels_some in let some = states_some in omega arith in
@@ -145,8 +146,8 @@ small_game A n valid more fits =
     states_some : 0 < A.states
     states_some = let first = valid.initial_is_state in omega arith
 
-    all_few : A.states * A.states * A.labels ^ n ≤ most_triples_with_a_letter
-    all_few = leb-true (A.states * A.states * A.labels ^ n) most_triples_with_a_letter (fits_few A n more fits)
+    all_few : A.states * A.states * A.labels ^ n ≤ MOST_TRIPLES_WITH_A_LETTER
+    all_few = leb-true (A.states * A.states * A.labels ^ n) MOST_TRIPLES_WITH_A_LETTER (fits_few A n more fits)
 
     same_triples : (s w l : ℕ) → s * w * (s * l) ≡ s * s * (w * l)
     same_triples s w l = grind arith

@@ -3,7 +3,8 @@ use Rattle.std.proofs.Common.{◌≡◌, ◌==◌, ℕ, zero, suc, ◌*◌, ◌^
 use Rattle.std.proofs.lemmas.Bool.{cond-true, cond-false, ne_eqb, lt-leb}
 use Rattle.std.proofs.Math.Nat.{mul-le-mul_left, pow-le-pow_right, pow-suc, mul_assoc}
 use Rattle.auto_core.specs.Automaton.{Automaton}
-use Rattle.auto_core.specs.Delayed.{most_triples_with_a_letter, are_few_triples_with_a_letter, most_letters, letters_for}
+use Rattle.auto_core.specs.Delayed.{are_few_triples_with_a_letter, most_letters, letters_for}
+use Rattle.auto_core.specs.declared.limits.TheConstants.{MOST_TRIPLES_WITH_A_LETTER}
 
 pub most_is : (A : Automaton) (l : ℕ) → 1 ≤ l → are_few_triples_with_a_letter A l ≡ true → most_letters A l ≡ l
 most_is A zero le few = absurd (omega arith)
@@ -16,10 +17,10 @@ most_less A (suc k) m e few =
     cond-false (are_few_triples_with_a_letter A (suc k)) (suc k) (most_letters A k) few ∙ ap (λ j. most_letters A j) same
 
 -- more letters make no fewer triples
-pub many_stay : (A : Automaton) (count i l : ℕ) → 0 < A.labels → i ≤ l → count ≡ A.states * A.states * A.labels ^ i → most_triples_with_a_letter < count → are_few_triples_with_a_letter A l ≡ false
+pub many_stay : (A : Automaton) (count i l : ℕ) → 0 < A.labels → i ≤ l → count ≡ A.states * A.states * A.labels ^ i → MOST_TRIPLES_WITH_A_LETTER < count → are_few_triples_with_a_letter A l ≡ false
 many_stay A count i l some le is many =
     let more : A.states * A.states * A.labels ^ i ≤ A.states * A.states * A.labels ^ l = mul-le-mul_left (A.states * A.states) (pow-le-pow_right some le) in
-    lt-leb (A.states * A.states * A.labels ^ l) most_triples_with_a_letter (omega arith)
+    lt-leb (A.states * A.states * A.labels ^ l) MOST_TRIPLES_WITH_A_LETTER (omega arith)
 
 pub power_next : (count square labels i next : ℕ) → next ≡ suc i → count ≡ square * labels ^ i → count * labels ≡ square * labels ^ next
 power_next count square labels i next e is =

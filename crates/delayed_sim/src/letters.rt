@@ -4,12 +4,9 @@ ghost use Rattle.std.specs.Prelude.{◌≡◌, ◌<◌, ◌≤◌};
 ghost use Rattle.auto_core.specs.Automaton.{IsAutomaton};
 ghost use Rattle.auto_core.specs.Delayed.{are_few_triples_with_a_letter, letters_for};
 
-use auto_core::Auto;
+use auto_core::{Auto, MOST_TRIPLES_WITH_A_LETTER};
 
-/// The most triples, each with one further letter, of a game with more than one announced letter.
-const MOST_TRIPLES_WITH_A_LETTER: u64 = 4_000_000;
-
-/// Tells whether with so many announced letters there are at most that many triples, each with one further letter.
+/// Tells whether with so many announced letters there are at most as many triples, each with one further letter, as a game with more than one letter may have.
 fn are_few_triples_with_a_letter(automaton: &Auto, letters: u32) -> bool
     requires { 0 < automaton.now.labels }
     ensures { result ≡ are_few_triples_with_a_letter automaton.now letters }

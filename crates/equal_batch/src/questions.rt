@@ -9,7 +9,7 @@ use auto_core::{List, Memory};
 use std::alloc::Global;
 
 /// The most lines of a list.
-const MOST_LINES: u32 = 1_000;
+pub const MOST_LINES: u32 = 1_000;
 
 /// A question: the names of three files, as bytes.
 #[derive(Debug, Drop)]

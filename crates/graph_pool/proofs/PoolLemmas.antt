@@ -16,6 +16,7 @@ use Rattle.graph_pool.specs.declared.pool.Pool.TheInside.{Inside}
 use Rattle.graph_pool.proofs.LiveBlocks.{live_blocks-set, live_blocks-given, live_blocks-pushed, live_blocks-taken, live_blocks-grown, live_words, get-past, get-unmarked}
 use Rattle.graph_pool.proofs.LinkLemmas.{chain_apart, chain_written, chain_marked, chain_pushed, chain_grown, chain_end, chain_first, chain_taken}
 use Rattle.graph_pool.specs.Links.{IsNoneOf, IsChain}
+use Rattle.graph_pool.specs.declared.store.TheConstants.{CHUNK}
 
 -- A block that is filled anew has as many words as each.
 pub even_row : (bs : List (List ℕ)) (i size : ℕ) (ws : List ℕ) → i < length bs → All (λ xs. length xs ≡ size) bs → All (λ xs. length xs ≡ size) (slice_set bs i (refill size (get_or bs i []) ws))
@@ -52,7 +53,7 @@ pool_lent p h w live i =
       used = omega arith;
       roomy = subst (λ (k : ℕ). k ≤ vec_capacity p.marks) (sym long) i.roomy;
       few = subst (λ (k : ℕ). k ≤ 2 ^ 32) (sym long) i.few;
-      chunked = subst (λ (k : ℕ). k % 64 ≡ 0) (sym long) i.chunked;
+      chunked = subst (λ (k : ℕ). k % CHUNK ≡ 0) (sym long) i.chunked;
       back = i.back;
       chain = chain_written p.store.blocks p.marks.items p.next i.back h ws (chain_apart p.store.blocks p.marks.items p.next i.back h words.2 i.chain) i.chain;
       free = omega arith;
@@ -118,7 +119,7 @@ pool_taken p q h live i store marks cap next fewer more =
         used = omega arith;
         roomy = subst (λ (k : ℕ). length q.store.blocks ≤ k) (sym cap) (subst (λ (k : ℕ). k ≤ vec_capacity p.marks) (sym many) i.roomy);
         few = subst (λ (k : ℕ). k ≤ 2 ^ 32) (sym many) i.few;
-        chunked = subst (λ (k : ℕ). k % 64 ≡ 0) (sym many) i.chunked;
+        chunked = subst (λ (k : ℕ). k % CHUNK ≡ 0) (sym many) i.chunked;
         back = h ∷ i.back;
         chain = subst (λ (l : List (List ℕ)). IsChain l q.marks.items q.next (h ∷ i.back)) (sym whole)
             (subst (λ (l : List Bool). IsChain (slice_set bs h ws) l q.next (h ∷ i.back)) (sym marks) (subst (λ (k : ℕ). IsChain (slice_set bs h ws) (slice_set ms h false) k (h ∷ i.back)) (sym next) chain));
@@ -150,7 +151,7 @@ given p q h hs i store used cap chain free none blocks more fewer =
         used = omega arith;
         roomy = subst (λ (k : ℕ). length q.store.blocks ≤ k) (sym cap) (subst (λ (k : ℕ). k ≤ vec_capacity p.marks) many i.roomy);
         few = subst (λ (k : ℕ). k ≤ 2 ^ 32) many i.few;
-        chunked = subst (λ (k : ℕ). k % 64 ≡ 0) many i.chunked;
+        chunked = subst (λ (k : ℕ). k % CHUNK ≡ 0) many i.chunked;
         back = hs;
         chain = subst (λ (l : List (List ℕ)). IsChain l q.marks.items q.next hs) whole chain;
         free = omega arith;
@@ -213,14 +214,14 @@ linked_low p h i some is =
     (omega arith, omega arith)
 
 -- A chunk more.
-pub pool_grown : (p q : Inside) → IsPool p → p.free ≡ 0 → map.len (live_blocks p.marks.items p.store.blocks) + 1 < 2 ^ 32 → q.store.size ≡ p.store.size → q.store.blocks ≡ p.store.blocks ++ replicate 64 (replicate p.store.size 0)
-    → q.marks.items ≡ p.marks.items → length p.marks.items + 64 ≤ vec_capacity q.marks → q.next ≡ p.next → q.live ≡ p.live → q.free ≡ 64
+pub pool_grown : (p q : Inside) → IsPool p → p.free ≡ 0 → map.len (live_blocks p.marks.items p.store.blocks) + 1 < 2 ^ 32 → q.store.size ≡ p.store.size → q.store.blocks ≡ p.store.blocks ++ replicate CHUNK (replicate p.store.size 0)
+    → q.marks.items ≡ p.marks.items → length p.marks.items + CHUNK ≤ vec_capacity q.marks → q.next ≡ p.next → q.live ≡ p.live → q.free ≡ CHUNK
     → IsPool q × (live_blocks q.marks.items q.store.blocks ≡ live_blocks p.marks.items p.store.blocks)
 pool_grown p q i none few size whole marks wide next same more =
     let bs = p.store.blocks in
     let ms = p.marks.items in
-    let fresh : List (List ℕ) = replicate 64 (replicate p.store.size 0) in
-    let count : length fresh ≡ 64 = length-replicate 64 (replicate {A = ℕ} p.store.size 0) in
+    let fresh : List (List ℕ) = replicate CHUNK (replicate p.store.size 0) in
+    let count : length fresh ≡ CHUNK = length-replicate CHUNK (replicate {A = ℕ} p.store.size 0) in
     let longer : length q.store.blocks ≡ length bs + length fresh = ap (λ (l : List (List ℕ)). length l) whole ∙ length-append bs fresh in
     let used = i.used in
     let free = i.free in
@@ -234,7 +235,7 @@ pool_grown p q i none few size whole marks wide next same more =
         some = subst (λ (k : ℕ). 0 < k) (sym size) i.some;
         even = subst (λ (l : List (List ℕ)). All (λ ws. length ws ≡ q.store.size) l) (sym whole)
             (subst (λ (k : ℕ). All (λ ws. length ws ≡ k) (bs ++ fresh)) (sym size)
-            (All-append (λ ws. length ws ≡ p.store.size) bs fresh i.even (All-replicate (λ ws. length ws ≡ p.store.size) 64 (replicate p.store.size 0) (length-replicate p.store.size 0))));
+            (All-append (λ ws. length ws ≡ p.store.size) bs fresh i.even (All-replicate (λ ws. length ws ≡ p.store.size) CHUNK (replicate p.store.size 0) (length-replicate p.store.size 0))));
         used = omega arith;
         roomy = omega arith;
         few = omega arith;

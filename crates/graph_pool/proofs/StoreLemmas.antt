@@ -13,6 +13,7 @@ use Rattle.graph_pool.specs.BlockList.{BlockList, with_block}
 use Rattle.graph_pool.specs.Segments.{Segment, segment_at, moved, rewritten, segments_from, even_parts, IsSegment, EndsAt}
 use Rattle.graph_pool.specs.Chunks.{IsChunk, IsLaid, starts}
 use Rattle.graph_pool.specs.declared.store.Chunk.{Chunk}
+use Rattle.graph_pool.specs.declared.store.TheConstants.{CHUNK}
 use Rattle.std.specs.declared.alloc.Global.{Global}
 
 abbrev pub words_of : List Segment → List (List ℕ)
@@ -23,29 +24,29 @@ pub words_at : (rs : List Segment) (i : ℕ) → i < length rs → (segment_at r
 words_at rs i low = sym (get_or-map (λ (r : Segment). r.1) rs i (null_ptr, []) [] low)
 
 -- The offset of a block within its chunk.
-pub offset_small : (i size : ℕ) → 64 * size * 8 < 2 ^ 63 → i % 64 * size * 8 < 2 ^ 63
+pub offset_small : (i size : ℕ) → CHUNK * size * 8 < 2 ^ 63 → i % CHUNK * size * 8 < 2 ^ 63
 offset_small i size small =
-    let low : i % 64 ≤ 64 = omega arith in
-    let words : 64 * size < 2 ^ 60 = omega arith in
-    omega (arith, times_below (i % 64) 64 size (2 ^ 60) low words)
+    let low : i % CHUNK ≤ CHUNK = omega arith in
+    let words : CHUNK * size < 2 ^ 60 = omega arith in
+    omega (arith, times_below (i % CHUNK) CHUNK size (2 ^ 60) low words)
 
 -- The i-th segment begins where the block does.
-pub laid_at : (alloc : Global) (size : ℕ) (cs : List Chunk) (rs : List Segment) (i : ℕ) (c d : Chunk) → IsLaid alloc size cs rs → i < length rs → c ≡ get_or cs (i / 64) d
-    → IsSegment rs i (moved c.start.ptr (i % 64 * size * 8)) size × (i % 64 * size * 8 < 2 ^ 63)
+pub laid_at : (alloc : Global) (size : ℕ) (cs : List Chunk) (rs : List Segment) (i : ℕ) (c d : Chunk) → IsLaid alloc size cs rs → i < length rs → c ≡ get_or cs (i / CHUNK) d
+    → IsSegment rs i (moved c.start.ptr (i % CHUNK * size * 8)) size × (i % CHUNK * size * 8 < 2 ^ 63)
 laid_at alloc size cs rs i c d laid low is =
     let many = laid.many in
-    let here : i / 64 < length cs = omega arith in
+    let here : i / CHUNK < length cs = omega arith in
     let block = laid.blocks i low in
-    let same : get_or (starts cs) (i / 64) null_ptr ≡ c.start.ptr = get_or-map (λ (x : Chunk). x.start.ptr) cs (i / 64) d null_ptr here ∙ ap (λ (x : Chunk). x.start.ptr) (sym is) in
-    let chunk = All-get_or (IsChunk alloc size) cs (i / 64) d here laid.chunks in
-    ((low, ap (λ (k : ℕ). moved c.start.ptr k) (mul_assoc (i % 64) size 8) ∙ ap (λ (p : Ptr). moved p (i % 64 * (size * 8))) (sym same) ∙ sym block.0, block.1), offset_small i size chunk.4)
+    let same : get_or (starts cs) (i / CHUNK) null_ptr ≡ c.start.ptr = get_or-map (λ (x : Chunk). x.start.ptr) cs (i / CHUNK) d null_ptr here ∙ ap (λ (x : Chunk). x.start.ptr) (sym is) in
+    let chunk = All-get_or (IsChunk alloc size) cs (i / CHUNK) d here laid.chunks in
+    ((low, ap (λ (k : ℕ). moved c.start.ptr k) (mul_assoc (i % CHUNK) size 8) ∙ ap (λ (p : Ptr). moved p (i % CHUNK * (size * 8))) (sym same) ∙ sym block.0, block.1), offset_small i size chunk.4)
 
-pub chunk_there : (alloc : Global) (size : ℕ) (cs : List Chunk) (rs : List Segment) (i : ℕ) → IsLaid alloc size cs rs → i < length rs → i / 64 < length cs
+pub chunk_there : (alloc : Global) (size : ℕ) (cs : List Chunk) (rs : List Segment) (i : ℕ) → IsLaid alloc size cs rs → i < length rs → i / CHUNK < length cs
 chunk_there alloc size cs rs i laid low = let many = laid.many in omega arith
 
-pub offset_fits : (alloc : Global) (size : ℕ) (cs : List Chunk) (rs : List Segment) (i : ℕ) (d : Chunk) → IsLaid alloc size cs rs → i < length rs → i % 64 * size < 2 ^ 64
+pub offset_fits : (alloc : Global) (size : ℕ) (cs : List Chunk) (rs : List Segment) (i : ℕ) (d : Chunk) → IsLaid alloc size cs rs → i < length rs → i % CHUNK * size < 2 ^ 64
 offset_fits alloc size cs rs i d laid low =
-    let chunk = All-get_or (IsChunk alloc size) cs (i / 64) d (chunk_there alloc size cs rs i laid low) laid.chunks in
+    let chunk = All-get_or (IsChunk alloc size) cs (i / CHUNK) d (chunk_there alloc size cs rs i laid low) laid.chunks in
     omega (arith, offset_small i size chunk.4)
 
 -- A segment is lent, and written.
@@ -69,7 +70,7 @@ laid_lent alloc size cs rs i ws low laid =
       blocks = λ j below. elim (cases_eq j i) [
         | inl e ↦
             let here : segment_at (slice_set rs i x) j ≡ x = ap (λ (k : ℕ). segment_at (slice_set rs i x) k) e ∙ get_or-set_same rs i x (null_ptr, []) low in (
-              ap (λ (y : Segment). y.0) here ∙ (laid.blocks i low).0 ∙ ap (λ (k : ℕ). moved (get_or (starts cs) (k / 64) null_ptr) (k % 64 * (size * 8))) (sym e),
+              ap (λ (y : Segment). y.0) here ∙ (laid.blocks i low).0 ∙ ap (λ (k : ℕ). moved (get_or (starts cs) (k / CHUNK) null_ptr) (k % CHUNK * (size * 8))) (sym e),
               ap (λ (y : Segment). length y.1) here ∙ sym (length_refill (length r.1) r.1 ws refl) ∙ (laid.blocks i low).1,
             )
         | inr n ↦
@@ -109,7 +110,7 @@ segments_are p bytes (r ∷ rs) at =
     ap (λ (l : List Segment). r ∷ l) others ∙ ap (λ (q : Ptr). (q, r.1) ∷ segments_from (moved p bytes) bytes (words_of rs)) first
 
 -- A chunk more.
-pub laid_grown : (alloc : Global) (size : ℕ) (cs : List Chunk) (rs : List Segment) (c : Chunk) (wss : List (List ℕ)) → IsLaid alloc size cs rs → IsChunk alloc size c → length wss ≡ 64 → All (λ ws. length ws ≡ size) wss
+pub laid_grown : (alloc : Global) (size : ℕ) (cs : List Chunk) (rs : List Segment) (c : Chunk) (wss : List (List ℕ)) → IsLaid alloc size cs rs → IsChunk alloc size c → length wss ≡ CHUNK → All (λ ws. length ws ≡ size) wss
     → IsLaid alloc size (cs ++ c ∷ []) (rs ++ segments_from c.start.ptr (size * 8) wss)
 laid_grown alloc size cs rs c wss laid chunk all even =
     let fresh : List Segment = segments_from c.start.ptr (size * 8) wss in
@@ -126,19 +127,19 @@ laid_grown alloc size cs rs c wss laid chunk all even =
         | inl low ↦
             let there : segment_at (rs ++ fresh) i ≡ segment_at rs i = get_or_append_left rs fresh (null_ptr, []) i low in
             let old = laid.blocks i low in
-            let base : get_or (starts (cs ++ c ∷ [])) (i / 64) null_ptr ≡ get_or (starts cs) (i / 64) null_ptr =
-            ap (λ (l : List Ptr). get_or l (i / 64) null_ptr) begins ∙ get_or_append_left (starts cs) (c.start.ptr ∷ []) null_ptr (i / 64) (omega arith) in
-            (ap (λ (y : Segment). y.0) there ∙ old.0 ∙ ap (λ (q : Ptr). moved q (i % 64 * (size * 8))) (sym base), ap (λ (y : Segment). length y.1) there ∙ old.1)
+            let base : get_or (starts (cs ++ c ∷ [])) (i / CHUNK) null_ptr ≡ get_or (starts cs) (i / CHUNK) null_ptr =
+            ap (λ (l : List Ptr). get_or l (i / CHUNK) null_ptr) begins ∙ get_or_append_left (starts cs) (c.start.ptr ∷ []) null_ptr (i / CHUNK) (omega arith) in
+            (ap (λ (y : Segment). y.0) there ∙ old.0 ∙ ap (λ (q : Ptr). moved q (i % CHUNK * (size * 8))) (sym base), ap (λ (y : Segment). length y.1) there ∙ old.1)
         | inr high ↦
             let j : ℕ = i - length rs in
             let low : j < length wss = omega arith in
             let there : segment_at (rs ++ fresh) i ≡ segment_at fresh j = get_or-append_right rs fresh i (null_ptr, []) high in
-            let place : i / 64 ≡ length (starts cs) = omega arith in
-            let rest : j ≡ i % 64 = omega arith in
-            let base : get_or (starts (cs ++ c ∷ [])) (i / 64) null_ptr ≡ c.start.ptr =
-            ap (λ (l : List Ptr). get_or l (i / 64) null_ptr) begins ∙ ap (λ (k : ℕ). get_or (starts cs ++ c.start.ptr ∷ []) k null_ptr) place ∙ get_or-append_seam (starts cs) c.start.ptr [] null_ptr in
+            let place : i / CHUNK ≡ length (starts cs) = omega arith in
+            let rest : j ≡ i % CHUNK = omega arith in
+            let base : get_or (starts (cs ++ c ∷ [])) (i / CHUNK) null_ptr ≡ c.start.ptr =
+            ap (λ (l : List Ptr). get_or l (i / CHUNK) null_ptr) begins ∙ ap (λ (k : ℕ). get_or (starts cs ++ c.start.ptr ∷ []) k null_ptr) place ∙ get_or-append_seam (starts cs) c.start.ptr [] null_ptr in
             let words : (segment_at fresh j).1 ≡ get_or wss j [] = words_at fresh j (omega arith) ∙ ap (λ (l : List (List ℕ)). get_or l j []) (words_of-segments_from c.start.ptr (size * 8) wss) in (
-              ap (λ (y : Segment). y.0) there ∙ segments_from_at c.start.ptr (size * 8) wss j low ∙ ap (λ (k : ℕ). moved c.start.ptr (k * (size * 8))) rest ∙ ap (λ (q : Ptr). moved q (i % 64 * (size * 8))) (sym base),
+              ap (λ (y : Segment). y.0) there ∙ segments_from_at c.start.ptr (size * 8) wss j low ∙ ap (λ (k : ℕ). moved c.start.ptr (k * (size * 8))) rest ∙ ap (λ (q : Ptr). moved q (i % CHUNK * (size * 8))) (sym base),
               ap (λ (y : Segment). length y.1) there ∙ ap (λ (l : List ℕ). length l) words ∙ All-get_or (λ ws. length ws ≡ size) wss j [] low even,
             )
       ];
@@ -169,13 +170,13 @@ drop_at (suc n) [] i low = absurd (omega arith)
 drop_at (suc n) (r ∷ rs) i low = let e : suc (n + i) ≡ suc n + i = omega arith in drop_at n rs i (omega arith) ∙ ap (λ (k : ℕ). segment_at (r ∷ rs) k) e
 
 -- The last chunk's blocks are the last segments.
-pub ends_at : (alloc : Global) (size : ℕ) (ds : List Chunk) (c : Chunk) (rs : List Segment) → IsLaid alloc size (ds ++ c ∷ []) rs → EndsAt rs c.start.ptr size 64
+pub ends_at : (alloc : Global) (size : ℕ) (ds : List Chunk) (c : Chunk) (rs : List Segment) → IsLaid alloc size (ds ++ c ∷ []) rs → EndsAt rs c.start.ptr size CHUNK
 ends_at alloc size ds c rs laid =
     let many = laid.many in
     let further = length-append ds (c ∷ []) in
-    let kept : ℕ = length rs - 64 in
+    let kept : ℕ = length rs - CHUNK in
     let last : List Segment = drop kept rs in
-    let some : length last ≡ 64 = omega (arith, length-drop kept rs) in
+    let some : length last ≡ CHUNK = omega (arith, length-drop kept rs) in
     let begins : starts (ds ++ c ∷ []) ≡ starts ds ++ c.start.ptr ∷ [] = map-append (λ (x : Chunk). x.start.ptr) ds (c ∷ []) in
     let few : length (starts ds) ≡ length ds = length-map ds (λ (x : Chunk). x.start.ptr) in
     let all : length (words_of last) ≡ length last = length-map last (λ (r : Segment). r.1) in (
@@ -187,19 +188,19 @@ ends_at alloc size ds c rs laid =
       omega arith,
       segments_are c.start.ptr (size * 8) last
           (λ i low.
-          let place : (kept + i) / 64 ≡ length (starts ds) = omega arith in
-          let rest : (kept + i) % 64 ≡ i = omega arith in
-          let base : get_or (starts (ds ++ c ∷ [])) ((kept + i) / 64) null_ptr ≡ c.start.ptr =
-          ap (λ (l : List Ptr). get_or l ((kept + i) / 64) null_ptr) begins ∙ ap (λ (k : ℕ). get_or (starts ds ++ c.start.ptr ∷ []) k null_ptr) place ∙ get_or-append_seam (starts ds) c.start.ptr [] null_ptr in
-          ap (λ (r : Segment). r.0) (drop_at kept rs i (omega arith)) ∙ (laid.blocks (kept + i) (omega arith)).0 ∙ ap (λ (q : Ptr). moved q ((kept + i) % 64 * (size * 8))) base ∙ ap (λ (k : ℕ). moved c.start.ptr (k * (size * 8))) rest),
+          let place : (kept + i) / CHUNK ≡ length (starts ds) = omega arith in
+          let rest : (kept + i) % CHUNK ≡ i = omega arith in
+          let base : get_or (starts (ds ++ c ∷ [])) ((kept + i) / CHUNK) null_ptr ≡ c.start.ptr =
+          ap (λ (l : List Ptr). get_or l ((kept + i) / CHUNK) null_ptr) begins ∙ ap (λ (k : ℕ). get_or (starts ds ++ c.start.ptr ∷ []) k null_ptr) place ∙ get_or-append_seam (starts ds) c.start.ptr [] null_ptr in
+          ap (λ (r : Segment). r.0) (drop_at kept rs i (omega arith)) ∙ (laid.blocks (kept + i) (omega arith)).0 ∙ ap (λ (q : Ptr). moved q ((kept + i) % CHUNK * (size * 8))) base ∙ ap (λ (k : ℕ). moved c.start.ptr (k * (size * 8))) rest),
     )
 
 -- A chunk less.
-pub laid_freed : (alloc : Global) (size : ℕ) (ds : List Chunk) (c : Chunk) (rs : List Segment) → IsLaid alloc size (ds ++ c ∷ []) rs → IsLaid alloc size ds (take (length rs - 64) rs)
+pub laid_freed : (alloc : Global) (size : ℕ) (ds : List Chunk) (c : Chunk) (rs : List Segment) → IsLaid alloc size (ds ++ c ∷ []) rs → IsLaid alloc size ds (take (length rs - CHUNK) rs)
 laid_freed alloc size ds c rs laid =
     let many = laid.many in
     let further = length-append ds (c ∷ []) in
-    let kept : ℕ = length rs - 64 in
+    let kept : ℕ = length rs - CHUNK in
     let short = length-take kept rs in
     let begins : starts (ds ++ c ∷ []) ≡ starts ds ++ c.start.ptr ∷ [] = map-append (λ (x : Chunk). x.start.ptr) ds (c ∷ []) in
     let few : length (starts ds) ≡ length ds = length-map ds (λ (x : Chunk). x.start.ptr) in
@@ -210,9 +211,9 @@ laid_freed alloc size ds c rs laid =
           let low : i < kept = omega arith in
           let there : segment_at (take kept rs) i ≡ segment_at rs i = get_or-take kept rs i (null_ptr, []) low in
           let old = laid.blocks i (omega arith) in
-          let base : get_or (starts (ds ++ c ∷ [])) (i / 64) null_ptr ≡ get_or (starts ds) (i / 64) null_ptr =
-          ap (λ (l : List Ptr). get_or l (i / 64) null_ptr) begins ∙ get_or_append_left (starts ds) (c.start.ptr ∷ []) null_ptr (i / 64) (omega arith) in
-          (ap (λ (y : Segment). y.0) there ∙ old.0 ∙ ap (λ (q : Ptr). moved q (i % 64 * (size * 8))) base, ap (λ (y : Segment). length y.1) there ∙ old.1);
+          let base : get_or (starts (ds ++ c ∷ [])) (i / CHUNK) null_ptr ≡ get_or (starts ds) (i / CHUNK) null_ptr =
+          ap (λ (l : List Ptr). get_or l (i / CHUNK) null_ptr) begins ∙ get_or_append_left (starts ds) (c.start.ptr ∷ []) null_ptr (i / CHUNK) (omega arith) in
+          (ap (λ (y : Segment). y.0) there ∙ old.0 ∙ ap (λ (q : Ptr). moved q (i % CHUNK * (size * 8))) base, ap (λ (y : Segment). length y.1) there ∙ old.1);
     }
 
 pub last_chunk : (alloc : Global) (size : ℕ) (ds : List Chunk) (c : Chunk) → All (IsChunk alloc size) (ds ++ c ∷ []) → IsChunk alloc size c

@@ -5,6 +5,7 @@ use Rattle.std.specs.FinMap as map
 use Rattle.graph_pool.specs.PoolContents.{PoolContents}
 use Rattle.graph_pool.specs.Links.{IsChain}
 use Rattle.graph_pool.specs.declared.pool.Pool.TheInside.{Inside}
+use Rattle.graph_pool.specs.declared.store.TheConstants.{CHUNK}
 
 -- The marked ones of the blocks, under their numbers, the first being h.
 abbrev pub live_blocks_from : ℕ → List Bool → List (List ℕ) → map.FinMap nat_cmp (List ℕ)
@@ -28,7 +29,7 @@ pub record IsPool (p : Inside) : Type 0 where
   pub used : length p.marks.items ≤ length p.store.blocks
   pub roomy : length p.store.blocks ≤ vec_capacity p.marks
   pub few : length p.store.blocks ≤ 2 ^ 32
-  pub chunked : length p.store.blocks % 64 ≡ 0
+  pub chunked : length p.store.blocks % CHUNK ≡ 0
   pub back : List ℕ
   pub chain : IsChain p.store.blocks p.marks.items p.next back
   pub free : length back + (length p.store.blocks - length p.marks.items) ≡ p.free

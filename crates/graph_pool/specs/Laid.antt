@@ -4,6 +4,7 @@ use Rattle.graph_pool.specs.BlockList.{BlockList}
 use Rattle.graph_pool.specs.Segments.{Segment}
 use Rattle.graph_pool.specs.Chunks.{IsLaid}
 use Rattle.graph_pool.specs.declared.store.Store.TheInside.{Inside}
+use Rattle.graph_pool.specs.declared.store.TheConstants.{CHUNK}
 
 -- The blocks that the fields stand for.
 abbrev pub blocks_of : Inside → BlockList
@@ -16,4 +17,4 @@ AreZeros count words = (words ≡ []) ⊎ (words ≡ replicate count 0)
 -- The segments are the blocks of the chunks, and what a new chunk is filled with are zeros.
 pub record IsStore (s : Inside) : Type 0 where
   pub laid : IsLaid s.alloc s.size s.chunks.items s.segments.all
-  pub zeros : AreZeros (64 * s.size) s.zeros.items
+  pub zeros : AreZeros (CHUNK * s.size) s.zeros.items

@@ -5,7 +5,7 @@ ghost use Rattle.std.specs.Borrow.{sem};
 ghost use Rattle.graph_pool.specs.PoolContents.{PoolContents};
 ghost use Rattle.graph_pool.specs.PoolLends.{LendsWords};
 
-use crate::store::Store;
+use crate::store::{CHUNK, Store};
 use auto_core::Memory;
 use std::alloc::Global;
 use std::marker::Model;
@@ -57,7 +57,7 @@ impl Pool {
         }
     }
 
-    /// Makes a block live, whose words are any, and answers its handle. With a free block it takes no memory; without one it makes a chunk of 64.
+    /// Makes a block live, whose words are any, and answers its handle. With a free block it takes no memory; without one it makes a chunk of blocks.
     pub fn add(&mut self) -> Result<Handle, Memory>
         requires { map.len self.old.blocks + 1 < 2 ^ 32 }
         ensures added { IfOk result (λ h. (ws : List ℕ) × (map.get self.old.blocks h.0 ≡ None) × (length ws ≡ self.old.words) × (self.new.blocks ≡ map.insert self.old.blocks h.0 ws)) }
@@ -76,12 +76,12 @@ impl Pool {
     fn make_room(&mut self) -> Result<(), Memory>
         requires few { map.len self.old.blocks + 1 < 2 ^ 32 }
         requires none { self.old.free ≡ 0 }
-        ensures made { IfOk result (λ _. (self.new.words ≡ self.old.words) × (self.new.blocks ≡ self.old.blocks) × (self.new.free ≡ 64)) }
+        ensures made { IfOk result (λ _. (self.new.words ≡ self.old.words) × (self.new.blocks ≡ self.old.blocks) × (self.new.free ≡ CHUNK)) }
         ensures refused { OnErr result (self.new ≡ self.old) }
     {
-        self.marks.reserve(64)?;
+        self.marks.reserve(CHUNK)?;
         self.store.grow()?;
-        self.free = 64;
+        self.free = CHUNK as u64;
         Ok(())
     }
 

@@ -14,9 +14,9 @@ use std::alloc::Global;
 use std::marker::Model;
 
 /// The number of blocks of a chunk.
-const CHUNK: usize = 64;
+pub(crate) const CHUNK: usize = 64;
 
-/// The memory of 64 blocks, side by side, and the right to give it back.
+/// The memory of a chunk's blocks, side by side, and the right to give it back.
 struct Chunk {
     start: Start,
     lease: Lease<u64, Global>,
@@ -137,10 +137,10 @@ impl Store {
         self.block_mut(at)[0] = next;
     }
 
-    /// Appends a chunk of 64 blocks of zeros.
+    /// Appends a chunk of blocks of zeros.
     pub(crate) fn grow(&mut self) -> Result<(), Memory>
         ensures size { self.new.size ≡ self.old.size }
-        ensures grown { OnOk result (self.new.blocks ≡ self.old.blocks ++ replicate 64 (replicate self.old.size 0)) }
+        ensures grown { OnOk result (self.new.blocks ≡ self.old.blocks ++ replicate CHUNK (replicate self.old.size 0)) }
         ensures refused { OnErr result (self.new ≡ self.old) }
     {
         if self.size > usize::MAX / 1024 {
@@ -174,9 +174,9 @@ impl Drop for Store {
 
 /// Gives the memory of the last chunk back.
 fn free(segments: &mut Segments, chunk: Chunk, size: usize, alloc: &Global)
-    requires ends { EndsAt segments.old.all chunk.start.ptr size 64 }
+    requires ends { EndsAt segments.old.all chunk.start.ptr size CHUNK }
     requires chunk { IsChunk alloc.now size chunk }
-    ensures { segments.new.all ≡ take (length segments.old.all - 64) segments.old.all }
+    ensures { segments.new.all ≡ take (length segments.old.all - CHUNK) segments.old.all }
 {
     let Chunk { start, lease } = chunk;
     let words = segments.take_out(start, CHUNK * size, size, CHUNK);

@@ -2,6 +2,7 @@
 use Rattle.std.specs.Prelude.{◌≡◌, ◌+◌, ◌*◌, ◌/◌, length}
 use Rattle.look_round.specs.Room.{Room}
 use Rattle.look_round.specs.declared.scratch.Scratch.TheInside.{Inside}
+use Rattle.look_round.specs.declared.scratch.TheConstants.{MOST_LISTED}
 
 -- What the fields are room for.
 abbrev pub room_of : Inside → Room
@@ -14,4 +15,4 @@ pub record IsRoomStored (s : Inside) : Type 0 where
   pub letters : length s.letters.items ≡ s.look + 1
   pub held : length s.held.items ≡ (s.look + 1) * ((s.states + 63) / 64)
   pub known : length s.known.items ≡ (s.look + 1) * ((s.states + 63) / 64)
-  pub listed : length s.listed.items ≡ 256
+  pub listed : length s.listed.items ≡ MOST_LISTED

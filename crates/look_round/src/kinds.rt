@@ -5,13 +5,11 @@ ghost use Rattle.auto_core.specs.Rows.{HasBit, HasCell};
 ghost use Rattle.look_round.specs.Kinds.{MatchEachOther, AreKinds};
 ghost use Rattle.look_round.specs.Words.{AreMatches};
 
+use crate::reply_lists::MOST_KINDS;
 use crate::sides::Side;
 use auto_core::{Auto, Memory, rows};
 use row_steps::write_row;
 use std::alloc::Global;
-
-/// How many kinds of states are told apart.
-const MOST_KINDS: usize = 4;
 
 /// Writes into the row the states that match `p`.
 fn match_row<S: Side>(side: &S, automaton: &Auto, p: u32, row: &mut [u64])
@@ -105,7 +103,7 @@ pub(crate) fn find_kinds<S: Side>(
     automaton: &Auto,
 ) -> Result<Vec<u32>, Memory>
     ensures states { IfOk result (λ v. All (λ s. s < automaton.now.states) v.items) }
-    ensures few { IfOk result (λ v. length v.items ≤ 4) }
+    ensures few { IfOk result (λ v. length v.items ≤ MOST_KINDS) }
 {
     let mut kinds = Vec::new(alloc);
     for p in 0..automaton.states() {

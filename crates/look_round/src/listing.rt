@@ -9,13 +9,10 @@ ghost use Rattle.look_round.specs.ReplyLists.{list_at, list_number, IsListThere,
 use crate::kinds::{find_kinds, number_kinds};
 use crate::moves::Move;
 use crate::replies::{has_reply_in, is_reply};
-use crate::reply_lists::ReplyLists;
+use crate::reply_lists::{MOST_KINDS, MOST_LISTED_LETTERS, ReplyLists};
 use crate::sides::Side;
 use auto_core::{Auto, Memory, rows};
 use std::alloc::Global;
-
-/// Lists are made of at most so many letters.
-const MOST_LETTERS: u32 = 8;
 
 /// Adds the states by which `q` answers a move by the letter to `p`.
 fn add_list<S: Side>(
@@ -49,9 +46,9 @@ fn add_lists<S: Side>(
     items: &mut Vec<u32>,
 ) -> Result<(), Memory>
     requires labels_from { 1 ≤ labels }
-    requires labels_upto { labels ≤ 8 }
+    requires labels_upto { labels ≤ MOST_LISTED_LETTERS }
     requires kinds_from { 1 ≤ length kinds.now }
-    requires kinds_upto { length kinds.now ≤ 4 }
+    requires kinds_upto { length kinds.now ≤ MOST_KINDS }
     requires kinds { All (λ s. s < automaton.now.states) kinds.now }
     requires none { AreListedUpto (S.goes side.now automaton.now) (S.matches side.now automaton.now) automaton.now.states labels kinds.now starts.old.items items.old.items 0 }
     ensures { IfOk result (λ _. AreListedUpto (S.goes side.now automaton.now) (S.matches side.now automaton.now) automaton.now.states labels kinds.now starts.new.items items.new.items
@@ -103,7 +100,7 @@ impl ReplyLists {
         ensures { IfOk result (AreReplyLists (S.goes side.now automaton.now) (S.matches side.now automaton.now) automaton.now.states) }
     {
         let labels = automaton.labels();
-        if labels == 0 || labels > MOST_LETTERS {
+        if labels == 0 || labels > MOST_LISTED_LETTERS {
             return Ok(ReplyLists::none(alloc));
         }
         let kinds = find_kinds(alloc, side, automaton)?;

@@ -8,7 +8,7 @@ use smallvec::SmallVec;
 use std::alloc::Global;
 use std::marker::Model;
 
-/// At most so many states are listed at a time, less one.
+/// Fewer than so many states are listed at a time.
 const MOST_LISTED: usize = 256;
 
 /// Room for the rounds on an automaton at a lookahead: Spoiler's path, a row of bits for each of its places and for its start, room for

@@ -14,14 +14,19 @@ use auto_core::{Auto, Trans};
 
 /// A side of the game.
 pub trait Side {
+    /// The moves of a state, each with its letter and the state that it leads to.
     ghost list: { Self → Automaton → ℕ → List Move };
 
+    /// A move by the letter leads from the first state to the second.
     ghost goes: { Self → Automaton → ℕ → ℕ → ℕ → Type 0 };
 
+    /// The second state has what the first asks of it.
     ghost matches: { Self → Automaton → ℕ → ℕ → Type 0 };
 
+    /// A transition as a move of this side, with the state that the move leaves as the source.
     ghost seen: { Self → Trans → Trans };
 
+    /// The moves that lead to a state, each with the state that it leaves in place of the one that it leads to.
     ghost arriving: { Self → Automaton → ℕ → List Move };
 
     /// The number of the state's moves.
@@ -61,14 +66,19 @@ pub trait Side {
         requires right { q < automaton.now.states }
         ensures { IsTrue result ↔ matches self.now automaton.now p q };
 
+    /// A move leads to a state of the automaton.
     ghost stays: { (s : Self) (A : Automaton) → IsAutomaton A → (p a q : ℕ) → goes s A p a q → q < A.states };
 
+    /// The list of a state has its moves.
     ghost lists: { (s : Self) (A : Automaton) (p a q : ℕ) → Contains (list s A p) (move a q) ↔ goes s A p a q };
 
+    /// The moves are the transitions, seen from this side.
     ghost sees: { (s : Self) (A : Automaton) (p a q : ℕ) → goes s A p a q ↔ ((t : Trans) × Contains A.transitions t × (seen s t ≡ trans p a q)) };
 
+    /// The list of what leads to a state has the moves to it.
     ghost arrives: { (s : Self) (A : Automaton) (p a q : ℕ) → Contains (arriving s A q) (move a p) ↔ goes s A p a q };
 
+    /// What matches is transitive.
     ghost joins: { (s : Self) (A : Automaton) (p q r : ℕ) → matches s A p q → matches s A q r → matches s A p r };
 }
 

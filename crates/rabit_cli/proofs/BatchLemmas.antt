@@ -16,6 +16,7 @@ use Rattle.shelf_io.specs.Shelf.{FileMap, CountsMissing}
 use Rattle.auto_core.specs.declared.parts.Mode.TheVariants.{Buchi}
 use Rattle.ba_format.specs.declared.parts.Limits.{Limits}
 use Rattle.cert_value.specs.WellFormed.{has_some}
+use Rattle.equal_batch.specs.declared.questions.TheConstants.{MOST_LINES}
 use Rattle.equal_batch.specs.declared.questions.Question.{Question}
 use Rattle.equal_batch.specs.Questions.{is_character, is_word, is_question, line_of}
 use Rattle.rabit_frame.specs.declared.parts.FileKind.TheVariants as kind
@@ -466,7 +467,7 @@ pub first_is_question : (q : Question) (questions : List Question) → AreQuesti
 first_is_question q questions are = and_parts (is_question (line_of q)) (list_all is_question (map_list line_of questions)) are
 
 -- a read list has questions, and at most 1,000
-pub list_is_of_questions : (questions : List Question) → IsOfKind kind.Questions (value.Questions questions) → AreQuestions questions × (length questions ≤ 1000)
+pub list_is_of_questions : (questions : List Question) → IsOfKind kind.Questions (value.Questions questions) → AreQuestions questions × (length questions ≤ MOST_LINES)
 list_is_of_questions questions (bytes, is) = (is.words, is.few)
 
 -- ---- the whole batch

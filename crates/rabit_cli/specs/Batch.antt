@@ -7,6 +7,7 @@ use Rattle.shelf_io.specs.Counts.{Rose, counted}
 use Rattle.shelf_io.specs.Shelf.{FileMap, WhichFile}
 use Rattle.auto_core.specs.declared.parts.Mode.TheVariants.{Buchi}
 use Rattle.equal_batch.specs.declared.questions.Question.{Question}
+use Rattle.equal_batch.specs.declared.questions.TheConstants.{MOST_LINES}
 use Rattle.equal_batch.specs.Questions.{is_question, line_of}
 use Rattle.rabit_frame.specs.declared.parts.FileKind.TheVariants as kind
 use Rattle.rabit_frame.specs.declared.parts.Value.{Value}
@@ -196,7 +197,7 @@ after_reading calls blamed = shelf_counts (counted calls.begins) calls.put_calls
 pub record AreAsked (list : List ℕ) (held held' : Option FileMap) (status : ℕ) (sent sent' : Option (List ℕ)) (give_faults give_faults' gives gives' read_faults read_faults' put_faults put_faults' missed missed' : ℕ) (calls calls' : ShelfCounts) : Type 0 where
   pub questions : List Question
   pub words : AreQuestions questions
-  pub few : length questions ≤ 1000
+  pub few : length questions ≤ MOST_LINES
   pub read : IfSome held (λ files. FileReads files (list_file list) (value.Questions questions))
   pub blamed : WhichFile
   pub each : IsCarriedEach 1 questions held held' status sent sent' give_faults give_faults' gives gives' read_faults read_faults' put_faults put_faults' missed missed' (after_reading calls blamed) calls'

@@ -4,6 +4,7 @@ ghost use Rattle.std.specs.Prelude.{◌≡◌, ◌≢◌, ◌≤◌, ◌+◌, le
 ghost use Rattle.shelf_io.specs.Counts.{Rose};
 ghost use Rattle.auto_core.specs.declared.parts.Mode.TheVariants.{Buchi};
 ghost use Rattle.equal_batch.specs.Questions.{is_word, is_question, line_of};
+ghost use Rattle.equal_batch.specs.declared.questions.TheConstants.{MOST_LINES};
 ghost use Rattle.rabit_frame.specs.declared.parts.Value.TheVariants as value;
 ghost use Rattle.rabit_frame.specs.declared.parts.Ending.{Ending as AnEnding};
 ghost use Rattle.rabit_frame.specs.Reading.{FileReads, IsOfKind, MissedInTurn};
@@ -128,7 +129,7 @@ fn carry_each<H: Shelf, K: Sink>(
     out: &mut K,
 ) -> u8
     requires words { AreQuestions questions.now }
-    requires few { number + length questions.now ≤ 1001 }
+    requires few { number + length questions.now ≤ MOST_LINES + 1 }
     requires room { 15 ≤ vec_capacity line.old }
     ensures { IsCarriedEach number questions.now (H.held shelf.old) (H.held shelf.new) result (K.sent out.old) (K.sent out.new) (K.faults out.old) (K.faults out.new)
         (K.give_calls out.old) (K.give_calls out.new) (H.faults shelf.old) (H.faults shelf.new) (H.put_faults shelf.old) (H.put_faults shelf.new) (H.missed shelf.old) (H.missed shelf.new)

@@ -1,4 +1,4 @@
-//! What the commands have to do with one another: each law is the contract of a function that does nothing.
+//! What the commands have to do with one another, and what limits and usual terms are in numbers: each law is the contract of a function that does nothing.
 
 ghost use Rattle.rabit_cli.specs.Laws.{CheckAgrees, IncludeIsChecked, AnswersAreAccepted, CheckAgreesOnUpgrade, UpgradeIsChecked, CrossIsChecked, CrossRelationsAreAccepted, QuestionsShowInTurn, EmptyTextAcceptsNothing, UniversalTextAcceptsAll, EmptyIsChecked, UniversalIsChecked};
 ghost use Rattle.rabit_cli.specs.Limits.{LimitsInNumbers};

@@ -8,7 +8,9 @@ ghost use Rattle.rabit_frame.specs.Reading.{most_bytes, IsOfKind, FileReads, Fil
 ghost use Rattle.rabit_frame.specs.Intake.{IsTakenIn};
 
 use crate::intake::Intake;
-use crate::parts::{FileKind, Halt, Slot, Value};
+use crate::parts::{
+    FileKind, Halt, MOST_AUTOMATON_BYTES, MOST_CERTIFICATE_BYTES, MOST_LIST_BYTES, Slot, Value,
+};
 use crate::stopping::{halted, long_reply};
 use auto_core::List;
 use shelf_io::{LoadFault, Shelf};
@@ -19,10 +21,10 @@ fn most_bytes(kind: FileKind) -> u64
     ensures { result ≡ most_bytes kind }
 {
     match kind {
-        FileKind::Automaton { .. } => 16_777_216,
-        FileKind::Certificate => 1_073_741_824,
-        FileKind::Cross => 1_073_741_824,
-        FileKind::Questions => 65_536,
+        FileKind::Automaton { .. } => MOST_AUTOMATON_BYTES,
+        FileKind::Certificate => MOST_CERTIFICATE_BYTES,
+        FileKind::Cross => MOST_CERTIFICATE_BYTES,
+        FileKind::Questions => MOST_LIST_BYTES,
     }
 }
 

@@ -1,11 +1,12 @@
 use Rattle.std.proofs.Common.{refl, ◌<◌, ◌/◌, ℕ, sym, subst}
+use Rattle.graph_pool.specs.declared.store.TheConstants.{CHUNK}
 use Rattle.graph_pool.proofs.StoreLemmas.{low_of, laid_at, chunk_there, offset_fits, words_are, words_many, lent_store, laid_lent}
 use Rattle.graph_pool.proofs.store.Store.block_mut.Goals as goal
 
 pub index-requires : goal.index-requires
 index-requires c =
     let i = c.self.inside in
-    subst (λ (k : ℕ). c.args.at / 64 < k) (sym i.chunks.ok.0) (chunk_there i.alloc i.size i.chunks.items i.segments.all c.args.at c.self.invariant.laid (low_of i.size i.segments.all c.args.self.now c.args.at c.self.view_is c.requires))
+    subst (λ (k : ℕ). c.args.at / CHUNK < k) (sym i.chunks.ok.0) (chunk_there i.alloc i.size i.chunks.items i.segments.all c.args.at c.self.invariant.laid (low_of i.size i.segments.all c.args.self.now c.args.at c.self.view_is c.requires))
 
 pub overflow_mul-from : goal.overflow_mul-from
 overflow_mul-from c =

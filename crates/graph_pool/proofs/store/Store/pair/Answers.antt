@@ -1,16 +1,17 @@
 use Rattle.std.proofs.Common.{refl, ◌<◌, ◌/◌, ℕ, sym, subst}
+use Rattle.graph_pool.specs.declared.store.TheConstants.{CHUNK}
 use Rattle.graph_pool.proofs.StoreLemmas.{low_of, laid_at, chunk_there, offset_fits, words_are, lent_store, laid_lent}
 use Rattle.graph_pool.proofs.store.Store.pair.Goals as goal
 
 pub index-requires : goal.index-requires
 index-requires c =
     let i = c.self.inside in
-    subst (λ (k : ℕ). c.args.kept / 64 < k) (sym i.chunks.ok.0) (chunk_there i.alloc i.size i.chunks.items i.segments.all c.args.kept c.self.invariant.laid (low_of i.size i.segments.all c.args.self.now c.args.kept c.self.view_is c.requires.kept))
+    subst (λ (k : ℕ). c.args.kept / CHUNK < k) (sym i.chunks.ok.0) (chunk_there i.alloc i.size i.chunks.items i.segments.all c.args.kept c.self.invariant.laid (low_of i.size i.segments.all c.args.self.now c.args.kept c.self.view_is c.requires.kept))
 
 pub index-requires-2 : goal.index-requires-2
 index-requires-2 c =
     let i = c.self.inside in
-    subst (λ (k : ℕ). c.args.fresh / 64 < k) (sym i.chunks.ok.0) (chunk_there i.alloc i.size i.chunks.items i.segments.all c.args.fresh c.self.invariant.laid (low_of i.size i.segments.all c.args.self.now c.args.fresh c.self.view_is c.requires.fresh))
+    subst (λ (k : ℕ). c.args.fresh / CHUNK < k) (sym i.chunks.ok.0) (chunk_there i.alloc i.size i.chunks.items i.segments.all c.args.fresh c.self.invariant.laid (low_of i.size i.segments.all c.args.self.now c.args.fresh c.self.view_is c.requires.fresh))
 
 pub overflow_mul-from : goal.overflow_mul-from
 overflow_mul-from c =
