@@ -1,9 +1,9 @@
 //! Whether each element differs from those before it.
 
-ghost use Rattle.std.specs.Prelude.{◌≡◌, ◌+◌, ◌*◌, ◌^◌, ◌<◌, ◌≤◌, ℕ, true, false, length, IfOk};
+ghost use Rattle.std.specs.Prelude.{◌≡◌, ◌+◌, ◌*◌, ◌^◌, ◌<◌, ◌≤◌, ℕ, true, false, length, slice_set, None, IfOk, IfSome};
 ghost use Rattle.log_check.specs.Checks.{Tells, checks_of_each};
 ghost use Rattle.cert_check.specs.Listing.{difference_checks};
-ghost use Rattle.cert_check.specs.Seen.{place_of, HaveSeen, IsUnlikeEarlier};
+ghost use Rattle.cert_check.specs.Seen.{key_place, at_place, HaveSeen, IsUnlikeEarlier};
 ghost use Rattle.cert_check.specs.Supers.{held_block, held_number, key_at, Fit, Key, AreSupers};
 
 use crate::elements::Supers;
@@ -30,9 +30,9 @@ struct Seen {
 }
 
 /// The place of a key among so many.
-fn place_of(key: &[u64; 4], count: usize) -> usize
+fn key_place(key: &[u64; 4], count: usize) -> usize
     requires { 0 < count }
-    ensures place { result ≡ place_of count key.now }
+    ensures place { result ≡ key_place count key.now }
     ensures within { result < count }
 {
     ((mix_words(0, key) >> 32) % count as u64) as usize
@@ -42,12 +42,37 @@ impl Seen {
     /// No elements, and room for so many.
     fn new(alloc: Global, most: usize) -> Result<Seen, Memory>
         requires few { most < 10 ^ 9 }
-        ensures { IfOk result (λ seen. (keys : ℕ → Key) → HaveSeen keys 0 seen) }
+        ensures none { IfOk result (λ seen. (keys : ℕ → Key) → HaveSeen keys 0 seen) }
+        ensures room { IfOk result (λ seen. length seen.places.items ≡ most * PLACES_PER_ELEMENT + 1) }
     {
         Ok(Seen {
             places: vec![in alloc; 0; most * PLACES_PER_ELEMENT + 1]?,
             others: BTreeSet::new(alloc),
         })
+    }
+
+    /// The first element that came to the key's place, if any did.
+    fn first_at(&self, key: &[u64; 4]) -> Option<usize>
+        requires { 0 < length self.now.places.items }
+        ensures none { result ≡ None → at_place self.now key.now ≡ 0 }
+        ensures some { IfSome result (λ d. at_place self.now key.now ≡ d + 1) }
+    {
+        let standing = self.places[key_place(key, self.places.len())];
+        if standing == 0 {
+            return None;
+        }
+        Some(standing as usize - 1)
+    }
+
+    /// Lets the element stand at the key's place.
+    fn put_at(&mut self, key: &[u64; 4], e: usize)
+        requires some { 0 < length self.old.places.items }
+        requires few { e < 10 ^ 9 }
+        ensures places { self.new.places.items ≡ slice_set self.old.places.items (key_place (length self.old.places.items) key.now) (e + 1) }
+        ensures others { self.new.others ≡ self.old.others }
+    {
+        let place = key_place(key, self.places.len());
+        self.places[place] = e as u32 + 1;
     }
 }
 
@@ -67,16 +92,15 @@ fn is_unlike_earlier(
     ensures fits { IfOk result (λ _. Fit (held_block supers.now e)) }
     ensures unlike { IfOk result (λ is. is ≡ true → IsUnlikeEarlier (key_at mode supers.now firsts.now) e) }
     ensures seen { IfOk result (λ is. is ≡ true → HaveSeen (key_at mode supers.now firsts.now) (e + 1) seen.new) }
+    ensures room { IfOk result (λ _. length seen.new.places.items ≡ length seen.old.places.items) }
     ensures alike { IfOk result (λ is. is ≡ false → IsUnlikeEarlier (key_at mode supers.now firsts.now) e → ⊥) }
 {
     let key = key_from(mode, supers, firsts, e);
-    let place = place_of(&key, seen.places.len());
-    let standing = seen.places[place];
-    if standing == 0 {
-        seen.places[place] = e as u32 + 1;
+    let Some(first) = seen.first_at(&key) else {
+        seen.put_at(&key, e);
         return Ok(true);
-    }
-    let other_key = key_from(mode, supers, firsts, standing as usize - 1);
+    };
+    let other_key = key_from(mode, supers, firsts, first);
     if other_key == key {
         return Ok(false);
     }
