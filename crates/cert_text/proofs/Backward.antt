@@ -30,11 +30,11 @@ use Rattle.cert_line.specs.declared.heads.SecondHead.{SecondHead}
 use Rattle.cert_line.specs.declared.heads.SecondHead.TheVariants as second_head
 use Rattle.cert_line.specs.declared.heads.Way.{Way}
 use Rattle.cert_line.specs.declared.heads.Way.TheVariants as way
-use Rattle.cert_value.specs.Text.{Line, spelled, numbers, letters_tokens, each, row_lines, block_lines, rank_row_lines, rank_block_lines, classes_line, first_step_lines, second_step_lines, origin_lines, element_lines, step_lines, first_lines, second_lines, elements_line, closed_lines, limit_lines, body_lines, form_of, first_line, sizes_line, end_line, cert_lines, gone_numbers}
+use Rattle.cert_value.specs.Text.{Line, spelled, numbers, letters_tokens, each, row_lines, block_lines, rank_row_lines, rank_block_lines, classes_line, first_step_lines, second_step_lines, mark_tokens, origin_line, origin_lines, element_lines, step_lines, first_lines, second_lines, elements_line, closed_lines, limit_lines, body_lines, form_of, first_line, sizes_line, end_line, cert_lines, gone_numbers}
 use Rattle.cert_value.specs.declared.types.GoneBy.{GoneBy}
 use Rattle.cert_value.specs.WellFormed.{is_version, are_letters, rank_key, blocks_due, is_live, has_some, is_short, are_short, ascend, is_row, are_rows, is_block, is_rank_row, are_rank_rows, is_rank_block, are_gone, are_classes, is_first_step, is_second_step, is_origin, is_element, is_step_of, are_steps, are_logs, is_body, has_text}
 use Rattle.cert_line.specs.Lines.{Said, word_in, number_in, numbers_in, ascending_in, sizes_in, heading_in, row_in, rank_row_in, gone_by_in, first_head_in, second_head_in, origin_in, element_in, step_in}
-use Rattle.cert_text.specs.Grammar.{On, Read, Stopped, Then, after, next_line, read_rows, read_block, read_rank_rows, read_rank_block, read_blocks, read_classes, read_first_rest, read_first_steps, read_grounds, read_second_rest, read_second_steps, read_elements, read_steps, read_origins, read_cover, read_all_elements, read_closed, read_all_origins, read_list_part, read_first_log, read_second_log, read_turn, read_lasso, read_word, yes_of, list_of, read_evidence, read_after_first, read_logs, read_body, is_bare, finish, cert_of, read_end, read_rest, read_sizes, read_lines}
+use Rattle.cert_text.specs.Grammar.{On, Read, Stopped, Then, ReadOutcome, after, next_line, read_rows, read_block, read_rank_rows, read_rank_block, read_blocks, read_classes, read_first_rest, read_first_steps, read_grounds, read_second_rest, read_second_steps, read_elements, read_steps, read_origins, read_cover, read_all_elements, read_closed, read_all_origins, read_list_part, read_first_log, read_second_log, read_turn, read_lasso, read_word, yes_of, list_of, read_evidence, read_after_first, read_logs, read_body, is_bare, finish, cert_of, read_end, read_rest, read_sizes, read_lines}
 use Rattle.std.specs.List.{list_all}
 use Rattle.std.proofs.lemmas.Bool.{and_parts, and_from, cond-true, cond-false, cases_Bool}
 use Rattle.cert_line.proofs.LineFacts.{word_bw, number_bw, numbers_bw, sorted_bw, sizes_bw, row_bw, rank_row_bw, gone_bw, step_bw, numbers_some}
@@ -153,23 +153,34 @@ rank_block_bw letters next ls c e =
       on = t.on;
     }
 
+-- That many items, each of them taken off by `one`, when `read` does that for one after the other.
+many_bw : {A : Type 0} (is : A → Bool) (lines : A → List Line) (one : Then A → List Line → ReadOutcome)
+    → ((next : Then A) (ls : List Line) (c : Cert) → one next ls ≡ Read c → Took (λ x. is x ≡ true) lines next ls c)
+    → (read : ℕ → List A → Then (List A) → List Line → ReadOutcome)
+    → ((acc : List A) (next : Then (List A)) (ls : List Line) → read zero acc next ls ≡ next acc ls)
+    → ((n : ℕ) (acc : List A) (next : Then (List A)) (ls : List Line) → read (suc n) acc next ls ≡ one (λ x. read n (acc ++ x ∷ []) next) ls)
+    → (n : ℕ) (acc : List A) (next : Then (List A)) (ls : List Line) (c : Cert) → read n acc next ls ≡ Read c
+    → Took (λ xs. (length xs ≡ n) × (list_all is xs ≡ true)) (λ xs. each lines xs) (λ xs rest. next (acc ++ xs) rest) ls c
+many_bw is lines one one_bw read none some zero acc next ls c e =
+    record { item = []; rest = ls; fine = (refl, refl); cut = refl; on = ap (λ x. next x ls) (append-nil acc) ∙ sym (none acc next ls) ∙ e }
+many_bw is lines one one_bw read none some (suc n) acc next ls c e =
+    let l = one_bw (λ x. read n (acc ++ x ∷ []) next) ls c (sym (some n acc next ls) ∙ e) in
+    let t = many_bw is lines one one_bw read none some n (acc ++ l.item ∷ []) next l.rest c l.on in
+    record {
+      item = l.item ∷ t.item;
+      rest = t.rest;
+      fine = (ap suc t.fine.0, and_from (is l.item) _ l.fine t.fine.1);
+      cut = cut_cons lines l.item t.item ls l.rest t.rest l.cut t.cut;
+      on = ap (λ x. next x t.rest) (sym (append_assoc acc (l.item ∷ []) t.item)) ∙ t.on;
+    }
+
 abbrev pub AreBlocks : ℕ → List RelBlock → Type 0
 AreBlocks n bs = (length bs ≡ n) × (list_all is_block bs ≡ true)
 
 pub blocks_bw : (v : ℕ) (n : ℕ) (acc : List RelBlock) (next : Then (List RelBlock)) (ls : List Line) (c : Cert) → read_blocks v n acc next ls ≡ Read c
     → Took (AreBlocks n) (λ bs. each (block_lines v) bs) (λ bs rest. next (acc ++ bs) rest) ls c
-blocks_bw v zero acc next ls c e =
-    record { item = []; rest = ls; fine = (refl, refl); cut = refl; on = ap (λ x. next x ls) (append-nil acc) ∙ e }
-blocks_bw v (suc n) acc next ls c e =
-    let l = block_bw v (λ block. read_blocks v n (acc ++ block ∷ []) next) ls c e in
-    let t = blocks_bw v n (acc ++ l.item ∷ []) next l.rest c l.on in
-    record {
-      item = l.item ∷ t.item;
-      rest = t.rest;
-      fine = (ap suc t.fine.0, and_from (is_block l.item) _ l.fine t.fine.1);
-      cut = cut_cons (block_lines v) l.item t.item ls l.rest t.rest l.cut t.cut;
-      on = ap (λ x. next x t.rest) (sym (append_assoc acc (l.item ∷ []) t.item)) ∙ t.on;
-    }
+blocks_bw v n acc next ls c e =
+    many_bw is_block (block_lines v) (read_block v) (block_bw v) (read_blocks v) (λ acc next ls. refl) (λ n acc next ls. refl) n acc next ls c e
 
 abbrev pub AreClasses : List ℕ → Type 0
 AreClasses classes = are_classes classes ≡ true
@@ -237,18 +248,9 @@ AreFirst n ss = (length ss ≡ n) × (list_all is_first_step ss ≡ true)
 pub first_steps_bw : (v : ℕ) (n : ℕ) (acc : List FirstStep) (next : Then (List FirstStep)) (ls : List Line) (c : Cert)
     → read_first_steps v n acc next ls ≡ Read c
     → Took (AreFirst n) (λ ss. each (first_step_lines v) ss) (λ ss rest. next (acc ++ ss) rest) ls c
-first_steps_bw v zero acc next ls c e =
-    record { item = []; rest = ls; fine = (refl, refl); cut = refl; on = ap (λ x. next x ls) (append-nil acc) ∙ e }
-first_steps_bw v (suc n) acc next ls c e =
-    let l = first_step_bw v (λ step. read_first_steps v n (acc ++ step ∷ []) next) ls c e in
-    let t = first_steps_bw v n (acc ++ l.item ∷ []) next l.rest c l.on in
-    record {
-      item = l.item ∷ t.item;
-      rest = t.rest;
-      fine = (ap suc t.fine.0, and_from (is_first_step l.item) _ l.fine t.fine.1);
-      cut = cut_cons (first_step_lines v) l.item t.item ls l.rest t.rest l.cut t.cut;
-      on = ap (λ x. next x t.rest) (sym (append_assoc acc (l.item ∷ []) t.item)) ∙ t.on;
-    }
+first_steps_bw v n acc next ls c e =
+    many_bw is_first_step (first_step_lines v) (λ next. next_line first_head_in (λ head. read_first_rest v head next)) (first_step_bw v)
+    (read_first_steps v) (λ acc next ls. refl) (λ n acc next ls. refl) n acc next ls c e
 
 abbrev pub IsFirstLog : List FirstStep → Type 0
 IsFirstLog ss = (is_short (length ss) ≡ true) × (list_all is_first_step ss ≡ true)
@@ -343,18 +345,9 @@ AreSecond v m n ss = (length ss ≡ n) × (list_all (is_second_step v m) ss ≡ 
 pub second_steps_bw : (v : ℕ) (m : Mode) (n : ℕ) (acc : List SecondStep) (next : Then (List SecondStep)) (ls : List Line) (c : Cert)
     → read_second_steps v m n acc next ls ≡ Read c
     → Took (AreSecond v m n) (λ ss. each (second_step_lines v) ss) (λ ss rest. next (acc ++ ss) rest) ls c
-second_steps_bw v m zero acc next ls c e =
-    record { item = []; rest = ls; fine = (refl, refl); cut = refl; on = ap (λ x. next x ls) (append-nil acc) ∙ e }
-second_steps_bw v m (suc n) acc next ls c e =
-    let l = second_step_bw v m (λ step. read_second_steps v m n (acc ++ step ∷ []) next) ls c e in
-    let t = second_steps_bw v m n (acc ++ l.item ∷ []) next l.rest c l.on in
-    record {
-      item = l.item ∷ t.item;
-      rest = t.rest;
-      fine = (ap suc t.fine.0, and_from (is_second_step v m l.item) _ l.fine t.fine.1);
-      cut = cut_cons (second_step_lines v) l.item t.item ls l.rest t.rest l.cut t.cut;
-      on = ap (λ x. next x t.rest) (sym (append_assoc acc (l.item ∷ []) t.item)) ∙ t.on;
-    }
+second_steps_bw v m n acc next ls c e =
+    many_bw (is_second_step v m) (second_step_lines v) (λ next. next_line (second_head_in v m) (λ head. read_second_rest v head next))
+    (second_step_bw v m) (read_second_steps v m) (λ acc next ls. refl) (λ n acc next ls. refl) n acc next ls c e
 
 abbrev pub IsSecondLog : ℕ → Mode → List SecondStep → Type 0
 IsSecondLog v m ss = (is_short (length ss) ≡ true) × (list_all (is_second_step v m) ss ≡ true)
@@ -374,26 +367,25 @@ second_log_bw v m next ls c e =
       on = t.on;
     }
 
--- Elements.
+-- Elements, each of them on a line.
+own_line_bw : {A : Type 0} (is : A → Bool) (line_of : A → Line) (said : Line → Said A)
+    → ((line : Line) (x : A) → said line ≡ Ok x → (is x ≡ true) × (line ≡ line_of x))
+    → (next : Then A) (ls : List Line) (c : Cert) → next_line said next ls ≡ Read c → Took (λ x. is x ≡ true) (λ x. line_of x ∷ []) next ls c
+own_line_bw is line_of said told next ls c e =
+    let l = line_bw said next ls c e in
+    let f = told l.line l.item l.told in
+    record { item = l.item; rest = l.rest; fine = f.0; cut = l.cut ∙ ap (λ x. x ∷ l.rest) f.1; on = l.on }
+
 abbrev pub AreElements : Mode → ℕ → List Element → Type 0
 AreElements m n es = (length es ≡ n) × (list_all (is_element m) es ≡ true)
 
 pub elements_bw : (m : Mode) (n : ℕ) (acc : List Element) (next : Then (List Element)) (ls : List Line) (c : Cert)
     → read_elements m n acc next ls ≡ Read c
     → Took (AreElements m n) (λ es. each element_lines es) (λ es rest. next (acc ++ es) rest) ls c
-elements_bw m zero acc next ls c e =
-    record { item = []; rest = ls; fine = (refl, refl); cut = refl; on = ap (λ x. next x ls) (append-nil acc) ∙ e }
-elements_bw m (suc n) acc next ls c e =
-    let l = line_bw (element_in m) (λ e. read_elements m n (acc ++ e ∷ []) next) ls c e in
-    let f = element_bw m l.line l.item l.told in
-    let t = elements_bw m n (acc ++ l.item ∷ []) next l.rest c l.on in
-    record {
-      item = l.item ∷ t.item;
-      rest = t.rest;
-      fine = (ap suc t.fine.0, and_from (is_element m l.item) _ f.0 t.fine.1);
-      cut = cut_cons element_lines l.item t.item ls l.rest t.rest (l.cut ∙ ap (λ x. x ∷ l.rest) f.1) t.cut;
-      on = ap (λ x. next x t.rest) (sym (append_assoc acc (l.item ∷ []) t.item)) ∙ t.on;
-    }
+elements_bw m n acc next ls c e =
+    many_bw (is_element m) element_lines (next_line (element_in m))
+    (own_line_bw (is_element m) (λ (x : Element). mark_tokens x.mark ++ origin_line x.origin) (element_in m) (element_bw m))
+    (read_elements m) (λ acc next ls. refl) (λ n acc next ls. refl) n acc next ls c e
 
 abbrev pub AreOrigins : Mode → ℕ → List Origin → Type 0
 AreOrigins m n es = (length es ≡ n) × (list_all (is_origin m) es ≡ true)
@@ -401,19 +393,9 @@ AreOrigins m n es = (length es ≡ n) × (list_all (is_origin m) es ≡ true)
 pub origins_bw : (m : Mode) (n : ℕ) (acc : List Origin) (next : Then (List Origin)) (ls : List Line) (c : Cert)
     → read_origins m n acc next ls ≡ Read c
     → Took (AreOrigins m n) (λ es. each origin_lines es) (λ es rest. next (acc ++ es) rest) ls c
-origins_bw m zero acc next ls c e =
-    record { item = []; rest = ls; fine = (refl, refl); cut = refl; on = ap (λ x. next x ls) (append-nil acc) ∙ e }
-origins_bw m (suc n) acc next ls c e =
-    let l = line_bw (origin_in m) (λ e. read_origins m n (acc ++ e ∷ []) next) ls c e in
-    let f = origin_bw m l.line l.item l.told in
-    let t = origins_bw m n (acc ++ l.item ∷ []) next l.rest c l.on in
-    record {
-      item = l.item ∷ t.item;
-      rest = t.rest;
-      fine = (ap suc t.fine.0, and_from (is_origin m l.item) _ f.0 t.fine.1);
-      cut = cut_cons origin_lines l.item t.item ls l.rest t.rest (l.cut ∙ ap (λ x. x ∷ l.rest) f.1) t.cut;
-      on = ap (λ x. next x t.rest) (sym (append_assoc acc (l.item ∷ []) t.item)) ∙ t.on;
-    }
+origins_bw m n acc next ls c e =
+    many_bw (is_origin m) origin_lines (next_line (origin_in m)) (own_line_bw (is_origin m) origin_line (origin_in m) (origin_bw m))
+    (read_origins m) (λ acc next ls. refl) (λ n acc next ls. refl) n acc next ls c e
 
 -- The lines of live elements.
 abbrev pub TookSteps : ℕ → List Element → List StepLine → Then (List StepLine) → List Line → Cert → Type 0

@@ -1,11 +1,8 @@
 -- Rows of replies, move by move.
-use Rattle.std.proofs.Common.{◌≡◌, ℕ, ◌+◌, ◌*◌, ◌/◌, ◌%◌, ◌<◌, ◌⊎◌, ◌↔◌, inl, inr, true, false, ◌==◌, List, length, get_or, Contains, refl, sym, ap, ◌∙◌, subst, arith}
-use Rattle.std.specs.Int.{bit_at}
+use Rattle.std.proofs.Common.{◌≡◌, ℕ, ◌+◌, ◌*◌, ◌<◌, ◌⊎◌, ◌↔◌, inl, inr, true, List, length, get_or, Contains, refl, sym, ap, ◌∙◌, subst, arith}
 use Rattle.std.proofs.lemmas.Bool.{cases_eq}
 use Rattle.std.proofs.lemmas.List.{get_or_default}
-use Rattle.std.proofs.lemmas.Nat.Bits.{bit_at-zero}
 use Rattle.auto_core.specs.Rows.{cell_of, HasCell}
-use Rattle.auto_core.proofs.CellLemmas.{cell_at}
 use Rattle.look_round.specs.declared.moves.Move.{Move}
 use Rattle.look_round.specs.Sides.{move}
 

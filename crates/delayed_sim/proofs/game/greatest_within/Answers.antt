@@ -10,6 +10,7 @@ use Rattle.delayed_game.specs.Played.{HasEachRight, IsPlayed}
 use Rattle.delayed_sim.proofs.AheadGreatest.{greatest_ahead}
 use Rattle.delayed_sim.proofs.ListLemmas.{listed_pairs}
 use Rattle.delayed_sim.proofs.game.greatest_within.Goals as goal
+use Rattle.delayed_sim.proofs.game.greatest_within.Goals.{In_ok-entries, After-states}
 
 -- What is left of the game of the places is the greatest relation.
 left_over :
@@ -54,48 +55,36 @@ of_relation-requires-clause-some c =
     let some = c.requires.words in
     omega arith
 
-pub returns-clause-greatest : goal.returns-clause-greatest
-returns-clause-greatest c =
-    let A = c.args.automaton.now in
+-- The entries are what is left of the game, in their order.
+listed : (c : goal.In_ok-entries) → ListsTriplesBefore c.args.automaton.now.labels c.args.letters c.play.new.board c.in_ok-ranks.ranks.items c.play.new.board.places 0 (entry_triples c.args.letters c.in_ok-entries.entries.items)
+listed c = listed_here c.args.automaton.now c.args.letters c.labels-labels.result c.play.new.board c.deref.result.now c.in_ok-ranks.ranks.items _ c.labels-labels.ensures.count c.deref.ensures.value c.in_ok-entries.ensures
+
+-- They are the greatest relation.
+left : (c : goal.In_ok-entries) → IsGreatestDelayed c.args.automaton.now c.args.letters (entry_triples c.args.letters c.in_ok-entries.entries.items)
+left c =
     let n : ℕ = c.args.letters in
-    let is : c.word_count.result ≡ A.labels ^ (n - 1) = c.word_count.ensures ∙ ap (λ (l : ℕ). l ^ (n - 1)) c.labels-labels.ensures.count in
-    let S = c.play.new.board in
-    let ranks = c.in_ok-ranks.ranks.items in
-    let T : RankedTriples = entry_triples n c.in_ok-entries.entries.items in
-    let listed : ListsTriplesBefore A.labels n S ranks S.places 0 T = listed_here A n c.labels-labels.result S c.deref.result.now ranks T c.labels-labels.ensures.count c.deref.ensures.value c.in_ok-entries.ensures in
-    left_over A c.args.places.now n c.word_count.result c.args.first.now c.in_ok-board.board S ranks T c.requires.from c.requires.valid c.requires.places is c.requires.equal c.requires.first c.in_ok-board.ensures.places c.in_ok-board.ensures.states (λ x q x_in. (c.in_ok-board.ensures.pairs x q x_in).1) c.in_ok-ranks.ensures listed
+    let is : c.word_count.result ≡ c.args.automaton.now.labels ^ (n - 1) = c.word_count.ensures ∙ ap (λ (l : ℕ). l ^ (n - 1)) c.labels-labels.ensures.count in
+    left_over c.args.automaton.now c.args.places.now n c.word_count.result c.args.first.now c.in_ok-board.board c.play.new.board c.in_ok-ranks.ranks.items _ c.requires.from c.requires.valid c.requires.places is c.requires.equal
+    c.requires.first c.in_ok-board.ensures.places c.in_ok-board.ensures.states (λ x q x_in. (c.in_ok-board.ensures.pairs x q x_in).1) c.in_ok-ranks.ensures (listed c)
+
+-- They are so for what was read of the automaton too.
+in_range : (c : goal.After-states) → AreTriplesOf c.states.result c.labels-labels.result c.args.letters (entry_triples c.args.letters c.in_ok-entries.entries.items)
+in_range c =
+    let T : RankedTriples = entry_triples c.args.letters c.in_ok-entries.entries.items in
+    let all = left (goal.at.After-states c).In_ok-entries in
+    subst (λ (s : ℕ). AreTriplesOf s c.labels-labels.result c.args.letters T) (sym c.states.ensures.count) (subst (λ (l : ℕ). AreTriplesOf c.args.automaton.now.states l c.args.letters T) (sym c.labels-labels.ensures.count) all.in_range)
+
+pub returns-clause-greatest : goal.returns-clause-greatest
+returns-clause-greatest c = left (goal.at.returns-clause-greatest c).In_ok-entries
 
 pub invariant_of-result : goal.invariant_of-result
 invariant_of-result c =
-    let A = c.args.automaton.now in
-    let n : ℕ = c.args.letters in
-    let is : c.word_count.result ≡ A.labels ^ (n - 1) = c.word_count.ensures ∙ ap (λ (l : ℕ). l ^ (n - 1)) c.labels-labels.ensures.count in
-    let S = c.play.new.board in
-    let ranks = c.in_ok-ranks.ranks.items in
-    let T : RankedTriples = entry_triples n c.in_ok-entries.entries.items in
-    let listed : ListsTriplesBefore A.labels n S ranks S.places 0 T = listed_here A n c.labels-labels.result S c.deref.result.now ranks T c.labels-labels.ensures.count c.deref.ensures.value c.in_ok-entries.ensures in
-    let all = left_over A c.args.places.now n c.word_count.result c.args.first.now c.in_ok-board.board S ranks T c.requires.from c.requires.valid c.requires.places is c.requires.equal c.requires.first c.in_ok-board.ensures.places c.in_ok-board.ensures.states (λ x q x_in. (c.in_ok-board.ensures.pairs x q x_in).1) c.in_ok-ranks.ensures listed in
-    record {
-      letters_from = c.requires.from;
-      letters_upto = c.requires.upto;
-      in_range = subst (λ (s : ℕ). AreTriplesOf s c.labels-labels.result n T) (sym c.states.ensures.count) (subst (λ (l : ℕ). AreTriplesOf A.states l n T) (sym c.labels-labels.ensures.count) all.in_range);
-      in_order = listed.in_order;
-    }
+    let order = listed (goal.at.invariant_of-result c).In_ok-entries in
+    record { letters_from = c.requires.from; letters_upto = c.requires.upto; in_range = in_range c; in_order = order.in_order }
 
 pub returns-clause-valid : goal.returns-clause-valid
 returns-clause-valid c =
-    let A = c.args.automaton.now in
-    let n : ℕ = c.args.letters in
-    let is : c.word_count.result ≡ A.labels ^ (n - 1) = c.word_count.ensures ∙ ap (λ (l : ℕ). l ^ (n - 1)) c.labels-labels.ensures.count in
-    let S = c.play.new.board in
-    let ranks = c.in_ok-ranks.ranks.items in
-    let T : RankedTriples = entry_triples n c.in_ok-entries.entries.items in
-    let listed : ListsTriplesBefore A.labels n S ranks S.places 0 T = listed_here A n c.labels-labels.result S c.deref.result.now ranks T c.labels-labels.ensures.count c.deref.ensures.value c.in_ok-entries.ensures in
-    let all = left_over A c.args.places.now n c.word_count.result c.args.first.now c.in_ok-board.board S ranks T c.requires.from c.requires.valid c.requires.places is c.requires.equal c.requires.first c.in_ok-board.ensures.places c.in_ok-board.ensures.states (λ x q x_in. (c.in_ok-board.ensures.pairs x q x_in).1) c.in_ok-ranks.ensures listed in
-    record {
-      letters_from = c.requires.from;
-      letters_upto = c.requires.upto;
-      in_range = subst (λ (s : ℕ). AreTriplesOf s c.labels-labels.result n T) (sym c.states.ensures.count) (subst (λ (l : ℕ). AreTriplesOf A.states l n T) (sym c.labels-labels.ensures.count) all.in_range);
-      once = all.once;
-      in_order = listed.in_order;
-    }
+    let path = goal.at.returns-clause-valid c in
+    let all = left path.In_ok-entries in
+    let order = listed path.In_ok-entries in
+    record { letters_from = c.requires.from; letters_upto = c.requires.upto; in_range = in_range path.After-states; once = all.once; in_order = order.in_order }

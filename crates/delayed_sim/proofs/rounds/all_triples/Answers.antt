@@ -22,22 +22,23 @@ loop-number-preserved c =
     subst (λ l. IsFull labels n states (i + 1) (entry_triples n l)) (sym c.in_ok-push.ensures.items)
     (full_push labels n states i words c.loop-number.entries.items e c.loop-number.invariant c.word_count-words.ensures refl c.letters_of.ensures refl refl)
 
+-- There are as many entries as triples.
+all_listed : (c : goal.After-loop-number) → c.loop-number.number ≡ c.states-states.result * c.labels-labels.result ^ (c.args.letters - 1) * c.states-states.result
+all_listed c =
+    let end : c.loop-number.number ≡ c.states-states.result * c.word_count-words.result * c.states-states.result = omega (arith, c.loop-number-test.false, c.loop-number.auto.number-end) in
+    end ∙ ap (λ w. c.states-states.result * w * c.states-states.result) c.word_count-words.ensures
+
+some : (c : goal.After-loop-number) → 0 < c.states-states.result
+some c = omega (arith, c.states-states.ensures.valid.initial_is_state, c.states-states.ensures.count)
+
 pub invariant_of-result : goal.invariant_of-result
 invariant_of-result c =
-    let n : ℕ = c.args.letters in
-    let labels : ℕ = c.labels-labels.result in
-    let states : ℕ = c.states-states.result in
-    let number : ℕ = c.loop-number.number in
-    let words : ℕ = c.word_count-words.result in
-    let T = entry_triples n c.loop-number.entries.items in
-    let end : number ≡ states * words * states = omega (arith, c.loop-number-test.false, c.loop-number.auto.number-end) in
-    let all : number ≡ states * labels ^ (n - 1) * states = end ∙ ap (λ w. states * w * states) c.word_count-words.ensures in
-    let positive : 0 < states = omega (arith, c.states-states.ensures.valid.initial_is_state, c.states-states.ensures.count) in
+    let T = entry_triples c.args.letters c.loop-number.entries.items in
     record {
       letters_from = c.requires.from;
       letters_upto = c.requires.upto;
-      in_range = full_range labels n states number T c.requires.from positive all c.loop-number.invariant;
-      in_order = full_order labels n states number T c.requires.from positive all c.loop-number.invariant;
+      in_range = full_range c.labels-labels.result c.args.letters c.states-states.result c.loop-number.number T c.requires.from (some c) (all_listed c) c.loop-number.invariant;
+      in_order = full_order c.labels-labels.result c.args.letters c.states-states.result c.loop-number.number T c.requires.from (some c) (all_listed c) c.loop-number.invariant;
     }
 
 pub returns-clause-valid : goal.returns-clause-valid
@@ -45,14 +46,5 @@ returns-clause-valid c = valid_stored (record { states = c.states-states.result;
 
 pub returns-clause-all : goal.returns-clause-all
 returns-clause-all c = λ b p q is_word p_in q_in.
-    let n : ℕ = c.args.letters in
-    let labels : ℕ = c.labels-labels.result in
-    let states : ℕ = c.states-states.result in
-    let number : ℕ = c.loop-number.number in
-    let words : ℕ = c.word_count-words.result in
-    let T = entry_triples n c.loop-number.entries.items in
-    let end : number ≡ states * words * states = omega (arith, c.loop-number-test.false, c.loop-number.auto.number-end) in
-    let all : number ≡ states * labels ^ (n - 1) * states = end ∙ ap (λ w. states * w * states) c.word_count-words.ensures in
-    let positive : 0 < states = omega (arith, c.states-states.ensures.valid.initial_is_state, c.states-states.ensures.count) in
-    full_all labels n states number T c.requires.from positive all c.loop-number.invariant b p q (subst (λ l. IsTripleWord l n b) (sym c.labels-labels.ensures.count) is_word)
-    (omega (arith, p_in, c.states-states.ensures.count)) (omega (arith, q_in, c.states-states.ensures.count))
+    full_all c.labels-labels.result c.args.letters c.states-states.result c.loop-number.number (entry_triples c.args.letters c.loop-number.entries.items) c.requires.from (some c) (all_listed c) c.loop-number.invariant
+    b p q (subst (λ l. IsTripleWord l c.args.letters b) (sym c.labels-labels.ensures.count) is_word) (omega (arith, p_in, c.states-states.ensures.count)) (omega (arith, q_in, c.states-states.ensures.count))

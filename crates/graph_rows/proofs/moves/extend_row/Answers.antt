@@ -7,6 +7,7 @@ use Rattle.graph_rows.specs.Added.{HasAdded}
 use Rattle.graph_rows.proofs.AddedLemmas.{added_then, added_as}
 use Rattle.graph_rows.proofs.ExtensionLemmas.{Through, through_more, through_all, no_arc}
 use Rattle.graph_rows.proofs.moves.extend_row.Goals as goal
+use Rattle.graph_rows.proofs.moves.extend_row.Goals.{In_default}
 
 pub overflow_cast-middle : goal.overflow_cast-middle
 overflow_cast-middle c =
@@ -47,36 +48,32 @@ loop-middle-preserved c =
       omega arith,
     )
 
+-- The state has no arc to one that was not looked at.
+no_more : (c : goal.In_default) (k : ℕ) → c.loop-middle.at ≤ k → HasArc c.args.from_joined.now c.args.automaton.now.states c.args.width c.args.row k → ⊥
+no_more c k k_from =
+    let none : (k : ℕ) → c.loop-middle.at ≤ k → bit_of c.row_at-reached.result.now k ≡ false = search rules in
+    no_arc c.args.from_joined.now c.row_at-reached.result.now c.args.automaton.now.states c.args.width c.args.row k c.row_at-reached.ensures.bits c.requires.from_joined.room (none k k_from)
+
 pub returns-clause-joined : goal.returns-clause-joined
 returns-clause-joined c =
     let A = c.args.automaton.now in
-    let a : ℕ = c.args.label in
     let w : ℕ = c.args.width in
     let row : ℕ = c.args.row in
-    let at : ℕ = c.loop-middle.at in
-    let none : (k : ℕ) → at ≤ k → bit_of c.row_at-reached.result.now k ≡ false = search rules in
     let R : ℕ → Type 0 = HasArc c.args.from_joined.now A.states w row in
-    let free : (k : ℕ) → at ≤ k → R k → ⊥ = λ k k_from.
-    no_arc c.args.from_joined.now c.row_at-reached.result.now A.states w row k c.row_at-reached.ensures.bits c.requires.from_joined.room (none k k_from) in
-    let C : ℕ → ℕ → Type 0 = λ m q. Moves A m a q in
-    added_as w row (Through R at C) ((extended A (graph_of_tables c.args.from_joined.now c.args.from_past.now A.states w) a).joined row) c.args.joined.now c.loop-middle.joined
-    (λ q q_in. through_all R at C free q) c.loop-middle.invariant.0
+    let C : ℕ → ℕ → Type 0 = λ m q. Moves A m c.args.label q in
+    added_as w row (Through R c.loop-middle.at C) ((extended A (graph_of_tables c.args.from_joined.now c.args.from_past.now A.states w) c.args.label).joined row) c.args.joined.now c.loop-middle.joined
+    (λ q q_in. through_all R c.loop-middle.at C (no_more c) q) c.loop-middle.invariant.0
 
 pub returns-clause-past : goal.returns-clause-past
 returns-clause-past c =
     let A = c.args.automaton.now in
-    let a : ℕ = c.args.label in
     let w : ℕ = c.args.width in
     let row : ℕ = c.args.row in
-    let at : ℕ = c.loop-middle.at in
-    let none : (k : ℕ) → at ≤ k → bit_of c.row_at-reached.result.now k ≡ false = search rules in
     let R : ℕ → Type 0 = HasArc c.args.from_joined.now A.states w row in
-    let free : (k : ℕ) → at ≤ k → R k → ⊥ = λ k k_from.
-    no_arc c.args.from_joined.now c.row_at-reached.result.now A.states w row k c.row_at-reached.ensures.bits c.requires.from_joined.room (none k k_from) in
-    let D : ℕ → ℕ → Type 0 = λ m q. Moves A m a q × (HasCell c.args.from_past.now w row m ⊎ IsAccepting A q) in
-    added_as w row (Through R at D) ((extended A (graph_of_tables c.args.from_joined.now c.args.from_past.now A.states w) a).past row) c.args.past.now c.loop-middle.past
+    let D : ℕ → ℕ → Type 0 = λ m q. Moves A m c.args.label q × (HasCell c.args.from_past.now w row m ⊎ IsAccepting A q) in
+    added_as w row (Through R c.loop-middle.at D) ((extended A (graph_of_tables c.args.from_joined.now c.args.from_past.now A.states w) c.args.label).past row) c.args.past.now c.loop-middle.past
     (λ q q_in.
-    let is = through_all R at D free q in (
+    let is = through_all R c.loop-middle.at D (no_more c) q in (
       λ h.
           let (m, arc, move) = is.0 h in
           (m, move.0, elim move.1 [ inl cell ↦ inl (arc.0, arc.1, cell) | inr acc ↦ inr (arc, acc) ]),

@@ -9,6 +9,30 @@ use Rattle.log_check.proofs.AheadLemmas.{closure_made}
 use Rattle.log_check.proofs.ClosureLemmas.{joins_from, joins_to}
 use Rattle.log_check.proofs.RankLemmas.{triples_in, turned, right_alike}
 use Rattle.log_check.proofs.second.merge_delayed.Goals as goal
+use Rattle.log_check.proofs.second.merge_delayed.Goals.{After-close}
+
+-- Once the relation is closed: the rules that were kept so far, and what the relation is.
+once_closed : (c : goal.After-close) → let A = c.args.automaton.now in
+    let X = triples_of c.args.ranks.now in
+    IsRankBlockBelow A.states A.labels c.args.ranks.now
+    × ((c.in-Some.classes ≡ c.args.numbers.now) × AreClassesFor A c.args.numbers.now)
+    × IsRight A X
+    × IsClosureOf A.states (AreStateRelated A.labels c.args.letters X) c.close.new.self
+once_closed c =
+    let A = c.args.automaton.now in
+    let ranks = c.args.ranks.now in
+    let ranking = c.in_ok-ranking.ranking in
+    let named : IsRankBlockBelow A.states A.labels ranks = search rules in
+    let classed : (c.in-Some.classes ≡ c.args.numbers.now) × AreClassesFor A c.args.numbers.now = search rules in
+    let made : IsRankingOf A c.args.letters ranks ranking = search rules in
+    let right_is : c.holds.result ≡ true = search rules in
+    let right : IsRight A (triples_of ranks) = right_alike A ranking.triples (triples_of ranks) made.triples (c.holds.ensures.0 right_is) in
+    let below = triples_in A.states A.labels c.args.letters ranks c.requires.letters_from c.requires.formed named in (
+      named,
+      classed,
+      right,
+      closure_made A c.args.letters ranks ranking c.in_ok-rel.rel c.close.new.self below made c.in_ok-rel.ensures.size c.in_ok-rel.ensures.pairs c.close.ensures.closed,
+    )
 
 pub returns-then-not-holds : goal.returns-then-not-holds
 returns-then-not-holds c =
@@ -32,19 +56,9 @@ returns-then-not-holds c =
 
 pub returns-then-not-joins_members : goal.returns-then-not-joins_members
 returns-then-not-joins_members c =
-    let A = c.args.automaton.now in
-    let X = triples_of c.args.ranks.now in
-    let Y = c.in_ok-ranking.ranking.triples in
-    let R = AreStateRelated A.labels c.args.letters X in
+    let R = AreStateRelated c.args.automaton.now.labels c.args.letters (triples_of c.args.ranks.now) in
     let rel = c.close.new.self in
-    let named : IsRankBlockBelow A.states A.labels c.args.ranks.now = search rules in
-    let classed : (c.in-Some.classes ≡ c.args.numbers.now) × AreClassesFor A c.args.numbers.now = search rules in
-    let made : IsRankingOf A c.args.letters c.args.ranks.now c.in_ok-ranking.ranking = search rules in
-    let right_is : c.holds.result ≡ true = search rules in
-    let right : IsRight A X = right_alike A Y X made.triples (c.holds.ensures.0 right_is) in
-    let below = triples_in A.states A.labels c.args.letters c.args.ranks.now c.requires.letters_from c.requires.formed named in
-    let closed : IsClosureOf A.states R rel =
-    closure_made A c.args.letters c.args.ranks.now c.in_ok-ranking.ranking c.in_ok-rel.rel rel below made c.in_ok-rel.ensures.size c.in_ok-rel.ensures.pairs c.close.ensures.closed in
+    let (named, classed, right, closed) = once_closed (goal.at.returns-then-not-joins_members c).After-close in
     let is : c.joins_members.result ≡ false = search rules in
     inr (
       named,
@@ -53,7 +67,7 @@ returns-then-not-joins_members c =
         inr (
           right,
           inl (
-            λ relates. false≢true (sym is ∙ c.joins_members.ensures.1 (subst (λ (l : List ℕ). JoinsMembers l rel rel.size) (sym classed.0) (joins_to A c.args.numbers.now R rel closed relates))),
+            λ relates. false≢true (sym is ∙ c.joins_members.ensures.1 (subst (λ (l : List ℕ). JoinsMembers l rel rel.size) (sym classed.0) (joins_to c.args.automaton.now c.args.numbers.now R rel closed relates))),
             refl,
           ),
         ),
@@ -63,18 +77,9 @@ returns-then-not-joins_members c =
 pub returns : goal.returns
 returns c =
     let A = c.args.automaton.now in
-    let X = triples_of c.args.ranks.now in
-    let Y = c.in_ok-ranking.ranking.triples in
-    let R = AreStateRelated A.labels c.args.letters X in
+    let R = AreStateRelated A.labels c.args.letters (triples_of c.args.ranks.now) in
     let rel = c.close.new.self in
-    let named : IsRankBlockBelow A.states A.labels c.args.ranks.now = search rules in
-    let classed : (c.in-Some.classes ≡ c.args.numbers.now) × AreClassesFor A c.args.numbers.now = search rules in
-    let made : IsRankingOf A c.args.letters c.args.ranks.now c.in_ok-ranking.ranking = search rules in
-    let right_is : c.holds.result ≡ true = search rules in
-    let right : IsRight A X = right_alike A Y X made.triples (c.holds.ensures.0 right_is) in
-    let below = triples_in A.states A.labels c.args.letters c.args.ranks.now c.requires.letters_from c.requires.formed named in
-    let closed : IsClosureOf A.states R rel =
-    closure_made A c.args.letters c.args.ranks.now c.in_ok-ranking.ranking c.in_ok-rel.rel rel below made c.in_ok-rel.ensures.size c.in_ok-rel.ensures.pairs c.close.ensures.closed in
+    let (named, classed, right, closed) = once_closed (goal.at.returns c).After-close in
     let is : c.joins_members.result ≡ true = search rules in
     let joined : JoinsMembers c.args.numbers.now rel rel.size = subst (λ (l : List ℕ). JoinsMembers l rel rel.size) classed.0 (c.joins_members.ensures.0 is) in
     let relates : RelatesMembersBy A c.args.numbers.now R = joins_from A c.args.numbers.now R rel closed joined in

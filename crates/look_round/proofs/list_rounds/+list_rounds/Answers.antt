@@ -1,4 +1,4 @@
-use Rattle.std.proofs.Common.{arith, ◌≡◌, ℕ, ◌+◌, ◌-◌, ◌<◌, ◌≤◌, ◌↔◌, [], ◌∷◌, ◌++◌, length, take, drop, Contains, inl, inr, sym, ap, ◌∙◌, subst, take_all, le_refl}
+use Rattle.std.proofs.Common.{rules, arith, ◌≡◌, ℕ, ◌+◌, ◌-◌, ◌<◌, ◌≤◌, ◌↔◌, [], ◌∷◌, ◌++◌, length, take, drop, Contains, inl, inr, sym, ap, ◌∙◌, subst, take_all, le_refl}
 use Rattle.std.proofs.lemmas.Bool.{iff_false}
 use Rattle.std.proofs.lemmas.List.{take_more, get_or_default}
 use Rattle.auto_core.specs.Game.{Holds, IsDead}
@@ -114,8 +114,8 @@ told_after-returns-then-moves-eq0-clause-fails g t c = λ e h.
     let more : 1 < c.args.left = omega (arith, c.if-left-eq1.false) in
     ended M ok W c.args.left a p D E (λ r. (λ x. x, λ x. x)) none (inr (more, dead)) h
 
-pub told_after-returns-clause-holds : goal.told_after-returns-clause-holds
-told_after-returns-clause-holds g t c = λ e.
+pub told_after-returns : goal.told_after-returns
+told_after-returns g t c =
     let A = c.args.automaton.now in
     let s = c.args.side.now in
     let M = g.S.Side.goes s A in
@@ -135,30 +135,7 @@ told_after-returns-clause-holds g t c = λ e.
     let alive : IsDead M p → ⊥ = alive_from M (g.S.Side.list s A p) p (g.met.S.Side.lists s A p) (λ f. c.if-moves-eq0.false (c.moves.ensures ∙ f)) in
     let some = c.requires.left in
     let both = goes_on M ok W c.args.left a p D E replies (c.args.left - 1) (omega (arith, c.if-left-eq1.false)) (omega (arith, c.if-left-eq1.false)) none alive in
-    both.1 (c.told_from.ensures.holds e)
-
-pub told_after-returns-clause-fails : goal.told_after-returns-clause-fails
-told_after-returns-clause-fails g t c = λ e h.
-    let A = c.args.automaton.now in
-    let s = c.args.side.now in
-    let M = g.S.Side.goes s A in
-    let ok = g.S.Side.matches s A in
-    let W = Holds c.args.rel.now.pairs in
-    let a = c.args.step.label in
-    let p = c.args.step.to in
-    let D : ℕ → Type 0 = IsListedWithin c.args.listed.now c.args.at c.args.end in
-    let E : ℕ → Type 0 = IsListedWithin c.list_replies-to.new.listed c.args.end c.list_replies-to.result in
-    let inside = c.list_replies-to.ensures.inside in
-    let few : c.list_replies-to.result < length c.list_replies-to.new.listed = omega (arith, c.if-to-listed.false) in
-    let replies : (r : ℕ) → E r ↔ HasReplyFrom M ok a p D r = c.list_replies-to.ensures.just few in
-    let apart = iff_false c.one_meets.ensures c.if-one_meets.false in
-    let S : ℕ → Type 0 = Contains (take (c.args.end - c.args.at) (drop c.args.at c.args.listed.now)) in
-    let slice : (q : ℕ) → D q → S q = λ q. (listed_slice c.args.listed.now c.args.at c.args.end q c.requires.order c.requires.end).1 in
-    let none : (r : ℕ) → E r → W p r → ⊥ = λ r is related. apart (r, reply_same M ok a p D S r slice ((replies r).0 is), related) in
-    let alive : IsDead M p → ⊥ = alive_from M (g.S.Side.list s A p) p (g.met.S.Side.lists s A p) (λ f. c.if-moves-eq0.false (c.moves.ensures ∙ f)) in
-    let some = c.requires.left in
-    let both = goes_on M ok W c.args.left a p D E replies (c.args.left - 1) (omega (arith, c.if-left-eq1.false)) (omega (arith, c.if-left-eq1.false)) none alive in
-    c.told_from.ensures.fails e (both.0 h)
+    record { kept = search rules; holds = λ e. both.1 (c.told_from.ensures.holds e); fails = λ e h. c.told_from.ensures.fails e (both.0 h) }
 
 pub told_after-one_meets-requires-clause-from : goal.told_after-one_meets-requires-clause-from
 told_after-one_meets-requires-clause-from g t c =

@@ -7,65 +7,68 @@ use Rattle.look_round.proofs.RoundLemmas.{after_same, met, ended, goes_on}
 use Rattle.look_round.proofs.StepLemmas.{reply_same}
 use Rattle.look_round.proofs.KnownLemmas.{known_answered, known_more}
 use Rattle.look_round.proofs.RoundLoop.{told_first, one_answered, all_answered, one_unanswered, dead_from, alive_from}
+use Rattle.look_round.proofs.round.+round.Given.{Over}
 use Rattle.look_round.proofs.round.+round.Goals as goal
+use Rattle.look_round.proofs.round.+round.Goals.{round_from-After-step_answered, step_answered-After-round_from-answered}
 
 -- a test is true that cannot be false
 true_if : {b : Bool} {P : Type 0} → b ≡ true ↔ P → ((P → ⊥) → ⊥) → b ≡ true
 true_if {b = true} both some = refl
 true_if {b = false} both some = absurd (some (iff_false both refl))
 
-pub round_from-returns-then-not-step_answered-clause-told : goal.round_from-returns-then-not-step_answered-clause-told
-round_from-returns-then-not-step_answered-clause-told g t c =
+-- The step tells of the move whether it is answered.
+move_told :
+    (g : Over) (t : ℕ) (c : round_from-After-step_answered g t)
+    → IsTrue c.step_answered.result
+    ↔ RoundAfter (g.S.Side.goes c.args.side.now c.args.automaton.now) (g.S.Side.matches c.args.side.now c.args.automaton.now) (Holds c.args.rel.now.pairs) c.args.left c.nth-step.result.label c.nth-step.result.to
+    (HasReply c.args.sets.now c.args.automaton.now.states c.args.width (length c.args.path.now.items))
+move_told g t c =
     let A = c.args.automaton.now in
     let s = c.args.side.now in
     let M = g.S.Side.goes s A in
     let ok = g.S.Side.matches s A in
     let W = Holds c.args.rel.now.pairs in
-    let moves = g.S.Side.list s A c.args.p in
-    let left = c.args.left in
     let n = A.states in
     let w = c.args.width in
-    let L = length c.args.path.now.items in
     let m = c.nth-step.result in
+    let room : n ≤ w * 64 = omega (arith, c.requires.width) in
+    let P : ℕ → Type 0 = λ x. IsTrue c.step_answered.result ↔ RoundAfter M ok W c.args.left m.label m.to (HasReply c.loop-at.sets n w x) in
+    told_first M ok W (g.S.Side.list s A c.args.p) c.args.left n w (length c.args.path.now.items) room c.args.sets.now c.loop-at.sets m.label m.to (IsTrue c.step_answered.result) c.loop-at.invariant.2.kept
+    (subst P (ap length c.loop-at.invariant.0) c.step_answered.ensures.told)
+
+pub round_from-returns-then-not-step_answered-clause-told : goal.round_from-returns-then-not-step_answered-clause-told
+round_from-returns-then-not-step_answered-clause-told g t c =
+    let A = c.args.automaton.now in
+    let s = c.args.side.now in
+    let moves = g.S.Side.list s A c.args.p in
     let width = c.requires.width in
-    let room : n ≤ w * 64 = omega arith in
-    let same : length c.loop-at.path.items ≡ L = ap length c.loop-at.invariant.0 in
-    let P : ℕ → Type 0 = λ x. IsTrue c.step_answered.result ↔ RoundAfter M ok W left m.label m.to (HasReply c.loop-at.sets n w x) in
-    let told = told_first M ok W moves left n w L room c.args.sets.now c.loop-at.sets m.label m.to (IsTrue c.step_answered.result) c.loop-at.invariant.2.kept (subst P same c.step_answered.ensures.told) in
+    let room : A.states ≤ c.args.width * 64 = omega arith in
     let failed : c.step_answered.result ≡ false = search rules in
     let count : c.moves-at-end.result ≡ length moves = c.moves-at-end.ensures in
-    let j_in : c.loop-at.at < length moves = omega (arith, c.loop-at-test.true) in (
+    let j_in : c.loop-at.at < length moves = omega (arith, c.loop-at-test.true) in
+    let told = move_told g t (goal.at.round_from-returns-then-not-step_answered-clause-told g t c).After-step_answered in (
       λ h. absurd (false≢true h),
       λ h.
           absurd
-          (one_unanswered M ok W moves left n w L room c.args.sets.now c.args.p c.loop-at.at m (g.met.S.Side.lists s A c.args.p) j_in c.nth-step.ensures.item
-          (iff_false told failed) h),
+          (one_unanswered (g.S.Side.goes s A) (g.S.Side.matches s A) (Holds c.args.rel.now.pairs) moves c.args.left A.states c.args.width (length c.args.path.now.items) room c.args.sets.now c.args.p c.loop-at.at c.nth-step.result
+          (g.met.S.Side.lists s A c.args.p) j_in c.nth-step.ensures.item (iff_false told failed) h),
     )
 
 pub round_from-loop-at-preserved : goal.round_from-loop-at-preserved
 round_from-loop-at-preserved g t c =
     let A = c.args.automaton.now in
     let s = c.args.side.now in
-    let M = g.S.Side.goes s A in
-    let ok = g.S.Side.matches s A in
-    let W = Holds c.args.rel.now.pairs in
-    let moves = g.S.Side.list s A c.args.p in
-    let left = c.args.left in
-    let n = A.states in
     let w = c.args.width in
     let L = length c.args.path.now.items in
-    let m = c.nth-step.result in
-    let width = c.requires.width in
-    let room : n ≤ w * 64 = omega arith in
+    let room : A.states ≤ w * 64 = omega (arith, c.requires.width) in
     let same : length c.loop-at.path.items ≡ L = ap length c.loop-at.invariant.0 in
-    let P : ℕ → Type 0 = λ x. IsTrue c.step_answered.result ↔ RoundAfter M ok W left m.label m.to (HasReply c.loop-at.sets n w x) in
-    let told = told_first M ok W moves left n w L room c.args.sets.now c.loop-at.sets m.label m.to (IsTrue c.step_answered.result) c.loop-at.invariant.2.kept (subst P same c.step_answered.ensures.told) in
     let held : c.step_answered.result ≡ true = search rules in
+    let told = move_told g t (goal.at.round_from-loop-at-preserved g t c).After-step_answered in
     let Q : ℕ → Type 0 = λ x. KeepsRows c.loop-at.sets c.step_answered.new.sets w x in (
       c.step_answered.ensures.path ∙ c.loop-at.invariant.0,
       c.step_answered.ensures.capacity ∙ c.loop-at.invariant.1,
-      one_answered M ok W moves left n w L room c.args.sets.now c.loop-at.sets c.step_answered.new.sets c.loop-at.at m c.loop-at.invariant.2 c.nth-step.ensures.item
-          (told.0 held) (subst Q same c.step_answered.ensures.kept),
+      one_answered (g.S.Side.goes s A) (g.S.Side.matches s A) (Holds c.args.rel.now.pairs) (g.S.Side.list s A c.args.p) c.args.left A.states w L room c.args.sets.now c.loop-at.sets c.step_answered.new.sets c.loop-at.at
+          c.nth-step.result c.loop-at.invariant.2 c.nth-step.ensures.item (told.0 held) (subst Q same c.step_answered.ensures.kept),
       c.step_answered.ensures.answered,
     )
 
@@ -191,8 +194,17 @@ step_answered-returns-then-is_known-clause-told g t c =
     let answered = known_answered M ok W n w room c.args.letters.now c.args.held.now c.args.known.now c.args.sets.now c.row_at-row.result.now c.args.left c.len-number.result a p near c.requires.answered known.0 known.1 c.row_at-row.ensures.bits in
     (λ h. subst P c.len-number.ensures.value answered, λ h. refl)
 
-pub step_answered-returns-then-not-answered-clause-told : goal.step_answered-returns-then-not-answered-clause-told
-step_answered-returns-then-not-answered-clause-told g t c =
+-- How long the path is, which the round from the move's end begins with.
+longer : (g : Over) (t : ℕ) (c : step_answered-After-round_from-answered g t) → length c.push_reserved.new.self.items ≡ c.len-number.result + 1
+longer g t c = ap length c.push_reserved.ensures.items ∙ length-append c.args.path.now.items (c.args.step ∷ []) ∙ ap (λ x. x + 1) (sym c.len-number.ensures.value)
+
+-- That round tells whether the move is answered, where the move's end has further moves and is not lost at once.
+rest_told :
+    (g : Over) (t : ℕ) (c : step_answered-After-round_from-answered g t)
+    → IsTrue c.round_from-answered.result
+    ↔ RoundAfter (g.S.Side.goes c.args.side.now c.args.automaton.now) (g.S.Side.matches c.args.side.now c.args.automaton.now) (Holds c.args.rel.now.pairs) c.args.left c.args.step.label c.args.step.to
+    (HasReply c.args.sets.now c.args.automaton.now.states c.args.width (length c.args.path.now.items))
+rest_told g t c =
     let A = c.args.automaton.now in
     let s = c.args.side.now in
     let M = g.S.Side.goes s A in
@@ -215,104 +227,63 @@ step_answered-returns-then-not-answered-clause-told g t c =
     let some = c.requires.left in
     let more : 1 < c.args.left = omega (arith, c.if-left-eq1.false) in
     let both = goes_on M ok W c.args.left a p (HasReply old n w (length c.args.path.now.items)) (HasReply new n w (number + 1)) replies (c.args.left - 1) (omega arith) (omega arith) none alive in
-    let size : length c.push_reserved.new.self.items ≡ number + 1 =
-    ap length c.push_reserved.ensures.items ∙ length-append c.args.path.now.items (c.args.step ∷ []) ∙ ap (λ x. x + 1) (sym c.len-number.ensures.value) in
     let Q : ℕ → Type 0 = λ x. IsTrue c.round_from-answered.result ↔ RoundFrom M ok W (c.args.left - 1) p (HasReply new n w x) in
-    let told = subst Q size c.round_from-answered.ensures.told in
+    let told = subst Q (longer g t c) c.round_from-answered.ensures.told in
+    (λ h. both.1 (told.0 h), λ h. told.1 (both.0 h))
+
+-- Earlier rows are kept.
+rows_kept :
+    (g : Over) (t : ℕ) (c : step_answered-After-round_from-answered g t) (i q : ℕ)
+    → i ≤ length c.args.path.now.items
+    → q < c.args.width * 64
+    → cell_of c.round_from-answered.new.sets c.args.width i q ≡ cell_of c.args.sets.now c.args.width i q
+rows_kept g t c i q i_in near =
+    let value : c.len-number.result ≡ length c.args.path.now.items = c.len-number.ensures.value in
+    let size = longer g t c in
+    c.round_from-answered.ensures.kept i q (omega (arith, size, value)) near ∙ c.step_into.ensures.others i q near (λ e. omega (arith, value))
+
+pub step_answered-returns-then-not-answered-clause-told : goal.step_answered-returns-then-not-answered-clause-told
+step_answered-returns-then-not-answered-clause-told g t c =
+    let told = rest_told g t (goal.at.step_answered-returns-then-not-answered-clause-told g t c).After-round_from-answered in
     let failed : c.round_from-answered.result ≡ false = search rules in
-    (λ h. absurd (false≢true h), λ h. absurd (false≢true (sym failed ∙ told.1 (both.0 h))))
+    (λ h. absurd (false≢true h), λ h. absurd (false≢true (sym failed ∙ told.1 h)))
 
 pub step_answered-returns-clause-told : goal.step_answered-returns-clause-told
 step_answered-returns-clause-told g t c =
-    let A = c.args.automaton.now in
-    let s = c.args.side.now in
-    let M = g.S.Side.goes s A in
-    let ok = g.S.Side.matches s A in
-    let W = Holds c.args.rel.now.pairs in
-    let n = A.states in
-    let w = c.args.width in
-    let a = c.args.step.label in
-    let p = c.args.step.to in
-    let old = c.args.sets.now in
-    let new = c.step_into.new.table in
-    let number = c.len-number.result in
-    let P : ℕ → Type 0 = λ x. (r : ℕ) → HasReply new n w (number + 1) r ↔ HasReplyFrom M ok a p (HasReply old n w x) r in
-    let replies = subst P c.len-number.ensures.value c.step_into.ensures.next in
-    let Q1 : ℕ → Type 0 = λ x. IsTrue c.step_into.result ↔ ((r : ℕ) × HasReplyFrom M ok a p (HasReply old n w x) r × HasBit c.row-related.result.now r) in
-    let one = subst Q1 c.len-number.ensures.value c.step_into.ensures.told in
-    let apart = iff_false one c.if-step_into.false in
-    let none : (r : ℕ) → HasReply new n w (number + 1) r → W p r → ⊥ = λ r is related. apart (r, (replies r).0 is, (c.row-related.ensures.bits r).1 related) in
-    let alive : IsDead M p → ⊥ = alive_from M (g.S.Side.list s A p) p (g.met.S.Side.lists s A p) (λ e. c.if-moves-eq0.false (c.moves.ensures ∙ e)) in
-    let some = c.requires.left in
-    let more : 1 < c.args.left = omega (arith, c.if-left-eq1.false) in
-    let both = goes_on M ok W c.args.left a p (HasReply old n w (length c.args.path.now.items)) (HasReply new n w (number + 1)) replies (c.args.left - 1) (omega arith) (omega arith) none alive in
-    let size : length c.push_reserved.new.self.items ≡ number + 1 =
-    ap length c.push_reserved.ensures.items ∙ length-append c.args.path.now.items (c.args.step ∷ []) ∙ ap (λ x. x + 1) (sym c.len-number.ensures.value) in
-    let Q : ℕ → Type 0 = λ x. IsTrue c.round_from-answered.result ↔ RoundFrom M ok W (c.args.left - 1) p (HasReply new n w x) in
-    let told = subst Q size c.round_from-answered.ensures.told in
+    let told = rest_told g t (goal.at.step_answered-returns-clause-told g t c).After-round_from-answered in
     let holds : c.round_from-answered.result ≡ true = search rules in
-    (λ h. both.1 (told.0 holds), λ h. refl)
+    (λ h. told.0 holds, λ h. refl)
 
 pub step_answered-returns-clause-answered : goal.step_answered-returns-clause-answered
 step_answered-returns-clause-answered g t c =
-    let A = c.args.automaton.now in
-    let s = c.args.side.now in
-    let M = g.S.Side.goes s A in
-    let ok = g.S.Side.matches s A in
+    let path = (goal.at.step_answered-returns-clause-answered g t c).After-round_from-answered in
+    let told = rest_told g t path in
+    let M = g.S.Side.goes c.args.side.now c.args.automaton.now in
+    let ok = g.S.Side.matches c.args.side.now c.args.automaton.now in
     let W = Holds c.args.rel.now.pairs in
-    let n = A.states in
+    let n = c.args.automaton.now.states in
     let w = c.args.width in
     let a = c.args.step.label in
     let p = c.args.step.to in
     let old = c.args.sets.now in
-    let new = c.step_into.new.table in
     let number = c.len-number.result in
-    let P : ℕ → Type 0 = λ x. (r : ℕ) → HasReply new n w (number + 1) r ↔ HasReplyFrom M ok a p (HasReply old n w x) r in
-    let replies = subst P c.len-number.ensures.value c.step_into.ensures.next in
-    let Q1 : ℕ → Type 0 = λ x. IsTrue c.step_into.result ↔ ((r : ℕ) × HasReplyFrom M ok a p (HasReply old n w x) r × HasBit c.row-related.result.now r) in
-    let one = subst Q1 c.len-number.ensures.value c.step_into.ensures.told in
-    let apart = iff_false one c.if-step_into.false in
-    let none : (r : ℕ) → HasReply new n w (number + 1) r → W p r → ⊥ = λ r is related. apart (r, (replies r).0 is, (c.row-related.ensures.bits r).1 related) in
-    let alive : IsDead M p → ⊥ = alive_from M (g.S.Side.list s A p) p (g.met.S.Side.lists s A p) (λ e. c.if-moves-eq0.false (c.moves.ensures ∙ e)) in
-    let some = c.requires.left in
-    let more : 1 < c.args.left = omega (arith, c.if-left-eq1.false) in
-    let both = goes_on M ok W c.args.left a p (HasReply old n w (length c.args.path.now.items)) (HasReply new n w (number + 1)) replies (c.args.left - 1) (omega arith) (omega arith) none alive in
-    let size : length c.push_reserved.new.self.items ≡ number + 1 =
-    ap length c.push_reserved.ensures.items ∙ length-append c.args.path.now.items (c.args.step ∷ []) ∙ ap (λ x. x + 1) (sym c.len-number.ensures.value) in
-    let Q : ℕ → Type 0 = λ x. IsTrue c.round_from-answered.result ↔ RoundFrom M ok W (c.args.left - 1) p (HasReply new n w x) in
-    let told = subst Q size c.round_from-answered.ensures.told in
     let holds : c.round_from-answered.result ≡ true = search rules in
-    let answered = both.1 (told.0 holds) in
     let value : number ≡ length c.args.path.now.items = c.len-number.ensures.value in
     let room : n ≤ w * 64 = omega (arith, c.requires.width) in
     let sets = c.round_from-answered.new.sets in
-    let kept : (q : ℕ) → q < w * 64 → cell_of sets w number q ≡ cell_of old w number q =
-    λ q near. c.round_from-answered.ensures.kept number q (omega (arith, size)) near ∙ c.step_into.ensures.others number q near (λ e. omega arith) in
-    let same = reply_same old sets n w number room kept in
+    let same = reply_same old sets n w number room (λ q near. rows_kept g t path number q (omega (arith, value)) near) in
     let D : ℕ → Type 0 = HasReply sets n w number in
     let P2 : ℕ → Type 0 = λ x. RoundAfter M ok W c.args.left a p (HasReply old n w x) in
-    let here : RoundAfter M ok W c.args.left a p (HasReply old n w number) = subst P2 (sym value) answered in
+    let here : RoundAfter M ok W c.args.left a p (HasReply old n w number) = subst P2 (sym value) (told.0 holds) in
     let now : RoundAfter M ok W c.args.left a p D = after_same M ok W (HasReply old n w number) D (λ q. (same q).1) c.args.left a p here in
     known_more M ok W n w room c.round_from-answered.new.letters c.round_from-answered.new.held c.round_from-answered.new.known c.note.new.letters c.note.new.held c.note.new.known sets c.row_at-row-2.result.now
     c.args.left number a p c.round_from-answered.ensures.answered c.note.ensures c.row_at-row-2.ensures.bits now
 
 pub step_answered-returns-then-not-answered-clause-kept : goal.step_answered-returns-then-not-answered-clause-kept
-step_answered-returns-then-not-answered-clause-kept g t c =
-    let number = c.len-number.result in
-    let value : number ≡ length c.args.path.now.items = c.len-number.ensures.value in
-    let size : length c.push_reserved.new.self.items ≡ number + 1 =
-    ap length c.push_reserved.ensures.items ∙ length-append c.args.path.now.items (c.args.step ∷ []) ∙ ap (λ x. x + 1) (sym c.len-number.ensures.value) in
-    λ i q i_in near.
-    c.round_from-answered.ensures.kept i q (omega (arith, size, value)) near ∙ c.step_into.ensures.others i q near (λ e. omega (arith, value))
+step_answered-returns-then-not-answered-clause-kept g t c = rows_kept g t (goal.at.step_answered-returns-then-not-answered-clause-kept g t c).After-round_from-answered
 
 pub step_answered-returns-clause-kept : goal.step_answered-returns-clause-kept
-step_answered-returns-clause-kept g t c =
-    let number = c.len-number.result in
-    let value : number ≡ length c.args.path.now.items = c.len-number.ensures.value in
-    let size : length c.push_reserved.new.self.items ≡ number + 1 =
-    ap length c.push_reserved.ensures.items ∙ length-append c.args.path.now.items (c.args.step ∷ []) ∙ ap (λ x. x + 1) (sym c.len-number.ensures.value) in
-    λ i q i_in near.
-    c.round_from-answered.ensures.kept i q (omega (arith, size, value)) near ∙ c.step_into.ensures.others i q near (λ e. omega (arith, value))
+step_answered-returns-clause-kept g t c = rows_kept g t (goal.at.step_answered-returns-clause-kept g t c).After-round_from-answered
 
 pub step_answered-returns-then-step_into-clause-kept : goal.step_answered-returns-then-step_into-clause-kept
 step_answered-returns-then-step_into-clause-kept g t c =
