@@ -4,13 +4,13 @@ ghost use Rattle.std.specs.Prelude.{◌≡◌, ◌+◌, ◌^◌, ◌<◌, ◌≤
 ghost use Rattle.ba_format.specs.Sight.{same_text, noted, place_in};
 ghost use Rattle.ba_format.specs.Grammar.{LineContent, StateLine, TransitionLine};
 ghost use Rattle.ba_format.specs.Draft.{PastLimit, NotesState, NotesTransition, Stands, Fits, Takes, TakesLine, IsReadyDraft, trans_with};
-ghost use Rattle.ba_format.specs.Reading.{IsReading};
+ghost use Rattle.ba_format.specs.Reading.{IsAutomatonOf, IsReading};
 ghost use Rattle.std.specs.List.{range_with_len};
 
 use crate::lines::{Said, said_by};
 use crate::parts::{BaKind, Limits, Named};
 use crate::texts::Texts;
-use auto_core::{Memory, Trans, of_parts};
+use auto_core::{Auto, Memory, Trans, of_parts};
 use indexmap::IndexSet;
 use std::alloc::{AllocFailed, Global};
 
@@ -190,21 +190,29 @@ impl Draft {
         }
     }
 
-    /// The automaton that the lines say, with its names and labels.
-    pub(crate) fn into_named(self, alloc: Global) -> Result<Named, Memory>
-        requires { IsReadyDraft self }
-        ensures { IfOk result (λ named. (entries : List LineContent) → Stands self entries → IsReading entries named) }
+    /// The automaton that the lines say.
+    fn automaton(&self, alloc: Global) -> Result<Auto, Memory>
+        requires { IsReadyDraft self.now }
+        ensures { IfOk result (λ auto. (entries : List LineContent) → Stands self.now entries → IsAutomatonOf entries auto) }
     {
         let transitions = transitions_of(alloc, self.transitions.as_slice())?;
         let accepting = chosen_or_all(alloc, self.accepting.as_slice(), self.names.count())?;
-        let auto = of_parts(
+        of_parts(
             alloc,
             self.names.count(),
             self.labels.count(),
             0,
             &transitions,
             &accepting,
-        )?;
+        )
+    }
+
+    /// The automaton that the lines say, with its names and labels.
+    pub(crate) fn into_named(self, alloc: Global) -> Result<Named, Memory>
+        requires { IsReadyDraft self }
+        ensures { IfOk result (λ named. (entries : List LineContent) → Stands self entries → IsReading entries named) }
+    {
+        let auto = self.automaton(alloc)?;
         Ok(Named {
             auto,
             names: self.names,

@@ -12,6 +12,7 @@ mod texts;
 mod writing;
 
 pub use joining::join;
+pub use lines::TOKEN_LIMIT;
 pub use parts::{BaFault, BaKind, Joined, Limits, Named, ReadFault};
 pub use pieces::Reader;
 pub use reading::read;

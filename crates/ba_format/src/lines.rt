@@ -9,7 +9,7 @@ ghost use Rattle.ba_format.specs.Seen.{entry_seen, is_cut_shaped, transition_ent
 use crate::parts::BaKind;
 
 /// The most bytes of a token.
-const TOKEN_LIMIT: usize = 255;
+pub const TOKEN_LIMIT: usize = 255;
 
 /// What a line says. Its tokens are lent from the text.
 #[derive(Clone, Copy)]

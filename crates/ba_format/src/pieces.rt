@@ -81,8 +81,15 @@ impl Lines {
         ensures fault { (text : List ℕ) → AreTaken self text line.now → length text ≤ 2 ^ 24 → (fault : AFault) → result ≡ Err (ReadFault.Ba fault) → fault_of text self.limits ≡ Some fault }
     {
         let mut lines = self;
-        lines.take(line)?;
+        match lines.take(line) {
+            Ok(()) => {}
+            Err(fault) => {
+                drop(lines);
+                return Err(fault);
+            }
+        }
         if let Opening::Nothing = lines.draft.opening {
+            drop(lines);
             return Err(ReadFault::Ba(BaFault {
                 line: 0,
                 kind: BaKind::Empty,
@@ -208,8 +215,14 @@ impl Reader {
     {
         match self.progress {
             Progress::Faultless => self.lines.end(self.alloc, self.line.as_slice()),
-            Progress::Faulty(fault) => Err(ReadFault::Ba(fault)),
-            Progress::Refused => Err(ReadFault::Memory),
+            Progress::Faulty(fault) => {
+                drop(self);
+                Err(ReadFault::Ba(fault))
+            }
+            Progress::Refused => {
+                drop(self);
+                Err(ReadFault::Memory)
+            }
         }
     }
 }

@@ -20,6 +20,9 @@ pub fn read(alloc: Global, bytes: &[u8], limits: &Limits) -> Result<Named, ReadF
     let mut reader = Reader::new(alloc, limits)?;
     match reader.feed(bytes) {
         Ok(()) => reader.finish(),
-        Err(_refused) => Err(ReadFault::Memory),
+        Err(_refused) => {
+            drop(reader);
+            Err(ReadFault::Memory)
+        }
     }
 }

@@ -94,7 +94,8 @@ fn version_heading_in(version: u32, line: &[u8]) -> Option<Heading>
 
 /// What the first line says: it has one of twelve headings.
 pub fn heading_in(line: &[u8]) -> Result<Heading, LineFault>
-    ensures { Agrees (heading_in (tokens_of line.now)) result }
+    ensures told { Agrees (heading_in (tokens_of line.now)) result }
+    ensures takes_no_memory { ¬ (result ≡ Err LineFault.Memory) }
 {
     if let Some(heading) = version_heading_in(1, line) {
         return Ok(heading);
@@ -107,7 +108,8 @@ pub fn heading_in(line: &[u8]) -> Result<Heading, LineFault>
 
 /// A line of one word.
 pub fn word_in(keyword: Keyword, line: &[u8]) -> Result<(), LineFault>
-    ensures { Agrees (word_in keyword (tokens_of line.now)) result }
+    ensures told { Agrees (word_in keyword (tokens_of line.now)) result }
+    ensures takes_no_memory { ¬ (result ≡ Err LineFault.Memory) }
 {
     match line_fault(&[Place::Word(keyword)], Tail::Nothing, line) {
         Some(fault) => Err(LineFault::Text(fault)),
@@ -117,7 +119,8 @@ pub fn word_in(keyword: Keyword, line: &[u8]) -> Result<(), LineFault>
 
 /// A line of a word and a number.
 pub fn number_in(keyword: Keyword, line: &[u8]) -> Result<u32, LineFault>
-    ensures { Agrees (number_in keyword (tokens_of line.now)) result }
+    ensures told { Agrees (number_in keyword (tokens_of line.now)) result }
+    ensures takes_no_memory { ¬ (result ≡ Err LineFault.Memory) }
 {
     match line_fault(&[Place::Word(keyword), Place::Number], Tail::Nothing, line) {
         Some(fault) => Err(LineFault::Text(fault)),
@@ -161,7 +164,8 @@ pub fn ascending_in(
 
 /// The line of sizes.
 pub fn sizes_in(line: &[u8]) -> Result<Sizes, LineFault>
-    ensures { Agrees (sizes_in (tokens_of line.now)) result }
+    ensures told { Agrees (sizes_in (tokens_of line.now)) result }
+    ensures takes_no_memory { ¬ (result ≡ Err LineFault.Memory) }
 {
     let places = [
         Place::Word(Keyword::Sizes),

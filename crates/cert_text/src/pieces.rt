@@ -182,8 +182,14 @@ impl CertReader {
     {
         match self.progress {
             Progress::Faultless => self.lines.end(self.line.as_slice()),
-            Progress::Faulty(fault) => Err(CertReadFault::Text(fault)),
-            Progress::Refused => Err(CertReadFault::Memory),
+            Progress::Faulty(fault) => {
+                drop(self);
+                Err(CertReadFault::Text(fault))
+            }
+            Progress::Refused => {
+                drop(self);
+                Err(CertReadFault::Memory)
+            }
         }
     }
 

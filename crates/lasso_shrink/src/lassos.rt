@@ -4,7 +4,7 @@ ghost use Rattle.std.specs.Prelude.{◌≡◌, ◌<◌, ◌↔◌, IfOk, IsTrue,
 ghost use Rattle.auto_core.specs.Accept.{SeparatesLasso};
 ghost use Rattle.lasso_accept.specs.Tails.{HasTails};
 ghost use Rattle.lasso_shrink.specs.Shrinking.{letters_of, lasso_without, LassoSeparates, LassoLeavesOne, LassoNeedsEach, IsShrunkLasso};
-ghost use Rattle.lasso_shrink.specs.Prefixes.{PrefixNeedsEach, PrefixIsShrunk};
+ghost use Rattle.lasso_shrink.specs.Prefixes.{AreKept, PrefixNeedsEach, PrefixIsShrunk};
 
 use crate::copying::{copied, without};
 use crate::places::first_place;
@@ -52,8 +52,15 @@ fn left_without(alloc: Global, lasso: &Lasso, place: usize) -> Result<Lasso, Mem
     Ok(Lasso { prefix, turn })
 }
 
-/// The lasso that is left if, as long as some letter of its prefix can go, the first such letter is left out. Where the loop is accepted
-/// from is found once.
+/// What is kept of the rests of the lasso. Where its loop is accepted from is found once.
+fn rests_of(alloc: Global, automaton: &Auto, lasso: &Lasso) -> Result<Rests, Memory>
+    ensures { IfOk result (AreKept automaton.now lasso.now.prefix lasso.now.turn) }
+{
+    let target = accepts_loop_from(alloc, automaton, lasso.turn.as_slice())?;
+    Rests::of(alloc, automaton, lasso, &target)
+}
+
+/// The lasso that is left if, as long as some letter of its prefix can go, the first such letter is left out.
 fn shrink_prefix(alloc: Global, first: &Auto, second: &Auto, lasso: Lasso) -> Result<Lasso, Memory>
     requires { LassoSeparates first.now second.now lasso }
     ensures { IfOk result (PrefixIsShrunk first.now second.now lasso) }
@@ -61,10 +68,8 @@ fn shrink_prefix(alloc: Global, first: &Auto, second: &Auto, lasso: Lasso) -> Re
     if lasso.prefix.as_slice().len() == 0 {
         return Ok(lasso);
     }
-    let target = accepts_loop_from(alloc, first, lasso.turn.as_slice())?;
-    let other_target = accepts_loop_from(alloc, second, lasso.turn.as_slice())?;
-    let mut rests = Rests::of(alloc, first, &lasso, &target)?;
-    let mut other_rests = Rests::of(alloc, second, &lasso, &other_target)?;
+    let mut rests = rests_of(alloc, first, &lasso)?;
+    let mut other_rests = rests_of(alloc, second, &lasso)?;
     let mut current = lasso;
     let mut place = first_place(alloc, first, second, &current, &rests, &other_rests)?;
     while let Some(at) = place {

@@ -1,4 +1,5 @@
 pub mod Taking
+pub mod Marks
 pub mod Near
 pub mod Asked
 pub mod Playing

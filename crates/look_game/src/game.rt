@@ -7,6 +7,7 @@ ghost use Rattle.bit_rel.specs.Relation.{IsRelation};
 ghost use Rattle.look_game.specs.Taking.{TakesAway, TakesSome, HasRounds, HasStable};
 ghost use Rattle.look_game.specs.Asked.{IsLost, IsNeverKept};
 ghost use Rattle.look_game.specs.Near.{IsFarFrom, HasOtherRounds};
+ghost use Rattle.look_game.specs.Marks.{HasRowsFor};
 ghost use Rattle.look_game.specs.Visiting.{IsRoomFor};
 
 use crate::asked::{Pair, is_lost, may_stay};
@@ -100,9 +101,79 @@ fn settle<S: Side>(
     true
 }
 
+/// Rows of marks to work with: the states that are still to be tried, those whose rows lost pairs, and one row that is free.
+#[derive(Drop)]
+struct Marks {
+    tried: Vec<u64>,
+    changed: Vec<u64>,
+    spare: Vec<u64>,
+}
+
+impl Marks {
+    /// Rows for so many states, with no mark.
+    fn new(alloc: Global, states: u32) -> Result<Marks, Memory>
+        ensures { IfOk result (HasRowsFor states) }
+    {
+        let width = rows::words_for(states);
+        Ok(Marks {
+            tried: vec![in alloc; 0; width]?,
+            changed: vec![in alloc; 0; width]?,
+            spare: vec![in alloc; 0; width]?,
+        })
+    }
+}
+
+/// Takes pairs away until each that is left has its round, and tells that; or until the pair that is asked for is lost. Where a pair is asked for
+/// the rows are swept over at first. Then a row is tried again only if one that is reached from it within the lookahead has lost a pair.
+fn narrow<S: Side>(
+    alloc: Global,
+    side: &S,
+    automaton: &Auto,
+    look: u32,
+    asked: Option<Pair>,
+    rel: &mut Rel,
+) -> Result<bool, Memory>
+    requires look_from { 1 ≤ look }
+    requires look_upto { look ≤ 6 }
+    requires asked_states { IfSome asked (λ pair. (pair.left < automaton.now.states) × (pair.right < automaton.now.states)) }
+    requires equal { rel.old.size ≡ automaton.now.states }
+    ensures takes { IfOk result (λ stays. TakesAway (S.goes side.now automaton.now) (S.matches side.now automaton.now) look rel.old rel.new) }
+    ensures rounds { IfOk result (λ stays. stays ≡ true → (p : ℕ) → HasRounds (S.goes side.now automaton.now) (S.matches side.now automaton.now) look rel.new p) }
+    ensures lost { IfOk result (λ stays. stays ≡ false → IsLost rel.new.pairs asked) }
+{
+    let mut scratch = Scratch::new(alloc, automaton, look)?;
+    let mut marks = Marks::new(alloc, automaton.states())?;
+    let mut visits = Visits::new(alloc, side, automaton, rel)?;
+    let order = rows_to_sweep(alloc, side, automaton, asked, &mut marks.tried)?;
+    sweep_often(
+        side,
+        automaton,
+        look,
+        asked,
+        &order,
+        rel,
+        &mut scratch,
+        &mut visits,
+    );
+    if is_lost(rel, asked) {
+        return Ok(false);
+    }
+    Ok(settle(
+        side,
+        automaton,
+        look,
+        asked,
+        rel,
+        &mut scratch,
+        &mut marks.tried,
+        &mut marks.changed,
+        &mut marks.spare,
+        &mut visits,
+    ))
+}
+
 /// The greatest relation at this lookahead, sought inside a relation that has each stable list inside; or None, where a pair is asked for that no
-/// stable list has. Where a pair is asked for the rows are swept over at first. Then a row is tried again only if one that is reached from it within
-/// the lookahead has lost a pair.
+/// stable list has.
 fn greatest_within<S: Side>(
     alloc: Global,
     side: &S,
@@ -123,40 +194,12 @@ fn greatest_within<S: Side>(
     if is_lost(&first, asked) {
         return Ok(None);
     }
-    let mut rel = first;
-    let mut scratch = Scratch::new(alloc, automaton, look)?;
-    let width = rows::words_for(automaton.states());
-    let mut marks = vec![in alloc; 0; width]?;
-    let mut changed = vec![in alloc; 0; width]?;
-    let mut spare = vec![in alloc; 0; width]?;
-    let mut visits = Visits::new(alloc, side, automaton, &rel)?;
-    let order = rows_to_sweep(alloc, side, automaton, asked, &mut marks)?;
-    sweep_often(
-        side,
-        automaton,
-        look,
-        asked,
-        &order,
-        &mut rel,
-        &mut scratch,
-        &mut visits,
-    );
-    if is_lost(&rel, asked) {
-        return Ok(None);
+    let mut kept = first;
+    if narrow(alloc, side, automaton, look, asked, &mut kept)? {
+        Ok(Some(kept))
+    } else {
+        Ok(None)
     }
-    let is_settled = settle(
-        side,
-        automaton,
-        look,
-        asked,
-        &mut rel,
-        &mut scratch,
-        &mut marks,
-        &mut changed,
-        &mut spare,
-        &mut visits,
-    );
-    if is_settled { Ok(Some(rel)) } else { Ok(None) }
 }
 
 /// The same where no pair is asked for.

@@ -10,13 +10,13 @@ use Rattle.ba_format.proofs.NamedLemmas.{transitions-most, within_limits}
 use Rattle.ba_format.proofs.PieceLemmas.{ended, ended_has, ended_first, ended_all, ended_fault}
 use Rattle.ba_format.proofs.pieces.Lines.end.Goals as goal
 
-pub returns-in_err-take-clause-fault : goal.returns-in_err-take-clause-fault
-returns-in_err-take-clause-fault c = λ text u short fault is.
+pub returns-in-Err-clause-fault : goal.returns-in-Err-clause-fault
+returns-in-Err-clause-fault c = λ text u short fault is.
     let lines = c.args.self in
     let line = c.args.line.now in
     let none = c.requires.unfinished in
-    let told = c.in_err-take.ensures.taken (text ++ 10 ∷ []) (line ++ 10 ∷ []) (ended lines lines text line u none) (omega (arith, short, length-append text (10 ∷ []))) (ended_has lines lines text line u none) (ended_first lines lines text line u none) in
-    let e : c.in_err-take.field-0.0 ≡ Ba fault = search rules in
+    let told = c.in-Err.ensures.taken (text ++ 10 ∷ []) (line ++ 10 ∷ []) (ended lines lines text line u none) (omega (arith, short, length-append text (10 ∷ []))) (ended_has lines lines text line u none) (ended_first lines lines text line u none) in
+    let e : c.in-Err.fault ≡ Ba fault = search rules in
     ended_fault lines lines text line u none lines.limits fault (subst (TellsFirstFault (text ++ 10 ∷ []) lines.limits) e told)
 
 -- what the lines of the text brought
@@ -25,7 +25,7 @@ returns-in-Nothing-clause-fault c = λ text u short fault is.
     let lines = c.args.self in
     let line = c.args.line.now in
     let none = c.requires.unfinished in
-    let taken = c.in_ok-take.ensures.taken (text ++ 10 ∷ []) (line ++ 10 ∷ []) (ended lines lines text line u none) (omega (arith, short, length-append text (10 ∷ []))) (ended_has lines lines text line u none) (ended_first lines lines text line u none) in
+    let taken = c.in-Ok.ensures.taken (text ++ 10 ∷ []) (line ++ 10 ∷ []) (ended lines lines text line u none) (omega (arith, short, length-append text (10 ∷ []))) (ended_has lines lines text line u none) (ended_first lines lines text line u none) in
     let all = ended_all lines c.take.new.self text line u none taken in
     let text_is = empty_text lines.limits text c.take.new.self.draft.opening c.in-Nothing.is all.1.opening in
     cc
@@ -36,7 +36,7 @@ into_named-requires c =
     let lines = c.args.self in
     let line = c.args.line.now in
     let none = c.requires.unfinished in
-    let taken = c.in_ok-take.ensures.taken (text ++ 10 ∷ []) (line ++ 10 ∷ []) (ended lines lines text line u none) (omega (arith, short, length-append text (10 ∷ []))) (ended_has lines lines text line u none) (ended_first lines lines text line u none) in
+    let taken = c.in-Ok.ensures.taken (text ++ 10 ∷ []) (line ++ 10 ∷ []) (ended lines lines text line u none) (omega (arith, short, length-append text (10 ∷ []))) (ended_has lines lines text line u none) (ended_first lines lines text line u none) in
     let all = ended_all lines c.take.new.self text line u none taken in
     let entries = contents_of text in
     record {
@@ -51,10 +51,10 @@ returns c =
     let lines = c.args.self in
     let line = c.args.line.now in
     let none = c.requires.unfinished in
-    let limits = c.in_ok-take.ensures.limits in
+    let limits = c.in-Ok.ensures.limits in
     let all = λ (text : List ℕ) (u : AreTaken lines text line) (short : length text ≤ 2 ^ 24).
     ended_all lines c.take.new.self text line u none
-    (c.in_ok-take.ensures.taken (text ++ 10 ∷ []) (line ++ 10 ∷ []) (ended lines lines text line u none) (omega (arith, short, length-append text (10 ∷ []))) (ended_has lines lines text line u none) (ended_first lines lines text line u none)) in
+    (c.in-Ok.ensures.taken (text ++ 10 ∷ []) (line ++ 10 ∷ []) (ended lines lines text line u none) (omega (arith, short, length-append text (10 ∷ []))) (ended_has lines lines text line u none) (ended_first lines lines text line u none)) in
     let (one, first, few) = c.requires.text in
     record {
       named = λ text u short.

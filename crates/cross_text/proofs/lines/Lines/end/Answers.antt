@@ -15,9 +15,9 @@ returns-in_err-line c =
     rw (p.1, p.2) (line_none (word_in keyword.End) c.args.self.now c.next.new.self c.in_err-line.field-0.0 c.in_err-line.ensures)
 
 pub returns-in-Ok : goal.returns-in-Ok
-returns-in-Ok c = line_ok (word_in keyword.End) c.args.self.now c.next.new.self (tokens_of c.in_ok-line.line.now) tt c.in_ok-line.ensures c.in-Ok.ensures
+returns-in-Ok c = line_ok (word_in keyword.End) c.args.self.now c.next.new.self (tokens_of c.in_ok-line.line.now) tt c.in_ok-line.ensures c.in-Ok.ensures.told
 
 pub returns-in-Err : goal.returns-in-Err
 returns-in-Err c =
     let P : CertReadFault → Type 0 = λ e. ReadsOn {A = Unit {0}} (next_line (word_in keyword.End)) c.args.self.now c.next.new.self (Err e) in
-    subst P (sym c.located.ensures) (line_err (word_in keyword.End) c.args.self.now c.next.new.self (tokens_of c.in_ok-line.line.now) c.in-Err.fault c.self.inside.number (ap (λ (l : Left). l.1) c.self.view_is) c.in_ok-line.ensures c.in-Err.ensures)
+    subst P (sym c.located.ensures) (line_err (word_in keyword.End) c.args.self.now c.next.new.self (tokens_of c.in_ok-line.line.now) c.in-Err.fault c.self.inside.number (ap (λ (l : Left). l.1) c.self.view_is) c.in_ok-line.ensures c.in-Err.ensures.told)
