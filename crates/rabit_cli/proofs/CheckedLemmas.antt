@@ -7,6 +7,7 @@ use Rattle.auto_core.specs.declared.parts.Mode.{Mode}
 use Rattle.ba_format.specs.declared.parts.Limits.{Limits}
 use Rattle.ba_format.specs.declared.parts.Named.{Named}
 use Rattle.ba_format.specs.declared.parts.Joined.{Joined}
+use Rattle.ba_format.specs.Joining.{IsJoined}
 use Rattle.ba_format.specs.Reading.{Reads}
 use Rattle.ba_format.specs.Writing.{written}
 use Rattle.ba_format.proofs.FaultlessLemmas.{read_is_within}
@@ -18,6 +19,7 @@ use Rattle.cert_value.specs.Text.{text}
 use Rattle.cert_value.specs.WellFormed.{upgraded}
 use Rattle.cert_value.proofs.UpgradeLemmas.{text_up}
 use Rattle.cert_check.specs.Laws.{IsValid}
+use Rattle.cert_check.proofs.RuleLemmas.{upgrade_alike}
 use Rattle.cross_text.specs.Text.{cross_text}
 use Rattle.cross_sim.proofs.WrittenLemmas.{greatest_cross_keeps_rules}
 use Rattle.rabit_frame.specs.declared.parts.Value.TheVariants as value
@@ -32,17 +34,15 @@ use Rattle.rabit_frame.proofs.OneLemmas.{one_read_in_turn, stop_or_read_in_turn}
 use Rattle.rabit_words.specs.Question.{NamesDiffer}
 use Rattle.rabit_replies.specs.Printed.{included_text, not_included_text, word_not_included_text, limit_text}
 use Rattle.rabit_replies.specs.declared.files.TheConstants.{FIRST_LIMITS, SECOND_LIMITS}
-use Rattle.rabit_replies.specs.Files.{automaton_file, certificate_file, ReadsCertificate}
+use Rattle.rabit_replies.specs.Files.{automaton_file, certificate_file, ReadsCertificate, pair_inputs, certificate_put}
 use Rattle.rabit_replies.specs.Replies.{IsVerdictReply}
 use Rattle.rabit_cli.specs.Property.{IsPropertyReply, property_puts}
 use Rattle.rabit_cli.specs.Empty.{empty_text, emptiness}
 use Rattle.rabit_cli.specs.Universal.{all_loops, universality}
 use Rattle.rabit_cli.specs.Check.{check_inputs, Concludes, MeansCheck}
-use Rattle.rabit_cli.specs.Include.{pair_inputs, certificate_put}
 use Rattle.rabit_cli.specs.Upgrade.{upgrade_inputs}
 use Rattle.rabit_cli.specs.Cross.{cross_put, cross_check_inputs, MeansCrossCheck}
-use Rattle.rabit_cli.specs.Laws.{IsCheckReply, UpgradeIsChecked, CrossIsChecked, CrossRelationsAreAccepted, EmptyIsChecked, UniversalIsChecked}
-use Rattle.rabit_cli.proofs.UpgradeLemmas.{agrees_on_upgrade}
+use Rattle.rabit_cli.specs.Laws.{IsCheckReply, CheckAgreesOnUpgrade, UpgradeIsChecked, CrossIsChecked, CrossRelationsAreAccepted, EmptyIsChecked, UniversalIsChecked}
 use Rattle.rabit_cli.proofs.EmptyLemmas.{empty_is_short}
 use Rattle.rabit_cli.proofs.UniversalLemmas.{universal_is_short, universal_has_no_fault}
 use Rattle.rabit_cli.proofs.LawLemmas.{written as put_there, other as put_elsewhere, reads_alike, stops_alike, reads_still}
@@ -111,6 +111,38 @@ universal_checked files a u c mode one other pair cert r apart is short says =
     )
 
 -- ---- an upgrade
+
+-- ---- a check of a certificate and of its upgrade
+
+concludes_alike : (pair : Joined) (cert : Cert) (r : Reply) → Concludes pair cert r ↔ Concludes pair (upgraded cert) r
+concludes_alike pair cert r =
+    let alike = upgrade_alike pair cert in (
+      λ says. elim says [
+        | inl broken ↦ (let (refusal, breaks, e) = broken in inl (refusal, (alike.broken refusal).0 breaks, e))
+        | inr valid ↦ inr (alike.kept.0 valid.0, valid.1)
+      ],
+      λ says. elim says [
+        | inl broken ↦ (let (refusal, breaks, e) = broken in inl (refusal, (alike.broken refusal).1 breaks, e))
+        | inr valid ↦ inr (alike.kept.1 valid.0, valid.1)
+      ],
+    )
+
+-- the reply to a check of three values says that they are these
+check_of : (one two : Named) (cert : Cert) (r : Reply) → MeansCheck (value.Automaton one ∷ value.Automaton two ∷ value.Certificate cert ∷ []) r → (pair : Joined) × IsJoined one two pair × Concludes pair cert r
+check_of one two cert r (x, y, c, is, (pair, joined, says)) =
+    let first : x ≡ one = let e = is in cc in
+    let second : y ≡ two = let e = is in cc in
+    let third : c ≡ cert = let e = is in cc in
+    let P : Named → Type 0 = λ z. IsJoined z y pair in
+    let Q : Named → Type 0 = λ z. IsJoined one z pair in
+    let C : Cert → Type 0 = λ z. Concludes pair z r in
+    (pair, subst Q second (subst P first joined), subst C third says)
+
+pub agrees_on_upgrade : CheckAgreesOnUpgrade
+agrees_on_upgrade one two cert r = (
+  λ means. let (pair, joined, says) = check_of one two cert r means in (one, two, upgraded cert, refl, (pair, joined, (concludes_alike pair cert r).0 says)),
+  λ means. let (pair, joined, says) = check_of one two (upgraded cert) r means in (one, two, cert, refl, (pair, joined, (concludes_alike pair cert r).1 says)),
+)
 
 -- where the automata's files hold the same, and the two certificates are checked alike, a check says the same
 check_over : (files files' : FileMap) (a b c c' : List ℕ) (cert cert' : Cert) → map.get files' a ≡ map.get files a → map.get files' b ≡ map.get files b → ReadsCertificate files c cert → ReadsCertificate files' c' cert'

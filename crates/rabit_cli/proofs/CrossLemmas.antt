@@ -23,8 +23,7 @@ use Rattle.rabit_frame.specs.Carrying.{EndsSo}
 use Rattle.rabit_frame.proofs.EndLemmas.{leaves_by_status}
 use Rattle.rabit_frame.proofs.OneLemmas.{one_read_in_turn, stop_or_read_in_turn}
 use Rattle.rabit_replies.specs.Printed.{by_simulation_text, refused_text}
-use Rattle.rabit_replies.specs.Files.{ReadsPair}
-use Rattle.rabit_cli.specs.Include.{pair_inputs}
+use Rattle.rabit_replies.specs.Files.{ReadsPair, pair_inputs}
 use Rattle.rabit_cli.specs.Cross.{cross_put, HasInitialPair, IsCrossReply, MeansCross, HoldsCross, HoldsCrossFront, LeavesCross, ShowsCross, IsCrossStatus, cross_check_inputs, ConcludesCross, MeansCrossCheck, ShowsCrossCheck, IsCrossCheckStatus}
 
 -- ---- `cross`

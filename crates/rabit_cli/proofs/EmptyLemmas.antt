@@ -20,8 +20,7 @@ use Rattle.ba_format.specs.Sight.{same_text}
 use Rattle.ba_format.proofs.LawLemmas.{contains_first, joins_as_one}
 use Rattle.rabit_replies.specs.declared.files.TheConstants.{FIRST_LIMITS, SECOND_LIMITS}
 use Rattle.rabit_cli.specs.Empty.{empty_text, AcceptsNothing, emptiness}
-use Rattle.rabit_cli.specs.Laws.{EmptyTextAcceptsNothing}
-use Rattle.rabit_cli.proofs.OwnLemmas.{stays_itself}
+use Rattle.reading_laws.proofs.OwnLemmas.{stays_itself}
 use Rattle.rabit_cli.proofs.PairLemmas.{can_decide}
 use Rattle.rabit_cli.proofs.PropertyLemmas.{IsDecidable}
 
@@ -76,12 +75,9 @@ module _ (limits : Limits) (named : Named) (made : Reads empty_text limits named
   accepting_is_other : (q : ℕ) → q ≡ 0 → Contains named.auto.accepting q → ⊥
   accepting_is_other q first has = only_first q first (Contains-permutation named.auto.accepting (1 ∷ []) q (IsPermutation-sym (1 ∷ []) named.auto.accepting built.accepting_given) has)
 
-  accepts_nothing : (m : Mode) → AcceptsNothing m named.auto
+  pub accepts_nothing : (m : Mode) → AcceptsNothing m named.auto
   accepts_nothing Buchi = no_lasso named.auto no_move
   accepts_nothing Finite = no_word named.auto no_move (accepting_is_other named.auto.initial built.initial_given)
-
-pub text_accepts_nothing : EmptyTextAcceptsNothing
-text_accepts_nothing limits named mode made = accepts_nothing limits named made mode
 
 -- ---- the joined automata
 

@@ -33,7 +33,7 @@ use Rattle.rabit_frame.proofs.EndLemmas.{leaves_by_status}
 use Rattle.rabit_replies.specs.declared.files.TheConstants.{SECOND_LIMITS}
 use Rattle.rabit_replies.specs.Files.{automaton_file}
 use Rattle.rabit_cli.specs.Include.{usual_terms, IsCertForWithin}
-use Rattle.rabit_cli.specs.Shrink.{IsNo}
+use Rattle.rabit_replies.specs.Replies.{IsNo}
 use Rattle.rabit_cli.specs.Equal.{equal_inputs, first_apart_reply, both_reply, both_puts, IsEqualReply, MeansEqual, AreCertsBothWays, AreEqualPuts, HoldsEqual, HoldsEqualPart, LeavesEqual, Separates, IsListBody, ShowsEqual}
 use Rattle.rabit_cli.proofs.IncludeLemmas.{usual_bounded, cert_for_within}
 use Rattle.rabit_cli.proofs.PairLemmas.{within_first}

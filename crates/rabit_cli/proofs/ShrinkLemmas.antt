@@ -1,12 +1,10 @@
 -- `shrink`: one reply, what it shows, and what it leaves.
-use Rattle.std.proofs.Common.{◌≡◌, ◌⊎◌, ℕ, zero, suc, ◌<◌, ◌≤◌, ◌&&◌, true, List, [], ◌∷◌, length, get_or, All, Contains, Option, inl, inr, refl, sym, ◌∙◌, ap, subst, arith}
+use Rattle.std.proofs.Common.{◌≡◌, ◌⊎◌, ℕ, ◌<◌, ◌≤◌, ◌&&◌, true, List, [], ◌∷◌, length, get_or, All, Contains, Option, inl, inr, refl, sym, ◌∙◌, ap, subst, arith}
 use Rattle.std.specs.Io.KnownBytes.{append_known}
-use Rattle.std.proofs.lemmas.Bool.{and_parts, and_from, lt-ltb, ltb-true, false≢true}
+use Rattle.std.proofs.lemmas.Bool.{and_parts, and_from, ltb-true, false≢true}
 use Rattle.std.proofs.lemmas.List.Elements.{All-contains, All-contains_itself}
 use Rattle.shelf_io.specs.Shelf.{FileMap}
-use Rattle.auto_core.specs.Automaton.{Automaton}
-use Rattle.auto_core.specs.Accept.{AcceptsLasso, SeparatesWord}
-use Rattle.auto_core.specs.Run.{Run, repeated}
+use Rattle.auto_core.specs.Accept.{SeparatesWord}
 use Rattle.auto_core.specs.declared.parts.Lasso.{Lasso}
 use Rattle.auto_core.specs.declared.parts.Mode.{Mode}
 use Rattle.auto_core.specs.declared.parts.Mode.TheVariants.{Buchi, Finite}
@@ -39,11 +37,11 @@ use Rattle.rabit_frame.specs.Carrying.{EndsSo}
 use Rattle.rabit_frame.proofs.EndLemmas.{leaves_by_status}
 use Rattle.rabit_frame.proofs.OneLemmas.{one_read_in_turn, stop_or_read_in_turn}
 use Rattle.rabit_replies.specs.Printed.{refused_text}
-use Rattle.rabit_replies.specs.Replies.{IsVerdictReply, SaysApart}
-use Rattle.rabit_cli.specs.Include.{certificate_put}
+use Rattle.rabit_replies.specs.Replies.{IsVerdictReply, SaysApart, IsNo}
+use Rattle.rabit_replies.specs.Files.{certificate_put}
 use Rattle.rabit_cli.specs.Check.{check_inputs}
-use Rattle.rabit_cli.specs.Shrink.{IsNo, IsShrunkBody, shrunk_no, IsShrinkReply, MeansShrink, IsShrunkFor, HoldsShrunk, HoldsShrunkFront, LeavesShrunk, ShowsShrink, IsShrinkStatus}
-use Rattle.rabit_cli.proofs.VerdictLemmas.{HaveTexts, one_verdict, puts_of_verdict}
+use Rattle.rabit_cli.specs.Shrink.{IsShrunkBody, shrunk_no, IsShrinkReply, MeansShrink, IsShrunkFor, HoldsShrunk, HoldsShrunkFront, LeavesShrunk, ShowsShrink, IsShrinkStatus}
+use Rattle.rabit_replies.proofs.VerdictLemmas.{HaveTexts, one_verdict, puts_of_verdict, loop_has_letters}
 
 -- ---- what is left
 
@@ -55,17 +53,6 @@ all_left n w left from all = all_in (λ a. a < n) left (λ a has. All-contains (
 
 short_letters : (n : ℕ) (w : List ℕ) → n < 1000000000 → All (λ a. a < n) w → are_short w ≡ true
 short_letters n w few all = all_short w (λ a has. let lt = All-contains (λ a. a < n) w a all has in omega arith)
-
-nil_repeated : (n : ℕ) → repeated [] n ≡ []
-nil_repeated zero = refl
-nil_repeated (suc n) = nil_repeated n
-
--- an accepted lasso has a loop
-pub loop_has_letters : (A : Automaton) (u v : List ℕ) → AcceptsLasso A u v → has_some v ≡ true
-loop_has_letters A u [] accepts =
-    let run : Run A accepts.state [] accepts.state true = subst (λ w. Run A accepts.state w accepts.state true) (nil_repeated accepts.turns) accepts.cycles in
-    absurd (let f = run.1 in cc)
-loop_has_letters A u (a ∷ v) accepts = lt-ltb 0 (length (a ∷ v)) (omega arith)
 
 module _ (pair : Joined) where
   lasso_apart : (lasso left : Lasso) → IsShrunkLasso pair.first pair.second lasso left → shrinking.LassoSeparates pair.first pair.second lasso → shrinking.LassoSeparates pair.first pair.second left

@@ -36,11 +36,10 @@ use Rattle.ba_format.proofs.WrittenLemmas.{transition_entry_of, contents_of-writ
 use Rattle.cert_check.specs.Rules.{AreLabels}
 use Rattle.rabit_replies.specs.declared.files.TheConstants.{SECOND_LIMITS}
 use Rattle.rabit_cli.specs.Universal.{loops, all_loops, IsLassoOver, AcceptsAll, universality}
-use Rattle.rabit_cli.specs.Laws.{UniversalTextAcceptsAll}
-use Rattle.rabit_cli.proofs.BackLemmas.{written_same, with_labels, includes_then}
-use Rattle.rabit_cli.proofs.OwnLemmas.{labels_count, built_itself, stays_itself}
+use Rattle.reading_laws.proofs.WithLemmas.{written_same, with_labels, includes_then}
+use Rattle.reading_laws.proofs.OwnLemmas.{labels_count, stays_itself}
 use Rattle.rabit_cli.proofs.PairLemmas.{can_decide, within_first}
-use Rattle.rabit_cli.proofs.ShrinkLemmas.{loop_has_letters}
+use Rattle.rabit_replies.proofs.VerdictLemmas.{loop_has_letters}
 use Rattle.rabit_cli.proofs.PropertyLemmas.{IsDecidable}
 
 -- ---- the automaton of all loops is valid, and accepts everything
@@ -183,7 +182,7 @@ module _ (labels : List (List ℕ)) (few : length labels ≤ 256) (fit : All IsL
   universal_has_no_fault limits states names transitions =
       written_is_read (all_loops (length labels)) labels limits loops_writable (omega arith) (omega arith) (omega (arith, loops_count (length labels)))
 
-  labels_written : labels_of (contents_of (written (all_loops (length labels)) labels)) ≡ labels
+  pub labels_written : labels_of (contents_of (written (all_loops (length labels)) labels)) ≡ labels
   labels_written =
       ap labels_of (contents_of-written (all_loops (length labels)) labels loops_writable)
       ∙ ap (first_seen same_text) (lines_labels labels (range_with_len 0 (length labels)) ∙ taken labels)
@@ -230,7 +229,7 @@ universal_is_short labels few fit =
     omega (arith, short, state_short, last, later, whole)
 
 -- labels joined to themselves
-joined_itself : (labels : List (List ℕ)) → joined_labels labels labels ≡ labels
+pub joined_itself : (labels : List (List ℕ)) → joined_labels labels labels ≡ labels
 joined_itself labels = ap (λ more. labels ++ more) (all_old labels (λ x has. has)) ∙ append-nil labels
   where
     all_old : (xs : List (List ℕ)) → ((x : List ℕ) → Contains xs x → Contains labels x) → filter (λ label. not (list_any (same_text label) labels)) xs ≡ []
@@ -243,22 +242,10 @@ joined_itself labels = ap (λ more. labels ++ more) (all_old labels (λ x has. h
 
 -- ---- what its text reads as
 
-includes_all : (A : Automaton) (n : ℕ) → A.labels ≡ n → (m : Mode) → Includes (all_loops n) A m → AcceptsAll m A
+pub includes_all : (A : Automaton) (n : ℕ) → A.labels ≡ n → (m : Mode) → Includes (all_loops n) A m → AcceptsAll m A
 includes_all A n count Buchi includes = λ u v (over_u, over_v, more).
     includes u v (loops_accept_lasso n u v (subst (λ k. All (λ a. a < k) u) count over_u) (subst (λ k. All (λ a. a < k) v) count over_v) more)
 includes_all A n count Finite includes = λ w over. includes w (loops_accept_word n w (subst (λ k. All (λ a. a < k) w) count over))
-
-pub text_accepts_all : UniversalTextAcceptsAll
-text_accepts_all labels limits named m few texts different made =
-    let n = length labels in
-    let fit : All IsLabelText labels × AreDifferent labels = (texts, different) in
-    let same : named.labels ≡ labels = made.reading.labels ∙ labels_written labels few fit in
-    let beside : Joined = record { first = with_labels (all_loops n) (length named.labels); second = named.auto; labels = named.labels } in
-    let all : named.labels ≡ joined_labels labels named.labels = same ∙ sym (ap (joined_labels labels) same ∙ joined_itself labels) in
-    let short : length named.labels < 2 ^ 32 = omega (arith, ap length same) in
-    let text = written (all_loops n) labels in
-    let alike = written_same labels (all_loops n) m (loops_writable labels few fit) limits named beside made all short (built_itself text limits named made) in
-    (same, includes_all named.auto n (labels_count text limits named made ∙ ap length same) m alike.0)
 
 -- ---- the joined automata
 

@@ -1,13 +1,8 @@
 -- `upgrade`: one reply, what it shows, and what it leaves.
-use Rattle.std.proofs.Common.{◌≡◌, ◌↔◌, ℕ, ◌≤◌, List, [], ◌∷◌, Option, inl, inr, refl, sym, ◌∙◌, ap, subst, arith}
+use Rattle.std.proofs.Common.{◌≡◌, ℕ, ◌≤◌, List, [], ◌∷◌, Option, inl, inr, sym, ◌∙◌, ap, subst, arith}
 use Rattle.std.specs.Io.KnownBytes.{append_known}
 use Rattle.shelf_io.specs.Shelf.{FileMap}
-use Rattle.ba_format.specs.declared.parts.Named.{Named}
-use Rattle.ba_format.specs.declared.parts.Joined.{Joined}
-use Rattle.ba_format.specs.Joining.{IsJoined}
 use Rattle.cert_value.specs.declared.types.Cert.{Cert}
-use Rattle.cert_value.specs.WellFormed.{upgraded}
-use Rattle.cert_check.proofs.RuleLemmas.{upgrade_alike}
 use Rattle.rabit_frame.specs.declared.parts.Value.{Value}
 use Rattle.rabit_frame.specs.declared.parts.Value.TheVariants as value
 use Rattle.rabit_frame.specs.declared.parts.Reply.{Reply}
@@ -19,8 +14,6 @@ use Rattle.rabit_frame.specs.Carrying.{EndsSo}
 use Rattle.rabit_frame.proofs.EndLemmas.{leaves_by_status}
 use Rattle.rabit_frame.proofs.OneLemmas.{stop_or_read_in_turn}
 use Rattle.rabit_replies.specs.Files.{ReadsCertificate}
-use Rattle.rabit_cli.specs.Check.{Concludes, MeansCheck}
-use Rattle.rabit_cli.specs.Laws.{CheckAgreesOnUpgrade}
 use Rattle.rabit_cli.specs.Upgrade.{upgrade_inputs, upgrade_reply, MeansUpgrade, HoldsUpgraded, HoldsUpgradedFront, LeavesUpgraded, ShowsUpgrade, IsUpgradeStatus}
 
 pub one_upgrade : (name : List ℕ) (values : List Value) (r s : Reply) → MeansUpgrade name values r → MeansUpgrade name values s → r ≡ s
@@ -74,35 +67,3 @@ module _ (held held' : Option FileMap) (status : ℕ) (sent sent' : Option (List
       leaves_by_status (MeansUpgrade out) (upgrade_inputs c) held held' status sent sent' give_faults give_faults' faults faults' put_faults put_faults' _ _ (upgrade_writes out)
       (λ files files' values r reads means low left. holds_upgraded files c out files' values r reads means left)
       (λ files files' values r reads means cut. holds_upgraded_front files c out files' values r reads means cut) e ends said
-
--- ---- a check of both
-
-concludes_alike : (pair : Joined) (cert : Cert) (r : Reply) → Concludes pair cert r ↔ Concludes pair (upgraded cert) r
-concludes_alike pair cert r =
-    let alike = upgrade_alike pair cert in (
-      λ says. elim says [
-        | inl broken ↦ (let (refusal, breaks, e) = broken in inl (refusal, (alike.broken refusal).0 breaks, e))
-        | inr valid ↦ inr (alike.kept.0 valid.0, valid.1)
-      ],
-      λ says. elim says [
-        | inl broken ↦ (let (refusal, breaks, e) = broken in inl (refusal, (alike.broken refusal).1 breaks, e))
-        | inr valid ↦ inr (alike.kept.1 valid.0, valid.1)
-      ],
-    )
-
--- the reply to a check of three values says that they are these
-check_of : (one two : Named) (cert : Cert) (r : Reply) → MeansCheck (value.Automaton one ∷ value.Automaton two ∷ value.Certificate cert ∷ []) r → (pair : Joined) × IsJoined one two pair × Concludes pair cert r
-check_of one two cert r (x, y, c, is, (pair, joined, says)) =
-    let first : x ≡ one = let e = is in cc in
-    let second : y ≡ two = let e = is in cc in
-    let third : c ≡ cert = let e = is in cc in
-    let P : Named → Type 0 = λ z. IsJoined z y pair in
-    let Q : Named → Type 0 = λ z. IsJoined one z pair in
-    let C : Cert → Type 0 = λ z. Concludes pair z r in
-    (pair, subst Q second (subst P first joined), subst C third says)
-
-pub agrees_on_upgrade : CheckAgreesOnUpgrade
-agrees_on_upgrade one two cert r = (
-  λ means. let (pair, joined, says) = check_of one two cert r means in (one, two, upgraded cert, refl, (pair, joined, (concludes_alike pair cert r).0 says)),
-  λ means. let (pair, joined, says) = check_of one two (upgraded cert) r means in (one, two, cert, refl, (pair, joined, (concludes_alike pair cert r).1 says)),
-)

@@ -20,7 +20,8 @@ use Rattle.rabit_frame.specs.Statuses.{status_number}
 use Rattle.rabit_frame.specs.Reading.{FileReads, MissedInTurn}
 use Rattle.rabit_frame.specs.Ending.{IsReplyFor, BeforeAndAfter, Leaves, filed, status_of}
 use Rattle.rabit_frame.specs.Carrying.{NoReply, IsCarriedOut, PutsByStatus, BegunByStatus}
-use Rattle.rabit_cli.specs.Include.{usual_terms, pair_inputs, MeansInclude, ShowsInclude}
+use Rattle.rabit_cli.specs.Include.{usual_terms, MeansInclude, ShowsInclude}
+use Rattle.rabit_replies.specs.Files.{pair_inputs}
 
 -- ---- one question
 

@@ -11,7 +11,8 @@ use Rattle.rabit_words.specs.Question.{Question, Include, Check, Reduce, Drill, 
 use Rattle.rabit_replies.specs.Printed.{usage_text}
 use Rattle.rabit_replies.specs.Replies.{usage_reply}
 use Rattle.rabit_cli.specs.Check.{check_inputs, MeansCheck, ShowsCheck}
-use Rattle.rabit_cli.specs.Include.{pair_inputs, terms_by, MeansInclude, ShowsInclude, LeavesDecided}
+use Rattle.rabit_replies.specs.Files.{pair_inputs}
+use Rattle.rabit_cli.specs.Include.{terms_by, MeansInclude, ShowsInclude, LeavesDecided}
 use Rattle.rabit_cli.specs.Reduce.{reduce_inputs, sight_by, MeansReduce, ShowsReduce}
 use Rattle.rabit_cli.specs.Drill.{MeansDrill, ShowsDrill, SaysDrill}
 use Rattle.rabit_cli.specs.Upgrade.{upgrade_inputs, MeansUpgrade, ShowsUpgrade, LeavesUpgraded}

@@ -23,13 +23,12 @@ use Rattle.decide.specs.Laws.{AnswerIsTrue, StandApart, ListsNew}
 use Rattle.rabit_frame.specs.declared.parts.Value.{Value}
 use Rattle.rabit_frame.specs.declared.parts.Value.TheVariants as value
 use Rattle.rabit_frame.specs.declared.parts.Reply.{Reply}
-use Rattle.rabit_frame.specs.Files.{Input, Output}
 use Rattle.rabit_frame.specs.Ending.{IsCutShort}
 use Rattle.rabit_frame.specs.Carrying.{LeavesByStatus}
 use Rattle.rabit_words.specs.declared.parts.TheConstants.{USUAL_LOOK, USUAL_LIMIT, USUAL_LETTERS}
 use Rattle.rabit_replies.specs.Printed.{included_text, limit_text}
-use Rattle.rabit_replies.specs.declared.files.TheConstants.{FIRST_LIMITS, SECOND_LIMITS}
-use Rattle.rabit_replies.specs.Files.{automaton_file, ReadsPairWithin, ReadsPair}
+use Rattle.rabit_replies.specs.declared.files.TheConstants.{FIRST_LIMITS}
+use Rattle.rabit_replies.specs.Files.{certificate_put, ReadsPairWithin, ReadsPair}
 use Rattle.rabit_replies.specs.Replies.{IsVerdictReply, SaysApart}
 
 -- The terms of a decision that names neither a lookahead nor a limit nor letters.
@@ -49,14 +48,6 @@ version_by (Some letters) = 2
 -- The terms of a decision with this mode, lookahead and limit, where so many letters are named, or none.
 abbrev pub terms_by : Mode → ℕ → ℕ → Option ℕ → Terms
 terms_by mode look limit letters = record { mode = mode; look = look; letters = letters_by letters; version = version_by letters; limit = limit }
-
--- The files that it reads: the two automata.
-abbrev pub pair_inputs : List ℕ → List ℕ → List Input
-pair_inputs a b = automaton_file 1 FIRST_LIMITS a ∷ automaton_file 2 SECOND_LIMITS b ∷ []
-
--- The file that it writes: the certificate's text, under its name.
-abbrev pub certificate_put : List ℕ → Cert → Output
-certificate_put name cert = record { name = name; bytes = text cert }
 
 -- The reply to two joined automata: the answer of the search on the reduced ones is written, and its verdict is said.
 abbrev pub IsDecided : List ℕ → Terms → Joined → Reply → Type 0

@@ -27,11 +27,11 @@ use Rattle.rabit_frame.specs.Files.{Output}
 use Rattle.rabit_frame.specs.Statuses.{status_number}
 use Rattle.rabit_frame.specs.Reading.{only_said}
 use Rattle.rabit_frame.specs.Ending.{IsReplyFor, filed}
-use Rattle.rabit_replies.specs.Files.{ReadsPair, ReadsCertificate}
+use Rattle.rabit_replies.specs.Files.{ReadsPair, ReadsCertificate, pair_inputs}
 use Rattle.rabit_replies.specs.Printed.{by_simulation_text}
 use Rattle.rabit_replies.specs.Replies.{IsVerdictReply}
 use Rattle.rabit_cli.specs.Check.{check_inputs, MeansCheck}
-use Rattle.rabit_cli.specs.Include.{pair_inputs, MeansInclude}
+use Rattle.rabit_cli.specs.Include.{MeansInclude}
 use Rattle.rabit_cli.specs.Upgrade.{upgrade_inputs, MeansUpgrade}
 use Rattle.rabit_cli.specs.Cross.{MeansCross, IsCrossOfFiles, ReadsCross, cross_check_inputs, MeansCrossCheck}
 use Rattle.rabit_cli.specs.Batch.{ShelfCounts, LeaveInTurn, ShowInTurn}

@@ -28,9 +28,9 @@ use Rattle.rabit_frame.specs.Ending.{filed, IsCutShort}
 use Rattle.rabit_frame.specs.Carrying.{LeavesByStatus}
 use Rattle.rabit_replies.specs.Printed.{holds_text, lasso_against_text, word_against_text, limit_text}
 use Rattle.rabit_replies.specs.declared.files.TheConstants.{SECOND_LIMITS}
-use Rattle.rabit_replies.specs.Files.{automaton_file}
+use Rattle.rabit_replies.specs.Files.{automaton_file, certificate_put}
 use Rattle.rabit_words.specs.declared.parts.TheConstants.{USUAL_LIMIT}
-use Rattle.rabit_cli.specs.Include.{certificate_put, usual_terms}
+use Rattle.rabit_cli.specs.Include.{usual_terms}
 
 -- A property of automata, as it is decided: its name; the limits of the automaton that is read; the text of the automaton that is made for a read one, and how the two are joined to the
 -- pair that is decided; what it says; and which lasso, in finite mode which word, shows that an automaton has it not.

@@ -18,16 +18,8 @@ use Rattle.rabit_frame.specs.declared.parts.Value.TheVariants as value
 use Rattle.rabit_frame.specs.declared.parts.Reply.{Reply}
 use Rattle.rabit_frame.specs.Ending.{IsCutShort}
 use Rattle.rabit_frame.specs.Carrying.{LeavesByStatus}
-use Rattle.rabit_replies.specs.Files.{ReadsPair, ReadsCertificate}
-use Rattle.rabit_replies.specs.Replies.{nothing_to_shrink_reply, IsRefusedReply, IsVerdictReply, SaysApart}
-use Rattle.rabit_cli.specs.Include.{certificate_put}
-
--- The body is a no: it has a lasso, or a word.
-abbrev pub IsNo : Body → Type 0
-IsNo (Yes evidence) = ⊥
-IsNo (NoLasso lasso) = Unit {0}
-IsNo (NoWord word) = Unit {0}
-IsNo (Listing list) = ⊥
+use Rattle.rabit_replies.specs.Files.{ReadsPair, ReadsCertificate, certificate_put}
+use Rattle.rabit_replies.specs.Replies.{nothing_to_shrink_reply, IsNo, IsRefusedReply, IsVerdictReply, SaysApart}
 
 -- The second body has what is left of the first one's lasso, or of its word.
 abbrev pub IsShrunkBody : Joined → Body → Body → Type 0

@@ -15,8 +15,7 @@ use Rattle.rabit_frame.specs.Reading.{reply_with}
 use Rattle.rabit_frame.specs.Ending.{IsCutShort}
 use Rattle.rabit_frame.specs.Carrying.{LeavesByStatus}
 use Rattle.rabit_replies.specs.Printed.{upgrade_done_text}
-use Rattle.rabit_replies.specs.Files.{certificate_file, ReadsCertificate}
-use Rattle.rabit_cli.specs.Include.{certificate_put}
+use Rattle.rabit_replies.specs.Files.{certificate_file, ReadsCertificate, certificate_put}
 
 -- The file that it reads: the certificate.
 abbrev pub upgrade_inputs : List ℕ → List Input

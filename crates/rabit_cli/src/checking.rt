@@ -10,7 +10,6 @@ ghost use Rattle.rabit_replies.specs.declared.files.TheConstants.{FIRST_LIMITS, 
 ghost use Rattle.rabit_replies.specs.Files.{HasLabelTexts};
 ghost use Rattle.rabit_cli.specs.Check.{check_inputs, Concludes, MeansCheck};
 
-use crate::joining::joined;
 use auto_core::{List, Memory};
 use ba_format::{Joined, Named};
 use cert_check::CheckFault;
@@ -58,7 +57,7 @@ fn checked<'a>(alloc: Global, one: &Named, two: &Named, cert: &Cert) -> Result<R
     requires well_formed { WellFormed cert.now }
     ensures { IfOk result (λ reply. (pair : AJoined) × IsJoined one.now two.now pair × Concludes pair cert.now reply) }
 {
-    let pair = joined(alloc, one, two)?;
+    let pair = ba_format::join(alloc, one, two)?;
     concluded(alloc, &pair, cert)
 }
 

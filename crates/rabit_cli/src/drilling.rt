@@ -87,6 +87,16 @@ fn sizes(alloc: Global, pair: &Joined) -> Result<List<u8>, Memory>
     Ok(text)
 }
 
+/// Appends the words and what was found.
+fn add_line(alloc: Global, text: &mut List<u8>, words: &[u8], body: &Body) -> Result<(), Memory>
+    requires { (word : Items ℕ) → body.now ≡ NoWord word → ⊥ }
+    ensures { OnOk result (text.new ≡ (text.old ++ words.now) ++ finding body.now) }
+{
+    append(text, words)?;
+    append(text, finding(alloc, body)?.as_slice())?;
+    Ok(())
+}
+
 /// Decides the inclusion, and appends the words and what was found.
 fn add_finding(
     alloc: Global,
@@ -98,9 +108,7 @@ fn add_finding(
     ensures { OnOk result ((cert : ACert) × IsAnswer pair.now drill_terms cert × (text.new ≡ (text.old ++ words.now) ++ finding cert.body)) }
 {
     let cert = answered(alloc, pair)?;
-    append(text, words)?;
-    append(text, finding(alloc, &cert.body)?.as_slice())?;
-    Ok(())
+    add_line(alloc, text, words, &cert.body)
 }
 
 /// The reply: the two automata are drawn, both inclusions between them are decided, and what was found is said.

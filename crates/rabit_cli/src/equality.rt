@@ -6,20 +6,25 @@ ghost use Rattle.auto_core.specs.declared.parts.Mode.TheVariants.{Buchi};
 ghost use Rattle.ba_format.specs.declared.parts.Joined.{Joined as AJoined};
 ghost use Rattle.ba_format.specs.Reading.{IsWithinLimits};
 ghost use Rattle.ba_format.specs.Joining.{IsJoined};
+ghost use Rattle.cert_value.specs.declared.types.Cert.{Cert as ACert};
 ghost use Rattle.cert_value.specs.declared.types.Body.TheVariants.{NoLasso, NoWord};
+ghost use Rattle.cert_value.specs.Text.{form_of};
 ghost use Rattle.decide.specs.Laws.{CanDecide};
 ghost use Rattle.decide.specs.Answer.{IsAnswer};
 ghost use Rattle.equal_batch.specs.declared.outcome.Both.{Both as ABoth};
+ghost use Rattle.equal_batch.specs.Equality.{said_by_both};
 ghost use Rattle.rabit_frame.specs.Reading.{AreOfKinds};
 ghost use Rattle.rabit_replies.specs.Printed.{witness_lines, first_apart_text, second_apart_text};
-ghost use Rattle.rabit_cli.specs.Include.{usual_terms, certificate_put};
-ghost use Rattle.rabit_cli.specs.Shrink.{IsNo};
-ghost use Rattle.rabit_cli.specs.Equal.{equal_inputs, first_apart_reply, both_reply, IsBothReply, IsEqualReply, MeansEqual};
+ghost use Rattle.rabit_cli.specs.Include.{usual_terms};
+ghost use Rattle.rabit_replies.specs.Files.{certificate_put};
+ghost use Rattle.rabit_replies.specs.Replies.{IsNo};
+ghost use Rattle.rabit_cli.specs.Equal.{equal_inputs, first_apart_reply, both_reply, both_puts, IsBothReply, IsEqualReply, MeansEqual};
 
+use crate::including::put_of;
 use crate::joining::joined;
 use auto_core::{List, Memory, Mode, append};
 use ba_format::{Joined, Named, Texts};
-use cert_text::{Body, Cert, write_cert};
+use cert_text::{Body, Cert};
 use equal_batch::{Both, both};
 use rabit_frame::{Put, Reply, Slot, Status, Value, line};
 use rabit_replies::{
@@ -86,14 +91,6 @@ fn answered(alloc: Global, pair: &Joined) -> Result<Cert, Memory>
     decide::include(alloc, pair, Mode::Buchi, USUAL_LOOK, USUAL_LIMIT)
 }
 
-/// The certificate as it is to be written under the name.
-fn put_of<'a>(alloc: Global, name: &'a str, cert: &Cert) -> Result<Put<'a>, Memory>
-    ensures { IfOk result (λ put. put ≡ certificate_put name.entry.now cert.now) }
-{
-    let bytes = write_cert(alloc, cert)?;
-    Ok(Put { name, bytes })
-}
-
 /// The reply by what both answers say together. The labels and the body are those of the second answer.
 fn both_reply<'a>(
     alloc: Global,
@@ -122,6 +119,67 @@ fn both_reply<'a>(
     }
 }
 
+/// Both certificates as they are to be written, in order.
+fn both_puts<'a>(
+    alloc: Global,
+    certificate: &'a str,
+    converse_name: &'a str,
+    cert: &Cert,
+    converse: &Cert,
+) -> Result<List<Put<'a>>, Memory>
+    ensures { IfOk result (λ puts. puts ≡ both_puts certificate.entry.now converse_name.entry.now cert.now converse.now) }
+{
+    let mut puts = List::new(alloc);
+    puts.push(put_of(alloc, certificate, cert)?)?;
+    puts.push(put_of(alloc, converse_name, converse)?)?;
+    Ok(puts)
+}
+
+/// The reply to both answers, the second of which is for these two automata.
+fn told<'a>(
+    alloc: Global,
+    certificate: &'a str,
+    converse_name: &'a str,
+    exchanged: &Joined,
+    cert: &Cert,
+    converse: &Cert,
+) -> Result<Reply<'a>, Memory>
+    requires letters { (lasso : ALasso) → converse.now.body ≡ NoLasso lasso → All (λ a. a < length exchanged.now.labels) lasso.prefix × All (λ a. a < length exchanged.now.labels) lasso.turn }
+    requires word { (word : Items ℕ) → converse.now.body ≡ NoWord word → All (λ a. a < length exchanged.now.labels) word }
+    ensures { IfOk result (λ reply. reply ≡ both_reply (said_by_both (form_of cert.now.body) (form_of converse.now.body)) exchanged.now.labels converse.now.body (both_puts certificate.entry.now converse_name.entry.now cert.now converse.now)) }
+{
+    let puts = both_puts(alloc, certificate, converse_name, cert, converse)?;
+    both_reply(
+        alloc,
+        both(cert, converse),
+        &exchanged.labels,
+        &converse.body,
+        puts,
+    )
+}
+
+/// The reply to the two automata in the other order, for which the answer is found.
+fn of_exchanged<'a>(
+    alloc: Global,
+    certificate: &'a str,
+    converse_name: &'a str,
+    exchanged: &Joined,
+    cert: &Cert,
+) -> Result<Reply<'a>, Memory>
+    requires { CanDecide exchanged.now }
+    ensures { IfOk result (λ reply. (converse : ACert) × IsAnswer exchanged.now (usual_terms Buchi) converse × (reply ≡ both_reply (said_by_both (form_of cert.now.body) (form_of converse.body)) exchanged.now.labels converse.body (both_puts certificate.entry.now converse_name.entry.now cert.now converse))) }
+{
+    let converse = answered(alloc, exchanged)?;
+    told(
+        alloc,
+        certificate,
+        converse_name,
+        exchanged,
+        cert,
+        &converse,
+    )
+}
+
 /// The reply where the first inclusion is not refuted: the second is decided too.
 fn of_both<'a>(
     alloc: Global,
@@ -136,17 +194,7 @@ fn of_both<'a>(
     ensures { IfOk result (IsBothReply certificate.entry.now converse_name.entry.now one.now two.now cert.now) }
 {
     let exchanged = joined(alloc, two, one)?;
-    let converse = answered(alloc, &exchanged)?;
-    let mut puts = List::new(alloc);
-    puts.push(put_of(alloc, certificate, cert)?)?;
-    puts.push(put_of(alloc, converse_name, &converse)?)?;
-    both_reply(
-        alloc,
-        both(cert, &converse),
-        &exchanged.labels,
-        &converse.body,
-        puts,
-    )
+    of_exchanged(alloc, certificate, converse_name, &exchanged, cert)
 }
 
 /// The reply where the first is not included in the second: the certificate of that alone is written.
@@ -166,7 +214,29 @@ fn first_apart<'a>(
     Ok(reply_with(Status::Refuted, text, puts))
 }
 
-/// The reply to the automata. All that is needed is decided before anything is written.
+/// The reply to the joined automata. All that is needed is decided before anything is written.
+fn of_pair<'a>(
+    alloc: Global,
+    certificate: &'a str,
+    converse_name: &'a str,
+    one: &Named,
+    two: &Named,
+    pair: &Joined,
+) -> Result<Reply<'a>, Memory>
+    requires one { IsWithinLimits SECOND_LIMITS one.now }
+    requires two { IsWithinLimits SECOND_LIMITS two.now }
+    requires can { CanDecide pair.now }
+    ensures { IfOk result (IsEqualReply certificate.entry.now converse_name.entry.now one.now two.now pair.now) }
+{
+    let cert = answered(alloc, pair)?;
+    if is_no(&cert.body) {
+        first_apart(alloc, certificate, pair, &cert)
+    } else {
+        of_both(alloc, certificate, converse_name, one, two, &cert)
+    }
+}
+
+/// The reply to the automata.
 fn compared<'a>(
     alloc: Global,
     certificate: &'a str,
@@ -179,12 +249,7 @@ fn compared<'a>(
     ensures { IfOk result (λ reply. (pair : AJoined) × IsJoined one.now two.now pair × IsEqualReply certificate.entry.now converse_name.entry.now one.now two.now pair reply) }
 {
     let pair = joined(alloc, one, two)?;
-    let cert = answered(alloc, &pair)?;
-    if is_no(&cert.body) {
-        first_apart(alloc, certificate, &pair, &cert)
-    } else {
-        of_both(alloc, certificate, converse_name, one, two, &cert)
-    }
+    of_pair(alloc, certificate, converse_name, one, two, &pair)
 }
 
 /// The reply to what was read.

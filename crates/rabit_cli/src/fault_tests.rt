@@ -8,6 +8,19 @@ use shelf_io::{Failed, MemShelf, Shelf};
 use std::alloc::Global;
 use std::test::Fail;
 
+/// The two texts as one.
+fn both_texts(alloc: Global, front: &str, rest: &str) -> Result<String, Memory> {
+    let mut text = String::from_str(alloc, front)?;
+    text.push_str(rest)?;
+    Ok(text)
+}
+
+/// Whether a check of the two automata tells this fault of the file.
+fn tells(alloc: Global, one: &str, two: &str, file: &str, said: &str) -> Result<bool, Memory> {
+    let printed = both_texts(alloc, file, said)?;
+    Ok(check(alloc, one, two, RING_NO, printed.as_str())? == (4, true))
+}
+
 #[test]
 fn each_text_has_its_first_fault(rt: HostRuntime) -> Result<(), Fail> {
     let alloc = rt.alloc();
@@ -58,20 +71,8 @@ fn each_text_has_its_first_fault(rt: HostRuntime) -> Result<(), Fail> {
         ("x\u{1}\na,[0]-[1]\n", "line 1: BadByte\n"),
     ];
     for (text, said) in faults {
-        let mut first = String::from_str(alloc, "file 1 ")?;
-        first.push_str(said)?;
-        assert_eq!(rt;
-            check(alloc, text, ONLY_B, RING_NO, first.as_str())?,
-            (4, true),
-            "{text:?}"
-        );
-        let mut second = String::from_str(alloc, "file 2 ")?;
-        second.push_str(said)?;
-        assert_eq!(rt;
-            check(alloc, RING, text, RING_NO, second.as_str())?,
-            (4, true),
-            "{text:?}"
-        );
+        assert!(rt; tells(alloc, text, ONLY_B, "file 1 ", said)?, "{text:?}");
+        assert!(rt; tells(alloc, RING, text, "file 2 ", said)?, "{text:?}");
     }
     Ok(())
 }

@@ -1,22 +1,18 @@
 //! The decision of an inclusion on files in memory: what it prints, the certificate that it leaves, and what a check says of that.
 
-use crate::search_tests::looped_ring;
 use crate::shrink_tests::{holds, shelf_of};
-use crate::tests::{numbers_of, words_of};
+use crate::tests::words_of;
 use crate::top::run;
 use auto_core::Memory;
 use shelf_io::{LoadFault, MemShelf, MemSink, load};
 use std::alloc::Global;
 use std::test::Fail;
+use test_inputs::{ONE_YES, looped_ring, numbers_of};
 
 const ONE_A: &str = "[0]\na,[0]->[0]\n[0]\n";
 
 /// Two states, each left by a letter of its own.
 pub const PAIR: &str = "a,[5]->[7]\nb,[7]->[5]\n";
-
-/// The certificate of one state and one letter.
-pub const ONE_YES: &str =
-    "rabit-cert 1 buchi yes\nsizes 1 1 1\nlog1 0\nlog2 0\nrel 1\nrow 0 0\nelements 1\nlive base 0\ncover 0\nstep 0 0\nend\n";
 
 /// The status of the words on the shelf's files, and whether just this text was sent.
 pub(crate) fn says(

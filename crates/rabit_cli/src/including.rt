@@ -1,6 +1,6 @@
 //! `include A B CERT`, with `--finite`, `--look K`, `--limit N` and `--letters M`
 
-ghost use Rattle.std.specs.Prelude.{◌≡◌, ◌≤◌, ◌<◌, ℕ, List as Items, length, All, IfOk};
+ghost use Rattle.std.specs.Prelude.{◌≡◌, ◌≤◌, ◌<◌, ◌∷◌, [], ℕ, List as Items, length, All, IfOk};
 ghost use Rattle.auto_core.specs.declared.parts.Lasso.{Lasso as ALasso};
 ghost use Rattle.ba_format.specs.declared.parts.Joined.{Joined as AJoined};
 ghost use Rattle.ba_format.specs.Reading.{IsWithinLimits};
@@ -11,7 +11,9 @@ ghost use Rattle.decide.specs.Laws.{CanDecide};
 ghost use Rattle.decide.specs.Terms.{AreBounded};
 ghost use Rattle.rabit_frame.specs.Reading.{AreOfKinds};
 ghost use Rattle.rabit_replies.specs.declared.files.TheConstants.{FIRST_LIMITS, SECOND_LIMITS};
-ghost use Rattle.rabit_cli.specs.Include.{pair_inputs, IsDecided, MeansInclude};
+ghost use Rattle.rabit_replies.specs.Files.{pair_inputs, certificate_put};
+ghost use Rattle.rabit_replies.specs.Replies.{IsVerdictReply};
+ghost use Rattle.rabit_cli.specs.Include.{IsDecided, MeansInclude};
 ghost use Rattle.rabit_cli.specs.Asked.{terms_of_asked};
 
 use crate::joining::joined;
@@ -62,6 +64,31 @@ fn answered(alloc: Global, asked: AskedInclude, pair: &Joined) -> Result<Cert, M
     }
 }
 
+/// The certificate as it is to be written under the name.
+pub(crate) fn put_of<'a>(alloc: Global, name: &'a str, cert: &Cert) -> Result<Put<'a>, Memory>
+    ensures { IfOk result (λ put. put ≡ certificate_put name.entry.now cert.now) }
+{
+    let bytes = write_cert(alloc, cert)?;
+    Ok(Put { name, bytes })
+}
+
+/// The reply to the joined automata and the answer for them.
+fn told<'a>(
+    alloc: Global,
+    name: &'a str,
+    mode: Mode,
+    pair: &Joined,
+    cert: &Cert,
+) -> Result<Reply<'a>, Memory>
+    requires letters { (lasso : ALasso) → cert.now.body ≡ NoLasso lasso → All (λ a. a < length pair.now.labels) lasso.prefix × All (λ a. a < length pair.now.labels) lasso.turn }
+    requires word { (word : Items ℕ) → cert.now.body ≡ NoWord word → All (λ a. a < length pair.now.labels) word }
+    ensures { IfOk result (IsVerdictReply mode pair.now cert.now.body (certificate_put name.entry.now cert.now ∷ [])) }
+{
+    let mut puts = List::new(alloc);
+    puts.push(put_of(alloc, name, cert)?)?;
+    rabit_replies::verdict(alloc, mode, pair, &cert.body, puts)
+}
+
 /// The reply to the joined automata: the answer's text is to be written under the name.
 fn decided<'a>(
     alloc: Global,
@@ -75,10 +102,7 @@ fn decided<'a>(
     ensures { IfOk result (IsDecided name.entry.now (terms_of_asked asked) pair.now) }
 {
     let cert = answered(alloc, asked, pair)?;
-    let bytes = write_cert(alloc, &cert)?;
-    let mut puts = List::new(alloc);
-    puts.push(Put { name, bytes })?;
-    rabit_replies::verdict(alloc, asked.mode, pair, &cert.body, puts)
+    told(alloc, name, asked.mode, pair, &cert)
 }
 
 /// The reply to the automata.

@@ -41,13 +41,7 @@ fn main(rt: HostRuntime) -> ExitCode {
 }
 
 #[cfg(test)]
-mod automaton_tests;
-#[cfg(test)]
-mod automaton_text_tests;
-#[cfg(test)]
 mod batch_tests;
-#[cfg(test)]
-mod certificate_text_tests;
 #[cfg(test)]
 mod combine_tests;
 #[cfg(test)]
@@ -59,10 +53,6 @@ mod equality_tests;
 #[cfg(test)]
 mod fault_tests;
 #[cfg(test)]
-mod finite_tests;
-#[cfg(test)]
-mod graph_tests;
-#[cfg(test)]
 mod include_tests;
 #[cfg(test)]
 mod piece_tests;
@@ -70,10 +60,6 @@ mod piece_tests;
 mod property_tests;
 #[cfg(test)]
 mod reduce_tests;
-#[cfg(test)]
-mod search_tests;
-#[cfg(test)]
-mod shelf_tests;
 #[cfg(test)]
 mod shrink_tests;
 #[cfg(test)]

@@ -1,13 +1,15 @@
 //! Texts in pieces and cut short: each cut of whole files, and files that come byte by byte.
 
 use crate::damage_tests::{CUT, MERGED};
-use crate::include_tests::{ONE_YES, says};
-use crate::tests::{ONE_A, shelf_with};
+use crate::include_tests::says;
+use crate::tests::ONE_A;
 use crate::yes_tests::{LINES, with_lines};
+use auto_core::Memory;
 use cert_text::{CertReadFault, CertReader, TextKind, read_cert, write_cert};
 use cert_value::Cert;
 use std::alloc::Global;
 use std::test::Fail;
+use test_inputs::{ONE_YES, shelf_with};
 
 /// The line where the text ends too early, where that is its fault.
 fn cut_short(alloc: Global, front: &[u8]) -> Option<u32> {
@@ -55,12 +57,22 @@ fn every_front_of_a_certificate_is_truncated(rt: HostRuntime) -> Result<(), Fail
     Ok(())
 }
 
+/// Gives the reader both pieces.
+fn feed_both(reader: &mut CertReader, front: &[u8], rest: &[u8]) -> Result<(), Memory> {
+    reader.feed(front)?;
+    reader.feed(rest)
+}
+
 /// What the two pieces are read as.
 fn read_in_two(alloc: Global, front: &[u8], rest: &[u8]) -> Result<Cert, CertReadFault> {
     let mut reader = CertReader::new(alloc)?;
-    reader.feed(front)?;
-    reader.feed(rest)?;
-    reader.finish()
+    match feed_both(&mut reader, front, rest) {
+        Ok(()) => reader.finish(),
+        Err(_refused) => {
+            drop(reader);
+            Err(CertReadFault::Memory)
+        },
+    }
 }
 
 /// Whether they are read as the certificate whose text they are together.

@@ -9,11 +9,12 @@ ghost use Rattle.decide.specs.Laws.{CanDecide};
 ghost use Rattle.rabit_frame.specs.Lines.{line_end};
 ghost use Rattle.rabit_replies.specs.Printed.{lasso_lines, word_line, holds_text, lasso_against_text, word_against_text};
 ghost use Rattle.rabit_replies.specs.Files.{automaton_file};
-ghost use Rattle.rabit_cli.specs.Property.{IsPropertyReply, IsPropertyDecided};
+ghost use Rattle.rabit_cli.specs.Property.{property_puts, IsPropertyReply, IsPropertyDecided};
 
+use crate::including::put_of;
 use auto_core::{Lasso, List, Memory, Mode, Word, append};
 use ba_format::{Joined, Limits, Named, ReadFault, Texts};
-use cert_text::{Body, write_cert};
+use cert_text::{Body, Cert};
 use rabit_frame::{Put, Reply, Slot, Status};
 use rabit_replies::{
     SECOND_LIMITS, automaton_slot, limit_met, push_lasso, push_word_line, reply_with,
@@ -128,6 +129,39 @@ fn verdict<'a>(
     }
 }
 
+/// The made text and the answer's as they are to be written, in this order.
+fn puts_of<'a>(
+    alloc: Global,
+    made: Put<'a>,
+    certificate: &'a str,
+    cert: &Cert,
+) -> Result<List<Put<'a>>, Memory>
+    ensures { IfOk result (λ puts. puts ≡ property_puts made.entry.name made.entry.bytes certificate.entry.now cert.now) }
+{
+    let answer = put_of(alloc, certificate, cert)?;
+    let mut puts = List::new(alloc);
+    puts.push(made)?;
+    puts.push(answer)?;
+    Ok(puts)
+}
+
+/// The reply to the joined automata and the answer for them.
+fn told<'a>(
+    alloc: Global,
+    property: &str,
+    made: Put<'a>,
+    certificate: &'a str,
+    pair: &Joined,
+    cert: &Cert,
+) -> Result<Reply<'a>, Memory>
+    requires letters { (lasso : ALasso) → cert.now.body ≡ NoLasso lasso → All (λ a. a < length pair.now.labels) lasso.prefix × All (λ a. a < length pair.now.labels) lasso.turn }
+    requires word { (word : Items ℕ) → cert.now.body ≡ NoWord word → All (λ a. a < length pair.now.labels) word }
+    ensures { IfOk result (IsPropertyReply property.now pair.now cert.now.body (property_puts made.entry.name made.entry.bytes certificate.entry.now cert.now)) }
+{
+    let puts = puts_of(alloc, made, certificate, cert)?;
+    verdict(alloc, property, pair, &cert.body, puts)
+}
+
 /// The reply to the joined automata: the made text and the answer's are to be written, in this order.
 pub fn decided<'a>(
     alloc: Global,
@@ -141,13 +175,5 @@ pub fn decided<'a>(
     ensures { IfOk result (IsPropertyDecided property.now made.entry.bytes made.entry.name certificate.entry.now mode pair.now) }
 {
     let cert = decide::include(alloc, pair, mode, USUAL_LOOK, USUAL_LIMIT)?;
-    let bytes = write_cert(alloc, &cert)?;
-    let answer = Put {
-        name: certificate,
-        bytes,
-    };
-    let mut puts = List::new(alloc);
-    puts.push(made)?;
-    puts.push(answer)?;
-    verdict(alloc, property, pair, &cert.body, puts)
+    told(alloc, property, made, certificate, pair, &cert)
 }

@@ -1,11 +1,12 @@
 //! The reduction of an automaton in a file in memory: what it prints, and what it leaves.
 
 use crate::include_tests::{leaves, says};
-use crate::tests::{answers, list_of};
+use crate::tests::answers;
 use auto_core::{List, Memory};
 use shelf_io::{File, MemShelf};
 use std::alloc::Global;
 use std::test::Fail;
+use test_inputs::list_of;
 
 /// Two states, each left by a letter of its own; there is neither an initial line nor an accepting one.
 const PAIR: &str = "a,[5]->[7]\nb,[7]->[5]\n";

@@ -1,11 +1,11 @@
 //! Certificates that say no without the letters that they do not need: what is printed, and what is left.
 
 use crate::include_tests::{PAIR, says, says_in_turn};
-use crate::tests::shelf_with;
 use auto_core::Memory;
 use shelf_io::{MemShelf, load};
 use std::alloc::Global;
 use std::test::Fail;
+use test_inputs::shelf_with;
 
 const ONE_A: &str = "[0]\na,[0]->[0]\n[0]\n";
 

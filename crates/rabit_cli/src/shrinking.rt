@@ -9,11 +9,10 @@ ghost use Rattle.cert_check.specs.Rules.{KeepsRules};
 ghost use Rattle.rabit_frame.specs.Reading.{AreOfKinds};
 ghost use Rattle.rabit_replies.specs.declared.files.TheConstants.{SECOND_LIMITS, FIRST_LIMITS};
 ghost use Rattle.rabit_replies.specs.Files.{HasLabelTexts};
-ghost use Rattle.rabit_replies.specs.Replies.{nothing_to_shrink_reply};
+ghost use Rattle.rabit_replies.specs.Replies.{nothing_to_shrink_reply, IsNo};
 ghost use Rattle.rabit_cli.specs.Check.{check_inputs};
-ghost use Rattle.rabit_cli.specs.Shrink.{IsNo, IsShrunkBody, IsShrinkReply, MeansShrink};
+ghost use Rattle.rabit_cli.specs.Shrink.{IsShrunkBody, IsShrinkReply, MeansShrink};
 
-use crate::joining::joined;
 use auto_core::{List, Memory};
 use ba_format::{Joined, Named};
 use cert_check::CheckFault;
@@ -103,7 +102,7 @@ fn of_three<'a>(
     requires well_formed { WellFormed cert.now }
     ensures { IfOk result (λ reply. (pair : AJoined) × IsJoined one.now two.now pair × IsShrinkReply name.entry.now pair cert.now reply) }
 {
-    let pair = joined(alloc, one, two)?;
+    let pair = ba_format::join(alloc, one, two)?;
     checked(alloc, name, &pair, cert)
 }
 

@@ -1,10 +1,11 @@
 //! The top call on files in memory: statuses, printed texts, and calls of the outside that fail.
 
 use crate::top::run;
-use auto_core::{List, Memory};
-use shelf_io::{File, MemShelf, MemSink};
+use auto_core::Memory;
+use shelf_io::{MemShelf, MemSink};
 use std::alloc::Global;
 use std::test::Fail;
+use test_inputs::{numbers_of, shelf_with};
 
 /// How the program is used.
 pub const USAGE: &str =
@@ -27,39 +28,6 @@ pub const TWO_LETTERS: &str = "[0]\na,[0]->[0]\nb,[0]->[0]\n[0]\n";
 
 /// The certificate that tells the loop by two labels apart from the one by `a`.
 pub const LETTERS_NO: &str = "rabit-cert 1 buchi no\nsizes 1 1 2\nprefix 1\nloop 1\nend\n";
-
-pub(crate) fn list_of(alloc: Global, bytes: &[u8]) -> Result<List<u8>, Memory> {
-    let mut list = List::new(alloc);
-    for byte in bytes {
-        list.push(*byte)?;
-    }
-    Ok(list)
-}
-
-pub(crate) fn numbers_of(alloc: Global, numbers: &[u64]) -> Result<List<u64>, Memory> {
-    let mut list = List::new(alloc);
-    for number in numbers {
-        list.push(*number)?;
-    }
-    Ok(list)
-}
-
-/// A shelf with these files, which gives pieces of so many bytes and has room for more.
-pub(crate) fn shelf_with(
-    alloc: Global,
-    files: &[(&str, &str)],
-    room: u64,
-    piece: u32,
-    fails: &[u64],
-) -> Result<MemShelf, Memory> {
-    let mut held = List::new(alloc);
-    for (name, text) in files {
-        let name = list_of(alloc, name.as_bytes())?;
-        let bytes = list_of(alloc, text.as_bytes())?;
-        held.push(File { name, bytes })?;
-    }
-    MemShelf::new(alloc, held, room, piece.max(1), numbers_of(alloc, fails)?)
-}
 
 /// A shelf with these files, which has no room for more.
 pub(crate) fn shelf_of(

@@ -6,11 +6,9 @@ ghost use Rattle.ba_format.specs.Reading.{IsWithinLimits};
 ghost use Rattle.ba_format.specs.Joining.{IsJoined};
 ghost use Rattle.rabit_frame.specs.Reading.{AreOfKinds};
 ghost use Rattle.rabit_replies.specs.declared.files.TheConstants.{SECOND_LIMITS, FIRST_LIMITS};
-ghost use Rattle.rabit_replies.specs.Files.{HasLabelTexts};
-ghost use Rattle.rabit_cli.specs.Include.{pair_inputs};
+ghost use Rattle.rabit_replies.specs.Files.{HasLabelTexts, pair_inputs};
 ghost use Rattle.rabit_cli.specs.Union.{IsUnionReply, MeansUnion};
 
-use crate::joining::joined;
 use auto_core::{Memory, Mode};
 use auto_ops::OpFault;
 use ba_format::{Joined, Named};
@@ -36,7 +34,7 @@ fn of_two<'a>(alloc: Global, mode: Mode, one: &Named, two: &Named) -> Result<Rep
     requires two { IsWithinLimits SECOND_LIMITS two.now }
     ensures { IfOk result (λ reply. (pair : AJoined) × IsJoined one.now two.now pair × IsUnionReply mode pair reply) }
 {
-    let pair = joined(alloc, one, two)?;
+    let pair = ba_format::join(alloc, one, two)?;
     united(alloc, mode, &pair)
 }
 

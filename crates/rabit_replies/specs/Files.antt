@@ -1,12 +1,13 @@
 -- The files of the commands, and what they are read as.
-use Rattle.std.specs.Prelude.{◌≡◌, ℕ, List, length}
+use Rattle.std.specs.Prelude.{◌≡◌, ℕ, List, [], ◌∷◌, length}
 use Rattle.shelf_io.specs.Shelf.{FileMap}
 use Rattle.ba_format.specs.declared.parts.Limits.{Limits}
 use Rattle.ba_format.specs.declared.parts.Named.{Named}
 use Rattle.ba_format.specs.declared.parts.Joined.{Joined}
 use Rattle.ba_format.specs.Joining.{IsJoined}
 use Rattle.cert_value.specs.declared.types.Cert.{Cert}
-use Rattle.rabit_frame.specs.Files.{Input}
+use Rattle.cert_value.specs.Text.{text}
+use Rattle.rabit_frame.specs.Files.{Input, Output}
 use Rattle.rabit_frame.specs.Reading.{FileReads}
 use Rattle.rabit_frame.specs.declared.parts.FileKind.TheVariants as kind
 use Rattle.rabit_frame.specs.declared.parts.Value.TheVariants as value
@@ -19,6 +20,14 @@ automaton_file number limits name = record { name = name; kind = kind.Automaton 
 -- A file that is read as a certificate.
 abbrev pub certificate_file : List ℕ → Input
 certificate_file name = record { name = name; kind = kind.Certificate }
+
+-- The files of a command that reads two automata.
+abbrev pub pair_inputs : List ℕ → List ℕ → List Input
+pair_inputs a b = automaton_file 1 FIRST_LIMITS a ∷ automaton_file 2 SECOND_LIMITS b ∷ []
+
+-- The file of a certificate that is written: its text, under its name.
+abbrev pub certificate_put : List ℕ → Cert → Output
+certificate_put name cert = record { name = name; bytes = text cert }
 
 -- The file reads as this certificate: it is well-formed, and the file holds its text.
 abbrev pub ReadsCertificate : FileMap → List ℕ → Cert → Type 0

@@ -38,6 +38,13 @@ IsVerdictReply mode pair (NoLasso lasso) puts r = r ≡ reply_with status.Refute
 IsVerdictReply mode pair (NoWord word) puts r = r ≡ reply_with status.Refuted (word_not_included_text pair.labels word) puts
 IsVerdictReply mode pair (Listing list) puts r = r ≡ reply_with status.Limit (limit_text list.limit) puts
 
+-- The body is a no: it has a lasso, or a word.
+abbrev pub IsNo : Body → Type 0
+IsNo (Yes evidence) = ⊥
+IsNo (NoLasso lasso) = Unit {0}
+IsNo (NoWord word) = Unit {0}
+IsNo (Listing list) = ⊥
+
 -- The body's lasso, in finite mode its word, is accepted by the first automaton and not by the second, and that was printed.
 abbrev pub SaysApart : Joined → Body → Option (List ℕ) → Option (List ℕ) → Type 0
 SaysApart pair (Yes evidence) sent sent' = ⊥

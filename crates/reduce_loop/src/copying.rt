@@ -44,7 +44,7 @@ fn has_accepting(one: &Auto, other: &Auto) -> bool
 }
 
 /// Tells whether both are the same automaton.
-pub(crate) fn is_same_automaton(one: &Auto, other: &Auto) -> bool
+pub fn is_same_automaton(one: &Auto, other: &Auto) -> bool
     ensures { IsTrue result ↔ one.now ≡ other.now }
 {
     if one.states() != other.states() {

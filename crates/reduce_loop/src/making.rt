@@ -107,11 +107,7 @@ fn merge_backward(
 }
 
 /// The greatest delayed relation with as many letters as are announced on the automaton where so many are asked for.
-pub(crate) fn greatest_delayed(
-    alloc: Global,
-    automaton: &Auto,
-    asked: u32,
-) -> Result<Delayed, Memory>
+pub fn greatest_delayed(alloc: Global, automaton: &Auto, asked: u32) -> Result<Delayed, Memory>
     requires few { automaton.now.states ≤ 65535 }
     requires letters_from { 1 ≤ asked }
     requires letters_upto { asked ≤ 4 }

@@ -1,4 +1,4 @@
-use Rattle.rabit_cli.proofs.EmptyLemmas.{text_accepts_nothing as law}
+use Rattle.rabit_cli.proofs.TextLemmas.{text_accepts_nothing as law}
 use Rattle.rabit_cli.proofs.laws.empty_text_accepts_nothing.Goals as goal
 
 pub returns : goal.returns
