@@ -6,14 +6,22 @@
 
 It prints what `rabit check A B CERT`, with the option what `rabit cross-check A B FILE`, prints and ends with the same
 status: 0 included, 1 not included, 2 a list, 4 a fault of an automaton's text, 5 a refused certificate or cross file, 6 a
-file that cannot be read. It shares no line with the program. It is not proved, it is not fast, and it takes what memory it
-needs: its use is that somebody who trusts neither the program nor its proofs can read it in an evening.
+file that cannot be read. It shares no line with the program. It is not proved, it is not fast, though it is built so that a
+file of 64 KiB does not stall it, and it takes what memory it needs: its use is that somebody who trusts neither the program
+nor its proofs can read it in an evening.
+
+A set of states is a number: state q is in it where its bit q is 1. A block of pairs is a dictionary from a state to the set
+of those that it is related to.
 """
 import sys
+from collections import Counter
+from functools import cached_property
 from itertools import groupby
 
 STATES, LABELS, TRANSITIONS = {1: 2048, 2: 512}, 256, 65536
 AUTOMATON_BYTES, CERTIFICATE_BYTES = 1 << 24, 1 << 30
+# of a game: past how many different replies the paths are looked at from their ends, and about how many sets that may take
+FEW_REPLIES, MOST_SETS = 64, 50000
 HEADERS = [
     f"rabit-cert {version} {mode} {form}".encode()
     for version in (1, 2)
@@ -34,24 +42,232 @@ class Refused(Exception):
 # ---------------------------------------------------------------- automata
 
 
+def set_of(states):
+    """The set of these states."""
+    mask = 0
+    for state in states:
+        mask |= 1 << state
+    return mask
+
+
+def states_in(mask):
+    """The states of a set, ascending."""
+    digits = bin(mask)[:1:-1]
+    state = digits.find("1")
+    while state >= 0:
+        yield state
+        state = digits.find("1", state + 1)
+
+
+class Steps:
+    """What one step leads to: `rows` are the sets that single states lead to, and `of` is what a set does."""
+
+    def __init__(self, rows):
+        self.rows, self.found, self.eights = rows, {}, {}
+
+    def of(self, mask):
+        found = self.found.get(mask)
+        if found is None:
+            found = self.found[mask] = self.by_eights(mask) if bin(mask).count("1") > 24 else self.by_states(mask)
+        return found
+
+    def by_states(self, mask):
+        found = 0
+        for state in states_in(mask):
+            found |= self.rows.get(state, 0)
+        return found
+
+    def by_eights(self, mask):
+        """Eight states at a time, each eight of them once: sets are large, and there are many."""
+        found = 0
+        for place, byte in enumerate(mask.to_bytes(mask.bit_length() // 8 + 1, "little")):
+            if byte:
+                key = place << 8 | byte
+                if key not in self.eights:
+                    self.eights[key] = self.by_states(byte << 8 * place)
+                found |= self.eights[key]
+        return found
+
+
 class Automaton:
-    """States and labels are numbers; `moves[state]` are the transitions out of a state, as (label, target)."""
+    """States and labels are numbers, `transitions` are sorted, and `accepting` is a set.
+
+    `moves[state]` are the transitions out of a state, as (label, target), and `back[state]` those into it, as (label, source).
+    """
 
     def __init__(self, states, initial, transitions, accepting):
-        self.states, self.initial = states, initial
+        self.states, self.initial, self.accepting = states, initial, accepting
         self.transitions = sorted(transitions)
-        self.accepting = frozenset(accepting)
-        self.moves = [[] for _ in range(states)]
-        self.back = [[] for _ in range(states)]
+        self.steps, self.arrived = {}, {}
+
+    @cached_property
+    def moves(self):
+        moves = [[] for _ in range(self.states)]
         for source, label, target in self.transitions:
-            self.moves[source].append((label, target))
-            self.back[target].append((label, source))
-        self.by_label = {}
+            moves[source].append((label, target))
+        return moves
+
+    @cached_property
+    def back(self):
+        back = [[] for _ in range(self.states)]
         for source, label, target in self.transitions:
-            self.by_label.setdefault(label, []).append((source, target))
+            back[target].append((label, source))
+        return back
+
+    @cached_property
+    def by_label(self):
+        by_label = {}
+        for source, label, target in self.transitions:
+            by_label.setdefault(label, []).append((source, target))
+        return by_label
+
+    @cached_property
+    def useful(self):
+        """By mode the useful states."""
+        to = Steps({state: set_of(target for _, target in moves) for state, moves in enumerate(self.moves)})
+        reached = closed_under(to, 1 << self.initial)
+        before = Steps({state: set_of(source for _, source in back) for state, back in enumerate(self.back)})
+        cycling = endless(self, [mark(self, state, before.rows[state]) for state in range(self.states)])
+        return {"buchi": reached & cycling, "finite": reached & closed_under(before, self.accepting)}
+
+    def ahead(self, label):
+        """Where the label leads from states."""
+        return self.steps_by(label, False)
+
+    def behind(self, label):
+        """Whence the label leads to states."""
+        return self.steps_by(label, True)
+
+    def steps_by(self, label, turned):
+        if (label, turned) not in self.steps:
+            rows = {}
+            for source, target in self.by_label.get(label, ()):
+                one, other = (target, source) if turned else (source, target)
+                rows[one] = rows.get(one, 0) | 1 << other
+            self.steps[label, turned] = Steps(rows)
+        return self.steps[label, turned]
+
+    def arrivals(self, label):
+        """The arrivals of the label's graph."""
+        if label not in self.arrived:
+            self.arrived[label] = arrivals_of(self, graph_of(self, label))
+        return self.arrived[label]
 
     def out(self, state):
         return [t for t, (source, _, _) in enumerate(self.transitions) if source == state]
+
+
+def closed_under(steps, mask):
+    """The states that any number of steps leads to from the set."""
+    new = mask
+    while new:
+        new = steps.of(new) & ~mask
+        mask |= new
+    return mask
+
+
+# A graph of an automaton is a tuple: for each state the set of those that have an arc to it, and, by the number of states
+# further up in the same number, the set of those whose arc to it has the value 2. Its arrivals are the same as lists: of each
+# state with arcs to it the states that these come from, those with the value 1 and those with the value 2.
+
+
+def mark(automaton, state, sources):
+    """The arcs from these states to this one, with the value 2 if it is accepting."""
+    return sources | sources << automaton.states if automaton.accepting >> state & 1 else sources
+
+
+def graph_of(automaton, label):
+    rows = automaton.behind(label).rows
+    return tuple(mark(automaton, state, rows.get(state, 0)) for state in range(automaton.states))
+
+
+def arrivals_of(automaton, graph):
+    strong = [arcs >> automaton.states for arcs in graph]
+    plain = [(arcs & (1 << automaton.states) - 1) ^ more for arcs, more in zip(graph, strong)]
+    parts = enumerate(zip(plain, strong))
+    return [(state, list(states_in(one)), list(states_in(two))) for state, (one, two) in parts if one or two]
+
+
+def extended(automaton, graph, arrivals):
+    """The graph that goes on by the arcs of another, of which these are the arrivals."""
+    states, made = automaton.states, [0] * automaton.states
+    for state, ones, twos in arrivals:
+        arcs = 0
+        for source in twos:
+            arcs |= graph[source]
+        if arcs:
+            arcs &= (1 << states) - 1
+            arcs |= arcs << states
+        for source in ones:
+            arcs |= graph[source]
+        made[state] = arcs
+    return tuple(made)
+
+
+def graph_of_word(automaton, word):
+    """The graph of a word of at least one label. Of a long word the pairs that stand in it often are taken together first, and
+    then pairs of pairs, as long as there are few different ones and it costs less to go on by them."""
+    parts = {label: automaton.arrivals(label) for label in word}
+    first = tuple(1 << state for state in range(automaton.states))
+    while len(word) > 64:
+        pairs = list(zip(word[::2], word[1::2]))
+        if len(set(pairs)) > min(100, len(pairs) // 4):
+            break
+        graphs = {pair: extended(automaton, extended(automaton, first, parts[pair[0]]), parts[pair[1]]) for pair in set(pairs)}
+        larger = {pair: arrivals_of(automaton, graph) for pair, graph in graphs.items()}
+        if cost(pairs, larger) > cost(word, parts):
+            break
+        larger[word[-1],] = parts[word[-1]]
+        word, parts = pairs + [(word[-1],)] * (len(word) % 2), larger
+    graph = first
+    for place, part in enumerate(word):
+        if place % 64 == 63 and len(set(graph)) <= 3:
+            return gone_on(automaton, graph, word[place:])
+        graph = extended(automaton, graph, parts[part])
+    return graph
+
+
+def gone_on(automaton, graph, word):
+    """The graph that goes on by a word, where few sets of arcs differ: the states with the same one go on together."""
+    states, made = automaton.states, [0] * automaton.states
+    for arcs in set(graph) - {0}:
+        ends, flagged, every = set_of(state for state in range(states) if graph[state] == arcs), 0, arcs & (1 << states) - 1
+        for label in labels_of(word):
+            steps = automaton.ahead(label)
+            ends, flagged = steps.of(ends), steps.of(flagged)
+            flagged |= ends & automaton.accepting
+        for state in states_in(ends):
+            made[state] |= every | every << states if flagged >> state & 1 else arcs
+    return tuple(made)
+
+
+def labels_of(word):
+    """The labels of a word of parts: a part is a label, or has one part or two."""
+    for part in word:
+        if isinstance(part, tuple):
+            yield from labels_of(part)
+        else:
+            yield part
+
+
+def cost(word, parts):
+    """About what it costs to go on by each part of the word."""
+    return sum(count * sum(3 + len(ones) + len(twos) for _, ones, twos in parts[part]) for part, count in Counter(word).items())
+
+
+def endless(automaton, graph):
+    """The states from which some way along the arcs comes twice to a state, with a value 2 between."""
+    before = Steps(dict(enumerate(arcs & (1 << automaton.states) - 1 for arcs in graph)))
+    strong = Steps(dict(enumerate(arcs >> automaton.states for arcs in graph)))
+    left, found = 0, (1 << automaton.states) - 1
+    while left != found:
+        # those that reach an arc of value 2 into what is left, in what is left
+        left = found
+        found = new = strong.of(left) & left
+        while new:
+            new = before.of(new) & left & ~found
+            found |= new
+    return left
 
 
 def number_of(names, name):
@@ -123,7 +339,7 @@ def read_automaton(number, data):
         listed = [state for state, _ in accepting[1:]]
     else:
         listed = [state for state, early in accepting if not (early and before == 1)]
-    return Automaton(len(names), initial, transitions, listed or range(len(names))), list(labels)
+    return Automaton(len(names), initial, transitions, set_of(listed or range(len(names)))), list(labels)
 
 
 def join(first, first_labels, second, second_labels):
@@ -333,78 +549,164 @@ def read_cross(data):
 # ---------------------------------------------------------------- relations and games
 
 
-def closure(states, block):
-    """The reflexive and transitive closure, as a list of sets."""
-    reached = []
-    for start in range(states):
-        seen, todo = {start}, [start]
-        while todo:
-            for right in block.get(todo.pop(), ()):
-                if right not in seen:
-                    seen.add(right)
-                    todo.append(right)
-        reached.append(seen)
-    return reached
+class Closure:
+    """The reflexive and transitive closure of a block."""
+
+    def __init__(self, block):
+        self.rows = {p: row | 1 << p for p, row in block.items()}
+        for middle in self.rows:
+            bit, further = 1 << middle, self.rows[middle]
+            for p, row in self.rows.items():
+                if row & bit:
+                    self.rows[p] = row | further
+
+    def relates(self, p, q):
+        return p == q or self.rows.get(p, 0) >> q & 1 == 1
 
 
-def round_holds(moves, answers, matched, look, block, left, right):
-    """Whether each path that `moves` show from `left` is answered from `right`."""
+class Identity:
+    """Each state is related to itself."""
 
-    def lost(state, depth, replies):
-        # replies: the states at which an answer that has kept up so far may stand
-        if depth == look or depth and not moves[state]:
+    @staticmethod
+    def relates(p, q):
+        return p == q
+
+
+class Game:
+    """Rounds at a lookahead: `shown` are the moves of the states that paths are shown from, `fit` gives the set of states that
+    match one of these, `ahead` and `behind` are the steps of the answers by a label and against it."""
+
+    def __init__(self, shown, fit, ahead, behind, look, block):
+        self.shown, self.fit, self.ahead, self.behind = shown, fit, ahead, behind
+        self.look, self.block = look, block
+        self.kept, self.answered, self.sets, self.room = {}, {}, {}, MOST_SETS
+
+    def is_stable(self):
+        """Whether each pair of the block matches and keeps its round."""
+        for p, row in self.block.items():
+            if row & ~self.fit(p):
+                return False
+            for left in (1, self.look):
+                if self.shown[p] and row:
+                    row &= ~self.keeping(p, left)
+            if self.shown[p] and not all(self.keeps(p, self.look, 1 << q) for q in states_in(row)):
+                return False
+        return True
+
+    def keeping(self, p, left):
+        """States from which paths of so many moves that are still to be shown from p are answered, move by move as they are
+        shown. There are more that answer when they know the whole path."""
+        if not left or not self.shown[p]:
+            return 0
+        if (p, left) not in self.kept:
+            found = -1
+            for label, target in self.shown[p]:
+                if found:
+                    goals = self.block.get(target, 0) | self.keeping(target, left - 1)
+                    found &= self.behind(label).of(goals & self.fit(target))
+            self.kept[p, left] = found
+        return self.kept[p, left]
+
+    def keeps(self, p, left, replies):
+        """Whether each path of so many moves that are still to be shown from p is answered from one of the replies, which are
+        where an answer may stand. What was answered once is remembered."""
+        if replies & self.keeping(p, left):
             return True
-        for label, target in moves[state]:
-            after = {t for reply in replies for l, t in answers[reply] if l == label and matched(target, t)}
-            if any(t in block.get(target, ()) for t in after):
-                continue
-            if lost(target, depth + 1, frozenset(after)):
-                return True
-        return False
+        if not replies or not left or not self.shown[p]:
+            return False
+        answered = self.answered.setdefault((p, left), set())
+        if replies in answered:
+            return True
+        wanted = self.wanted(p, left) if len(answered) > FEW_REPLIES else None
+        if wanted is not None:
+            return all(replies & one for one in wanted)
+        for label, target in self.shown[p]:
+            after = self.ahead(label).of(replies) & self.fit(target)
+            if not after & self.block.get(target, 0) and not self.keeps(target, left - 1, after):
+                return False
+        answered.add(replies)
+        return True
 
-    return not lost(left, 0, frozenset([right]))
+    def wanted(self, p, left):
+        """For each path of so many moves from p the states that it is answered from, or None where these sets are too many."""
+        if not left or not self.shown[p]:
+            return {0}
+        if (p, left) not in self.sets:
+            found = set()
+            for label, target in self.shown[p]:
+                later = self.wanted(target, left - 1)
+                if later is None or len(found) > self.room:
+                    found = None
+                    break
+                ends, fit, behind = self.block.get(target, 0), self.fit(target), self.behind(label)
+                found.update(behind.of((ends | one) & fit) for one in later)
+            self.room -= len(found or ())
+            self.sets[p, left] = found
+        return self.sets[p, left]
 
 
 def stable(automaton, side, look, block):
-    """Whether each pair of the block matches and wins its round."""
-    moves = automaton.moves if side == "forward" else automaton.back
+    """Whether the block is stable on this side."""
+    everything = (1 << automaton.states) - 1
 
-    def matched(p, q):
-        fine = p not in automaton.accepting or q in automaton.accepting
-        return fine and (side == "forward" or p != automaton.initial or q == automaton.initial)
+    def fit(p):
+        fine = automaton.accepting if automaton.accepting >> p & 1 else everything
+        return fine & 1 << p if side == "backward" and p == automaton.initial else fine
 
-    return all(
-        matched(p, q) and round_holds(moves, moves, matched, look, block, p, q) for p, rights in block.items() for q in rights
-    )
+    if side == "forward":
+        return Game(automaton.moves, fit, automaton.ahead, automaton.behind, look, block).is_stable()
+    return Game(automaton.back, fit, automaton.behind, automaton.ahead, look, block).is_stable()
 
 
 def stable_across(first, second, look, block):
-    """Whether each pair of a state of the first and a state of the second matches and wins its round across."""
+    """Whether each pair of a state of the first and a state of the second matches and keeps its round across."""
 
-    def matched(p, q):
-        return p not in first.accepting or q in second.accepting
+    def fit(p):
+        return second.accepting if first.accepting >> p & 1 else (1 << second.states) - 1
 
-    return all(
-        matched(p, q) and round_holds(first.moves, second.moves, matched, look, block, p, q)
-        for p, rights in block.items()
-        for q in rights
-    )
+    return Game(first.moves, fit, second.ahead, second.behind, look, block).is_stable()
+
+
+class Ranks:
+    """The right states of one row of a delayed block, by their codes; a code is the rank and one, or 0."""
+
+    def __init__(self, codes):
+        self.codes, self.all, self.by_code, self.below = codes, set_of(codes), {}, {}
+        for q, code in codes.items():
+            self.by_code[code] = self.by_code.get(code, 0) | 1 << q
+
+    def ranked_below(self, code):
+        """Those that have a rank, and one with a lesser code."""
+        if code not in self.below:
+            self.below[code] = set_of(q for q, c in self.codes.items() if 0 < c < code)
+        return self.below[code]
+
+
+def row_right(automaton, rows, label, target_rows, row):
+    """Whether each right state of the row answers by the label into each of these rows, with a lesser rank where it has one
+    above 0."""
+    behind = automaton.behind(label)
+    for key in target_rows:
+        after = rows.get(key)
+        if after is None or row.all & ~behind.of(after.all):
+            return False
+        for code, states in row.by_code.items():
+            if code > 1 and states & ~behind.of(after.ranked_below(code)):
+                return False
+    return True
 
 
 def delayed_right(automaton, labels, block):
-    """Whether triples and codes are right, whatever further label is announced; a code is the rank and one, or 0."""
-    for (p, *ahead), rights in block.items():
-        announced = [[*ahead, more] for more in range(labels)]
-        for q, code in rights.items():
-            if p in automaton.accepting and code == 0 or code == 1 and q not in automaton.accepting:
+    """Whether triples and codes are right, whatever further label is announced."""
+    rows = {key: Ranks(codes) for key, codes in block.items()}
+    for (p, *ahead), row in rows.items():
+        if automaton.accepting >> p & 1 and 0 in row.by_code or row.by_code.get(1, 0) & ~automaton.accepting:
+            return False
+        for label in [ahead[0]] if ahead else range(labels):
+            targets = states_in(automaton.ahead(label).rows.get(p, 0))
+            rests = [(*ahead[1:], more) for more in range(labels)] if ahead else [()]
+            if not row_right(automaton, rows, label, [(target, *rest) for target in targets for rest in rests], row):
                 return False
-            for first, *rest in announced:
-                answers = [t for l, t in automaton.moves[q] if l == first]
-                for after in [t for l, t in automaton.moves[p] if l == first]:
-                    row = block.get((after, *rest), {})
-                    codes = [row[t] for t in answers if t in row]
-                    if not codes or code > 1 and not any(0 < c < code for c in codes):
-                        return False
     return True
 
 
@@ -412,53 +714,46 @@ def state_relation(states, labels, letters, block):
     """The pairs of states whose triple stands in the block for each word."""
     words = labels ** (letters - 1)
     if words == 0:
-        return {p: dict.fromkeys(range(states)) for p in range(states)}
+        return dict.fromkeys(range(states), (1 << states) - 1)
     counts = {}
     for (p, *_), rights in block.items():
         row = counts.setdefault(p, {})
         for q in rights:
             row[q] = row.get(q, 0) + 1
-    return {p: {q: 0 for q, count in row.items() if count == words} for p, row in counts.items()}
+    return {p: set_of(q for q, count in row.items() if count == words) for p, row in counts.items()}
 
 
 # ---------------------------------------------------------------- steps of a log
 
 
-def reachable(starts, edges):
-    seen, todo = set(starts), list(starts)
-    while todo:
-        for _, target in edges[todo.pop()]:
-            if target not in seen:
-                seen.add(target)
-                todo.append(target)
-    return seen
-
-
-def useful(automaton, mode):
-    goals = automaton.accepting
-    if mode == "buchi":
-        goals = {q for q in goals if q in reachable([target for _, target in automaton.moves[q]], automaton.moves)}
-    kept = reachable([automaton.initial], automaton.moves) & reachable(goals, automaton.back)
-    return kept if automaton.initial in kept else set()
-
-
 def keep(automaton, kept):
     """The listed states with what lies between them, and the initial state, listed or not."""
+    if len(kept) == automaton.states:
+        return automaton
     listed = set(kept)
     numbers = {state: number for number, state in enumerate(sorted(listed | {automaton.initial}))}
     moves = [(numbers[p], a, numbers[q]) for p, a, q in automaton.transitions if p in listed and q in listed]
-    accepting = [numbers[q] for q in automaton.accepting if q in listed]
+    accepting = set_of(numbers[q] for q in states_in(automaton.accepting) if q in listed)
     return Automaton(len(numbers), numbers[automaton.initial], moves, accepting)
 
 
 def merge(automaton, classes):
+    if max(classes) + 1 == automaton.states:
+        return automaton
     moves = {(classes[p], a, classes[q]) for p, a, q in automaton.transitions}
-    return Automaton(max(classes) + 1, classes[automaton.initial], moves, {classes[q] for q in automaton.accepting})
+    accepting = set_of({classes[q] for q in states_in(automaton.accepting)})
+    return Automaton(max(classes) + 1, classes[automaton.initial], moves, accepting)
 
 
 def cut(automaton, gone):
-    moves = [move for t, move in enumerate(automaton.transitions) if t not in gone]
-    return Automaton(automaton.states, automaton.initial, moves, automaton.accepting)
+    """Without these transitions, which ascend. What is known of the steps by other labels stays known."""
+    moves = list(automaton.transitions)
+    labels = {moves[t][1] for t in gone}
+    for t in reversed(gone):
+        del moves[t]
+    after = Automaton(automaton.states, automaton.initial, moves, automaton.accepting)
+    after.steps = {key: steps for key, steps in automaton.steps.items() if key[0] not in labels}
+    return after
 
 
 def class_shape(automaton, classes):
@@ -480,25 +775,27 @@ def in_ranks(block, states, labels):
     )
 
 
-def taken_apart(block):
-    """The right states of each row, one by one; the last of each run has been looked at before."""
-    return {p: dict.fromkeys(q for first, last in runs for q in range(first, last + 1)) for p, runs in block.items()}
+def as_sets(block):
+    """The right states of each row as a set; the last of each run has been looked at before."""
+    sets = {}
+    for p, runs in block.items():
+        sets[p] = 0
+        for first, last in runs:
+            sets[p] |= (1 << last + 1) - (1 << first)
+    return sets
 
 
 def cut_rules(automaton, pair, gone, blocks):
     """Rules 7 and 8 of a cut of the first log: the rule that is broken, or None."""
-    related = [closure(automaton.states, block) for _, _, block in blocks]
-    identity = [{state} for state in range(automaton.states)]
-    back = identity if pair == 1 else related[0]
-    ahead = identity if pair == 2 else related[-1]
+    closures = [Closure(block) for _, _, block in blocks]
+    sources = Identity if pair == 1 else closures[0]
+    targets = Identity if pair == 2 else closures[-1]
     moves = [(automaton.transitions[t], automaton.transitions[b]) for t, b in gone]
     for (p, a, r), (q, b, s) in moves:
-        if a != b or q not in back[p] or s not in ahead[r]:
+        if a != b or not sources.relates(p, q) or not targets.relates(r, s):
             return 7
-    strict = ahead if pair in (1, 3) else back
     for (p, _, r), (q, _, s) in moves:
-        there, here = (s, r) if pair in (1, 3) else (q, p)
-        if here in strict[there]:
+        if targets.relates(s, r) if pair in (1, 3) else sources.relates(q, p):
             return 8
     return None
 
@@ -508,18 +805,19 @@ def first_step(automaton, mode, step):
     if step[0] == "trim":
         if any(state >= automaton.states for state in step[1]):
             return 1, None
-        return (2, None) if useful(automaton, mode) - set(step[1]) else (None, keep(automaton, step[1]))
+        return (2, None) if automaton.useful[mode] & ~set_of(step[1]) else (None, keep(automaton, step[1]))
     if step[0] == "merge":
         return (None, merge(automaton, step[1])) if class_shape(automaton, step[1]) else (3, None)
     _, pair, look, gone, blocks = step
     count = len(automaton.transitions)
-    if not 1 <= look <= 6 or any(t >= count or b >= count for t, b in gone) or not all(in_block(b, automaton.states) for _, _, b in blocks):
+    named = all(t < count and b < count for t, b in gone) and all(in_block(block, automaton.states) for _, _, block in blocks)
+    if not 1 <= look <= 6 or not named:
         return 1, None
-    blocks = [(side, k, taken_apart(block)) for side, k, block in blocks]
+    blocks = [(side, k, as_sets(block)) for side, k, block in blocks]
     if not all(stable(automaton, side, k, block) for side, k, block in blocks):
         return 4, None
     rule = cut_rules(automaton, pair, gone, blocks)
-    return (rule, None) if rule else (None, cut(automaton, {t for t, _ in gone}))
+    return (rule, None) if rule else (None, cut(automaton, [t for t, _ in gone]))
 
 
 def second_step(automaton, labels, step):
@@ -528,7 +826,7 @@ def second_step(automaton, labels, step):
         return (1, None) if any(state >= automaton.states for state in step[1]) else (None, keep(automaton, step[1]))
     if step[0] == "cut":
         fine = all(t < len(automaton.transitions) for t in step[1])
-        return (None, cut(automaton, set(step[1]))) if fine else (1, None)
+        return (None, cut(automaton, step[1])) if fine else (1, None)
     _, classes, by, number, block = step
     states = automaton.states
     named = in_ranks(block, states, labels) if by == "delayed" else 1 <= number <= 6 and in_block(block, states)
@@ -541,14 +839,14 @@ def second_step(automaton, labels, step):
             return 5, None
         block = state_relation(states, labels, number, block)
     else:
-        block = taken_apart(block)
+        block = as_sets(block)
         if not stable(automaton, by, number, block):
             return 4, None
-    related = closure(automaton.states, block)
+    closure = Closure(block)
     members = sorted(range(automaton.states), key=lambda state: classes[state])
     for _, group in groupby(members, key=lambda state: classes[state]):
         group = list(group)
-        if any(q not in related[p] or p not in related[q] for p, q in zip(group, group[1:])):
+        if not all(closure.relates(p, q) and closure.relates(q, p) for p, q in zip(group, group[1:])):
             return 6, None
     return None, merge(automaton, classes)
 
@@ -556,45 +854,56 @@ def second_step(automaton, labels, step):
 # ---------------------------------------------------------------- elements
 
 
+def runs_in(mask):
+    """The runs of states that follow one another in a set, each as its first and its last one."""
+    runs = []
+    for state in states_in(mask):
+        if runs and runs[-1][1] == state - 1:
+            runs[-1][1] = state
+        else:
+            runs.append([state, state])
+    return runs
+
+
+class Unions:
+    """Unions of sets that follow one another in a list, put together from two whose number is a power of two."""
+
+    def __init__(self, sets):
+        self.levels = [sets]
+
+    def over(self, first, last):
+        level = (last - first + 1).bit_length() - 1
+        while len(self.levels) <= level:
+            below, half = self.levels[-1], 1 << len(self.levels) - 1
+            self.levels.append([one | other for one, other in zip(below, below[half:])])
+        return self.levels[level][first] | self.levels[level][last + 1 - (1 << level)]
+
+
 class Buchi:
-    """Elements as an arc with a graph; a graph is a dictionary from a state to {state: value}, kept as a tuple so that it compares."""
+    """Elements as an arc (from, to, flag) with a graph."""
 
     def __init__(self, first, second):
-        self.first, self.second, self.order = first, second, {}
-        self.letters, self.extended, self.covered = {}, {}, {}
-
-    def letter(self, label):
-        if label not in self.letters:
-            graph = {}
-            for source, target in self.second.by_label.get(label, ()):
-                graph.setdefault(source, {})[target] = 2 if target in self.second.accepting else 1
-            self.letters[label] = self.closed(graph)
-        return self.letters[label]
-
-    @staticmethod
-    def closed(graph):
-        return tuple(sorted((p, tuple(sorted(row.items()))) for p, row in graph.items()))
+        self.first, self.second, self.order, self.runs = first, second, {}, None
+        self.graphs, self.last = {}, (None, {})
 
     def extend(self, graph, label):
-        key = (graph, label)
-        if key not in self.extended:
-            step = {p: dict(row) for p, row in self.letter(label)}
-            made = {}
-            for p, row in graph:
-                for q, value in row:
-                    for r, further in step.get(q, {}).items():
-                        arcs = made.setdefault(p, {})
-                        arcs[r] = max(arcs.get(r, 0), value, further)
-            self.extended[key] = self.closed(made)
-        return self.extended[key]
+        """The graph that goes on; of the last graph all that were made of it are kept."""
+        if self.last[0] is not graph:
+            self.last = graph, {}
+        made = self.last[1]
+        if label not in made:
+            made[label] = extended(self.second, graph, self.second.arrivals(label))
+        return made[label]
 
     def base(self, t):
         source, label, target = self.first.transitions[t]
-        return source, target, target in self.first.accepting, self.letter(label)
+        if label not in self.graphs:
+            self.graphs[label] = graph_of(self.second, label)
+        return source, target, self.first.accepting >> target & 1, self.graphs[label]
 
     def next(self, x, t):
         _, label, target = self.first.transitions[t]
-        return x[0], target, x[2] or target in self.first.accepting, self.extend(x[3], label)
+        return x[0], target, x[2] | self.first.accepting >> target & 1, self.extend(x[3], label)
 
     @staticmethod
     def at(x):
@@ -604,39 +913,35 @@ class Buchi:
         return [self.base(t) for t in range(len(self.first.transitions))]
 
     def covers(self, g, h):
-        key = (g, h)
-        if key not in self.covered:
-            rows = {p: dict(row) for p, row in h}
-            self.covered[key] = all(
-                any(rows.get(p, {}).get(t, 0) >= value for t in self.order.get(q, ())) for p, row in g for q, value in row
-            )
-        return self.covered[key]
+        """Whether each arc of g has one of h from the same state to one that the order relates its target to."""
+        if self.runs is None:
+            self.runs = {t: runs_in(row) for t, row in self.order.items()}
+        unions = Unions(h)
+        for t, arcs in enumerate(g):
+            if arcs and not (self.order.get(t, 0) >> t & 1 and not arcs & ~h[t]):
+                for first, last in self.runs.get(t, ()):
+                    arcs &= ~unions.over(first, last)
+                    if not arcs:
+                        break
+                if arcs:
+                    return False
+        return True
 
     def subsumes(self, x, y):
-        return x[:2] == y[:2] and (x[2] or not y[2]) and self.covers(x[3], y[3])
-
-    def good(self, graph):
-        """The states from which some way along the graph's arcs comes twice to a state, with a value 2 between."""
-        edges = {p: dict(row) for p, row in graph}
-        steps = [[(0, q) for q in edges.get(p, ())] for p in range(self.second.states)]
-        back = [[] for _ in range(self.second.states)]
-        for p, row in graph:
-            for q, _ in row:
-                back[q].append((0, p))
-        on_cycle = {p for p, row in graph for q, value in row if value == 2 and p in reachable([q], steps)}
-        return reachable(on_cycle, back)
+        return x[:2] == y[:2] and x[2] >= y[2] and self.covers(x[3], y[3])
 
     def failing(self, live):
-        good = {}
+        """The place of the first live element that has no lasso with some live element, or None."""
+        turns, initial = {}, self.second.initial
+        for _, y in live:
+            if y[0] == y[1] and y[2]:
+                turns.setdefault(y[0], {})[y[3]] = None
+        goods = {p: {endless(self.second, graph) for graph in graphs} for p, graphs in turns.items()}
         for place, x in live:
             if x[0] == self.first.initial:
-                row = {q for p, targets in x[3] if p == self.second.initial for q, _ in targets}
-                for _, y in live:
-                    if y[0] == y[1] == x[1] and y[2]:
-                        if y[3] not in good:
-                            good[y[3]] = self.good(y[3])
-                        if not row & good[y[3]]:
-                            return place
+                row = set_of(q for q, arcs in enumerate(x[3]) if arcs >> initial & 1)
+                if any(not row & good for good in goods.get(x[1], ())):
+                    return place
         return None
 
 
@@ -647,11 +952,11 @@ class Finite:
         self.first, self.second, self.order = first, second, {}
 
     def start(self):
-        return self.first.initial, frozenset([self.second.initial])
+        return self.first.initial, 1 << self.second.initial
 
     def next(self, x, t):
         _, label, target = self.first.transitions[t]
-        return target, frozenset(q for p, q in self.second.by_label.get(label, ()) if p in x[1])
+        return target, self.second.ahead(label).of(x[1])
 
     @staticmethod
     def at(x):
@@ -661,11 +966,11 @@ class Finite:
         return [self.start()]
 
     def subsumes(self, x, y):
-        return x[0] == y[0] and all(any(t in y[1] for t in self.order.get(q, ())) for q in x[1])
+        return x[0] == y[0] and all(self.order.get(q, 0) & y[1] for q in states_in(x[1]))
 
     def failing(self, live):
         for place, x in live:
-            if x[0] in self.first.accepting and not x[1] & self.second.accepting:
+            if self.first.accepting >> x[0] & 1 and not x[1] & self.second.accepting:
                 return place
         return None
 
@@ -700,7 +1005,7 @@ def check_yes(search, cert, item):
     second = search.second
     if not in_block(cert["order"], second.states):
         broken(item, 1)
-    search.order = taken_apart(cert["order"])
+    search.order = as_sets(cert["order"])
     if not stable(second, "forward", 1, search.order):
         broken(item, 9)
     item += 1
@@ -745,29 +1050,21 @@ def check_list(search, cert, item):
         seen.add(x)
 
 
-def accepts_word(automaton, word):
-    states = {automaton.initial}
+def states_after(automaton, word):
+    """The states that runs on the word lead to."""
+    mask = 1 << automaton.initial
     for label in word:
-        states = {q for p, q in automaton.by_label.get(label, ()) if p in states}
-    return bool(states & automaton.accepting)
+        mask = automaton.ahead(label).of(mask)
+    return mask
+
+
+def accepts_word(automaton, word):
+    return states_after(automaton, word) & automaton.accepting != 0
 
 
 def accepts_lasso(automaton, prefix, turn):
-    """Whether a cycle past an accepting state is reached in the product of states and places of the loop."""
-    states = {automaton.initial}
-    for label in prefix:
-        states = {q for p, q in automaton.by_label.get(label, ()) if p in states}
-    size = len(turn)
-    steps = [[] for _ in range(automaton.states * size)]
-    back = [[] for _ in range(automaton.states * size)]
-    for place, label in enumerate(turn):
-        for p, q in automaton.by_label.get(label, ()):
-            here, there = p * size + place, q * size + (place + 1) % size
-            steps[here].append((0, there))
-            back[there].append((0, here))
-    met = reachable([p * size for p in states], steps)
-    goals = [node for node in met if node // size in automaton.accepting]
-    return any(node in reachable([target for _, target in steps[node]], steps) for node in goals)
+    """Whether from a state that the prefix leads to arcs of the loop's graph come twice to a state, with a value 2 between."""
+    return states_after(automaton, prefix) & endless(automaton, graph_of_word(automaton, turn)) != 0
 
 
 def check_no(first, second, labels, cert):
@@ -822,8 +1119,8 @@ def check_cross(first, second, labels, cross):
     rows = cross["block"]
     if any(p >= first.states or runs[-1][1] >= second.states for p, runs in rows.items()):
         broken(2, 1)
-    block = taken_apart(rows)
-    if second.initial not in block.get(first.initial, ()):
+    block = as_sets(rows)
+    if not block.get(first.initial, 0) >> second.initial & 1:
         broken(2, 19)
     if not stable_across(first, second, cross["look"], block):
         broken(2, 20)
