@@ -1,0 +1,228 @@
+"""`draw` and `explain`: certificates of the program in pictures and in words."""
+import json
+import random
+import unittest
+
+from helping import TOP, Case, ask, ba_accepts, call, needs, needs_program, program, random_ba
+from rabit_tool import automata, certificates, drawing, explaining, files, logs, runs
+
+MUTEX = TOP / "examples" / "mutex"
+
+
+@needs_program
+class Explain(Case):
+    def pair(self, rnd, states=5, one_accepts=False):
+        second = random_ba(rnd, states, "ab", dense=2 * one_accepts)
+        if one_accepts:
+            moves = [line for line in second.split("\n") if "," in line]
+            second = "\n".join([*moves, f"[{rnd.randrange(states)}]", ""])
+        return self.write("a.ba", random_ba(rnd, states, "ab")), self.write("b.ba", second)
+
+    def walks(self, automaton, moves, labels):
+        """Whether the moves, as names, follow one another in the automaton along the labels."""
+        named = {(automaton.names[p], automaton.labels[a], automaton.names[q]) for p, a, q in automaton.transitions}
+        chained = all(one[2] == two[0] for one, two in zip(moves, moves[1:]))
+        return chained and all(tuple(move) in named for move in moves) and [move[1] for move in moves] == labels
+
+    def test_counterexamples_are_runs(self):
+        rnd, counts, ended, going = random.Random(31), 0, 0, 0
+        for number in range(200):
+            first, second = self.pair(rnd, 5, number % 2 == 1)
+            if ask("include", first, second, self.folder / "c")[0] != 1:
+                continue
+            told = explaining.explain([first, second, self.folder / "c"], program())
+            one, two = self.read(first), automata.join(self.read(first), self.read(second))
+            stem, cycle, prefix, loop = told["run"]["stem"], told["run"]["cycle"], told["prefix"], told["loop"]
+            turns = (prefix + loop * (len(stem) + len(cycle) + 1))[: len(stem) + len(cycle)]
+            self.assertTrue(self.walks(one, stem + cycle, turns))
+            self.assertEqual((stem + cycle)[-1][2], cycle[0][0])
+            self.assertEqual((len(cycle) % len(loop), len(stem) >= len(prefix)), (0, True))
+            passed = {move[0] for move in cycle}
+            self.assertTrue(set(told["run"]["accepting"]) <= passed & {one.names[q] for q in one.accepting})
+            why, at = told["rejected"], {two.initial}
+            for number, shown in enumerate(why["sets"]):
+                self.assertEqual(shown, [two.names[q] for q in sorted(at)])
+                at = two.after(at, two.labels.index((prefix + loop * 99)[number]))
+            self.assertEqual(why["ends"], why["sets"][-1] == [])
+            self.assertEqual(bool(why["turning"]), not why["ends"])
+            ended, going, counts = ended + why["ends"], going + (not why["ends"]), counts + 1
+        self.assertTrue(ended > 10 and going > 10 and counts > 40, (ended, going, counts))
+
+    def test_words(self):
+        rnd, counts = random.Random(32), 0
+        for _ in range(80):
+            first, second = self.pair(rnd)
+            if ask("include", first, second, self.folder / "c", "--finite")[0] != 1:
+                continue
+            told = explaining.explain([first, second, self.folder / "c"], program())
+            self.assertTrue(self.walks(self.read(first), told["run"]["stem"], told["word"]))
+            self.assertEqual(told["run"]["cycle"], [])
+            two = self.read(second)
+            accepting = {two.names[q] for q in two.accepting}
+            self.assertFalse(accepting & set(told["rejected"]["sets"][-1]))
+            text = "\n".join(explaining.text_of(told))
+            self.assertIn("All runs have ended" if told["rejected"]["ends"] else "None of the last is accepting.", text)
+            counts += 1
+        self.assertGreater(counts, 20)
+
+    def test_a_yes_in_numbers(self):
+        rnd, steps = random.Random(33), 0
+        for version in (1, 2):
+            for _ in range(40):
+                first, second = self.pair(rnd, 8)
+                options = ["--letters", "2"] if version == 2 else []
+                if ask("include", first, second, self.folder / "c", *options)[0] != 0:
+                    continue
+                told = explaining.explain([first, second, self.folder / "c"], program())
+                lines = (self.folder / "c").read_text().split("\n")
+                self.assertEqual((told["version"], told["verdict"]), (version, "included"))
+                self.assertIn(f"elements {told['elements']}", lines)
+                self.assertEqual(told["live"], sum(line.startswith("live ") for line in lines))
+                for which in ("first", "second"):
+                    sizes = [told[which]] + [step["after"] for step in told["reduced"][which]]
+                    self.assertEqual(sizes[:-1], [step["before"] for step in told["reduced"][which]])
+                    steps += len(sizes) - 1
+                # what is left of the second automaton is what the order speaks of
+                left = told["reduced"]["second"][-1]["after"] if told["reduced"]["second"] else told["second"]
+                rows = certificates.load(str(self.folder / "c"))["order"]
+                self.assertEqual(len(rows), left["states"])
+                explaining.text_of(told)
+        self.assertGreater(steps, 60)
+
+    def test_the_tutorial(self):
+        ask("include", MUTEX / "broken.ba", MUTEX / "exclusion.ba", self.folder / "no.cert")
+        status, output, _ = call(
+            "explain", MUTEX / "broken.ba", MUTEX / "exclusion.ba", self.folder / "no.cert", "--program", program()
+        )
+        self.assertEqual(status, 0)
+        for line in (
+            "not included",
+            "A: 32 states, 60 transitions, 32 accepting",
+            "  prefix turn0,turn1,flag1,enter1,flag0,enter0,leave0",
+            "  waits/inside/flags11/turn0 --enter0--> inside/inside/flags11/turn0",
+            "  after flag0 (5): {in1}",
+            "All runs have ended after letter 6.",
+        ):
+            self.assertIn(line, output.split("\n"))
+        ask("include", MUTEX / "peterson.ba", MUTEX / "exclusion.ba", self.folder / "yes.cert")
+        words = [
+            "explain", MUTEX / "peterson.ba", MUTEX / "exclusion.ba", self.folder / "yes.cert", "--program", program()
+        ]
+        self.assertIn("  states merged: 20 to 16 states, 34 to 26 transitions\n", call(*words)[1])
+        told = json.loads(call(*words, "--json")[1])
+        self.assertEqual((told["elements"], told["live"], told["order"]), (293, 256, 3))
+        ask("include", MUTEX / "peterson.ba", MUTEX / "exclusion.ba", self.folder / "list.cert", "--limit", 100)
+        words[3] = self.folder / "list.cert"
+        self.assertIn("The search met its limit, 100: 101 elements", call(*words)[1])
+        ask("cross", MUTEX / "peterson.ba", MUTEX / "exclusion.ba", self.folder / "yes.cross")
+        words[3] = self.folder / "yes.cross"
+        self.assertIn("20 pairs of a state of A and one of B that follows it, looking 3 moves ahead", call(*words)[1])
+
+    def test_what_the_program_refuses_is_not_told(self):
+        first, second = self.write("a.ba", "0\na,0->0\n"), self.write("b.ba", "0\nb,0->0\n")
+        text = "rabit-cert 1 buchi no\nsizes 1 1 2\nprefix\nloop {}\nend\n"
+        for label, status in ((0, 0), (1, 5), (7, 5)):
+            words = [first, second, self.write("c", text.format(label)), "--program", program()]
+            self.assertEqual(call("explain", *words)[0], status)
+        self.assertIn(
+            "rule 16", call("explain", first, second, self.write("c", text.format(1)), "--program", program())[2]
+        )
+        self.assertEqual(
+            call("explain", first, second, self.write("c", "rabit-cert 1\n"), "--program", program())[0], 5
+        )
+        self.assertEqual(call("explain", first, second, self.folder / "none", "--program", program())[0], 6)
+        self.assertEqual(call("explain", first, second, first, "--program", program())[0], 5)
+        self.assertEqual(call("explain", first, second, self.write("c", text.format(0)), "--program", "/none")[0], 9)
+
+    def test_damaged_certificates(self):
+        rnd, texts = random.Random(34), []
+        for number in range(12):
+            first, second = self.pair(rnd, 6)
+            ask("include", first, second, self.folder / "c", *(["--letters", "2"] if number % 2 else []))
+            texts.append((self.read(first), (self.folder / "c").read_bytes()))
+        for _ in range(1500):
+            made, data = rnd.choice(texts)
+            data = bytearray(data)
+            for _ in range(rnd.randrange(1, 3)):
+                at = rnd.randrange(len(data))
+                data[at : at + rnd.randrange(2)] = rnd.choice([b"", b"9", b"0", b" ", b"\n", b"x", b"999999999"])
+            try:
+                drawing.drawn_with(made, certificates.read(bytes(data)), "c")
+            except files.Refusal as refusal:
+                self.assertEqual(refusal.status, 5)
+
+
+class Runs(unittest.TestCase):
+    def test_runs_are_found_where_they_are(self):
+        rnd = random.Random(35)
+        for _ in range(300):
+            made = automata.read_ba(files.encoded(random_ba(rnd, 5, "ab")))
+            if len(made.labels) < 2:
+                continue
+            prefix, loop = [rnd.randrange(2) for _ in range(rnd.randrange(3))], [
+                rnd.randrange(2) for _ in range(rnd.randrange(1, 4))
+            ]
+            named = [[made.labels[label] for label in word] for word in (prefix, loop)]
+            run = runs.accepting_run(made, runs.Lasso(prefix, loop))
+            self.assertEqual(run is not None, ba_accepts(made, *named))
+            word = prefix + loop
+            sets = runs.sets_along(made, word)
+            right = len(sets) == len(word) + 1 and bool(sets[-1] & made.accepting)
+            self.assertEqual(runs.word_run(made, word) is not None, right)
+
+
+class Draw(Case):
+    @needs_program
+    @needs("dot", "graphviz")
+    def test_pictures(self):
+        ask("include", MUTEX / "broken.ba", MUTEX / "exclusion.ba", self.folder / "no.cert")
+        self.assertEqual(call("draw", MUTEX / "broken.ba", self.folder / "no.cert", "-o", self.folder / "no.svg")[0], 0)
+        svg = (self.folder / "no.svg").read_text()
+        self.assertGreaterEqual(svg.count(drawing.PREFIX), 7)
+        self.assertGreaterEqual(svg.count(drawing.LOOP), 4)
+        ask("cross", MUTEX / "peterson.ba", MUTEX / "exclusion.ba", self.folder / "yes.cross")
+        self.assertEqual(
+            call("draw", MUTEX / "peterson.ba", self.folder / "yes.cross", "-o", self.folder / "yes.png")[0], 0
+        )
+        self.assertEqual((self.folder / "yes.png").read_bytes()[:8], b"\x89PNG\r\n\x1a\n")
+        self.assertEqual(call("draw", MUTEX / "broken.ba")[1].count('class="node"'), 32)
+
+    @needs_program
+    def test_texts(self):
+        ask("include", MUTEX / "peterson.ba", MUTEX / "exclusion.ba", self.folder / "yes.cert")
+        text = drawing.drawn_with(
+            self.read(MUTEX / "peterson.ba"), certificates.load(str(self.folder / "yes.cert")), "yes.cert"
+        )
+        self.assertIn("included: 293 elements, 256 of them live", text)
+        self.assertIn("… 232 more", text)
+        self.assertEqual(text.count("<tr>"), 1 + drawing.ROWS + 1)
+        ask("include", MUTEX / "broken.ba", MUTEX / "exclusion.ba", self.folder / "word.cert", "--finite")
+        text = drawing.drawn_with(
+            self.read(MUTEX / "broken.ba"), certificates.load(str(self.folder / "word.cert")), "word.cert"
+        )
+        self.assertEqual((text.count(f'color="{drawing.PREFIX}", fontcolor'), drawing.LOOP in text), (6, False))
+
+    def test_statuses(self):
+        path = self.write("a.ba", "0\na,0->0\n")
+        no = self.write("c", "rabit-cert 1 buchi no\nsizes 1 1 2\nprefix\nloop 1\nend\n")
+        self.assertEqual(call("draw", path, "-o", self.folder / "a.jpg")[0], 3)
+        self.assertEqual(call("draw", self.folder / "none")[0], 6)
+        self.assertEqual(call("draw", path, no)[0], 5)
+        self.assertEqual(
+            call("draw", path, self.write("d", "rabit-cert 1 buchi no\nsizes 2 1 2\nprefix\nloop 0\nend\n"))[0], 5
+        )
+
+    def test_steps_are_taken_as_the_format_says(self):
+        made = automata.read_ba(b"0\na,0->1\na,1->2\na,2->0\nb,1->1\n0\n1\n")
+        after = logs.taken(
+            made, [{"step": "trim", "states": [1, 2]}, {"step": "merge", "by": None, "classes": [0, 1, 1]}]
+        )
+        self.assertEqual((after[1].names, after[1].initial, after[1].accepting), (["0", "1", "2"], 0, {1}))
+        self.assertEqual(after[1].transitions, [(1, 0, 2), (1, 1, 1)])
+        self.assertEqual((after[2].names, after[2].transitions), (["0", "1 = 2"], [(1, 0, 1), (1, 1, 1)]))
+        with self.assertRaises(files.Refusal):
+            logs.taken(made, [{"step": "cut", "gone": [4]}])
+
+
+if __name__ == "__main__":
+    unittest.main()

@@ -1,0 +1,241 @@
+"""`many`: five hundred questions, a run that is killed, two hosts, and checks that refuse."""
+import os
+import random
+import re
+import shutil
+import signal
+import stat
+import subprocess
+import sys
+import time
+import unittest
+
+from helping import TOOL, Case, ask, call, needs, needs_program, program, random_ba
+from rabit_tool import batch, many, results
+
+# stands for ssh: the host is a name alone, and its commands run here, in a folder and an environment of their own
+SSH = """#!/bin/sh
+while [ $# -gt 0 ]; do case "$1" in --) shift; break;; -[oiplFS]) shift 2;; -*) shift;; *) break;; esac; done
+host=$1; shift
+[ "$1" = -- ] && shift
+echo "$host" >> {log}
+cd {folder} && exec env -i PATH=/usr/bin:/bin HOME={folder} sh -c "$*"
+"""
+
+
+@needs("parallel")
+@needs_program
+class Many(Case):
+    def questions(self, count, seed, states=6):
+        """The list of so many random questions, and its path."""
+        rnd, lines = random.Random(seed), []
+        for number in range(count):
+            self.write(f"{number}.ba", random_ba(rnd, states, "ab"))
+        for number in range(count):
+            lines.append(f"{self.folder}/{number}.ba {self.folder}/{rnd.randrange(count)}.ba")
+        return lines, self.write("list", "\n".join(lines) + "\n")
+
+    def started(self, *words):
+        return subprocess.Popen(
+            [sys.executable, str(TOOL), "many", *map(str, words)], stderr=subprocess.PIPE, env={
+                **os.environ, "RABIT": program()
+            }
+        )
+
+    def run_many(self, *words):
+        process = self.started(*words)
+        told = process.communicate(timeout=100)[1].decode()
+        return process.returncode, told
+
+    def rows(self, out):
+        return results.loaded(str(out))[0].rows
+
+    def check_rows(self, lines, out):
+        """Each row has what the program says of its question, and its certificate is the program's."""
+        rows = self.rows(out)
+        self.assertEqual(sorted(rows), list(range(1, len(lines) + 1)))
+        for number, line in enumerate(lines, 1):
+            first, second = line.split()
+            status, printed = ask("include", first, second, self.folder / "c")
+            row = rows[number]
+            self.assertEqual((row["first"], row["second"], row["status"]), (first, second, str(status)))
+            self.assertEqual((row["verdict"], row["check"]), (printed.split("\n")[0], "accepted"))
+            self.assertEqual((out / "certificates" / f"{number}.cert").read_bytes(), (self.folder / "c").read_bytes())
+
+    def test_500_questions_and_a_killed_run(self):
+        lines, path = self.questions(500, 41)
+        out, words = self.folder / "out", ("--together", 4, "--jobs", 4)
+        counts = []
+        for kind in (signal.SIGKILL, signal.SIGTERM):
+            process = self.started(path, "--out", out, *words, *(["--resume"] if counts else []))
+            table, least = out / "table.tsv", (counts or [1])[-1] + 12
+            until = time.monotonic() + 60
+            while process.poll() is None and time.monotonic() < until:
+                if table.exists() and table.read_bytes().count(b"\n") > least:
+                    break
+                time.sleep(0.02)
+            process.send_signal(kind)
+            process.communicate(timeout=30)
+            self.assertEqual(process.returncode, -9 if kind == signal.SIGKILL else 130)
+            counts.append(table.read_bytes().count(b"\n"))
+        self.assertTrue(1 < counts[0] < counts[1] < 501, counts)
+        # a row that was written in part, as where the machine stops
+        with open(out / "table.tsv", "ab") as file:
+            file.write(b"499\tunfinished")
+        self.assertEqual(self.run_many(path, "--out", out, *words)[0], 3)
+        status, told = self.run_many(path, "--out", out, "--together", 8, "--resume")
+        self.assertEqual(status, 0, told)
+        self.assertRegex(told.strip().split("\n")[-1], r"^(\d+) of \1 in \d+ s \(\d+\.\d a second\): ")
+        self.check_rows(lines, out)
+        self.assertEqual(len((out / "table.tsv").read_text().split("\n")), 502)
+        self.assertEqual(self.run_many(path, "--out", out, "--resume"), (0, ""))
+        self.assertEqual(self.run_many(path, "--out", out, "--resume", "--second")[0], 3)
+
+    def test_two_hosts_and_the_second_checker(self):
+        lines, path = self.questions(40, 42)
+        for host in ("one", "two"):
+            (self.folder / host).mkdir()
+        ssh = self.write("ssh", SSH.format(log=self.folder / "log", folder=self.folder / "one"))
+        ssh.chmod(ssh.stat().st_mode | stat.S_IXUSR)
+        hosts, out = self.write("hosts", "2/one\n2/two\n"), self.folder / "out"
+        words = (path, "--out", out, "--hosts", hosts, "--ssh", ssh, "--second", "--together", 4)
+        status, told = self.run_many(*words)
+        self.assertEqual(status, 0, told)
+        self.check_rows(lines, out)
+        self.assertEqual({row["second check"] for row in self.rows(out).values()}, {"accepted"})
+        asked = (self.folder / "log").read_text().split()
+        self.assertTrue(asked.count("one") > 1 and asked.count("two") > 1, asked)
+        self.assertEqual(list((self.folder / "one").iterdir()), [])
+
+    def test_what_has_no_verdict(self):
+        good, bad = self.write("good.ba", "0\na,0->0\n"), self.write("bad.ba", "0\na,0\n")
+        odd = self.write("two words.ba", "0\na,0->0\n")
+        text = f"# a comment\n\n{good} {good}\n{bad} {good}\n{good} {self.folder}/none.ba\n{odd}\t{good}\n"
+        path, out = self.write("list", text), self.folder / "out"
+        status, told = self.run_many(path, "--out", out)
+        rows = self.rows(out)
+        self.assertEqual(status, 1)
+        self.assertEqual(
+            [rows[number]["verdict"] for number in (1, 2, 4)], ["included", "file 1 line 2: Shape", "included"]
+        )
+        self.assertEqual(rows[3]["verdict"], f"error: {self.folder}/none.ba: No such file or directory")
+        self.assertIn("no verdict: 2: 2 3", told)
+        # what could not be read is asked again
+        self.write("none.ba", "0\nb,0->0\n")
+        self.assertEqual(self.run_many(path, "--out", out, "--resume")[0], 1)
+        self.assertEqual(self.rows(out)[3]["verdict"], "not included")
+        self.assertEqual(len((out / "table.tsv").read_text().split("\n")), 7)
+
+    def test_other_commands_options_and_time(self):
+        good = self.write("good.ba", "0\na,0->0\n")
+        path = self.write("list", f"{good} {good}\n")
+        status, told = self.run_many(path, "--command", "cross --look 2", "--second")
+        self.assertEqual(status, 0, told)
+        row = self.rows(self.folder / "list.results")[1]
+        self.assertEqual(
+            [row[c] for c in ("verdict", "check", "second check")], ["included by simulation", "accepted", "accepted"]
+        )
+        shutil.rmtree(self.folder / "list.results")
+        slow = self.write("slow", f"#!/bin/sh\n[ $2 = --look ] && sleep 50\nexec {program()} \"$@\"\n")
+        slow.chmod(slow.stat().st_mode | stat.S_IXUSR)
+        status, _ = self.run_many(
+            path, "--command", "include --look 6 --limit 3 --finite", "--timeout", "0.5", "--program", slow
+        )
+        self.assertEqual((status, self.rows(self.folder / "list.results")[1]["verdict"]), (1, "more than 0.5 seconds"))
+        shutil.rmtree(self.folder / "list.results")
+        self.assertEqual(self.run_many(path, "--command", "include --finite")[0], 0)
+        self.assertEqual(self.rows(self.folder / "list.results")[1]["verdict"], "included, finite")
+
+    def test_a_program_that_is_wrong_is_found_out(self):
+        call_it = program() + ' "$@"'
+        liar = f"#!/bin/sh\n[ $1 = include ] && {{ {call_it} >/dev/null; echo included; exit 0; }}\nexec {call_it}\n"
+        path = self.write("liar", liar)
+        path.chmod(path.stat().st_mode | stat.S_IXUSR)
+        one, two = self.write("1.ba", "0\na,0->0\n"), self.write("2.ba", "0\nb,0->0\n")
+        status, told = self.run_many(
+            self.write("list", f"{one} {two}\n"), "--program", path, "--second", "--out", self.folder / "out"
+        )
+        self.assertEqual((status, "a check refused the certificate of 1: 1" in told), (1, True), told)
+        row = self.rows(self.folder / "out")[1]
+        self.assertEqual((row["check"], row["second check"]), ("refused: not included",) * 2)
+
+    def test_a_host_without_the_program(self):
+        one = self.write("1.ba", "0\na,0->0\n")
+        out, ssh = self.folder / "out", self.write("ssh", SSH.format(log=self.folder / "log", folder=self.folder))
+        ssh.chmod(ssh.stat().st_mode | stat.S_IXUSR)
+        copy = self.folder / "rabit"
+        shutil.copy(program(), copy)
+        gone = self.write("gone", ssh.read_text().replace("while", f"rm -f {copy}\nwhile", 1))
+        gone.chmod(gone.stat().st_mode | stat.S_IXUSR)
+        words = (
+            self.write("list", f"{one} {one}\n"),
+            "--out",
+            out,
+            "--program",
+            copy,
+            "--hosts",
+            self.write("hosts", "1/one\n"),
+        )
+        self.assertEqual(self.run_many(*words, "--ssh", gone)[0], 1)
+        self.assertEqual(self.rows(out)[1]["verdict"], f"error: no program: {copy}")
+        shutil.copy(program(), copy)
+        self.assertEqual(self.run_many(*words, "--ssh", ssh, "--resume")[0], 0)
+
+    def test_a_host_that_is_down(self):
+        lines, path = self.questions(20, 44)
+        ssh = self.write("ssh", SSH.format(log=self.folder / "log", folder=self.folder))
+        text = ssh.read_text().replace('echo "$host"', '[ "$host" = two ] && exit 255\necho "$host"')
+        down = self.write("down", text)
+        down.chmod(down.stat().st_mode | stat.S_IXUSR)
+        words = ("--hosts", self.write("hosts", "1/one\n1/two\n"), "--ssh", down, "--out", self.folder / "out")
+        status, told = self.run_many(path, *words)
+        self.assertEqual(status, 0, told)
+        self.check_rows(lines, self.folder / "out")
+
+    def test_two_runs_in_one_folder(self):
+        path, out = self.write("list", "a b\n"), self.folder / "out"
+        with many.locked(str(out)):
+            self.assertEqual(self.run_many(path, "--out", out)[0], 3)
+
+
+class Refusals(Case):
+    def test_words(self):
+        path = self.write("list", "a b\n")
+        commands = [["--command", text] for text in ("drill 1 2 3", "include x", "", "include 'x")]
+        numbers = [["--jobs", "0"], ["--together", "-1"], ["--timeout", "nan"], ["--jobs", "x"], ["--timeout", "0"]]
+        for words in commands + numbers:
+            self.assertEqual(call("many", path, "--out", self.folder / "o", *words)[0], 3, words)
+            self.assertFalse((self.folder / "o").exists())
+        self.assertEqual(call("many")[0], 3)
+        self.assertEqual(call("many", self.folder / "none")[0], 6)
+        self.assertEqual(call("many", path, "--hosts", self.write("hosts", "\n"))[0], 6)
+
+    def test_lists(self):
+        for text, line in (("a b\nc\n", 2), ("a b c\n", 1), ("a\t\n", 1), ("a\tb\tc\n", 1), ("a \0\n", 1)):
+            status, _, errors = call("many", self.write("list", text))
+            self.assertEqual((status, re.search(r"line (\d+)", errors).group(1)), (4, str(line)), text)
+        self.assertEqual(call("many", self.write("list", "# nothing\n"))[0], 4)
+
+    def test_lines_that_are_no_answers(self):
+        whole = b'{"number": 1, "host": "h"}'
+        for line in (b"", b"1", b"[]", b"{}", b"null", b'"x"', b'{"number": 1}', whole[:-1], b"Welcome\n", b"\xff"):
+            self.assertIsNone(batch.answer_of(line))
+        self.assertEqual(batch.answer_of(whole), {"number": 1, "host": "h"})
+
+    @needs("parallel")
+    @needs_program
+    def test_other_folders(self):
+        path, out = self.write("list", "a b\n"), self.folder / "out"
+        out.mkdir()
+        for name, text in (("questions.json", "{}"), ("questions.json", "[]"), ("questions.json", "{")):
+            (out / name).write_text(text)
+            self.assertEqual(call("many", path, "--out", out, "--resume", "--program", program())[0], 4, text)
+            self.assertEqual(call("report", out)[0], 4)
+        (out / "questions.json").unlink()
+        (out / "certificates").write_text("")
+        self.assertEqual(call("many", path, "--out", out, "--program", program())[0], 7)
+        self.assertEqual(call("many", path, "--out", self.write("file", ""), "--program", program())[0], 7)
+
+
+if __name__ == "__main__":
+    unittest.main()
