@@ -1,34 +1,48 @@
-# Completions of bash for rabit.
+# Completions of bash for rabit. The commands and their options are read from the table that lies beside the wrapper.
+
+# Prints the table of commands of the command that is completed.
+_rabit_table() {
+    local home
+    home=$(readlink -f "$(type -P "$1" 2>/dev/null || printf '%s' "$1")") || return
+    home=${home%/*}
+    cat "$home/commands" 2>/dev/null || cat "$home/tools/commands" 2>/dev/null
+}
+
 _rabit() {
-    local word=${COMP_WORDS[COMP_CWORD]} before=${COMP_WORDS[COMP_CWORD - 1]} options=
+    local word=${COMP_WORDS[COMP_CWORD]} option=${COMP_WORDS[COMP_CWORD - 1]} line names='help --help --version' options=
     COMPREPLY=()
-    if [ "$COMP_CWORD" -eq 1 ]; then
-        mapfile -t COMPREPLY < <(compgen -W "include check reduce drill upgrade cross cross-check equal batch union intersect shrink empty universal" -- "$word")
+    # `--look=2` comes as three words
+    [ "$word" = = ] && word=
+    [ "$option" = = ] && option=${COMP_WORDS[COMP_CWORD - 2]}
+    while IFS= read -r line; do
+        case $line in '#'* | '') continue ;; esac
+        names+=" ${line%% *}"
+        if [ "${line%% *}" = "${COMP_WORDS[1]}" ]; then
+            options=${line#*[}
+            [ "$options" = "$line" ] && options=
+        fi
+    done < <(_rabit_table "$1")
+    if [ "$COMP_CWORD" -eq 1 ] || { [ "$COMP_CWORD" -eq 2 ] && [ "${COMP_WORDS[1]}" = help ]; }; then
+        mapfile -t COMPREPLY < <(compgen -W "$names" -- "$word")
         return
     fi
-    case $before in
-    --look)
-        mapfile -t COMPREPLY < <(compgen -W "1 2 3 4 5 6" -- "$word")
-        return
+    case $option in
+    --look) mapfile -t COMPREPLY < <(compgen -W '1 2 3 4 5 6' -- "$word") ;;
+    --limit) mapfile -t COMPREPLY < <(compgen -W '1000 20000 100000' -- "$word") ;;
+    --letters) mapfile -t COMPREPLY < <(compgen -W '1 2 3 4' -- "$word") ;;
+    *)
+        case $word in
+        -*)
+            # what is left of `--finite] [--look K] [--limit N]` are the options' names
+            options=${options//[][]/}
+            mapfile -t COMPREPLY < <(compgen -W "${options// [A-Z]/}" -- "$word")
+            ;;
+        *)
+            compopt -o filenames 2>/dev/null
+            mapfile -t COMPREPLY < <(compgen -f -- "$word")
+            ;;
+        esac
         ;;
-    --limit)
-        mapfile -t COMPREPLY < <(compgen -W "1000 20000 100000" -- "$word")
-        return
-        ;;
-    --letters)
-        mapfile -t COMPREPLY < <(compgen -W "1 2 3 4" -- "$word")
-        return
-        ;;
-    esac
-    case ${COMP_WORDS[1]} in
-    include) options="--finite --look --limit --letters" ;;
-    reduce) options="--finite --look --letters" ;;
-    cross) options="--look" ;;
-    union | intersect | empty | universal) options="--finite" ;;
-    esac
-    case $word in
-    -*) mapfile -t COMPREPLY < <(compgen -W "$options" -- "$word") ;;
-    *) mapfile -t COMPREPLY < <(compgen -f -- "$word") ;;
     esac
 }
-complete -o filenames -F _rabit rabit ./rabit
+complete -F _rabit rabit ./rabit
