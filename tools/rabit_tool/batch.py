@@ -191,8 +191,8 @@ def plain_environment():
 
 
 def stop(process):
-    """Ends parallel, which ends its jobs when it is told so twice."""
-    for wait in (0.1, 5):
+    """Ends parallel, which ends its jobs when it is told so twice; where it is slow, all that it started is told so too."""
+    for wait in (0.1, 15):
         if process.poll() is None:
             process.send_signal(signal.SIGTERM)
             try:
@@ -200,5 +200,6 @@ def stop(process):
             except subprocess.TimeoutExpired:
                 pass
     if process.poll() is None:
+        os.killpg(process.pid, signal.SIGTERM)  # a session of its own
         process.kill()
         process.wait()
