@@ -7,6 +7,7 @@ import shutil
 import subprocess
 import sys
 import tempfile
+import time
 import unittest
 
 TOP = pathlib.Path(__file__).resolve().parent.parent.parent
@@ -84,6 +85,37 @@ class Case(unittest.TestCase):
     def equal(self, first, second):
         """What the program's `equal` prints first."""
         return ask("equal", first, second, self.folder / "1.cert", self.folder / "2.cert")[1].split("\n")[0]
+
+
+def holds_in_time(condition):
+    """Whether the condition comes to hold within sixty seconds: a busy machine takes its time."""
+    until = time.monotonic() + 60
+    while not condition():
+        if time.monotonic() > until:
+            return False
+        time.sleep(0.05)
+    return True
+
+
+class Slow:
+    """A program that a Case has in its folder, and that gives no answer: it tells its process and its folder, and
+    sleeps."""
+
+    def __init__(self, case):
+        self.case, self.told, self.traces = case, case.folder / "told", []
+        self.path = case.write("slow", f"#!/bin/sh\necho $$ $PWD >> {self.told}\nexec sleep 300\n")
+        self.path.chmod(0o755)
+
+    def wait_for(self, count):
+        """Waits until it has begun so often, and each time its process and its folder are there."""
+        self.case.assertTrue(holds_in_time(lambda: self.told.exists() and self.told.read_text().count("\n") == count))
+        words = [line.split(" ", 1) for line in self.told.read_text().splitlines()]
+        self.traces = [trace for process, folder in words for trace in (f"/proc/{process}", folder)]
+        self.case.assertTrue(all(map(os.path.exists, self.traces)), self.traces)
+
+    def check_gone(self):
+        """Each of those processes has ended soon, and each of those folders has gone."""
+        self.case.assertTrue(holds_in_time(lambda: not any(map(os.path.exists, self.traces))), self.traces)
 
 
 def random_ba(rnd, states=6, labels="abc", names=None, dense=0):

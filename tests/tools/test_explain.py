@@ -4,7 +4,7 @@ import random
 import unittest
 
 from helping import TOP, Case, ask, ba_accepts, call, needs, needs_program, program, random_ba
-from rabit_tool import automata, certificates, drawing, explaining, files, logs, runs
+from rabit_tool import automata, certificates, drawing, explaining, files, logs, nouns, runs
 
 MUTEX = TOP / "examples" / "mutex"
 
@@ -117,6 +117,19 @@ class Explain(Case):
         ask("cross", MUTEX / "peterson.ba", MUTEX / "exclusion.ba", self.folder / "yes.cross")
         words[3] = self.folder / "yes.cross"
         self.assertIn("20 pairs of a state of A and one of B that follows it, looking 3 moves ahead", call(*words)[1])
+
+    def test_one_of_a_thing_is_told_in_the_singular(self):
+        first, second = self.write("a.ba", "0\na,0->1\na,1->0\na,0->0\n"), self.write("b.ba", "0\na,0->0\n")
+        names = [first, second, self.folder / "c"]
+        ask("include", *names)
+        output = call("explain", *names, "--program", program())[1]
+        for line in ("states merged: 2 to 1 state, 3 to 1 transition", "1 element, 1 of them live;", "has 1 pair."):
+            self.assertIn(line, output)
+        self.assertIn("included: 1 element, 1 of them live", drawing.summary(certificates.load(str(names[2]))))
+        ask("cross", second, *names[1:])
+        output = call("explain", second, *names[1:], "--program", program())[1]
+        self.assertIn("has 1 pair of a state of A", output)
+        self.assertEqual((nouns.counted(0, "state"), nouns.counted(1, "state")), ("0 states", "1 state"))
 
     def test_what_the_program_refuses_is_not_told(self):
         first, second = self.write("a.ba", "0\na,0->0\n"), self.write("b.ba", "0\nb,0->0\n")

@@ -9,7 +9,7 @@ import sys
 import time
 import unittest
 
-from helping import TOOL, Case, ask, needs, needs_program, program, random_ba
+from helping import TOOL, Case, Slow, ask, needs, needs_program, program, random_ba
 from rabit_tool import results
 
 SSHD = shutil.which("sshd", path=os.environ.get("PATH", "") + ":/usr/sbin:/usr/local/sbin")
@@ -62,16 +62,6 @@ def answers(port):
             return connection.recv(4) == b"SSH-"
     except OSError:
         return False
-
-
-def holds_in_time(condition):
-    """Whether the condition comes to hold within twenty seconds."""
-    until = time.monotonic() + 20
-    while not condition():
-        if time.monotonic() > until:
-            return False
-        time.sleep(0.05)
-    return True
 
 
 @unittest.skipUnless(SSHD, "sshd is not installed (Debian: openssh-server)")
@@ -170,21 +160,14 @@ class Hosts(Case):
         if os.geteuid() == 0:
             self.assertEqual(set(hosts), {"one"})
 
-    # On a busy machine folders stay on the hosts, which is open.
-    @unittest.skipUnless(os.environ.get("RABIT_TEST_STOP"), "it fails on a busy machine: RABIT_TEST_STOP=1 runs it")
     def test_a_run_that_is_stopped_leaves_nothing_on_the_hosts(self):
-        path, begun = self.questions("stopped", 4, 73)[1], self.folder / "begun"
-        slow = self.write("slow", f"#!/bin/sh\necho $$ $PWD >> {begun}\nexec sleep 60\n")
-        slow.chmod(0o755)
-        process = self.many(path, "--out", self.folder / "out", "--program", slow)
-        self.assertTrue(holds_in_time(lambda: begun.exists() and begun.read_text().count("\n") == 4))
-        traces = [trace for line in begun.read_text().splitlines() for trace in line.split()]
-        traces = ["/proc/" * trace.isdigit() + trace for trace in traces]
-        self.assertTrue(all(map(os.path.exists, traces)), traces)
+        path, slow = self.questions("stopped", 4, 73)[1], Slow(self)
+        process = self.many(path, "--out", self.folder / "out", "--program", slow.path)
+        slow.wait_for(4)
         process.terminate()
-        process.communicate(timeout=30)
+        process.communicate(timeout=90)
         self.assertEqual(process.returncode, 130)
-        self.assertTrue(holds_in_time(lambda: not any(map(os.path.exists, traces))), traces)
+        slow.check_gone()
 
 
 if __name__ == "__main__":

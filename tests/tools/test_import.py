@@ -30,13 +30,23 @@ class Features(Case):
     def test_each_refusal(self):
         lines = (DATA / "refused" / "expected").read_text().splitlines()
         self.assertEqual(
-            {line.split(" ")[0] for line in lines} | {"expected"}, {p.name for p in (DATA / "refused").iterdir()}
+            {line.split(" ")[0].rstrip(":") for line in lines} | {"expected"}, {p.name for p in (DATA / "refused").iterdir()}
         )
         for line in lines:
             with self.subTest(line):
-                status, output, errors = call("import", DATA / "refused" / line.split(" ")[0])
+                status, output, errors = call("import", DATA / "refused" / line.split(" ")[0].rstrip(":"))
                 self.assertEqual((status, output), (4, ""))
                 self.assertTrue(errors.startswith(f"rabit-tool: {DATA / 'refused' / line}: "), errors)
+
+    def test_a_byte_order_mark_before_each_format(self):
+        for kind in ("hoa", "never", "lbt", "gff"):
+            for path in sorted((DATA / kind).glob(f"*.{kind}")):
+                with self.subTest(path.name):
+                    marked = self.write("marked", files.decoded(b"\xef\xbb\xbf" + path.read_bytes()))
+                    self.assertEqual(call("import", marked), call("import", path))
+        # one mark alone
+        twice = self.write("twice", "\ufeff\ufeffHOA: v1 Acceptance: 0 t --BODY-- --END--")
+        self.assertEqual(call("import", twice)[0], 4)
 
     def test_letters_and_names(self):
         path = DATA / "hoa" / "names-that-ba-cannot-have.hoa"
@@ -149,7 +159,7 @@ class Robust(Case):
         )
         head = 'HOA: v1 Start: 0 AP: 8 "a" "b" "c" "d" "e" "f" "g" "h" Acceptance: 0 t --BODY--\n'
         status, _, errors = call("import", self.write("many.hoa", f"{head}{edges}\n--END--"))
-        self.assertEqual((status, "line 0: TooManyTransitions" in errors), (4, True), errors)
+        self.assertEqual((status, "many.hoa: TooManyTransitions: " in errors), (4, True), errors)
         states = "\n".join(f"State: {state} [t] {(state + 1) % 3000}" for state in range(3000))
         path = self.write("long.hoa", f"HOA: v1 Start: 0 AP: 0 Acceptance: 0 t --BODY--\n{states}\n--END--")
         status, _, errors = call("import", path, "-o", self.folder / "long.ba")
@@ -177,14 +187,20 @@ class Robust(Case):
         self.assertEqual(call("import")[0], 3)
         self.assertEqual(call("import", path, "--look")[0], 3)
 
+    def test_more_propositions_than_eight(self):
+        claim = self.write("claim", "never { accept: do :: p -> goto accept od }")
+        self.assertEqual(call("import", claim, "--ap", "a,b,c,d,e,f,g")[0], 0)
+        refusal = f"rabit-tool: {claim}: TooManyPropositions: with those that are added more than eight\n"
+        self.assertEqual(call("import", claim, "--ap", "a,b,c,d,e,f,g,h"), (4, "", refusal))
+
     def test_labels_that_do_not_fit(self):
         system = self.write("system.ba", "0\nenter,0->1\nleave,1->0\n")
         claim = self.write("claim", "never { accept: do :: !entr -> goto accept od }")
         own = DATA / "hoa" / "own-letters.hoa"
         for words, status, said in (
-            ([claim, "--labels-of", system], 4, f"{claim} line 0: Proposition: entr is the name of no label"),
-            ([claim, "--ap", "x", "--labels-of", system], 4, f"{claim} line 0: Proposition: entr is"),
-            ([own, "--labels-of", system], 4, f"{own} line 0: Propositions: the letters have names of their own"),
+            ([claim, "--labels-of", system], 4, f"{claim}: Proposition: entr is the name of no label"),
+            ([claim, "--ap", "x", "--labels-of", system], 4, f"{claim}: Proposition: entr is"),
+            ([own, "--labels-of", system], 4, f"{own}: Propositions: the letters have names of their own"),
             ([claim, "--labels-of", self.folder / "none"], 6, f"{self.folder}/none: No such file or directory"),
             ([claim, "--labels-of", self.write("bad.ba", "0\na,0\n")], 4, f"{self.folder}/bad.ba line 2: Shape"),
         ):
@@ -212,7 +228,7 @@ class Robust(Case):
                 importing.imported(bytes(data))
                 statuses[0] += 1
             except files.Refusal as refusal:
-                self.assertRegex(refusal.text, r"^line \d+: [A-Z][A-Za-z]*: ")
+                self.assertRegex(refusal.text, r"^(line [1-9]\d*: )?[A-Z][A-Za-z]*: ")
                 statuses[refusal.status] += 1
         self.assertTrue(all(count > 100 for count in statuses.values()), statuses)
 

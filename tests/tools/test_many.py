@@ -1,4 +1,5 @@
 """`many`: five hundred questions, a run that is killed, two hosts, and checks that refuse."""
+import json
 import os
 import random
 import re
@@ -10,8 +11,8 @@ import sys
 import time
 import unittest
 
-from helping import TOOL, Case, ask, call, needs, needs_program, program, random_ba
-from rabit_tool import batch, many, results
+from helping import TOOL, Case, Slow, ask, call, needs, needs_program, program, random_ba
+from rabit_tool import batch, many, results, worker
 
 # stands for ssh: the host is a name alone, and its commands run here, in a folder and an environment of their own
 SSH = """#!/bin/sh
@@ -192,10 +193,62 @@ class Many(Case):
         self.assertEqual(status, 0, told)
         self.check_rows(lines, self.folder / "out")
 
+    def test_a_run_that_is_stopped_leaves_nothing(self):
+        path = self.questions(3, 45)[1]
+        for kind in (signal.SIGTERM, signal.SIGINT, signal.SIGHUP):
+            slow = Slow(self)
+            process = self.started(path, "--out", self.folder / kind.name, "--jobs", 3, "--program", slow.path)
+            slow.wait_for(3)
+            process.send_signal(kind)
+            told = process.communicate(timeout=90)[1].decode()
+            self.assertEqual(process.returncode, 130, told)
+            self.assertIn("stopped; --resume goes on with the 3 that are left\n", told)
+            slow.check_gone()
+            slow.told.unlink()
+
     def test_two_runs_in_one_folder(self):
         path, out = self.write("list", "a b\n"), self.folder / "out"
         with many.locked(str(out)):
             self.assertEqual(self.run_many(path, "--out", out)[0], 3)
+
+
+class Worker(Case):
+    def begun(self, slow):
+        """The process that parallel would begin, whose question is in the hands of the slow program."""
+        text = worker.packed(b"0\na,0->0\n")
+        question = {"number": 1, "program": str(slow.path), "words": [], "check": "check", "second": None}
+        question.update(seconds=None, first=text, other=text)
+        process = subprocess.Popen(
+            ["sh", "-c", batch.worker_command(None, sys.executable)],
+            stdin=subprocess.PIPE,
+            stdout=subprocess.PIPE,
+            start_new_session=True,
+        )
+        self.addCleanup(process.wait)
+        self.addCleanup(process.stdout.close)
+        self.addCleanup(process.stdin.close)
+        process.stdin.write(json.dumps(question).encode() + b"\n")
+        process.stdin.flush()
+        slow.wait_for(1)
+        return process
+
+    def test_however_a_worker_ends_nothing_stays(self):
+        def told(*signals):
+            return lambda process: [os.killpg(process.pid, number) for number in signals]
+
+        ways = {
+            "it is killed": told(signal.SIGKILL),
+            "it is told to end": told(signal.SIGTERM),
+            "it is told so again at once": told(signal.SIGTERM, signal.SIGTERM, signal.SIGHUP, signal.SIGTERM),
+            "it is told and killed": told(signal.SIGTERM, signal.SIGKILL),
+            "nobody reads its answers": lambda process: process.stdout.close(),
+        }
+        for name, way in ways.items():
+            with self.subTest(name):
+                slow = Slow(self)
+                way(self.begun(slow))
+                slow.check_gone()
+                slow.told.unlink()
 
 
 class Refusals(Case):

@@ -19,6 +19,7 @@ from .results import sizes_of
 
 # by command: the one that checks what it wrote, and the option of the second checker
 CHECKS = {"include": ("check", []), "cross": ("cross-check", ["--cross"]), "solve": ("verify", ["--proof"])}
+STOPPING = (signal.SIGHUP, signal.SIGINT, signal.SIGTERM)
 HERE = pathlib.Path(__file__).resolve().parent
 
 
@@ -191,15 +192,18 @@ def plain_environment():
 
 
 def stop(process):
-    """Ends parallel, which ends its jobs when it is told so twice; where it is slow, all that it started is told so too."""
-    for wait in (0.1, 15):
-        if process.poll() is None:
-            process.send_signal(signal.SIGTERM)
-            try:
-                process.wait(wait)
-            except subprocess.TimeoutExpired:
-                pass
-    if process.poll() is None:
-        os.killpg(process.pid, signal.SIGTERM)  # a session of its own
-        process.kill()
-        process.wait()
+    """Ends parallel, unless it has ended, and with it its jobs, which end in order. It is told so each second, since
+    while it begins it passes over that; what this process is told meanwhile it passes over."""
+    if process.poll() is not None:
+        return
+    for number in STOPPING:
+        signal.signal(number, signal.SIG_IGN)
+    for _ in range(60):
+        process.send_signal(signal.SIGTERM)
+        try:
+            process.wait(1)
+            return
+        except subprocess.TimeoutExpired:
+            pass
+    process.kill()
+    process.wait()

@@ -7,6 +7,7 @@ from .files import CERTIFICATE, MISSING, USAGE, Refusal, encoded, write_file
 from .importing import load_ba
 from .letters import cubes, letter_names, propositions_of, spelled
 from .logs import element_lengths, element_words, taken
+from .nouns import counted
 from .runs import Lasso, accepting_run, word_run
 
 PREFIX, LOOP, BOTH = "#c2410c", "#1d4ed8", "#c2410c:#1d4ed8"
@@ -81,7 +82,7 @@ def dot(automaton, run=None, caption=None, table=None, most=STATES):
         lines.append(f"  s{source} -> s{target} [label={shown}{style}];")
     notes = list(caption or [])
     if len(states) < len(automaton.names):
-        notes.append(markup(f"{len(states)} of {len(automaton.names)} states are drawn"))
+        notes.append(markup(f"drawn: {len(states)} of {counted(len(automaton.names), 'state')}"))
     if notes:
         lines.append('  labelloc=b; labeljust=l; label=<' + '<br align="left"/>'.join([*notes, ""]) + ">;")
     if table:
@@ -126,7 +127,7 @@ def drawn_with(automaton, found, name, most=STATES):
     """The text for graphviz of the first automaton with what its certificate says. Refused with status 5 where they
     don't fit."""
     if found["sizes"][0] != len(automaton.names):
-        raise Refusal(f"{name}: is about a first automaton of {found['sizes'][0]} states", CERTIFICATE)
+        raise Refusal(f"{name}: is about a first automaton of {counted(found['sizes'][0], 'state')}", CERTIFICATE)
     if found["kind"] == "cross":
         return dot(automaton, table=cross_table(automaton, found))
     if found["form"] == "no":
@@ -169,10 +170,10 @@ def more_row(count, columns):
 
 def summary(found):
     """The lines below the drawing of a yes or of a list."""
-    live = sum(mark is None for mark, _ in found["elements"])
+    elements, live = counted(len(found["elements"]), "element"), sum(mark is None for mark, _ in found["elements"])
     if found["form"] == "list":
-        return [f"limit {found['limit']}: {len(found['elements'])} elements, and nothing is decided"]
-    return [f"included: {len(found['elements'])} elements, {live} of them live"]
+        return [f"limit {found['limit']}: {elements}, and nothing is decided"]
+    return [f"included: {elements}, {live} of them live"]
 
 
 def element_table(automaton, found, name):

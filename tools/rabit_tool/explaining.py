@@ -6,6 +6,7 @@ from .certificates import load
 from .files import CERTIFICATE, MISSING, READ, TEXT, Refusal, encoded, write_file
 from .importing import load_ba
 from .logs import element_lengths, taken
+from .nouns import counted
 from .program import ask, find_program
 from .runs import Lasso, accepting_run, rejection, word_rejection, word_run
 
@@ -160,15 +161,10 @@ def text_of(told):
     if "run" in told:
         return lines + no_text(told)
     if "rows" in told:
-        pairs = f"{told['pairs']} pairs of a state of A and one of B that follows it"
+        pairs = f"{counted(told['pairs'], 'pair')} of a state of A and one of B that follows it"
         pairs += f", looking {counted(told['look'], 'move')} ahead"
         return [*lines, f"The cross relation has {pairs}; states of A in it: {told['rows']}."]
     return lines + yes_text(told)
-
-
-def counted(number, noun):
-    """The number with its noun."""
-    return f"{number} {noun}" if number == 1 else f"{number} {noun}s"
 
 
 def size_text(size):
@@ -241,21 +237,22 @@ def yes_text(told):
         lines.append(f"{name} was reduced in {counted(len(steps), 'step')}:" if steps else f"{name} stays as it is.")
         for step in steps:
             lines.append(f"  {step['step']}: {change_text(step)}")
+    elements = counted(told["elements"], "element")
     words = f"the longest of their words has {counted(told['longest'], 'letter')}"
     if "limit" in told:
-        return [
-            *lines,
-            "",
-            f"The search met its limit, {told['limit']}: {told['elements']} elements, and {words}. Nothing is decided.",
-        ]
-    lines += ["", f"{counted(told['elements'], 'element')}, {told['live']} of them live; {words}."]
+        met = f"The search met its limit, {told['limit']}: {elements}, and {words}. Nothing is decided."
+        return [*lines, "", met]
+    lines += ["", f"{elements}, {told['live']} of them live; {words}."]
     return [*lines, f"The order of B's states has {counted(told['order'], 'pair')}."]
 
 
 def change_text(step):
     """The sizes before and after a step, in words."""
     before, after = step["before"], step["after"]
-    return ", ".join(f"{before[what]} to {after[what]} {what}" for what in ("states", "transitions"))
+    return ", ".join(
+        f"{before[what]} to {counted(after[what], noun)}"
+        for what, noun in (("states", "state"), ("transitions", "transition"))
+    )
 
 
 def add_words(parser):

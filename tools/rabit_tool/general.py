@@ -33,7 +33,7 @@ def over_more(general, names):
             continue
         count = len(general.propositions)
         if count == PROPOSITIONS:
-            raise refused(0, "TooManyPropositions", "more than eight")
+            raise refused(0, "TooManyPropositions", "with those that are added more than eight")
         general.propositions = [*general.propositions, name]
         for edges in general.edges.values():
             edges[:] = [(letters | letters << (1 << count), target, marks) for letters, target, marks in edges]

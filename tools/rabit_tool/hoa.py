@@ -4,6 +4,7 @@ from .general import General
 from .hoa_header import read_header, read_label
 from .hoa_tokens import Tokens
 from .letters import refused
+from .nouns import counted
 
 
 def read(text):
@@ -58,7 +59,7 @@ class Body:
         label = read_label(tokens, self.header)
         state, line = tokens.integer(), tokens.before
         if self.header.states is not None and state >= self.header.states:
-            raise refused(line, "State", f"{state}, and there are {self.header.states} states")
+            raise refused(line, "State", f"{state}, of {counted(self.header.states, 'state')}")
         if state in self.edges:
             raise refused(line, "State", f"{state} stands twice")
         if tokens.kind == "string":
@@ -92,7 +93,9 @@ class Body:
             raise refused(line, "Label", f"some edges of state {state} have a label and some have none")
         if len(edges) != 1 << len(self.header.propositions):
             raise refused(
-                line, "Label", f"state {state} has {len(edges)} edges without a label, not one for each letter"
+                line,
+                "Label",
+                f"state {state} has {counted(len(edges), 'edge')} without a label, not one for each letter",
             )
         return [(1 << letter, target, marks) for letter, (_, target, marks) in enumerate(edges)]
 

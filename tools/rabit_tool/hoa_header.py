@@ -2,6 +2,7 @@
 from .automata import can_be_named
 from .formulas import Infix
 from .letters import PROPOSITIONS, every, holding, refused
+from .nouns import counted
 
 ONCE = ("States", "AP", "Acceptance", "acc-name", "rabit-letters")
 
@@ -68,7 +69,7 @@ def read_propositions(tokens, header):
     while tokens.kind == "string":
         header.propositions.append(tokens.string())
     if len(header.propositions) != count:
-        raise refused(line, "AP", f"{count} propositions are told and {len(header.propositions)} named")
+        raise refused(line, "AP", f"{counted(count, 'proposition')} told and {len(header.propositions)} named")
     if len(set(header.propositions)) != count:
         raise refused(line, "AP", "two propositions have one name")
 
@@ -142,7 +143,7 @@ def read_inf(tokens, sets):
         raise tokens.refused("Acceptance", "Inf of what is not in a set")
     number = tokens.integer()
     if number >= sets:
-        raise refused(tokens.before, "Acceptance", f"Inf({number}), and there are {sets} sets")
+        raise refused(tokens.before, "Acceptance", f"Inf({number}), of {counted(sets, 'set')}")
     tokens.sign(")")
     return number
 

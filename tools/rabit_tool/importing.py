@@ -12,8 +12,14 @@ COMMENTS = re.compile(r"(?:\s+|/\*.*?\*/|//[^\n]*|^[ \t]*#[^\n]*)*", re.DOTALL |
 STATES, TRANSITIONS = 2048, 65536  # what `include` takes as a first file
 
 
+def without_mark(text):
+    """The text without a byte order mark, which some editors put before it and none of the formats means."""
+    return text[text.startswith("\ufeff") :]
+
+
 def format_of(text):
     """The format that the text seems to have: HOA, never, LBT, GFF or None."""
+    text = without_mark(text)
     rest = text[COMMENTS.match(text).end() :]
     if rest.startswith("HOA:"):
         return "HOA"
@@ -21,7 +27,7 @@ def format_of(text):
         return "never"
     if re.match(r"\d+\s+\d+(?:s|t|st|ts)?(?:\s+\d+\s+[01]\s|\s*$)", text.lstrip()):
         return "LBT"
-    if re.match(r"(?is)\ufeff?(?:<\?xml[^>]*>\s*)?(?:<!--(?:(?!-->).)*-->\s*)*<structure\b", text.lstrip()):
+    if re.match(r"(?is)(?:<\?xml[^>]*>\s*)?(?:<!--(?:(?!-->).)*-->\s*)*<structure\b", text.lstrip()):
         return "GFF"
     return None
 
@@ -31,7 +37,7 @@ READERS = {"HOA": hoa.read, "never": never.read, "LBT": lbt.read, "GFF": gff.rea
 
 def read_any(data):
     """The automaton of the bytes, a General, in whatever format they are. Refused with status 4 by line and name."""
-    text = decoded(data)
+    text = without_mark(decoded(data))
     kind = format_of(text)
     if kind not in READERS:
         raise refused(1, "Format", "neither HOA nor a never claim nor LBT's format nor GOAL's")
@@ -82,7 +88,8 @@ def run(args):
     try:
         automaton = imported(data, names, args.complete, labels)
     except Refusal as refusal:
-        raise Refusal(f"{args.file} {refusal.text}", TEXT) from None
+        between = " " if refusal.text.startswith("line ") else ": "
+        raise Refusal(args.file + between + refusal.text, TEXT) from None
     write_file(args.output, write_ba(automaton), [args.file, *([args.labels_of] if args.labels_of else [])])
     tell_limits(automaton)
     return 0

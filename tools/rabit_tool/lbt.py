@@ -4,6 +4,7 @@ import re
 from .formulas import prefix
 from .general import General
 from .letters import PROPOSITIONS, holding, refused
+from .nouns import counted
 
 TOKEN = re.compile(r'"(?:[^"\\]|\\.)*"|[!&|^]|[^\s!&|^"]+', re.DOTALL)
 PROPOSITION, NUMBER, SETS = re.compile(r'p\d+|".*"', re.DOTALL), re.compile(r"\d{1,9}"), re.compile(
@@ -120,7 +121,7 @@ class Automaton:
         marks = self.tokens.numbers("an acceptance set or -1")
         self.used.update(dict.fromkeys(sorted(marks)))
         if len(self.used) > self.sets:
-            raise refused(self.tokens.line, "Acceptance", f"more than {self.sets} acceptance sets")
+            raise refused(self.tokens.line, "Acceptance", f"more than {counted(self.sets, 'acceptance set')}")
         return marks
 
     def atom(self, token):

@@ -10,9 +10,9 @@ LITERAL = re.compile(r"(!?)([^!&]+)")
 
 
 def refused(line, name, detail):
-    """The refusal of a text of another format: its line (0 where it is of the whole), the name of what is refused,
-    and why."""
-    return Refusal(f"line {line}: {name}: {detail}", TEXT)
+    """The refusal of a text of another format: its line, which is not told where it is 0, since the whole is refused;
+    the name of what is refused, and why."""
+    return Refusal((f"line {line}: " if line else "") + f"{name}: {detail}", TEXT)
 
 
 def every(count):

@@ -6,7 +6,7 @@ import shlex
 import signal
 import sys
 
-from .batch import CHECKS, Batch
+from .batch import CHECKS, STOPPING, Batch
 from .files import READ, USAGE, WRITE, Refusal, read_file
 from .results import Results, read_list
 
@@ -76,7 +76,9 @@ def run(args):
         raise Refusal(f"{args.hosts}: no host", READ)
     results = Results(args.out or args.list + ".results")
     task = {"command": words, "second": args.second, "folder": os.getcwd(), "questions": questions}
-    signal.signal(signal.SIGTERM, signal.default_int_handler)
+    for number in STOPPING:
+        if signal.getsignal(number) is not signal.SIG_IGN:
+            signal.signal(number, signal.default_int_handler)
     try:
         with locked(results.folder):
             results.begin(task, args.resume)

@@ -8,6 +8,7 @@ from .certificates import load
 from .drawing import pictured, with_run
 from .explaining import no_text, told_no
 from .files import USAGE, Refusal, decoded, encoded, read_file, write_file
+from .nouns import counted
 from .page import kind_of, page
 from .results import QUESTIONS, TABLE, loaded
 
@@ -65,11 +66,11 @@ def report(folder, drawn=DRAWN):
     chosen = [(row, next(pictures) if text else None, words) for row, (text, words) in zip(refuted, told)]
     notes = [f"not drawn: {problem}"] if problem else []
     if len(refuted) > drawn:
-        notes.append(f"{len(refuted) - drawn} counterexamples are told and not drawn; --drawn N draws more")
+        notes.append(f"told and not drawn: {counted(len(refuted) - drawn, 'counterexample')}; --drawn N draws more")
     missing = len(task["questions"]) - len(rows)
     command = "rabit " + " ".join(task["command"])
-    line = f"{command}; {len(rows)} of {len(task['questions'])} questions" + (
-        f", {missing} are left" if missing else ""
+    line = f"{command}; {len(rows)} of {counted(len(task['questions']), 'question')}" + (
+        f", {missing} left" if missing else ""
     )
     return page(f"Questions of {os.path.basename(os.path.abspath(folder))}", line, rows, chosen), notes
 
