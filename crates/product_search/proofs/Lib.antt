@@ -1,0 +1,7 @@
+pub mod FoundLemmas
+pub mod PairLemmas
+pub mod ArcLemmas
+pub mod WordLemmas
+pub mod DecideLemmas
+pub mod RankLemmas
+pub mod TrimLemmas

@@ -1,0 +1,3 @@
+mod AlikeLemmas
+mod CheckLemmas
+mod RefusalLemmas

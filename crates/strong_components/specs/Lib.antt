@@ -1,0 +1,4 @@
+pub mod Graph
+pub mod UnderWay
+pub mod Steps
+pub mod States
