@@ -8,11 +8,12 @@ use Rattle.std.proofs.lemmas.Str.Ascii.{IsAscii-from_all}
 use Rattle.std.proofs.lemmas.Cmp.{nat_list_cmp_total}
 use Rattle.std.specs.FinMap as map
 use Rattle.std.specs.FinMap.{get-insert}
-use Rattle.std.specs.Prelude.{◌≢◌, is_some, nat_lt, IsUtf8, map as map_list}
+use Rattle.std.specs.Prelude.{is_some, nat_lt, IsUtf8, map as map_list}
 use Rattle.std.specs.List.{list_all}
 use Rattle.std.specs.Io.KnownBytes.{append_known}
 use Rattle.shelf_io.specs.Counts.{Rose, counted}
 use Rattle.shelf_io.specs.Shelf.{FileMap, CountsMissing}
+use Rattle.shelf_io.specs.Seen.{ShelfSeen, SinkSeen, Call, OnlyRead, call as call_of}
 use Rattle.auto_core.specs.declared.parts.Mode.TheVariants.{Buchi}
 use Rattle.ba_format.specs.declared.parts.Limits.{Limits}
 use Rattle.cert_value.specs.WellFormed.{has_some}
@@ -26,17 +27,15 @@ use Rattle.rabit_frame.specs.declared.parts.Reply.{Reply}
 use Rattle.rabit_frame.specs.declared.parts.Ending.{Ending}
 use Rattle.rabit_frame.specs.declared.parts.Ending.TheVariants as ending
 use Rattle.rabit_frame.specs.Files.{Input, Output}
-use Rattle.rabit_frame.specs.Lines.{read_line, memory_line}
+use Rattle.rabit_frame.specs.Request.{Request, only_reading}
 use Rattle.rabit_frame.specs.Statuses.{status_number}
 use Rattle.rabit_frame.specs.Reading.{FileReads, IsOfKind, MayStopAt, MissedInTurn}
-use Rattle.rabit_frame.specs.Ending.{BeforeAndAfter, IsCutShort, PutEach, Leaves, MayEnd, filed, status_of, status_unsent, WasSaid, SaysOnly}
-use Rattle.rabit_frame.specs.Carrying.{EndsSo, NoReply, IsCarriedOut, SaysEach, PutsByStatus, BegunByStatus}
-use Rattle.rabit_frame.proofs.EndLemmas.{own_number, may_plain, stop_plain, says_each, read_fault_of, read_line_of, memory_of, begun_by_status}
+use Rattle.rabit_frame.specs.Ending.{BeforeAndAfter, IsCutShort, PutEach, Leaves, MayEnd, Sends, filed, status_of, status_unsent, WasSaid}
+use Rattle.rabit_frame.specs.Carrying.{EndsSo, IsCarriedOut, SaysEach, FaultsHaveCauses, PutsByStatus, BegunByStatus}
+use Rattle.rabit_frame.proofs.EndLemmas.{own_number, may_plain, stop_plain, both_map, left_same, says_each, carried_out, tells_faults, begun_by_status}
 use Rattle.rabit_frame.proofs.TurnLemmas.{counts_here}
-use Rattle.rabit_cli.specs.Include.{usual_terms, LeavesDecided}
-use Rattle.rabit_cli.specs.Batch.{AreQuestions, AnswersQuestion, ShowsQuestion, question_inputs, MeansQuestion, IsQuestionStatus, AutomataAreThere, LeavesQuestion, LeaveInTurn, question_line, question_lines, GivenEach, times, RoseBy, IsCarriedEach, list_file, batch_inputs, IsStatusOfNoneAsked, NoneAsked, IsBatch, ShelfCounts, shelf_counts, MadeCalls}
-use Rattle.rabit_words.specs.Question.{Batch}
-use Rattle.rabit_cli.specs.Complete.{AnswersBatch}
+use Rattle.rabit_cli.specs.Include.{usual_terms, LeavesDecided, ShowsInclude}
+use Rattle.rabit_cli.specs.Batch.{AreQuestions, AnswersQuestion, ShowsQuestion, question_inputs, question_request, IsQuestionStatus, unsaid, ShelfFaults, IsAskedOf, AutomataAreThere, LeavesQuestion, question_line, question_lines, GivenEach, times, RoseBy, IsCarriedEach, list_file, batch_inputs, IsStatusOfNoneAsked, NoneAsked, AreAsked, after_reading, EndsBatch, IsBatch}
 use Rattle.rabit_cli.specs.Laws.{QuestionsShowInTurn}
 use Rattle.rabit_cli.proofs.IncludeLemmas.{usual_bounded, one_include, include_low, leaves_include, shows_include}
 
@@ -52,7 +51,7 @@ min_cases a b c low = elim (cases_lt b a) [
 stops_four : (n : ℕ) (limits : Limits) (r : Reply) → MayStopAt (kind.Automaton n limits) r → status_number r.status ≡ 4
 stops_four n limits r p = elim p [ inl long ↦ ap (λ z. status_number z.status) long | inr (bytes, (fault, is, e)) ↦ ap (λ z. status_number z.status) e ]
 
-pub question_status : (q : Question) (e : Ending) → MayEnd (MeansQuestion q) (question_inputs q) e → IsQuestionStatus (status_of e)
+pub question_status : (q : Question) (e : Ending) → MayEnd (question_request q) e → IsQuestionStatus (status_of e)
 question_status q (ending.Reached r) may = elim may [
   | inl stop ↦ elim stop [
     | inl first ↦ inr (inl (stops_four _ _ r first))
@@ -82,16 +81,12 @@ ends_refused (ending.ReadFault) is = absurd (omega arith)
 ends_refused (ending.WriteFault) is = absurd (omega arith)
 ends_refused (ending.OutOfMemory) is = refl
 
--- the end as if it had been said
-pub as_said : (e : Ending) (sent : Option (List ℕ)) (faults : ℕ) → (sent' : Option (List ℕ)) × WasSaid e (status_of e) sent sent' faults faults
-as_said e sent faults = (append_known sent _, inl (refl, refl, refl))
-
-module _ (q : Question) (held held' : Option FileMap) (read read' put put' : ℕ) (e : Ending) (ends : EndsSo (MeansQuestion q) (question_inputs q) e held held' read read' put put') where
-  pub answers_question : IfSome held (λ files. AnswersQuestion q files held' (status_of e) read read' put put')
-  answers_question = go held (says_each (MeansQuestion q) (question_inputs q) held held' (status_of e) None (as_said e None 0).0 0 0 read read' put put' e ends (as_said e None 0).1
+module _ (q : Question) (old new : ShelfSeen) (e : Ending) (ends : EndsSo (question_request q) e old new) where
+  pub answers_question : IfSome old.files (AnswersQuestion q (status_of e) old new)
+  answers_question = go old.files (says_each (question_request q) (unsaid (status_of e) old new) e ends (inl (refl, refl, refl))
       (λ vs r s kinds p p'. one_include q.cert (usual_terms Buchi) (usual_bounded Buchi).look_from vs r s p p'))
     where
-      go : (h : Option FileMap) → IfSome h (λ files. SaysEach (MeansQuestion q) (question_inputs q) files held' (status_of e) None (as_said e None 0).0 0 0 read read' put put') → IfSome h (λ files. AnswersQuestion q files held' (status_of e) read read' put put')
+      go : (h : Option FileMap) → IfSome h (λ files. SaysEach (question_request q) (unsaid (status_of e) old new) files) → IfSome h (AnswersQuestion q (status_of e) old new)
       go None says = tt
       go (Some files) says = λ r right. elim (says r right) [
         | inl (given, left) ↦ elim given [
@@ -101,29 +96,44 @@ module _ (q : Question) (held held' : Option FileMap) (read read' put put' : ℕ
         | inr fault ↦ inr fault
       ]
 
-  pub leaves_question : BeforeAndAfter held held' (λ files files'. LeavesDecided files q.first q.second q.cert (usual_terms Buchi) (status_of e) put put' files')
-  leaves_question =
-      leaves_include held held' (status_of e) None (as_said e None 0).0 0 0 read read' put put' q.first q.second q.cert (usual_terms Buchi) (usual_bounded Buchi) e ends (as_said e None 0).1
+  pub leaves_question : BeforeAndAfter old.files new.files (LeavesDecided q.first q.second q.cert (usual_terms Buchi) (unsaid (status_of e) old new))
+  leaves_question = leaves_include (unsaid (status_of e) old new) q.first q.second q.cert (usual_terms Buchi) (usual_bounded Buchi) e ends (inl (refl, refl, refl))
+
+  pub shelf_faults : ShelfFaults (status_of e) old new
+  shelf_faults = record {
+    read_fault = λ six. ends.read_fault (ends_unread e six);
+    no_read_fault = λ other. ends.no_read_fault (λ is. other (ap status_of is));
+    write_fault = λ seven. ends.write_fault (ends_at_write_fault e seven);
+    no_write_fault = λ other. ends.no_write_fault (λ is. other (ap status_of is));
+    memory = λ eight. left_same old.files new.files (subst (λ z. BeforeAndAfter old.files new.files (λ files files'. Leaves (question_request q) z files files')) (ends_refused e eight) ends.leaves);
+  }
 
 -- what a question's status up to 2 shows
-pub shows_question : (q : Question) (status : ℕ) (files files' : FileMap) → status ≤ 2 → LeavesQuestion q status files files' → ShowsQuestion q status files files'
-shows_question q status files files' low (ending.Reached r, (right, left), is) = elim right [
+shows_low : (q : Question) (status : ℕ) (old new : ShelfSeen) (files files' : FileMap) → status ≤ 2 → LeavesQuestion q status files files' → ShowsInclude q.first q.second q.cert (usual_terms Buchi) (unsaid status old new) files files'
+shows_low q status old new files files' low (ending.Reached r, (right, left), is) = elim right [
   | inl stop ↦ (let four = (stop_plain files (question_inputs q) r stop).0 in absurd (omega arith))
-  | inr (values, reads, means) ↦ shows_include files q.first q.second q.cert (usual_terms Buchi) (usual_bounded Buchi) status files' None None r is left refl values reads means
+  | inr (values, reads, means) ↦ shows_include files q.first q.second q.cert (usual_terms Buchi) (usual_bounded Buchi) (unsaid status old new) files' r is left refl values reads means
 ]
-shows_question q status files files' low (ending.ReadFault, left, is) = absurd (omega arith)
-shows_question q status files files' low (ending.WriteFault, left, is) = absurd (omega arith)
-shows_question q status files files' low (ending.OutOfMemory, left, is) = absurd (omega arith)
+shows_low q status old new files files' low (ending.ReadFault, left, is) = absurd (omega arith)
+shows_low q status old new files files' low (ending.WriteFault, left, is) = absurd (omega arith)
+shows_low q status old new files files' low (ending.OutOfMemory, left, is) = absurd (omega arith)
+
+module _ (q : Question) (status : ℕ) (old new : ShelfSeen) (e : Ending) (ends : EndsSo (question_request q) e old new) (is : status_of e ≡ status) where
+  left_by : BeforeAndAfter old.files new.files (LeavesQuestion q status)
+  left_by = both_map old.files new.files (λ files files'. Leaves (question_request q) e files files') (LeavesQuestion q status) (λ files files' left. (e, left, is)) ends.leaves
+
+  pub shows_question : ShowsQuestion q status old new
+  shows_question low = both_map old.files new.files (LeavesQuestion q status) (ShowsInclude q.first q.second q.cert (usual_terms Buchi) (unsaid status old new)) (λ files files' left. shows_low q status old new files files' low left) left_by
 
 -- and what each of some in turn shows
 pub questions_show : QuestionsShowInTurn
-questions_show questions [] files files' calls calls' (same, none) = same
-questions_show [] (status ∷ statuses) files files' calls calls' none = none
-questions_show (q ∷ questions) (status ∷ statuses) files files' calls calls' (between, middle, leaves, made, later) = (
+questions_show questions [] old new same = same
+questions_show [] (status ∷ statuses) old new none = none
+questions_show (q ∷ questions) (status ∷ statuses) old new (between, asked, later) = (
   between,
-  leaves,
-  λ low. shows_question q status files between low leaves,
-  questions_show questions statuses between files' middle calls' later,
+  left_by q status old between asked.end asked.ends asked.has,
+  shows_question q status old between asked.end asked.ends asked.has,
+  questions_show questions statuses between new later,
 )
 
 -- ---- what is there stays there
@@ -149,14 +159,14 @@ cut_keeps (p ∷ ps) files files' n cut there = elim cut [
   ]
 ]
 
-module _ (means : List Value → Reply → Type 0) (inputs : List Input) (files files' : FileMap) where
-  leaves_keep : (e : Ending) (n : List ℕ) → Leaves means inputs e files files' → map.contains_key files n ≡ true → map.contains_key files' n ≡ true
+module _ (request : Request) (files files' : FileMap) where
+  leaves_keep : (e : Ending) (n : List ℕ) → Leaves request e files files' → map.contains_key files n ≡ true → map.contains_key files' n ≡ true
   leaves_keep (ending.Reached r) n left there = ap (λ (m : FileMap). map.contains_key m n) left.1 ∙ filed_keeps r.puts files n there
   leaves_keep (ending.WriteFault) n (r, right, cut) there = cut_keeps r.puts files files' n cut there
   leaves_keep (ending.ReadFault) n left there = ap (λ (m : FileMap). map.contains_key m n) left ∙ there
   leaves_keep (ending.OutOfMemory) n left there = ap (λ (m : FileMap). map.contains_key m n) left ∙ there
 
-  all_keep : (e : Ending) (questions : List Question) → Leaves means inputs e files files' → All (AutomataAreThere files) questions → All (AutomataAreThere files') questions
+  all_keep : (e : Ending) (questions : List Question) → Leaves request e files files' → All (AutomataAreThere files) questions → All (AutomataAreThere files') questions
   all_keep e [] left there = All-nil (AutomataAreThere files')
   all_keep e (q ∷ qs) left there =
       let here = All-head (AutomataAreThere files) q qs there in
@@ -207,132 +217,90 @@ known_append : (sent : Option (List ℕ)) (a b : List ℕ) → append_known (app
 known_append None a b = refl
 known_append (Some x) a b = ap Some (append_assoc x a b)
 
--- ---- the calls of one question
-
-pub made_calls : (q : Question) (status : ℕ) (held held' : Option FileMap) (calls calls' : ShelfCounts)
-    → BegunByStatus (question_inputs q) status held calls'.blamed calls.begins calls'.begins
-    → PutsByStatus (MeansQuestion q) (question_inputs q) status held held' calls.put_faults calls'.put_faults calls.put_calls calls'.put_calls
-    → (status ≡ 6 → Rose calls.read_faults calls'.read_faults) → (status ≢ 6 → calls'.read_faults ≡ calls.read_faults)
-    → (status ≡ 7 → Rose calls.put_faults calls'.put_faults) → (status ≢ 7 → calls'.put_faults ≡ calls.put_faults)
-    → IfSome held (λ files. MadeCalls q status files held' calls calls')
-made_calls q status None held' calls calls' begun puts read no_read put no_put = tt
-made_calls q status (Some files) held' calls calls' begun puts read no_read put no_put = record {
-  begun = begun;
-  put_once = puts;
-  read_fault = read;
-  no_read_fault = no_read;
-  write_fault = put;
-  no_write_fault = no_put;
-}
-
 -- ---- one question more
 
-pub each_none : (number : ℕ) (held held' : Option FileMap) (sent : Option (List ℕ)) (give gives read put missed : ℕ) (calls : ShelfCounts) → held' ≡ held → IsCarriedEach number [] held held' 0 sent sent give give gives gives read read put put missed missed calls calls
-each_none number held held' sent give gives read put missed calls stays = record {
+pub each_none : (number : ℕ) (shelf : ShelfSeen) (sink : SinkSeen) → IsCarriedEach number [] (call_of shelf shelf sink sink 0)
+each_none number shelf sink = record {
   statuses = [];
   within = omega arith;
   known = All-nil IsQuestionStatus;
-  said = inl (refl, refl, known_nil sent, refl);
+  said = inl (refl, refl, known_nil sink.sent, refl);
   given_each = refl;
-  in_turn = same held stays;
-  read_faults_rose = rose_none read;
-  put_faults_rose = rose_none put;
+  in_turn = refl;
+  read_faults_rose = rose_none shelf.read_faults;
+  put_faults_rose = rose_none shelf.put_faults;
   read_faults_stay = λ zero. refl;
   put_faults_stay = λ zero. refl;
-  missed_stays = none held;
+  missed_stays = none shelf.files;
 }
   where
     known_nil : (s : Option (List ℕ)) → s ≡ append_known s []
     known_nil None = refl
     known_nil (Some x) = ap Some (sym (append_nil x))
 
-    same : (h : Option FileMap) → held' ≡ h → BeforeAndAfter h held' (λ files files'. LeaveInTurn [] [] files files' calls calls)
-    same None e = e
-    same (Some files) e = (files, e, (refl, refl))
-
-    none : (h : Option FileMap) → IfSome h (λ files. All (AutomataAreThere files) [] → missed ≡ missed)
+    none : (h : Option FileMap) → IfSome h (λ files. All (AutomataAreThere files) [] → shelf.missed ≡ shelf.missed)
     none None = tt
     none (Some files) = λ there. refl
 
-module _ (q : Question) (number : ℕ) (held between : Option FileMap) (read read1 put put1 missed missed1 : ℕ) (calls calls1 : ShelfCounts) (e : Ending) (ends : EndsSo (MeansQuestion q) (question_inputs q) e held between read read1 put put1)
-    (counts : IfSome held (λ files. MissedInTurn files (question_inputs q) missed missed1)) (made : IfSome held (λ files. MadeCalls q (status_of e) files between calls calls1)) where
-  read_more : (statuses : List ℕ) (read' : ℕ) → RoseBy (times 6 statuses) read1 read' → RoseBy (times 6 (status_of e ∷ statuses)) read read'
-  read_more statuses read' rest = rose_by 6 (status_of e) statuses read read1 read' (λ is. ends.read_fault (ends_unread e is)) (λ other. ends.no_read_fault (λ is. other (ap status_of is))) rest
+module _ (q : Question) (status number : ℕ) (old between : ShelfSeen) (asked : IsAskedOf q status old between) where
+  known_status : IsQuestionStatus status
+  known_status = subst IsQuestionStatus asked.has (question_status q asked.end asked.ends.may)
 
-  put_more : (statuses : List ℕ) (put' : ℕ) → RoseBy (times 7 statuses) put1 put' → RoseBy (times 7 (status_of e ∷ statuses)) put put'
-  put_more statuses put' rest = rose_by 7 (status_of e) statuses put put1 put' (λ is. ends.write_fault (ends_at_write_fault e is)) (λ other. ends.no_write_fault (λ is. other (ap status_of is))) rest
-
-  read_stay : (statuses : List ℕ) (read' : ℕ) → (times 6 statuses ≡ 0 → read' ≡ read1) → times 6 (status_of e ∷ statuses) ≡ 0 → read' ≡ read
-  read_stay statuses read' rest = stay_by 6 (status_of e) statuses read read1 read' (λ other. ends.no_read_fault (λ is. other (ap status_of is))) rest
-
-  put_stay : (statuses : List ℕ) (put' : ℕ) → (times 7 statuses ≡ 0 → put' ≡ put1) → times 7 (status_of e ∷ statuses) ≡ 0 → put' ≡ put
-  put_stay statuses put' rest = stay_by 7 (status_of e) statuses put put1 put' (λ other. ends.no_write_fault (λ is. other (ap status_of is))) rest
-
-  turn_more : (questions : List Question) (statuses : List ℕ) (held' : Option FileMap) (calls' : ShelfCounts) → BeforeAndAfter between held' (λ files files'. LeaveInTurn questions statuses files files' calls1 calls') → BeforeAndAfter held held' (λ files files'. LeaveInTurn (q ∷ questions) (status_of e ∷ statuses) files files' calls calls')
-  turn_more questions statuses held' calls' rest = go held ends.leaves made
+  missed_more : (questions : List Question) (missed' : ℕ) → IfSome between.files (λ files. All (AutomataAreThere files) questions → missed' ≡ between.missed) → IfSome old.files (λ files. All (AutomataAreThere files) (q ∷ questions) → missed' ≡ old.missed)
+  missed_more questions missed' rest = go old.files asked.ends.leaves asked.calls.missing
     where
-      go : (h : Option FileMap) → BeforeAndAfter h between (λ files files'. Leaves (MeansQuestion q) (question_inputs q) e files files') → IfSome h (λ files. MadeCalls q (status_of e) files between calls calls1)
-          → BeforeAndAfter h held' (λ files files'. LeaveInTurn (q ∷ questions) (status_of e ∷ statuses) files files' calls calls')
-      go None none b = subst (λ (m : Option FileMap). BeforeAndAfter m held' (λ files files'. LeaveInTurn questions statuses files files' calls1 calls')) none rest
-      go (Some files) (mid, is, left) b =
-          let (files', is', later) = subst (λ (m : Option FileMap). BeforeAndAfter m held' (λ files files'. LeaveInTurn questions statuses files files' calls1 calls')) is rest in
-          (files', is', (mid, calls1, (e, left, refl), subst (λ m. MadeCalls q (status_of e) files m calls calls1) is b, later))
-
-  missed_more : (questions : List Question) (missed' : ℕ) → IfSome between (λ files. All (AutomataAreThere files) questions → missed' ≡ missed1) → IfSome held (λ files. All (AutomataAreThere files) (q ∷ questions) → missed' ≡ missed)
-  missed_more questions missed' rest = go held ends.leaves counts
-    where
-      go : (h : Option FileMap) → BeforeAndAfter h between (λ files files'. Leaves (MeansQuestion q) (question_inputs q) e files files') → IfSome h (λ files. MissedInTurn files (question_inputs q) missed missed1) → IfSome h (λ files. All (AutomataAreThere files) (q ∷ questions) → missed' ≡ missed)
+      go : (h : Option FileMap) → BeforeAndAfter h between.files (λ files files'. Leaves (question_request q) asked.end files files') → IfSome h (λ files. MissedInTurn files (question_inputs q) old.missed between.missed) → IfSome h (λ files. All (AutomataAreThere files) (q ∷ questions) → missed' ≡ old.missed)
       go None none c = tt
       go (Some files) (mid, is, left) c = λ there.
-          let later = subst (λ (m : Option FileMap). IfSome m (λ files. All (AutomataAreThere files) questions → missed' ≡ missed1)) is rest in
-          later (all_keep (MeansQuestion q) (question_inputs q) files mid e questions left (All-tail (AutomataAreThere files) q questions there))
-          ∙ counts_none q files missed missed1 c (All-head (AutomataAreThere files) q questions there)
+          let later = subst (λ (m : Option FileMap). IfSome m (λ files. All (AutomataAreThere files) questions → missed' ≡ between.missed)) is rest in
+          later (all_keep (question_request q) files mid asked.end questions left (All-tail (AutomataAreThere files) q questions there))
+          ∙ counts_none q files old.missed between.missed c (All-head (AutomataAreThere files) q questions there)
 
-  pub each_more : (questions : List Question) (held' : Option FileMap) (status : ℕ) (sent sent1 sent' : Option (List ℕ)) (give give1 give' gives gives1 gives' read' put' missed' : ℕ) (calls' : ShelfCounts)
-      → sent1 ≡ append_known sent (question_line number (status_of e)) → give1 ≡ give → gives1 ≡ counted gives
-      → IsCarriedEach (number + 1) questions between held' status sent1 sent' give1 give' gives1 gives' read1 read' put1 put' missed1 missed' calls1 calls'
-      → IsCarriedEach number (q ∷ questions) held held' status sent sent' give give' gives gives' read read' put put' missed missed' calls calls'
-  each_more questions held' status sent sent1 sent' give give1 give' gives gives1 gives' read' put' missed' calls' sends stays given rest = record {
-    statuses = status_of e ∷ rest.statuses;
+  pub each_more : (questions : List Question) (ended : ℕ) (new : ShelfSeen) (sink sink1 sink' : SinkSeen)
+      → Sends (question_line number status) sink sink1 → sink1.give_faults ≡ sink.give_faults → sink1.gives ≡ counted sink.gives
+      → IsCarriedEach (number + 1) questions (call_of between new sink1 sink' ended)
+      → IsCarriedEach number (q ∷ questions) (call_of old new sink sink' ended)
+  each_more questions ended new sink sink1 sink' sends stays given rest = record {
+    statuses = status ∷ rest.statuses;
     within = (let few = rest.within in omega arith);
-    known = All-cons IsQuestionStatus (status_of e) rest.statuses (question_status q e ends.may) rest.known;
+    known = All-cons IsQuestionStatus status rest.statuses known_status rest.known;
     said = elim rest.said [
-      | inl (zero, all, sends', stays') ↦ inl (zero, ap suc all, sends' ∙ ap (λ s. append_known s (question_lines (number + 1) rest.statuses)) sends ∙ known_append sent _ _, stays' ∙ stays)
+      | inl (zero, all, sends', stays') ↦ inl (zero, ap suc all, sends' ∙ ap (λ s. append_known s (question_lines (number + 1) rest.statuses)) sends ∙ known_append sink.sent _ _, stays' ∙ stays)
       | inr (seven, rose, (before, last, is, (n, sends'))) ↦
-          inr (seven, subst (λ g. Rose g give') stays rose, (status_of e ∷ before, last, ap (λ ss. status_of e ∷ ss) is, (n, front before last n sends')))
+          inr (seven, subst (λ g. Rose g sink'.give_faults) stays rose, (status ∷ before, last, ap (λ ss. status ∷ ss) is, (n, front before last n sends')))
     ];
-    given_each = subst (λ n. GivenEach rest.statuses n gives') given rest.given_each;
-    in_turn = turn_more questions rest.statuses held' calls' rest.in_turn;
-    read_faults_rose = read_more rest.statuses read' rest.read_faults_rose;
-    put_faults_rose = put_more rest.statuses put' rest.put_faults_rose;
-    read_faults_stay = read_stay rest.statuses read' rest.read_faults_stay;
-    put_faults_stay = put_stay rest.statuses put' rest.put_faults_stay;
-    missed_stays = missed_more questions missed' rest.missed_stays;
+    given_each = subst (λ n. GivenEach rest.statuses n sink'.gives) given rest.given_each;
+    in_turn = (between, asked, rest.in_turn);
+    read_faults_rose = rose_by 6 status rest.statuses old.read_faults between.read_faults new.read_faults asked.faults.read_fault asked.faults.no_read_fault rest.read_faults_rose;
+    put_faults_rose = rose_by 7 status rest.statuses old.put_faults between.put_faults new.put_faults asked.faults.write_fault asked.faults.no_write_fault rest.put_faults_rose;
+    read_faults_stay = stay_by 6 status rest.statuses old.read_faults between.read_faults new.read_faults asked.faults.no_read_fault rest.read_faults_stay;
+    put_faults_stay = stay_by 7 status rest.statuses old.put_faults between.put_faults new.put_faults asked.faults.no_write_fault rest.put_faults_stay;
+    missed_stays = missed_more questions new.missed rest.missed_stays;
   }
     where
-      front : (before : List ℕ) (last n : ℕ) → sent' ≡ append_known sent1 (question_lines (number + 1) before ++ take n (question_line (number + 1 + length before) last))
-          → sent' ≡ append_known sent (question_lines number (status_of e ∷ before) ++ take n (question_line (number + length (status_of e ∷ before)) last))
+      front : (before : List ℕ) (last n : ℕ) → sink'.sent ≡ append_known sink1.sent (question_lines (number + 1) before ++ take n (question_line (number + 1 + length before) last))
+          → sink'.sent ≡ append_known sink.sent (question_lines number (status ∷ before) ++ take n (question_line (number + length (status ∷ before)) last))
       front before last n sends' =
-          let place : number + 1 + length before ≡ number + length (status_of e ∷ before) = omega arith in
+          let place : number + 1 + length before ≡ number + length (status ∷ before) = omega arith in
           sends' ∙ ap (λ s. append_known s (question_lines (number + 1) before ++ take n (question_line (number + 1 + length before) last))) sends
-          ∙ known_append sent (question_line number (status_of e)) (question_lines (number + 1) before ++ take n (question_line (number + 1 + length before) last))
-          ∙ ap (append_known sent) (sym (append_assoc (question_line number (status_of e)) (question_lines (number + 1) before) (take n (question_line (number + 1 + length before) last))))
-          ∙ ap (λ m. append_known sent (question_lines number (status_of e ∷ before) ++ take n (question_line m last))) place
+          ∙ known_append sink.sent (question_line number status) (question_lines (number + 1) before ++ take n (question_line (number + 1 + length before) last))
+          ∙ ap (append_known sink.sent) (sym (append_assoc (question_line number status) (question_lines (number + 1) before) (take n (question_line (number + 1 + length before) last))))
+          ∙ ap (λ m. append_known sink.sent (question_lines number (status ∷ before) ++ take n (question_line m last))) place
 
-  pub each_refused : (questions : List Question) (sent sent' : Option (List ℕ)) (give give' gives gives' n : ℕ) → sent' ≡ append_known sent (take n (question_line number (status_of e))) → Rose give give' → gives' ≡ counted gives
-      → IsCarriedEach number (q ∷ questions) held between 7 sent sent' give give' gives gives' read read1 put put1 missed missed1 calls calls1
-  each_refused questions sent sent' give give' gives gives' n sends rose given = record {
-    statuses = status_of e ∷ [];
+  pub each_refused : (questions : List Question) (sink sink' : SinkSeen) (n : ℕ) → Sends (take n (question_line number status)) sink sink' → Rose sink.give_faults sink'.give_faults → sink'.gives ≡ counted sink.gives
+      → IsCarriedEach number (q ∷ questions) (call_of old between sink sink' 7)
+  each_refused questions sink sink' n sends rose given = record {
+    statuses = status ∷ [];
     within = omega arith;
-    known = All-cons IsQuestionStatus (status_of e) [] (question_status q e ends.may) (All-nil IsQuestionStatus);
-    said = inr (refl, rose, ([], status_of e, refl, (n, sends ∙ ap (λ m. append_known sent (take n (question_line m (status_of e)))) place)));
+    known = All-cons IsQuestionStatus status [] known_status (All-nil IsQuestionStatus);
+    said = inr (refl, rose, ([], status, refl, (n, sends ∙ ap (λ m. append_known sink.sent (take n (question_line m status))) place)));
     given_each = given;
-    in_turn = turn_more questions [] between calls1 (stay between);
-    read_faults_rose = read_more [] read1 (rose_none read1);
-    put_faults_rose = put_more [] put1 (rose_none put1);
-    read_faults_stay = read_stay [] read1 (λ zero. refl);
-    put_faults_stay = put_stay [] put1 (λ zero. refl);
-    missed_stays = missed_more questions missed1 (none between);
+    in_turn = (between, asked, refl);
+    read_faults_rose = rose_by 6 status [] old.read_faults between.read_faults between.read_faults asked.faults.read_fault asked.faults.no_read_fault (rose_none between.read_faults);
+    put_faults_rose = rose_by 7 status [] old.put_faults between.put_faults between.put_faults asked.faults.write_fault asked.faults.no_write_fault (rose_none between.put_faults);
+    read_faults_stay = stay_by 6 status [] old.read_faults between.read_faults between.read_faults asked.faults.no_read_fault (λ zero. refl);
+    put_faults_stay = stay_by 7 status [] old.put_faults between.put_faults between.put_faults asked.faults.no_write_fault (λ zero. refl);
+    missed_stays = missed_more questions between.missed (none between.files);
   }
     where
       none_more : List ℕ
@@ -341,11 +309,7 @@ module _ (q : Question) (number : ℕ) (held between : Option FileMap) (read rea
       place : number ≡ number + length none_more
       place = omega arith
 
-      stay : (h : Option FileMap) → BeforeAndAfter h h (λ files files'. LeaveInTurn questions [] files files' calls1 calls1)
-      stay None = refl
-      stay (Some files) = (files, refl, (refl, refl))
-
-      none : (h : Option FileMap) → IfSome h (λ files. All (AutomataAreThere files) questions → missed1 ≡ missed1)
+      none : (h : Option FileMap) → IfSome h (λ files. All (AutomataAreThere files) questions → between.missed ≡ between.missed)
       none None = tt
       none (Some files) = λ there. refl
 
@@ -358,87 +322,72 @@ stops_eleven r p = elim p [
   | inr (bytes, (line, is, e)) ↦ (ap (λ z. status_number z.status) e, ap (λ z. status_unsent (ending.Reached z)) e)
 ]
 
-pub unread_status : (list : List ℕ) (held held' : Option FileMap) (status : ℕ) (sent sent' : Option (List ℕ)) (give give' read read' put put' : ℕ)
-    → IsCarriedOut NoReply (batch_inputs list) held held' status sent sent' give give' read read' put put' → IsStatusOfNoneAsked status
-unread_status list held held' status sent sent' give give' read read' put put' c = go c.end c.ends.may c.said
-  where
-    reached : (r : Reply) → MayStopAt (kind.Questions) r → WasSaid (ending.Reached r) status sent sent' give give' → IsStatusOfNoneAsked status
-    reached r may said = elim said [ inl whole ↦ inr (inr (whole.0 ∙ (stops_eleven r may).0)) | inr front ↦ inr (inr (front.0 ∙ (stops_eleven r may).1)) ]
+module _ (list : List ℕ) (call : Call) where
+  pub unread_status : IsCarriedOut (only_reading (batch_inputs list)) call → IsStatusOfNoneAsked call.status
+  unread_status c = go c.end c.ends.may c.said
+    where
+      reached : (r : Reply) → MayStopAt (kind.Questions) r → WasSaid (ending.Reached r) call.status call.before.sink call.after.sink → IsStatusOfNoneAsked call.status
+      reached r may said = elim said [ inl whole ↦ inr (inr (whole.0 ∙ (stops_eleven r may).0)) | inr front ↦ inr (inr (front.0 ∙ (stops_eleven r may).1)) ]
 
-    go : (e : Ending) → MayEnd NoReply (batch_inputs list) e → WasSaid e status sent sent' give give' → IsStatusOfNoneAsked status
-    go (ending.Reached r) may said = elim may [
-      | inl stop ↦ elim stop [ inl here ↦ reached r here said | inr none ↦ absurd none ]
-      | inr (values, kinds, none) ↦ absurd none
-    ]
-    go (ending.ReadFault) may said = inl (elim said [ inl whole ↦ whole.0 | inr front ↦ front.0 ])
-    go (ending.OutOfMemory) may said = inr (inl (elim said [ inl whole ↦ whole.0 | inr front ↦ front.0 ]))
-    go (ending.WriteFault) (r, may, some) said = elim may [
-      | inl stop ↦ (let none = ap length (may_plain (batch_inputs list) r stop).1 in absurd (omega arith))
-      | inr (values, kinds, none) ↦ absurd none
-    ]
+      go : (e : Ending) → MayEnd (only_reading (batch_inputs list)) e → WasSaid e call.status call.before.sink call.after.sink → IsStatusOfNoneAsked call.status
+      go (ending.Reached r) may said = elim may [
+        | inl stop ↦ elim stop [ inl here ↦ reached r here said | inr none ↦ absurd none ]
+        | inr (values, kinds, none) ↦ absurd none
+      ]
+      go (ending.ReadFault) may said = inl (elim said [ inl whole ↦ whole.0 | inr front ↦ front.0 ])
+      go (ending.OutOfMemory) may said = inr (inl (elim said [ inl whole ↦ whole.0 | inr front ↦ front.0 ]))
+      go (ending.WriteFault) (r, may, some) said = elim may [
+        | inl stop ↦ (let none = ap length (may_plain (batch_inputs list) r stop).1 in absurd (omega arith))
+        | inr (values, kinds, none) ↦ absurd none
+      ]
 
--- and nothing is put
-pub puts_none : (list : List ℕ) (status : ℕ) (held held' : Option FileMap) (put_faults put_faults' before now : ℕ) → IsStatusOfNoneAsked status → PutsByStatus NoReply (batch_inputs list) status held held' put_faults put_faults' before now → now ≡ before
-puts_none list status held held' put_faults put_faults' before now known puts = elim known [
-  | inl six ↦ puts.read_fault six
-  | inr more ↦ elim more [
-    | inl eight ↦ puts.memory eight
-    | inr eleven ↦
-        let (r, (may, right), is, each) = puts.own (λ z. omega arith, λ z. omega arith, λ z. omega arith) in
-        elim may [
-          | inl stop ↦ subst (λ ps. PutEach ps before now) (may_plain (batch_inputs list) r stop).1 each
-          | inr (values, kinds, none) ↦ absurd none
-        ]
+  -- and nothing is put
+  pub puts_none : IsStatusOfNoneAsked call.status → PutsByStatus (only_reading (batch_inputs list)) call.status call.before.shelf call.after.shelf → call.after.shelf.puts ≡ call.before.shelf.puts
+  puts_none known puts = elim known [
+    | inl six ↦ puts.read_fault six
+    | inr more ↦ elim more [
+      | inl eight ↦ puts.memory eight
+      | inr eleven ↦
+          let (r, (may, right), is, each) = puts.own (λ z. omega arith, λ z. omega arith, λ z. omega arith) in
+          elim may [
+            | inl stop ↦ subst (λ ps. PutEach ps call.before.shelf.puts call.after.shelf.puts) (may_plain (batch_inputs list) r stop).1 each
+            | inr (values, kinds, none) ↦ absurd none
+          ]
+    ]
   ]
-]
 
--- ---- what the status of a batch says
+  -- ---- what the status of a batch says
 
-module _ (list : List ℕ) (held held' : Option FileMap) (status : ℕ) (sent sent' : Option (List ℕ)) (give give' gives gives' read read' put put' missed missed' : ℕ) (calls calls' : ShelfCounts)
-    (is : IsBatch list held held' status sent sent' give give' gives gives' read read' put put' missed missed' calls calls') where
+  all_said : call.status ≡ 0 → FaultsHaveCauses call
+  all_said zero = record { read_fault = λ six. absurd (omega arith); read_line = λ six. absurd (omega arith); write_fault = λ seven. absurd (omega arith); memory = λ eight. absurd (omega arith) }
+
+  last_refused : call.status ≡ 7 → Rose call.before.sink.give_faults call.after.sink.give_faults → FaultsHaveCauses call
+  last_refused seven rose = record { read_fault = λ six. absurd (omega arith); read_line = λ six. absurd (omega arith); write_fault = λ again. inl rose; memory = λ eight. absurd (omega arith) }
+
+  unread_cause : NoneAsked list call → FaultsHaveCauses call
+  unread_cause u = (tells_faults (only_reading (batch_inputs list)) call u.carried.end u.carried.ends u.carried.said).cause
+
+  unread_ends : NoneAsked list call → EndsBatch call
+  unread_ends u = elim u.known [
+    | inl six ↦ inr (inr (inr (inl (six, (unread_cause u).read_fault six))))
+    | inr more ↦ elim more [ inl eight ↦ inr (inr (inl eight)) | inr eleven ↦ inr (inl eleven) ]
+  ]
+
   -- unless no question was asked it is 0 or 7
-  others : (P : Type 0) → (NoneAsked list held held' status sent sent' give give' gives gives' read read' put put' missed missed' calls calls' → P) → (status ≡ 0 → P) → (status ≡ 7 → Rose give give' → P) → P
-  others P unread all refused = elim is [
-    | inl u ↦ unread u
-    | inr asked ↦ elim asked.each.said [ inl said ↦ all said.0 | inr last ↦ refused last.0 last.1 ]
+  pub is_batch : NoneAsked list call ⊎ AreAsked list call → IsBatch list call
+  is_batch how = elim how [
+    | inl u ↦ record { how = inl u; cause = unread_cause u; ends = unread_ends u }
+    | inr asked ↦ elim asked.each.said [
+      | inl said ↦ record { how = inr asked; cause = all_said said.0; ends = inl said.0 }
+      | inr last ↦ record { how = inr asked; cause = last_refused last.0 last.1; ends = inr (inr (inr (inr last.1))) }
+    ]
   ]
 
-  pub answers_batch : AnswersBatch (Batch list) status give give' read read'
-  answers_batch =
-      others (AnswersBatch (Batch list) status give give' read read')
-      (λ u. elim u.known [
-        | inl six ↦ inr (inr (inr (inl (six, read_fault_of NoReply (batch_inputs list) held held' status sent sent' give give' read read' put put' u.carried.end u.carried.ends u.carried.said six))))
-        | inr more ↦ elim more [ inl eight ↦ inr (inr (inl eight)) | inr eleven ↦ inr (inl eleven) ]
-      ])
-      (λ zero. inl zero) (λ seven rose. inr (inr (inr (inr rose))))
-
-  pub no_usage : status ≡ 3 → ⊥
-  no_usage three =
-      others ⊥ (λ u. elim u.known [ inl six ↦ omega arith | inr more ↦ elim more [ inl eight ↦ omega arith | inr eleven ↦ omega arith ] ])
-      (λ zero. omega arith) (λ seven rose. omega arith)
-
-  pub unread_list : status ≡ 6 → Rose read read'
-  unread_list six =
-      others (Rose read read')
-      (λ u. read_fault_of NoReply (batch_inputs list) held held' status sent sent' give give' read read' put put' u.carried.end u.carried.ends u.carried.said six)
-      (λ zero. absurd (omega arith)) (λ seven rose. absurd (omega arith))
-
-  pub says_unread : status ≡ 6 → (held' ≡ held) × SaysOnly read_line status sent sent' give give'
-  says_unread six =
-      others ((held' ≡ held) × SaysOnly read_line status sent sent' give give')
-      (λ u. read_line_of NoReply (batch_inputs list) held held' status sent sent' give give' read read' put put' u.carried.end u.carried.ends u.carried.said six)
-      (λ zero. absurd (omega arith)) (λ seven rose. absurd (omega arith))
-
-  pub says_refused : status ≡ 8 → (held' ≡ held) × SaysOnly memory_line status sent sent' give give'
-  says_refused eight =
-      others ((held' ≡ held) × SaysOnly memory_line status sent sent' give give')
-      (λ u. memory_of NoReply (batch_inputs list) held held' status sent sent' give give' read read' put put' u.carried.end u.carried.ends u.carried.said eight)
-      (λ zero. absurd (omega arith)) (λ seven rose. absurd (omega arith))
-
-  pub refused_line : status ≡ 7 → Rose give give' ⊎ Rose put put'
-  refused_line seven =
-      others (Rose give give' ⊎ Rose put put') (λ u. absurd (elim u.known [ inl six ↦ omega arith | inr more ↦ elim more [ inl eight ↦ omega arith | inr eleven ↦ omega arith ] ]))
-      (λ zero. absurd (omega arith)) (λ is_seven rose. inl rose)
+  pub no_usage : IsBatch list call → call.status ≡ 3 → ⊥
+  no_usage is three = elim is.how [
+    | inl u ↦ elim u.known [ inl six ↦ omega arith | inr more ↦ elim more [ inl eight ↦ omega arith | inr eleven ↦ omega arith ] ]
+    | inr asked ↦ elim asked.each.said [ inl said ↦ (let zero : call.status ≡ 0 = said.0 in omega arith) | inr last ↦ (let seven : call.status ≡ 7 = last.0 in omega arith) ]
+  ]
 
 -- ---- names
 
@@ -473,23 +422,22 @@ list_is_of_questions questions (bytes, is) = (is.words, is.few)
 -- ---- the whole batch
 
 -- the list is not read
-pub batch_unread : (list : List ℕ) (slot : Input) (held held' : Option FileMap) (status : ℕ) (sent sent' : Option (List ℕ)) (give give' gives gives' read read' put put' missed missed' : ℕ) (calls calls' : ShelfCounts) (e : Ending)
-    → slot ≡ list_file list → EndsSo NoReply (slot ∷ []) e held held' read read' put put' → WasSaid e status sent sent' give give' → gives' ≡ counted gives → CountsMissing held slot.name missed missed' → calls'.put_calls ≡ calls.put_calls
-    → BegunByStatus (slot ∷ []) (status_of e) held calls'.blamed calls.begins calls'.begins
-    → IsBatch list held held' status sent sent' give give' gives gives' read read' put put' missed missed' calls calls'
-batch_unread list slot held held' status sent sent' give give' gives gives' read read' put put' missed missed' calls calls' e is ends said given counts put_calls_stay begun =
-    let carried : IsCarriedOut NoReply (batch_inputs list) held held' status sent sent' give give' read read' put put' =
-    record { end = e; ends = subst (λ (i : Input). EndsSo NoReply (i ∷ []) e held held' read read' put put') is ends; said = said } in
-    inl (record {
+pub batch_unread : (list : List ℕ) (slot : Input) (old new : ShelfSeen) (sink sink' : SinkSeen) (status : ℕ) (e : Ending)
+    → slot ≡ list_file list → EndsSo (only_reading (slot ∷ [])) e old new → WasSaid e status sink sink' → sink'.gives ≡ counted sink.gives → CountsMissing old.files slot.name old.missed new.missed → new.puts ≡ old.puts
+    → BegunByStatus (slot ∷ []) (status_of e) old new
+    → IsBatch list (call_of old new sink sink' status)
+batch_unread list slot old new sink sink' status e is ends said given counts puts_stay begun =
+    let whole : Call = call_of old new sink sink' status in
+    let carried : IsCarriedOut (only_reading (batch_inputs list)) whole =
+    carried_out (only_reading (batch_inputs list)) whole e (subst (λ (i : Input). EndsSo (only_reading (i ∷ [])) e old new) is ends) said (λ values r s kinds p p'. absurd p) in
+    is_batch list whole (inl (record {
       carried = carried;
-      known = unread_status list held held' status sent sent' give give' read read' put put' carried;
+      known = unread_status list whole carried;
       given_once = given;
-      missing = counts_here held (list_file list) [] missed missed' (subst (λ (i : Input). CountsMissing held i.name missed missed') is counts);
-      begun =
-          begun_by_status (batch_inputs list) held calls'.blamed calls.begins calls'.begins e status
-          (subst (λ (i : Input). BegunByStatus (i ∷ []) (status_of e) held calls'.blamed calls.begins calls'.begins) is begun) (elim said [ inl whole ↦ inl whole.0 | inr front ↦ inr front.0 ]);
-      put_calls_stay = put_calls_stay;
-    })
+      missing = counts_here old.files (list_file list) [] old.missed new.missed (subst (λ (i : Input). CountsMissing old.files i.name old.missed new.missed) is counts);
+      begun = begun_by_status (batch_inputs list) old new e status (subst (λ (i : Input). BegunByStatus (i ∷ []) (status_of e) old new) is begun) (elim said [ inl sent ↦ inl sent.0 | inr front ↦ inr front.0 ]);
+      puts_stay = puts_stay;
+    }))
 
 -- the list was read, so its name was not missed
 read_is_held : (files : FileMap) (i : Input) (v : Value) (before now : ℕ) → FileReads files i v → CountsMissing (Some files) i.name before now → now ≡ before
@@ -500,39 +448,27 @@ read_is_held files i v before now (bytes, has, few, reads) counts = counts ∙ g
     go false is = absurd (false≢true is)
 
 -- the list is read, and its questions are carried out
-pub batch_asked : (list : List ℕ) (slot : Input) (held held1 held' : Option FileMap) (status : ℕ) (sent sent' : Option (List ℕ)) (give give' gives gives' read read1 read' put put1 put' missed missed1 missed' : ℕ) (calls calls1 calls' : ShelfCounts) (questions : List Question)
-    → slot ≡ list_file list → IsOfKind slot.kind (value.Questions questions) → IfSome held (λ files. FileReads files slot (value.Questions questions)) → CountsMissing held slot.name missed missed1
-    → held1 ≡ held → read1 ≡ read → put1 ≡ put → calls1.begins ≡ counted calls.begins → calls1.put_calls ≡ calls.put_calls → calls1.read_faults ≡ calls.read_faults → calls1.put_faults ≡ calls.put_faults
-    → IsCarriedEach 1 questions held1 held' status sent sent' give give' gives gives' read1 read' put1 put' missed1 missed' calls1 calls'
-    → IsBatch list held held' status sent sent' give give' gives gives' read read' put put' missed missed' calls calls'
-batch_asked list slot held held1 held' status sent sent' give give' gives gives' read read1 read' put put1 put' missed missed1 missed' calls calls1 calls' questions is kind reads counts held_stays read_stays put_stays begun put_calls_stay no_read no_put each =
+pub batch_asked : (list : List ℕ) (slot : Input) (old mid new : ShelfSeen) (sink sink' : SinkSeen) (status : ℕ) (questions : List Question)
+    → slot ≡ list_file list → IsOfKind slot.kind (value.Questions questions) → IfSome old.files (λ files. FileReads files slot (value.Questions questions)) → CountsMissing old.files slot.name old.missed mid.missed
+    → OnlyRead (counted old.begins) old mid → mid.read_faults ≡ old.read_faults
+    → IsCarriedEach 1 questions (call_of mid new sink sink' status)
+    → IsBatch list (call_of old new sink sink' status)
+batch_asked list slot old mid new sink sink' status questions is kind reads counts only_read read_stays each =
     let of = list_is_of_questions questions (subst (λ (i : Input). IsOfKind i.kind (value.Questions questions)) is kind) in
-    inr (record {
+    let same : mid ≡ after_reading old mid.blamed =
+    only_read ∙ ap (λ (n : ℕ). with_both n mid.missed) read_stays ∙ ap (λ (n : ℕ). with_both old.read_faults n) (stays old.files reads counts) in
+    is_batch list (call_of old new sink sink' status) (inr (record {
       questions = questions;
       words = of.0;
       few = of.1;
-      read = subst (λ (i : Input). IfSome held (λ files. FileReads files i (value.Questions questions))) is reads;
-      blamed = calls1.blamed;
-      each = record {
-        statuses = each.statuses;
-        within = each.within;
-        known = each.known;
-        said = each.said;
-        given_each = each.given_each;
-        in_turn =
-            subst (λ n. BeforeAndAfter held held' (λ files files'. LeaveInTurn questions each.statuses files files' (shelf_counts n calls.put_calls calls.read_faults calls.put_faults calls1.blamed) calls')) begun
-            (subst (λ n. BeforeAndAfter held held' (λ files files'. LeaveInTurn questions each.statuses files files' (shelf_counts calls1.begins n calls.read_faults calls.put_faults calls1.blamed) calls')) put_calls_stay
-            (subst (λ n. BeforeAndAfter held held' (λ files files'. LeaveInTurn questions each.statuses files files' (shelf_counts calls1.begins calls1.put_calls n calls.put_faults calls1.blamed) calls')) no_read
-            (subst (λ n. BeforeAndAfter held held' (λ files files'. LeaveInTurn questions each.statuses files files' (shelf_counts calls1.begins calls1.put_calls calls1.read_faults n calls1.blamed) calls')) no_put
-            (subst (λ (h : Option FileMap). BeforeAndAfter h held' (λ files files'. LeaveInTurn questions each.statuses files files' calls1 calls')) held_stays each.in_turn))));
-        read_faults_rose = subst (λ n. RoseBy (times 6 each.statuses) n read') read_stays each.read_faults_rose;
-        put_faults_rose = subst (λ n. RoseBy (times 7 each.statuses) n put') put_stays each.put_faults_rose;
-        read_faults_stay = λ none. each.read_faults_stay none ∙ read_stays;
-        put_faults_stay = λ none. each.put_faults_stay none ∙ put_stays;
-        missed_stays = stays held reads counts (subst (λ (h : Option FileMap). IfSome h (λ files. All (AutomataAreThere files) questions → missed' ≡ missed1)) held_stays each.missed_stays);
-      };
-    })
+      read = subst (λ (i : Input). IfSome old.files (λ files. FileReads files i (value.Questions questions))) is reads;
+      blamed = mid.blamed;
+      each = subst (λ (s : ShelfSeen). IsCarriedEach 1 questions (call_of s new sink sink' status)) same each;
+    }))
   where
-    stays : (h : Option FileMap) → IfSome h (λ files. FileReads files slot (value.Questions questions)) → CountsMissing h slot.name missed missed1 → IfSome h (λ files. All (AutomataAreThere files) questions → missed' ≡ missed1) → IfSome h (λ files. All (AutomataAreThere files) questions → missed' ≡ missed)
-    stays None reads counts later = tt
-    stays (Some files) reads counts later = λ there. later there ∙ read_is_held files slot (value.Questions questions) missed missed1 reads counts
+    with_both : ℕ → ℕ → ShelfSeen
+    with_both faults missed = record old { begins = counted old.begins; read_faults = faults; blamed = mid.blamed; missed = missed }
+
+    stays : (h : Option FileMap) → IfSome h (λ files. FileReads files slot (value.Questions questions)) → CountsMissing h slot.name old.missed mid.missed → mid.missed ≡ old.missed
+    stays None reads counts = counts
+    stays (Some files) reads counts = read_is_held files slot (value.Questions questions) old.missed mid.missed reads counts

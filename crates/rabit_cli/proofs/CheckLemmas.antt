@@ -1,7 +1,8 @@
 -- `check`: one reply, and what it shows.
-use Rattle.std.proofs.Common.{◌≡◌, ℕ, ◌≤◌, ◌⊎◌, List, [], Option, inl, inr, refl, sym, ◌∙◌, ap, subst, arith}
+use Rattle.std.proofs.Common.{◌≡◌, ℕ, ◌≤◌, ◌⊎◌, List, [], inl, inr, refl, sym, ◌∙◌, ap, subst, arith}
 use Rattle.std.specs.Io.KnownBytes.{append_known}
 use Rattle.shelf_io.specs.Shelf.{FileMap}
+use Rattle.shelf_io.specs.Seen.{Call}
 use Rattle.ba_format.specs.declared.parts.Named.{Named}
 use Rattle.ba_format.specs.declared.parts.Joined.{Joined}
 use Rattle.ba_format.specs.Joining.{IsJoined}
@@ -17,6 +18,7 @@ use Rattle.rabit_frame.specs.declared.parts.Value.{Value}
 use Rattle.rabit_frame.specs.declared.parts.Status.TheVariants as status
 use Rattle.rabit_frame.specs.declared.parts.Reply.{Reply}
 use Rattle.rabit_frame.specs.Statuses.{status_number}
+use Rattle.rabit_frame.specs.Ending.{Sends}
 use Rattle.rabit_frame.specs.Reading.{only_said, ReadInTurn}
 use Rattle.rabit_replies.specs.Printed.{refused_text}
 use Rattle.rabit_replies.specs.Files.{ReadsPair, ReadsCertificate}
@@ -65,14 +67,14 @@ check_asked values r (one, two, cert, is, (pair, joined, concludes)) three =
     go (NoWord w) e = (let f = ap (λ z. status_number z.status) e in omega arith)
     go (Listing l) e = (let f = ap (λ z. status_number z.status) e in omega arith)
 
-module _ (files : FileMap) (a b c : List ℕ) (status : ℕ) (sent sent' : Option (List ℕ)) (r : Reply) where
-  shows_high : 3 ≤ status → ShowsCheck files a b c status sent sent'
+module _ (files : FileMap) (a b c : List ℕ) (call : Call) (r : Reply) where
+  shows_high : 3 ≤ call.status → ShowsCheck a b c call files
   shows_high high = record { included = λ e. absurd (omega arith); not_included = λ e. absurd (omega arith); listed = λ e. absurd (omega arith) }
 
-  module _ (number : status_number r.status ≡ status) (sends : sent' ≡ append_known sent r.text) where
-    shows_valid : (pair : Joined) (cert : Cert) → ReadsPair files a b pair → ReadsCertificate files c cert → KeepsRules pair cert → (body : Body) → cert.body ≡ body → IsVerdictReply cert.mode pair body [] r → ShowsCheck files a b c status sent sent'
+  module _ (number : status_number r.status ≡ call.status) (sends : Sends r.text call.before.sink call.after.sink) where
+    shows_valid : (pair : Joined) (cert : Cert) → ReadsPair files a b pair → ReadsCertificate files c cert → KeepsRules pair cert → (body : Body) → cert.body ≡ body → IsVerdictReply cert.mode pair body [] r → ShowsCheck a b c call files
     shows_valid pair cert read certificate keeps (Yes evidence) is says =
-        let zero : status ≡ 0 = sym number ∙ ap (λ z. status_number z.status) says in
+        let zero : call.status ≡ 0 = sym number ∙ ap (λ z. status_number z.status) says in
         record {
           included = λ e. record {
             pair = pair;
@@ -83,13 +85,13 @@ module _ (files : FileMap) (a b c : List ℕ) (status : ℕ) (sent sent' : Optio
             says_yes = is;
             valid = record { formed = certificate.3.0; keeps = keeps };
             includes = valid_yes_includes pair cert evidence is certificate.3.0 read.4.first.valid read.4.second.valid keeps;
-            printed = sends ∙ ap (λ z. append_known sent z.text) says;
+            printed = sends ∙ ap (λ z. append_known call.before.sink.sent z.text) says;
           };
           not_included = λ e. absurd (omega arith);
           listed = λ e. absurd (omega arith);
         }
     shows_valid pair cert read certificate keeps (NoLasso lasso) is says =
-        let one : status ≡ 1 = sym number ∙ ap (λ z. status_number z.status) says in
+        let one : call.status ≡ 1 = sym number ∙ ap (λ z. status_number z.status) says in
         let all = subst (λ z. BodyHolds cert.mode pair z) is keeps.1 in
         record {
           included = λ e. absurd (omega arith);
@@ -99,12 +101,12 @@ module _ (files : FileMap) (a b c : List ℕ) (status : ℕ) (sent sent' : Optio
             read = read;
             certificate = certificate;
             valid = record { formed = certificate.3.0; keeps = keeps };
-            apart = subst (λ z. SaysApart pair z sent sent') (sym is) ((all.1.1.0, all.1.1.1.0), sends ∙ ap (λ z. append_known sent z.text) says);
+            apart = subst (λ z. SaysApart pair z call.before.sink call.after.sink) (sym is) ((all.1.1.0, all.1.1.1.0), sends ∙ ap (λ z. append_known call.before.sink.sent z.text) says);
           };
           listed = λ e. absurd (omega arith);
         }
     shows_valid pair cert read certificate keeps (NoWord word) is says =
-        let one : status ≡ 1 = sym number ∙ ap (λ z. status_number z.status) says in
+        let one : call.status ≡ 1 = sym number ∙ ap (λ z. status_number z.status) says in
         let all = subst (λ z. BodyHolds cert.mode pair z) is keeps.1 in
         record {
           included = λ e. absurd (omega arith);
@@ -114,12 +116,12 @@ module _ (files : FileMap) (a b c : List ℕ) (status : ℕ) (sent sent' : Optio
             read = read;
             certificate = certificate;
             valid = record { formed = certificate.3.0; keeps = keeps };
-            apart = subst (λ z. SaysApart pair z sent sent') (sym is) ((all.1.0, all.1.1.0), sends ∙ ap (λ z. append_known sent z.text) says);
+            apart = subst (λ z. SaysApart pair z call.before.sink call.after.sink) (sym is) ((all.1.0, all.1.1.0), sends ∙ ap (λ z. append_known call.before.sink.sent z.text) says);
           };
           listed = λ e. absurd (omega arith);
         }
     shows_valid pair cert read certificate keeps (Listing l) is says =
-        let two : status ≡ 2 = sym number ∙ ap (λ z. status_number z.status) says in
+        let two : call.status ≡ 2 = sym number ∙ ap (λ z. status_number z.status) says in
         record {
           included = λ e. absurd (omega arith);
           not_included = λ e. absurd (omega arith);
@@ -132,11 +134,11 @@ module _ (files : FileMap) (a b c : List ℕ) (status : ℕ) (sent sent' : Optio
             lists = is;
             valid = record { formed = certificate.3.0; keeps = keeps };
             different = kept_list_shows pair cert l is certificate.3.0 keeps;
-            printed = sends ∙ ap (λ z. append_known sent z.text) says;
+            printed = sends ∙ ap (λ z. append_known call.before.sink.sent z.text) says;
           };
         }
 
-    pub shows_check : (values : List Value) → ReadInTurn files (check_inputs a b c) values → MeansCheck values r → ShowsCheck files a b c status sent sent'
+    pub shows_check : (values : List Value) → ReadInTurn files (check_inputs a b c) values → MeansCheck values r → ShowsCheck a b c call files
     shows_check values reads (one, two, cert, is, (pair, joined, concludes)) =
         let (first, (second, (third, end))) = subst (ReadInTurn files (check_inputs a b c)) is reads in
         elim concludes [

@@ -26,6 +26,7 @@ use Rattle.rabit_frame.specs.declared.parts.Value.TheVariants as value
 use Rattle.rabit_frame.specs.declared.parts.Status.TheVariants as status
 use Rattle.rabit_frame.specs.declared.parts.Reply.{Reply}
 use Rattle.rabit_frame.specs.Files.{Output}
+use Rattle.rabit_frame.specs.Request.{request_with}
 use Rattle.rabit_frame.specs.Reading.{FileReads, ReadInTurn, only_said}
 use Rattle.rabit_frame.specs.Statuses.{status_number}
 use Rattle.rabit_frame.specs.Ending.{IsReplyFor, filed}
@@ -194,7 +195,7 @@ cross_checked files a b out look r not_a not_b from upto right zero short = elim
     | inl (has, e) ↦
         let (first, (second, end)) = subst (ReadInTurn files (pair_inputs a b)) is in_turn in
         let few : length (cross_text cross) ≤ 2 ^ 30 = subst (All (λ (put : Output). length put.bytes ≤ 2 ^ 30)) (ap (λ z. z.puts) e) short 0 (cross_put out cross) (omega arith) in
-        subst (λ z. IsReplyFor MeansCrossCheck (cross_check_inputs a b out) (filed files z.puts) (only_said z.status z.text)) (sym e)
+        subst (λ z. IsReplyFor (request_with (cross_check_inputs a b out) MeansCrossCheck) (filed files z.puts) (only_said z.status z.text)) (sym e)
         (inr (
           value.Automaton one ∷ value.Automaton two ∷ value.Cross cross ∷ [],
           (

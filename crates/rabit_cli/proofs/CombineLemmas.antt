@@ -1,9 +1,10 @@
 -- `union` and `intersect`: one reply, and what it shows.
-use Rattle.std.proofs.Common.{◌≡◌, ◌⊎◌, ℕ, ◌^◌, ◌<◌, Bool, true, false, not, List, [], ◌++◌, length, filter, All, Option, inl, inr, refl, sym, ◌∙◌, ap, subst, arith}
+use Rattle.std.proofs.Common.{◌≡◌, ◌⊎◌, ℕ, ◌^◌, ◌<◌, Bool, true, false, not, List, [], ◌++◌, length, filter, All, inl, inr, refl, sym, ◌∙◌, ap, subst, arith}
 use Rattle.std.specs.List.{list_any}
 use Rattle.std.specs.Io.KnownBytes.{append_known}
 use Rattle.std.proofs.lemmas.List.Elements.{All-append, All-filter}
 use Rattle.shelf_io.specs.Shelf.{FileMap}
+use Rattle.shelf_io.specs.Seen.{Call}
 use Rattle.auto_core.specs.Automaton.{Automaton, IsAutomaton}
 use Rattle.auto_core.specs.Accept.{Same}
 use Rattle.auto_core.specs.declared.parts.Mode.{Mode}
@@ -30,6 +31,7 @@ use Rattle.rabit_frame.specs.declared.parts.Value.{Value}
 use Rattle.rabit_frame.specs.declared.parts.Status.TheVariants as status
 use Rattle.rabit_frame.specs.declared.parts.Reply.{Reply}
 use Rattle.rabit_frame.specs.Statuses.{status_number}
+use Rattle.rabit_frame.specs.Ending.{Sends}
 use Rattle.rabit_frame.specs.Reading.{only_said, ReadInTurn}
 use Rattle.rabit_replies.specs.declared.files.TheConstants.{SECOND_LIMITS, FIRST_LIMITS}
 use Rattle.rabit_replies.specs.Files.{pair_inputs}
@@ -126,16 +128,16 @@ module _ (mode : Mode) (is_result accepts : Joined → Automaton → Type 0) (is
     (over : (pair : Joined) (C : Automaton) → is_result pair C → C.labels ≡ pair.first.labels)
     (right : (pair : Joined) (C : Automaton) → IsAutomaton pair.first → IsAutomaton pair.second → is_result pair C → accepts pair C)
     (same : (pair : Joined) (C D : Automaton) → Same C D mode → accepts pair C → accepts pair D)
-    (files : FileMap) (a b : List ℕ) (status : ℕ) (sent sent' : Option (List ℕ)) (r : Reply) (number : status_number r.status ≡ status) (sends : sent' ≡ append_known sent r.text)
+    (files : FileMap) (a b : List ℕ) (call : Call) (r : Reply) (number : status_number r.status ≡ call.status) (sends : Sends r.text call.before.sink call.after.sink)
   where
     shows_combined : (values : List Value) → ReadInTurn files (pair_inputs a b) values → MeansCombined (λ pair. IsCombinedReply (is_result pair) (is_too_large pair) pair.labels) values r →
-        ShowsCombined files a b is_result accepts status sent sent'
+        ShowsCombined a b is_result accepts call files
     shows_combined values reads (one, two, is, (pair, joined, inl (large, e))) =
-        let twelve : status ≡ 12 = sym number ∙ ap (λ z. status_number z.status) e in
+        let twelve : call.status ≡ 12 = sym number ∙ ap (λ z. status_number z.status) e in
         record { shown = λ f. absurd (omega arith); no_other = (λ f. omega arith, λ f. omega arith) }
     shows_combined values reads (one, two, is, (pair, joined, inr (C, made, within, e))) =
         let ((bytes, has, few, first), ((bytes', has', few', second), end)) = subst (ReadInTurn files (pair_inputs a b)) is reads in
-        let zero : status ≡ 0 = sym number ∙ ap (λ z. status_number z.status) e in
+        let zero : call.status ≡ 0 = sym number ∙ ap (λ z. status_number z.status) e in
         let labels = joined_fit one two pair joined (labels_fit bytes FIRST_LIMITS one first) (labels_fit bytes' SECOND_LIMITS two second) in
         let writable : IsWritable C pair.labels = record { valid = valid pair C made; all_named = omega (arith, over pair C made, joined.first.labels_given); different = labels.1; fit = labels.0 } in
         let so = right pair C joined.first.valid joined.second.valid made in
@@ -153,7 +155,7 @@ module _ (mode : Mode) (is_result accepts : Joined → Automaton → Type 0) (is
                   let small : length other.labels < 2 ^ 32 = omega (arith, j.first.valid.labels_fit, j.first.labels_given) in
                   same pair C other.second (written_same pair.labels C mode writable limits again other back j.labels small j.second) so;
             };
-            printed = sends ∙ ap (λ z. append_known sent z.text) e;
+            printed = sends ∙ ap (λ z. append_known call.before.sink.sent z.text) e;
           };
           no_other = (λ f. omega arith, λ f. omega arith);
         }
@@ -175,13 +177,13 @@ intersection_right : (m : Mode) (pair : Joined) (C : Automaton) → IsAutomaton 
 intersection_right Buchi pair C first second is = intersection_lassos pair.first pair.second C is
 intersection_right Finite pair C first second is = intersection_words pair.first pair.second C is
 
-module _ (files : FileMap) (a b : List ℕ) (m : Mode) (status : ℕ) (sent sent' : Option (List ℕ)) (r : Reply) (number : status_number r.status ≡ status) (sends : sent' ≡ append_known sent r.text) where
-  pub shows_union : (values : List Value) → ReadInTurn files (pair_inputs a b) values → MeansUnion m values r → ShowsUnion files a b m status sent sent'
+module _ (files : FileMap) (a b : List ℕ) (m : Mode) (call : Call) (r : Reply) (number : status_number r.status ≡ call.status) (sends : Sends r.text call.before.sink call.after.sink) where
+  pub shows_union : (values : List Value) → ReadInTurn files (pair_inputs a b) values → MeansUnion m values r → ShowsUnion a b m call files
   shows_union =
       shows_combined m (IsUnionOf m) (λ pair. AcceptsWhatEitherDoes m pair.first pair.second) (λ pair. IsUnionTooLarge pair.first pair.second)
-      (λ pair C is. is.valid) (λ pair C is. is.labels) (union_right m) (λ pair. one_does m pair.first pair.second) files a b status sent sent' r number sends
+      (λ pair C is. is.valid) (λ pair C is. is.labels) (union_right m) (λ pair. one_does m pair.first pair.second) files a b call r number sends
 
-  pub shows_intersection : (values : List Value) → ReadInTurn files (pair_inputs a b) values → MeansIntersect m values r → ShowsIntersect files a b m status sent sent'
+  pub shows_intersection : (values : List Value) → ReadInTurn files (pair_inputs a b) values → MeansIntersect m values r → ShowsIntersect a b m call files
   shows_intersection =
       shows_combined m (IsIntersectionOf m) (λ pair. AcceptsWhatBothDo m pair.first pair.second) (λ pair. IsIntersectionTooLarge m pair.first pair.second)
-      (λ pair C is. is.valid) (λ pair C is. is.labels) (intersection_right m) (λ pair. both_do m pair.first pair.second) files a b status sent sent' r number sends
+      (λ pair C is. is.valid) (λ pair C is. is.labels) (intersection_right m) (λ pair. both_do m pair.first pair.second) files a b call r number sends

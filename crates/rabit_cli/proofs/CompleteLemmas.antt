@@ -1,6 +1,7 @@
 -- A question whose automata read is answered.
-use Rattle.std.proofs.Common.{◌≡◌, ℕ, List, [], ◌∷◌, Option, Some, None, IfSome, inl, inr, refl, ◌∙◌, ap, arith}
+use Rattle.std.proofs.Common.{◌≡◌, ◌⊎◌, ℕ, List, [], ◌∷◌, Option, Some, None, IfSome, inl, inr, refl, ◌∙◌, ap, arith}
 use Rattle.shelf_io.specs.Shelf.{FileMap}
+use Rattle.shelf_io.specs.Seen.{Call}
 use Rattle.rabit_frame.specs.declared.parts.Value.{Value}
 use Rattle.rabit_frame.specs.declared.parts.Reply.{Reply}
 use Rattle.rabit_frame.specs.declared.parts.Ending.{Ending}
@@ -21,8 +22,8 @@ use Rattle.rabit_cli.proofs.CrossLemmas.{cross_status, cross_check_status}
 use Rattle.rabit_cli.specs.Property.{property_inputs}
 use Rattle.rabit_cli.specs.Empty.{emptiness}
 use Rattle.rabit_cli.specs.Universal.{universality}
-use Rattle.rabit_cli.specs.Commands.{IsSingle, inputs_of, Means}
-use Rattle.rabit_cli.specs.Complete.{automata_of, MayAnswer, AnswersWhatReads}
+use Rattle.rabit_cli.specs.Commands.{IsSingle, request_of}
+use Rattle.rabit_cli.specs.Complete.{automata_of, MayAnswer, AnyRose, AnswersWhatReads}
 use Rattle.rabit_cli.proofs.CheckLemmas.{check_answers}
 use Rattle.rabit_cli.proofs.IncludeLemmas.{include_low}
 use Rattle.rabit_cli.proofs.CombineLemmas.{union_status, intersection_status}
@@ -61,7 +62,7 @@ third_stops files i j k (v ∷ w ∷ []) reads r refused stop = elim stop [
 ]
 third_stops files i j k (v ∷ w ∷ x ∷ more) reads r refused stop = absurd reads.1.1
 
-answers : (q : Question) → IsSingle (Some q) → (files : FileMap) (values : List Value) → ReadInTurn files (automata_of q) values → (r : Reply) → IsReplyFor (Means (Some q)) (inputs_of (Some q)) files r →
+answers : (q : Question) → IsSingle (Some q) → (files : FileMap) (values : List Value) → ReadInTurn files (automata_of q) values → (r : Reply) → IsReplyFor (request_of (Some q)) files r →
     (n : ℕ) → n ≡ status_number r.status → MayAnswer q files n
 answers (Check a b c) single files values reads r right n is = elim right [
   | inl stop ↦ inr (inl (is ∙ third_stops files (automaton_file 1 FIRST_LIMITS a) (automaton_file 2 SECOND_LIMITS b) (certificate_file c) values reads r (certificate_stops files c) stop))
@@ -127,18 +128,35 @@ wants (Shrink a b c out) single files n e = inr e
 wants (Empty a e' c m) single files n e = inr e
 wants (Universal a u c m) single files n e = inr e
 
-module _ (held held' : Option FileMap) (status : ℕ) (sent sent' : Option (List ℕ)) (give_faults give_faults' faults faults' put_faults put_faults' : ℕ) where
-  answers_on : (q : Question) → IsSingle (Some q) → (h : Option FileMap) (e : Ending) → BeforeAndAfter h held' (λ files files'. Leaves (Means (Some q)) (inputs_of (Some q)) e files files')
-      → EndsSo (Means (Some q)) (inputs_of (Some q)) e held held' faults faults' put_faults put_faults' → WasSaid e status sent sent' give_faults give_faults'
-      → IfSome h (λ files. AnswersWhatReads q files status give_faults give_faults' faults faults' put_faults put_faults')
+module _ (call : Call) where
+  abbrev Answered : Question → Option FileMap → Type 0
+  Answered q held = IfSome held (λ files. (values : List Value) → ReadInTurn files (automata_of q) values → MayAnswer q files call.status ⊎ AnyRose call)
+
+  answers_on : (q : Question) → IsSingle (Some q) → (h : Option FileMap) (e : Ending) → BeforeAndAfter h call.after.shelf.files (λ files files'. Leaves (request_of (Some q)) e files files')
+      → EndsSo (request_of (Some q)) e call.before.shelf call.after.shelf → WasSaid e call.status call.before.sink call.after.sink → Answered q h
   answers_on q single None e leaves ends said = tt
   answers_on q single (Some files) (ending.Reached s) (files', is, (right, left)) ends said = λ values reads.
-      elim said [ inl whole ↦ inl (answers q single files values reads s right status whole.0) | inr front ↦ inr (inr (inl front.1)) ]
+      elim said [ inl whole ↦ inl (answers q single files values reads s right call.status whole.0) | inr front ↦ inr (inr (inl front.1)) ]
   answers_on q single (Some files) (ending.ReadFault) leaves ends said = λ values reads. inr (inl (ends.read_fault refl))
   answers_on q single (Some files) (ending.WriteFault) leaves ends said = λ values reads. inr (inr (inr (ends.write_fault refl)))
-  answers_on q single (Some files) (ending.OutOfMemory) leaves ends said = λ values reads. inl (wants q single files status (elim said [ inl whole ↦ whole.0 | inr front ↦ front.0 ]))
+  answers_on q single (Some files) (ending.OutOfMemory) leaves ends said = λ values reads. inl (wants q single files call.status (elim said [ inl whole ↦ whole.0 | inr front ↦ front.0 ]))
 
-  pub answers_what_reads : (q : Option Question) → IsSingle q → IsCarriedOut (Means q) (inputs_of q) held held' status sent sent' give_faults give_faults' faults faults' put_faults put_faults'
-      → IfSome q (λ asked. IfSome held (λ files. AnswersWhatReads asked files status give_faults give_faults' faults faults' put_faults put_faults'))
-  answers_what_reads None single c = tt
-  answers_what_reads (Some q) single c = answers_on q single held c.end c.ends.leaves c.ends c.said
+  by_end : (q : Question) → IsSingle (Some q) → IsCarriedOut (request_of (Some q)) call → Answered q call.before.shelf.files
+  by_end q single c = answers_on q single call.before.shelf.files c.end c.ends.leaves c.ends c.said
+
+  pub answers_what_reads : (q : Option Question) → IsCarriedOut (request_of q) call → AnswersWhatReads q call
+  answers_what_reads None carried = tt
+  answers_what_reads (Some (Batch l)) carried = tt
+  answers_what_reads (Some (Check a b c)) carried = by_end (Check a b c) tt carried
+  answers_what_reads (Some (Include a b c m look limit letters)) carried = by_end (Include a b c m look limit letters) tt carried
+  answers_what_reads (Some (Reduce a m look letters)) carried = by_end (Reduce a m look letters) tt carried
+  answers_what_reads (Some (Drill seed states labels)) carried = by_end (Drill seed states labels) tt carried
+  answers_what_reads (Some (Upgrade c out)) carried = by_end (Upgrade c out) tt carried
+  answers_what_reads (Some (Cross a b out look)) carried = by_end (Cross a b out look) tt carried
+  answers_what_reads (Some (CrossCheck a b f)) carried = by_end (CrossCheck a b f) tt carried
+  answers_what_reads (Some (Equal a b c d)) carried = by_end (Equal a b c d) tt carried
+  answers_what_reads (Some (Union a b m)) carried = by_end (Union a b m) tt carried
+  answers_what_reads (Some (Intersect a b m)) carried = by_end (Intersect a b m) tt carried
+  answers_what_reads (Some (Shrink a b c out)) carried = by_end (Shrink a b c out) tt carried
+  answers_what_reads (Some (Empty a e c m)) carried = by_end (Empty a e c m) tt carried
+  answers_what_reads (Some (Universal a u c m)) carried = by_end (Universal a u c m) tt carried

@@ -1,7 +1,8 @@
 -- `cross` and `cross-check`: one reply, what it shows, and what it leaves.
-use Rattle.std.proofs.Common.{◌≡◌, ◌⊎◌, ℕ, ◌≤◌, List, [], ◌∷◌, Option, inl, inr, sym, ◌∙◌, ap, subst, arith}
+use Rattle.std.proofs.Common.{◌≡◌, ◌⊎◌, ℕ, ◌≤◌, List, [], ◌∷◌, inl, inr, sym, ◌∙◌, ap, subst, arith}
 use Rattle.std.specs.Io.KnownBytes.{append_known}
 use Rattle.shelf_io.specs.Shelf.{FileMap}
+use Rattle.shelf_io.specs.Seen.{Call}
 use Rattle.ba_format.specs.declared.parts.Named.{Named}
 use Rattle.ba_format.specs.declared.parts.Joined.{Joined}
 use Rattle.ba_format.specs.Joining.{IsJoined}
@@ -17,8 +18,9 @@ use Rattle.rabit_frame.specs.declared.parts.Status.TheVariants as status
 use Rattle.rabit_frame.specs.declared.parts.Reply.{Reply}
 use Rattle.rabit_frame.specs.declared.parts.Ending.{Ending}
 use Rattle.rabit_frame.specs.Statuses.{status_number}
+use Rattle.rabit_frame.specs.Request.{request_with}
 use Rattle.rabit_frame.specs.Reading.{ReadInTurn, StopInTurn, reply_with, only_said}
-use Rattle.rabit_frame.specs.Ending.{IsReplyFor, BeforeAndAfter, IsCutShort, WasSaid, filed}
+use Rattle.rabit_frame.specs.Ending.{IsReplyFor, BeforeAndAfter, IsCutShort, WasSaid, filed, Sends}
 use Rattle.rabit_frame.specs.Carrying.{EndsSo}
 use Rattle.rabit_frame.proofs.EndLemmas.{leaves_by_status}
 use Rattle.rabit_frame.proofs.OneLemmas.{one_read_in_turn, stop_or_read_in_turn}
@@ -77,9 +79,9 @@ module _ (files : FileMap) (a b out : List ℕ) (look : ℕ) where
     | inr (lacks, e) ↦ absurd (subst (λ ps. IsCutShort files ps files') (ap (λ z. z.puts) e) cut)
   ]
 
-  pub shows_cross : (status : ℕ) (files' : FileMap) (sent sent' : Option (List ℕ)) (r : Reply) → 1 ≤ look → look ≤ 6 → status_number r.status ≡ status → files' ≡ filed files r.puts → sent' ≡ append_known sent r.text → (values : List Value) →
-      ReadInTurn files (pair_inputs a b) values → MeansCross out look values r → ShowsCross files a b out look status files' sent sent'
-  shows_cross status files' sent sent' r from upto number left sends values reads (one, two, is, (pair, joined, (cross, of, says))) = elim says [
+  pub shows_cross : (call : Call) (files' : FileMap) (r : Reply) → 1 ≤ look → look ≤ 6 → status_number r.status ≡ call.status → files' ≡ filed files r.puts → Sends r.text call.before.sink call.after.sink → (values : List Value) →
+      ReadInTurn files (pair_inputs a b) values → MeansCross out look values r → ShowsCross a b out look call files files'
+  shows_cross call files' r from upto number left sends values reads (one, two, is, (pair, joined, (cross, of, says))) = elim says [
     | inl (has, e) ↦
         let zero = ap (λ z. status_number z.status) e in
         record {
@@ -89,7 +91,7 @@ module _ (files : FileMap) (a b out : List ℕ) (look : ℕ) where
             for = (read_pair values one two pair reads is joined, of, has);
             includes = kept_rules_include pair cross joined.second.valid (greatest_cross_keeps_rules pair look cross from upto of has);
             held = left ∙ ap (λ z. filed files z.puts) e;
-            printed = sends ∙ ap (λ z. append_known sent z.text) e;
+            printed = sends ∙ ap (λ z. append_known call.before.sink.sent z.text) e;
           };
           no_other = (λ z. omega arith, λ z. omega arith);
         }
@@ -107,10 +109,10 @@ module _ (files : FileMap) (a b out : List ℕ) (look : ℕ) where
         | inr (lacks, e) ↦ (pair, cross, read, of, inr (lacks, same ∙ ap (λ z. status_number z.status) e))
       ]
 
-module _ (held held' : Option FileMap) (status : ℕ) (sent sent' : Option (List ℕ)) (give_faults give_faults' faults faults' put_faults put_faults' : ℕ) (a b out : List ℕ) (look : ℕ) where
-  pub leaves_cross : (e : Ending) → EndsSo (MeansCross out look) (pair_inputs a b) e held held' faults faults' put_faults put_faults' → WasSaid e status sent sent' give_faults give_faults' → BeforeAndAfter held held' (λ files files'. LeavesCross files a b out look status put_faults put_faults' files')
+module _ (call : Call) (a b out : List ℕ) (look : ℕ) where
+  pub leaves_cross : (e : Ending) → EndsSo (request_with (pair_inputs a b) (MeansCross out look)) e call.before.shelf call.after.shelf → WasSaid e call.status call.before.sink call.after.sink → BeforeAndAfter call.before.shelf.files call.after.shelf.files (LeavesCross a b out look call)
   leaves_cross e ends said =
-      leaves_by_status (MeansCross out look) (pair_inputs a b) held held' status sent sent' give_faults give_faults' faults faults' put_faults put_faults' _ _ (cross_writes out look)
+      leaves_by_status (request_with (pair_inputs a b) (MeansCross out look)) call (λ before. HoldsCross before a b out look) (λ before. HoldsCrossFront before a b out look) (cross_writes out look)
       (λ files files' values r reads means low left. holds_cross files a b out look files' values r reads means low left)
       (λ files files' values r reads means cut. holds_cross_front files a b out look files' values r reads means cut) e ends said
 
@@ -145,8 +147,8 @@ cross_check_number values r (one, two, cross, is, (pair, joined, concludes)) =
     elim concludes [ inl broken ↦ inr (ap (λ z. status_number z.status) broken.2) | inr kept ↦ inl (ap (λ z. status_number z.status) kept.1) ]
 
 module _ (files : FileMap) (a b f : List ℕ) where
-  pub shows_cross_check : (status : ℕ) (sent sent' : Option (List ℕ)) (r : Reply) → status_number r.status ≡ status → sent' ≡ append_known sent r.text → (values : List Value) → ReadInTurn files (cross_check_inputs a b f) values → MeansCrossCheck values r → ShowsCrossCheck files a b f status sent sent'
-  shows_cross_check status sent sent' r number sends values reads (one, two, cross, is, (pair, joined, concludes)) =
+  pub shows_cross_check : (call : Call) (r : Reply) → status_number r.status ≡ call.status → Sends r.text call.before.sink call.after.sink → (values : List Value) → ReadInTurn files (cross_check_inputs a b f) values → MeansCrossCheck values r → ShowsCrossCheck a b f call files
+  shows_cross_check call r number sends values reads (one, two, cross, is, (pair, joined, concludes)) =
       let (first, (second, (third, end))) = subst (ReadInTurn files (cross_check_inputs a b f)) is reads in
       elim concludes [
         | inl broken ↦ (let five = ap (λ z. status_number z.status) broken.2 in record { related = λ z. absurd (omega arith); no_other = (λ z. omega arith, λ z. omega arith) })
@@ -160,14 +162,14 @@ module _ (files : FileMap) (a b f : List ℕ) where
                 relation = third;
                 keeps = keeps;
                 includes = kept_rules_include pair cross joined.second.valid keeps;
-                printed = sends ∙ ap (λ z. append_known sent z.text) e;
+                printed = sends ∙ ap (λ z. append_known call.before.sink.sent z.text) e;
               };
               no_other = (λ z. omega arith, λ z. omega arith);
             }
       ]
 
   -- the files tell one pair and one cross relation, so what they show is exact
-  pub cross_check_status : (r : Reply) → (StopInTurn files (cross_check_inputs a b f) r → status_number r.status ≡ 5) → IsReplyFor MeansCrossCheck (cross_check_inputs a b f) files r → (n : ℕ) → n ≡ status_number r.status → IsCrossCheckStatus files a b f n
+  pub cross_check_status : (r : Reply) → (StopInTurn files (cross_check_inputs a b f) r → status_number r.status ≡ 5) → IsReplyFor (request_with (cross_check_inputs a b f) MeansCrossCheck) files r → (n : ℕ) → n ≡ status_number r.status → IsCrossCheckStatus files a b f n
   cross_check_status r five right n same = elim right [
     | inl stop ↦ inr (λ (pair, cross, (one, two, first, second, joined), third, keeps). stop_or_read_in_turn files (cross_check_inputs a b f) r (value.Automaton one ∷ value.Automaton two ∷ value.Cross cross ∷ []) stop (first, (second, (third, tt))), same ∙ five stop)
     | inr (values, reads, (one, two, cross, is, (pair, joined, concludes))) ↦

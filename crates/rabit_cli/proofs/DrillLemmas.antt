@@ -1,7 +1,6 @@
 -- `drill`: one reply, and what it shows.
-use Rattle.std.proofs.Common.{◌≡◌, ℕ, List, [], ◌++◌, length, Option, inl, inr, refl, sym, ◌∙◌, ap, subst, arith}
+use Rattle.std.proofs.Common.{◌≡◌, ℕ, List, [], ◌++◌, length, inl, inr, refl, sym, ◌∙◌, ap, subst, arith}
 use Rattle.std.proofs.lemmas.List.{append_assoc}
-use Rattle.std.specs.Io.KnownBytes.{append_known}
 use Rattle.auto_core.specs.Outcome.{Entry, Outcome}
 use Rattle.auto_core.specs.Outcome as end
 use Rattle.auto_core.specs.declared.parts.Mode.TheVariants.{Buchi}
@@ -19,14 +18,15 @@ use Rattle.rabit_frame.specs.declared.parts.Value.{Value}
 use Rattle.rabit_frame.specs.declared.parts.Status.TheVariants as status
 use Rattle.rabit_frame.specs.declared.parts.Reply.{Reply}
 use Rattle.rabit_frame.specs.Statuses.{status_number}
+use Rattle.rabit_frame.specs.Request.{request_with}
 use Rattle.rabit_frame.specs.Reading.{only_said}
 use Rattle.rabit_frame.specs.declared.parts.Ending.{Ending}
 use Rattle.rabit_frame.specs.declared.parts.Ending.TheVariants as ending
 use Rattle.rabit_frame.specs.Ending.{WasSaid}
 use Rattle.rabit_frame.specs.Carrying.{EndsSo}
-use Rattle.shelf_io.specs.Shelf.{FileMap}
+use Rattle.shelf_io.specs.Seen.{Call}
 use Rattle.rabit_cli.proofs.IncludeLemmas.{usual_bounded}
-use Rattle.rabit_cli.specs.Drill.{drill_terms, exchanged, drill_text, AreDecided, MeansDrill, IsDrillText, ShowsDrill, SaysDrill}
+use Rattle.rabit_cli.specs.Drill.{drill_terms, exchanged, drill_text, AreDecided, MeansDrill, IsDrillText, SaysDrill}
 
 -- the drawn automata can be decided, in both orders
 pub can_draw : (d : Drill) (pair : Joined) → IsInBounds d → AreDrawn d pair → CanDecide pair
@@ -100,22 +100,13 @@ text_of d pair forth converse bounds a =
       is = refl;
     }
 
-pub shows_drill : (d : Drill) (status : ℕ) (sent sent' : Option (List ℕ)) (r : Reply) → IsInBounds d → status_number r.status ≡ status → sent' ≡ append_known sent r.text →
-    (values : List Value) → MeansDrill d values r → ShowsDrill d status sent sent'
-shows_drill d status sent sent' r bounds number sends values (pair, forth, converse, a, e) =
-    let zero : status ≡ 0 = sym number ∙ ap (λ z. status_number z.status) e in
-    record {
-      drilled = λ e'. (drill_text pair forth.body converse.body, text_of d pair forth converse bounds a, sends ∙ ap (λ z. append_known sent z.text) e);
-      no_other = (λ f. omega arith, λ f. omega arith);
-    }
-
-module _ (held held' : Option FileMap) (status : ℕ) (sent sent' : Option (List ℕ)) (give_faults give_faults' faults faults' put_faults put_faults' : ℕ) (d : Drill) (bounds : IsInBounds d) where
+module _ (call : Call) (d : Drill) (bounds : IsInBounds d) where
   -- what was said at the end
-  pub says_drill : (e : Ending) → EndsSo (MeansDrill d) [] e held held' faults faults' put_faults put_faults' → WasSaid e status sent sent' give_faults give_faults' → SaysDrill d status sent sent' give_faults give_faults'
+  pub says_drill : (e : Ending) → EndsSo (request_with [] (MeansDrill d)) e call.before.shelf call.after.shelf → WasSaid e call.status call.before.sink call.after.sink → SaysDrill d call
   says_drill (ending.Reached r) ends said = elim ends.may [
     | inl stop ↦ absurd stop
     | inr (values, kinds, (pair, forth, converse, a, is)) ↦
-        inl (drill_text pair forth.body converse.body, text_of d pair forth converse bounds a, subst (λ z. WasSaid (ending.Reached z) status sent sent' give_faults give_faults') is said)
+        inl (drill_text pair forth.body converse.body, text_of d pair forth converse bounds a, subst (λ z. WasSaid (ending.Reached z) call.status call.before.sink call.after.sink) is said)
   ]
   says_drill (ending.ReadFault) ends said = (let some = ends.may in absurd (omega arith))
   says_drill (ending.WriteFault) ends said =

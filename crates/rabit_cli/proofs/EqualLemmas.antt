@@ -1,7 +1,8 @@
 -- `equal`: one reply, what it shows, and what it leaves.
-use Rattle.std.proofs.Common.{◌≡◌, ◌⊎◌, ℕ, ◌≤◌, List, [], Option, inl, inr, refl, sym, ◌∙◌, ap, subst, arith}
+use Rattle.std.proofs.Common.{◌≡◌, ◌⊎◌, ℕ, ◌≤◌, List, [], inl, inr, refl, sym, ◌∙◌, ap, subst, arith}
 use Rattle.std.specs.Io.KnownBytes.{append_known}
 use Rattle.shelf_io.specs.Shelf.{FileMap}
+use Rattle.shelf_io.specs.Seen.{Call}
 use Rattle.auto_core.specs.Accept.{Includes, Same}
 use Rattle.auto_core.specs.declared.parts.Mode.TheVariants.{Buchi}
 use Rattle.ba_format.specs.declared.parts.Named.{Named}
@@ -25,9 +26,10 @@ use Rattle.rabit_frame.specs.declared.parts.Value.TheVariants as value
 use Rattle.rabit_frame.specs.declared.parts.Reply.{Reply}
 use Rattle.rabit_frame.specs.declared.parts.Ending.{Ending}
 use Rattle.rabit_frame.specs.Files.{Output}
+use Rattle.rabit_frame.specs.Request.{request_with}
 use Rattle.rabit_frame.specs.Statuses.{status_number}
 use Rattle.rabit_frame.specs.Reading.{ReadInTurn, FileReads}
-use Rattle.rabit_frame.specs.Ending.{BeforeAndAfter, IsCutShort, WasSaid, filed}
+use Rattle.rabit_frame.specs.Ending.{BeforeAndAfter, IsCutShort, WasSaid, filed, Sends}
 use Rattle.rabit_frame.specs.Carrying.{EndsSo}
 use Rattle.rabit_frame.proofs.EndLemmas.{leaves_by_status}
 use Rattle.rabit_replies.specs.declared.files.TheConstants.{SECOND_LIMITS}
@@ -148,10 +150,10 @@ module _ (files : FileMap) (a b c d : List ℕ) where
           )
     ]
 
-    module _ (status : ℕ) (files' : FileMap) (sent sent' : Option (List ℕ)) (r : Reply) (number : status_number r.status ≡ status) (left : files' ≡ filed files r.puts) (sends : sent' ≡ append_known sent r.text) where
-      shows_first : (cert : Cert) → IsAnswer pair (usual_terms Buchi) cert → IsNo cert.body → r ≡ first_apart_reply c pair cert → ShowsEqual files a b c d status files' sent sent'
+    module _ (call : Call) (files' : FileMap) (r : Reply) (number : status_number r.status ≡ call.status) (left : files' ≡ filed files r.puts) (sends : Sends r.text call.before.sink call.after.sink) where
+      shows_first : (cert : Cert) → IsAnswer pair (usual_terms Buchi) cert → IsNo cert.body → r ≡ first_apart_reply c pair cert → ShowsEqual a b c d call files files'
       shows_first cert answer is e =
-          let is_one : status ≡ 1 = sym number ∙ ap (λ z. status_number z.status) e in
+          let is_one : call.status ≡ 1 = sym number ∙ ap (λ z. status_number z.status) e in
           let for = first_for cert answer in
           record {
             equal = λ f. absurd (omega arith);
@@ -161,7 +163,7 @@ module _ (files : FileMap) (a b c d : List ℕ) where
               first = for;
               apart = separated pair cert.body is for.truth;
               held = left ∙ ap (λ z. filed files z.puts) e;
-              printed = sends ∙ ap (λ z. append_known sent z.text) e;
+              printed = sends ∙ ap (λ z. append_known call.before.sink.sent z.text) e;
             });
             listed = λ f. absurd (omega arith);
           }
@@ -176,9 +178,9 @@ module _ (files : FileMap) (a b c d : List ℕ) where
         held_by : (said : Both) → r ≡ reply_by said → files' ≡ filed files (both_puts c d cert converse)
         held_by said e = left ∙ ap (λ z. filed files z.puts) e ∙ ap (filed files) (puts_of_both said exchanged.labels converse.body (both_puts c d cert converse))
 
-        shows_equal_now : r ≡ reply_by both.Equal → form_of cert.body ≡ form.Yes → form_of converse.body ≡ form.Yes → Includes pair.first pair.second Buchi → Includes exchanged.first exchanged.second Buchi → ShowsEqual files a b c d status files' sent sent'
+        shows_equal_now : r ≡ reply_by both.Equal → form_of cert.body ≡ form.Yes → form_of converse.body ≡ form.Yes → Includes pair.first pair.second Buchi → Includes exchanged.first exchanged.second Buchi → ShowsEqual a b c d call files files'
         shows_equal_now e accepts converse_accepts forth back =
-            let zero : status ≡ 0 = sym number ∙ ap (λ z. status_number z.status) e in
+            let zero : call.status ≡ 0 = sym number ∙ ap (λ z. status_number z.status) e in
             record {
               equal = λ f. record {
                 pair = pair;
@@ -190,15 +192,15 @@ module _ (files : FileMap) (a b c d : List ℕ) where
                 converse_says_yes = converse_accepts;
                 same = same_by exchanged turned forth back;
                 held = held_by both.Equal e;
-                printed = sends ∙ ap (λ z. append_known sent z.text) e;
+                printed = sends ∙ ap (λ z. append_known call.before.sink.sent z.text) e;
               };
               apart = λ f. absurd (omega arith);
               listed = λ f. absurd (omega arith);
             }
 
-        shows_second : r ≡ reply_by both.SecondApart → IsNo converse.body → ShowsEqual files a b c d status files' sent sent'
+        shows_second : r ≡ reply_by both.SecondApart → IsNo converse.body → ShowsEqual a b c d call files files'
         shows_second e is =
-            let is_one : status ≡ 1 = sym number ∙ ap (λ z. status_number z.status) e in
+            let is_one : call.status ≡ 1 = sym number ∙ ap (λ z. status_number z.status) e in
             record {
               equal = λ f. absurd (omega arith);
               apart = λ f. inr (record {
@@ -210,14 +212,14 @@ module _ (files : FileMap) (a b c d : List ℕ) where
                 not_first = not;
                 apart = separated exchanged converse.body is certs.second.truth;
                 held = held_by both.SecondApart e;
-                printed = sends ∙ ap (λ z. append_known sent z.text) e;
+                printed = sends ∙ ap (λ z. append_known call.before.sink.sent z.text) e;
               });
               listed = λ f. absurd (omega arith);
             }
 
-        shows_limit : r ≡ reply_by both.Limit → ¬ IsNo converse.body → IsListBody cert.body ⊎ IsListBody converse.body → ShowsEqual files a b c d status files' sent sent'
+        shows_limit : r ≡ reply_by both.Limit → ¬ IsNo converse.body → IsListBody cert.body ⊎ IsListBody converse.body → ShowsEqual a b c d call files files'
         shows_limit e not' lists =
-            let two : status ≡ 2 = sym number ∙ ap (λ z. status_number z.status) e in
+            let two : call.status ≡ 2 = sym number ∙ ap (λ z. status_number z.status) e in
             record {
               equal = λ f. absurd (omega arith);
               apart = λ f. absurd (omega arith);
@@ -231,11 +233,11 @@ module _ (files : FileMap) (a b c d : List ℕ) where
                 not_second = not';
                 lists = lists;
                 held = held_by both.Limit e;
-                printed = sends ∙ ap (λ z. append_known sent z.text) e;
+                printed = sends ∙ ap (λ z. append_known call.before.sink.sent z.text) e;
               };
             }
 
-        by_bodies : (x y : Body) → cert.body ≡ x → converse.body ≡ y → r ≡ reply_by (said_by_both (form_of x) (form_of y)) → ShowsEqual files a b c d status files' sent sent'
+        by_bodies : (x y : Body) → cert.body ≡ x → converse.body ≡ y → r ≡ reply_by (said_by_both (form_of x) (form_of y)) → ShowsEqual a b c d call files files'
         by_bodies (NoLasso l) y is_x is_y e = absurd (not (subst IsNo (sym is_x) tt))
         by_bodies (NoWord w) y is_x is_y e = absurd (not (subst IsNo (sym is_x) tt))
         by_bodies (Yes p) (Yes q) is_x is_y e =
@@ -248,17 +250,17 @@ module _ (files : FileMap) (a b c d : List ℕ) where
         by_bodies (Listing l) (Yes q) is_x is_y e = shows_limit e (λ h. subst IsNo is_y h) (inl (subst IsListBody (sym is_x) tt))
         by_bodies (Listing l) (Listing m) is_x is_y e = shows_limit e (λ h. subst IsNo is_y h) (inl (subst IsListBody (sym is_x) tt))
 
-      shows_of : IsEqualReply c d one two pair r → ShowsEqual files a b c d status files' sent sent'
+      shows_of : IsEqualReply c d one two pair r → ShowsEqual a b c d call files files'
       shows_of (cert, answer, says) = elim says [
         | inl (is, e) ↦ shows_first cert answer is e
         | inr (not, (exchanged, converse, turned, answer', e)) ↦ by_bodies cert answer not exchanged converse turned answer' cert.body converse.body refl refl e
       ]
 
-  pub shows_equal : (status : ℕ) (files' : FileMap) (sent sent' : Option (List ℕ)) (r : Reply) → status_number r.status ≡ status → files' ≡ filed files r.puts → sent' ≡ append_known sent r.text → (values : List Value) →
-      ReadInTurn files (equal_inputs a b) values → MeansEqual c d values r → ShowsEqual files a b c d status files' sent sent'
-  shows_equal status files' sent sent' r number left sends values reads (one, two, is, (pair, joined, says)) =
+  pub shows_equal : (call : Call) (files' : FileMap) (r : Reply) → status_number r.status ≡ call.status → files' ≡ filed files r.puts → Sends r.text call.before.sink call.after.sink → (values : List Value) →
+      ReadInTurn files (equal_inputs a b) values → MeansEqual c d values r → ShowsEqual a b c d call files files'
+  shows_equal call files' r number left sends values reads (one, two, is, (pair, joined, says)) =
       let (first, (second, end)) = subst (ReadInTurn files (equal_inputs a b)) is reads in
-      shows_of one two pair first second joined status files' sent sent' r number left sends says
+      shows_of one two pair first second joined call files' r number left sends says
 
   puts_of : (values : List Value) (r : Reply) → ReadInTurn files (equal_inputs a b) values → MeansEqual c d values r → AreEqualPuts files a b c d r.puts
   puts_of values r reads (one, two, is, (pair, joined, says)) =
@@ -271,9 +273,9 @@ module _ (files : FileMap) (a b c d : List ℕ) where
   pub holds_equal_part : (files' : FileMap) (values : List Value) (r : Reply) → ReadInTurn files (equal_inputs a b) values → MeansEqual c d values r → IsCutShort files r.puts files' → HoldsEqualPart files a b c d files'
   holds_equal_part files' values r reads means cut = (r.puts, puts_of values r reads means, cut)
 
-module _ (held held' : Option FileMap) (status : ℕ) (sent sent' : Option (List ℕ)) (give_faults give_faults' faults faults' put_faults put_faults' : ℕ) (a b c d : List ℕ) where
-  pub leaves_equal : (e : Ending) → EndsSo (MeansEqual c d) (equal_inputs a b) e held held' faults faults' put_faults put_faults' → WasSaid e status sent sent' give_faults give_faults' → BeforeAndAfter held held' (λ files files'. LeavesEqual files a b c d status put_faults put_faults' files')
+module _ (call : Call) (a b c d : List ℕ) where
+  pub leaves_equal : (e : Ending) → EndsSo (request_with (equal_inputs a b) (MeansEqual c d)) e call.before.shelf call.after.shelf → WasSaid e call.status call.before.sink call.after.sink → BeforeAndAfter call.before.shelf.files call.after.shelf.files (LeavesEqual a b c d call)
   leaves_equal e ends said =
-      leaves_by_status (MeansEqual c d) (equal_inputs a b) held held' status sent sent' give_faults give_faults' faults faults' put_faults put_faults' _ _ (equal_writes c d)
+      leaves_by_status (request_with (equal_inputs a b) (MeansEqual c d)) call (λ before. HoldsEqual before a b c d) (λ before. HoldsEqualPart before a b c d) (equal_writes c d)
       (λ files files' values r reads means low left. holds_equal files a b c d files' values r reads means left)
       (λ files files' values r reads means cut. holds_equal_part files a b c d files' values r reads means cut) e ends said

@@ -1,8 +1,9 @@
 -- `include`: one reply, what it shows, and what it leaves.
-use Rattle.std.proofs.Common.{◌≡◌, ℕ, ◌≤◌, List, [], ◌∷◌, Option, inl, refl, sym, ◌∙◌, ap, subst, arith}
+use Rattle.std.proofs.Common.{◌≡◌, ℕ, ◌≤◌, List, [], ◌∷◌, inl, refl, sym, ◌∙◌, ap, subst, arith}
 use Rattle.std.specs.FinMap as map
 use Rattle.std.specs.Io.KnownBytes.{append_known}
 use Rattle.shelf_io.specs.Shelf.{FileMap}
+use Rattle.shelf_io.specs.Seen.{Call}
 use Rattle.auto_core.specs.declared.parts.Mode.{Mode}
 use Rattle.auto_core.specs.Outcome.{Entry, Outcome}
 use Rattle.auto_core.specs.Outcome as end
@@ -28,9 +29,10 @@ use Rattle.rabit_frame.specs.declared.parts.Value.{Value}
 use Rattle.rabit_frame.specs.declared.parts.Reply.{Reply}
 use Rattle.rabit_frame.specs.declared.parts.Ending.{Ending}
 use Rattle.rabit_frame.specs.Files.{Output}
+use Rattle.rabit_frame.specs.Request.{request_with}
 use Rattle.rabit_frame.specs.Statuses.{status_number}
 use Rattle.rabit_frame.specs.Reading.{ReadInTurn}
-use Rattle.rabit_frame.specs.Ending.{BeforeAndAfter, IsCutShort, WasSaid, filed}
+use Rattle.rabit_frame.specs.Ending.{BeforeAndAfter, IsCutShort, WasSaid, filed, Sends}
 use Rattle.rabit_frame.specs.Carrying.{EndsSo}
 use Rattle.rabit_frame.proofs.EndLemmas.{leaves_by_status}
 use Rattle.rabit_replies.specs.Printed.{limit_text}
@@ -102,10 +104,10 @@ module _ (files : FileMap) (a b c : List ℕ) (terms : Terms) (bounds : AreBound
       let (first, (second, end)) = subst (ReadInTurn files (pair_inputs a b)) is reads in
       (pair, cert, cert_for pair cert (one, two, first, second, joined) answer, says)
 
-  module _ (status : ℕ) (files' : FileMap) (sent sent' : Option (List ℕ)) (r : Reply) (number : status_number r.status ≡ status) (left : files' ≡ filed files r.puts) (sends : sent' ≡ append_known sent r.text) where
-    shows_body : (pair : Joined) (cert : Cert) → IsCertFor files a b terms pair cert → files' ≡ map.insert files c (text cert) → (puts : List Output) → (body : Body) → cert.body ≡ body → IsVerdictReply terms.mode pair body puts r → ShowsInclude files a b c terms status files' sent sent'
+  module _ (call : Call) (files' : FileMap) (r : Reply) (number : status_number r.status ≡ call.status) (left : files' ≡ filed files r.puts) (sends : Sends r.text call.before.sink call.after.sink) where
+    shows_body : (pair : Joined) (cert : Cert) → IsCertFor files a b terms pair cert → files' ≡ map.insert files c (text cert) → (puts : List Output) → (body : Body) → cert.body ≡ body → IsVerdictReply terms.mode pair body puts r → ShowsInclude a b c terms call files files'
     shows_body pair cert is held puts (Yes evidence) body says =
-        let zero : status ≡ 0 = sym number ∙ ap (λ z. status_number z.status) says in
+        let zero : call.status ≡ 0 = sym number ∙ ap (λ z. status_number z.status) says in
         record {
           included = λ e. record {
             pair = pair;
@@ -118,13 +120,13 @@ module _ (files : FileMap) (a b c : List ℕ) (terms : Terms) (bounds : AreBound
             includes = (subst (AnswerIsTrue pair terms) body is.truth).0;
             apart_live = (subst (AnswerIsTrue pair terms) body is.truth).1;
             held = held;
-            printed = sends ∙ ap (λ z. append_known sent z.text) says;
+            printed = sends ∙ ap (λ z. append_known call.before.sink.sent z.text) says;
           };
           not_included = λ e. absurd (omega arith);
           limit_met = λ e. absurd (omega arith);
         }
     shows_body pair cert is held puts (NoLasso lasso) body says =
-        let one : status ≡ 1 = sym number ∙ ap (λ z. status_number z.status) says in
+        let one : call.status ≡ 1 = sym number ∙ ap (λ z. status_number z.status) says in
         record {
           included = λ e. absurd (omega arith);
           not_included = λ e. record {
@@ -133,13 +135,13 @@ module _ (files : FileMap) (a b c : List ℕ) (terms : Terms) (bounds : AreBound
             read = is.read;
             answer = is.answer;
             valid = is.valid;
-            apart = subst (λ b. SaysApart pair b sent sent') (sym body) (subst (AnswerIsTrue pair terms) body is.truth, sends ∙ ap (λ z. append_known sent z.text) says);
+            apart = subst (λ b. SaysApart pair b call.before.sink call.after.sink) (sym body) (subst (AnswerIsTrue pair terms) body is.truth, sends ∙ ap (λ z. append_known call.before.sink.sent z.text) says);
             held = held;
           };
           limit_met = λ e. absurd (omega arith);
         }
     shows_body pair cert is held puts (NoWord word) body says =
-        let one : status ≡ 1 = sym number ∙ ap (λ z. status_number z.status) says in
+        let one : call.status ≡ 1 = sym number ∙ ap (λ z. status_number z.status) says in
         record {
           included = λ e. absurd (omega arith);
           not_included = λ e. record {
@@ -148,13 +150,13 @@ module _ (files : FileMap) (a b c : List ℕ) (terms : Terms) (bounds : AreBound
             read = is.read;
             answer = is.answer;
             valid = is.valid;
-            apart = subst (λ b. SaysApart pair b sent sent') (sym body) (subst (AnswerIsTrue pair terms) body is.truth, sends ∙ ap (λ z. append_known sent z.text) says);
+            apart = subst (λ b. SaysApart pair b call.before.sink call.after.sink) (sym body) (subst (AnswerIsTrue pair terms) body is.truth, sends ∙ ap (λ z. append_known call.before.sink.sent z.text) says);
             held = held;
           };
           limit_met = λ e. absurd (omega arith);
         }
     shows_body pair cert is held puts (Listing list) body says =
-        let two : status ≡ 2 = sym number ∙ ap (λ z. status_number z.status) says in
+        let two : call.status ≡ 2 = sym number ∙ ap (λ z. status_number z.status) says in
         record {
           included = λ e. absurd (omega arith);
           not_included = λ e. absurd (omega arith);
@@ -168,11 +170,11 @@ module _ (files : FileMap) (a b c : List ℕ) (terms : Terms) (bounds : AreBound
             valid = is.valid;
             listed = subst (AnswerIsTrue pair terms) body is.truth;
             held = held;
-            printed = sends ∙ ap (λ z. append_known sent z.text) says ∙ ap (λ n. append_known sent (limit_text n)) (limit_in pair terms cert is.answer list body);
+            printed = sends ∙ ap (λ z. append_known call.before.sink.sent z.text) says ∙ ap (λ n. append_known call.before.sink.sent (limit_text n)) (limit_in pair terms cert is.answer list body);
           };
         }
 
-    pub shows_include : (values : List Value) → ReadInTurn files (pair_inputs a b) values → MeansInclude c terms values r → ShowsInclude files a b c terms status files' sent sent'
+    pub shows_include : (values : List Value) → ReadInTurn files (pair_inputs a b) values → MeansInclude c terms values r → ShowsInclude a b c terms call files files'
     shows_include values reads means =
         let (pair, cert, is, says) = reads_cert values r reads means in
         let puts = puts_of_verdict terms.mode pair cert.body (certificate_put c cert ∷ []) r says in
@@ -191,9 +193,9 @@ module _ (files : FileMap) (a b c : List ℕ) (terms : Terms) (bounds : AreBound
       (pair, cert, is, cut')
 
 -- what it leaves
-module _ (held held' : Option FileMap) (status : ℕ) (sent sent' : Option (List ℕ)) (give_faults give_faults' faults faults' put_faults put_faults' : ℕ) (a b c : List ℕ) (terms : Terms) (bounds : AreBounded terms) where
-  pub leaves_include : (e : Ending) → EndsSo (MeansInclude c terms) (pair_inputs a b) e held held' faults faults' put_faults put_faults' → WasSaid e status sent sent' give_faults give_faults' → BeforeAndAfter held held' (λ files files'. LeavesDecided files a b c terms status put_faults put_faults' files')
+module _ (call : Call) (a b c : List ℕ) (terms : Terms) (bounds : AreBounded terms) where
+  pub leaves_include : (e : Ending) → EndsSo (request_with (pair_inputs a b) (MeansInclude c terms)) e call.before.shelf call.after.shelf → WasSaid e call.status call.before.sink call.after.sink → BeforeAndAfter call.before.shelf.files call.after.shelf.files (LeavesDecided a b c terms call)
   leaves_include e ends said =
-      leaves_by_status (MeansInclude c terms) (pair_inputs a b) held held' status sent sent' give_faults give_faults' faults faults' put_faults put_faults' _ _ (include_writes c terms)
+      leaves_by_status (request_with (pair_inputs a b) (MeansInclude c terms)) call (λ before. HoldsAnswer before a b c terms) (λ before. HoldsAnswerFront before a b c terms) (include_writes c terms)
       (λ files files' values r reads means low left. holds_answer files a b c terms bounds files' values r reads means left)
       (λ files files' values r reads means cut. holds_front files a b c terms bounds files' values r reads means cut) e ends said

@@ -1,7 +1,8 @@
 -- `empty` and `universal`: one reply, what it shows, and what it leaves.
-use Rattle.std.proofs.Common.{◌≡◌, ℕ, ◌≤◌, List, [], Option, refl, sym, ◌∙◌, ap, subst, arith}
+use Rattle.std.proofs.Common.{◌≡◌, ℕ, ◌≤◌, List, [], refl, sym, ◌∙◌, ap, subst, arith}
 use Rattle.std.specs.Io.KnownBytes.{append_known}
 use Rattle.shelf_io.specs.Shelf.{FileMap}
+use Rattle.shelf_io.specs.Seen.{Call}
 use Rattle.auto_core.specs.Automaton.{IsAutomaton}
 use Rattle.auto_core.specs.Accept.{Includes, SeparatesLasso, SeparatesWord}
 use Rattle.auto_core.specs.declared.parts.Mode.{Mode}
@@ -22,9 +23,10 @@ use Rattle.rabit_frame.specs.declared.parts.Value.{Value}
 use Rattle.rabit_frame.specs.declared.parts.Reply.{Reply}
 use Rattle.rabit_frame.specs.declared.parts.Ending.{Ending}
 use Rattle.rabit_frame.specs.Files.{Output}
+use Rattle.rabit_frame.specs.Request.{request_with}
 use Rattle.rabit_frame.specs.Statuses.{status_number}
 use Rattle.rabit_frame.specs.Reading.{ReadInTurn}
-use Rattle.rabit_frame.specs.Ending.{BeforeAndAfter, IsCutShort, WasSaid, filed}
+use Rattle.rabit_frame.specs.Ending.{BeforeAndAfter, IsCutShort, WasSaid, filed, Sends}
 use Rattle.rabit_frame.specs.Carrying.{EndsSo}
 use Rattle.rabit_frame.proofs.EndLemmas.{leaves_by_status}
 use Rattle.rabit_replies.specs.Printed.{lasso_against_text, word_against_text, limit_text}
@@ -129,13 +131,13 @@ module _ (p : Property) (known : IsDecidable p) (m c : List ℕ) (mode : Mode) w
           says = says;
         }
 
-    module _ (status : ℕ) (files' : FileMap) (sent sent' : Option (List ℕ)) (r : Reply) (number : status_number r.status ≡ status) (left : files' ≡ filed files r.puts) (sends : sent' ≡ append_known sent r.text) where
+    module _ (call : Call) (files' : FileMap) (r : Reply) (number : status_number r.status ≡ call.status) (left : files' ≡ filed files r.puts) (sends : Sends r.text call.before.sink call.after.sink) where
       abbrev written_by : (f : Decided r) → files' ≡ filed files (property_puts m (p.made f.one) c f.cert) → HoldsProperty p files a m c mode files'
       written_by f held = record { one = f.one; other = f.other; pair = f.pair; cert = f.cert; is_for = f.is_for; held = held }
 
-      shows_body : (f : Decided r) → files' ≡ filed files (property_puts m (p.made f.one) c f.cert) → (puts : List Output) → (body : Body) → f.cert.body ≡ body → IsPropertyReply p.name f.pair body puts r → ShowsProperty p files a m c mode status files' sent sent'
+      shows_body : (f : Decided r) → files' ≡ filed files (property_puts m (p.made f.one) c f.cert) → (puts : List Output) → (body : Body) → f.cert.body ≡ body → IsPropertyReply p.name f.pair body puts r → ShowsProperty p a m c mode call files files'
       shows_body f held puts (Yes evidence) body says =
-          let zero : status ≡ 0 = sym number ∙ ap (λ z. status_number z.status) says in
+          let zero : call.status ≡ 0 = sym number ∙ ap (λ z. status_number z.status) says in
           let (bytes, has, few, read) = f.is_for.read in
           record {
             holds = λ e. record {
@@ -143,43 +145,43 @@ module _ (p : Property) (known : IsDecidable p) (m c : List ℕ) (mode : Mode) w
               evidence = evidence;
               says_yes = body;
               holds = known.holds bytes f.one f.other f.pair read f.is_for.other_reads f.is_for.joined mode (subst (AnswerIsTrue f.pair (usual_terms mode)) body f.is_for.truth).0;
-              printed = sends ∙ ap (λ z. append_known sent z.text) says;
+              printed = sends ∙ ap (λ z. append_known call.before.sink.sent z.text) says;
             };
             fails = λ e. absurd (omega arith);
             listed = λ e. absurd (omega arith);
           }
       shows_body f held puts (NoLasso lasso) body says =
-          let one : status ≡ 1 = sym number ∙ ap (λ z. status_number z.status) says in
+          let one : call.status ≡ 1 = sym number ∙ ap (λ z. status_number z.status) says in
           let (bytes, has, few, read) = f.is_for.read in
           let labels = known.labels bytes f.one f.other f.pair read f.is_for.other_reads f.is_for.joined in
           record {
             holds = λ e. absurd (omega arith);
             fails = λ e. record {
               written = written_by f held;
-              refuted = subst (λ b. IsRefuted p f.one b sent sent') (sym body) (
+              refuted = subst (λ b. IsRefuted p f.one b call.before.sink call.after.sink) (sym body) (
                 known.lasso bytes f.one f.other f.pair read f.is_for.other_reads f.is_for.joined lasso (subst (AnswerIsTrue f.pair (usual_terms mode)) body f.is_for.truth),
-                sends ∙ ap (λ z. append_known sent z.text) says ∙ ap (λ ls. append_known sent (lasso_against_text p.name ls lasso)) labels,
+                sends ∙ ap (λ z. append_known call.before.sink.sent z.text) says ∙ ap (λ ls. append_known call.before.sink.sent (lasso_against_text p.name ls lasso)) labels,
               );
             };
             listed = λ e. absurd (omega arith);
           }
       shows_body f held puts (NoWord word) body says =
-          let one : status ≡ 1 = sym number ∙ ap (λ z. status_number z.status) says in
+          let one : call.status ≡ 1 = sym number ∙ ap (λ z. status_number z.status) says in
           let (bytes, has, few, read) = f.is_for.read in
           let labels = known.labels bytes f.one f.other f.pair read f.is_for.other_reads f.is_for.joined in
           record {
             holds = λ e. absurd (omega arith);
             fails = λ e. record {
               written = written_by f held;
-              refuted = subst (λ b. IsRefuted p f.one b sent sent') (sym body) (
+              refuted = subst (λ b. IsRefuted p f.one b call.before.sink call.after.sink) (sym body) (
                 known.word bytes f.one f.other f.pair read f.is_for.other_reads f.is_for.joined word (subst (AnswerIsTrue f.pair (usual_terms mode)) body f.is_for.truth),
-                sends ∙ ap (λ z. append_known sent z.text) says ∙ ap (λ ls. append_known sent (word_against_text p.name ls word)) labels,
+                sends ∙ ap (λ z. append_known call.before.sink.sent z.text) says ∙ ap (λ ls. append_known call.before.sink.sent (word_against_text p.name ls word)) labels,
               );
             };
             listed = λ e. absurd (omega arith);
           }
       shows_body f held puts (Listing list) body says =
-          let two : status ≡ 2 = sym number ∙ ap (λ z. status_number z.status) says in
+          let two : call.status ≡ 2 = sym number ∙ ap (λ z. status_number z.status) says in
           record {
             holds = λ e. absurd (omega arith);
             fails = λ e. absurd (omega arith);
@@ -188,11 +190,11 @@ module _ (p : Property) (known : IsDecidable p) (m c : List ℕ) (mode : Mode) w
               list = list;
               lists = body;
               listed = subst (AnswerIsTrue f.pair (usual_terms mode)) body f.is_for.truth;
-              printed = sends ∙ ap (λ z. append_known sent z.text) says ∙ ap (λ n. append_known sent (limit_text n)) (limit_in f.pair (usual_terms mode) f.cert f.is_for.answer list body);
+              printed = sends ∙ ap (λ z. append_known call.before.sink.sent z.text) says ∙ ap (λ n. append_known call.before.sink.sent (limit_text n)) (limit_in f.pair (usual_terms mode) f.cert f.is_for.answer list body);
             };
           }
 
-      pub shows_property : (values : List Value) → ReadInTurn files (property_inputs p a) values → MeansProperty p m c mode values r → ShowsProperty p files a m c mode status files' sent sent'
+      pub shows_property : (values : List Value) → ReadInTurn files (property_inputs p a) values → MeansProperty p m c mode values r → ShowsProperty p a m c mode call files files'
       shows_property values reads means =
           let f = decided_reads values r reads means in
           let puts = puts_of_reply p.name f.pair f.cert.body (property_puts m (p.made f.one) c f.cert) r f.says in
@@ -218,9 +220,9 @@ module _ (p : Property) (known : IsDecidable p) (m c : List ℕ) (mode : Mode) w
         let cut' = subst (λ ps. IsCutShort files ps files') (puts_of_reply p.name f.pair f.cert.body (property_puts m (p.made f.one) c f.cert) r f.says) cut in
         (f.one, f.other, f.pair, f.cert, f.is_for, cut')
 
-  module _ (held held' : Option FileMap) (status : ℕ) (sent sent' : Option (List ℕ)) (give_faults give_faults' faults faults' put_faults put_faults' : ℕ) (a : List ℕ) where
-    pub leaves_property : (e : Ending) → EndsSo (MeansProperty p m c mode) (property_inputs p a) e held held' faults faults' put_faults put_faults' → WasSaid e status sent sent' give_faults give_faults' → BeforeAndAfter held held' (λ files files'. LeavesProperty p files a m c mode status put_faults put_faults' files')
+  module _ (call : Call) (a : List ℕ) where
+    pub leaves_property : (e : Ending) → EndsSo (request_with (property_inputs p a) (MeansProperty p m c mode)) e call.before.shelf call.after.shelf → WasSaid e call.status call.before.sink call.after.sink → BeforeAndAfter call.before.shelf.files call.after.shelf.files (LeavesProperty p a m c mode call)
     leaves_property e ends said =
-        leaves_by_status (MeansProperty p m c mode) (property_inputs p a) held held' status sent sent' give_faults give_faults' faults faults' put_faults put_faults' _ _ decided_writes
+        leaves_by_status (request_with (property_inputs p a) (MeansProperty p m c mode)) call (λ before. HoldsProperty p before a m c mode) (λ before. HoldsPropertyPart p before a m c mode) decided_writes
         (λ files files' values r reads means low left. holds_both files a files' values r reads means left)
         (λ files files' values r reads means cut. holds_part files a files' values r reads means cut) e ends said

@@ -1,7 +1,8 @@
 -- `reduce`: one reply, and what it shows.
-use Rattle.std.proofs.Common.{◌≡◌, ℕ, ◌≤◌, List, [], Option, sym, ◌∙◌, ap, subst, arith}
+use Rattle.std.proofs.Common.{◌≡◌, ℕ, ◌≤◌, List, [], sym, ◌∙◌, ap, subst, arith}
 use Rattle.std.specs.Io.KnownBytes.{append_known}
 use Rattle.shelf_io.specs.Shelf.{FileMap}
+use Rattle.shelf_io.specs.Seen.{Call}
 use Rattle.auto_core.specs.Automaton.{IsAutomaton}
 use Rattle.auto_core.specs.declared.parts.Mode.{Mode}
 use Rattle.ba_format.specs.declared.parts.Named.{Named}
@@ -13,6 +14,7 @@ use Rattle.rabit_frame.specs.declared.parts.Value.{Value}
 use Rattle.rabit_frame.specs.declared.parts.Status.TheVariants as status
 use Rattle.rabit_frame.specs.declared.parts.Reply.{Reply}
 use Rattle.rabit_frame.specs.Statuses.{status_number}
+use Rattle.rabit_frame.specs.Ending.{Sends}
 use Rattle.rabit_frame.specs.Reading.{only_said, ReadInTurn, AreOfKinds}
 use Rattle.rabit_cli.specs.Reduce.{reduce_inputs, MeansReduce, ShowsReduce}
 use Rattle.rabit_cli.proofs.BackLemmas.{reads_back_same}
@@ -33,12 +35,12 @@ reduce_puts m sight values r (named, is, (t, made, e)) = ap (λ z. z.puts) e
 pub reduce_asked : (m : Mode) (sight : Foresight) (values : List Value) (r : Reply) → MeansReduce m sight values r → status_number r.status ≡ 3 → ⊥
 reduce_asked m sight values r (named, is, (t, made, e)) three = (let f = ap (λ z. status_number z.status) e in omega arith)
 
-pub shows_reduce : (files : FileMap) (name : List ℕ) (m : Mode) (sight : Foresight) (status : ℕ) (sent sent' : Option (List ℕ)) (r : Reply) → 1 ≤ sight.look → status_number r.status ≡ status → sent' ≡ append_known sent r.text →
-    (values : List Value) → ReadInTurn files (reduce_inputs name) values → MeansReduce m sight values r → ShowsReduce files name m sight status sent sent'
-shows_reduce files name m sight status sent sent' r from number sends values reads (named, is, (t, (B, made, of), e)) =
+pub shows_reduce : (files : FileMap) (name : List ℕ) (m : Mode) (sight : Foresight) (call : Call) (r : Reply) → 1 ≤ sight.look → status_number r.status ≡ call.status → Sends r.text call.before.sink call.after.sink →
+    (values : List Value) → ReadInTurn files (reduce_inputs name) values → MeansReduce m sight values r → ShowsReduce name m sight call files
+shows_reduce files name m sight call r from number sends values reads (named, is, (t, (B, made, of), e)) =
     let ((bytes, has, few, read), end) = subst (ReadInTurn files (reduce_inputs name)) is reads in
     let valid : IsAutomaton named.auto = read.reading.auto.valid in
-    let zero : status ≡ 0 = sym number ∙ ap (λ z. status_number z.status) e in
+    let zero : call.status ≡ 0 = sym number ∙ ap (λ z. status_number z.status) e in
     let same = reduced_same named.auto B m sight valid from made in
     let settled = reduced_settled named.auto B m sight valid from made in
     record {
@@ -50,7 +52,7 @@ shows_reduce files name m sight status sent sent' r from number sends values rea
         same = same;
         reads_back = reads_back_same bytes named B m sight from read made same settled;
         settled = settled;
-        printed = sends ∙ ap (λ z. append_known sent z.text) e ∙ ap (append_known sent) of;
+        printed = sends ∙ ap (λ z. append_known call.before.sink.sent z.text) e ∙ ap (append_known call.before.sink.sent) of;
       };
       no_other = (λ f. omega arith, λ f. omega arith);
     }

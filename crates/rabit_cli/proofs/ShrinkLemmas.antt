@@ -1,9 +1,10 @@
 -- `shrink`: one reply, what it shows, and what it leaves.
-use Rattle.std.proofs.Common.{◌≡◌, ◌⊎◌, ℕ, ◌<◌, ◌≤◌, ◌&&◌, true, List, [], ◌∷◌, length, get_or, All, Contains, Option, inl, inr, refl, sym, ◌∙◌, ap, subst, arith}
+use Rattle.std.proofs.Common.{◌≡◌, ◌⊎◌, ℕ, ◌<◌, ◌≤◌, ◌&&◌, true, List, [], ◌∷◌, length, get_or, All, Contains, inl, inr, refl, sym, ◌∙◌, ap, subst, arith}
 use Rattle.std.specs.Io.KnownBytes.{append_known}
 use Rattle.std.proofs.lemmas.Bool.{and_parts, and_from, ltb-true, false≢true}
 use Rattle.std.proofs.lemmas.List.Elements.{All-contains, All-contains_itself}
 use Rattle.shelf_io.specs.Shelf.{FileMap}
+use Rattle.shelf_io.specs.Seen.{Call, SinkSeen}
 use Rattle.auto_core.specs.Accept.{SeparatesWord}
 use Rattle.auto_core.specs.declared.parts.Lasso.{Lasso}
 use Rattle.auto_core.specs.declared.parts.Mode.{Mode}
@@ -30,9 +31,10 @@ use Rattle.rabit_frame.specs.declared.parts.Status.TheVariants as status
 use Rattle.rabit_frame.specs.declared.parts.Reply.{Reply}
 use Rattle.rabit_frame.specs.declared.parts.Ending.{Ending}
 use Rattle.rabit_frame.specs.Files.{Output}
+use Rattle.rabit_frame.specs.Request.{request_with}
 use Rattle.rabit_frame.specs.Statuses.{status_number}
 use Rattle.rabit_frame.specs.Reading.{only_said, ReadInTurn, StopInTurn}
-use Rattle.rabit_frame.specs.Ending.{IsReplyFor, BeforeAndAfter, IsCutShort, WasSaid, filed}
+use Rattle.rabit_frame.specs.Ending.{IsReplyFor, BeforeAndAfter, IsCutShort, WasSaid, filed, Sends}
 use Rattle.rabit_frame.specs.Carrying.{EndsSo}
 use Rattle.rabit_frame.proofs.EndLemmas.{leaves_by_status}
 use Rattle.rabit_frame.proofs.OneLemmas.{one_read_in_turn, stop_or_read_in_turn}
@@ -169,20 +171,20 @@ module _ (pair : Joined) where
   left_number m (NoLasso lasso) left puts r (l, is, e) says = ap (λ z. status_number z.status) (subst (λ b. IsVerdictReply m pair b puts r) e says)
   left_number m (NoWord word) left puts r (w, is, e) says = ap (λ z. status_number z.status) (subst (λ b. IsVerdictReply m pair b puts r) e says)
 
-  left_apart : (cert : Cert) (body left : Body) (puts : List Output) (r : Reply) (sent sent' : Option (List ℕ)) → IsShrunkBody pair body left → IsValid pair (shrunk_no cert left) → IsVerdictReply cert.mode pair left puts r →
-      sent' ≡ append_known sent r.text → SaysApart pair left sent sent'
-  left_apart cert (Yes evidence) left puts r sent sent' p valid says sends = absurd p
-  left_apart cert (Listing list) left puts r sent sent' p valid says sends = absurd p
-  left_apart cert (NoLasso lasso) left puts r sent sent' (l, is, e) valid says sends =
+  left_apart : (cert : Cert) (body left : Body) (puts : List Output) (r : Reply) (old new : SinkSeen) → IsShrunkBody pair body left → IsValid pair (shrunk_no cert left) → IsVerdictReply cert.mode pair left puts r →
+      Sends r.text old new → SaysApart pair left old new
+  left_apart cert (Yes evidence) left puts r old new p valid says sends = absurd p
+  left_apart cert (Listing list) left puts r old new p valid says sends = absurd p
+  left_apart cert (NoLasso lasso) left puts r old new (l, is, e) valid says sends =
       let says' = subst (λ b. IsVerdictReply cert.mode pair b puts r) e says in
       let valid' = subst (λ b. IsValid pair (shrunk_no cert b)) e valid in
       let all = valid'.keeps.1 in
-      subst (λ b. SaysApart pair b sent sent') (sym e) ((all.1.1.0, all.1.1.1.0), sends ∙ ap (λ z. append_known sent z.text) says')
-  left_apart cert (NoWord word) left puts r sent sent' (w, is, e) valid says sends =
+      subst (λ b. SaysApart pair b old new) (sym e) ((all.1.1.0, all.1.1.1.0), sends ∙ ap (λ z. append_known old.sent z.text) says')
+  left_apart cert (NoWord word) left puts r old new (w, is, e) valid says sends =
       let says' = subst (λ b. IsVerdictReply cert.mode pair b puts r) e says in
       let valid' = subst (λ b. IsValid pair (shrunk_no cert b)) e valid in
       let all = valid'.keeps.1 in
-      subst (λ b. SaysApart pair b sent sent') (sym e) ((all.1.0, all.1.1.0), sends ∙ ap (λ z. append_known sent z.text) says')
+      subst (λ b. SaysApart pair b old new) (sym e) ((all.1.0, all.1.1.0), sends ∙ ap (λ z. append_known old.sent z.text) says')
 
   -- ---- one reply
 
@@ -265,20 +267,20 @@ module _ (files : FileMap) (a b c out : List ℕ) where
         says,
       )
 
-  module _ (status : ℕ) (files' : FileMap) (sent sent' : Option (List ℕ)) (r : Reply) (number : status_number r.status ≡ status) (low : status ≤ 2) (left : files' ≡ filed files r.puts) (sends : sent' ≡ append_known sent r.text) where
-    pub shows_shrink : (values : List Value) → ReadInTurn files (check_inputs a b c) values → MeansShrink out values r → ShowsShrink files a b c out status files' sent sent'
+  module _ (call : Call) (files' : FileMap) (r : Reply) (number : status_number r.status ≡ call.status) (low : call.status ≤ 2) (left : files' ≡ filed files r.puts) (sends : Sends r.text call.before.sink call.after.sink) where
+    pub shows_shrink : (values : List Value) → ReadInTurn files (check_inputs a b c) values → MeansShrink out values r → ShowsShrink a b c out call files files'
     shows_shrink values reads means = elim (shrink_cases values r reads means) [
       | inl of ↦
           let (pair, cert, body, is, says) = of in
           let put : Output = certificate_put out (shrunk_no cert body) in
-          let one : status ≡ 1 = sym number ∙ left_number pair cert.mode cert.body body (put ∷ []) r is.shrunk says in
+          let one : call.status ≡ 1 = sym number ∙ left_number pair cert.mode cert.body body (put ∷ []) r is.shrunk says in
           record {
             shrunk = λ e. record {
               pair = pair;
               cert = cert;
               left = body;
               is_left = is;
-              apart = left_apart pair cert cert.body body (put ∷ []) r sent sent' is.shrunk is.left_valid says sends;
+              apart = left_apart pair cert cert.body body (put ∷ []) r call.before.sink call.after.sink is.shrunk is.left_valid says sends;
               held = left ∙ ap (filed files) (puts_of_verdict cert.mode pair body (put ∷ []) r says);
             };
             no_other = (λ e. omega arith, λ e. omega arith);
@@ -330,7 +332,7 @@ module _ (files : FileMap) (a b c out : List ℕ) where
         same ∙ left_number pair cert.mode cert.body left (certificate_put out (shrunk_no cert left) ∷ []) r shrunk says,
       )
 
-  pub shrink_status : (r : Reply) → (StopInTurn files (check_inputs a b c) r → status_number r.status ≡ 5) → IsReplyFor (MeansShrink out) (check_inputs a b c) files r → (n : ℕ) → n ≡ status_number r.status → IsShrinkStatus files a b c n
+  pub shrink_status : (r : Reply) → (StopInTurn files (check_inputs a b c) r → status_number r.status ≡ 5) → IsReplyFor (request_with (check_inputs a b c) (MeansShrink out)) files r → (n : ℕ) → n ≡ status_number r.status → IsShrinkStatus files a b c n
   shrink_status r five right n same = elim right [
     | inl stop ↦
         inr (inr (
@@ -341,9 +343,9 @@ module _ (files : FileMap) (a b c out : List ℕ) where
     | inr read ↦ (let (values, reads, means) = read in status_reads values r reads means n same)
   ]
 
-module _ (held held' : Option FileMap) (status : ℕ) (sent sent' : Option (List ℕ)) (give_faults give_faults' faults faults' put_faults put_faults' : ℕ) (a b c out : List ℕ) where
-  pub leaves_shrink : (e : Ending) → EndsSo (MeansShrink out) (check_inputs a b c) e held held' faults faults' put_faults put_faults' → WasSaid e status sent sent' give_faults give_faults' → BeforeAndAfter held held' (λ files files'. LeavesShrunk files a b c out status put_faults put_faults' files')
+module _ (call : Call) (a b c out : List ℕ) where
+  pub leaves_shrink : (e : Ending) → EndsSo (request_with (check_inputs a b c) (MeansShrink out)) e call.before.shelf call.after.shelf → WasSaid e call.status call.before.sink call.after.sink → BeforeAndAfter call.before.shelf.files call.after.shelf.files (LeavesShrunk a b c out call)
   leaves_shrink e ends said =
-      leaves_by_status (MeansShrink out) (check_inputs a b c) held held' status sent sent' give_faults give_faults' faults faults' put_faults put_faults' _ _ (shrink_writes out)
+      leaves_by_status (request_with (check_inputs a b c) (MeansShrink out)) call (λ before. HoldsShrunk before a b c out) (λ before. HoldsShrunkFront before a b c out) (shrink_writes out)
       (λ files files' values r reads means low left. holds_shrunk files a b c out files' values r reads means low left)
       (λ files files' values r reads means cut. holds_shrunk_front files a b c out files' values r reads means cut) e ends said

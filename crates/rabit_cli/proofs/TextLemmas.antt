@@ -1,5 +1,5 @@
 -- What the texts read as that `empty` and `universal` make.
-use Rattle.std.proofs.Common.{◌≡◌, ◌^◌, ◌<◌, List, length, All, sym, ◌∙◌, ap, arith}
+use Rattle.std.proofs.Common.{◌≡◌, ◌^◌, ◌<◌, length, All, sym, ◌∙◌, ap, arith}
 use Rattle.ba_format.specs.declared.parts.Joined.{Joined}
 use Rattle.ba_format.specs.Joining.{joined_labels}
 use Rattle.ba_format.specs.Laws.{IsLabelText}

@@ -1,7 +1,7 @@
 -- What `union` and `intersect` have in common: two automata are read, and one is printed.
-use Rattle.std.specs.Prelude.{◌≡◌, ◌+◌, ◌⊎◌, List, [], ◌∷◌, ℕ, Option}
-use Rattle.std.specs.Io.KnownBytes.{append_known}
+use Rattle.std.specs.Prelude.{◌≡◌, ◌+◌, ◌⊎◌, List, [], ◌∷◌, ℕ}
 use Rattle.shelf_io.specs.Shelf.{FileMap}
+use Rattle.shelf_io.specs.Seen.{Call}
 use Rattle.auto_core.specs.Automaton.{Automaton}
 use Rattle.auto_ops.specs.declared.limits.TheConstants.{MOST_STATES, MOST_LABELS, MOST_TRANSITIONS}
 use Rattle.auto_ops.specs.Limits.{IsSmallResult}
@@ -16,6 +16,7 @@ use Rattle.rabit_frame.specs.declared.parts.Value.TheVariants as value
 use Rattle.rabit_frame.specs.declared.parts.Status.TheVariants as status
 use Rattle.rabit_frame.specs.declared.parts.Reply.{Reply}
 use Rattle.rabit_frame.specs.Reading.{only_said}
+use Rattle.rabit_frame.specs.Ending.{Sends}
 use Rattle.rabit_replies.specs.Files.{ReadsPair}
 use Rattle.rabit_replies.specs.Replies.{too_large_reply}
 
@@ -54,7 +55,7 @@ pub record ReadsBackFor (pair : Joined) (accepts : Automaton → Type 0) (text :
 
 -- The named files read as two automata, and what was sent is the text of a result of the operation on them. The result accepts what is asked, and so
 -- does what its text reads as.
-pub record IsCombinedShown (files : FileMap) (a b : List ℕ) (is_result accepts : Joined → Automaton → Type 0) (sent sent' : Option (List ℕ)) : Type 0 where
+pub record IsCombinedShown (files : FileMap) (a b : List ℕ) (is_result accepts : Joined → Automaton → Type 0) (call : Call) : Type 0 where
   pub pair : Joined
   pub combined : Automaton
   pub read : ReadsPair files a b pair
@@ -62,9 +63,9 @@ pub record IsCombinedShown (files : FileMap) (a b : List ℕ) (is_result accepts
   pub within : IsSmallResult combined
   pub accepts_so : accepts pair combined
   pub reads_back : ReadsBackFor pair (accepts pair) (written combined pair.labels)
-  pub printed : sent' ≡ append_known sent (written combined pair.labels)
+  pub printed : Sends (written combined pair.labels) call.before.sink call.after.sink
 
 -- What a status up to 2 shows: 0 a result, and 1 and 2 do not come.
-pub record ShowsCombined (files : FileMap) (a b : List ℕ) (is_result accepts : Joined → Automaton → Type 0) (status : ℕ) (sent sent' : Option (List ℕ)) : Type 0 where
-  pub shown : status ≡ 0 → IsCombinedShown files a b is_result accepts sent sent'
-  pub no_other : ¬ (status ≡ 1) × ¬ (status ≡ 2)
+pub record ShowsCombined (a b : List ℕ) (is_result accepts : Joined → Automaton → Type 0) (call : Call) (files : FileMap) : Type 0 where
+  pub shown : call.status ≡ 0 → IsCombinedShown files a b is_result accepts call
+  pub no_other : ¬ (call.status ≡ 1) × ¬ (call.status ≡ 2)

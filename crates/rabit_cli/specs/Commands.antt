@@ -1,24 +1,25 @@
 -- Each question's files, what its reply means, and what its results show: one row a command.
-use Rattle.std.specs.Prelude.{◌≡◌, ℕ, ◌⊎◌, List, [], ◌∷◌, map, Option, Some, None, String, string_bytes}
+use Rattle.std.specs.Prelude.{◌≡◌, ℕ, List, [], ◌∷◌, map, Option, Some, None, String, string_bytes}
 use Rattle.shelf_io.specs.Shelf.{FileMap}
+use Rattle.shelf_io.specs.Seen.{Call}
+use Rattle.drawing.specs.declared.parts.Drill.{Drill as Drawing}
 use Rattle.rabit_frame.specs.declared.parts.Value.{Value}
 use Rattle.rabit_frame.specs.declared.parts.Reply.{Reply}
 use Rattle.rabit_frame.specs.Files.{Input}
-use Rattle.rabit_frame.specs.Lines.{memory_line}
-use Rattle.rabit_frame.specs.Ending.{SaysOnly}
-use Rattle.rabit_frame.specs.Carrying.{NoReply}
+use Rattle.rabit_frame.specs.Request.{Request}
+use Rattle.rabit_frame.specs.Ending.{BeforeAndAfter}
+use Rattle.rabit_frame.specs.Carrying.{IfResult, StaysUnwritten}
 use Rattle.rabit_words.specs.Question.{Question, Include, Check, Reduce, Drill, Upgrade, Cross, CrossCheck, Equal, Batch, Union, Intersect, Shrink, Empty, Universal, question_of}
-use Rattle.rabit_replies.specs.Printed.{usage_text}
 use Rattle.rabit_replies.specs.Replies.{usage_reply}
 use Rattle.rabit_cli.specs.Check.{check_inputs, MeansCheck, ShowsCheck}
 use Rattle.rabit_replies.specs.Files.{pair_inputs}
 use Rattle.rabit_cli.specs.Include.{terms_by, MeansInclude, ShowsInclude, LeavesDecided}
 use Rattle.rabit_cli.specs.Reduce.{reduce_inputs, sight_by, MeansReduce, ShowsReduce}
-use Rattle.rabit_cli.specs.Drill.{MeansDrill, ShowsDrill, SaysDrill}
+use Rattle.rabit_cli.specs.Drill.{MeansDrill, SaysDrill}
 use Rattle.rabit_cli.specs.Upgrade.{upgrade_inputs, MeansUpgrade, ShowsUpgrade, LeavesUpgraded}
 use Rattle.rabit_cli.specs.Equal.{equal_inputs, MeansEqual, ShowsEqual, LeavesEqual}
 use Rattle.rabit_cli.specs.Cross.{MeansCross, ShowsCross, LeavesCross, cross_check_inputs, MeansCrossCheck, ShowsCrossCheck}
-use Rattle.rabit_cli.specs.Batch.{batch_inputs, ShelfCounts, IsBatch}
+use Rattle.rabit_cli.specs.Batch.{batch_inputs}
 use Rattle.rabit_cli.specs.Union.{MeansUnion, ShowsUnion}
 use Rattle.rabit_cli.specs.Intersect.{MeansIntersect, ShowsIntersect}
 use Rattle.rabit_cli.specs.Shrink.{MeansShrink, ShowsShrink, LeavesShrunk}
@@ -64,66 +65,74 @@ outputs_of (Some (Empty a e c mode)) = e ∷ c ∷ []
 outputs_of (Some (Universal a u c mode)) = u ∷ c ∷ []
 outputs_of question = []
 
--- Which reply is right for what the files read as.
+-- The drill of a question.
+abbrev pub drill_of : ℕ → ℕ → ℕ → Drawing
+drill_of seed states labels = record { seed = seed; states = states; labels = labels }
+
+-- Which reply is right for what the files read as. After a batch's list none is, since it goes on by itself.
 abbrev pub Means : Option Question → List Value → Reply → Type 0
 Means None values r = r ≡ usage_reply
 Means (Some (Check a b c)) values r = MeansCheck values r
 Means (Some (Include a b c mode look limit letters)) values r = MeansInclude c (terms_by mode look limit letters) values r
 Means (Some (Reduce a mode look letters)) values r = MeansReduce mode (sight_by look letters) values r
-Means (Some (Drill seed states labels)) values r = MeansDrill (record { seed = seed; states = states; labels = labels }) values r
+Means (Some (Drill seed states labels)) values r = MeansDrill (drill_of seed states labels) values r
 Means (Some (Upgrade c out)) values r = MeansUpgrade out values r
 Means (Some (Cross a b out look)) values r = MeansCross out look values r
 Means (Some (CrossCheck a b f)) values r = MeansCrossCheck values r
 Means (Some (Equal a b c d)) values r = MeansEqual c d values r
-Means (Some (Batch list)) values r = NoReply values r
+Means (Some (Batch list)) values r = ⊥
 Means (Some (Union a b mode)) values r = MeansUnion mode values r
 Means (Some (Intersect a b mode)) values r = MeansIntersect mode values r
 Means (Some (Shrink a b c out)) values r = MeansShrink out values r
 Means (Some (Empty a e c mode)) values r = MeansProperty emptiness e c mode values r
 Means (Some (Universal a u c mode)) values r = MeansProperty universality u c mode values r
 
--- What a status up to 2 shows of the files before and after, and of what was sent. Words that are no question have no status up to 2.
-abbrev pub Shows : Option Question → ℕ → FileMap → FileMap → Option (List ℕ) → Option (List ℕ) → Type 0
-Shows (Some (Check a b c)) status files files' sent sent' = ShowsCheck files a b c status sent sent'
-Shows (Some (Include a b c mode look limit letters)) status files files' sent sent' = ShowsInclude files a b c (terms_by mode look limit letters) status files' sent sent'
-Shows (Some (Reduce a mode look letters)) status files files' sent sent' = ShowsReduce files a mode (sight_by look letters) status sent sent'
-Shows (Some (Drill seed states labels)) status files files' sent sent' = ShowsDrill (record { seed = seed; states = states; labels = labels }) status sent sent'
-Shows (Some (Upgrade c out)) status files files' sent sent' = ShowsUpgrade files c out status files' sent sent'
-Shows (Some (Cross a b out look)) status files files' sent sent' = ShowsCross files a b out look status files' sent sent'
-Shows (Some (CrossCheck a b f)) status files files' sent sent' = ShowsCrossCheck files a b f status sent sent'
-Shows (Some (Equal a b c d)) status files files' sent sent' = ShowsEqual files a b c d status files' sent sent'
-Shows (Some (Batch list)) status files files' sent sent' = ⊥
-Shows (Some (Union a b mode)) status files files' sent sent' = ShowsUnion files a b mode status sent sent'
-Shows (Some (Intersect a b mode)) status files files' sent sent' = ShowsIntersect files a b mode status sent sent'
-Shows (Some (Shrink a b c out)) status files files' sent sent' = ShowsShrink files a b c out status files' sent sent'
-Shows (Some (Empty a e c mode)) status files files' sent sent' = ShowsProperty emptiness files a e c mode status files' sent sent'
-Shows (Some (Universal a u c mode)) status files files' sent sent' = ShowsProperty universality files a u c mode status files' sent sent'
-Shows None status files files' sent sent' = ⊥
+-- The request that a question is.
+abbrev pub request_of : Option Question → Request
+request_of question = record { inputs = inputs_of question; means = Means question }
 
--- How a batch goes.
-abbrev pub Batches : Question → Option FileMap → Option FileMap → ℕ → Option (List ℕ) → Option (List ℕ) → ℕ → ℕ → ℕ → ℕ → ℕ → ℕ → ℕ → ℕ → ℕ → ℕ → ShelfCounts → ShelfCounts → Type 0
-Batches (Batch list) held held' status sent sent' give_faults give_faults' gives gives' read_faults read_faults' put_faults put_faults' missed missed' calls calls' =
-    IsBatch list held held' status sent sent' give_faults give_faults' gives gives' read_faults read_faults' put_faults put_faults' missed missed' calls calls'
-Batches question held held' status sent sent' give_faults give_faults' gives gives' read_faults read_faults' put_faults put_faults' missed missed' calls calls' = Unit {0}
+-- What holds of the request of every question but a batch.
+abbrev pub IfSingle : Option Question → (Request → Type 0) → Type 0
+IfSingle (Some (Batch list)) P = Unit {0}
+IfSingle question P = P (request_of question)
 
--- What a drill says, whatever the shelf tells.
-abbrev pub Drills : Question → ℕ → Option (List ℕ) → Option (List ℕ) → ℕ → ℕ → Type 0
-Drills (Drill seed states labels) status sent sent' give_faults give_faults' = SaysDrill (record { seed = seed; states = states; labels = labels }) status sent sent' give_faults give_faults'
-Drills question status sent sent' give_faults give_faults' = Unit {0}
+-- What holds of a batch's list.
+abbrev pub IfBatch : Option Question → (List ℕ → Type 0) → Type 0
+IfBatch (Some (Batch list)) P = P list
+IfBatch question P = Unit {0}
 
--- What the files are afterwards: only a decision, an upgrade, a cross relation's search, a comparison and a shrinking write, and only the files of certificates or of the relation, and `empty` and `universal` the
--- made automaton's too.
-abbrev pub LeavesFiles : Option Question → ℕ → ℕ → ℕ → FileMap → FileMap → Type 0
-LeavesFiles (Some (Include a b c mode look limit letters)) status put_faults put_faults' files files' = LeavesDecided files a b c (terms_by mode look limit letters) status put_faults put_faults' files'
-LeavesFiles (Some (Upgrade c out)) status put_faults put_faults' files files' = LeavesUpgraded files c out status put_faults put_faults' files'
-LeavesFiles (Some (Cross a b out look)) status put_faults put_faults' files files' = LeavesCross files a b out look status put_faults put_faults' files'
-LeavesFiles (Some (Equal a b c d)) status put_faults put_faults' files files' = LeavesEqual files a b c d status put_faults put_faults' files'
-LeavesFiles (Some (Shrink a b c out)) status put_faults put_faults' files files' = LeavesShrunk files a b c out status put_faults put_faults' files'
-LeavesFiles (Some (Empty a e c mode)) status put_faults put_faults' files files' = LeavesProperty emptiness files a e c mode status put_faults put_faults' files'
-LeavesFiles (Some (Universal a u c mode)) status put_faults put_faults' files files' = LeavesProperty universality files a u c mode status put_faults put_faults' files'
-LeavesFiles question status put_faults put_faults' files files' = files' ≡ files
+-- What a status up to 2 shows of the files before and after, and of what was sent; and what a drill says at each. Words that are no question have no
+-- status up to 2.
+abbrev pub Shows : Option Question → Call → Type 0
+Shows None call = IfResult call (λ files files'. ⊥)
+Shows (Some (Check a b c)) call = IfResult call (λ files files'. ShowsCheck a b c call files)
+Shows (Some (Include a b c mode look limit letters)) call = IfResult call (ShowsInclude a b c (terms_by mode look limit letters) call)
+Shows (Some (Reduce a mode look letters)) call = IfResult call (λ files files'. ShowsReduce a mode (sight_by look letters) call files)
+Shows (Some (Drill seed states labels)) call = SaysDrill (drill_of seed states labels) call
+Shows (Some (Upgrade c out)) call = IfResult call (ShowsUpgrade c out call)
+Shows (Some (Cross a b out look)) call = IfResult call (ShowsCross a b out look call)
+Shows (Some (CrossCheck a b f)) call = IfResult call (λ files files'. ShowsCrossCheck a b f call files)
+Shows (Some (Equal a b c d)) call = IfResult call (ShowsEqual a b c d call)
+Shows (Some (Batch list)) call = Unit {0}
+Shows (Some (Union a b mode)) call = IfResult call (λ files files'. ShowsUnion a b mode call files)
+Shows (Some (Intersect a b mode)) call = IfResult call (λ files files'. ShowsIntersect a b mode call files)
+Shows (Some (Shrink a b c out)) call = IfResult call (ShowsShrink a b c out call)
+Shows (Some (Empty a e c mode)) call = IfResult call (ShowsProperty emptiness a e c mode call)
+Shows (Some (Universal a u c mode)) call = IfResult call (ShowsProperty universality a u c mode call)
 
--- The words ask nothing, and how the program is used was said, with status 3; or want of memory was.
-abbrev pub SaysUsage : ℕ → Option (List ℕ) → Option (List ℕ) → ℕ → ℕ → Type 0
-SaysUsage status sent sent' give_faults give_faults' =
-    ((status ≡ 3) × SaysOnly usage_text status sent sent' give_faults give_faults') ⊎ ((status ≡ 8) × SaysOnly memory_line status sent sent' give_faults give_faults')
+-- Where the shelf tells its files: this holds of those before and those after.
+abbrev pub OfFiles : Call → (FileMap → FileMap → Type 0) → Type 0
+OfFiles call P = BeforeAndAfter call.before.shelf.files call.after.shelf.files P
+
+-- What the files are afterwards: only a decision, an upgrade, a cross relation's search, a comparison and a shrinking write, and only the files of
+-- certificates or of the relation, and `empty` and `universal` the made automaton's too. What the questions of a batch write is told with them.
+abbrev pub LeavesFiles : Option Question → Call → Type 0
+LeavesFiles (Some (Include a b c mode look limit letters)) call = OfFiles call (LeavesDecided a b c (terms_by mode look limit letters) call)
+LeavesFiles (Some (Upgrade c out)) call = OfFiles call (LeavesUpgraded c out call)
+LeavesFiles (Some (Cross a b out look)) call = OfFiles call (LeavesCross a b out look call)
+LeavesFiles (Some (Equal a b c d)) call = OfFiles call (LeavesEqual a b c d call)
+LeavesFiles (Some (Shrink a b c out)) call = OfFiles call (LeavesShrunk a b c out call)
+LeavesFiles (Some (Empty a e c mode)) call = OfFiles call (LeavesProperty emptiness a e c mode call)
+LeavesFiles (Some (Universal a u c mode)) call = OfFiles call (LeavesProperty universality a u c mode call)
+LeavesFiles (Some (Batch list)) call = Unit {0}
+LeavesFiles question call = StaysUnwritten call

@@ -1,7 +1,8 @@
 -- How a question is answered whose automata read.
-use Rattle.std.specs.Prelude.{◌≡◌, ℕ, ◌≤◌, ◌⊎◌, List, []}
+use Rattle.std.specs.Prelude.{◌≡◌, ℕ, ◌≤◌, ◌⊎◌, List, [], Option, Some, None, IfSome}
 use Rattle.shelf_io.specs.Counts.{Rose}
 use Rattle.shelf_io.specs.Shelf.{FileMap}
+use Rattle.shelf_io.specs.Seen.{Call}
 use Rattle.rabit_frame.specs.declared.parts.Value.{Value}
 use Rattle.rabit_frame.specs.Files.{Input}
 use Rattle.rabit_frame.specs.Reading.{ReadInTurn}
@@ -36,7 +37,7 @@ automata_of (Empty a e c mode) = property_inputs emptiness a
 automata_of (Universal a u c mode) = property_inputs universality a
 
 -- The statuses of the command's results for these files, and that of want of memory. A check may also refuse the certificate; of an upgrade, a
--- cross relation and its check, a union, an intersection and a shrinking the files tell which status it is. A batch is no single question: what it answers is told by `AnswersBatch`.
+-- cross relation and its check, a union, an intersection and a shrinking the files tell which status it is. A batch is no single question: what it answers is told by `EndsBatch`.
 abbrev pub MayAnswer : Question → FileMap → ℕ → Type 0
 MayAnswer (Check a b c) files status = (status ≤ 2) ⊎ (status ≡ 5) ⊎ (status ≡ 8)
 MayAnswer (Include a b c mode look limit letters) files status = (status ≤ 2) ⊎ (status ≡ 8)
@@ -53,15 +54,16 @@ MayAnswer (Shrink a b c out) files status = IsShrinkStatus files a b c status �
 MayAnswer (Empty a e c mode) files status = (status ≤ 2) ⊎ (status ≡ 8)
 MayAnswer (Universal a u c mode) files status = (status ≤ 2) ⊎ (status ≡ 8)
 
--- If all its automata read, the question is answered so, unless a count of the outside rose.
-abbrev pub AnswersWhatReads : Question → FileMap → ℕ → ℕ → ℕ → ℕ → ℕ → ℕ → ℕ → Type 0
-AnswersWhatReads q files status give_faults give_faults' read_faults read_faults' put_faults put_faults' =
-    (values : List Value) → ReadInTurn files (automata_of q) values →
-    MayAnswer q files status ⊎ Rose read_faults read_faults' ⊎ Rose give_faults give_faults' ⊎ Rose put_faults put_faults'
+-- A count of the outside rose.
+abbrev pub AnyRose : Call → Type 0
+AnyRose call =
+    Rose call.before.shelf.read_faults call.after.shelf.read_faults
+    ⊎ Rose call.before.sink.give_faults call.after.sink.give_faults
+    ⊎ Rose call.before.shelf.put_faults call.after.shelf.put_faults
 
--- A batch whose lines were all given ends with 0, with 11 for a list with a fault, with 8 for want of memory before its first question, and with 6 only
--- where a read failed.
-abbrev pub AnswersBatch : Question → ℕ → ℕ → ℕ → ℕ → ℕ → Type 0
-AnswersBatch (Batch list) status give_faults give_faults' read_faults read_faults' =
-    (status ≡ 0) ⊎ (status ≡ 11) ⊎ (status ≡ 8) ⊎ ((status ≡ 6) × Rose read_faults read_faults') ⊎ Rose give_faults give_faults'
-AnswersBatch question status give_faults give_faults' read_faults read_faults' = Unit {0}
+-- If all its automata read, the question is answered so, unless a count of the outside rose.
+abbrev pub AnswersWhatReads : Option Question → Call → Type 0
+AnswersWhatReads None call = Unit {0}
+AnswersWhatReads (Some (Batch list)) call = Unit {0}
+AnswersWhatReads (Some q) call =
+    IfSome call.before.shelf.files (λ files. (values : List Value) → ReadInTurn files (automata_of q) values → MayAnswer q files call.status ⊎ AnyRose call)

@@ -1,8 +1,8 @@
 -- `cross A B OUT [--look K]` and `cross-check A B FILE`
-use Rattle.std.specs.Prelude.{◌≡◌, ℕ, ◌⊎◌, List, [], ◌∷◌, Option}
+use Rattle.std.specs.Prelude.{◌≡◌, ℕ, ◌⊎◌, List, [], ◌∷◌}
 use Rattle.std.specs.FinMap as map
-use Rattle.std.specs.Io.KnownBytes.{append_known}
 use Rattle.shelf_io.specs.Shelf.{FileMap}
+use Rattle.shelf_io.specs.Seen.{Call}
 use Rattle.auto_core.specs.Accept.{Includes}
 use Rattle.auto_core.specs.Game.{Holds}
 use Rattle.auto_core.specs.declared.parts.Mode.{Mode}
@@ -21,7 +21,7 @@ use Rattle.rabit_frame.specs.declared.parts.Status.TheVariants as status
 use Rattle.rabit_frame.specs.declared.parts.Reply.{Reply}
 use Rattle.rabit_frame.specs.Files.{Input, Output}
 use Rattle.rabit_frame.specs.Reading.{FileReads, reply_with, only_said}
-use Rattle.rabit_frame.specs.Ending.{IsCutShort}
+use Rattle.rabit_frame.specs.Ending.{IsCutShort, Sends}
 use Rattle.rabit_frame.specs.Carrying.{LeavesByStatus}
 use Rattle.rabit_replies.specs.Printed.{by_simulation_text, no_relation_text, refused_text}
 use Rattle.rabit_replies.specs.declared.files.TheConstants.{FIRST_LIMITS, SECOND_LIMITS}
@@ -67,24 +67,23 @@ HoldsCrossFront files a b out look files' =
     (pair : Joined) × (cross : Cross) × IsCrossOfFiles files a b look pair cross × IsCutShort files (cross_put out cross ∷ []) files'
 
 -- What it leaves, by its status.
-abbrev pub LeavesCross : FileMap → List ℕ → List ℕ → List ℕ → ℕ → ℕ → ℕ → ℕ → FileMap → Type 0
-LeavesCross files a b out look status put_faults put_faults' files' =
-    LeavesByStatus (λ before. HoldsCross before a b out look) (λ before. HoldsCrossFront before a b out look) status put_faults put_faults' files files'
+abbrev pub LeavesCross : List ℕ → List ℕ → List ℕ → ℕ → Call → FileMap → FileMap → Type 0
+LeavesCross a b out look = LeavesByStatus (λ before. HoldsCross before a b out look) (λ before. HoldsCrossFront before a b out look)
 
 -- It said that the inclusion holds by simulation: the named files read as two automata, their greatest cross relation has the pair of the initial
 -- states, so the second accepts all that the first does, in both modes, and the name holds its text; all other files are as before.
-pub record IsCrossShown (files : FileMap) (a b out : List ℕ) (look : ℕ) (files' : FileMap) (sent sent' : Option (List ℕ)) : Type 0 where
+pub record IsCrossShown (files : FileMap) (a b out : List ℕ) (look : ℕ) (files' : FileMap) (call : Call) : Type 0 where
   pub pair : Joined
   pub cross : Cross
   pub for : IsCrossOfFiles files a b look pair cross
   pub includes : (mode : Mode) → Includes pair.first pair.second mode
   pub held : files' ≡ map.insert files out (cross_text cross)
-  pub printed : sent' ≡ append_known sent by_simulation_text
+  pub printed : Sends by_simulation_text call.before.sink call.after.sink
 
 -- What a status up to 2 shows: 0 a cross relation, and 1 and 2 do not come.
-pub record ShowsCross (files : FileMap) (a b out : List ℕ) (look status : ℕ) (files' : FileMap) (sent sent' : Option (List ℕ)) : Type 0 where
-  pub related : status ≡ 0 → IsCrossShown files a b out look files' sent sent'
-  pub no_other : ¬ (status ≡ 1) × ¬ (status ≡ 2)
+pub record ShowsCross (a b out : List ℕ) (look : ℕ) (call : Call) (files files' : FileMap) : Type 0 where
+  pub related : call.status ≡ 0 → IsCrossShown files a b out look files' call
+  pub no_other : ¬ (call.status ≡ 1) × ¬ (call.status ≡ 2)
 
 -- The status of a result for these files: 0 if the greatest cross relation has the pair of the initial states, 10 if it has not.
 abbrev pub IsCrossStatus : FileMap → List ℕ → List ℕ → ℕ → ℕ → Type 0
@@ -130,19 +129,19 @@ MeansCrossCheck values r =
 
 -- The named files read as two automata and a cross relation that keeps all rules, so the second automaton accepts all that the first does, in both
 -- modes, and that was printed.
-pub record IsCrossChecked (files : FileMap) (a b f : List ℕ) (sent sent' : Option (List ℕ)) : Type 0 where
+pub record IsCrossChecked (files : FileMap) (a b f : List ℕ) (call : Call) : Type 0 where
   pub pair : Joined
   pub cross : Cross
   pub read : ReadsPair files a b pair
   pub relation : ReadsCross files f cross
   pub keeps : KeepsCrossRules pair cross
   pub includes : (mode : Mode) → Includes pair.first pair.second mode
-  pub printed : sent' ≡ append_known sent by_simulation_text
+  pub printed : Sends by_simulation_text call.before.sink call.after.sink
 
 -- What a status up to 2 shows: 0 a cross relation that keeps all rules, and 1 and 2 do not come.
-pub record ShowsCrossCheck (files : FileMap) (a b f : List ℕ) (status : ℕ) (sent sent' : Option (List ℕ)) : Type 0 where
-  pub related : status ≡ 0 → IsCrossChecked files a b f sent sent'
-  pub no_other : ¬ (status ≡ 1) × ¬ (status ≡ 2)
+pub record ShowsCrossCheck (a b f : List ℕ) (call : Call) (files : FileMap) : Type 0 where
+  pub related : call.status ≡ 0 → IsCrossChecked files a b f call
+  pub no_other : ¬ (call.status ≡ 1) × ¬ (call.status ≡ 2)
 
 -- The file reads as a cross relation that keeps all rules for the two automata.
 abbrev pub IsKeptCross : FileMap → List ℕ → List ℕ → List ℕ → Type 0

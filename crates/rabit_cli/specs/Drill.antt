@@ -1,6 +1,6 @@
 -- `drill SEED STATES LABELS`
-use Rattle.std.specs.Prelude.{◌≡◌, ℕ, ◌⊎◌, List, [], ◌++◌, length, Option, codes, decimal}
-use Rattle.std.specs.Io.KnownBytes.{append_known}
+use Rattle.std.specs.Prelude.{◌≡◌, ℕ, ◌⊎◌, List, [], ◌++◌, length, codes, decimal}
+use Rattle.shelf_io.specs.Seen.{Call}
 use Rattle.auto_core.specs.Automaton.{Automaton}
 use Rattle.auto_core.specs.declared.parts.Mode.TheVariants.{Buchi}
 use Rattle.ba_format.specs.declared.parts.Joined.{Joined}
@@ -68,13 +68,9 @@ pub record IsDrillText (d : Drill) (text : List ℕ) : Type 0 where
   pub second_in_first : AnswerIsTrue (exchanged pair) drill_terms converse.body
   pub is : text ≡ drill_text pair forth.body converse.body
 
--- What a status up to 2 shows: 0 that a drill's text was sent, and 1 and 2 do not come.
-pub record ShowsDrill (d : Drill) (status : ℕ) (sent sent' : Option (List ℕ)) : Type 0 where
-  pub drilled : status ≡ 0 → (text : List ℕ) × IsDrillText d text × (sent' ≡ append_known sent text)
-  pub no_other : ¬ (status ≡ 1) × ¬ (status ≡ 2)
-
 -- What a drill says, whatever the shelf tells: its text was given, or where the sink's count rose a front of it at status 7, or want of memory
 -- was said.
-abbrev pub SaysDrill : Drill → ℕ → Option (List ℕ) → Option (List ℕ) → ℕ → ℕ → Type 0
-SaysDrill d status sent sent' give_faults give_faults' =
-    ((text : List ℕ) × IsDrillText d text × WasGiven text 0 7 status sent sent' give_faults give_faults') ⊎ ((status ≡ 8) × SaysOnly memory_line status sent sent' give_faults give_faults')
+abbrev pub SaysDrill : Drill → Call → Type 0
+SaysDrill d call =
+    ((text : List ℕ) × IsDrillText d text × WasGiven text 0 7 call.status call.before.sink call.after.sink)
+    ⊎ ((call.status ≡ 8) × SaysOnly memory_line call.status call.before.sink call.after.sink)

@@ -1,7 +1,7 @@
 -- `equal A B C1 C2`
-use Rattle.std.specs.Prelude.{◌≡◌, ℕ, ◌⊎◌, List, [], ◌∷◌, Option}
-use Rattle.std.specs.Io.KnownBytes.{append_known}
+use Rattle.std.specs.Prelude.{◌≡◌, ℕ, ◌⊎◌, List, [], ◌∷◌}
 use Rattle.shelf_io.specs.Shelf.{FileMap}
+use Rattle.shelf_io.specs.Seen.{Call}
 use Rattle.auto_core.specs.Accept.{Same, SeparatesLasso, SeparatesWord}
 use Rattle.auto_core.specs.declared.parts.Mode.TheVariants.{Buchi}
 use Rattle.ba_format.specs.declared.parts.Named.{Named}
@@ -22,7 +22,7 @@ use Rattle.rabit_frame.specs.declared.parts.Status.TheVariants as status
 use Rattle.rabit_frame.specs.declared.parts.Reply.{Reply}
 use Rattle.rabit_frame.specs.Files.{Input, Output}
 use Rattle.rabit_frame.specs.Reading.{reply_with}
-use Rattle.rabit_frame.specs.Ending.{filed, IsCutShort}
+use Rattle.rabit_frame.specs.Ending.{filed, IsCutShort, Sends}
 use Rattle.rabit_frame.specs.Carrying.{LeavesByStatus}
 use Rattle.rabit_words.specs.declared.parts.TheConstants.{USUAL_LIMIT}
 use Rattle.rabit_replies.specs.Printed.{equal_text, first_apart_text, second_apart_text, limit_text}
@@ -98,9 +98,8 @@ abbrev pub HoldsEqualPart : FileMap → List ℕ → List ℕ → List ℕ → L
 HoldsEqualPart files a b c d files' = (puts : List Output) × AreEqualPuts files a b c d puts × IsCutShort files puts files'
 
 -- What it leaves, by its status.
-abbrev pub LeavesEqual : FileMap → List ℕ → List ℕ → List ℕ → List ℕ → ℕ → ℕ → ℕ → FileMap → Type 0
-LeavesEqual files a b c d status put_faults put_faults' files' =
-    LeavesByStatus (λ before. HoldsEqual before a b c d) (λ before. HoldsEqualPart before a b c d) status put_faults put_faults' files files'
+abbrev pub LeavesEqual : List ℕ → List ℕ → List ℕ → List ℕ → Call → FileMap → FileMap → Type 0
+LeavesEqual a b c d = LeavesByStatus (λ before. HoldsEqual before a b c d) (λ before. HoldsEqualPart before a b c d)
 
 -- The body has a lasso, or a word, that the first of the two accepts and the second does not.
 abbrev pub Separates : Joined → Body → Type 0
@@ -117,7 +116,7 @@ IsListBody (NoWord word) = ⊥
 IsListBody (Listing list) = Unit {0}
 
 -- Both accept the same lassos, and that was said; both certificates are written, and each says yes.
-pub record AreShownEqual (files : FileMap) (a b c d : List ℕ) (files' : FileMap) (sent sent' : Option (List ℕ)) : Type 0 where
+pub record AreShownEqual (files : FileMap) (a b c d : List ℕ) (files' : FileMap) (call : Call) : Type 0 where
   pub pair : Joined
   pub exchanged : Joined
   pub cert : Cert
@@ -127,19 +126,19 @@ pub record AreShownEqual (files : FileMap) (a b c d : List ℕ) (files' : FileMa
   pub converse_says_yes : form_of converse.body ≡ form.Yes
   pub same : Same pair.first pair.second Buchi
   pub held : files' ≡ filed files (both_puts c d cert converse)
-  pub printed : sent' ≡ append_known sent equal_text
+  pub printed : Sends equal_text call.before.sink call.after.sink
 
 -- The first accepts a lasso that the second does not, which was printed; its certificate alone is written.
-pub record IsFirstApart (files : FileMap) (a b c : List ℕ) (files' : FileMap) (sent sent' : Option (List ℕ)) : Type 0 where
+pub record IsFirstApart (files : FileMap) (a b c : List ℕ) (files' : FileMap) (call : Call) : Type 0 where
   pub pair : Joined
   pub cert : Cert
   pub first : IsCertForWithin SECOND_LIMITS files a b (usual_terms Buchi) pair cert
   pub apart : Separates pair cert.body
   pub held : files' ≡ filed files (certificate_put c cert ∷ [])
-  pub printed : sent' ≡ append_known sent (first_apart_text pair.labels cert.body)
+  pub printed : Sends (first_apart_text pair.labels cert.body) call.before.sink call.after.sink
 
 -- No lasso was found that the first accepts and the second does not, but one the other way round, which was printed; both certificates are written.
-pub record IsSecondApart (files : FileMap) (a b c d : List ℕ) (files' : FileMap) (sent sent' : Option (List ℕ)) : Type 0 where
+pub record IsSecondApart (files : FileMap) (a b c d : List ℕ) (files' : FileMap) (call : Call) : Type 0 where
   pub pair : Joined
   pub exchanged : Joined
   pub cert : Cert
@@ -148,10 +147,10 @@ pub record IsSecondApart (files : FileMap) (a b c d : List ℕ) (files' : FileMa
   pub not_first : ¬ IsNo cert.body
   pub apart : Separates exchanged converse.body
   pub held : files' ≡ filed files (both_puts c d cert converse)
-  pub printed : sent' ≡ append_known sent (second_apart_text exchanged.labels converse.body)
+  pub printed : Sends (second_apart_text exchanged.labels converse.body) call.before.sink call.after.sink
 
 -- One of the searches met its limit, and neither answer is a no; both certificates are written.
-pub record IsEqualListed (files : FileMap) (a b c d : List ℕ) (files' : FileMap) (sent sent' : Option (List ℕ)) : Type 0 where
+pub record IsEqualListed (files : FileMap) (a b c d : List ℕ) (files' : FileMap) (call : Call) : Type 0 where
   pub pair : Joined
   pub exchanged : Joined
   pub cert : Cert
@@ -161,10 +160,10 @@ pub record IsEqualListed (files : FileMap) (a b c d : List ℕ) (files' : FileMa
   pub not_second : ¬ IsNo converse.body
   pub lists : IsListBody cert.body ⊎ IsListBody converse.body
   pub held : files' ≡ filed files (both_puts c d cert converse)
-  pub printed : sent' ≡ append_known sent (limit_text USUAL_LIMIT)
+  pub printed : Sends (limit_text USUAL_LIMIT) call.before.sink call.after.sink
 
 -- What a status up to 2 shows: 0 that both accept the same, 1 what separates them one way or the other, 2 that a limit was met.
-pub record ShowsEqual (files : FileMap) (a b c d : List ℕ) (status : ℕ) (files' : FileMap) (sent sent' : Option (List ℕ)) : Type 0 where
-  pub equal : status ≡ 0 → AreShownEqual files a b c d files' sent sent'
-  pub apart : status ≡ 1 → IsFirstApart files a b c files' sent sent' ⊎ IsSecondApart files a b c d files' sent sent'
-  pub listed : status ≡ 2 → IsEqualListed files a b c d files' sent sent'
+pub record ShowsEqual (a b c d : List ℕ) (call : Call) (files files' : FileMap) : Type 0 where
+  pub equal : call.status ≡ 0 → AreShownEqual files a b c d files' call
+  pub apart : call.status ≡ 1 → IsFirstApart files a b c files' call ⊎ IsSecondApart files a b c d files' call
+  pub listed : call.status ≡ 2 → IsEqualListed files a b c d files' call

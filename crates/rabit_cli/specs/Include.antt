@@ -1,8 +1,8 @@
 -- `include A B CERT`, with `--finite`, `--look K`, `--limit N` and `--letters M`
 use Rattle.std.specs.Prelude.{◌≡◌, ℕ, List, [], ◌∷◌, Option, None, Some}
 use Rattle.std.specs.FinMap as map
-use Rattle.std.specs.Io.KnownBytes.{append_known}
 use Rattle.shelf_io.specs.Shelf.{FileMap}
+use Rattle.shelf_io.specs.Seen.{Call}
 use Rattle.auto_core.specs.Accept.{Includes}
 use Rattle.auto_core.specs.declared.parts.Mode.{Mode}
 use Rattle.ba_format.specs.declared.parts.Limits.{Limits}
@@ -23,7 +23,7 @@ use Rattle.decide.specs.Laws.{AnswerIsTrue, StandApart, ListsNew}
 use Rattle.rabit_frame.specs.declared.parts.Value.{Value}
 use Rattle.rabit_frame.specs.declared.parts.Value.TheVariants as value
 use Rattle.rabit_frame.specs.declared.parts.Reply.{Reply}
-use Rattle.rabit_frame.specs.Ending.{IsCutShort}
+use Rattle.rabit_frame.specs.Ending.{IsCutShort, Sends}
 use Rattle.rabit_frame.specs.Carrying.{LeavesByStatus}
 use Rattle.rabit_words.specs.declared.parts.TheConstants.{USUAL_LOOK, USUAL_LIMIT, USUAL_LETTERS}
 use Rattle.rabit_replies.specs.Printed.{included_text, limit_text}
@@ -85,23 +85,22 @@ HoldsAnswerFront files a b c terms files' =
 
 -- What it leaves, by its status: a verdict comes with the certificate's whole text. A write fault leaves that too where the
 -- verdict could not be sent, and where the shelf's count rose a front of it or what was there before. Nothing else writes a file.
-abbrev pub LeavesDecided : FileMap → List ℕ → List ℕ → List ℕ → Terms → ℕ → ℕ → ℕ → FileMap → Type 0
-LeavesDecided files a b c terms status put_faults put_faults' files' =
-    LeavesByStatus (λ before. HoldsAnswer before a b c terms) (λ before. HoldsAnswerFront before a b c terms) status put_faults put_faults' files files'
+abbrev pub LeavesDecided : List ℕ → List ℕ → List ℕ → Terms → Call → FileMap → FileMap → Type 0
+LeavesDecided a b c terms = LeavesByStatus (λ before. HoldsAnswer before a b c terms) (λ before. HoldsAnswerFront before a b c terms)
 
 -- It said no: the named files read as two automata, the answer is a no and keeps all rules of a check, its lasso, in finite mode its
 -- word, separates the two and was printed, and the certificate's name holds the answer's text; all other files are as before.
-pub record IsDecidedApart (files : FileMap) (a b c : List ℕ) (terms : Terms) (files' : FileMap) (sent sent' : Option (List ℕ)) : Type 0 where
+pub record IsDecidedApart (files : FileMap) (a b c : List ℕ) (terms : Terms) (files' : FileMap) (call : Call) : Type 0 where
   pub pair : Joined
   pub cert : Cert
   pub read : ReadsPair files a b pair
   pub answer : IsAnswer pair terms cert
   pub valid : IsValid pair cert
-  pub apart : SaysApart pair cert.body sent sent'
+  pub apart : SaysApart pair cert.body call.before.sink call.after.sink
   pub held : files' ≡ map.insert files c (text cert)
 
 -- It said yes, with the same of a yes: the logs lead to settled automata, and no live element subsumes another.
-pub record IsDecidedIncluded (files : FileMap) (a b c : List ℕ) (terms : Terms) (files' : FileMap) (sent sent' : Option (List ℕ)) : Type 0 where
+pub record IsDecidedIncluded (files : FileMap) (a b c : List ℕ) (terms : Terms) (files' : FileMap) (call : Call) : Type 0 where
   pub pair : Joined
   pub cert : Cert
   pub evidence : YesBody
@@ -112,11 +111,11 @@ pub record IsDecidedIncluded (files : FileMap) (a b c : List ℕ) (terms : Terms
   pub includes : Includes pair.first pair.second terms.mode
   pub apart_live : StandApart pair terms evidence
   pub held : files' ≡ map.insert files c (text cert)
-  pub printed : sent' ≡ append_known sent (included_text terms.mode)
+  pub printed : Sends (included_text terms.mode) call.before.sink call.after.sink
 
 -- It met its limit, with the same of a list of one element more, which keeps all rules of a check: these are different, and of the settled
 -- automata that the logs lead to.
-pub record IsDecidedListed (files : FileMap) (a b c : List ℕ) (terms : Terms) (files' : FileMap) (sent sent' : Option (List ℕ)) : Type 0 where
+pub record IsDecidedListed (files : FileMap) (a b c : List ℕ) (terms : Terms) (files' : FileMap) (call : Call) : Type 0 where
   pub pair : Joined
   pub cert : Cert
   pub list : ListBody
@@ -126,10 +125,10 @@ pub record IsDecidedListed (files : FileMap) (a b c : List ℕ) (terms : Terms) 
   pub valid : IsValid pair cert
   pub listed : ListsNew pair terms list
   pub held : files' ≡ map.insert files c (text cert)
-  pub printed : sent' ≡ append_known sent (limit_text terms.limit)
+  pub printed : Sends (limit_text terms.limit) call.before.sink call.after.sink
 
 -- What a status up to 2 shows: 0 an inclusion, 1 a lasso or a word that separates, 2 a list of more elements than the limit.
-pub record ShowsInclude (files : FileMap) (a b c : List ℕ) (terms : Terms) (status : ℕ) (files' : FileMap) (sent sent' : Option (List ℕ)) : Type 0 where
-  pub included : status ≡ 0 → IsDecidedIncluded files a b c terms files' sent sent'
-  pub not_included : status ≡ 1 → IsDecidedApart files a b c terms files' sent sent'
-  pub limit_met : status ≡ 2 → IsDecidedListed files a b c terms files' sent sent'
+pub record ShowsInclude (a b c : List ℕ) (terms : Terms) (call : Call) (files files' : FileMap) : Type 0 where
+  pub included : call.status ≡ 0 → IsDecidedIncluded files a b c terms files' call
+  pub not_included : call.status ≡ 1 → IsDecidedApart files a b c terms files' call
+  pub limit_met : call.status ≡ 2 → IsDecidedListed files a b c terms files' call

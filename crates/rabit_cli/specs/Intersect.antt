@@ -1,6 +1,7 @@
 -- `intersect A B`, with `--finite`
-use Rattle.std.specs.Prelude.{ℕ, ◌↔◌, List, Option}
+use Rattle.std.specs.Prelude.{ℕ, ◌↔◌, List}
 use Rattle.shelf_io.specs.Shelf.{FileMap}
+use Rattle.shelf_io.specs.Seen.{Call}
 use Rattle.auto_core.specs.Automaton.{Automaton}
 use Rattle.auto_core.specs.Accept.{AcceptsLasso, AcceptsWord}
 use Rattle.auto_core.specs.declared.parts.Mode.{Mode}
@@ -33,5 +34,5 @@ AcceptsWhatBothDo Buchi A B C = (u v : List ℕ) → AcceptsLasso C u v ↔ (Acc
 AcceptsWhatBothDo Finite A B C = (w : List ℕ) → AcceptsWord C w ↔ (AcceptsWord A w × AcceptsWord B w)
 
 -- What a status up to 2 shows: 0 the intersection, and 1 and 2 do not come.
-abbrev pub ShowsIntersect : FileMap → List ℕ → List ℕ → Mode → ℕ → Option (List ℕ) → Option (List ℕ) → Type 0
-ShowsIntersect files a b mode = ShowsCombined files a b (IsIntersectionOf mode) (λ pair. AcceptsWhatBothDo mode pair.first pair.second)
+abbrev pub ShowsIntersect : List ℕ → List ℕ → Mode → Call → FileMap → Type 0
+ShowsIntersect a b mode = ShowsCombined a b (IsIntersectionOf mode) (λ pair. AcceptsWhatBothDo mode pair.first pair.second)

@@ -3,6 +3,7 @@
 use Rattle.std.specs.Prelude.{◌≡◌, ◌≢◌, ◌≤◌, ◌^◌, ◌↔◌, ℕ, List, [], ◌∷◌, length, All}
 use Rattle.std.specs.FinMap as map
 use Rattle.shelf_io.specs.Shelf.{FileMap}
+use Rattle.shelf_io.specs.Seen.{ShelfSeen}
 use Rattle.ba_format.specs.declared.parts.Joined.{Joined}
 use Rattle.cert_value.specs.declared.types.Cert.{Cert}
 use Rattle.cert_value.specs.Text.{text}
@@ -24,6 +25,7 @@ use Rattle.rabit_frame.specs.declared.parts.Value.TheVariants as value
 use Rattle.rabit_frame.specs.declared.parts.Status.TheVariants as status
 use Rattle.rabit_frame.specs.declared.parts.Reply.{Reply}
 use Rattle.rabit_frame.specs.Files.{Output}
+use Rattle.rabit_frame.specs.Request.{request_with}
 use Rattle.rabit_frame.specs.Statuses.{status_number}
 use Rattle.rabit_frame.specs.Reading.{only_said}
 use Rattle.rabit_frame.specs.Ending.{IsReplyFor, filed}
@@ -34,18 +36,18 @@ use Rattle.rabit_cli.specs.Check.{check_inputs, MeansCheck}
 use Rattle.rabit_cli.specs.Include.{MeansInclude}
 use Rattle.rabit_cli.specs.Upgrade.{upgrade_inputs, MeansUpgrade}
 use Rattle.rabit_cli.specs.Cross.{MeansCross, IsCrossOfFiles, ReadsCross, cross_check_inputs, MeansCrossCheck}
-use Rattle.rabit_cli.specs.Batch.{ShelfCounts, LeaveInTurn, ShowInTurn}
+use Rattle.rabit_cli.specs.Batch.{LeaveInTurn, ShowInTurn}
 use Rattle.rabit_cli.specs.Property.{Property, IsPropertyCertFor, IsPropertyReply, property_puts}
 use Rattle.rabit_cli.specs.Empty.{empty_text, AcceptsNothing, emptiness}
 use Rattle.rabit_cli.specs.Universal.{all_loops, AcceptsAll, universality}
 
 -- The right reply of `check A B CERT` for these files.
 abbrev pub IsCheckReply : FileMap → List ℕ → List ℕ → List ℕ → Reply → Type 0
-IsCheckReply files a b c r = IsReplyFor MeansCheck (check_inputs a b c) files r
+IsCheckReply files a b c r = IsReplyFor (request_with (check_inputs a b c) MeansCheck) files r
 
 -- The right reply of `include A B CERT` for these files.
 abbrev pub IsIncludeReply : FileMap → List ℕ → List ℕ → List ℕ → Terms → Reply → Type 0
-IsIncludeReply files a b c terms r = IsReplyFor (MeansInclude c terms) (pair_inputs a b) files r
+IsIncludeReply files a b c terms r = IsReplyFor (request_with (pair_inputs a b) (MeansInclude c terms)) files r
 
 -- Where the name of the certificate is none of the two others, and the answer for the two automata has a text of at most 1 GiB, a check of
 -- the files that hold it says what the decision said.
@@ -92,7 +94,7 @@ UpgradeIsChecked =
     (files : FileMap) (a b c out : List ℕ) (r s : Reply)
     → out ≢ a
     → out ≢ b
-    → IsReplyFor (MeansUpgrade out) (upgrade_inputs c) files r
+    → IsReplyFor (request_with (upgrade_inputs c) (MeansUpgrade out)) files r
     → status_number r.status ≡ 0
     → All (λ (put : Output). length put.bytes ≤ 2 ^ 30) r.puts
     → IsCheckReply files a b c s ↔ IsCheckReply (filed files r.puts) a b out s
@@ -106,10 +108,10 @@ CrossIsChecked =
     → out ≢ b
     → 1 ≤ look
     → look ≤ 6
-    → IsReplyFor (MeansCross out look) (pair_inputs a b) files r
+    → IsReplyFor (request_with (pair_inputs a b) (MeansCross out look)) files r
     → status_number r.status ≡ 0
     → All (λ (put : Output). length put.bytes ≤ 2 ^ 30) r.puts
-    → IsReplyFor MeansCrossCheck (cross_check_inputs a b out) (filed files r.puts) (only_said r.status r.text)
+    → IsReplyFor (request_with (cross_check_inputs a b out) MeansCrossCheck) (filed files r.puts) (only_said r.status r.text)
 
 -- Wherever a file of at most 1 GiB holds the text of the greatest cross relation of two automata, at a lookahead of 1 to 6, and that has the pair of the
 -- initial states, `cross-check` of it for those two says that the inclusion holds by simulation.
@@ -120,14 +122,12 @@ CrossRelationsAreAccepted =
     → look ≤ 6
     → IsCrossOfFiles files a b look pair cross
     → ReadsCross files f cross
-    → IsReplyFor MeansCrossCheck (cross_check_inputs a b f) files (only_said status.Done by_simulation_text)
+    → IsReplyFor (request_with (cross_check_inputs a b f) MeansCrossCheck) files (only_said status.Done by_simulation_text)
 
 -- Questions that were carried out in turn show in turn what `include` shows.
 abbrev pub QuestionsShowInTurn : Type 0
 QuestionsShowInTurn =
-    (questions : List Question) (statuses : List ℕ) (files files' : FileMap) (calls calls' : ShelfCounts)
-    → LeaveInTurn questions statuses files files' calls calls'
-    → ShowInTurn questions statuses files files'
+    (questions : List Question) (statuses : List ℕ) (old new : ShelfSeen) → LeaveInTurn questions statuses old new → ShowInTurn questions statuses old new
 
 -- Whatever the text that `empty` makes reads as accepts nothing.
 abbrev pub EmptyTextAcceptsNothing : Type 0

@@ -1,8 +1,8 @@
 -- What `empty` and `universal` have in common: an automaton is read, another one is made for it, whether the one is included in the other is decided,
 -- and the made one's text and the certificate are written.
-use Rattle.std.specs.Prelude.{◌≡◌, ℕ, List, [], ◌∷◌, Option}
-use Rattle.std.specs.Io.KnownBytes.{append_known}
+use Rattle.std.specs.Prelude.{◌≡◌, ℕ, List, [], ◌∷◌}
 use Rattle.shelf_io.specs.Shelf.{FileMap}
+use Rattle.shelf_io.specs.Seen.{Call, SinkSeen}
 use Rattle.auto_core.specs.Automaton.{Automaton}
 use Rattle.auto_core.specs.declared.parts.Mode.{Mode}
 use Rattle.auto_core.specs.declared.parts.Lasso.{Lasso}
@@ -24,7 +24,7 @@ use Rattle.rabit_frame.specs.declared.parts.Status.TheVariants as status
 use Rattle.rabit_frame.specs.declared.parts.Reply.{Reply}
 use Rattle.rabit_frame.specs.Files.{Input, Output}
 use Rattle.rabit_frame.specs.Reading.{reply_with, FileReads}
-use Rattle.rabit_frame.specs.Ending.{filed, IsCutShort}
+use Rattle.rabit_frame.specs.Ending.{filed, IsCutShort, Sends}
 use Rattle.rabit_frame.specs.Carrying.{LeavesByStatus}
 use Rattle.rabit_replies.specs.Printed.{holds_text, lasso_against_text, word_against_text, limit_text}
 use Rattle.rabit_replies.specs.declared.files.TheConstants.{SECOND_LIMITS}
@@ -102,40 +102,39 @@ HoldsPropertyPart p files a m c mode files' =
     × IsCutShort files (property_puts m (p.made one) c cert) files'
 
 -- What they leave, by the status.
-abbrev pub LeavesProperty : Property → FileMap → List ℕ → List ℕ → List ℕ → Mode → ℕ → ℕ → ℕ → FileMap → Type 0
-LeavesProperty p files a m c mode status put_faults put_faults' files' =
-    LeavesByStatus (λ before. HoldsProperty p before a m c mode) (λ before. HoldsPropertyPart p before a m c mode) status put_faults put_faults' files files'
+abbrev pub LeavesProperty : Property → List ℕ → List ℕ → List ℕ → Mode → Call → FileMap → FileMap → Type 0
+LeavesProperty p a m c mode = LeavesByStatus (λ before. HoldsProperty p before a m c mode) (λ before. HoldsPropertyPart p before a m c mode)
 
 -- The body has a lasso, in finite mode a word, that shows that the read automaton has not the property, and that was printed with its labels.
-abbrev pub IsRefuted : Property → Named → Body → Option (List ℕ) → Option (List ℕ) → Type 0
-IsRefuted p one (Yes evidence) sent sent' = ⊥
-IsRefuted p one (NoLasso lasso) sent sent' = p.lasso_against one.auto lasso × (sent' ≡ append_known sent (lasso_against_text p.name one.labels lasso))
-IsRefuted p one (NoWord word) sent sent' = p.word_against one.auto word × (sent' ≡ append_known sent (word_against_text p.name one.labels word))
-IsRefuted p one (Listing list) sent sent' = ⊥
+abbrev pub IsRefuted : Property → Named → Body → SinkSeen → SinkSeen → Type 0
+IsRefuted p one (Yes evidence) old new = ⊥
+IsRefuted p one (NoLasso lasso) old new = p.lasso_against one.auto lasso × Sends (lasso_against_text p.name one.labels lasso) old new
+IsRefuted p one (NoWord word) old new = p.word_against one.auto word × Sends (word_against_text p.name one.labels word) old new
+IsRefuted p one (Listing list) old new = ⊥
 
 -- The read automaton has the property, which was printed; both files are written.
-pub record IsShownToHold (p : Property) (files : FileMap) (a m c : List ℕ) (mode : Mode) (files' : FileMap) (sent sent' : Option (List ℕ)) : Type 0 where
+pub record IsShownToHold (p : Property) (files : FileMap) (a m c : List ℕ) (mode : Mode) (files' : FileMap) (call : Call) : Type 0 where
   pub written : HoldsProperty p files a m c mode files'
   pub evidence : YesBody
   pub says_yes : written.cert.body ≡ Yes evidence
   pub holds : p.holds mode written.one.auto
-  pub printed : sent' ≡ append_known sent (holds_text p.name)
+  pub printed : Sends (holds_text p.name) call.before.sink call.after.sink
 
 -- It has not, and what shows that was printed; both files are written.
-pub record IsShownToFail (p : Property) (files : FileMap) (a m c : List ℕ) (mode : Mode) (files' : FileMap) (sent sent' : Option (List ℕ)) : Type 0 where
+pub record IsShownToFail (p : Property) (files : FileMap) (a m c : List ℕ) (mode : Mode) (files' : FileMap) (call : Call) : Type 0 where
   pub written : HoldsProperty p files a m c mode files'
-  pub refuted : IsRefuted p written.one written.cert.body sent sent'
+  pub refuted : IsRefuted p written.one written.cert.body call.before.sink call.after.sink
 
 -- The search met its limit, which was printed; both files are written.
-pub record IsPropertyListed (p : Property) (files : FileMap) (a m c : List ℕ) (mode : Mode) (files' : FileMap) (sent sent' : Option (List ℕ)) : Type 0 where
+pub record IsPropertyListed (p : Property) (files : FileMap) (a m c : List ℕ) (mode : Mode) (files' : FileMap) (call : Call) : Type 0 where
   pub written : HoldsProperty p files a m c mode files'
   pub list : ListBody
   pub lists : written.cert.body ≡ Listing list
   pub listed : ListsNew written.pair (usual_terms mode) list
-  pub printed : sent' ≡ append_known sent (limit_text USUAL_LIMIT)
+  pub printed : Sends (limit_text USUAL_LIMIT) call.before.sink call.after.sink
 
 -- What a status up to 2 shows: 0 that the read automaton has the property, 1 that it has not, 2 a list of more elements than the limit.
-pub record ShowsProperty (p : Property) (files : FileMap) (a m c : List ℕ) (mode : Mode) (status : ℕ) (files' : FileMap) (sent sent' : Option (List ℕ)) : Type 0 where
-  pub holds : status ≡ 0 → IsShownToHold p files a m c mode files' sent sent'
-  pub fails : status ≡ 1 → IsShownToFail p files a m c mode files' sent sent'
-  pub listed : status ≡ 2 → IsPropertyListed p files a m c mode files' sent sent'
+pub record ShowsProperty (p : Property) (a m c : List ℕ) (mode : Mode) (call : Call) (files files' : FileMap) : Type 0 where
+  pub holds : call.status ≡ 0 → IsShownToHold p files a m c mode files' call
+  pub fails : call.status ≡ 1 → IsShownToFail p files a m c mode files' call
+  pub listed : call.status ≡ 2 → IsPropertyListed p files a m c mode files' call

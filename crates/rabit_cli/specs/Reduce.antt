@@ -1,7 +1,7 @@
 -- `reduce A`, with `--finite`, `--look K` and `--letters M`
-use Rattle.std.specs.Prelude.{◌≡◌, ◌+◌, ℕ, List, [], ◌∷◌, Option}
-use Rattle.std.specs.Io.KnownBytes.{append_known}
+use Rattle.std.specs.Prelude.{◌≡◌, ◌+◌, ℕ, List, [], ◌∷◌}
 use Rattle.shelf_io.specs.Shelf.{FileMap}
+use Rattle.shelf_io.specs.Seen.{Call}
 use Rattle.auto_core.specs.Automaton.{Automaton}
 use Rattle.auto_core.specs.declared.parts.Mode.{Mode}
 use Rattle.auto_core.specs.Accept.{Same}
@@ -20,6 +20,7 @@ use Rattle.rabit_frame.specs.declared.parts.Status.TheVariants as status
 use Rattle.rabit_frame.specs.declared.parts.Reply.{Reply}
 use Rattle.rabit_frame.specs.Files.{Input}
 use Rattle.rabit_frame.specs.Reading.{only_said, FileReads}
+use Rattle.rabit_frame.specs.Ending.{Sends}
 use Rattle.rabit_replies.specs.declared.files.TheConstants.{FIRST_LIMITS}
 use Rattle.rabit_replies.specs.Files.{automaton_file}
 
@@ -54,7 +55,7 @@ pub record ReadsBackSame (named : Named) (mode : Mode) (text : List ℕ) : Type 
 -- The named file reads as an automaton, and what was sent is the text of its reduced automaton, in which no
 -- step of the reduction has anything left to do. The reduced automaton accepts the same lassos, in finite mode the same words,
 -- and so does what its text reads as.
-pub record IsReducedShown (files : FileMap) (name : List ℕ) (mode : Mode) (sight : Foresight) (sent sent' : Option (List ℕ)) : Type 0 where
+pub record IsReducedShown (files : FileMap) (name : List ℕ) (mode : Mode) (sight : Foresight) (call : Call) : Type 0 where
   pub named : Named
   pub reduced : Automaton
   pub read : FileReads files (automaton_file 1 FIRST_LIMITS name) (value.Automaton named)
@@ -62,9 +63,9 @@ pub record IsReducedShown (files : FileMap) (name : List ℕ) (mode : Mode) (sig
   pub same : Same named.auto reduced mode
   pub reads_back : ReadsBackSame named mode (written reduced named.labels)
   pub settled : IsSettled reduced mode sight
-  pub printed : sent' ≡ append_known sent (written reduced named.labels)
+  pub printed : Sends (written reduced named.labels) call.before.sink call.after.sink
 
 -- What a status up to 2 shows: 0 a reduced automaton, and 1 and 2 do not come.
-pub record ShowsReduce (files : FileMap) (name : List ℕ) (mode : Mode) (sight : Foresight) (status : ℕ) (sent sent' : Option (List ℕ)) : Type 0 where
-  pub reduced : status ≡ 0 → IsReducedShown files name mode sight sent sent'
-  pub no_other : ¬ (status ≡ 1) × ¬ (status ≡ 2)
+pub record ShowsReduce (name : List ℕ) (mode : Mode) (sight : Foresight) (call : Call) (files : FileMap) : Type 0 where
+  pub reduced : call.status ≡ 0 → IsReducedShown files name mode sight call
+  pub no_other : ¬ (call.status ≡ 1) × ¬ (call.status ≡ 2)

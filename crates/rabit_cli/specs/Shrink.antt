@@ -1,7 +1,8 @@
 -- `shrink A B CERT OUT`
-use Rattle.std.specs.Prelude.{◌≡◌, ℕ, ◌⊎◌, List, [], ◌∷◌, Option}
+use Rattle.std.specs.Prelude.{◌≡◌, ℕ, ◌⊎◌, List, [], ◌∷◌}
 use Rattle.std.specs.FinMap as map
 use Rattle.shelf_io.specs.Shelf.{FileMap}
+use Rattle.shelf_io.specs.Seen.{Call}
 use Rattle.auto_core.specs.declared.parts.Lasso.{Lasso}
 use Rattle.ba_format.specs.declared.parts.Named.{Named}
 use Rattle.ba_format.specs.declared.parts.Joined.{Joined}
@@ -76,23 +77,22 @@ HoldsShrunkFront files a b c out files' =
     × IsCutShort files (certificate_put out (shrunk_no cert left) ∷ []) files'
 
 -- What it leaves, by its status.
-abbrev pub LeavesShrunk : FileMap → List ℕ → List ℕ → List ℕ → List ℕ → ℕ → ℕ → ℕ → FileMap → Type 0
-LeavesShrunk files a b c out status put_faults put_faults' files' =
-    LeavesByStatus (λ before. HoldsShrunk before a b c out) (λ before. HoldsShrunkFront before a b c out) status put_faults put_faults' files files'
+abbrev pub LeavesShrunk : List ℕ → List ℕ → List ℕ → List ℕ → Call → FileMap → FileMap → Type 0
+LeavesShrunk a b c out = LeavesByStatus (λ before. HoldsShrunk before a b c out) (λ before. HoldsShrunkFront before a b c out)
 
 -- What is left was printed, and is what the written certificate says.
-pub record IsShrunkShown (files : FileMap) (a b c out : List ℕ) (files' : FileMap) (sent sent' : Option (List ℕ)) : Type 0 where
+pub record IsShrunkShown (files : FileMap) (a b c out : List ℕ) (files' : FileMap) (call : Call) : Type 0 where
   pub pair : Joined
   pub cert : Cert
   pub left : Body
   pub is_left : IsShrunkFor files a b c pair cert left
-  pub apart : SaysApart pair left sent sent'
+  pub apart : SaysApart pair left call.before.sink call.after.sink
   pub held : files' ≡ map.insert files out (text (shrunk_no cert left))
 
 -- What a status up to 2 shows: 1 what is left of a lasso or a word and still separates, and 0 and 2 do not come.
-pub record ShowsShrink (files : FileMap) (a b c out : List ℕ) (status : ℕ) (files' : FileMap) (sent sent' : Option (List ℕ)) : Type 0 where
-  pub shrunk : status ≡ 1 → IsShrunkShown files a b c out files' sent sent'
-  pub no_other : ¬ (status ≡ 0) × ¬ (status ≡ 2)
+pub record ShowsShrink (a b c out : List ℕ) (call : Call) (files files' : FileMap) : Type 0 where
+  pub shrunk : call.status ≡ 1 → IsShrunkShown files a b c out files' call
+  pub no_other : ¬ (call.status ≡ 0) × ¬ (call.status ≡ 2)
 
 -- The files read as two automata and as a certificate that is valid for them, with such a body.
 abbrev pub ReadsValidCertificate : FileMap → List ℕ → List ℕ → List ℕ → (Body → Type 0) → Type 0

@@ -1,8 +1,8 @@
 -- `upgrade CERT OUT`
-use Rattle.std.specs.Prelude.{◌≡◌, ℕ, ◌⊎◌, List, [], ◌∷◌, Option}
+use Rattle.std.specs.Prelude.{◌≡◌, ℕ, ◌⊎◌, List, [], ◌∷◌}
 use Rattle.std.specs.FinMap as map
-use Rattle.std.specs.Io.KnownBytes.{append_known}
 use Rattle.shelf_io.specs.Shelf.{FileMap}
+use Rattle.shelf_io.specs.Seen.{Call}
 use Rattle.cert_value.specs.declared.types.Cert.{Cert}
 use Rattle.cert_value.specs.Text.{text}
 use Rattle.cert_value.specs.WellFormed.{upgraded}
@@ -12,7 +12,7 @@ use Rattle.rabit_frame.specs.declared.parts.Status.TheVariants as status
 use Rattle.rabit_frame.specs.declared.parts.Reply.{Reply}
 use Rattle.rabit_frame.specs.Files.{Input}
 use Rattle.rabit_frame.specs.Reading.{reply_with}
-use Rattle.rabit_frame.specs.Ending.{IsCutShort}
+use Rattle.rabit_frame.specs.Ending.{IsCutShort, Sends}
 use Rattle.rabit_frame.specs.Carrying.{LeavesByStatus}
 use Rattle.rabit_replies.specs.Printed.{upgrade_done_text}
 use Rattle.rabit_replies.specs.Files.{certificate_file, ReadsCertificate, certificate_put}
@@ -38,19 +38,18 @@ abbrev pub HoldsUpgradedFront : FileMap → List ℕ → List ℕ → FileMap �
 HoldsUpgradedFront files c out files' = (cert : Cert) × ReadsCertificate files c cert × IsCutShort files (certificate_put out (upgraded cert) ∷ []) files'
 
 -- What it leaves, by its status.
-abbrev pub LeavesUpgraded : FileMap → List ℕ → List ℕ → ℕ → ℕ → ℕ → FileMap → Type 0
-LeavesUpgraded files c out status put_faults put_faults' files' =
-    LeavesByStatus (λ before. HoldsUpgraded before c out) (λ before. HoldsUpgradedFront before c out) status put_faults put_faults' files files'
+abbrev pub LeavesUpgraded : List ℕ → List ℕ → Call → FileMap → FileMap → Type 0
+LeavesUpgraded c out = LeavesByStatus (λ before. HoldsUpgraded before c out) (λ before. HoldsUpgradedFront before c out)
 
 -- The certificate was written in version 2, and that was said.
-pub record IsUpgradedShown (files : FileMap) (c out : List ℕ) (files' : FileMap) (sent sent' : Option (List ℕ)) : Type 0 where
+pub record IsUpgradedShown (files : FileMap) (c out : List ℕ) (files' : FileMap) (call : Call) : Type 0 where
   pub held : HoldsUpgraded files c out files'
-  pub printed : sent' ≡ append_known sent upgrade_done_text
+  pub printed : Sends upgrade_done_text call.before.sink call.after.sink
 
 -- What a status up to 2 shows: 0 a certificate of version 2, and 1 and 2 do not come.
-pub record ShowsUpgrade (files : FileMap) (c out : List ℕ) (status : ℕ) (files' : FileMap) (sent sent' : Option (List ℕ)) : Type 0 where
-  pub upgraded : status ≡ 0 → IsUpgradedShown files c out files' sent sent'
-  pub no_other : ¬ (status ≡ 1) × ¬ (status ≡ 2)
+pub record ShowsUpgrade (c out : List ℕ) (call : Call) (files files' : FileMap) : Type 0 where
+  pub upgraded : call.status ≡ 0 → IsUpgradedShown files c out files' call
+  pub no_other : ¬ (call.status ≡ 1) × ¬ (call.status ≡ 2)
 
 -- The status of a result for these files: 0 if the file reads as a certificate, 5 if it does not.
 abbrev pub IsUpgradeStatus : FileMap → List ℕ → ℕ → Type 0

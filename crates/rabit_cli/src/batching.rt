@@ -1,17 +1,13 @@
 //! `batch LIST`: the questions of a list, one after the other.
 
-ghost use Rattle.std.specs.Prelude.{◌≡◌, ◌≢◌, ◌≤◌, ◌+◌, length, true, vec_capacity, IfOk, IfErr, IfSome};
-ghost use Rattle.shelf_io.specs.Counts.{Rose};
+ghost use Rattle.std.specs.Prelude.{◌≡◌, ◌≤◌, ◌+◌, length, true, vec_capacity, IfSome};
+ghost use Rattle.shelf_io.specs.Seen.{call};
 ghost use Rattle.auto_core.specs.declared.parts.Mode.TheVariants.{Buchi};
 ghost use Rattle.equal_batch.specs.Questions.{is_word, is_question, line_of};
 ghost use Rattle.equal_batch.specs.declared.questions.TheConstants.{MOST_LINES};
-ghost use Rattle.rabit_frame.specs.declared.parts.Value.TheVariants as value;
-ghost use Rattle.rabit_frame.specs.declared.parts.Ending.{Ending as AnEnding};
-ghost use Rattle.rabit_frame.specs.Reading.{FileReads, IsOfKind, MissedInTurn};
-ghost use Rattle.rabit_frame.specs.Ending.{BeforeAndAfter, status_of};
-ghost use Rattle.rabit_frame.specs.Carrying.{EndsSo, PutsByStatus, BegunByStatus};
+ghost use Rattle.rabit_frame.specs.Ending.{BeforeAndAfter};
 ghost use Rattle.rabit_cli.specs.Include.{usual_terms, LeavesDecided};
-ghost use Rattle.rabit_cli.specs.Batch.{question_inputs, MeansQuestion, IsQuestionStatus, ShowsQuestion, AnswersQuestion, question_line, AreQuestions, shelf_counts, IsCarriedEach, list_file, IsBatch};
+ghost use Rattle.rabit_cli.specs.Batch.{question_request, IsQuestionStatus, ShowsQuestion, AnswersQuestion, unsaid, IsAskedOf, question_line, AreQuestions, IsCarriedEach, list_file, IsBatch};
 
 use crate::including;
 use crate::including::AskedInclude;
@@ -41,9 +37,7 @@ struct Asking<'a> {
 }
 
 impl<'a> Work for Asking<'a> {
-    ghost inputs = { λ a. question_inputs a.question.now };
-
-    ghost means = { λ a. MeansQuestion a.question.now };
+    ghost request = { λ a. question_request a.question.now };
 
     ghost is_fit = { λ a. is_question (line_of a.question.now) ≡ true };
 
@@ -69,32 +63,20 @@ impl<'a> Work for Asking<'a> {
 pub fn answer_one<H: Shelf>(alloc: Global, question: &Question, shelf: &mut H) -> u8
     requires { is_question (line_of question.now) ≡ true }
 
-    // It came to an end, and this is its status. Where the shelf tells its files it is the right one, or a fault of the outside or want of memory.
-    ensures ends { (end : AnEnding) × EndsSo (MeansQuestion question.now) (question_inputs question.now) end (H.held shelf.old) (H.held shelf.new) (H.faults shelf.old) (H.faults shelf.new) (H.put_faults shelf.old) (H.put_faults shelf.new) × (status_of end ≡ result) }
+    // It came to an end, and this is its status: where the shelf tells its files the right one, or a fault of the outside or want of memory. By the
+    // counts of calls just the files were begun that the status needs, each once and in turn, and each file of the reply was put once, or up to one that
+    // was refused; each fault has its count, and at 8 no file changed.
+    ensures asked { IsAskedOf question.now result (H.seen shelf.old) (H.seen shelf.new) }
     ensures status { IsQuestionStatus result }
 
     // What a status up to 2 shows: an inclusion, a lasso that separates, or a list past the limit, with the certificate's file.
-    ensures shows { result ≤ 2 → BeforeAndAfter (H.held shelf.old) (H.held shelf.new) (λ files files'. ShowsQuestion question.now result files files') }
+    ensures shows { ShowsQuestion question.now result (H.seen shelf.old) (H.seen shelf.new) }
 
     // The right reply, whatever it is, has its status answered and its files written, unless a call of the shelf failed or memory was refused.
-    ensures exact { IfSome (H.held shelf.old) (λ files. AnswersQuestion question.now files (H.held shelf.new) result (H.faults shelf.old) (H.faults shelf.new) (H.put_faults shelf.old) (H.put_faults shelf.new)) }
+    ensures exact { IfSome (H.seen shelf.old).files (AnswersQuestion question.now result (H.seen shelf.old) (H.seen shelf.new)) }
 
     // What the files are afterwards.
-    ensures files { BeforeAndAfter (H.held shelf.old) (H.held shelf.new) (λ files files'. LeavesDecided files question.now.first question.now.second question.now.cert (usual_terms Buchi) result (H.put_faults shelf.old) (H.put_faults shelf.new) files') }
-    ensures memory { result ≡ 8 → H.held shelf.new ≡ H.held shelf.old }
-
-    // By the count of puts: each file of the reply was put once, or up to one that was refused.
-    ensures put_once { PutsByStatus (MeansQuestion question.now) (question_inputs question.now) result (H.held shelf.old) (H.held shelf.new) (H.put_faults shelf.old) (H.put_faults shelf.new) (H.put_calls shelf.old) (H.put_calls shelf.new) }
-
-    // Faults of the outside, each with its count.
-    ensures read_fault { result ≡ 6 → Rose (H.faults shelf.old) (H.faults shelf.new) }
-    ensures no_read_fault { result ≢ 6 → H.faults shelf.new ≡ H.faults shelf.old }
-    ensures write_fault { result ≡ 7 → Rose (H.put_faults shelf.old) (H.put_faults shelf.new) }
-    ensures no_write_fault { result ≢ 7 → H.put_faults shelf.new ≡ H.put_faults shelf.old }
-
-    // By the count of begins just the files were begun that the status needs, each once, and a missing one is counted only in its turn.
-    ensures begun { BegunByStatus (question_inputs question.now) result (H.held shelf.old) (H.blamed shelf.new) (H.begins shelf.old) (H.begins shelf.new) }
-    ensures missing { IfSome (H.held shelf.old) (λ files. MissedInTurn files (question_inputs question.now) (H.missed shelf.old) (H.missed shelf.new)) }
+    ensures files { BeforeAndAfter (H.seen shelf.old).files (H.seen shelf.new).files (LeavesDecided question.now.first question.now.second question.now.cert (usual_terms Buchi) (unsaid result (H.seen shelf.old) (H.seen shelf.new))) }
 {
     let asking = Asking { question };
     rabit_frame::carry_out_unsaid(alloc, &asking, shelf)
@@ -131,10 +113,8 @@ fn carry_each<H: Shelf, K: Sink>(
     requires words { AreQuestions questions.now }
     requires few { number + length questions.now ≤ MOST_LINES + 1 }
     requires room { 15 ≤ vec_capacity line.old }
-    ensures { IsCarriedEach number questions.now (H.held shelf.old) (H.held shelf.new) result (K.sent out.old) (K.sent out.new) (K.faults out.old) (K.faults out.new)
-        (K.give_calls out.old) (K.give_calls out.new) (H.faults shelf.old) (H.faults shelf.new) (H.put_faults shelf.old) (H.put_faults shelf.new) (H.missed shelf.old) (H.missed shelf.new)
-        (shelf_counts (H.begins shelf.old) (H.put_calls shelf.old) (H.faults shelf.old) (H.put_faults shelf.old) (H.blamed shelf.old))
-        (shelf_counts (H.begins shelf.new) (H.put_calls shelf.new) (H.faults shelf.new) (H.put_faults shelf.new) (H.blamed shelf.new)) }
+    ensures { IsCarriedEach number questions.now
+        (call (H.seen shelf.old) (H.seen shelf.new) (K.seen out.old) (K.seen out.new) result) }
 {
     match questions {
         [] => 0,
@@ -161,10 +141,8 @@ fn list_slot<'a>(name: &'a str) -> Slot<'a>
 
 /// Reads the list, and carries out its questions one after the other.
 pub fn batch<H: Shelf, K: Sink>(alloc: Global, list: &str, shelf: &mut H, out: &mut K) -> u8
-    ensures { IsBatch list.now (H.held shelf.old) (H.held shelf.new) result (K.sent out.old) (K.sent out.new) (K.faults out.old) (K.faults out.new)
-        (K.give_calls out.old) (K.give_calls out.new) (H.faults shelf.old) (H.faults shelf.new) (H.put_faults shelf.old) (H.put_faults shelf.new) (H.missed shelf.old) (H.missed shelf.new)
-        (shelf_counts (H.begins shelf.old) (H.put_calls shelf.old) (H.faults shelf.old) (H.put_faults shelf.old) (H.blamed shelf.old))
-        (shelf_counts (H.begins shelf.new) (H.put_calls shelf.new) (H.faults shelf.new) (H.put_faults shelf.new) (H.blamed shelf.new)) }
+    ensures { IsBatch list.now
+        (call (H.seen shelf.old) (H.seen shelf.new) (K.seen out.old) (K.seen out.new) result) }
 {
     match read_alone(alloc, shelf, &list_slot(list)) {
         Ok(Value::Questions(questions)) => match Vec::with_capacity(alloc, 15) {

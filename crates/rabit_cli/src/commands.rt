@@ -4,7 +4,7 @@ ghost use Rattle.std.specs.Prelude.{◌≡◌, ◌≢◌, [], Ok, Some, option_m
 ghost use Rattle.rabit_frame.specs.Reading.{AreOfKinds};
 ghost use Rattle.rabit_words.specs.declared.parts.Question.{Question as AQuestion};
 ghost use Rattle.rabit_words.specs.Question.{Batch, told, IsProper};
-ghost use Rattle.rabit_cli.specs.Commands.{asked_by, IsSingle, inputs_of, outputs_of, Means};
+ghost use Rattle.rabit_cli.specs.Commands.{asked_by, IsSingle, inputs_of, outputs_of, Means, request_of};
 
 use crate::including::AskedInclude;
 use crate::{
@@ -222,9 +222,7 @@ impl<'a> Command<'a> {
 }
 
 impl<'a> Work for Command<'a> {
-    ghost inputs = { λ c. inputs_of (asked_by c.words.now) };
-
-    ghost means = { λ c. Means (asked_by c.words.now) };
+    ghost request = { λ c. request_of (asked_by c.words.now) };
 
     ghost is_fit = { λ c. IfOk c.asked (λ asked. (option_map told asked ≡ asked_by c.words.now) × IfSome asked (λ q. IsProper (told q) × IsSingle (Some (told q)))) };
 

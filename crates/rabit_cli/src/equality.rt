@@ -1,13 +1,11 @@
 //! `equal A B C1 C2`
 
-ghost use Rattle.std.specs.Prelude.{◌≡◌, ◌<◌, ◌↔◌, ◌++◌, ℕ, List as Items, length, All, OnOk, IfOk, IsTrue};
-ghost use Rattle.auto_core.specs.declared.parts.Lasso.{Lasso as ALasso};
+ghost use Rattle.std.specs.Prelude.{◌≡◌, ◌↔◌, ◌++◌, ℕ, List as Items, OnOk, IfOk, IsTrue};
 ghost use Rattle.auto_core.specs.declared.parts.Mode.TheVariants.{Buchi};
 ghost use Rattle.ba_format.specs.declared.parts.Joined.{Joined as AJoined};
 ghost use Rattle.ba_format.specs.Reading.{IsWithinLimits};
 ghost use Rattle.ba_format.specs.Joining.{IsJoined};
 ghost use Rattle.cert_value.specs.declared.types.Cert.{Cert as ACert};
-ghost use Rattle.cert_value.specs.declared.types.Body.TheVariants.{NoLasso, NoWord};
 ghost use Rattle.cert_value.specs.Text.{form_of};
 ghost use Rattle.decide.specs.Laws.{CanDecide};
 ghost use Rattle.decide.specs.Answer.{IsAnswer};
@@ -17,7 +15,7 @@ ghost use Rattle.rabit_frame.specs.Reading.{AreOfKinds};
 ghost use Rattle.rabit_replies.specs.Printed.{witness_lines, first_apart_text, second_apart_text};
 ghost use Rattle.rabit_cli.specs.Include.{usual_terms};
 ghost use Rattle.rabit_replies.specs.Files.{certificate_put};
-ghost use Rattle.rabit_replies.specs.Replies.{IsNo};
+ghost use Rattle.rabit_replies.specs.Replies.{HasLettersOf, IsNo};
 ghost use Rattle.rabit_cli.specs.Equal.{equal_inputs, first_apart_reply, both_reply, both_puts, IsBothReply, IsEqualReply, MeansEqual};
 
 use crate::including::put_of;
@@ -57,8 +55,7 @@ fn is_no(body: &Body) -> bool
 
 /// Appends what a no has.
 fn push_witness(out: &mut List<u8>, labels: &Texts, body: &Body) -> Result<(), Memory>
-    requires letters { (lasso : ALasso) → body.now ≡ NoLasso lasso → All (λ a. a < length labels.now) lasso.prefix × All (λ a. a < length labels.now) lasso.turn }
-    requires word { (word : Items ℕ) → body.now ≡ NoWord word → All (λ a. a < length labels.now) word }
+    requires { HasLettersOf labels.now body.now }
     ensures { OnOk result (out.new ≡ out.old ++ witness_lines labels.now body.now) }
 {
     match body {
@@ -71,8 +68,7 @@ fn push_witness(out: &mut List<u8>, labels: &Texts, body: &Body) -> Result<(), M
 
 /// The text of a no: what it begins with, and what the no has.
 fn apart_text(alloc: Global, said: &str, labels: &Texts, body: &Body) -> Result<List<u8>, Memory>
-    requires letters { (lasso : ALasso) → body.now ≡ NoLasso lasso → All (λ a. a < length labels.now) lasso.prefix × All (λ a. a < length labels.now) lasso.turn }
-    requires word { (word : Items ℕ) → body.now ≡ NoWord word → All (λ a. a < length labels.now) word }
+    requires { HasLettersOf labels.now body.now }
     ensures { IfOk result (λ text. text ≡ said.now ++ witness_lines labels.now body.now) }
 {
     let mut text = List::new(alloc);
@@ -85,8 +81,7 @@ fn apart_text(alloc: Global, said: &str, labels: &Texts, body: &Body) -> Result<
 fn answered(alloc: Global, pair: &Joined) -> Result<Cert, Memory>
     requires { CanDecide pair.now }
     ensures answer { IfOk result (IsAnswer pair.now (usual_terms Buchi)) }
-    ensures letters { IfOk result (λ cert. (lasso : ALasso) → cert.body ≡ NoLasso lasso → All (λ a. a < length pair.now.labels) lasso.prefix × All (λ a. a < length pair.now.labels) lasso.turn) }
-    ensures word { IfOk result (λ cert. (word : Items ℕ) → cert.body ≡ NoWord word → All (λ a. a < length pair.now.labels) word) }
+    ensures letters { IfOk result (λ cert. HasLettersOf pair.now.labels cert.body) }
 {
     decide::include(alloc, pair, Mode::Buchi, USUAL_LOOK, USUAL_LIMIT)
 }
@@ -99,8 +94,7 @@ fn both_reply<'a>(
     body: &Body,
     puts: List<Put<'a>>,
 ) -> Result<Reply<'a>, Memory>
-    requires letters { (lasso : ALasso) → body.now ≡ NoLasso lasso → All (λ a. a < length labels.now) lasso.prefix × All (λ a. a < length labels.now) lasso.turn }
-    requires word { (word : Items ℕ) → body.now ≡ NoWord word → All (λ a. a < length labels.now) word }
+    requires { HasLettersOf labels.now body.now }
     ensures { IfOk result (λ reply. reply ≡ both_reply said labels.now body.now puts.entry) }
 {
     match said {
@@ -136,7 +130,7 @@ fn both_puts<'a>(
 }
 
 /// The reply to both answers, the second of which is for these two automata.
-fn told<'a>(
+fn reply_to_answers<'a>(
     alloc: Global,
     certificate: &'a str,
     converse_name: &'a str,
@@ -144,8 +138,7 @@ fn told<'a>(
     cert: &Cert,
     converse: &Cert,
 ) -> Result<Reply<'a>, Memory>
-    requires letters { (lasso : ALasso) → converse.now.body ≡ NoLasso lasso → All (λ a. a < length exchanged.now.labels) lasso.prefix × All (λ a. a < length exchanged.now.labels) lasso.turn }
-    requires word { (word : Items ℕ) → converse.now.body ≡ NoWord word → All (λ a. a < length exchanged.now.labels) word }
+    requires { HasLettersOf exchanged.now.labels converse.now.body }
     ensures { IfOk result (λ reply. reply ≡ both_reply (said_by_both (form_of cert.now.body) (form_of converse.now.body)) exchanged.now.labels converse.now.body (both_puts certificate.entry.now converse_name.entry.now cert.now converse.now)) }
 {
     let puts = both_puts(alloc, certificate, converse_name, cert, converse)?;
@@ -170,7 +163,7 @@ fn of_exchanged<'a>(
     ensures { IfOk result (λ reply. (converse : ACert) × IsAnswer exchanged.now (usual_terms Buchi) converse × (reply ≡ both_reply (said_by_both (form_of cert.now.body) (form_of converse.body)) exchanged.now.labels converse.body (both_puts certificate.entry.now converse_name.entry.now cert.now converse))) }
 {
     let converse = answered(alloc, exchanged)?;
-    told(
+    reply_to_answers(
         alloc,
         certificate,
         converse_name,
@@ -204,8 +197,7 @@ fn first_apart<'a>(
     pair: &Joined,
     cert: &Cert,
 ) -> Result<Reply<'a>, Memory>
-    requires letters { (lasso : ALasso) → cert.now.body ≡ NoLasso lasso → All (λ a. a < length pair.now.labels) lasso.prefix × All (λ a. a < length pair.now.labels) lasso.turn }
-    requires word { (word : Items ℕ) → cert.now.body ≡ NoWord word → All (λ a. a < length pair.now.labels) word }
+    requires { HasLettersOf pair.now.labels cert.now.body }
     ensures { IfOk result (λ reply. reply ≡ first_apart_reply certificate.entry.now pair.now cert.now) }
 {
     let text = apart_text(alloc, "first not in second\n", &pair.labels, &cert.body)?;

@@ -1,18 +1,16 @@
 //! `include A B CERT`, with `--finite`, `--look K`, `--limit N` and `--letters M`
 
-ghost use Rattle.std.specs.Prelude.{◌≡◌, ◌≤◌, ◌<◌, ◌∷◌, [], ℕ, List as Items, length, All, IfOk};
-ghost use Rattle.auto_core.specs.declared.parts.Lasso.{Lasso as ALasso};
+ghost use Rattle.std.specs.Prelude.{◌≡◌, ◌≤◌, ◌∷◌, [], ℕ, List as Items, IfOk};
 ghost use Rattle.ba_format.specs.declared.parts.Joined.{Joined as AJoined};
 ghost use Rattle.ba_format.specs.Reading.{IsWithinLimits};
 ghost use Rattle.ba_format.specs.Joining.{IsJoined};
-ghost use Rattle.cert_value.specs.declared.types.Body.TheVariants.{NoLasso, NoWord};
 ghost use Rattle.decide.specs.Answer.{IsAnswer};
 ghost use Rattle.decide.specs.Laws.{CanDecide};
 ghost use Rattle.decide.specs.Terms.{AreBounded};
 ghost use Rattle.rabit_frame.specs.Reading.{AreOfKinds};
 ghost use Rattle.rabit_replies.specs.declared.files.TheConstants.{FIRST_LIMITS, SECOND_LIMITS};
 ghost use Rattle.rabit_replies.specs.Files.{pair_inputs, certificate_put};
-ghost use Rattle.rabit_replies.specs.Replies.{IsVerdictReply};
+ghost use Rattle.rabit_replies.specs.Replies.{HasLettersOf, IsVerdictReply};
 ghost use Rattle.rabit_cli.specs.Include.{IsDecided, MeansInclude};
 ghost use Rattle.rabit_cli.specs.Asked.{terms_of_asked};
 
@@ -53,8 +51,7 @@ fn answered(alloc: Global, asked: AskedInclude, pair: &Joined) -> Result<Cert, M
     requires bounded { AreBounded (terms_of_asked asked) }
     requires limit_from { 1 ≤ asked.limit }
     ensures answer { IfOk result (IsAnswer pair.now (terms_of_asked asked)) }
-    ensures letters { IfOk result (λ cert. (lasso : ALasso) → cert.body ≡ NoLasso lasso → All (λ a. a < length pair.now.labels) lasso.prefix × All (λ a. a < length pair.now.labels) lasso.turn) }
-    ensures word { IfOk result (λ cert. (word : Items ℕ) → cert.body ≡ NoWord word → All (λ a. a < length pair.now.labels) word) }
+    ensures letters { IfOk result (λ cert. HasLettersOf pair.now.labels cert.body) }
 {
     match asked.letters {
         None => decide::include(alloc, pair, asked.mode, asked.look, asked.limit),
@@ -73,15 +70,14 @@ pub(crate) fn put_of<'a>(alloc: Global, name: &'a str, cert: &Cert) -> Result<Pu
 }
 
 /// The reply to the joined automata and the answer for them.
-fn told<'a>(
+fn reply_to_answer<'a>(
     alloc: Global,
     name: &'a str,
     mode: Mode,
     pair: &Joined,
     cert: &Cert,
 ) -> Result<Reply<'a>, Memory>
-    requires letters { (lasso : ALasso) → cert.now.body ≡ NoLasso lasso → All (λ a. a < length pair.now.labels) lasso.prefix × All (λ a. a < length pair.now.labels) lasso.turn }
-    requires word { (word : Items ℕ) → cert.now.body ≡ NoWord word → All (λ a. a < length pair.now.labels) word }
+    requires { HasLettersOf pair.now.labels cert.now.body }
     ensures { IfOk result (IsVerdictReply mode pair.now cert.now.body (certificate_put name.entry.now cert.now ∷ [])) }
 {
     let mut puts = List::new(alloc);
@@ -102,7 +98,7 @@ fn decided<'a>(
     ensures { IfOk result (IsDecided name.entry.now (terms_of_asked asked) pair.now) }
 {
     let cert = answered(alloc, asked, pair)?;
-    told(alloc, name, asked.mode, pair, &cert)
+    reply_to_answer(alloc, name, asked.mode, pair, &cert)
 }
 
 /// The reply to the automata.

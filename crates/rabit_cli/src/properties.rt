@@ -1,13 +1,12 @@
 //! What `empty` and `universal` have in common: an automaton is read and another is made, and the one's inclusion in the other is decided.
 
-ghost use Rattle.std.specs.Prelude.{◌≡◌, ◌≤◌, ◌<◌, ◌^◌, ◌++◌, ◌∷◌, [], ℕ, List as Items, length, All, None, IfOk, OnOk, codes};
-ghost use Rattle.auto_core.specs.declared.parts.Lasso.{Lasso as ALasso};
+ghost use Rattle.std.specs.Prelude.{◌≡◌, ◌≤◌, ◌<◌, ◌^◌, ◌++◌, ◌∷◌, [], length, All, None, IfOk, OnOk, codes};
 ghost use Rattle.ba_format.specs.Faults.{fault_of};
 ghost use Rattle.ba_format.specs.Reading.{Reads, IsWithinLimits};
-ghost use Rattle.cert_value.specs.declared.types.Body.TheVariants.{NoLasso, NoWord};
 ghost use Rattle.decide.specs.Laws.{CanDecide};
 ghost use Rattle.rabit_frame.specs.Lines.{line_end};
 ghost use Rattle.rabit_replies.specs.Printed.{lasso_lines, word_line, holds_text, lasso_against_text, word_against_text};
+ghost use Rattle.rabit_replies.specs.Replies.{HasLettersOf};
 ghost use Rattle.rabit_replies.specs.Files.{automaton_file};
 ghost use Rattle.rabit_cli.specs.Property.{property_puts, IsPropertyReply, IsPropertyDecided};
 
@@ -105,8 +104,7 @@ fn verdict<'a>(
     body: &Body,
     puts: List<Put<'a>>,
 ) -> Result<Reply<'a>, Memory>
-    requires letters { (lasso : ALasso) → body.now ≡ NoLasso lasso → All (λ a. a < length pair.now.labels) lasso.prefix × All (λ a. a < length pair.now.labels) lasso.turn }
-    requires word { (word : Items ℕ) → body.now ≡ NoWord word → All (λ a. a < length pair.now.labels) word }
+    requires { HasLettersOf pair.now.labels body.now }
     ensures { IfOk result (IsPropertyReply property.now pair.now body.now puts.entry) }
 {
     match body {
@@ -146,7 +144,7 @@ fn puts_of<'a>(
 }
 
 /// The reply to the joined automata and the answer for them.
-fn told<'a>(
+fn reply_to_answer<'a>(
     alloc: Global,
     property: &str,
     made: Put<'a>,
@@ -154,8 +152,7 @@ fn told<'a>(
     pair: &Joined,
     cert: &Cert,
 ) -> Result<Reply<'a>, Memory>
-    requires letters { (lasso : ALasso) → cert.now.body ≡ NoLasso lasso → All (λ a. a < length pair.now.labels) lasso.prefix × All (λ a. a < length pair.now.labels) lasso.turn }
-    requires word { (word : Items ℕ) → cert.now.body ≡ NoWord word → All (λ a. a < length pair.now.labels) word }
+    requires { HasLettersOf pair.now.labels cert.now.body }
     ensures { IfOk result (IsPropertyReply property.now pair.now cert.now.body (property_puts made.entry.name made.entry.bytes certificate.entry.now cert.now)) }
 {
     let puts = puts_of(alloc, made, certificate, cert)?;
@@ -175,5 +172,5 @@ pub fn decided<'a>(
     ensures { IfOk result (IsPropertyDecided property.now made.entry.bytes made.entry.name certificate.entry.now mode pair.now) }
 {
     let cert = decide::include(alloc, pair, mode, USUAL_LOOK, USUAL_LIMIT)?;
-    told(alloc, property, made, certificate, pair, &cert)
+    reply_to_answer(alloc, property, made, certificate, pair, &cert)
 }

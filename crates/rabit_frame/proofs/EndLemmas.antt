@@ -1,7 +1,8 @@
 -- From the end that was said to its status, its files and what it shows.
 use Rattle.std.proofs.Common.{◌≡◌, ◌⊎◌, ℕ, ◌≤◌, List, [], ◌∷◌, length, Option, Some, None, IfSome, Result, Ok, Err, OnErr, inl, inr, refl, sym, ◌∙◌, ap, subst, arith}
 use Rattle.shelf_io.specs.Counts.{Rose}
-use Rattle.shelf_io.specs.Shelf.{FileMap, WhichFile}
+use Rattle.shelf_io.specs.Shelf.{FileMap}
+use Rattle.shelf_io.specs.Seen.{ShelfSeen, Call}
 use Rattle.rabit_frame.specs.declared.parts.FileKind.{FileKind}
 use Rattle.rabit_frame.specs.declared.parts.FileKind.TheVariants as kind
 use Rattle.rabit_frame.specs.declared.parts.Value.{Value}
@@ -11,11 +12,12 @@ use Rattle.rabit_frame.specs.declared.parts.Reply.{Reply}
 use Rattle.rabit_frame.specs.declared.parts.Ending.{Ending}
 use Rattle.rabit_frame.specs.declared.parts.Ending.TheVariants as ending
 use Rattle.rabit_frame.specs.Files.{Input}
+use Rattle.rabit_frame.specs.Request.{Request, HasOneReply, only_reading}
 use Rattle.rabit_frame.specs.Lines.{read_line, write_line, memory_line}
 use Rattle.rabit_frame.specs.Statuses.{status_number, number_unsent, IsOwn}
 use Rattle.rabit_frame.specs.Reading.{AreOfKinds, ReadInTurn, FileStops, StopInTurn, HasFault, MayStopAt, MayStop, BegunInTurn, AllBegun, BegunForReply, BegunToBlamed, long_reply}
 use Rattle.rabit_frame.specs.Ending.{IsReplyFor, IsReplyOf, MayReply, MayEnd, Leaves, BeforeAndAfter, filed, IsCutShort, PutEach, PutFront, status_of, status_unsent, WasGiven, WasSaid, SaysOnly}
-use Rattle.rabit_frame.specs.Carrying.{EndsSo, NoReply, SaysEach, IsOwnReply, ShowsResult, LeavesAtWriteFault, LeavesByStatus, PutsOnce, PutsByStatus, BegunByStatus}
+use Rattle.rabit_frame.specs.Carrying.{EndsSo, SaysEach, IsOwnReply, ShowsResult, LeavesAtWriteFault, LeavesByStatus, PutsOnce, PutsByStatus, BegunByStatus, MissesInTurn, CallsShelf, IsCarriedOut, TellsFaults}
 use Rattle.rabit_frame.proofs.OneLemmas.{one_reply}
 
 -- the numbers of a command's own statuses
@@ -101,35 +103,35 @@ pub both_same : (held held' : Option FileMap) (P : FileMap → FileMap → Type 
 both_same None held' P f e = e
 both_same (Some files) held' P f e = (files, e, f files)
 
-module _ (means : List Value → Reply → Type 0) (inputs : List Input) (held held' : Option FileMap) (status : ℕ) (sent sent' : Option (List ℕ)) (sink sink' faults faults' puts puts' : ℕ) where
+module _ (q : Request) (call : Call) where
   abbrev pub Ends : Ending → Type 0
-  Ends e = EndsSo means inputs e held held' faults faults' puts puts'
+  Ends e = EndsSo q e call.before.shelf call.after.shelf
 
   abbrev pub Said : Ending → Type 0
-  Said e = WasSaid e status sent sent' sink sink'
+  Said e = WasSaid e call.status call.before.sink call.after.sink
 
-  says_each_on : (h : Option FileMap) (e : Ending) → BeforeAndAfter h held' (λ files files'. Leaves means inputs e files files') → Ends e → Said e → ((vs : List Value) (r s : Reply) → AreOfKinds inputs vs → means vs r → means vs s → r ≡ s) →
-      IfSome h (λ files. SaysEach means inputs files held' status sent sent' sink sink' faults faults' puts puts')
+  says_each_on : (h : Option FileMap) (e : Ending) → BeforeAndAfter h call.after.shelf.files (λ files files'. Leaves q e files files') → Ends e → Said e → ((vs : List Value) (r s : Reply) → AreOfKinds q.inputs vs → q.means vs r → q.means vs s → r ≡ s) →
+      IfSome h (λ files. SaysEach q call files)
   says_each_on None e leaves ends said one = tt
   says_each_on (Some files) (ending.Reached s) (files', is, (right, left)) ends said one = λ r of.
-      let same : s ≡ r = one_reply files means inputs one s r right of in
+      let same : s ≡ r = one_reply files q one s r right of in
       inl (
-        subst (λ z. WasGiven z.text (status_number z.status) (number_unsent z.status) status sent sent' sink sink') same said,
+        subst (λ z. WasGiven z.text (status_number z.status) (number_unsent z.status) call.status call.before.sink call.after.sink) same said,
         is ∙ ap Some (left ∙ ap (λ z. filed files z.puts) same),
       )
   says_each_on (Some files) (ending.ReadFault) leaves ends said one = λ r of. inr (inl (ends.read_fault refl))
   says_each_on (Some files) (ending.WriteFault) leaves ends said one = λ r of. inr (inr (inl (ends.write_fault refl)))
   says_each_on (Some files) (ending.OutOfMemory) leaves ends said one = λ r of. inr (inr (inr (elim said [ inl whole ↦ whole.0 | inr front ↦ front.0 ])))
 
-  pub says_each : (e : Ending) → Ends e → Said e → ((vs : List Value) (r s : Reply) → AreOfKinds inputs vs → means vs r → means vs s → r ≡ s) →
-      IfSome held (λ files. SaysEach means inputs files held' status sent sent' sink sink' faults faults' puts puts')
-  says_each e ends said one = says_each_on held e ends.leaves ends said one
+  pub says_each : (e : Ending) → Ends e → Said e → ((vs : List Value) (r s : Reply) → AreOfKinds q.inputs vs → q.means vs r → q.means vs s → r ≡ s) →
+      IfSome call.before.shelf.files (λ files. SaysEach q call files)
+  says_each e ends said one = says_each_on call.before.shelf.files e ends.leaves ends said one
 
-  pub same_status : (n : ℕ) (e : Ending) → status_of e ≡ n → status_unsent e ≡ n → Said e → status ≡ n
+  pub same_status : (n : ℕ) (e : Ending) → status_of e ≡ n → status_unsent e ≡ n → Said e → call.status ≡ n
   same_status n e a b said = elim said [ inl whole ↦ whole.0 ∙ a | inr front ↦ front.0 ∙ b ]
 
   -- the status of a reply is no fault of the outside, but for 7 where the sink refused it
-  reached_not : (r : Reply) → Said (ending.Reached r) → ¬ (status ≡ 6) × ¬ (status ≡ 8)
+  reached_not : (r : Reply) → Said (ending.Reached r) → ¬ (call.status ≡ 6) × ¬ (call.status ≡ 8)
   reached_not r said =
       let own = own_number r.status in
       elim said [
@@ -142,29 +144,29 @@ module _ (means : List Value → Reply → Type 0) (inputs : List Input) (held h
       ]
 
   -- a status of the command's own is that of its reply
-  pub own_status : (r : Reply) → Said (ending.Reached r) → IsOwn status → status_number r.status ≡ status
+  pub own_status : (r : Reply) → Said (ending.Reached r) → IsOwn call.status → status_number r.status ≡ call.status
   own_status r said own =
       elim said [
         | inl whole ↦ sym whole.0
         | inr front ↦ elim (unsent_number r.status) [ inl seven ↦ absurd (own.1 (front.0 ∙ seven)) | inr stays ↦ sym (front.0 ∙ stays.0) ]
       ]
 
-  pub shows_reply : (e : Ending) → Ends e → Said e → IsOwn status → BeforeAndAfter held held' (λ files files'. IsOwnReply means inputs status sent sent' sink sink' files files')
+  pub shows_reply : (e : Ending) → Ends e → Said e → IsOwn call.status → BeforeAndAfter call.before.shelf.files call.after.shelf.files (λ files files'. IsOwnReply q call files files')
   shows_reply (ending.Reached r) ends said own =
-      both_map held held' (λ files files'. Leaves means inputs (ending.Reached r) files files') (λ files files'. IsOwnReply means inputs status sent sent' sink sink' files files')
+      both_map call.before.shelf.files call.after.shelf.files (λ files files'. Leaves q (ending.Reached r) files files') (λ files files'. IsOwnReply q call files files')
       (λ files files' left. (r, left.0, own_status r said own, left.1, said)) ends.leaves
   shows_reply (ending.ReadFault) ends said own = absurd (own.0 (same_status 6 ending.ReadFault refl refl said))
   shows_reply (ending.WriteFault) ends said own = absurd (own.1 (same_status 7 ending.WriteFault refl refl said))
   shows_reply (ending.OutOfMemory) ends said own = absurd (own.2 (same_status 8 ending.OutOfMemory refl refl said))
 
-  pub shows_result : (e : Ending) → Ends e → Said e → status ≤ 2 → BeforeAndAfter held held' (λ files files'. ShowsResult means inputs status sent sent' files files')
+  pub shows_result : (e : Ending) → Ends e → Said e → call.status ≤ 2 → BeforeAndAfter call.before.shelf.files call.after.shelf.files (λ files files'. ShowsResult q call files files')
   shows_result (ending.Reached r) ends said low =
       elim said [
         | inl whole ↦
-            both_map held held' (λ files files'. Leaves means inputs (ending.Reached r) files files') (λ files files'. ShowsResult means inputs status sent sent' files files')
+            both_map call.before.shelf.files call.after.shelf.files (λ files files'. Leaves q (ending.Reached r) files files') (λ files files'. ShowsResult q call files files')
             (λ files files' left.
             elim left.0 [
-              | inl stop ↦ (let high = (stop_plain files inputs r stop).0 in let is = whole.0 in absurd (omega arith))
+              | inl stop ↦ (let high = (stop_plain files q.inputs r stop).0 in let is = whole.0 in absurd (omega arith))
               | inr (vs, reads, m) ↦ (r, vs, reads, m, sym whole.0, left.1, whole.1)
             ])
             ends.leaves
@@ -178,82 +180,94 @@ module _ (means : List Value → Reply → Type 0) (inputs : List Input) (held h
   shows_result (ending.WriteFault) ends said low = (let is = same_status 7 ending.WriteFault refl refl said in absurd (omega arith))
   shows_result (ending.OutOfMemory) ends said low = (let is = same_status 8 ending.OutOfMemory refl refl said in absurd (omega arith))
 
-  pub says_at_write_fault : (e : Ending) → Ends e → Said e → status ≡ 7 → BeforeAndAfter held held' (λ files files'. LeavesAtWriteFault means inputs sent sent' sink sink' puts puts' files files')
+  pub says_at_write_fault : (e : Ending) → Ends e → Said e → call.status ≡ 7 → BeforeAndAfter call.before.shelf.files call.after.shelf.files (λ files files'. LeavesAtWriteFault q call files files')
   says_at_write_fault (ending.Reached r) ends said is =
       elim said [
         | inl whole ↦ absurd ((own_number r.status).1 (sym whole.0 ∙ is))
         | inr front ↦
-            both_map held held' (λ files files'. Leaves means inputs (ending.Reached r) files files') (λ files files'. LeavesAtWriteFault means inputs sent sent' sink sink' puts puts' files files')
+            both_map call.before.shelf.files call.after.shelf.files (λ files files'. Leaves q (ending.Reached r) files files') (λ files files'. LeavesAtWriteFault q call files files')
             (λ files files' left. (r, left.0, inl (front.1, left.1, sym front.0 ∙ is, front.2))) ends.leaves
       ]
   says_at_write_fault (ending.WriteFault) ends said is =
-      let P : ℕ → Type 0 = λ n. WasGiven write_line 7 7 n sent sent' sink sink' in
-      both_map held held' (λ files files'. Leaves means inputs ending.WriteFault files files') (λ files files'. LeavesAtWriteFault means inputs sent sent' sink sink' puts puts' files files')
+      let P : ℕ → Type 0 = λ n. WasGiven write_line 7 7 n call.before.sink call.after.sink in
+      both_map call.before.shelf.files call.after.shelf.files (λ files files'. Leaves q ending.WriteFault files files') (λ files files'. LeavesAtWriteFault q call files files')
       (λ files files' (r, right, cut). (r, right, inr (ends.write_fault refl, cut, subst P is said))) ends.leaves
   says_at_write_fault (ending.ReadFault) ends said is = (let e = same_status 6 ending.ReadFault refl refl said in absurd (omega arith))
   says_at_write_fault (ending.OutOfMemory) ends said is = (let e = same_status 8 ending.OutOfMemory refl refl said in absurd (omega arith))
 
-  pub read_fault_of : (e : Ending) → Ends e → Said e → status ≡ 6 → Rose faults faults'
+  pub read_fault_of : (e : Ending) → Ends e → Said e → call.status ≡ 6 → Rose call.before.shelf.read_faults call.after.shelf.read_faults
   read_fault_of (ending.Reached r) ends said is = absurd ((reached_not r said).0 is)
   read_fault_of (ending.ReadFault) ends said is = ends.read_fault refl
   read_fault_of (ending.WriteFault) ends said is = (let e = same_status 7 ending.WriteFault refl refl said in absurd (omega arith))
   read_fault_of (ending.OutOfMemory) ends said is = (let e = same_status 8 ending.OutOfMemory refl refl said in absurd (omega arith))
 
-  pub no_read_fault_of : (e : Ending) → Ends e → Said e → ¬ (status ≡ 6) → faults' ≡ faults
+  pub no_read_fault_of : (e : Ending) → Ends e → Said e → ¬ (call.status ≡ 6) → call.after.shelf.read_faults ≡ call.before.shelf.read_faults
   no_read_fault_of e ends said other = ends.no_read_fault (λ is. other (same_status 6 ending.ReadFault refl refl (subst Said is said)))
 
-  pub write_fault_of : (e : Ending) → Ends e → Said e → status ≡ 7 → Rose sink sink' ⊎ Rose puts puts'
+  pub write_fault_of : (e : Ending) → Ends e → Said e → call.status ≡ 7 → Rose call.before.sink.give_faults call.after.sink.give_faults ⊎ Rose call.before.shelf.put_faults call.after.shelf.put_faults
   write_fault_of (ending.Reached r) ends said is = elim said [ inl whole ↦ absurd ((own_number r.status).1 (sym whole.0 ∙ is)) | inr front ↦ inl front.1 ]
   write_fault_of (ending.WriteFault) ends said is = inr (ends.write_fault refl)
   write_fault_of (ending.ReadFault) ends said is = (let e = same_status 6 ending.ReadFault refl refl said in absurd (omega arith))
   write_fault_of (ending.OutOfMemory) ends said is = (let e = same_status 8 ending.OutOfMemory refl refl said in absurd (omega arith))
 
-  pub no_write_fault_of : (e : Ending) → Ends e → Said e → ¬ (status ≡ 7) → puts' ≡ puts
+  pub no_write_fault_of : (e : Ending) → Ends e → Said e → ¬ (call.status ≡ 7) → call.after.shelf.put_faults ≡ call.before.shelf.put_faults
   no_write_fault_of e ends said other = ends.no_write_fault (λ is. other (same_status 7 ending.WriteFault refl refl (subst Said is said)))
 
-  pub read_line_of : (e : Ending) → Ends e → Said e → status ≡ 6 → (held' ≡ held) × SaysOnly read_line status sent sent' sink sink'
+  pub read_line_of : (e : Ending) → Ends e → Said e → call.status ≡ 6 → (call.after.shelf.files ≡ call.before.shelf.files) × SaysOnly read_line call.status call.before.sink call.after.sink
   read_line_of (ending.Reached r) ends said is = absurd ((reached_not r said).0 is)
   read_line_of (ending.ReadFault) ends said is =
-      let P : ℕ → Type 0 = λ n. WasGiven read_line n n status sent sent' sink sink' in
-      (left_same held held' ends.leaves, subst P (sym is) said)
+      let P : ℕ → Type 0 = λ n. WasGiven read_line n n call.status call.before.sink call.after.sink in
+      (left_same call.before.shelf.files call.after.shelf.files ends.leaves, subst P (sym is) said)
   read_line_of (ending.WriteFault) ends said is = (let e = same_status 7 ending.WriteFault refl refl said in absurd (omega arith))
   read_line_of (ending.OutOfMemory) ends said is = (let e = same_status 8 ending.OutOfMemory refl refl said in absurd (omega arith))
 
-  pub memory_of : (e : Ending) → Ends e → Said e → status ≡ 8 → (held' ≡ held) × SaysOnly memory_line status sent sent' sink sink'
+  pub memory_of : (e : Ending) → Ends e → Said e → call.status ≡ 8 → (call.after.shelf.files ≡ call.before.shelf.files) × SaysOnly memory_line call.status call.before.sink call.after.sink
   memory_of (ending.Reached r) ends said is = absurd ((reached_not r said).1 is)
   memory_of (ending.OutOfMemory) ends said is =
-      let P : ℕ → Type 0 = λ n. WasGiven memory_line n n status sent sent' sink sink' in
-      (left_same held held' ends.leaves, subst P (sym is) said)
+      let P : ℕ → Type 0 = λ n. WasGiven memory_line n n call.status call.before.sink call.after.sink in
+      (left_same call.before.shelf.files call.after.shelf.files ends.leaves, subst P (sym is) said)
   memory_of (ending.WriteFault) ends said is = (let e = same_status 7 ending.WriteFault refl refl said in absurd (omega arith))
   memory_of (ending.ReadFault) ends said is = (let e = same_status 6 ending.ReadFault refl refl said in absurd (omega arith))
 
   -- without a file to read no read fails, and without one to write no put does
-  pub no_inputs : (e : Ending) → Ends e → inputs ≡ [] → faults' ≡ faults
-  no_inputs e ends none = ends.no_read_fault (λ is. let some : 1 ≤ length inputs = subst (λ z. MayEnd means inputs z) is ends.may in let zero = ap length none in absurd (omega arith))
+  pub no_inputs : (e : Ending) → Ends e → q.inputs ≡ [] → call.after.shelf.read_faults ≡ call.before.shelf.read_faults
+  no_inputs e ends none = ends.no_read_fault (λ is. let some : 1 ≤ length q.inputs = subst (λ z. MayEnd q z) is ends.may in let zero = ap length none in absurd (omega arith))
 
-  pub no_puts : (e : Ending) → Ends e → ((vs : List Value) (r : Reply) → means vs r → r.puts ≡ []) → puts' ≡ puts
+  pub carried_out : (e : Ending) → Ends e → Said e → HasOneReply q → IsCarriedOut q call
+  carried_out e ends said one = record { end = e; ends = ends; said = said; right = says_each e ends said one; own = shows_reply e ends said; result = shows_result e ends said }
+
+  pub tells_faults : (e : Ending) → Ends e → Said e → TellsFaults q call
+  tells_faults e ends said = record {
+    cause = record { read_fault = read_fault_of e ends said; read_line = read_line_of e ends said; write_fault = write_fault_of e ends said; memory = memory_of e ends said };
+    no_read_fault = no_read_fault_of e ends said;
+    no_write_fault = no_write_fault_of e ends said;
+    reads_none = no_inputs e ends;
+    at_write_fault = says_at_write_fault e ends said;
+  }
+
+  pub no_puts : (e : Ending) → Ends e → ((vs : List Value) (r : Reply) → q.means vs r → r.puts ≡ []) → call.after.shelf.put_faults ≡ call.before.shelf.put_faults
   no_puts e ends none = ends.no_write_fault (λ is.
-      let (r, may, some) = subst (λ z. MayEnd means inputs z) is ends.may in
-      let nil : r.puts ≡ [] = elim may [ inl stop ↦ (may_plain inputs r stop).1 | inr (vs, kinds, m) ↦ none vs r m ] in
+      let (r, may, some) = subst (λ z. MayEnd q z) is ends.may in
+      let nil : r.puts ≡ [] = elim may [ inl stop ↦ (may_plain q.inputs r stop).1 | inr (vs, kinds, m) ↦ none vs r m ] in
       let zero = ap length nil in
       absurd (omega arith))
 
-  puts_none : ((vs : List Value) (r : Reply) → means vs r → r.puts ≡ []) → (files : FileMap) (r : Reply) → IsReplyFor means inputs files r → r.puts ≡ []
-  puts_none none files r right = elim right [ inl stop ↦ (stop_plain files inputs r stop).1 | inr (vs, reads, m) ↦ none vs r m ]
+  puts_none : ((vs : List Value) (r : Reply) → q.means vs r → r.puts ≡ []) → (files : FileMap) (r : Reply) → IsReplyFor q files r → r.puts ≡ []
+  puts_none none files r right = elim right [ inl stop ↦ (stop_plain files q.inputs r stop).1 | inr (vs, reads, m) ↦ none vs r m ]
 
   -- and all files stay
-  pub no_puts_stay : (e : Ending) → Ends e → ((vs : List Value) (r : Reply) → means vs r → r.puts ≡ []) → held' ≡ held
+  pub no_puts_stay : (e : Ending) → Ends e → ((vs : List Value) (r : Reply) → q.means vs r → r.puts ≡ []) → call.after.shelf.files ≡ call.before.shelf.files
   no_puts_stay (ending.Reached r) ends none =
-      left_same held held' (both_map held held' (λ files files'. Leaves means inputs (ending.Reached r) files files') (λ files files'. files' ≡ files)
+      left_same call.before.shelf.files call.after.shelf.files (both_map call.before.shelf.files call.after.shelf.files (λ files files'. Leaves q (ending.Reached r) files files') (λ files files'. files' ≡ files)
       (λ files files' left. left.1 ∙ ap (filed files) (puts_none none files r left.0)) ends.leaves)
   no_puts_stay (ending.WriteFault) ends none =
-      left_same held held' (both_map held held' (λ files files'. Leaves means inputs ending.WriteFault files files') (λ files files'. files' ≡ files)
+      left_same call.before.shelf.files call.after.shelf.files (both_map call.before.shelf.files call.after.shelf.files (λ files files'. Leaves q ending.WriteFault files files') (λ files files'. files' ≡ files)
       (λ files files' (r, right, cut). absurd (subst (λ ps. IsCutShort files ps files') (puts_none none files r right) cut)) ends.leaves)
-  no_puts_stay (ending.ReadFault) ends none = left_same held held' ends.leaves
-  no_puts_stay (ending.OutOfMemory) ends none = left_same held held' ends.leaves
+  no_puts_stay (ending.ReadFault) ends none = left_same call.before.shelf.files call.after.shelf.files ends.leaves
+  no_puts_stay (ending.OutOfMemory) ends none = left_same call.before.shelf.files call.after.shelf.files ends.leaves
 
   -- a result has its status or that of a write fault, and any other reply has its own
-  reached_status : (r : Reply) → Said (ending.Reached r) → ((status_number r.status ≤ 2) × ((status ≤ 2) ⊎ (status ≡ 7))) ⊎ ((3 ≤ status_number r.status) × (status ≡ status_number r.status))
+  reached_status : (r : Reply) → Said (ending.Reached r) → ((status_number r.status ≤ 2) × ((call.status ≤ 2) ⊎ (call.status ≡ 7))) ⊎ ((3 ≤ status_number r.status) × (call.status ≡ status_number r.status))
   reached_status r said =
       elim (unsent_number r.status) [
         | inl seven ↦
@@ -265,47 +279,47 @@ module _ (means : List Value → Reply → Type 0) (inputs : List Input) (held h
   -- what is left where only results write
   module _ (whole part : FileMap → FileMap → Type 0) where
     abbrev Left : FileMap → FileMap → Type 0
-    Left files files' = LeavesByStatus whole part status puts puts' files files'
+    Left files files' = LeavesByStatus whole part call files files'
 
-    left_result : (files files' : FileMap) → (status ≤ 2) ⊎ (status ≡ 7) → whole files files' → Left files files'
+    left_result : (files files' : FileMap) → (call.status ≤ 2) ⊎ (call.status ≡ 7) → whole files files' → Left files files'
     left_result files files' number is = record {
       result = λ low. is;
       write_fault = λ seven. inl is;
       other = λ from not. elim number [ inl low ↦ absurd (omega arith) | inr seven ↦ absurd (not seven) ];
     }
 
-    left_part : (files files' : FileMap) → status ≡ 7 → Rose puts puts' → part files files' → Left files files'
+    left_part : (files files' : FileMap) → call.status ≡ 7 → Rose call.before.shelf.put_faults call.after.shelf.put_faults → part files files' → Left files files'
     left_part files files' seven rose is = record {
       result = λ low. absurd (omega arith);
       write_fault = λ again. inr (rose, is);
       other = λ from not. absurd (not seven);
     }
 
-    left_other : (files files' : FileMap) → 3 ≤ status → ¬ (status ≡ 7) → files' ≡ files → Left files files'
+    left_other : (files files' : FileMap) → 3 ≤ call.status → ¬ (call.status ≡ 7) → files' ≡ files → Left files files'
     left_other files files' high other left = record {
       result = λ low. absurd (omega arith);
       write_fault = λ seven. absurd (other seven);
       other = λ from not. left;
     }
 
-    module _ (writes : (vs : List Value) (r : Reply) → means vs r → 3 ≤ status_number r.status → r.puts ≡ []) where
-      puts_high : (files : FileMap) (r : Reply) → 3 ≤ status_number r.status → IsReplyFor means inputs files r → r.puts ≡ []
-      puts_high files r high right = elim right [ inl stop ↦ (stop_plain files inputs r stop).1 | inr (vs, reads, m) ↦ writes vs r m high ]
+    module _ (writes : (vs : List Value) (r : Reply) → q.means vs r → 3 ≤ status_number r.status → r.puts ≡ []) where
+      puts_high : (files : FileMap) (r : Reply) → 3 ≤ status_number r.status → IsReplyFor q files r → r.puts ≡ []
+      puts_high files r high right = elim right [ inl stop ↦ (stop_plain files q.inputs r stop).1 | inr (vs, reads, m) ↦ writes vs r m high ]
 
       pub leaves_by_status :
-          ((files files' : FileMap) (vs : List Value) (r : Reply) → ReadInTurn files inputs vs → means vs r → status_number r.status ≤ 2 → files' ≡ filed files r.puts → whole files files')
-          → ((files files' : FileMap) (vs : List Value) (r : Reply) → ReadInTurn files inputs vs → means vs r → IsCutShort files r.puts files' → part files files')
+          ((files files' : FileMap) (vs : List Value) (r : Reply) → ReadInTurn files q.inputs vs → q.means vs r → status_number r.status ≤ 2 → files' ≡ filed files r.puts → whole files files')
+          → ((files files' : FileMap) (vs : List Value) (r : Reply) → ReadInTurn files q.inputs vs → q.means vs r → IsCutShort files r.puts files' → part files files')
           → (e : Ending)
           → Ends e
           → Said e
-          → BeforeAndAfter held held' (λ files files'. LeavesByStatus whole part status puts puts' files files')
+          → BeforeAndAfter call.before.shelf.files call.after.shelf.files (LeavesByStatus whole part call)
       leaves_by_status is_whole is_part (ending.Reached r) ends said =
-          both_map held held' (λ files files'. Leaves means inputs (ending.Reached r) files files') Left
+          both_map call.before.shelf.files call.after.shelf.files (λ files files'. Leaves q (ending.Reached r) files files') Left
           (λ files files' left.
           elim (reached_status r said) [
             | inl low ↦
                 elim left.0 [
-                  | inl stop ↦ (let high = (stop_plain files inputs r stop).0 in let few = low.0 in absurd (omega arith))
+                  | inl stop ↦ (let high = (stop_plain files q.inputs r stop).0 in let few = low.0 in absurd (omega arith))
                   | inr (vs, reads, m) ↦ left_result files files' low.1 (is_whole files files' vs r reads m low.0 left.1)
                 ]
             | inr high ↦
@@ -315,23 +329,23 @@ module _ (means : List Value → Reply → Type 0) (inputs : List Input) (held h
           ends.leaves
       leaves_by_status is_whole is_part (ending.WriteFault) ends said =
           let seven = same_status 7 ending.WriteFault refl refl said in
-          both_map held held' (λ files files'. Leaves means inputs ending.WriteFault files files') Left
+          both_map call.before.shelf.files call.after.shelf.files (λ files files'. Leaves q ending.WriteFault files files') Left
           (λ files files' (r, right, cut).
           elim right [
-            | inl stop ↦ absurd (subst (λ ps. IsCutShort files ps files') (stop_plain files inputs r stop).1 cut)
+            | inl stop ↦ absurd (subst (λ ps. IsCutShort files ps files') (stop_plain files q.inputs r stop).1 cut)
             | inr (vs, reads, m) ↦ left_part files files' seven (ends.write_fault refl) (is_part files files' vs r reads m cut)
           ])
           ends.leaves
       leaves_by_status is_whole is_part (ending.ReadFault) ends said =
           let six = same_status 6 ending.ReadFault refl refl said in
-          both_map held held' (λ files files'. files' ≡ files) Left (λ files files' left. left_other files files' (omega arith) (λ e. omega arith) left) ends.leaves
+          both_map call.before.shelf.files call.after.shelf.files (λ files files'. files' ≡ files) Left (λ files files' left. left_other files files' (omega arith) (λ e. omega arith) left) ends.leaves
       leaves_by_status is_whole is_part (ending.OutOfMemory) ends said =
           let eight = same_status 8 ending.OutOfMemory refl refl said in
-          both_map held held' (λ files files'. files' ≡ files) Left (λ files files' left. left_other files files' (omega arith) (λ e. omega arith) left) ends.leaves
+          both_map call.before.shelf.files call.after.shelf.files (λ files files'. files' ≡ files) Left (λ files files' left. left_other files files' (omega arith) (λ e. omega arith) left) ends.leaves
 
 -- the puts by the ending are those by its status, be its text sent or not
-module _ (means : List Value → Reply → Type 0) (inputs : List Input) (held held' : Option FileMap) (put_faults put_faults' before now : ℕ) where
-  none_put : (status n : ℕ) → ¬ IsOwn n → ¬ (n ≡ 7) → status ≡ n → now ≡ before → PutsByStatus means inputs status held held' put_faults put_faults' before now
+module _ (q : Request) (old new : ShelfSeen) where
+  none_put : (status n : ℕ) → ¬ IsOwn n → ¬ (n ≡ 7) → status ≡ n → new.puts ≡ old.puts → PutsByStatus q status old new
   none_put status n other not is same = record {
     own = λ own. absurd (other (subst IsOwn is own));
     write_fault = λ seven. absurd (not (sym is ∙ seven));
@@ -339,7 +353,7 @@ module _ (means : List Value → Reply → Type 0) (inputs : List Input) (held h
     memory = λ eight. same;
   }
 
-  all_put : (r : Reply) (status : ℕ) → IsReplyOf means inputs held r → PutEach r.puts before now → status ≡ status_number r.status → PutsByStatus means inputs status held held' put_faults put_faults' before now
+  all_put : (r : Reply) (status : ℕ) → IsReplyOf q old.files r → PutEach r.puts old.puts new.puts → status ≡ status_number r.status → PutsByStatus q status old new
   all_put r status right each is =
       let own = own_number r.status in record {
         own = λ mine. (r, right, sym is, each);
@@ -348,7 +362,7 @@ module _ (means : List Value → Reply → Type 0) (inputs : List Input) (held h
         memory = λ eight. absurd (own.2 (sym is ∙ eight));
       }
 
-  at_seven : (r : Reply) (status : ℕ) → IsReplyOf means inputs held r → (PutEach r.puts before now × (put_faults' ≡ put_faults)) ⊎ (PutFront r.puts held held' before now × Rose put_faults put_faults') → status ≡ 7 → PutsByStatus means inputs status held held' put_faults put_faults' before now
+  at_seven : (r : Reply) (status : ℕ) → IsReplyOf q old.files r → (PutEach r.puts old.puts new.puts × (new.put_faults ≡ old.put_faults)) ⊎ (PutFront r.puts old.files new.files old.puts new.puts × Rose old.put_faults new.put_faults) → status ≡ 7 → PutsByStatus q status old new
   at_seven r status right put is = record {
     own = λ own. absurd (own.1 is);
     write_fault = λ seven. (r, right, put);
@@ -356,7 +370,7 @@ module _ (means : List Value → Reply → Type 0) (inputs : List Input) (held h
     memory = λ eight. absurd (omega arith);
   }
 
-  pub puts_by_status : (e : Ending) (status : ℕ) → PutsOnce means inputs e held held' before now → (e ≡ ending.WriteFault → Rose put_faults put_faults') → (¬ (e ≡ ending.WriteFault) → put_faults' ≡ put_faults) → (status ≡ status_of e) ⊎ (status ≡ status_unsent e) → PutsByStatus means inputs status held held' put_faults put_faults' before now
+  pub puts_by_status : (e : Ending) (status : ℕ) → PutsOnce q e old new → (e ≡ ending.WriteFault → Rose old.put_faults new.put_faults) → (¬ (e ≡ ending.WriteFault) → new.put_faults ≡ old.put_faults) → (status ≡ status_of e) ⊎ (status ≡ status_unsent e) → PutsByStatus q status old new
   puts_by_status (ending.Reached r) status (right, each) rose stays is =
       elim is [
         | inl sent ↦ all_put r status right each sent
@@ -367,8 +381,8 @@ module _ (means : List Value → Reply → Type 0) (inputs : List Input) (held h
   puts_by_status (ending.OutOfMemory) status same rose stays is = none_put status 8 (λ own. own.2 refl) (λ e. omega arith) (elim is [ inl sent ↦ sent | inr unsent ↦ unsent ]) same
 
 -- what was begun by the ending, and so by its status, be its text sent or not
-module _ (inputs : List Input) (held : Option FileMap) (blamed : WhichFile) (before now : ℕ) where
-  pub begun_reached : (r : Reply) → MayStop inputs r ⊎ AllBegun inputs before now → BegunForReply held inputs before now → BegunByStatus inputs (status_number r.status) held blamed before now
+module _ (inputs : List Input) (old new : ShelfSeen) where
+  pub begun_reached : (r : Reply) → MayStop inputs r ⊎ AllBegun inputs old.begins new.begins → BegunForReply old.files inputs old.begins new.begins → BegunByStatus inputs (status_number r.status) old new
   begun_reached r all needed =
       let own = own_number r.status in record {
         own = λ mine. needed;
@@ -378,7 +392,7 @@ module _ (inputs : List Input) (held : Option FileMap) (blamed : WhichFile) (bef
         memory = λ eight. absurd (own.2 eight);
       }
 
-  begun_seven : (status : ℕ) → status ≡ 7 → AllBegun inputs before now → BegunByStatus inputs status held blamed before now
+  begun_seven : (status : ℕ) → status ≡ 7 → AllBegun inputs old.begins new.begins → BegunByStatus inputs status old new
   begun_seven status is all = record {
     own = λ own. absurd (own.1 is);
     result = λ low. all;
@@ -387,10 +401,10 @@ module _ (inputs : List Input) (held : Option FileMap) (blamed : WhichFile) (bef
     memory = λ eight. absurd (omega arith);
   }
 
-  pub begun_cut : (r : Reply) → MayStop inputs r ⊎ AllBegun inputs before now → 1 ≤ length r.puts → BegunByStatus inputs 7 held blamed before now
+  pub begun_cut : (r : Reply) → MayStop inputs r ⊎ AllBegun inputs old.begins new.begins → 1 ≤ length r.puts → BegunByStatus inputs 7 old new
   begun_cut r all some = begun_seven 7 refl (elim all [ inl stop ↦ absurd (let none = ap length (may_plain inputs r stop).1 in omega arith) | inr every ↦ every ])
 
-  pub begun_unread : BegunToBlamed held inputs blamed before now → BegunByStatus inputs 6 held blamed before now
+  pub begun_unread : BegunToBlamed old.files inputs new.blamed old.begins new.begins → BegunByStatus inputs 6 old new
   begun_unread to = record {
     own = λ own. absurd (own.0 refl);
     result = λ low. absurd (omega arith);
@@ -399,7 +413,7 @@ module _ (inputs : List Input) (held : Option FileMap) (blamed : WhichFile) (bef
     memory = λ eight. absurd (omega arith);
   }
 
-  pub begun_refused : BegunInTurn held inputs before now → BegunByStatus inputs 8 held blamed before now
+  pub begun_refused : BegunInTurn old.files inputs old.begins new.begins → BegunByStatus inputs 8 old new
   begun_refused some = record {
     own = λ own. absurd (own.2 refl);
     result = λ low. absurd (omega arith);
@@ -408,81 +422,99 @@ module _ (inputs : List Input) (held : Option FileMap) (blamed : WhichFile) (bef
     memory = λ eight. some;
   }
 
-  pub begun_by_status : (e : Ending) (status : ℕ) → BegunByStatus inputs (status_of e) held blamed before now → (status ≡ status_of e) ⊎ (status ≡ status_unsent e) → BegunByStatus inputs status held blamed before now
+  pub begun_by_status : (e : Ending) (status : ℕ) → BegunByStatus inputs (status_of e) old new → (status ≡ status_of e) ⊎ (status ≡ status_unsent e) → BegunByStatus inputs status old new
   begun_by_status (ending.Reached r) status begun is =
-      let P : ℕ → Type 0 = λ n. BegunByStatus inputs n held blamed before now in
+      let P : ℕ → Type 0 = λ n. BegunByStatus inputs n old new in
       elim is [
         | inl sent ↦ subst P (sym sent) begun
         | inr unsent ↦ elim (unsent_number r.status) [ inl seven ↦ begun_seven status (unsent ∙ seven) (begun.result (unsent_low r.status seven)) | inr stays ↦ subst P (sym (unsent ∙ stays.0)) begun ]
       ]
-  begun_by_status (ending.WriteFault) status begun is = subst (λ n. BegunByStatus inputs n held blamed before now) (sym (elim is [ inl sent ↦ sent | inr unsent ↦ unsent ])) begun
-  begun_by_status (ending.ReadFault) status begun is = subst (λ n. BegunByStatus inputs n held blamed before now) (sym (elim is [ inl sent ↦ sent | inr unsent ↦ unsent ])) begun
-  begun_by_status (ending.OutOfMemory) status begun is = subst (λ n. BegunByStatus inputs n held blamed before now) (sym (elim is [ inl sent ↦ sent | inr unsent ↦ unsent ])) begun
+  begun_by_status (ending.WriteFault) status begun is = subst (λ n. BegunByStatus inputs n old new) (sym (elim is [ inl sent ↦ sent | inr unsent ↦ unsent ])) begun
+  begun_by_status (ending.ReadFault) status begun is = subst (λ n. BegunByStatus inputs n old new) (sym (elim is [ inl sent ↦ sent | inr unsent ↦ unsent ])) begun
+  begun_by_status (ending.OutOfMemory) status begun is = subst (λ n. BegunByStatus inputs n old new) (sym (elim is [ inl sent ↦ sent | inr unsent ↦ unsent ])) begun
+
+-- puts begin no file
+pub begun_after_puts : (inputs : List Input) (old mid new : ShelfSeen) (status : ℕ) → ¬ (status ≡ 6) → new.begins ≡ mid.begins → BegunByStatus inputs status old mid → BegunByStatus inputs status old new
+begun_after_puts inputs old mid new status not same begun = record {
+  own = λ mine. let P : ℕ → Type 0 = λ n. BegunForReply old.files inputs old.begins n in subst P (sym same) (begun.own mine);
+  result = λ low. let P : ℕ → Type 0 = λ n. AllBegun inputs old.begins n in subst P (sym same) (begun.result low);
+  write_fault = λ seven. let P : ℕ → Type 0 = λ n. AllBegun inputs old.begins n in subst P (sym same) (begun.write_fault seven);
+  read_fault = λ six. absurd (not six);
+  memory = λ eight. let P : ℕ → Type 0 = λ n. BegunInTurn old.files inputs old.begins n in subst P (sym same) (begun.memory eight);
+}
 
 pub on_error : {T E : Type 0} (P : Type 0) (r : Result T E) (e : E) → r ≡ Err e → OnErr r P → P
 on_error P (Ok x) e is h = absurd (let f = is in cc)
 on_error P (Err f) e is h = h
 
 -- how each end comes about
-module _ (means : List Value → Reply → Type 0) (inputs : List Input) (held between held' : Option FileMap) (faults faults' puts puts' : ℕ) where
-  pub ends_unread : 1 ≤ length inputs → Rose faults faults' → between ≡ held → puts' ≡ puts → EndsSo means inputs ending.ReadFault held between faults faults' puts puts'
+module _ (q : Request) (old new : ShelfSeen) where
+  pub ends_unread : 1 ≤ length q.inputs → Rose old.read_faults new.read_faults → new.files ≡ old.files → new.put_faults ≡ old.put_faults → EndsSo q ending.ReadFault old new
   ends_unread some rose stays same = record {
     may = some;
-    leaves = both_same held between (λ files files'. files' ≡ files) (λ files. refl) stays;
+    leaves = both_same old.files new.files (λ files files'. files' ≡ files) (λ files. refl) stays;
     read_fault = λ is. rose;
     no_read_fault = λ not. absurd (not refl);
     write_fault = λ is. cc;
     no_write_fault = λ not. same;
   }
 
-  pub ends_refused : faults' ≡ faults → between ≡ held → puts' ≡ puts → EndsSo means inputs ending.OutOfMemory held between faults faults' puts puts'
+  pub ends_refused : new.read_faults ≡ old.read_faults → new.files ≡ old.files → new.put_faults ≡ old.put_faults → EndsSo q ending.OutOfMemory old new
   ends_refused none stays same = record {
     may = tt;
-    leaves = both_same held between (λ files files'. files' ≡ files) (λ files. refl) stays;
+    leaves = both_same old.files new.files (λ files files'. files' ≡ files) (λ files. refl) stays;
     read_fault = λ is. cc;
     no_read_fault = λ not. none;
     write_fault = λ is. cc;
     no_write_fault = λ not. same;
   }
 
-  pub ends_reached : (r : Reply) → IfSome held (λ files. IsReplyFor means inputs files r) → MayReply means inputs r → between ≡ held → BeforeAndAfter between held' (λ files files'. files' ≡ filed files r.puts) →
-      faults' ≡ faults → puts' ≡ puts → EndsSo means inputs (ending.Reached r) held held' faults faults' puts puts'
-  ends_reached r right may stays written none same = record {
+  pub ends_reached : (r : Reply) → IfSome old.files (λ files. IsReplyFor q files r) → MayReply q r → BeforeAndAfter old.files new.files (λ files files'. files' ≡ filed files r.puts) →
+      new.read_faults ≡ old.read_faults → new.put_faults ≡ old.put_faults → EndsSo q (ending.Reached r) old new
+  ends_reached r right may written none same = record {
     may = may;
-    leaves = go held right (subst (λ h. BeforeAndAfter h held' (λ files files'. files' ≡ filed files r.puts)) stays written);
+    leaves = go old.files right written;
     read_fault = λ is. cc;
     no_read_fault = λ not. none;
     write_fault = λ is. cc;
     no_write_fault = λ not. same;
   }
     where
-      go : (h : Option FileMap) → IfSome h (λ files. IsReplyFor means inputs files r) → BeforeAndAfter h held' (λ files files'. files' ≡ filed files r.puts) → BeforeAndAfter h held' (λ files files'. Leaves means inputs (ending.Reached r) files files')
+      go : (h : Option FileMap) → IfSome h (λ files. IsReplyFor q files r) → BeforeAndAfter h new.files (λ files files'. files' ≡ filed files r.puts) → BeforeAndAfter h new.files (λ files files'. Leaves q (ending.Reached r) files files')
       go None right p = p
       go (Some files) right (files', is, p) = (files', is, (right, p))
 
-  pub ends_cut : (r : Reply) → IfSome held (λ files. IsReplyFor means inputs files r) → MayReply means inputs r → between ≡ held → BeforeAndAfter between held' (λ files files'. IsCutShort files r.puts files') → 1 ≤ length r.puts →
-      faults' ≡ faults → Rose puts puts' → EndsSo means inputs ending.WriteFault held held' faults faults' puts puts'
-  ends_cut r right may stays cut some none rose = record {
+  pub ends_cut : (r : Reply) → IfSome old.files (λ files. IsReplyFor q files r) → MayReply q r → BeforeAndAfter old.files new.files (λ files files'. IsCutShort files r.puts files') → 1 ≤ length r.puts →
+      new.read_faults ≡ old.read_faults → Rose old.put_faults new.put_faults → EndsSo q ending.WriteFault old new
+  ends_cut r right may cut some none rose = record {
     may = (r, may, some);
-    leaves = go held right (subst (λ h. BeforeAndAfter h held' (λ files files'. IsCutShort files r.puts files')) stays cut);
+    leaves = go old.files right cut;
     read_fault = λ is. cc;
     no_read_fault = λ not. none;
     write_fault = λ is. rose;
     no_write_fault = λ not. absurd (not refl);
   }
     where
-      go : (h : Option FileMap) → IfSome h (λ files. IsReplyFor means inputs files r) → BeforeAndAfter h held' (λ files files'. IsCutShort files r.puts files') → BeforeAndAfter h held' (λ files files'. Leaves means inputs ending.WriteFault files files')
+      go : (h : Option FileMap) → IfSome h (λ files. IsReplyFor q files r) → BeforeAndAfter h new.files (λ files files'. IsCutShort files r.puts files') → BeforeAndAfter h new.files (λ files files'. Leaves q ending.WriteFault files files')
       go None right p = p
       go (Some files) right (files', is, p) = (files', is, (r, right, p))
 
 -- a file that is too long or has a fault ends a command that would go on by itself
-pub ends_stopped : (i : Input) (held held' : Option FileMap) (faults faults' puts puts' : ℕ) (r : Reply) → IfSome held (λ files. FileStops files i r) → MayStopAt i.kind r → faults' ≡ faults → held' ≡ held → puts' ≡ puts →
-    EndsSo NoReply (i ∷ []) (ending.Reached r) held held' faults faults' puts puts'
-ends_stopped i held held' faults faults' puts puts' r stops may none stays same =
+pub ends_stopped : (i : Input) (old new : ShelfSeen) (r : Reply) → IfSome old.files (λ files. FileStops files i r) → MayStopAt i.kind r → new.read_faults ≡ old.read_faults → new.files ≡ old.files → new.put_faults ≡ old.put_faults →
+    EndsSo (only_reading (i ∷ [])) (ending.Reached r) old new
+ends_stopped i old new r stops may none stays same =
     let plain = may_plain (i ∷ []) r (inl may) in
-    ends_reached NoReply (i ∷ []) held held' held' faults faults' puts puts' r (right held stops) (inl (inl may)) stays
-    (both_same held' held' (λ files files'. files' ≡ filed files r.puts) (λ files. sym (ap (filed files) plain.1)) refl) none same
+    ends_reached (only_reading (i ∷ [])) old new r (right old.files stops) (inl (inl may))
+    (both_same old.files new.files (λ files files'. files' ≡ filed files r.puts) (λ files. sym (ap (filed files) plain.1)) stays) none same
   where
-    right : (h : Option FileMap) → IfSome h (λ files. FileStops files i r) → IfSome h (λ files. IsReplyFor NoReply (i ∷ []) files r)
+    right : (h : Option FileMap) → IfSome h (λ files. FileStops files i r) → IfSome h (λ files. IsReplyFor (only_reading (i ∷ [])) files r)
     right None p = tt
     right (Some files) p = inl (inl p)
+
+-- the calls by the ending are those by its status
+pub calls_shelf : (q : Request) (old new : ShelfSeen) (e : Ending) (status : ℕ) → EndsSo q e old new → PutsOnce q e old new → MissesInTurn q.inputs old new → BegunByStatus q.inputs (status_of e) old new → (status ≡ status_of e) ⊎ (status ≡ status_unsent e) → CallsShelf q status old new
+calls_shelf q old new e status ends put missing begun is = record {
+  begun = begun_by_status q.inputs old new e status begun is;
+  missing = missing;
+  put_once = puts_by_status q old new e status put ends.write_fault ends.no_write_fault is;
+}

@@ -1,5 +1,5 @@
 -- Bytes read as one value, or have one fault.
-use Rattle.std.proofs.Common.{◌≡◌, ◌⊎◌, ℕ, List, [], ◌∷◌, length, Option, Some, None, Result, Ok, Err, inl, inr, sym, ◌∙◌, ap, ap₂, subst, arith, refl}
+use Rattle.std.proofs.Common.{◌≡◌, ℕ, List, [], ◌∷◌, length, Option, Some, None, Result, Ok, Err, inl, inr, sym, ◌∙◌, ap, ap₂, subst, arith, refl}
 use Rattle.shelf_io.specs.Shelf.{FileMap}
 use Rattle.ba_format.proofs.LawLemmas.{reads_as_one}
 use Rattle.ba_format.proofs.FaultlessLemmas.{read_is_within}
@@ -18,6 +18,8 @@ use Rattle.rabit_frame.specs.declared.parts.Value.TheVariants as value
 use Rattle.rabit_frame.specs.declared.parts.Status.TheVariants as status
 use Rattle.rabit_frame.specs.declared.parts.Reply.{Reply}
 use Rattle.rabit_frame.specs.Files.{Input}
+use Rattle.rabit_frame.specs.Request.{Request, HasOneReply}
+use Rattle.rabit_frame.specs.Ending.{IsReplyFor}
 use Rattle.rabit_frame.specs.Lines.{file_line, certificate_line, list_line}
 use Rattle.rabit_frame.specs.Reading.{only_said, FileReads, FileStops, ReadsAs, HasFault, IsOfKind, ReadInTurn, AreOfKinds, StopInTurn}
 
@@ -174,16 +176,16 @@ module _ (files : FileMap) where
   kinds_of_read (i ∷ is) (v ∷ vs) p = (kind_of_read i.kind p.0.0 v p.0.3, kinds_of_read is vs p.1)
 
   -- one reply is right, where one is to each list of values
-  pub one_reply : (means : List Value → Reply → Type 0) (is : List Input) → ((vs : List Value) (r s : Reply) → AreOfKinds is vs → means vs r → means vs s → r ≡ s) → (r s : Reply)
-      → StopInTurn files is r ⊎ ((vs : List Value) × ReadInTurn files is vs × means vs r) → StopInTurn files is s ⊎ ((vs : List Value) × ReadInTurn files is vs × means vs s) → r ≡ s
-  one_reply means is one r s p q =
+  pub one_reply : (q : Request) → HasOneReply q → (r s : Reply) → IsReplyFor q files r → IsReplyFor q files s → r ≡ s
+  one_reply q one r s p p' =
+      let is = q.inputs in
       elim p [
-        | inl stop ↦ elim q [ inl stop' ↦ one_stop_in_turn is r s stop stop' | inr (ws, reads, m) ↦ absurd (stop_or_read_in_turn is r ws stop reads) ]
+        | inl stop ↦ elim p' [ inl stop' ↦ one_stop_in_turn is r s stop stop' | inr (ws, reads, m) ↦ absurd (stop_or_read_in_turn is r ws stop reads) ]
         | inr (vs, reads, m) ↦
-            elim q [
+            elim p' [
               | inl stop ↦ absurd (stop_or_read_in_turn is s vs stop reads)
               | inr (ws, reads', m') ↦
-                  let P : List Value → Type 0 = λ z. means z r in
+                  let P : List Value → Type 0 = λ z. q.means z r in
                   one ws r s (kinds_of_read is ws reads') (subst P (one_read_in_turn is vs ws reads reads') m) m'
             ]
       ]

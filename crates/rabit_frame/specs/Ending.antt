@@ -4,26 +4,28 @@ use Rattle.std.specs.FinMap as map
 use Rattle.std.specs.Io.KnownBytes.{append_known}
 use Rattle.shelf_io.specs.Counts.{Rose, counted}
 use Rattle.shelf_io.specs.Shelf.{FileMap}
+use Rattle.shelf_io.specs.Seen.{SinkSeen}
 use Rattle.rabit_frame.specs.declared.parts.Value.{Value}
 use Rattle.rabit_frame.specs.declared.parts.Reply.{Reply}
 use Rattle.rabit_frame.specs.declared.parts.Ending.{Ending}
 use Rattle.rabit_frame.specs.declared.parts.Ending.TheVariants as ending
-use Rattle.rabit_frame.specs.Files.{Input, Output}
+use Rattle.rabit_frame.specs.Files.{Output}
+use Rattle.rabit_frame.specs.Request.{Request}
 use Rattle.rabit_frame.specs.Lines.{read_line, write_line, memory_line}
 use Rattle.rabit_frame.specs.Statuses.{status_number, number_unsent}
 use Rattle.rabit_frame.specs.Reading.{ReadInTurn, AreOfKinds, StopInTurn, MayStop}
 
 -- The right reply for these files: that of the first file that is not read, or what the values that they read as mean.
-abbrev pub IsReplyFor : (List Value → Reply → Type 0) → List Input → FileMap → Reply → Type 0
-IsReplyFor means inputs files r = StopInTurn files inputs r ⊎ ((values : List Value) × ReadInTurn files inputs values × means values r)
+abbrev pub IsReplyFor : Request → FileMap → Reply → Type 0
+IsReplyFor q files r = StopInTurn files q.inputs r ⊎ ((values : List Value) × ReadInTurn files q.inputs values × q.means values r)
 
 -- A reply that may come, whatever the files hold.
-abbrev pub MayReply : (List Value → Reply → Type 0) → List Input → Reply → Type 0
-MayReply means inputs r = MayStop inputs r ⊎ ((values : List Value) × AreOfKinds inputs values × means values r)
+abbrev pub MayReply : Request → Reply → Type 0
+MayReply q r = MayStop q.inputs r ⊎ ((values : List Value) × AreOfKinds q.inputs values × q.means values r)
 
 -- A reply that may come, and where the shelf tells its files the right one.
-abbrev pub IsReplyOf : (List Value → Reply → Type 0) → List Input → Option FileMap → Reply → Type 0
-IsReplyOf means inputs held r = MayReply means inputs r × IfSome held (λ files. IsReplyFor means inputs files r)
+abbrev pub IsReplyOf : Request → Option FileMap → Reply → Type 0
+IsReplyOf q held r = MayReply q r × IfSome held (λ files. IsReplyFor q files r)
 
 -- The files after all of these were written, in order.
 abbrev pub filed : FileMap → List Output → FileMap
@@ -64,18 +66,18 @@ BeforeAndAfter (Some files) held' P = (files' : FileMap) × (held' ≡ Some file
 BeforeAndAfter None held' P = held' ≡ None
 
 -- What the files are after a command that ended so. Only a reply writes, and only its own files.
-abbrev pub Leaves : (List Value → Reply → Type 0) → List Input → Ending → FileMap → FileMap → Type 0
-Leaves means inputs (ending.Reached r) files files' = IsReplyFor means inputs files r × (files' ≡ filed files r.puts)
-Leaves means inputs (ending.WriteFault) files files' = (r : Reply) × IsReplyFor means inputs files r × IsCutShort files r.puts files'
-Leaves means inputs (ending.ReadFault) files files' = files' ≡ files
-Leaves means inputs (ending.OutOfMemory) files files' = files' ≡ files
+abbrev pub Leaves : Request → Ending → FileMap → FileMap → Type 0
+Leaves q (ending.Reached r) files files' = IsReplyFor q files r × (files' ≡ filed files r.puts)
+Leaves q (ending.WriteFault) files files' = (r : Reply) × IsReplyFor q files r × IsCutShort files r.puts files'
+Leaves q (ending.ReadFault) files files' = files' ≡ files
+Leaves q (ending.OutOfMemory) files files' = files' ≡ files
 
 -- How a command may end, whatever the shelf tells: a read fault only with a file to read, a write fault only with one to write.
-abbrev pub MayEnd : (List Value → Reply → Type 0) → List Input → Ending → Type 0
-MayEnd means inputs (ending.Reached r) = MayReply means inputs r
-MayEnd means inputs (ending.WriteFault) = (r : Reply) × MayReply means inputs r × (1 ≤ length r.puts)
-MayEnd means inputs (ending.ReadFault) = 1 ≤ length inputs
-MayEnd means inputs (ending.OutOfMemory) = Unit {0}
+abbrev pub MayEnd : Request → Ending → Type 0
+MayEnd q (ending.Reached r) = MayReply q r
+MayEnd q (ending.WriteFault) = (r : Reply) × MayReply q r × (1 ≤ length r.puts)
+MayEnd q (ending.ReadFault) = 1 ≤ length q.inputs
+MayEnd q (ending.OutOfMemory) = Unit {0}
 
 -- What is printed at the end.
 abbrev pub ending_text : Ending → List ℕ
@@ -98,16 +100,20 @@ status_unsent (ending.ReadFault) = 6
 status_unsent (ending.WriteFault) = 7
 status_unsent (ending.OutOfMemory) = 8
 
+-- The whole text was sent.
+abbrev pub Sends : List ℕ → SinkSeen → SinkSeen → Type 0
+Sends text old new = new.sent ≡ append_known old.sent text
+
 -- The text was given: the sink took all of it, with the one status, or its count rose and it took a front, with the other.
-abbrev pub WasGiven : List ℕ → ℕ → ℕ → ℕ → Option (List ℕ) → Option (List ℕ) → ℕ → ℕ → Type 0
-WasGiven said number unsent status sent sent' give_faults give_faults' =
-    ((status ≡ number) × (sent' ≡ append_known sent said) × (give_faults' ≡ give_faults))
-    ⊎ ((status ≡ unsent) × Rose give_faults give_faults' × ((n : ℕ) × (sent' ≡ append_known sent (take n said))))
+abbrev pub WasGiven : List ℕ → ℕ → ℕ → ℕ → SinkSeen → SinkSeen → Type 0
+WasGiven said number unsent status old new =
+    ((status ≡ number) × Sends said old new × (new.give_faults ≡ old.give_faults))
+    ⊎ ((status ≡ unsent) × Rose old.give_faults new.give_faults × ((n : ℕ) × Sends (take n said) old new))
 
 -- The text of the ending was given so.
-abbrev pub WasSaid : Ending → ℕ → Option (List ℕ) → Option (List ℕ) → ℕ → ℕ → Type 0
-WasSaid e status sent sent' give_faults give_faults' = WasGiven (ending_text e) (status_of e) (status_unsent e) status sent sent' give_faults give_faults'
+abbrev pub WasSaid : Ending → ℕ → SinkSeen → SinkSeen → Type 0
+WasSaid e status old new = WasGiven (ending_text e) (status_of e) (status_unsent e) status old new
 
 -- Nothing but this line was given, at this status.
-abbrev pub SaysOnly : List ℕ → ℕ → Option (List ℕ) → Option (List ℕ) → ℕ → ℕ → Type 0
-SaysOnly line status sent sent' give_faults give_faults' = WasGiven line status status status sent sent' give_faults give_faults'
+abbrev pub SaysOnly : List ℕ → ℕ → SinkSeen → SinkSeen → Type 0
+SaysOnly line status old new = WasGiven line status status status old new

@@ -1,17 +1,14 @@
 //! A command carried out: read, answered, written and said.
 
-ghost use Rattle.std.specs.Prelude.{◌≡◌, ◌≢◌, ◌≤◌, ◌⊎◌, ◌∷◌, [], ℕ, List as Items, length, Err, IfOk, IfErr, IfSome};
-ghost use Rattle.std.specs.Io.KnownBytes.{append_known};
+ghost use Rattle.std.specs.Prelude.{◌≡◌, ◌≤◌, ◌⊎◌, ◌∷◌, [], length, Err, IfOk, IfErr, IfSome};
 ghost use Rattle.shelf_io.specs.Counts.{Rose, counted};
 ghost use Rattle.shelf_io.specs.Shelf.{CountsMissing};
-ghost use Rattle.rabit_frame.specs.declared.parts.Value.{Value as AValue};
-ghost use Rattle.rabit_frame.specs.declared.parts.Reply.{Reply as AReply};
+ghost use Rattle.shelf_io.specs.Seen.{OnlyRead, call};
 ghost use Rattle.rabit_frame.specs.declared.parts.Ending.{Ending as AnEnding};
-ghost use Rattle.rabit_frame.specs.Lines.{read_line, memory_line};
-ghost use Rattle.rabit_frame.specs.Statuses.{IsOwn};
-ghost use Rattle.rabit_frame.specs.Reading.{AreOfKinds, IsOfKind, FileReads, MayStop, MissedInTurn, BegunInTurn, AllBegun, BegunForReply, BegunToBlamed};
-ghost use Rattle.rabit_frame.specs.Ending.{IsReplyFor, MayReply, BeforeAndAfter, WasGiven, WasSaid, SaysOnly, status_of};
-ghost use Rattle.rabit_frame.specs.Carrying.{EndsSo, NoReply, IsCarriedOut, SaysEach, IsOwnReply, ShowsResult, LeavesAtWriteFault, PutsOnce, PutsByStatus, BegunByStatus};
+ghost use Rattle.rabit_frame.specs.Request.{HasOneReply, only_reading};
+ghost use Rattle.rabit_frame.specs.Reading.{IsOfKind, FileReads, MayStop, BegunInTurn, AllBegun, BegunForReply, BegunToBlamed};
+ghost use Rattle.rabit_frame.specs.Ending.{IsReplyFor, MayReply, WasGiven, WasSaid, status_of};
+ghost use Rattle.rabit_frame.specs.Carrying.{EndsSo, PutsOnce, BegunByStatus, MissesInTurn, CallsShelf, IsCarriedOut, TellsFaults, MakesCalls};
 
 use crate::parts::{Ending, Halt, Lack, Reply, Slot, Value};
 use crate::work::Work;
@@ -27,19 +24,17 @@ fn reply_of<'w, W: Work, H: Shelf>(
     shelf: &mut H,
 ) -> Result<Reply<'w>, Lack>
     requires fit { W.is_fit work.now }
-    ensures right { IfOk result (λ reply. IfSome (H.held shelf.old) (λ files. IsReplyFor (W.means work.now) (W.inputs work.now) files reply)) }
-    ensures may { IfOk result (MayReply (W.means work.now) (W.inputs work.now)) }
-    ensures some { result ≡ Err Lack.ReadFault → 1 ≤ length (W.inputs work.now) }
-    ensures read_fault { result ≡ Err Lack.ReadFault → Rose (H.faults shelf.old) (H.faults shelf.new) }
-    ensures no_read_fault { ¬ (result ≡ Err Lack.ReadFault) → H.faults shelf.new ≡ H.faults shelf.old }
-    ensures files_stay { H.held shelf.new ≡ H.held shelf.old }
-    ensures puts_stay { H.put_faults shelf.new ≡ H.put_faults shelf.old }
-    ensures put_calls_stay { H.put_calls shelf.new ≡ H.put_calls shelf.old }
-    ensures missing { IfSome (H.held shelf.old) (λ files. MissedInTurn files (W.inputs work.now) (H.missed shelf.old) (H.missed shelf.new)) }
-    ensures all_begun { IfOk result (λ reply. MayStop (W.inputs work.now) reply ⊎ AllBegun (W.inputs work.now) (H.begins shelf.old) (H.begins shelf.new)) }
-    ensures begun_for_reply { IfOk result (λ reply. BegunForReply (H.held shelf.old) (W.inputs work.now) (H.begins shelf.old) (H.begins shelf.new)) }
-    ensures begun_to_blamed { result ≡ Err Lack.ReadFault → BegunToBlamed (H.held shelf.old) (W.inputs work.now) (H.blamed shelf.new) (H.begins shelf.old) (H.begins shelf.new) }
-    ensures begun_in_turn { BegunInTurn (H.held shelf.old) (W.inputs work.now) (H.begins shelf.old) (H.begins shelf.new) }
+    ensures right { IfOk result (λ reply. IfSome (H.seen shelf.old).files (λ files. IsReplyFor (W.request work.now) files reply)) }
+    ensures may { IfOk result (MayReply (W.request work.now)) }
+    ensures some { result ≡ Err Lack.ReadFault → 1 ≤ length (W.request work.now).inputs }
+    ensures read_fault { result ≡ Err Lack.ReadFault → Rose (H.seen shelf.old).read_faults (H.seen shelf.new).read_faults }
+    ensures no_read_fault { ¬ (result ≡ Err Lack.ReadFault) → (H.seen shelf.new).read_faults ≡ (H.seen shelf.old).read_faults }
+    ensures only_read { OnlyRead (H.seen shelf.new).begins (H.seen shelf.old) (H.seen shelf.new) }
+    ensures missing { MissesInTurn (W.request work.now).inputs (H.seen shelf.old) (H.seen shelf.new) }
+    ensures all_begun { IfOk result (λ reply. MayStop (W.request work.now).inputs reply ⊎ AllBegun (W.request work.now).inputs (H.seen shelf.old).begins (H.seen shelf.new).begins) }
+    ensures begun_for_reply { IfOk result (λ reply. BegunForReply (H.seen shelf.old).files (W.request work.now).inputs (H.seen shelf.old).begins (H.seen shelf.new).begins) }
+    ensures begun_to_blamed { result ≡ Err Lack.ReadFault → BegunToBlamed (H.seen shelf.old).files (W.request work.now).inputs (H.seen shelf.new).blamed (H.seen shelf.old).begins (H.seen shelf.new).begins }
+    ensures begun_in_turn { BegunInTurn (H.seen shelf.old).files (W.request work.now).inputs (H.seen shelf.old).begins (H.seen shelf.new).begins }
 {
     let slots = match work.slots(alloc) {
         Ok(slots) => slots,
@@ -65,10 +60,10 @@ fn reply_of<'w, W: Work, H: Shelf>(
 /// How the command ends: the files of its reply are written in order, and the first that is refused is the end.
 fn ending_of<'w, W: Work, H: Shelf>(alloc: Global, work: &'w W, shelf: &mut H) -> Ending<'w>
     requires fit { W.is_fit work.now }
-    ensures ends { EndsSo (W.means work.now) (W.inputs work.now) result (H.held shelf.old) (H.held shelf.new) (H.faults shelf.old) (H.faults shelf.new) (H.put_faults shelf.old) (H.put_faults shelf.new) }
-    ensures put_once { PutsOnce (W.means work.now) (W.inputs work.now) result (H.held shelf.old) (H.held shelf.new) (H.put_calls shelf.old) (H.put_calls shelf.new) }
-    ensures missing { IfSome (H.held shelf.old) (λ files. MissedInTurn files (W.inputs work.now) (H.missed shelf.old) (H.missed shelf.new)) }
-    ensures begun { BegunByStatus (W.inputs work.now) (status_of result) (H.held shelf.old) (H.blamed shelf.new) (H.begins shelf.old) (H.begins shelf.new) }
+    ensures ends { EndsSo (W.request work.now) result (H.seen shelf.old) (H.seen shelf.new) }
+    ensures put_once { PutsOnce (W.request work.now) result (H.seen shelf.old) (H.seen shelf.new) }
+    ensures missing { MissesInTurn (W.request work.now).inputs (H.seen shelf.old) (H.seen shelf.new) }
+    ensures begun { BegunByStatus (W.request work.now).inputs (status_of result) (H.seen shelf.old) (H.seen shelf.new) }
 {
     let reply = match reply_of(alloc, work, shelf) {
         Ok(reply) => reply,
@@ -83,8 +78,8 @@ fn ending_of<'w, W: Work, H: Shelf>(alloc: Global, work: &'w W, shelf: &mut H) -
 
 /// Gives the whole text at once. The status tells whether the sink took it.
 fn give<K: Sink>(out: &mut K, text: &[u8], number: u8, unsent: u8) -> u8
-    ensures given { WasGiven text.now number unsent result (K.sent out.old) (K.sent out.new) (K.faults out.old) (K.faults out.new) }
-    ensures given_once { K.give_calls out.new ≡ counted (K.give_calls out.old) }
+    ensures given { WasGiven text.now number unsent result (K.seen out.old) (K.seen out.new) }
+    ensures given_once { (K.seen out.new).gives ≡ counted (K.seen out.old).gives }
 {
     match out.give(text) {
         Ok(()) => number,
@@ -94,8 +89,8 @@ fn give<K: Sink>(out: &mut K, text: &[u8], number: u8, unsent: u8) -> u8
 
 /// Says how the command ended, and answers its status.
 pub fn say<K: Sink>(ending: &Ending<'_>, out: &mut K) -> u8
-    ensures said { WasSaid ending.now result (K.sent out.old) (K.sent out.new) (K.faults out.old) (K.faults out.new) }
-    ensures given_once { K.give_calls out.new ≡ counted (K.give_calls out.old) }
+    ensures said { WasSaid ending.now result (K.seen out.old) (K.seen out.new) }
+    ensures given_once { (K.seen out.new).gives ≡ counted (K.seen out.old).gives }
 {
     match ending {
         Ending::Reached(reply) => {
@@ -115,16 +110,13 @@ pub fn read_alone<H: Shelf>(
     shelf: &mut H,
     slot: &Slot<'_>,
 ) -> Result<Value, Ending<'static>>
-    ensures read { IfOk result (λ value. IfSome (H.held shelf.old) (λ files. FileReads files slot.now value)) }
+    ensures read { IfOk result (λ value. IfSome (H.seen shelf.old).files (λ files. FileReads files slot.now value)) }
     ensures kind { IfOk result (IsOfKind slot.now.kind) }
-    ensures ends { IfErr result (λ end. EndsSo NoReply (slot.now ∷ []) end (H.held shelf.old) (H.held shelf.new) (H.faults shelf.old) (H.faults shelf.new) (H.put_faults shelf.old) (H.put_faults shelf.new)) }
-    ensures faults_stay { IfOk result (λ value. H.faults shelf.new ≡ H.faults shelf.old) }
-    ensures files_stay { H.held shelf.new ≡ H.held shelf.old }
-    ensures puts_stay { H.put_faults shelf.new ≡ H.put_faults shelf.old }
-    ensures put_calls_stay { H.put_calls shelf.new ≡ H.put_calls shelf.old }
-    ensures counts_missing { CountsMissing (H.held shelf.old) slot.now.name (H.missed shelf.old) (H.missed shelf.new) }
-    ensures counts_begin { H.begins shelf.new ≡ counted (H.begins shelf.old) }
-    ensures begun { IfErr result (λ end. BegunByStatus (slot.now ∷ []) (status_of end) (H.held shelf.old) (H.blamed shelf.new) (H.begins shelf.old) (H.begins shelf.new)) }
+    ensures ends { IfErr result (λ end. EndsSo (only_reading (slot.now ∷ [])) end (H.seen shelf.old) (H.seen shelf.new)) }
+    ensures faults_stay { IfOk result (λ value. (H.seen shelf.new).read_faults ≡ (H.seen shelf.old).read_faults) }
+    ensures only_read { OnlyRead (counted (H.seen shelf.old).begins) (H.seen shelf.old) (H.seen shelf.new) }
+    ensures counts_missing { CountsMissing (H.seen shelf.old).files slot.now.name (H.seen shelf.old).missed (H.seen shelf.new).missed }
+    ensures begun { IfErr result (λ end. BegunByStatus (slot.now ∷ []) (status_of end) (H.seen shelf.old) (H.seen shelf.new)) }
 {
     match reading::read_one(alloc, shelf, slot) {
         Ok(value) => Ok(value),
@@ -137,10 +129,8 @@ pub fn read_alone<H: Shelf>(
 /// Carries out the command but says nothing, and answers the status that it ends with.
 pub fn carry_out_unsaid<W: Work, H: Shelf>(alloc: Global, work: &W, shelf: &mut H) -> u8
     requires fit { W.is_fit work.now }
-    ensures ends { (end : AnEnding) × EndsSo (W.means work.now) (W.inputs work.now) end (H.held shelf.old) (H.held shelf.new) (H.faults shelf.old) (H.faults shelf.new) (H.put_faults shelf.old) (H.put_faults shelf.new) × (result ≡ status_of end) }
-    ensures put_once { PutsByStatus (W.means work.now) (W.inputs work.now) result (H.held shelf.old) (H.held shelf.new) (H.put_faults shelf.old) (H.put_faults shelf.new) (H.put_calls shelf.old) (H.put_calls shelf.new) }
-    ensures missing { IfSome (H.held shelf.old) (λ files. MissedInTurn files (W.inputs work.now) (H.missed shelf.old) (H.missed shelf.new)) }
-    ensures begun { BegunByStatus (W.inputs work.now) result (H.held shelf.old) (H.blamed shelf.new) (H.begins shelf.old) (H.begins shelf.new) }
+    ensures ends { (end : AnEnding) × EndsSo (W.request work.now) end (H.seen shelf.old) (H.seen shelf.new) × (result ≡ status_of end) }
+    ensures calls { CallsShelf (W.request work.now) result (H.seen shelf.old) (H.seen shelf.new) }
 {
     match ending_of(alloc, work, shelf) {
         Ending::Reached(reached) => {
@@ -164,43 +154,21 @@ pub fn carry_out<W: Work, H: Shelf, K: Sink>(
     requires fit { W.is_fit work.now }
 
     // What is read as these values has one right reply, at most.
-    requires one { (values : Items AValue) (r s : AReply) → AreOfKinds (W.inputs work.now) values → W.means work.now values r → W.means work.now values s → r ≡ s }
+    requires one { HasOneReply (W.request work.now) }
 
-    // One ending was said. Where the shelf tells its files it is the right one, or a fault of the outside or want of memory.
-    ensures carried { IsCarriedOut (W.means work.now) (W.inputs work.now) (H.held shelf.old) (H.held shelf.new) result
-        (K.sent out.old) (K.sent out.new) (K.faults out.old) (K.faults out.new)
-        (H.faults shelf.old) (H.faults shelf.new) (H.put_faults shelf.old) (H.put_faults shelf.new) }
+    // One ending was said. Where the shelf tells its files it is the right one, or a fault of the outside or want of memory: the right reply,
+    // whatever it is, has its files written and its text given.
+    ensures carried { IsCarriedOut (W.request work.now)
+        (call (H.seen shelf.old) (H.seen shelf.new) (K.seen out.old) (K.seen out.new) result) }
 
-    // The right reply, whatever it is, has its files written and its text given, unless a call of the shelf failed or memory was refused.
-    ensures exact { IfSome (H.held shelf.old) (λ files. SaysEach (W.means work.now) (W.inputs work.now) files (H.held shelf.new) result
-        (K.sent out.old) (K.sent out.new) (K.faults out.old) (K.faults out.new)
-        (H.faults shelf.old) (H.faults shelf.new) (H.put_faults shelf.old) (H.put_faults shelf.new)) }
+    // Faults of the outside, each with its count; what was said of them, and what stays.
+    ensures faults { TellsFaults (W.request work.now)
+        (call (H.seen shelf.old) (H.seen shelf.new) (K.seen out.old) (K.seen out.new) result) }
 
-    // What a status of a command's own shows, and what one up to 2 does.
-    ensures own_status { IsOwn result → BeforeAndAfter (H.held shelf.old) (H.held shelf.new) (λ files files'.
-        IsOwnReply (W.means work.now) (W.inputs work.now) result (K.sent out.old) (K.sent out.new) (K.faults out.old) (K.faults out.new) files files') }
-    ensures shown_whole { result ≤ 2 → BeforeAndAfter (H.held shelf.old) (H.held shelf.new) (λ files files'.
-        ShowsResult (W.means work.now) (W.inputs work.now) result (K.sent out.old) (K.sent out.new) files files') }
-
-    // Faults of the outside, each with its count, and what stays.
-    ensures read_fault { result ≡ 6 → Rose (H.faults shelf.old) (H.faults shelf.new) }
-    ensures no_read_fault { result ≢ 6 → H.faults shelf.new ≡ H.faults shelf.old }
-    ensures write_fault { result ≡ 7 → Rose (K.faults out.old) (K.faults out.new) ⊎ Rose (H.put_faults shelf.old) (H.put_faults shelf.new) }
-    ensures no_write_fault { result ≢ 7 → H.put_faults shelf.new ≡ H.put_faults shelf.old }
-
-    // At 6 and 8 no file changed and that was said; at 7 the counts tell which call was refused, and so what is left.
-    ensures read_line { result ≡ 6 → (H.held shelf.new ≡ H.held shelf.old) × SaysOnly read_line result (K.sent out.old) (K.sent out.new) (K.faults out.old) (K.faults out.new) }
-    ensures memory { result ≡ 8 → (H.held shelf.new ≡ H.held shelf.old) × SaysOnly memory_line result (K.sent out.old) (K.sent out.new) (K.faults out.old) (K.faults out.new) }
-    ensures at_write_fault { result ≡ 7 → BeforeAndAfter (H.held shelf.old) (H.held shelf.new) (λ files files'.
-        LeavesAtWriteFault (W.means work.now) (W.inputs work.now) (K.sent out.old) (K.sent out.new) (K.faults out.old) (K.faults out.new) (H.put_faults shelf.old) (H.put_faults shelf.new) files files') }
-
-    // By the counts of calls: each file of the reply was put once, or up to one that was refused, and the whole text was one give.
-    ensures put_once { PutsByStatus (W.means work.now) (W.inputs work.now) result (H.held shelf.old) (H.held shelf.new) (H.put_faults shelf.old) (H.put_faults shelf.new) (H.put_calls shelf.old) (H.put_calls shelf.new) }
-    ensures given_once { K.give_calls out.new ≡ counted (K.give_calls out.old) }
-
-    // By the count of begins: just the files were begun that the status needs, each once. A missing one is counted only in its turn.
-    ensures begun { BegunByStatus (W.inputs work.now) result (H.held shelf.old) (H.blamed shelf.new) (H.begins shelf.old) (H.begins shelf.new) }
-    ensures missing { IfSome (H.held shelf.old) (λ files. MissedInTurn files (W.inputs work.now) (H.missed shelf.old) (H.missed shelf.new)) }
+    // By the counts of calls: just the files were begun that the status needs, each once and in turn; each file of the reply was put once, or up to one
+    // that was refused; and the whole text was one give.
+    ensures calls { MakesCalls (W.request work.now)
+        (call (H.seen shelf.old) (H.seen shelf.new) (K.seen out.old) (K.seen out.new) result) }
 {
     let ending = ending_of(alloc, work, shelf);
     let status = say(&ending, out);

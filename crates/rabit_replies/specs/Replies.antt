@@ -1,7 +1,8 @@
 -- Replies that several commands have.
-use Rattle.std.specs.Prelude.{◌≡◌, ℕ, List, Option}
-use Rattle.std.specs.Io.KnownBytes.{append_known}
+use Rattle.std.specs.Prelude.{◌≡◌, ◌<◌, ℕ, List, All, length}
+use Rattle.shelf_io.specs.Seen.{SinkSeen}
 use Rattle.auto_core.specs.declared.parts.Mode.{Mode}
+use Rattle.auto_core.specs.declared.parts.Lasso.{Lasso}
 use Rattle.auto_core.specs.Accept.{SeparatesLasso, SeparatesWord}
 use Rattle.ba_format.specs.declared.parts.Joined.{Joined}
 use Rattle.cert_value.specs.declared.types.Cert.{Cert}
@@ -13,6 +14,7 @@ use Rattle.rabit_frame.specs.declared.parts.Status.TheVariants as status
 use Rattle.rabit_frame.specs.declared.parts.Reply.{Reply}
 use Rattle.rabit_frame.specs.Files.{Output}
 use Rattle.rabit_frame.specs.Reading.{reply_with, only_said}
+use Rattle.rabit_frame.specs.Ending.{Sends}
 use Rattle.rabit_replies.specs.Printed.{usage_text, too_large_text, nothing_to_shrink_text, refused_text, included_text, not_included_text, word_not_included_text, limit_text}
 
 -- The words ask nothing.
@@ -31,6 +33,11 @@ nothing_to_shrink_reply = only_said status.NothingToShrink nothing_to_shrink_tex
 abbrev pub IsRefusedReply : Joined → Cert → Reply → Type 0
 IsRefusedReply pair cert r = (refusal : Refusal) × BreaksRule pair cert refusal × (r ≡ only_said status.BadCertificate (refused_text refusal))
 
+-- The letters of the body's lasso, or of its word, have texts among these.
+pub record HasLettersOf (labels : List (List ℕ)) (body : Body) : Type 0 where
+  pub lasso : (l : Lasso) → body ≡ NoLasso l → All (λ a. a < length labels) l.prefix × All (λ a. a < length labels) l.turn
+  pub word : (w : List ℕ) → body ≡ NoWord w → All (λ a. a < length labels) w
+
 -- What a right certificate of this mode with this body says, where these files are written before.
 abbrev pub IsVerdictReply : Mode → Joined → Body → List Output → Reply → Type 0
 IsVerdictReply mode pair (Yes evidence) puts r = r ≡ reply_with status.Done (included_text mode) puts
@@ -46,9 +53,9 @@ IsNo (NoWord word) = Unit {0}
 IsNo (Listing list) = ⊥
 
 -- The body's lasso, in finite mode its word, is accepted by the first automaton and not by the second, and that was printed.
-abbrev pub SaysApart : Joined → Body → Option (List ℕ) → Option (List ℕ) → Type 0
-SaysApart pair (Yes evidence) sent sent' = ⊥
-SaysApart pair (NoLasso lasso) sent sent' =
-    SeparatesLasso pair.first pair.second lasso.prefix lasso.turn × (sent' ≡ append_known sent (not_included_text pair.labels lasso))
-SaysApart pair (NoWord word) sent sent' = SeparatesWord pair.first pair.second word × (sent' ≡ append_known sent (word_not_included_text pair.labels word))
-SaysApart pair (Listing list) sent sent' = ⊥
+abbrev pub SaysApart : Joined → Body → SinkSeen → SinkSeen → Type 0
+SaysApart pair (Yes evidence) old new = ⊥
+SaysApart pair (NoLasso lasso) old new =
+    SeparatesLasso pair.first pair.second lasso.prefix lasso.turn × Sends (not_included_text pair.labels lasso) old new
+SaysApart pair (NoWord word) old new = SeparatesWord pair.first pair.second word × Sends (word_not_included_text pair.labels word) old new
+SaysApart pair (Listing list) old new = ⊥

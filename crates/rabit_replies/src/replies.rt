@@ -1,13 +1,11 @@
 //! Replies that several commands have.
 
-ghost use Rattle.std.specs.Prelude.{◌≡◌, ◌<◌, ◌≤◌, IfOk, All, List as Items, ℕ, length};
-ghost use Rattle.auto_core.specs.declared.parts.Lasso.{Lasso as ALasso};
+ghost use Rattle.std.specs.Prelude.{◌≡◌, ◌<◌, ◌≤◌, IfOk, All, length};
 ghost use Rattle.ba_format.specs.declared.parts.Joined.{Joined};
 ghost use Rattle.ba_format.specs.Writing.{written};
-ghost use Rattle.cert_value.specs.declared.types.Body.TheVariants.{NoLasso, NoWord};
 ghost use Rattle.rabit_frame.specs.Reading.{only_said, reply_with};
 ghost use Rattle.rabit_replies.specs.Printed.{refused_text, included_text, not_included_text, word_not_included_text, limit_text};
-ghost use Rattle.rabit_replies.specs.Replies.{usage_reply, too_large_reply, IsVerdictReply};
+ghost use Rattle.rabit_replies.specs.Replies.{HasLettersOf, usage_reply, too_large_reply, IsVerdictReply};
 
 use crate::word_texts::{push_lasso, push_word_line};
 use auto_core::{Auto, Lasso, List, Memory, Mode, Word, append};
@@ -113,8 +111,7 @@ pub fn verdict<'a>(
     body: &Body,
     puts: List<Put<'a>>,
 ) -> Result<Reply<'a>, Memory>
-    requires letters { (lasso : ALasso) → body.now ≡ NoLasso lasso → All (λ a. a < length pair.now.labels) lasso.prefix × All (λ a. a < length pair.now.labels) lasso.turn }
-    requires word { (word : Items ℕ) → body.now ≡ NoWord word → All (λ a. a < length pair.now.labels) word }
+    requires { HasLettersOf pair.now.labels body.now }
     ensures { IfOk result (IsVerdictReply mode pair.now body.now puts.entry) }
 {
     match body {

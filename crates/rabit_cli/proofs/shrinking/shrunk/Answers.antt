@@ -4,14 +4,9 @@ use Rattle.rabit_cli.specs.Shrink.{IsShrunkBody}
 use Rattle.rabit_cli.proofs.ShrinkLemmas.{letters_of_left, letters_of_left_word}
 use Rattle.rabit_cli.proofs.shrinking.shrunk.Goals as goal
 
-pub verdict-requires-clause-letters : goal.verdict-requires-clause-letters
-verdict-requires-clause-letters c =
+pub verdict-requires : goal.verdict-requires
+verdict-requires c =
     let pair = c.args.pair.now in
     let cert = c.args.cert.now in
-    letters_of_left pair cert c.in-Some.body c.requires.keeps (subst (λ left. MatchOption left (¬ IsNo cert.body) (IsShrunkBody pair cert.body)) c.in-Some.is c.in_ok-body.ensures)
-
-pub verdict-requires-clause-word : goal.verdict-requires-clause-word
-verdict-requires-clause-word c =
-    let pair = c.args.pair.now in
-    let cert = c.args.cert.now in
-    letters_of_left_word pair cert c.in-Some.body c.requires.keeps (subst (λ left. MatchOption left (¬ IsNo cert.body) (IsShrunkBody pair cert.body)) c.in-Some.is c.in_ok-body.ensures)
+    let left = subst (λ left. MatchOption left (¬ IsNo cert.body) (IsShrunkBody pair cert.body)) c.in-Some.is c.in_ok-body.ensures in
+    record { lasso = letters_of_left pair cert c.in-Some.body c.requires.keeps left; word = letters_of_left_word pair cert c.in-Some.body c.requires.keeps left }
