@@ -6,9 +6,13 @@
 
 It prints what `rabit check A B CERT`, with the option what `rabit cross-check A B FILE`, prints and ends with the same
 status: 0 included, 1 not included, 2 a list, 4 a fault of an automaton's text, 5 a refused certificate or cross file, 6 a
-file that cannot be read. It shares no line with the program. It is not proved, it is not fast, though it is built so that a
-file of 64 KiB does not stall it, and it takes what memory it needs: its use is that somebody who trusts neither the program
-nor its proofs can read it in an evening.
+file that cannot be read. It shares no line with the program. It is not proved, it is not fast, and it takes what memory it
+needs: its use is that somebody who trusts neither the program nor its proofs can read it in an evening.
+
+What is said of 64 KiB is said of three files, each of at most so many bytes. Where each is, most certificates take seconds.
+The exception that was met is a relation at lookahead 6 that keeps its rounds by long paths alone: by 70 to 200 states with
+four to fifteen labels, at random, all accepting, it took 25 seconds to more than a minute. Larger automata may take longer: 300
+states with 30 moves by each of seven labels (963 KB) and such a relation took seven seconds.
 
 A set of states is a number: state q is in it where its bit q is 1. A block of pairs is a dictionary from a state to the set
 of those that it is related to.
@@ -65,6 +69,11 @@ class Steps:
     def __init__(self, rows):
         self.rows, self.found, self.eights = rows, {}, {}
 
+    @cached_property
+    def all(self):
+        """What some state leads to."""
+        return self.by_states(set_of(self.rows))
+
     def of(self, mask):
         found = self.found.get(mask)
         if found is None:
@@ -79,13 +88,15 @@ class Steps:
 
     def by_eights(self, mask):
         """Eight states at a time, each eight of them once: sets are large, and there are many."""
-        found = 0
+        found, every, eights = 0, self.all, self.eights
         for place, byte in enumerate(mask.to_bytes(mask.bit_length() // 8 + 1, "little")):
             if byte:
                 key = place << 8 | byte
-                if key not in self.eights:
-                    self.eights[key] = self.by_states(byte << 8 * place)
-                found |= self.eights[key]
+                if key not in eights:
+                    eights[key] = self.by_states(byte << 8 * place)
+                found |= eights[key]
+                if found == every:
+                    break
         return found
 
 
@@ -572,75 +583,127 @@ class Identity:
         return p == q
 
 
-class Game:
-    """Rounds at a lookahead: `shown` are the moves of the states that paths are shown from, `fit` gives the set of states that
-    match one of these, `ahead` and `behind` are the steps of the answers by a label and against it."""
+class Rows(dict):
+    """Rows that are made when they are first asked for, each from its state."""
 
-    def __init__(self, shown, fit, ahead, behind, look, block):
-        self.shown, self.fit, self.ahead, self.behind = shown, fit, ahead, behind
-        self.look, self.block = look, block
-        self.kept, self.answered, self.sets, self.room = {}, {}, {}, MOST_SETS
+    def __init__(self, make):
+        super().__init__()
+        self.make = make
+
+    def get(self, state, default=0):
+        if state not in self:
+            self[state] = self.make(state)
+        return self[state]
+
+
+class Game:
+    """Rounds at a lookahead. Paths are shown in one automaton and answered in another, along their transitions, or against
+    them where it is `turned`; `fit` gives the set of states that match a state that is shown.
+
+    What is asked of many shown states at a time is asked of their set: paths with the same labels whose states match alike
+    have the same answers, and go on together."""
+
+    def __init__(self, shown, answers, turned, fit, look, block):
+        self.shown, self.answers, self.turned, self.fit = shown, answers, turned, fit
+        self.look, self.block, self.moves = look, block, shown.back if turned else shown.moves
+        self.ended = set_of(p for p, moves in enumerate(self.moves) if not moves)
+        self.spoken = Steps({p: set_of(label for label, _ in moves) for p, moves in enumerate(self.moves)})
+        self.alike = {}  # by the set of states that match: the shown states that it matches
+        for p in range(shown.states):
+            self.alike[fit(p)] = self.alike.get(fit(p), 0) | 1 << p
+        self.related = {}  # by a state that answers: those that the block relates to it
+        for p, row in block.items():
+            for q in states_in(row):
+                self.related[q] = self.related.get(q, 0) | 1 << p
+        self.level, self.kept, self.tried, self.sets, self.room = {}, {}, Counter(), {}, MOST_SETS
+
+    def show(self, label, back=False):
+        return self.shown.steps_by(label, self.turned != back)
+
+    def answer(self, label, back=False):
+        return self.answers.steps_by(label, self.turned != back)
 
     def is_stable(self):
         """Whether each pair of the block matches and keeps its round."""
-        for p, row in self.block.items():
-            if row & ~self.fit(p):
-                return False
+        if any(row & ~self.fit(p) for p, row in self.block.items()):
+            return False
+        for q, pairs in self.related.items():
+            pairs &= ~self.ended
             for left in (1, self.look):
-                if self.shown[p] and row:
-                    row &= ~self.keeping(p, left)
-            if self.shown[p] and not all(self.keeps(p, self.look, 1 << q) for q in states_in(row)):
+                pairs &= ~self.keeping(q, left) if pairs else 0
+            if not all(self.keeps(pairs & same, self.look, 1 << q) for same in self.alike.values()):
                 return False
         return True
 
-    def keeping(self, p, left):
-        """States from which paths of so many moves that are still to be shown from p are answered, move by move as they are
-        shown. There are more that answer when they know the whole path."""
-        if not left or not self.shown[p]:
+    def keeping(self, q, left):
+        """States of which each path of so many moves is answered from q, move by move as it is shown. There are more of which
+        an answer that knows the whole path has one."""
+        if not left:
             return 0
-        if (p, left) not in self.kept:
-            found = -1
-            for label, target in self.shown[p]:
-                if found:
-                    goals = self.block.get(target, 0) | self.keeping(target, left - 1)
-                    found &= self.behind(label).of(goals & self.fit(target))
-            self.kept[p, left] = found
-        return self.kept[p, left]
+        lost, later = self.ended, self.answered(left - 1)
+        for label in self.shown.by_label:
+            after = self.answer(label).rows.get(q, 0)
+            missed = self.show(label).all & ~later.of(after) if after else -1
+            if missed:
+                lost |= self.show(label, back=True).of(missed) if after else self.show(label, back=True).all
+        return (1 << self.shown.states) - 1 & ~lost
 
-    def keeps(self, p, left, replies):
-        """Whether each path of so many moves that are still to be shown from p is answered from one of the replies, which are
-        where an answer may stand. What was answered once is remembered."""
-        if replies & self.keeping(p, left):
+    def answered(self, left):
+        """By an answering state those shown ones with which it is in the block, or of which each path of so many moves is
+        answered from it move by move. As steps: what some state of a set answers."""
+        if left not in self.level:
+
+            def row(q):
+                fine = self.related.get(q, 0) | self.keeping(q, left)
+                return self.matched(q) & fine if fine else 0
+
+            self.level[left] = Steps(Rows(row))
+        return self.level[left]
+
+    def matched(self, q):
+        """The shown states that q matches."""
+        found = 0
+        for fit, same in self.alike.items():
+            if fit >> q & 1:
+                found |= same
+        return found
+
+    def keeps(self, shown, left, replies):
+        """Whether each path of so many moves that are still to be shown from a state of the set is answered from one of the
+        replies, which are where an answer may stand; they match each state of the set. What was answered once is kept."""
+        shown &= ~self.kept.get((left, replies), 0)
+        if not shown:
             return True
-        if not replies or not left or not self.shown[p]:
+        if not left or not replies or shown & self.ended:
             return False
-        answered = self.answered.setdefault((p, left), set())
-        if replies in answered:
-            return True
-        wanted = self.wanted(p, left) if len(answered) > FEW_REPLIES else None
-        if wanted is not None:
-            return all(replies & one for one in wanted)
-        for label, target in self.shown[p]:
-            after = self.ahead(label).of(replies) & self.fit(target)
-            if not after & self.block.get(target, 0) and not self.keeps(target, left - 1, after):
-                return False
-        answered.add(replies)
+        self.tried[shown, left] += 1
+        if self.tried[shown, left] > FEW_REPLIES and all(self.wanted(p, left) is not None for p in states_in(shown)):
+            return all(replies & one for p in states_in(shown) for one in self.wanted(p, left))
+        later = self.answered(left - 1)
+        for label in states_in(self.spoken.of(shown)):
+            after = self.answer(label).of(replies)
+            open_still = self.show(label).of(shown) & ~later.of(after)
+            if open_still:
+                for fit, same in self.alike.items():
+                    if not self.keeps(open_still & same, left - 1, after & fit):
+                        return False
+        self.kept[left, replies] = self.kept.get((left, replies), 0) | shown
         return True
 
     def wanted(self, p, left):
         """For each path of so many moves from p the states that it is answered from, or None where these sets are too many."""
-        if not left or not self.shown[p]:
+        if not left or not self.moves[p]:
             return {0}
         if (p, left) not in self.sets:
             found = set()
-            for label, target in self.shown[p]:
-                later = self.wanted(target, left - 1)
-                if later is None or len(found) > self.room:
+            for label, target in self.moves[p]:
+                later = self.wanted(target, left - 1) if self.room > 0 else None
+                if later is None:
                     found = None
                     break
-                ends, fit, behind = self.block.get(target, 0), self.fit(target), self.behind(label)
+                ends, fit, behind = self.block.get(target, 0), self.fit(target), self.answer(label, back=True)
                 found.update(behind.of((ends | one) & fit) for one in later)
-            self.room -= len(found or ())
+                self.room -= len(later)
             self.sets[p, left] = found
         return self.sets[p, left]
 
@@ -653,9 +716,7 @@ def stable(automaton, side, look, block):
         fine = automaton.accepting if automaton.accepting >> p & 1 else everything
         return fine & 1 << p if side == "backward" and p == automaton.initial else fine
 
-    if side == "forward":
-        return Game(automaton.moves, fit, automaton.ahead, automaton.behind, look, block).is_stable()
-    return Game(automaton.back, fit, automaton.behind, automaton.ahead, look, block).is_stable()
+    return Game(automaton, automaton, side == "backward", fit, look, block).is_stable()
 
 
 def stable_across(first, second, look, block):
@@ -664,7 +725,7 @@ def stable_across(first, second, look, block):
     def fit(p):
         return second.accepting if first.accepting >> p & 1 else (1 << second.states) - 1
 
-    return Game(first.moves, fit, second.ahead, second.behind, look, block).is_stable()
+    return Game(first, second, False, fit, look, block).is_stable()
 
 
 class Ranks:

@@ -3,12 +3,16 @@ _rabit_tool() {
     local word=${COMP_WORDS[COMP_CWORD]} before=${COMP_WORDS[COMP_CWORD - 1]} options=
     COMPREPLY=()
     if [ "$COMP_CWORD" -eq 1 ]; then
-        mapfile -t COMPREPLY < <(compgen -W "import export lint draw explain many report" -- "$word")
+        mapfile -t COMPREPLY < <(compgen -W "import export lint draw explain many report help --version" -- "$word")
         return
     fi
     case $before in
+    help)
+        mapfile -t COMPREPLY < <(compgen -W "import export lint draw explain many report" -- "$word")
+        return
+        ;;
     --command)
-        mapfile -t COMPREPLY < <(compgen -W "include cross solve" -- "$word")
+        mapfile -t COMPREPLY < <(compgen -W "include cross" -- "$word")
         return
         ;;
     --program | --ssh)

@@ -48,6 +48,33 @@ class Explain(Case):
             ended, going, counts = ended + why["ends"], going + (not why["ends"]), counts + 1
         self.assertTrue(ended > 10 and going > 10 and counts > 40, (ended, going, counts))
 
+    def test_the_loops_turns_are_told(self):
+        first = self.write("a.ba", "0\nx,0->1\na,1->2\nb,2->3\na,3->4\nb,4->5\na,5->4\n5\n")
+        second = self.write("b.ba", "0\nx,0->0\na,0->0\nb,0->1\n0\n")
+        self.write("c", "rabit-cert 1 buchi no\nsizes 6 2 3\nprefix 0\nloop 1 2\nend\n")
+        names = [first, second, self.folder / "c"]
+        lines = call("explain", *names, "--program", program())[1].split("\n")
+        at = lines.index("its run, on the prefix")
+        wanted = [
+            "its run, on the prefix", "  0 --x--> 1", "in the loop's 1st turn", "  1 --a--> 2", "  2 --b--> 3",
+            "in the loop's 2nd turn", "  3 --a--> 4", "  4 --b--> 5", "and then without end, from the loop's 3rd turn on",
+            "  5 --a--> 4", "  4 --b--> 5", "  which passes 5: accepting",
+        ]  # fmt: skip
+        self.assertEqual(lines[at : at + len(wanted)], wanted)
+        self.assertEqual([explaining.ordinal(n) for n in (1, 2, 3, 4, 11, 12, 21, 112)],
+                         ["1st", "2nd", "3rd", "4th", "11th", "12th", "21st", "112th"])  # fmt: skip
+        # the one move of the prefix is drawn in its colour, those of the loop in the loop's
+        text = drawing.drawn_with(self.read(first), certificates.load(str(names[2])), "c")
+        self.assertEqual(text.count(f'color="{drawing.PREFIX}", fontcolor'), 1)
+        self.assertEqual(text.count(f'color="{drawing.LOOP}", fontcolor'), 5)
+
+    def test_moves_of_both_parts_are_told_in_the_legend(self):
+        ring = self.read(self.write("a.ba", "0\na,0->0\n"))
+        for prefix, is_both in (("prefix 0", True), ("prefix", False)):
+            path = self.write("c", f"rabit-cert 1 buchi no\nsizes 1 1 1\n{prefix}\nloop 0\nend\n")
+            text = drawing.drawn_with(ring, certificates.load(str(path)), "c")
+            self.assertEqual((drawing.BOTH in text, "a move of both has both colours" in text), (is_both,) * 2)
+
     def test_words(self):
         rnd, counts = random.Random(32), 0
         for _ in range(80):
@@ -199,6 +226,26 @@ class Draw(Case):
         )
         self.assertEqual((self.folder / "yes.png").read_bytes()[:8], b"\x89PNG\r\n\x1a\n")
         self.assertEqual(call("draw", MUTEX / "broken.ba")[1].count('class="node"'), 32)
+
+    @needs_program
+    @needs("dot", "graphviz")
+    def test_no_picture_is_wider_than_screens(self):
+        for first, second in (("peterson", "exclusion"), ("broken", "exclusion")):
+            made, names = self.folder / "made.png", [MUTEX / f"{name}.ba" for name in (first, second)]
+            ask("include", *names, self.folder / "c")
+            self.assertEqual(call("draw", names[0], self.folder / "c", "-o", made)[0], 0)
+            self.assertLess(int.from_bytes(made.read_bytes()[16:20], "big"), 3000)
+
+    def test_a_state_has_one_arrow_to_itself(self):
+        made = self.read(self.write("a.ba", "0\nx,0->0\n<y>,0->0\nz,0->0\n"))
+        for prefix, loop, edge in (
+            ("", "0", f'<font color="{drawing.LOOP}">x</font><br/>&lt;y&gt;<br/>z>, color="{drawing.LOOP}", penwidth=2'),
+            (" 0", "0", f'<font color="{drawing.PREFIX}">x</font><br/>&lt;y&gt;<br/>z>, color="{drawing.BOTH}"'),
+        ):
+            path = self.write("c", f"rabit-cert 1 buchi no\nsizes 1 1 3\nprefix{prefix}\nloop {loop}\nend\n")
+            text = drawing.drawn_with(made, certificates.load(str(path)), "c")
+            self.assertEqual((text.count("s0 -> s0"), edge in text), (1, True), text)
+        self.assertIn('s0 -> s0 [label="x\\n<y>\\nz"];', drawing.dot(made))
 
     @needs_program
     def test_texts(self):

@@ -1,8 +1,10 @@
 """`import`: each feature and each refusal, against the program and against the definition of acceptance."""
 import random
+import subprocess
+import sys
 import unittest
 
-from helping import DATA, Case, accepts, ba_accepts, call, needs_program
+from helping import DATA, TOOL, Case, accepts, ba_accepts, call, needs_program
 from rabit_tool import automata, files, importing, letters
 
 
@@ -115,6 +117,20 @@ class Meaning(unittest.TestCase):
         self.assertFalse(ba_accepts(made, ["!p"], ["p"]))
         made = importing.imported(b"HOA: v1 AP: 1 \"p\" Acceptance: 0 t --BODY-- --END--", [], True)
         self.assertEqual((made.labels, made.accepting), (["!p", "p"], set()))
+
+    def test_the_standard_input(self):
+        text = b"HOA: v1 Start: 0 AP: 1 \"p\" Acceptance: 1 Inf(0) --BODY-- State: 0 {0} [0] 0 --END--"
+        words = [sys.executable, str(TOOL), "import", "-"]
+        done = subprocess.run(words, input=text, stdout=subprocess.PIPE, check=False)
+        self.assertEqual((done.returncode, done.stdout), (0, automata.write_ba(importing.imported(text))))
+
+    def test_a_text_in_ba_is_told_to_be_one(self):
+        with self.assertRaises(files.Refusal) as found:
+            importing.read_any(b"0\na,0->0\n")
+        self.assertIn("this is .ba already", found.exception.text)
+        with self.assertRaises(files.Refusal) as found:
+            importing.read_any(b"0\n")
+        self.assertNotIn("this is .ba already", found.exception.text)
 
     def test_labels_of_an_automaton(self):
         rnd, labels, accepted, refused = random.Random(8), ["p1", "other", "p0", "!p0", "p2"], 0, 0

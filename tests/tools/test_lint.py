@@ -68,6 +68,36 @@ class Warnings(Case):
                 self.assertIn(note, linting.notes(files.encoded(text)))
                 self.assertEqual(linting.warnings(files.encoded(text)), [])
 
+    def test_what_the_program_refuses_as_too_large(self):
+        def ring(count, labels=1):
+            return "0\n" + "".join(f"a{i % labels},{i}->{(i + 1) % count}\n" for i in range(count))
+
+        cases = [
+            ("".join(f"a{i},0->0\n" for i in range(257)), "TooManyLabels: 257 labels: a file may have 256"),
+            (ring(2049), "TooManyStates: 2049 states: a first file may have 2048, a second one 512"),
+            (ring(300, 300), "TooManyLabels"),
+            (
+                "".join(f"a,{i}->{j}\n" for i in range(257) for j in range(256)),
+                "TooManyTransitions: 65792 transitions: a file may have 65536",
+            ),
+            ("0\na,0->0\n" + "x" * 256 + "\n", "TokenLong"),
+        ]
+        for text, said in cases:
+            self.assertIn(said, self.warned(text)[1])
+        fine = "".join(f"a{i},0->{j}\n" for i in range(256) for j in range(10))
+        self.assertEqual((self.warned(fine), self.warned(ring(2048))[0]), (([], ""), []))
+        small, large = self.write("small.ba", ring(3)), self.write("large.ba", ring(601))
+        said = "TooManyStates as a second file: 601 states, and it may have 512\n"
+        for files_named, status in (([large], 0), ([large, small], 0), ([small, large], 1)):
+            found = call("lint", *files_named)
+            self.assertEqual((found[0], found[1].count(said), found[1].count("note: " + said)), (status, 1, 1 - status))
+
+    def test_other_texts_are_told_once(self):
+        prose = "Dear reader,\nthis is a letter, and no automaton.\nIt goes on -> here\nfor some lines.\n"
+        self.assertEqual(self.warned(prose), ([0], "this is no automaton: no line is label,source->target"))
+        self.assertIn("`rabit-tool import` makes .ba of it", self.warned("HOA: v1\n")[1])
+        self.assertNotIn("rabit-tool import", self.warned("rabit-cert 1 buchi no\n")[1])
+
     def test_nothing_to_say(self):
         text = b"[0]\na,[0]->[1]\nb,[1]->[0]\n[0]\n"
         self.assertEqual((linting.warnings(text), linting.notes(text)), ([], []))
@@ -111,6 +141,8 @@ class Statuses(Case):
             [str(TOP / "tools" / "ba-lint")], stdout=subprocess.PIPE, stderr=subprocess.PIPE, check=False
         )
         self.assertEqual((done.returncode, done.stdout), (2, b""))
+        done = subprocess.run([str(TOP / "tools" / "ba-lint"), "--help"], stdout=subprocess.PIPE, check=False)
+        self.assertEqual((done.returncode, b"rabit-tool lint" in done.stdout), (0, True))
 
     def test_examples(self):
         found = sorted([*TOP.glob("examples/*.ba"), *TOP.glob("examples/*/*.ba")])

@@ -11,7 +11,7 @@ import sys
 import time
 import unittest
 
-from helping import TOOL, Case, Slow, ask, call, needs, needs_program, program, random_ba
+from helping import TOOL, Case, Output, Slow, ask, call, needs, needs_program, program, random_ba
 from rabit_tool import batch, many, results, worker
 
 # stands for ssh: the host is a name alone, and its commands run here, in a folder and an environment of their own
@@ -90,7 +90,8 @@ class Many(Case):
         self.check_rows(lines, out)
         self.assertEqual(len((out / "table.tsv").read_text().split("\n")), 502)
         self.assertEqual(self.run_many(path, "--out", out, "--resume"), (0, ""))
-        self.assertEqual(self.run_many(path, "--out", out, "--resume", "--second")[0], 3)
+        status, told = self.run_many(path, "--out", out, "--resume", "--second")
+        self.assertEqual((status, "without --second" in told), (3, True), told)
 
     def test_two_hosts_and_the_second_checker(self):
         lines, path = self.questions(40, 42)
@@ -120,7 +121,7 @@ class Many(Case):
             [rows[number]["verdict"] for number in (1, 2, 4)], ["included", "file 1 line 2: Shape", "included"]
         )
         self.assertEqual(rows[3]["verdict"], f"error: {self.folder}/none.ba: No such file or directory")
-        self.assertIn("no verdict: 2: 2 3", told)
+        self.assertIn("rabit-tool: 2 questions have no verdict: numbers 2, 3\n", told)
         # what could not be read is asked again
         self.write("none.ba", "0\nb,0->0\n")
         self.assertEqual(self.run_many(path, "--out", out, "--resume")[0], 1)
@@ -137,7 +138,7 @@ class Many(Case):
             [row[c] for c in ("verdict", "check", "second check")], ["included by simulation", "accepted", "accepted"]
         )
         shutil.rmtree(self.folder / "list.results")
-        slow = self.write("slow", f"#!/bin/sh\n[ $2 = --look ] && sleep 50\nexec {program()} \"$@\"\n")
+        slow = self.write("slow", f"#!/bin/sh\n[ $2 = --look ] && [ -e first ] && sleep 50\nexec {program()} \"$@\"\n")
         slow.chmod(slow.stat().st_mode | stat.S_IXUSR)
         status, _ = self.run_many(
             path, "--command", "include --look 6 --limit 3 --finite", "--timeout", "0.5", "--program", slow
@@ -156,9 +157,43 @@ class Many(Case):
         status, told = self.run_many(
             self.write("list", f"{one} {two}\n"), "--program", path, "--second", "--out", self.folder / "out"
         )
-        self.assertEqual((status, "a check refused the certificate of 1: 1" in told), (1, True), told)
+        self.assertEqual((status, "1 question has a certificate that a check refused: number 1\n" in told), (1, True), told)
         row = self.rows(self.folder / "out")[1]
         self.assertEqual((row["check"], row["second check"]), ("refused: not included",) * 2)
+
+    def test_a_program_without_verdicts(self):
+        one, out = self.write("1.ba", "0\na,0->0\n"), self.folder / "out"
+        path = self.write("list", f"{one} {one}\n")
+        for name, said in (("false", "error: status 1 without a verdict"), ("true", "error: status 0 without a verdict")):
+            status, told = self.run_many(path, "--program", shutil.which(name), "--out", out)
+            self.assertEqual((status, self.rows(out)[1]["verdict"]), (1, said), told)
+            self.assertIn("1 question has no verdict: number 1\n", told)
+            shutil.rmtree(out)
+        path_of = self.write("wordy", "#!/bin/sh\necho not included; exit 0\n")
+        path_of.chmod(0o755)
+        self.assertEqual(self.run_many(path, "--program", path_of, "--out", out)[0], 1)
+        self.assertEqual(self.rows(out)[1]["verdict"], "error: status 0 without a verdict: not included")
+        shutil.rmtree(out)
+        path_of.write_text("#!/bin/sh\necho included; exit 0\n")
+        status, told = self.run_many(path, "--program", path_of, "--out", out)
+        self.assertEqual((status, self.rows(out)[1]["check"]), (1, "refused: no certificate"), told)
+
+    def test_words_that_the_program_refuses(self):
+        one, out = self.write("1.ba", "0\na,0->0\n"), self.folder / "out"
+        path = self.write("list", f"{one} {one}\n")
+        for words in ("include --look 9", "cross --limit 3", "solve"):
+            status, told = self.run_many(path, "--command", words, "--out", out)
+            self.assertEqual((status, told.count("\n"), (out / "table.tsv").exists()), (3, 1, False), told)
+            self.assertIn(f"does not take the words {words}\n", told)
+
+    def test_what_parallel_says_is_said_once(self):
+        kept, sys.stderr = sys.stderr, Output()
+        try:
+            batch.tell_once([b"ssh: no host\n", b"\n", b"ssh: no host\n", b"other\n"])
+            told = sys.stderr.text()
+        finally:
+            sys.stderr = kept
+        self.assertEqual(told, "rabit-tool: ssh: no host\nrabit-tool: other\n")
 
     def test_a_host_without_the_program(self):
         one = self.write("1.ba", "0\na,0->0\n")
@@ -259,6 +294,7 @@ class Refusals(Case):
         for words in commands + numbers:
             self.assertEqual(call("many", path, "--out", self.folder / "o", *words)[0], 3, words)
             self.assertFalse((self.folder / "o").exists())
+        self.assertEqual(call("many", path, "--jobs", "0")[2].count("rabit-tool: --jobs, "), 1)
         self.assertEqual(call("many")[0], 3)
         self.assertEqual(call("many", self.folder / "none")[0], 6)
         self.assertEqual(call("many", path, "--hosts", self.write("hosts", "\n"))[0], 6)
@@ -268,6 +304,17 @@ class Refusals(Case):
             status, _, errors = call("many", self.write("list", text))
             self.assertEqual((status, re.search(r"line (\d+)", errors).group(1)), (4, str(line)), text)
         self.assertEqual(call("many", self.write("list", "# nothing\n"))[0], 4)
+
+    def test_the_progress_line_ends_in_something(self):
+        run = batch.Batch.__new__(batch.Batch)
+        run.told, run.begun, run.answered, run.left, run.counts = 0.0, time.monotonic(), set(), [1, 2], {}
+        kept, sys.stderr = sys.stderr, Output()
+        try:
+            run.tell(last=True)
+            told = sys.stderr.text()
+        finally:
+            sys.stderr = kept
+        self.assertEqual(told, "0 of 2 in 0 s (0.0 a second): no answer\n")
 
     def test_lines_that_are_no_answers(self):
         whole = b'{"number": 1, "host": "h"}'
@@ -284,6 +331,7 @@ class Refusals(Case):
             (out / name).write_text(text)
             self.assertEqual(call("many", path, "--out", out, "--resume", "--program", program())[0], 4, text)
             self.assertEqual(call("report", out)[0], 4)
+        self.assertIn("no folder that `many` left", call("report", self.folder)[2])
         (out / "questions.json").unlink()
         (out / "certificates").write_text("")
         self.assertEqual(call("many", path, "--out", out, "--program", program())[0], 7)

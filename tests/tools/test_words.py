@@ -26,6 +26,13 @@ class Words(Case):
             status, _, errors = call(name, "--such")
             self.assertEqual((status, errors.startswith(f"usage: rabit-tool {name}")), (3, True))
 
+    def test_help_of_a_command_and_the_version(self):
+        for name in main.COMMANDS:
+            self.assertEqual(call("help", name), (0, call(name, "--help")[1], ""))
+        version = (TOP / "VERSION").read_text().strip()
+        self.assertEqual(call("--version"), (0, f"rabit-tool {version}\n", ""))
+        self.assertIn("A B CERT", " ".join(call("explain", "--help")[1].split("\n")[0:1]))
+
     def test_man_page_names_each_option(self):
         page = (TOP / "docs" / "rabit-tool.1").read_text().replace("\\-", "-")
         synopsis = page[page.index(".SH SYNOPSIS") : page.index(".SH DESCRIPTION")]
@@ -51,14 +58,15 @@ class Words(Case):
             )
             return set(done.stdout.split())
 
-        self.assertEqual(completed("rabit-tool ''", 1), set(main.COMMANDS))
+        self.assertEqual(completed("rabit-tool ''", 1), {*main.COMMANDS, "help", "--version"})
+        self.assertEqual(completed("rabit-tool help ''", 2), set(main.COMMANDS))
         for name in main.COMMANDS:
             self.assertEqual(
                 completed(f"rabit-tool {name} --", 2), {word for word in options(name) if word.startswith("--")}, name
             )
         self.write("a.ba", "")
         self.assertEqual(completed("rabit-tool draw a", 2), {"a.ba"})
-        self.assertEqual(completed("rabit-tool many --command ''", 3), {"include", "cross", "solve"})
+        self.assertEqual(completed("rabit-tool many --command ''", 3), {"include", "cross"})
 
     @needs("man", "man-db")
     def test_man_page_is_one(self):

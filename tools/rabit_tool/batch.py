@@ -16,6 +16,7 @@ from . import worker
 from .files import MISSING, Refusal, read_file, replace_file
 from .program import ready_program
 from .results import sizes_of
+from .verdicts import SAID, has_certificate, is_verdict
 
 # by command: the one that checks what it wrote, and the option of the second checker
 CHECKS = {"include": ("check", []), "cross": ("cross-check", ["--cross"]), "solve": ("verify", ["--proof"])}
@@ -119,14 +120,19 @@ class Batch:
         if "status" not in found:
             row["verdict"] = ("" if found.get("late") else "error: ") + found["error"]
             return row
-        row.update(
-            status=found["status"], seconds=found["seconds"], verdict=found["printed"] or f"status {found['status']}"
-        )
+        status, printed = found["status"], found["printed"]
+        if status in SAID[self.words[0]] and not is_verdict(self.words, status, printed):
+            # (a program that is none of ours may end with these statuses too)
+            row["verdict"] = f"error: status {status} without a verdict" + (f": {printed}" if printed else "")
+            return row
+        row.update(status=status, seconds=found["seconds"], verdict=printed or f"status {status}")
+        if found["certificate"] is None and has_certificate(status):
+            row["check"] = "refused: no certificate"
         if found["certificate"] is not None:
             data = worker.unpacked(found["certificate"])
             replace_file(self.results.certificate(number), data)
             row.update(sizes_of(data))
-            wanted = [found["status"], found["printed"]]
+            wanted = [status, printed]
             for column, key in (("check", "check"), ("second check", "second")):
                 if found[key] is not None:
                     row[column] = "accepted" if found[key] == wanted else f"refused: {found[key][1] or found[key][0]}"
@@ -139,11 +145,14 @@ class Batch:
             self.parallel_words(),
             stdin=subprocess.PIPE,
             stdout=subprocess.PIPE,
+            stderr=subprocess.PIPE,
             start_new_session=True,
             env=plain_environment(),
         )
         feeder, numbers = threading.Thread(target=self.feed, daemon=True), set(self.left)
+        listener = threading.Thread(target=tell_once, args=[self.process.stderr], daemon=True)
         feeder.start()
+        listener.start()
         try:
             for line in self.process.stdout:
                 found = answer_of(line)
@@ -151,6 +160,7 @@ class Batch:
                     self.take(found)
             self.process.wait()
             feeder.join()
+            listener.join(1)
         finally:
             stop(self.process)
         self.tell(last=True)
@@ -168,7 +178,7 @@ class Batch:
             f"{count} {verdict}" for verdict, count in sorted(self.counts.items(), key=lambda kind: -kind[1])[:5]
         )
         ahead = f"; {rest / rate:.0f} s left" if rate and rest else ""
-        line = f"{answered} of {len(self.left)} in {seconds:.0f} s ({rate:.1f} a second{ahead}): {kinds}"
+        line = f"{answered} of {len(self.left)} in {seconds:.0f} s ({rate:.1f} a second{ahead}): {kinds or 'no answer'}"
         print(
             f"\r\033[K{line}" if is_terminal else line,
             file=sys.stderr,
@@ -184,6 +194,16 @@ def answer_of(line):
     except ValueError:
         return None
     return found if isinstance(found, dict) and {"number", "host"} <= set(found) else None
+
+
+def tell_once(errors):
+    """Passes on what parallel and the logins say, each line once, however often a host is tried."""
+    told = set()
+    for line in errors:
+        text = line.decode("utf-8", "replace").strip()
+        if text and text not in told:
+            told.add(text)
+            print(f"rabit-tool: {text}", file=sys.stderr, flush=True)
 
 
 def plain_environment():

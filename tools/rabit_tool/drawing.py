@@ -14,7 +14,7 @@ PREFIX, LOOP, BOTH = "#c2410c", "#1d4ed8", "#c2410c:#1d4ed8"
 LABELS, ROWS, STATES, SECONDS = 6, 24, 150, 60
 GRAPH = [
     "digraph automaton {",
-    '  rankdir=LR; bgcolor="white"; pad=0.2; fontname="Helvetica,Arial,sans-serif"; fontsize=12;',
+    '  rankdir=%s; bgcolor="white"; pad=0.2; fontname="Helvetica,Arial,sans-serif"; fontsize=12;',
     '  node [shape=circle, fontname="Helvetica,Arial,sans-serif", fontsize=12, margin=0.06];',
     '  edge [fontname="Helvetica,Arial,sans-serif", fontsize=11, arrowsize=0.7, color="#4b5563"];',
 ]
@@ -61,25 +61,28 @@ def state_line(automaton, state):
     return f"  s{state} [" + ", ".join([f"label={quoted(shown)}", *style]) + "];"
 
 
-def dot(automaton, run=None, caption=None, table=None, most=STATES):
+def dot(automaton, run=None, caption=None, table=None, most=STATES, prefix=None):
     """The automaton as a text for graphviz: an arrow to the initial state, accepting states with two lines.
 
-    A run has its way to the cycle in one colour and its cycle in another; above `most` states only those on it are
-    drawn. `caption` is a list of lines below, `table` a list of rows of texts beside it, the first of them the
-    head."""
-    on_run = {(move, colour) for move, colour in coloured(run)} if run else set()
-    colours = dict(on_run)
+    A run has its first moves, as many as `prefix` says, in one colour, and those on the loop in another; without the
+    number all are of the first colour. Above `most` states only those on it are drawn. `caption` is a list of lines
+    below, `table` a list of rows of texts beside it, the first of them the head."""
+    colours = coloured(run, prefix) if run else {}
     states = drawn_states(automaton, run, most)
-    lines = [*GRAPH, '  start [shape=point, style=invis, width=0]; ', f"  start -> s{automaton.initial};"]
+    lines = [*head_lines(automaton, states), f"  start -> s{automaton.initial};"]
     lines += [state_line(automaton, state) for state in states]
     groups, kept, propositions = {}, set(states), propositions_of(automaton.labels)
     for move in automaton.transitions:
         if move[0] in kept and move[2] in kept:
             groups.setdefault((move[0], move[2], colours.get(move)), []).append(automaton.labels[move[1]])
+    loops = {source: {} for source, target, _ in groups if source == target}
     for (source, target, colour), labels in groups.items():
-        style = f', color="{colour}", fontcolor="{colour.split(":")[0]}", penwidth=2' if colour else ""
-        shown = line_text(labels_text(labels, None if colour else propositions))
-        lines.append(f"  s{source} -> s{target} [label={shown}{style}];")
+        text = labels_text(labels, None if colour else propositions)
+        if source == target:
+            loops[source][colour] = text
+        else:
+            lines.append(f"  s{source} -> s{target} [label={line_text(text)}{style_text(colour)}];")
+    lines += [loop_line(state, texts) for state, texts in loops.items()]
     notes = list(caption or [])
     if len(states) < len(automaton.names):
         notes.append(markup(f"drawn: {len(states)} of {counted(len(automaton.names), 'state')}"))
@@ -90,6 +93,34 @@ def dot(automaton, run=None, caption=None, table=None, most=STATES):
     return "\n".join([*lines, "}", ""])
 
 
+def head_lines(automaton, states):
+    """The lines that begin a drawing of these states. Long names side by side would make a picture that no screen has
+    the width for, so then it goes downwards."""
+    is_wide = len(states) > 8 and max(len(automaton.names[state]) for state in states) > 12
+    start = "  start [shape=point, style=invis, width=0]; "
+    return [GRAPH[0], GRAPH[1] % ("TB" if is_wide else "LR"), *GRAPH[2:], start]
+
+
+def style_text(colour):
+    """The style of an arrow that a run takes, in this colour, or of none."""
+    return f', color="{colour}", fontcolor="{colour.split(":")[0]}", penwidth=2' if colour else ""
+
+
+def loop_line(state, texts):
+    """The one arrow from the state to itself, of which the texts of the labels are given by colour: a second arrow
+    would run through the labels of the first."""
+    colours = dict.fromkeys(part for colour in texts if colour for part in colour.split(":"))
+    if len(texts) == 1:
+        return f"  s{state} -> s{state} [label={line_text(*texts.values())}{style_text(*texts)}];"
+    parts = sorted(texts.items(), key=lambda part: part[0] is None)
+    shown = [
+        f'<font color="{colour.split(":")[0]}">{markup(line)}</font>' if colour else markup(line)
+        for colour, text in parts
+        for line in text.split("\n")
+    ]
+    return f"  s{state} -> s{state} [label=<{'<br/>'.join(shown)}>, color=\"{':'.join(colours)}\", penwidth=2];"
+
+
 def drawn_states(automaton, run, most):
     """All states, or where they are more than `most` those of the run."""
     if len(automaton.names) <= most or not run:
@@ -98,12 +129,11 @@ def drawn_states(automaton, run, most):
     return sorted({automaton.initial, *(p for p, _, _ in moves), *(q for _, _, q in moves)})
 
 
-def coloured(run):
-    """Each transition of the run with its colour."""
-    stem, cycle = set(run.stem), set(run.cycle)
-    return [
-        (move, BOTH if move in stem and move in cycle else LOOP if move in cycle else PREFIX) for move in stem | cycle
-    ]
+def coloured(run, prefix=None):
+    """By transition of the run its colour: the first moves are the prefix's, the others the loop's, some are both's."""
+    moves = run.stem + run.cycle
+    early, late = (set(moves), set()) if prefix is None else (set(moves[:prefix]), set(moves[prefix:]))
+    return {move: BOTH if move in early & late else LOOP if move in late else PREFIX for move in early | late}
 
 
 def table_text(rows):
@@ -151,7 +181,10 @@ def with_run(automaton, found, name, most):
         f'<font color="{colour}"><b>{part}:</b>&#160;{markup(word_text(automaton, found[part]))}</font>'
         for part, colour in parts
     ]
-    return dot(automaton, run, caption, most=most)
+    prefix = len(words[0]) if "loop" in found else None
+    if BOTH in coloured(run, prefix).values():
+        caption.append("a move of both has both colours, its label that of the prefix")
+    return dot(automaton, run, caption, most=most, prefix=prefix)
 
 
 def cross_table(automaton, found):

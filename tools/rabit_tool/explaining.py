@@ -191,10 +191,27 @@ def no_text(told):
             f"  prefix {','.join(told['prefix']) or '(empty)'}",
             f"  loop   {','.join(told['loop'])}",
         ]
-        lines += ["its run, first the way to the cycle", *move_lines(run["stem"])]
-        lines += ["and then without end", *move_lines(run["cycle"])]
+        lines += run_lines(run, len(told["prefix"]), len(told["loop"]))
         lines.append(f"  which passes {', '.join(run['accepting'])}: accepting")
     return [*lines, "", *rejected_text(told)]
+
+
+def run_lines(run, prefix, loop):
+    """The lines of a run on a lasso of so many letters: on the prefix, turn by turn of the loop up to its cycle, and its
+    cycle."""
+    stem = run["stem"]
+    lines = ["its run, on the prefix", *move_lines(stem[:prefix])]
+    for turn, at in enumerate(range(prefix, len(stem), loop), 1):
+        lines += [f"in the loop's {ordinal(turn)} turn", *move_lines(stem[at : min(at + loop, len(stem))])]
+    turn, inside = (len(stem) - prefix) // loop + 1, (len(stem) - prefix) % loop
+    lines.append(f"and then without end, from {'within ' if inside else ''}the loop's {ordinal(turn)} turn on")
+    return lines + move_lines(run["cycle"])
+
+
+def ordinal(number):
+    """The number as a place in a row: 1st, 2nd, 11th."""
+    ending = "th" if number // 10 % 10 == 1 else {1: "st", 2: "nd", 3: "rd"}.get(number % 10, "th")
+    return f"{number}{ending}"
 
 
 def move_lines(moves):
@@ -257,16 +274,16 @@ def change_text(step):
 
 def add_words(parser):
     """Adds the command's words to its parser."""
-    parser.add_argument(
-        "files", metavar="FILE", nargs=3, help="A, B and CERT: two automata and a certificate or a cross file"
-    )
+    parser.add_argument("first", metavar="A", help="an automaton, .ba")
+    parser.add_argument("second", metavar="B", help="another one")
+    parser.add_argument("certificate", metavar="CERT", help="a certificate or a cross file about both")
     parser.add_argument("--json", action="store_true", help="the same as data")
     parser.add_argument("--program", metavar="RABIT", help="the program that checks the certificate first")
 
 
 def run(args):
     """The command; its status is 0. Refused with status 4, 5, 6 or 9."""
-    told = explain(args.files, find_program(args.program))
+    told = explain([args.first, args.second, args.certificate], find_program(args.program))
     text = json.dumps(told, indent=2) if args.json else "\n".join(text_of(told))
     write_file(None, encoded(text + "\n"))
     return 0

@@ -39,6 +39,13 @@ def read_file(name, most=AUTOMATON_BYTES):
     return data
 
 
+def read_input(most=AUTOMATON_BYTES):
+    """The bytes of the standard input; refused as by `read_file`."""
+    if sys.stdin is None:  # it was closed before the start
+        raise Refusal("-: Bad file descriptor", READ)
+    return read_file(sys.stdin.fileno(), most)
+
+
 def write_file(name, data, sources=()):
     """Writes the bytes into the file, whole or not at all, or to standard output where the name is None.
 

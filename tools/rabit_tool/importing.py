@@ -4,7 +4,7 @@ import sys
 
 from . import gff, hoa, lbt, never
 from .automata import read_ba, write_ba
-from .files import TEXT, Refusal, decoded, read_file, write_file
+from .files import TEXT, Refusal, decoded, read_file, read_input, write_file
 from .general import over_labels, over_more, to_ba
 from .letters import refused
 
@@ -39,9 +39,19 @@ def read_any(data):
     """The automaton of the bytes, a General, in whatever format they are. Refused with status 4 by line and name."""
     text = without_mark(decoded(data))
     kind = format_of(text)
+    if kind not in READERS and is_ba(data):
+        raise refused(1, "Format", "this is .ba already, which the commands read as it is")
     if kind not in READERS:
         raise refused(1, "Format", "neither HOA nor a never claim nor LBT's format nor GOAL's")
     return READERS[kind](text)
+
+
+def is_ba(data):
+    """Whether the bytes are a text in `.ba` with a transition."""
+    try:
+        return bool(read_ba(data).transitions)
+    except Refusal:
+        return False
 
 
 def load_ba(name):
@@ -67,7 +77,9 @@ def imported(data, propositions=(), complete=False, labels=None):
 
 def add_words(parser):
     """Adds the command's words to its parser."""
-    parser.add_argument("file", metavar="FILE", help="an automaton: HOA, a never claim, LBT's format or GOAL's")
+    parser.add_argument(
+        "file", metavar="FILE", help="an automaton: HOA, a never claim, LBT's format or GOAL's; - is the standard input"
+    )
     parser.add_argument("-o", "--output", metavar="OUT.ba", help="where the .ba text goes")
     parser.add_argument(
         "--ap", metavar="NAMES", default="", help="propositions, joined by commas, that the letters tell of too"
@@ -82,7 +94,7 @@ def add_words(parser):
 
 def run(args):
     """The command; its status is 0. Refused with status 4, 6 or 7."""
-    data = read_file(args.file)
+    data = read_input() if args.file == "-" else read_file(args.file)
     names = [name.strip() for name in args.ap.split(",") if name.strip()]
     labels = load_ba(args.labels_of).labels if args.labels_of else None
     try:

@@ -9,11 +9,11 @@ from .importing import format_of
 from .names import near
 from .program import ask, find_built, find_program
 
-SECONDS, SHOWN, ONCE, SECOND, FIRST = 10, 5, 50, 512, 2048
+SECONDS, SHOWN, ONCE, SECOND, FIRST, LABELS, TRANSITIONS = 10, 5, 50, 512, 2048, 256, 65536
 FAULTS = {
     "BadByte": "a control character",
     "EmptyToken": "a name or a label is missing",
-    "TokenLong": "a name or a label of more than 255 bytes",
+    "TokenLong": "TokenLong: a name or a label of more than 255 bytes",
 }
 
 
@@ -56,6 +56,12 @@ class Text:
                 self.states.append((at, decoded(line)))
                 self.early += not self.moves
 
+    def is_prose(self):
+        """Whether no line is meant as a transition, and half of them or more have blanks in them."""
+        spaced = [line for _, line in self.lines if b" " in line]
+        meant = any(b"," in line and b"->" in line for _, line in self.lines)
+        return not meant and len(spaced) > 1 and 2 * len(spaced) >= len(self.lines)
+
     def uses(self):
         """How many times each state is named."""
         found = {}
@@ -71,10 +77,13 @@ def warnings(data):
         found.append((1, "a byte order mark, which becomes part of the first name"))
     kind = other_format(data)
     if kind:
-        found.append((1, f"this looks like {kind}, which is not read"))
+        hinted = "; `rabit-tool import` makes .ba of it" if kind in FORMATS.values() else ""
+        found.append((1, f"this looks like {kind}, which is not read{hinted}"))
     if not text.lines:
         return [*found, (0, "no line at all")]
-    found += text.faults
+    if text.is_prose():
+        return [*found, (0, "this is no automaton: no line is label,source->target")]
+    found += text.faults + limits(text)
     if text.moves and text.early > 1:
         told_of = f"{text.early} state lines before the first transition, and one at most names the initial state"
         found.append((text.moves[0][0], told_of))
@@ -88,6 +97,19 @@ def warnings(data):
     if text.faults or text.early > 1:
         return found
     return found + nothing(read_ba(data), text)
+
+
+def limits(text):
+    """The warnings of what the program refuses in any file since it is too large, by its names."""
+    counts = (
+        ("TooManyStates", len(text.uses()), FIRST, f"states: a first file may have {FIRST}, a second one {SECOND}"),
+        ("TooManyLabels", len({label for _, label, *_ in text.moves}), LABELS, f"labels: a file may have {LABELS}"),
+        (
+            "TooManyTransitions", len({tuple(move) for _, *move in text.moves}), TRANSITIONS,
+            f"transitions: a file may have {TRANSITIONS}",
+        ),
+    )  # fmt: skip
+    return [(0, f"{name}: {count} {what}") for name, count, most, what in counts if count > most]
 
 
 def hint(name, others):
@@ -132,11 +154,14 @@ def notes(data, program=None):
         found.append((0, f"never reached: {told(missed)}"))
     if accepts_all(automaton, data, program):
         found.append((0, "it accepts each lasso over its labels"))
-    if len(automaton.names) > SECOND:
-        most = f"{SECOND} states" if len(automaton.names) <= FIRST else f"{FIRST} states, and a second one {SECOND}"
-        where = "second" if len(automaton.names) <= FIRST else "first"
-        found.append((0, f"{len(automaton.names)} states: a {where} file may have {most}"))
+    if SECOND < len(automaton.names) <= FIRST:
+        found.append((0, second_limit(text)))
     return found
+
+
+def second_limit(text):
+    """What is told of a text that has too many states for a second file."""
+    return f"TooManyStates as a second file: {len(text.uses())} states, and it may have {SECOND}"
 
 
 def twice(lines, what):
@@ -191,9 +216,11 @@ def lint(names, program=None):
             continue
         texts.append(Text(data))
         warned = warnings(data)
+        if len(names) == len(texts) == 2 and SECOND < len(texts[1].uses()) <= FIRST:
+            warned.append((0, second_limit(texts[1])))
         status = 1 if warned else status
         lines += [f"{name}:{line}: {text}" if line else f"{name}: {text}" for line, text in warned]
-        noted = notes(data, None if warned else program)
+        noted = [note for note in notes(data, None if warned else program) if note not in warned]
         lines += [f"{name}:{line}: note: {text}" if line else f"{name}: note: {text}" for line, text in noted]
     if len(names) == len(texts) == 2:
         lines += [f"{name}: note: {text}" for name, text in labels_apart(names, texts)]

@@ -1,6 +1,7 @@
 """The words of the command line."""
 import argparse
 import importlib
+import pathlib
 import sys
 
 from .files import USAGE, WRITE, Refusal, encoded
@@ -31,9 +32,19 @@ def parser_of(name):
     return parser, module
 
 
+def version():
+    """The line that tells the version: that of the program beside which the tool was made."""
+    here = pathlib.Path(__file__).resolve().parent.parent
+    for path in (here.parent / "VERSION", here / "VERSION", here.parent.parent / "lib" / "rabit" / "VERSION"):
+        if path.is_file():
+            return "rabit-tool " + path.read_text(encoding="utf-8").strip()
+    return "rabit-tool (of no version that is told)"
+
+
 def usage():
     """The text that names the commands."""
     lines = [f"  {name:8} {COMMANDS[name][1]}" for name in COMMANDS]
+    lines += ["  help     this, or with a command's name its words", "  --version"]
     return "\n".join(["usage: rabit-tool COMMAND ..  (--help after a command tells its words)", *lines])
 
 
@@ -55,6 +66,10 @@ def say(text, file):
 def main(words):
     """Carries out the command and gives its status; what is refused is told on standard error."""
     try:
+        if words == ["--version"]:
+            return 0 if say(version(), sys.stdout) else WRITE
+        if len(words) == 2 and words[0] == "help" and words[1] in COMMANDS:
+            return 0 if say(parser_of(words[1])[0].format_help().rstrip("\n"), sys.stdout) else WRITE
         if not words or words[0] not in COMMANDS:
             is_help = words[:1] in (["--help"], ["-h"], ["help"])
             is_said = say(usage(), sys.stdout if is_help else sys.stderr)
@@ -62,7 +77,7 @@ def main(words):
         parser, module = parser_of(words[0])
         return module.run(parser.parse_args(words[1:]))
     except Refusal as refusal:
-        say(refusal.text if refusal.status == USAGE else f"rabit-tool: {refusal.text}", sys.stderr)
+        say(refusal.text if refusal.text.startswith("usage: ") else f"rabit-tool: {refusal.text}", sys.stderr)
         return refusal.status
     except MemoryError:
         say("rabit-tool: out of memory", sys.stderr)

@@ -8,7 +8,10 @@ import sys
 
 from .batch import CHECKS, STOPPING, Batch
 from .files import READ, USAGE, WRITE, Refusal, read_file
+from .nouns import counted
+from .program import ready_program
 from .results import Results, read_list
+from .verdicts import test_words
 
 
 def command_words(text):
@@ -18,7 +21,7 @@ def command_words(text):
     except ValueError as error:
         raise Refusal(f"--command: {error}", USAGE) from None
     if not words or words[0] not in CHECKS:
-        raise Refusal(f"--command: one of {', '.join(CHECKS)} is due, with options", USAGE)
+        raise Refusal("--command: include or cross is due, with options, or solve where the program has it", USAGE)
     for before, word in zip(words, words[1:]):
         is_number = before in ("--look", "--limit", "--letters") and word.isdigit()
         if not is_number and not re.fullmatch(r"--(finite|progress|(look|limit|letters)(=[0-9]+)?)", word):
@@ -52,7 +55,7 @@ def add_words(parser):
     parser.add_argument("--ssh", metavar="COMMAND", help="what is called in place of ssh")
     parser.add_argument("--out", metavar="DIR", help="where the results go (LIST.results)")
     parser.add_argument(
-        "--command", default="include", metavar="WORDS", help="'include --look 6' and the like, cross or solve"
+        "--command", default="include", metavar="WORDS", help="'include --look 6' and the like, or cross"
     )
     parser.add_argument("--second", action="store_true", help="each certificate is checked by check_cert.py too")
     parser.add_argument("--timeout", type=float, metavar="SECONDS", help="how long a question may take")
@@ -81,13 +84,14 @@ def run(args):
             signal.signal(number, signal.default_int_handler)
     try:
         with locked(results.folder):
+            test_words(ready_program(args.program, wrapped=words[0] == "solve"), words)
             results.begin(task, args.resume)
             batch = Batch(args, words, questions, results)
             if batch.left:
                 batch.run()
     except KeyboardInterrupt:
         left = len(results.left(len(questions)))
-        print(f"stopped; --resume goes on with the {left} that are left", file=sys.stderr)
+        print(f"rabit-tool: stopped; --resume goes on with the {left} that are left", file=sys.stderr)
         return 130
     except OSError as error:
         raise Refusal(f"{results.folder}: {error.strerror}", WRITE) from None
@@ -98,11 +102,14 @@ def told_end(results, count):
     """Tells what is left or was refused, and gives the status."""
     rows = sorted(results.rows.items())
     told = {
-        "a check refused the certificate of": [n for n, row in rows if "refused" in row["check"] + row["second check"]],
-        "no verdict:": [number for number, row in rows if row["status"] not in ("0", "1", "2", "10")],
-        "no answer:": [number for number in range(1, count + 1) if number not in results.rows],
+        "a certificate that a check refused": [n for n, row in rows if "refused" in row["check"] + row["second check"]],
+        "no verdict": [number for number, row in rows if row["status"] not in ("0", "1", "2", "10")],
+        "no answer": [number for number in range(1, count + 1) if number not in results.rows],
     }
     for what, numbers in told.items():
         if numbers:
-            print(f"{what} {len(numbers)}: {' '.join(map(str, numbers[:20]))}", file=sys.stderr)
+            have, which = ("has", "number") if len(numbers) == 1 else ("have", "numbers")
+            shown = ", ".join(map(str, numbers[:20])) + (" and more" if len(numbers) > 20 else "")
+            asked = counted(len(numbers), "question")
+            print(f"rabit-tool: {asked} {have} {what}: {which} {shown}", file=sys.stderr)
     return 1 if any(told.values()) else 0

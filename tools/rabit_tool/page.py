@@ -57,7 +57,7 @@ document.querySelectorAll('input[data-kind]').forEach(box => box.addEventListene
 """
 
 COUNTEREXAMPLES = """<h2>Counterexamples</h2>
-<p class="soft">{} of them; of the run the way to its cycle is drawn in orange, its cycle in blue.</p>"""
+<p class="soft">{} of them; of the run the moves on the prefix are drawn in orange, those on the loop in blue.</p>"""
 KINDS = {
     "yes": "included",
     "no": "not included",

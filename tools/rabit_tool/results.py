@@ -53,7 +53,11 @@ class Results:
                 raise Refusal(
                     f"{self.folder} has results: --resume goes on with them, --out names another folder", USAGE
                 )
-            if self.task() != task:
+            was = self.task()
+            if was["second"] != task["second"]:
+                begun = "with --second" if was["second"] else "without --second"
+                raise Refusal(f"{self.folder} was begun {begun}; --resume goes on in the same way", USAGE)
+            if was != task:
                 raise Refusal(f"{self.folder} is of another list, another command, or begun in another folder", USAGE)
             self.mend()
         else:
@@ -110,6 +114,8 @@ def loaded(folder):
     results = Results(folder)
     if not os.path.isdir(folder):
         raise Refusal(f"{folder}: no folder", READ)
+    if not os.path.exists(results.path(QUESTIONS)):
+        raise Refusal(f"{folder}: no folder that `many` left, since {QUESTIONS} is not there", READ)
     task = results.task()
     results.load()
     return results, task
