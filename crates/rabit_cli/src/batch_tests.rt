@@ -45,6 +45,26 @@ fn a_question_ends_no_batch_and_a_refused_line_does(rt: HostRuntime) -> Result<(
     Ok(())
 }
 
+#[test]
+fn lists_of_no_questions_and_of_names_without_files(rt: HostRuntime) -> Result<(), Fail> {
+    let alloc = rt.alloc();
+    let rows = [
+        ("", 0, ""),
+        ("A A\n", 11, "list line 1\n"),
+        ("A X D\n", 0, "1 6\n"),
+        ("A A C\nA X D\n", 0, "1 0\n2 6\n"),
+    ];
+    for (list, status, printed) in rows {
+        let files = [("A", ONE_A), ("D", OLDER), ("L", list)];
+        let told = (status, printed);
+        assert!(rt;
+            leaves(alloc, &files, &[], &BATCH, &[], told, &[("D", OLDER)])?,
+            "{list:?}"
+        );
+    }
+    Ok(())
+}
+
 /// Whether the batch ends with status 7 and just this text where the sink refuses this call, and the shelf has then still to begin `A` before
 /// the call that it refuses.
 fn stops(

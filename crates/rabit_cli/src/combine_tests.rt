@@ -1,7 +1,7 @@
 //! The union and the intersection of two automata in files in memory: what they print, and what they leave.
 
 use crate::fault_tests::many_lines;
-use crate::tests::{ONLY_B, answers, unanswered};
+use crate::tests::{ONLY_B, USAGE, answers, unanswered};
 use auto_core::Memory;
 use std::alloc::Global;
 use std::test::Fail;
@@ -56,13 +56,24 @@ fn too_large_results_are_told(rt: HostRuntime) -> Result<(), Fail> {
 }
 
 #[test]
-fn failing_calls_of_a_union_are_told(rt: HostRuntime) -> Result<(), Fail> {
+fn other_words_and_failing_calls_are_told(rt: HostRuntime) -> Result<(), Fail> {
     let alloc = rt.alloc();
     let files = [("A", ONE_A), ("B", ONLY_B)];
     let wrong = unanswered(
         alloc,
         &files,
         &[
+            (&["union", "A"], &[], &[], 3, USAGE),
+            (&["intersect", "A", "B", "A"], &[], &[], 3, USAGE),
+            (&["union", "A", "B", "--look", "2"], &[], &[], 3, USAGE),
+            (
+                &["intersect", "A", "B", "--finite", "--finite"],
+                &[],
+                &[],
+                3,
+                USAGE,
+            ),
+            (&["union", "A", "X"], &[], &[], 6, "read fault\n"),
             (&["union", "A", "B"], &[4], &[], 6, "read fault\n"),
             (&["union", "A", "B"], &[], &[0], 7, ""),
         ],

@@ -53,12 +53,16 @@ fn a_search_for_a_relation_leaves_it_or_nothing(rt: HostRuntime) -> Result<(), F
 }
 
 #[test]
-fn a_failing_read_of_a_relation_is_told(rt: HostRuntime) -> Result<(), Fail> {
+fn a_check_of_a_relation_tells_its_faults(rt: HostRuntime) -> Result<(), Fail> {
     let alloc = rt.alloc();
+    let no_pair = "rabit-cross 1\nsizes 1 1 2\nlook 3\nrel 0\nend\n";
     // each file is read in three calls, the relation last
     let rows = [
         (CROSS, &[][..], 0, RELATED),
         (CROSS, &[8], 6, "read fault\n"),
+        (OLDER, &[], 5, "certificate line 1: Truncated\n"),
+        ("rabit-cross 2\n", &[], 5, "certificate line 1: Header\n"),
+        (no_pair, &[], 5, "certificate item 2: rule 19\n"),
     ];
     for (relation, fails, status, printed) in rows {
         let files = [("A", ONE_A), ("B", TWO_LETTERS), ("C", relation)];

@@ -49,12 +49,11 @@ fn shrinks(
     first: &str,
     second: &str,
     certificate: &str,
-    sink_fails: &[u64],
     printed: &str,
     left: &str,
 ) -> Result<(u8, bool, bool), Memory> {
     let files = [("A", first), ("B", second), ("C", certificate)];
-    shrinks_files(alloc, &files, &[], sink_fails, printed, left)
+    shrinks_files(alloc, &files, &[], &[], printed, left)
 }
 
 /// The same of files where these calls of the shelf and of the sink fail.
@@ -73,10 +72,22 @@ fn shrinks_files(
 }
 
 #[test]
-fn nothing_to_shrink_stays_so_where_the_line_is_refused(rt: HostRuntime) -> Result<(), Fail> {
+fn other_certificates_have_nothing_to_shrink(rt: HostRuntime) -> Result<(), Fail> {
     let alloc = rt.alloc();
-    let shrunk = shrinks(alloc, ONE_A, ONE_A, YES, &[0], "", "")?;
-    assert_eq!(rt; shrunk, (13, true, false));
+    let told = "nothing to shrink\n";
+    assert_eq!(rt;
+        shrinks(alloc, ONE_A, ONE_A, YES, told, "")?,
+        (13, true, false)
+    );
+    // a list; the status stays where the sink refuses the line
+    let decide = ["include", "A", "B", "C", "--limit", "1"];
+    let shrink = ["shrink", "A", "B", "C", "D"];
+    let asked: [(&[&str], &[u64], u8, &str); 3] = [
+        (&decide, &[], 2, "limit 1\n"),
+        (&shrink, &[], 13, told),
+        (&shrink, &[0], 13, ""),
+    ];
+    assert!(rt; says_in_turn(alloc, &[("A", PAIR), ("B", PAIR)], &asked, &[])?);
     Ok(())
 }
 

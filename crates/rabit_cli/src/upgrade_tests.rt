@@ -13,11 +13,27 @@ const YES_2: &str =
 const UPGRADE: [&str; 3] = ["upgrade", "C", "D"];
 
 #[test]
-fn failing_calls_of_an_upgrade_are_told(rt: HostRuntime) -> Result<(), Fail> {
+fn faulty_texts_and_failing_calls_are_told(rt: HostRuntime) -> Result<(), Fail> {
     let alloc = rt.alloc();
     // the file is read in three calls, and the put is the fourth
     let rows = [
-        (YES, &[2][..], &[][..], 6, "read fault\n", "older"),
+        (
+            "",
+            &[][..],
+            &[][..],
+            5,
+            "certificate line 1: Truncated\n",
+            "older",
+        ),
+        (
+            "rabit-cert 3 buchi yes\n",
+            &[],
+            &[],
+            5,
+            "certificate line 1: Header\n",
+            "older",
+        ),
+        (YES, &[2], &[], 6, "read fault\n", "older"),
         (YES, &[3], &[], 7, "write fault\n", "older"),
         (YES, &[], &[0], 7, "", YES_2),
         (YES, &[], &[1], 0, "upgraded\n", YES_2),
