@@ -31,17 +31,15 @@ _rabit() {
     --limit) mapfile -t COMPREPLY < <(compgen -W '1000 20000 100000' -- "$word") ;;
     --letters) mapfile -t COMPREPLY < <(compgen -W '1 2 3 4' -- "$word") ;;
     *)
-        case $word in
-        -*)
+        # (behind `--` all words are names)
+        if [[ $word == -* && " ${COMP_WORDS[*]:0:COMP_CWORD} " != *' -- '* ]]; then
             # what is left of `--finite] [--look K] [--limit N]` are the options' names
             options=${options//[][]/}
             mapfile -t COMPREPLY < <(compgen -W "${options// [A-Z]/}" -- "$word")
-            ;;
-        *)
+        else
             compopt -o filenames 2>/dev/null
             mapfile -t COMPREPLY < <(compgen -f -- "$word")
-            ;;
-        esac
+        fi
         ;;
     esac
 }
