@@ -1,18 +1,19 @@
 #!/usr/bin/env python3
 """A second checker of certificates of both versions and of cross files, in plain Python, written from docs/FORMATS.md alone.
 
-    tools/check_cert.py A B CERT
-    tools/check_cert.py --cross A B FILE
+    tools/check_cert.py [--patient] A B CERT
+    tools/check_cert.py [--patient] --cross A B FILE
 
-It prints what `rabit check A B CERT`, with the option what `rabit cross-check A B FILE`, prints and ends with the same
-status: 0 included, 1 not included, 2 a list, 4 a fault of an automaton's text, 5 a refused certificate or cross file, 6 a
-file that cannot be read. It shares no line with the program. It is not proved, it is not fast, and it takes what memory it
-needs: its use is that somebody who trusts neither the program nor its proofs can read it in an evening.
+It prints what `rabit check A B CERT`, with the option --cross what `rabit cross-check A B FILE`, prints and ends with the
+same status: 0 included, 1 not included, 2 a list, 4 a fault of an automaton's text, 5 a refused certificate or cross file,
+6 a file that cannot be read. It shares no line with the program. It is not proved, it is not fast, and it takes what memory
+it needs: its use is that somebody who trusts neither the program nor its proofs can read it in an evening.
 
-What is said of 64 KiB is said of three files, each of at most so many bytes. Where each is, most certificates take seconds.
-The exception that was met is a relation at lookahead 6 that keeps its rounds by long paths alone: by 70 to 200 states with
-four to fifteen labels, at random, all accepting, it took 25 seconds to more than a minute. Larger automata may take longer: 300
-states with 30 moves by each of seven labels (963 KB) and such a relation took seven seconds.
+Some files would keep it at work for hours: a relation at a large lookahead, say, that only long paths tell. So it counts the
+steps of its work, each of about a seventh of a microsecond: 14 million are free, which are a few seconds, and each byte past
+the first 64 KiB of a file adds 500. Where that is not enough it gives no verdict: it prints `not checked: more than N steps of
+work; --patient goes on` and ends with the status 15. With --patient nothing ends it. The count depends on the files alone, and
+on no clock.
 
 A set of states is a number: state q is in it where its bit q is 1. A block of pairs is a dictionary from a state to the set
 of those that it is related to.
@@ -24,8 +25,9 @@ from itertools import groupby
 
 STATES, LABELS, TRANSITIONS = {1: 2048, 2: 512}, 256, 65536
 AUTOMATON_BYTES, CERTIFICATE_BYTES = 1 << 24, 1 << 30
-# of a game: past how many different replies the paths are looked at from their ends, and about how many sets that may take
-FEW_REPLIES, MOST_SETS = 64, 50000
+# the steps of work that small files may take, and those that each byte of a file past so many adds
+FREE_STEPS, STEPS_PER_BYTE, SMALL_FILE = 14_000_000, 500, 1 << 16
+NOT_CHECKED = 15
 HEADERS = [
     f"rabit-cert {version} {mode} {form}".encode()
     for version in (1, 2)
@@ -41,6 +43,28 @@ class Refused(Exception):
     def __init__(self, text, status):
         super().__init__(text)
         self.text, self.status = text, status
+
+
+class Work:
+    """The steps of work that may be taken, and those that are left. Nothing is counted until some are allowed."""
+
+    def __init__(self):
+        self.allowed = self.left = float("inf")
+
+    def allow(self, steps):
+        self.allowed = self.left = steps
+
+    def allow_more(self, steps):
+        self.allowed, self.left = self.allowed + steps, self.left + steps
+
+    def spend(self, steps):
+        self.left -= steps
+        if self.left < 0:
+            raise Refused(f"not checked: more than {self.allowed} steps of work; --patient goes on", NOT_CHECKED)
+
+
+WORK = Work()
+spend = WORK.spend
 
 
 # ---------------------------------------------------------------- automata
@@ -64,10 +88,11 @@ def states_in(mask):
 
 
 class Steps:
-    """What one step leads to: `rows` are the sets that single states lead to, and `of` is what a set does."""
+    """What one step leads to: `rows` are the sets that single states lead to, and `of` is what a set does; `made` is the same
+    for sets that are asked of once. Each row has at most `bits` bits."""
 
-    def __init__(self, rows):
-        self.rows, self.found, self.eights = rows, {}, {}
+    def __init__(self, rows, bits=STATES[1]):
+        self.rows, self.bits, self.found, self.eights = rows, bits, {}, {}
 
     @cached_property
     def all(self):
@@ -77,26 +102,33 @@ class Steps:
     def of(self, mask):
         found = self.found.get(mask)
         if found is None:
-            found = self.found[mask] = self.by_eights(mask) if bin(mask).count("1") > 24 else self.by_states(mask)
+            found = self.found[mask] = self.made(mask)
+        spend(4)
         return found
 
+    def made(self, mask):
+        count = bin(mask).count("1")
+        many = count > min(24, mask.bit_length() // 8) and self.bits <= 1 << 13
+        return self.by_eights(mask) if many else self.by_states(mask)
+
     def by_states(self, mask):
-        found = 0
+        found = count = 0
         for state in states_in(mask):
             found |= self.rows.get(state, 0)
+            count += 1
+        spend(15 + count * (5 + self.bits // 4096))
         return found
 
     def by_eights(self, mask):
         """Eight states at a time, each eight of them once: sets are large, and there are many."""
-        found, every, eights = 0, self.all, self.eights
-        for place, byte in enumerate(mask.to_bytes(mask.bit_length() // 8 + 1, "little")):
+        found, eights, data = 0, self.eights, mask.to_bytes(mask.bit_length() // 8 + 1, "little")
+        spend(10 + 2 * len(data))
+        for place, byte in enumerate(data):
             if byte:
                 key = place << 8 | byte
                 if key not in eights:
                     eights[key] = self.by_states(byte << 8 * place)
                 found |= eights[key]
-                if found == every:
-                    break
         return found
 
 
@@ -107,12 +139,14 @@ class Automaton:
     """
 
     def __init__(self, states, initial, transitions, accepting):
+        spend(5 * len(transitions))
         self.states, self.initial, self.accepting = states, initial, accepting
         self.transitions = sorted(transitions)
         self.steps, self.arrived = {}, {}
 
     @cached_property
     def moves(self):
+        spend(self.states + 2 * len(self.transitions))
         moves = [[] for _ in range(self.states)]
         for source, label, target in self.transitions:
             moves[source].append((label, target))
@@ -120,6 +154,7 @@ class Automaton:
 
     @cached_property
     def back(self):
+        spend(self.states + 2 * len(self.transitions))
         back = [[] for _ in range(self.states)]
         for source, label, target in self.transitions:
             back[target].append((label, source))
@@ -127,6 +162,7 @@ class Automaton:
 
     @cached_property
     def by_label(self):
+        spend(2 * len(self.transitions))
         by_label = {}
         for source, label, target in self.transitions:
             by_label.setdefault(label, []).append((source, target))
@@ -135,6 +171,7 @@ class Automaton:
     @cached_property
     def useful(self):
         """By mode the useful states."""
+        spend(20 * self.states + 6 * len(self.transitions))
         to = Steps({state: set_of(target for _, target in moves) for state, moves in enumerate(self.moves)})
         reached = closed_under(to, 1 << self.initial)
         before = Steps({state: set_of(source for _, source in back) for state, back in enumerate(self.back)})
@@ -151,8 +188,9 @@ class Automaton:
 
     def steps_by(self, label, turned):
         if (label, turned) not in self.steps:
-            rows = {}
-            for source, target in self.by_label.get(label, ()):
+            rows, pairs = {}, self.by_label.get(label, ())
+            spend(10 + 4 * len(pairs))
+            for source, target in pairs:
                 one, other = (target, source) if turned else (source, target)
                 rows[one] = rows.get(one, 0) | 1 << other
             self.steps[label, turned] = Steps(rows)
@@ -165,6 +203,7 @@ class Automaton:
         return self.arrived[label]
 
     def out(self, state):
+        spend(len(self.transitions))
         return [t for t, (source, _, _) in enumerate(self.transitions) if source == state]
 
 
@@ -189,10 +228,12 @@ def mark(automaton, state, sources):
 
 def graph_of(automaton, label):
     rows = automaton.behind(label).rows
+    spend(3 * automaton.states)
     return tuple(mark(automaton, state, rows.get(state, 0)) for state in range(automaton.states))
 
 
 def arrivals_of(automaton, graph):
+    spend(sum(5 + 3 * bin(arcs).count("1") for arcs in graph))
     strong = [arcs >> automaton.states for arcs in graph]
     plain = [(arcs & (1 << automaton.states) - 1) ^ more for arcs, more in zip(graph, strong)]
     parts = enumerate(zip(plain, strong))
@@ -201,9 +242,10 @@ def arrivals_of(automaton, graph):
 
 def extended(automaton, graph, arrivals):
     """The graph that goes on by the arcs of another, of which these are the arrivals."""
-    states, made = automaton.states, [0] * automaton.states
+    states, made, arcs_taken = automaton.states, [0] * automaton.states, 0
     for state, ones, twos in arrivals:
         arcs = 0
+        arcs_taken += len(ones) + len(twos)
         for source in twos:
             arcs |= graph[source]
         if arcs:
@@ -212,12 +254,14 @@ def extended(automaton, graph, arrivals):
         for source in ones:
             arcs |= graph[source]
         made[state] = arcs
+    spend(10 + states // 16 + 6 * len(arrivals) + 2 * arcs_taken)
     return tuple(made)
 
 
 def graph_of_word(automaton, word):
     """The graph of a word of at least one label. Of a long word the pairs that stand in it often are taken together first, and
     then pairs of pairs, as long as there are few different ones and it costs less to go on by them."""
+    spend(5 * len(word))
     parts = {label: automaton.arrivals(label) for label in word}
     first = tuple(1 << state for state in range(automaton.states))
     while len(word) > 64:
@@ -268,6 +312,7 @@ def cost(word, parts):
 
 def endless(automaton, graph):
     """The states from which some way along the arcs comes twice to a state, with a value 2 between."""
+    spend(10 * automaton.states)
     before = Steps(dict(enumerate(arcs & (1 << automaton.states) - 1 for arcs in graph)))
     strong = Steps(dict(enumerate(arcs >> automaton.states for arcs in graph)))
     left, found = 0, (1 << automaton.states) - 1
@@ -564,6 +609,7 @@ class Closure:
     """The reflexive and transitive closure of a block."""
 
     def __init__(self, block):
+        spend(2 * len(block) ** 2)
         self.rows = {p: row | 1 << p for p, row in block.items()}
         for middle in self.rows:
             bit, further = 1 << middle, self.rows[middle]
@@ -601,21 +647,30 @@ class Game:
     them where it is `turned`; `fit` gives the set of states that match a state that is shown.
 
     What is asked of many shown states at a time is asked of their set: paths with the same labels whose states match alike
-    have the same answers, and go on together."""
+    have the same answers, and go on together. What is asked of all labels at a time is asked of places: a place is a label
+    and the state that it is shown to lead to, and sets of places are numbers too, in which the states of each of the `labels`
+    follow those of the one before."""
 
     def __init__(self, shown, answers, turned, fit, look, block):
         self.shown, self.answers, self.turned, self.fit = shown, answers, turned, fit
         self.look, self.block, self.moves = look, block, shown.back if turned else shown.moves
+        spend(len(shown.transitions) + 6 * shown.states)
         self.ended = set_of(p for p, moves in enumerate(self.moves) if not moves)
-        self.spoken = Steps({p: set_of(label for label, _ in moves) for p, moves in enumerate(self.moves)})
         self.alike = {}  # by the set of states that match: the shown states that it matches
         for p in range(shown.states):
             self.alike[fit(p)] = self.alike.get(fit(p), 0) | 1 << p
         self.related = {}  # by a state that answers: those that the block relates to it
+        lefts = {}  # by a row of the block: the states that it is of
         for p, row in block.items():
+            lefts[row] = lefts.get(row, 0) | 1 << p
+        for row, own in lefts.items():
+            spend(10 + 5 * bin(row).count("1"))
             for q in states_in(row):
-                self.related[q] = self.related.get(q, 0) | 1 << p
-        self.level, self.kept, self.tried, self.sets, self.room = {}, {}, Counter(), {}, MOST_SETS
+                self.related[q] = self.related.get(q, 0) | own
+        self.labels, self.level, self.once, self.kept = sorted(shown.by_label), {}, {}, {}
+        bits = shown.states * len(self.labels)
+        self.places = Steps(Rows(lambda p: self.side_by_side(self.show(label).rows.get(p, 0) for label in self.labels)), bits)
+        self.dead_ends = self.side_by_side(self.ended for _ in self.labels)
 
     def show(self, label, back=False):
         return self.shown.steps_by(label, self.turned != back)
@@ -641,6 +696,7 @@ class Game:
         if not left:
             return 0
         lost, later = self.ended, self.answered(left - 1)
+        spend(4 * len(self.labels))
         for label in self.shown.by_label:
             after = self.answer(label).rows.get(q, 0)
             missed = self.show(label).all & ~later.of(after) if after else -1
@@ -668,44 +724,52 @@ class Game:
                 found |= same
         return found
 
+    def side_by_side(self, sets):
+        """The set of places with these states, a set for each label."""
+        spend(len(self.labels) * (2 + self.shown.states * len(self.labels) // 4096))
+        return sum(states << at * self.shown.states for at, states in enumerate(sets) if states)
+
+    def answered_places(self, left):
+        """By an answering state the places that it answers, move by move, of a path of so many moves. As steps."""
+        if left not in self.once:
+            later = self.answered(left - 1)
+
+            def row(q):
+                return self.side_by_side(later.of(self.answer(label).rows.get(q, 0)) for label in self.labels)
+
+            self.once[left] = Steps(Rows(row), self.places.bits)
+        return self.once[left]
+
     def keeps(self, shown, left, replies):
         """Whether each path of so many moves that are still to be shown from a state of the set is answered from one of the
         replies, which are where an answer may stand; they match each state of the set. What was answered once is kept."""
+        spend(30)
         shown &= ~self.kept.get((left, replies), 0)
         if not shown:
             return True
         if not left or not replies or shown & self.ended:
             return False
-        self.tried[shown, left] += 1
-        if self.tried[shown, left] > FEW_REPLIES and all(self.wanted(p, left) is not None for p in states_in(shown)):
-            return all(replies & one for p in states_in(shown) for one in self.wanted(p, left))
-        later = self.answered(left - 1)
-        for label in states_in(self.spoken.of(shown)):
-            after = self.answer(label).of(replies)
-            open_still = self.show(label).of(shown) & ~later.of(after)
-            if open_still:
-                for fit, same in self.alike.items():
-                    if not self.keeps(open_still & same, left - 1, after & fit):
-                        return False
+        places = self.places.made(shown) & ~self.answered_places(left).made(replies)
+        if places and left == 1 or places & self.dead_ends:
+            return False
+        if places and not all(self.keep_on(label, states, left - 1, replies) for label, states in self.apart(places)):
+            return False
         self.kept[left, replies] = self.kept.get((left, replies), 0) | shown
         return True
 
-    def wanted(self, p, left):
-        """For each path of so many moves from p the states that it is answered from, or None where these sets are too many."""
-        if not left or not self.moves[p]:
-            return {0}
-        if (p, left) not in self.sets:
-            found = set()
-            for label, target in self.moves[p]:
-                later = self.wanted(target, left - 1) if self.room > 0 else None
-                if later is None:
-                    found = None
-                    break
-                ends, fit, behind = self.block.get(target, 0), self.fit(target), self.answer(label, back=True)
-                found.update(behind.of((ends | one) & fit) for one in later)
-                self.room -= len(later)
-            self.sets[p, left] = found
-        return self.sets[p, left]
+    def apart(self, places):
+        """The labels of a set of places, each with its states."""
+        spend(len(self.labels) * (2 + self.places.bits // 4096))
+        for label in self.labels:
+            states = places & (1 << self.shown.states) - 1
+            places >>= self.shown.states
+            if states:
+                yield label, states
+
+    def keep_on(self, label, states, left, replies):
+        """Whether each path that goes on by the label to one of the states is answered from one of the replies."""
+        after = self.answer(label).made(replies)
+        return all(self.keeps(states & same, left, after & fit) for fit, same in self.alike.items())
 
 
 def stable(automaton, side, look, block):
@@ -739,6 +803,7 @@ class Ranks:
     def ranked_below(self, code):
         """Those that have a rank, and one with a lesser code."""
         if code not in self.below:
+            spend(2 * len(self.codes))
             self.below[code] = set_of(q for q, c in self.codes.items() if 0 < c < code)
         return self.below[code]
 
@@ -749,6 +814,7 @@ def row_right(automaton, rows, label, target_rows, row):
     behind = automaton.behind(label)
     for key in target_rows:
         after = rows.get(key)
+        spend(10 + 3 * len(row.by_code))
         if after is None or row.all & ~behind.of(after.all):
             return False
         for code, states in row.by_code.items():
@@ -764,9 +830,10 @@ def delayed_right(automaton, labels, block):
         if automaton.accepting >> p & 1 and 0 in row.by_code or row.by_code.get(1, 0) & ~automaton.accepting:
             return False
         for label in [ahead[0]] if ahead else range(labels):
+            spend(10 + (labels if ahead else 0))
             targets = states_in(automaton.ahead(label).rows.get(p, 0))
             rests = [(*ahead[1:], more) for more in range(labels)] if ahead else [()]
-            if not row_right(automaton, rows, label, [(target, *rest) for target in targets for rest in rests], row):
+            if not row_right(automaton, rows, label, ((target, *rest) for target in targets for rest in rests), row):
                 return False
     return True
 
@@ -810,6 +877,7 @@ def cut(automaton, gone):
     """Without these transitions, which ascend. What is known of the steps by other labels stays known."""
     moves = list(automaton.transitions)
     labels = {moves[t][1] for t in gone}
+    spend(len(gone) * (1 + len(moves) // 256))
     for t in reversed(gone):
         del moves[t]
     after = Automaton(automaton.states, automaton.initial, moves, automaton.accepting)
@@ -935,6 +1003,7 @@ class Unions:
     def over(self, first, last):
         level = (last - first + 1).bit_length() - 1
         while len(self.levels) <= level:
+            spend(2 * len(self.levels[0]))
             below, half = self.levels[-1], 1 << len(self.levels) - 1
             self.levels.append([one | other for one, other in zip(below, below[half:])])
         return self.levels[level][first] | self.levels[level][last + 1 - (1 << level)]
@@ -978,9 +1047,11 @@ class Buchi:
         if self.runs is None:
             self.runs = {t: runs_in(row) for t, row in self.order.items()}
         unions = Unions(h)
+        spend(10 + 3 * len(g))
         for t, arcs in enumerate(g):
             if arcs and not (self.order.get(t, 0) >> t & 1 and not arcs & ~h[t]):
                 for first, last in self.runs.get(t, ()):
+                    spend(10)
                     arcs &= ~unions.over(first, last)
                     if not arcs:
                         break
@@ -996,10 +1067,12 @@ class Buchi:
         turns, initial = {}, self.second.initial
         for _, y in live:
             if y[0] == y[1] and y[2]:
+                spend(self.second.states)
                 turns.setdefault(y[0], {})[y[3]] = None
         goods = {p: {endless(self.second, graph) for graph in graphs} for p, graphs in turns.items()}
         for place, x in live:
             if x[0] == self.first.initial:
+                spend(2 * self.second.states + len(goods.get(x[1], ())))
                 row = set_of(q for q, arcs in enumerate(x[3]) if arcs >> initial & 1)
                 if any(not row & good for good in goods.get(x[1], ())):
                     return place
@@ -1027,6 +1100,7 @@ class Finite:
         return [self.start()]
 
     def subsumes(self, x, y):
+        spend(5 + 4 * bin(x[1]).count("1"))
         return x[0] == y[0] and all(self.order.get(q, 0) & y[1] for q in states_in(x[1]))
 
     def failing(self, live):
@@ -1047,6 +1121,7 @@ def make_elements(search, elements, item):
     """The elements, each by rules 1, 10 and 11 in its turn; the first has this item."""
     transitions, made = search.first.transitions, []
     for number, (under, origin) in enumerate(elements):
+        spend(20)
         named = [n for n in (under, *origin[:-1]) if n is not None]
         if any(n >= len(elements) for n in named) or any(t >= len(transitions) for t in origin[-1:]):
             broken(item + number, 1)
@@ -1075,6 +1150,7 @@ def check_yes(search, cert, item):
     made = make_elements(search, cert["elements"], item)
 
     def live_over(number, x):
+        spend(10)
         return marks[number] is None and search.subsumes(made[number], x)
 
     for number, under in enumerate(marks):
@@ -1106,6 +1182,7 @@ def check_list(search, cert, item):
         broken(item, 18)
     seen = set()
     for number, x in enumerate(made):
+        spend(10 + search.second.states)
         if x in seen:
             broken(item + 1 + number, 18)
         seen.add(x)
@@ -1191,17 +1268,22 @@ def check_cross(first, second, labels, cross):
 def load(name):
     try:
         with open(name, "rb") as file:
-            return file.read()
+            data = file.read()
     except OSError:
         raise Refused("read fault", 6) from None
+    WORK.allow_more(STEPS_PER_BYTE * max(0, len(data) - SMALL_FILE))
+    return data
 
 
 def main(words):
+    patient = words[:1] == ["--patient"]
+    words = words[1:] if patient else words
     across = words[:1] == ["--cross"]
     names = words[1:] if across else words
     if len(names) != 3:
         print(__doc__, file=sys.stderr)
         return 3
+    WORK.allow(float("inf") if patient else FREE_STEPS)
     reader, checker = (read_cross, check_cross) if across else (read_certificate, check)
     try:
         first, first_labels = read_automaton(1, load(names[0]))

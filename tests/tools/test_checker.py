@@ -1,14 +1,24 @@
-"""The second checker's test of stability: by its definition on small relations, and in time on a large automaton."""
+"""The second checker: its test of stability by the definition, and its count of work on files made to cost much."""
+import contextlib
 import importlib.util
+import math
 import random
-import time
 import unittest
 
-from helping import TOP
+import hostile
+from helping import TOP, Case, Output
 
 SPEC = importlib.util.spec_from_file_location("check_cert", TOP / "tools" / "check_cert.py")
 check_cert = importlib.util.module_from_spec(SPEC)
 SPEC.loader.exec_module(check_cert)
+
+
+def checked(words):
+    """The status and what the checker prints."""
+    output = Output()
+    with contextlib.redirect_stdout(output):
+        status = check_cert.main(words)
+    return status, output.text()
 
 
 def is_answered(made, look, block, matches, state, ends, left, turned):
@@ -59,6 +69,20 @@ class Stability(unittest.TestCase):
             by_look += right and not is_stable(made, side, 1, block)
         self.assertTrue(min(counts.values()) > 300 and by_look > 20, (counts, by_look))
 
+    def test_relations_with_many_answers(self):
+        rnd, counts = random.Random(82), {True: 0, False: 0}
+        for _ in range(150):
+            states, many = 40, range(10, 40)
+            # 0 is shown: its ways lead to 2 and back there; 3 answers by many states, of which few are related to 2
+            moves = {(0, 0, 1), (1, 0, 2), (2, 0, 2)} | {(3, 0, q) for q in many if rnd.random() < 0.95}
+            moves |= {(q, 0, q if rnd.random() < 0.9 else rnd.choice(many)) for q in many}
+            made = check_cert.Automaton(states, 0, moves, (1 << states) - 1)
+            block = {0: 1 << 3, 2: check_cert.set_of(rnd.sample(many, 2))}
+            right = is_stable(made, "forward", 2, block)
+            self.assertIs(check_cert.stable(made, "forward", 2, block), right, (block, moves))
+            counts[right] += 1
+        self.assertTrue(min(counts.values()) > 15, counts)
+
     def test_a_relation_that_long_paths_keep(self):
         rnd, states = random.Random(1), 100
         moves = {
@@ -67,10 +91,46 @@ class Stability(unittest.TestCase):
         }  # fmt: skip
         made = check_cert.Automaton(states, 0, moves, (1 << states) - 1)
         block = {p: 1 << (p + 1) % states for p in range(states)}
-        begun = time.process_time()
+        check_cert.WORK.allow(check_cert.FREE_STEPS)
+        self.addCleanup(check_cert.WORK.allow, math.inf)
         self.assertTrue(check_cert.stable(made, "forward", 6, block))
         self.assertFalse(check_cert.stable(made, "forward", 1, block))
-        self.assertLess(time.process_time() - begun, 10)
+
+
+class Work(Case):
+    def asked(self, texts, steps, *options):
+        """The status and what is printed of the files, where so many steps may be taken, and how many are left."""
+        names = [self.write(name, text) for name, text in zip("ABC", texts)]
+        kept = check_cert.FREE_STEPS, check_cert.STEPS_PER_BYTE
+        check_cert.FREE_STEPS, check_cert.STEPS_PER_BYTE = steps, 0
+        try:
+            words = [*options, *(["--cross"] if len(texts) > 3 else []), *map(str, names)]
+            status, printed = checked(words)
+        finally:
+            check_cert.FREE_STEPS, check_cert.STEPS_PER_BYTE = kept
+        return status, printed, check_cert.WORK.left
+
+    def test_files_that_cost_much(self):
+        given_up = count = 0
+        for name, texts in hostile.families():
+            with self.subTest(name):
+                self.assertLessEqual(max(map(len, texts[:3])), 1 << 16)
+                status, printed, left = self.asked(texts, 60_000)
+                self.assertEqual(left < 0, status == check_cert.NOT_CHECKED)
+                self.assertIn(status, (0, 1, 2, 5, check_cert.NOT_CHECKED))
+                if left < 0:
+                    self.assertEqual(printed, "not checked: more than 60000 steps of work; --patient goes on\n")
+            given_up, count = given_up + (left < 0), count + 1
+        self.assertTrue(count >= 30 and given_up >= 20, (count, given_up))
+
+    def test_the_same_files_have_the_same_answer(self):
+        texts = dict(hostile.families())["finite 200"]
+        status, printed, left = self.asked(texts, 10_000_000)
+        used = 10_000_000 - left
+        self.assertNotEqual(status, check_cert.NOT_CHECKED)
+        self.assertEqual(self.asked(texts, used), (status, printed, 0))
+        self.assertEqual(self.asked(texts, used - 1)[0], check_cert.NOT_CHECKED)
+        self.assertEqual(self.asked(texts, 1, "--patient"), (status, printed, math.inf))
 
 
 if __name__ == "__main__":

@@ -161,6 +161,23 @@ class Many(Case):
         row = self.rows(self.folder / "out")[1]
         self.assertEqual((row["check"], row["second check"]), ("refused: not included",) * 2)
 
+    def test_a_certificate_that_the_second_checker_gives_up(self):
+        said, wanted = "not checked: more than 5 steps of work; --patient goes on", [0, "included"]
+        self.assertEqual(batch.said_by_check([15, said], wanted), "not checked")
+        self.assertEqual(batch.said_by_check([15, "included"], wanted), "refused: included")
+        self.assertEqual(batch.said_by_check([5, said], wanted), "refused: " + said)
+        self.assertEqual(batch.said_by_check(wanted, wanted), "accepted")
+        one, out = self.write("1.ba", "0\na,0->0\n"), self.folder / "out"
+        path = self.write("list", f"{one} {one}\n")
+        self.assertEqual(self.run_many(path, "--second", "--out", out)[0], 0)
+        table = out / "table.tsv"
+        table.write_text(table.read_text().replace("accepted\taccepted", "accepted\tnot checked"))
+        status, told = self.run_many(path, "--second", "--out", out, "--resume")
+        self.assertEqual(status, 1)
+        self.assertIn("1 question has a certificate that check_cert.py gave up: number 1\n", told)
+        self.assertEqual(call("report", out)[0], 0)
+        self.assertIn("The second checker gave up the certificate of question 1.", (out / "report.html").read_text())
+
     def test_a_program_without_verdicts(self):
         one, out = self.write("1.ba", "0\na,0->0\n"), self.folder / "out"
         path = self.write("list", f"{one} {one}\n")

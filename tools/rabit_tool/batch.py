@@ -15,11 +15,12 @@ import zlib
 from . import worker
 from .files import MISSING, Refusal, read_file, replace_file
 from .program import ready_program
-from .results import sizes_of
+from .results import GIVEN_UP, sizes_of
 from .verdicts import SAID, has_certificate, is_verdict
 
 # by command: the one that checks what it wrote, and the option of the second checker
 CHECKS = {"include": ("check", []), "cross": ("cross-check", ["--cross"]), "solve": ("verify", ["--proof"])}
+NOT_CHECKED = 15  # the status of the second checker where it gives up
 STOPPING = (signal.SIGHUP, signal.SIGINT, signal.SIGTERM)
 HERE = pathlib.Path(__file__).resolve().parent
 
@@ -132,10 +133,9 @@ class Batch:
             data = worker.unpacked(found["certificate"])
             replace_file(self.results.certificate(number), data)
             row.update(sizes_of(data))
-            wanted = [status, printed]
             for column, key in (("check", "check"), ("second check", "second")):
                 if found[key] is not None:
-                    row[column] = "accepted" if found[key] == wanted else f"refused: {found[key][1] or found[key][0]}"
+                    row[column] = said_by_check(found[key], [status, printed])
         return row
 
     def run(self):
@@ -185,6 +185,15 @@ class Batch:
             end="\n" if last or not is_terminal else "",
             flush=True,
         )
+
+
+def said_by_check(said, wanted):
+    """What the table says of a check: `said` are its status and its first line, `wanted` those of the verdict."""
+    if said == wanted:
+        return "accepted"
+    if said[0] == NOT_CHECKED and said[1].startswith(GIVEN_UP):
+        return GIVEN_UP
+    return f"refused: {said[1] or said[0]}"
 
 
 def answer_of(line):

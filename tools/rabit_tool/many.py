@@ -10,7 +10,7 @@ from .batch import CHECKS, STOPPING, Batch
 from .files import READ, USAGE, WRITE, Refusal, read_file
 from .nouns import counted
 from .program import ready_program
-from .results import Results, read_list
+from .results import GIVEN_UP, Results, read_list
 from .verdicts import test_words
 
 
@@ -103,6 +103,7 @@ def told_end(results, count):
     rows = sorted(results.rows.items())
     told = {
         "a certificate that a check refused": [n for n, row in rows if "refused" in row["check"] + row["second check"]],
+        "a certificate that check_cert.py gave up": [n for n, row in rows if row["second check"] == GIVEN_UP],
         "no verdict": [number for number, row in rows if row["status"] not in ("0", "1", "2", "10")],
         "no answer": [number for number in range(1, count + 1) if number not in results.rows],
     }

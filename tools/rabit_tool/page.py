@@ -1,5 +1,6 @@
 """The page of `report` as HTML: one file, with nothing that it needs from elsewhere."""
 from .drawing import markup
+from .results import GIVEN_UP
 
 STYLE = """
 :root { --ink: #1f2937; --soft: #6b7280; --line: #d1d5db; --yes: #15803d; --no: #b91c1c;
@@ -112,9 +113,13 @@ def bar(rows):
 
 
 def refused_line(rows):
-    """The line that tells which certificates a check refused, or nothing."""
+    """The lines that tell which certificates a check refused, and which the second checker gave up, or nothing."""
     found = [row["number"] for row in rows if "refused" in row["check"] + row["second check"]]
-    return f'<p class="no">A check refused the certificate of question {", ".join(found)}.</p>' if found else ""
+    given_up = [row["number"] for row in rows if row["second check"] == GIVEN_UP]
+    told = f'<p class="no">A check refused the certificate of question {", ".join(found)}.</p>' if found else ""
+    if given_up:
+        told += f'<p>The second checker gave up the certificate of question {", ".join(given_up)}.</p>'
+    return told
 
 
 def number(text):

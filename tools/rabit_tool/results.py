@@ -10,6 +10,8 @@ COLUMNS = (
     "number", "first", "second", "verdict", "status", "seconds", "check", "second check",
     "first states", "second states", "labels", "elements", "bytes", "host",
 )  # fmt: skip
+# what the table says of a check where the second checker gives up
+GIVEN_UP = "not checked"
 TABLE, QUESTIONS, CERTIFICATES = "table.tsv", "questions.json", "certificates"
 
 

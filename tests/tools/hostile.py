@@ -1,0 +1,259 @@
+"""Families of three files of at most 64 KiB each that are made to cost a checker much."""
+import random
+
+DIGITS = "0123456789abcdefghijklmnopqrstuvwxyzABCDEFGHIJKLMNOPQRSTUVWXYZ"
+
+
+def name(number):
+    return DIGITS[number] if number < 62 else DIGITS[number // 62 - 1] + DIGITS[number % 62]
+
+
+def automaton(moves, accepting=(), first=0):
+    """A text whose states are numbered as here, if the moves and accepting states name them in that order."""
+    lines = [name(first), *(f"{name(label)},{name(p)}->{name(q)}" for p, label, q in moves)]
+    return "\n".join([*lines, *map(name, accepting)]) + "\n"
+
+
+def by_rows(pairs):
+    """The rows of a block of version 2."""
+    rows = {}
+    for p, q in pairs:
+        rows.setdefault(p, set()).add(q)
+    return runs_of(rows)
+
+
+def runs_of(rows):
+    lines = []
+    for p in sorted(rows):
+        runs = []
+        for q in sorted(rows[p]):
+            if runs and runs[-1][1] == q - 1:
+                runs[-1][1] = q
+            else:
+                runs.append([q, q])
+        lines.append(f"row {p} " + " ".join(f"{first} {last}" for first, last in runs))
+    return [f"rel {len(rows)}", *lines]
+
+
+def certificate(states, labels, first=(), second=(), rest=(), form="yes", mode="buchi", version=2):
+    """A certificate of these steps, each a list of lines."""
+    lines = [f"rabit-cert {version} {mode} {form}", "sizes {} {} {}".format(*states, labels)]
+    for which, log in (("log1", first), ("log2", second)):
+        lines += [f"{which} {len(log)}", *(line for step in log for line in step)]
+    rest = rest or ["rel 0", "elements 0", "cover", "end"]
+    return "\n".join([*lines, *rest]) + "\n"
+
+
+def at_random(states, each, labels, seed=1):
+    """So many moves of each state by each label; state 0 is first, and the others are first seen in order."""
+    rnd = random.Random(seed)
+    moves = [(0, 0, p) for p in range(states)][1:]
+    found = {(p, a, q) for p in range(states) for a in range(labels) for q in rnd.sample(range(states), min(each, states))}
+    return sorted(found | set(moves))
+
+
+LOOP = automaton([(0, 0, 0)])
+EMPTY = automaton([(0, 0, 1)], [2])  # it accepts nothing
+
+
+def in_log(side, look, states, moves, pairs, times=1, which=2):
+    """The relation as the block of a merge of the second log that joins no states, or of a cut of the first."""
+    block = pairs if isinstance(pairs[0], str) else by_rows(pairs)
+    labels = len({a for _, a, _ in moves})
+    if which == 2:
+        step = [f"merge {side} {look}", "classes " + " ".join(map(str, range(states))), *block]
+        return EMPTY, automaton(sorted(moves), range(states)), certificate((3, states), labels, second=[step] * times)
+    step = [f"cut {1 if side == 'forward' else 2} {look}", "gone 0 1", *block]
+    return automaton(sorted(moves), range(states)), LOOP, certificate((states, 1), labels, first=[step] * times)
+
+
+def around(states, *further):
+    return [(p, (p + k) % states) for p in range(states) for k in further]
+
+
+def families():
+    """By name: the three texts, and whether the third is a cross file."""
+    for states, each, labels in ((70, 4, 15), (100, 4, 15), (200, 4, 8), (40, 3, 60)):
+        moves = at_random(states, each, labels)
+        for which, side in ((1, "backward"), (2, "forward"), (2, "backward")):
+            pairs = [(p, q) for p, q in around(states, 1, 7, 30) if p or side == "forward"]
+            yield f"round {side} {states} {each} {labels} log{which}", in_log(side, 6, states, moves, pairs, 1, which)
+        cross = ["rabit-cross 1", f"sizes {states} {states} {labels}", "look 6", f"rel {states}"]
+        rows = {p: sorted({p if p == 0 else (p + 1) % states, (p + 7) % states, (p + 30) % states}) for p in range(states)}
+        cross += [f"row {p} " + " ".join(map(str, rows[p])) for p in range(states)]
+        text = automaton(moves, range(states))
+        yield f"cross {states} {each} {labels}", (text, text, "\n".join([*cross, "end"]) + "\n", True)
+    for states, each, labels in ((61, 20, 6), (95, 85, 1), (20, 18, 22), (6, 6, 200), (500, 12, 1)):
+        moves = at_random(states, each, labels)
+        for kind in ("full", "diag", "half") if states < 100 else ("full", "diag"):
+            rnd = random.Random(5)
+            pairs = {
+                "full": [(p, q) for p in range(states) for q in range(states)], "diag": around(states, 1),
+                "half": [(p, q) for p in range(states) for q in range(states) if rnd.random() < 0.5],
+            }[kind]
+            for side in ("forward", "backward"):
+                block = by_rows(pairs)
+                if side == "backward":
+                    block = by_rows([(p, q) for p, q in pairs if p])
+                size = len("\n".join(block)) + 40 + 4 * states
+                yield f"dense {kind} {side} {states} {each} {labels}", in_log(side, 6, states, moves, block, max(1, 62000 // size))
+    # many small steps
+    many = 2040
+    moves = [(0, 0, q) for q in range(1, many)] + [(q, a, 0) for q in range(many - 1, many) for a in range(1, 256)]
+    steps = [["cut 1 6", "gone 0 1", "rel 1", f"row {q} {q + 1} {q + 1}"] for q in range(1, 1500)]
+    yield "many cuts of the first log", (automaton(moves, range(many)), LOOP, certificate((many, 1), 256, first=steps))
+    steps = [["cut 3 6", "gone 0 1", "rel 0", "rel 1", f"row {q} {q + 1} {q + 1}"] for q in range(1, 1300)]
+    yield "many double cuts of the first log", (automaton(moves, range(many)), LOOP, certificate((many, 1), 256, first=steps))
+    moves = at_random(6, 6, 220)
+    yield "many cuts of the second log", (
+        EMPTY, automaton(moves, range(6)), certificate((3, 6), 220, second=[["cut", "gone 0"]] * 5500))
+    same = "classes 0 1 2 3 4 5"
+    for kind, rows in (("none", ["rel 0"]), ("full", by_rows([(p, q) for p in range(6) for q in range(6)]))):
+        for side in ("forward", "backward"):
+            if side == "backward" and kind == "full":
+                rows = by_rows([(p, q) for p in range(1, 6) for q in range(6)])
+            steps = [[f"merge {side} 6", same, *rows]] * (60000 // (45 + len("\n".join(rows))))
+            yield f"many merges {side} {kind}", (EMPTY, automaton(moves, range(6)), certificate((3, 6), 220, second=steps))
+    moves = at_random(512, 6, 2)
+    few = [["trim " + " ".join(map(str, range(512)))] for _ in range(30)]
+    yield "many trims", (EMPTY, automaton(moves, range(512)), certificate((3, 512), 2, second=few))
+    # layers: each label leads to a part of its own of the next layer
+    for width, labels, depth in ((40, 14, 6), (60, 9, 6), (24, 25, 6)):
+        rnd, moves = random.Random(2), []
+        for layer in range(depth):
+            here, there = 1 + layer * width, 1 + (layer + 1) * width
+            for a in range(labels):
+                for p in range(here, there):
+                    if layer < depth - 1:
+                        moves += [(p, a, q) for q in rnd.sample(range(there, there + width), 2)]
+        last = 1 + depth * width
+        moves += [(last + layer, a, last + layer + 1) for layer in range(depth - 1) for a in range(labels)]
+        moves = sorted({(0, 0, q) for q in range(1, last + depth)} | set(moves))
+        states = last + depth
+        pairs = [(last, q) for q in range(1, width)] + [(last + depth - 1, q) for q in range(last - width // 2, last)]
+        for which in (1, 2):
+            yield f"layers {width} {labels} {depth} log{which}", in_log("forward", 6, states, moves, pairs, 1, which)
+    # large blocks
+    moves = [(0, 0, q) for q in range(1, 2047)] + [(q, 1, q) for q in range(1, 2047)]
+    block = [f"rel {2046}", *(f"row {q} 1 2046" for q in range(1, 2047))]
+    yield "all pairs of 2,047 states", in_log("forward", 6, 2047, moves, block, 1, 1)
+    block = [f"rel {2046}", *(f"row {q} {q} {q}" for q in range(1, 2047))]
+    yield "closure of 2,046 rows", in_log("forward", 1, 2047, moves, block, 1, 1)
+    odd = " ".join(f"{q} {q}" for q in range(2, 500, 2))
+    moves = at_random(500, 12, 1)
+    for side in ("forward", "backward"):
+        yield f"long rows {side}", in_log(side, 6, 500, moves, ["rel 30", *(f"row {q} {odd}" for q in range(2, 32))])
+    yield from delayed()
+    yield from searches()
+    yield from words()
+
+
+def delayed():
+    for states, labels, letters in ((18, 250, 2), (60, 70, 2), (5, 28, 3), (2, 12, 4), (90, 1, 1)):
+        rnd, each = random.Random(3), max(1, 7000 // (states * labels))
+        moves = at_random(states, each, labels)[:8000]
+        codes = "0 1" if letters > 1 else None
+        words = [()]
+        for _ in range(letters - 1):
+            words = [(*word, a) for word in words for a in range(labels)]
+        rows = []
+        width = max(1, min(states, 54000 // (states * len(words)) // 7)) if codes is None else 1
+        for p in range(states):
+            for word in words:
+                rights = [(q, 1 + q) for q in range(width)] if codes is None else [(0, 1)]
+                rows.append(" ".join(map(str, ["row", p, *word])) + " " + " ".join(f"{q} {c}" for q, c in rights))
+        step = [f"merge delayed {letters}", "classes " + " ".join(map(str, range(states))), f"rel {len(rows)}", *rows]
+        loops = [(0, a, 0) for a in range(labels)]
+        moves = sorted(set(moves[: 7000 - labels]) | set(loops))
+        moves = [(p, a, q) for p, a, q in moves]
+        text = automaton(moves, range(states))
+        yield f"delayed {letters} {states} {labels}", (EMPTY, text, certificate((3, states), labels, second=[step]))
+
+
+def searches():
+    """Elements, their graphs and what is asked of them."""
+    for states, each, labels in ((95, 85, 1), (500, 12, 1), (500, 6, 2), (40, 30, 6)):
+        moves = at_random(states, each, labels)
+        second = automaton(moves, [1])
+        first = automaton([(0, a, 0) for a in range(labels)], [0])
+        count = 4200
+        for form in ("list", "yes"):
+            made = ["base 0", *(f"next {n} {n % labels}" for n in range(count - 1))]
+            if form == "list":
+                rest = [f"limit {count - 1}", f"elements {count}", *made, "end"]
+            else:
+                made = made[:1100]
+                order = [f"rel {states}", *(f"row {q} 0 {states - 1}" if q != 1 else "row 1 1 1" for q in range(states))]
+                order = [f"rel {states}", *(f"row {q} {q} {q}" for q in range(states))]
+                steps = [f"step {n} " + " ".join(["5"] * labels) for n in range(1100)]
+                rest = [*order, "elements 1100", *("live " + one for one in made), "cover " + " ".join(["0"] * labels), *steps, "end"]
+            yield f"elements {form} {states} {each} {labels}", (
+                first, second, certificate((1, states), labels, rest=rest, form=form))
+    # covers: all are under one element
+    for states, each, labels in ((300, 23, 1), (500, 12, 1), (90, 80, 1)):
+        moves = at_random(states, each, labels)
+        second = automaton(moves, range(states))
+        first = automaton([(0, a, 0) for a in range(labels)], [0])
+        every = [f"rel {states}", *(f"row {q} 0 {states - 1}" for q in range(states))]
+        made = ["live base 0", *(f"under 0 base {n % labels}" for n in range(3500))]
+        rest = [*every, f"elements {len(made)}", *made, "cover " + " ".join(["0"] * labels), "step 0 " + " ".join(["0"] * labels), "end"]
+        yield f"under {states} {each} {labels}", (first, second, certificate((1, states), labels, rest=rest))
+    # many lines of steps, each of many numbers
+    for states, labels in ((4, 200), (2, 250), (1, 256)):
+        found = sorted({(p, a, q) for p in range(states) for a in range(labels) for q in range(states)})
+        first = automaton(sorted(found, key=lambda move: (move[0], move[1] != 0)), range(states))
+        n = 30
+        moves = [(p, a, q) for a in range(labels) for p, q in [(p, (p + 1 + a * 0) % n) for p in range(n)]]
+        second = automaton(sorted(moves), range(n))
+        second = automaton(sorted(moves, key=lambda move: (move[1], move[0])), range(n))
+        every = [f"rel {n}", *(f"row {q} 0 {n - 1}" for q in range(n))]
+        pairs = [(p, q) for p in range(states) for q in range(states)]
+        trans = sorted(found)
+        made = [f"live base {next(t for t, (p, _, q) in enumerate(trans) if (p, q) == pair)}" for pair in pairs]
+        cover = "cover " + " ".join(str(pairs.index((p, q))) for p, _, q in trans)
+        steps = [f"step {e} " + " ".join(str(pairs.index((pair[0], q))) for p, _, q in trans if p == pair[1]) for e, pair in enumerate(pairs)]
+        rest = [*every, f"elements {len(made)}", *made, cover, *steps, "end"]
+        yield f"long steps {states} {labels}", (first, second, certificate((states, n), labels, rest=rest))
+    # lassos that are long to tell: a chain of accepting states behind a long way
+    for length in (250, 450):
+        moves = [(0, 0, 1)] + [(q, 0, q + 1) for q in range(1, length - 1)] + [(length - 1, 0, length - 1)]
+        moves += [(q, a, q + 1) for a in (1, 2, 3) for q in range(length - 1)]
+        second = automaton(sorted(moves), range(length // 2, length - 1))
+        first = automaton([(0, a, 0) for a in range(4)], [0])
+        made = ["base 0", *(f"next {n} {n % 4}" for n in range(1400))]
+        steps = [f"step {n} 0 0 0 0" for n in range(len(made))]
+        rest = ["rel 0", f"elements {len(made)}", *("live " + one for one in made), "cover 0 0 0 0", *steps, "end"]
+        yield f"chains {length}", (first, second, certificate((1, length), 4, rest=rest))
+    moves = [(q, 0, q + 1) for q in range(2046)] + [(q, 1, q + 1) for q in range(2046)] + [(1000, 2, q) for q in range(2, 900)]
+    first = automaton(sorted(moves), range(1024, 2047))
+    yield "useful states of a chain", (first, LOOP, certificate((2047, 1), 3, first=[["trim 0"]]))
+    for labels in (1, 200):  # over finite words
+        moves = at_random(500, max(1, 6500 // 500 // labels), labels) if labels == 1 else at_random(30, 1, 200)
+        n = 500 if labels == 1 else 30
+        second = automaton(moves, range(n))
+        first = automaton([(0, a, 0) for a in range(labels)], [0])
+        every = [f"rel {n}", *(f"row {q} 0 {n - 1}" for q in range(n))]
+        count = 2000 if labels == 1 else 60
+        made = ["live start", *(f"live next {e} {e % labels}" for e in range(count - 1))]
+        steps = [f"step {e} " + " ".join(["9"] * labels) for e in range(count)]
+        rest = [*every, f"elements {count}", *made, "cover 9", *steps, "end"]
+        yield f"finite {labels}", (first, second, certificate((1, n), labels, rest=rest, mode="finite"))
+
+
+def words():
+    """Lassos and words that are long."""
+    for labels, states in ((3, 1700), (11, 600), (30, 200)):
+        each = max(1, 7000 // (states * labels))
+        moves = at_random(states, each, labels)[:7100]
+        text = automaton(moves, range(states))
+        second = automaton(at_random(500 if labels < 11 else 90, max(1, 7000 // (500 if labels < 11 else 90) // labels), labels)[:7100], [1])
+        n = 500 if labels < 11 else 90
+        rnd = random.Random(4)
+        size = 30000 if labels <= 10 else 22000
+        word = " ".join(str(rnd.randrange(labels)) for _ in range(size))
+        half = " ".join(str(rnd.randrange(labels)) for _ in range(size // 4))
+        sizes = f"sizes {states} {n} {labels}"
+        yield f"loop {labels} {states}", (text, second, "\n".join(["rabit-cert 1 buchi no", sizes, "prefix", "loop " + word, "end"]) + "\n")
+        yield f"prefix and loop {labels} {states}", (
+            text, second, "\n".join(["rabit-cert 1 buchi no", sizes, "prefix " + half, "loop " + half, "end"]) + "\n")
+        yield f"word {labels} {states}", (text, second, "\n".join(["rabit-cert 1 finite no", sizes, "word " + word, "end"]) + "\n")
