@@ -1,6 +1,7 @@
 //! Random questions: each answer is tested by the check of ranked products, or on both automata.
 
-use auto_core::{Auto, BuildFault, Memory, Mode, Trans};
+use crate::drawn::random;
+use auto_core::{Auto, Memory, Mode};
 use lasso_accept::accepts_lasso;
 use product_laws::RankedPair;
 use product_search::{Product, decide};
@@ -8,61 +9,6 @@ use ranked_product::{are_ascending, check, is_deterministic};
 use std::alloc::Global;
 use std::test::Fail;
 use useful_states::trim;
-
-/// The next of a run of numbers.
-fn next(seed: u64) -> u64 {
-    (seed % 0x7fff_ffff) * 48271 % 0x7fff_ffff
-}
-
-/// The automaton with these moves, of which there are not too many.
-fn built(
-    alloc: Global,
-    states: u32,
-    labels: u32,
-    moves: &[Trans],
-    accepting: &[u32],
-) -> Result<Auto, BuildFault> {
-    if moves.len() >= 0xffff_ffff {
-        return Err(BuildFault::Memory);
-    }
-    Auto::build(alloc, states, labels, 0, moves, accepting)
-}
-
-/// A random automaton; a deterministic one has each of its moves with this chance in 16.
-fn random(
-    alloc: Global,
-    seed: u64,
-    states: u32,
-    labels: u32,
-    chance: u64,
-    single: bool,
-) -> Result<Auto, Fail> {
-    let mut at = next(next(seed % 0x7fff_ffff + 17));
-    let mut moves = Vec::new(alloc);
-    let mut accepting = Vec::new(alloc);
-    for source in 0..states {
-        at = next(at);
-        if at % 3 == 0 {
-            accepting.push(source)?;
-        }
-        for label in 0..labels {
-            at = next(at);
-            let only = (at / 16 % states as u64) as u32;
-            for target in 0..states {
-                at = next(at);
-                let chosen = if single { target == only } else { true };
-                if chosen && at / 7 % 16 < chance {
-                    moves.push(Trans {
-                        source,
-                        label,
-                        target,
-                    })?;
-                }
-            }
-        }
-    }
-    Ok(built(alloc, states, labels, &moves, &accepting)?)
-}
 
 /// The answer for the automaton without its useless states; none if the second automaton is not deterministic.
 fn decided(alloc: Global, whole: &Auto, second: &Auto) -> Result<Option<Product>, Memory> {

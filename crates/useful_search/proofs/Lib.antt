@@ -1,0 +1,4 @@
+pub mod GatherLemmas
+pub mod RunLemmas
+pub mod CycleLemmas
+pub mod UsefulLemmas

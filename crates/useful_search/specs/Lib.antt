@@ -1,0 +1,3 @@
+pub mod Gathering
+pub mod Cycles
+pub mod Goals

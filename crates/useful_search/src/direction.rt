@@ -1,0 +1,10 @@
+//! The two directions in which moves are followed.
+
+/// How moves are followed.
+#[derive(Clone, Copy)]
+pub(crate) enum Direction {
+    /// From source to target.
+    Forward,
+    /// From target to source.
+    Backward,
+}
