@@ -16,7 +16,9 @@ work; --patient goes on` and ends with the status 15. With --patient nothing end
 on no clock.
 
 A set of states is a number: state q is in it where its bit q is 1. A block of pairs is a dictionary from a state to the set
-of those that it is related to.
+of those that it is related to. Where many sets are looked up they are keys as bytes: Python's hash of a number is its rest by
+2**61 - 1, so states 61 apart give one hash, and a file can be made whose sets all collide. That of bytes differs from run to
+run.
 """
 import sys
 from collections import Counter
@@ -78,6 +80,11 @@ def set_of(states):
     return mask
 
 
+def key_of(mask):
+    """The set as bytes, each set with bytes of its own."""
+    return mask.to_bytes(mask.bit_length() // 8 + 1, "little")
+
+
 def states_in(mask):
     """The states of a set, ascending."""
     digits = bin(mask)[:1:-1]
@@ -100,9 +107,10 @@ class Steps:
         return self.by_states(set_of(self.rows))
 
     def of(self, mask):
-        found = self.found.get(mask)
+        key = key_of(mask)
+        found = self.found.get(key)
         if found is None:
-            found = self.found[mask] = self.made(mask)
+            found = self.found[key] = self.made(mask)
         spend(4)
         return found
 
@@ -116,13 +124,13 @@ class Steps:
         for state in states_in(mask):
             found |= self.rows.get(state, 0)
             count += 1
-        spend(15 + count * (5 + self.bits // 4096))
+        spend(15 + mask.bit_length() // 128 + count * (5 + self.bits // 4096))
         return found
 
     def by_eights(self, mask):
         """Eight states at a time, each eight of them once: sets are large, and there are many."""
-        found, eights, data = 0, self.eights, mask.to_bytes(mask.bit_length() // 8 + 1, "little")
-        spend(10 + 2 * len(data))
+        found, eights, data = 0, self.eights, key_of(mask)
+        spend(10 + 3 * len(data))
         for place, byte in enumerate(data):
             if byte:
                 key = place << 8 | byte
@@ -744,7 +752,8 @@ class Game:
         """Whether each path of so many moves that are still to be shown from a state of the set is answered from one of the
         replies, which are where an answer may stand; they match each state of the set. What was answered once is kept."""
         spend(30)
-        shown &= ~self.kept.get((left, replies), 0)
+        asked = left, key_of(replies)
+        shown &= ~self.kept.get(asked, 0)
         if not shown:
             return True
         if not left or not replies or shown & self.ended:
@@ -754,7 +763,7 @@ class Game:
             return False
         if places and not all(self.keep_on(label, states, left - 1, replies) for label, states in self.apart(places)):
             return False
-        self.kept[left, replies] = self.kept.get((left, replies), 0) | shown
+        self.kept[asked] = self.kept.get(asked, 0) | shown
         return True
 
     def apart(self, places):
@@ -1009,6 +1018,22 @@ class Unions:
         return self.levels[level][first] | self.levels[level][last + 1 - (1 << level)]
 
 
+class Distinct:
+    """Tuples of numbers, sets among them, each once and in the order in which they come."""
+
+    def __init__(self):
+        self.tuples, self.by_hash = [], {}
+
+    def add(self, numbers):
+        """Whether the tuple was not there yet. It is now."""
+        same = self.by_hash.setdefault(hash(tuple(hash(key_of(number)) for number in numbers)), [])
+        if numbers in same:
+            return False
+        same.append(numbers)
+        self.tuples.append(numbers)
+        return True
+
+
 class Buchi:
     """Elements as an arc (from, to, flag) with a graph."""
 
@@ -1039,6 +1064,11 @@ class Buchi:
     def at(x):
         return x[1]
 
+    @staticmethod
+    def sets(x):
+        """What tells the element from others, a tuple of numbers."""
+        return (*x[:3], *x[3])
+
     def starts(self):
         return [self.base(t) for t in range(len(self.first.transitions))]
 
@@ -1067,9 +1097,9 @@ class Buchi:
         turns, initial = {}, self.second.initial
         for _, y in live:
             if y[0] == y[1] and y[2]:
-                spend(self.second.states)
-                turns.setdefault(y[0], {})[y[3]] = None
-        goods = {p: {endless(self.second, graph) for graph in graphs} for p, graphs in turns.items()}
+                spend(2 * self.second.states)
+                turns.setdefault(y[0], Distinct()).add(y[3])
+        goods = {p: {endless(self.second, graph) for graph in graphs.tuples} for p, graphs in turns.items()}
         for place, x in live:
             if x[0] == self.first.initial:
                 spend(2 * self.second.states + len(goods.get(x[1], ())))
@@ -1095,6 +1125,11 @@ class Finite:
     @staticmethod
     def at(x):
         return x[0]
+
+    @staticmethod
+    def sets(x):
+        """What tells the element from others, a tuple of numbers."""
+        return x
 
     def starts(self):
         return [self.start()]
@@ -1180,12 +1215,11 @@ def check_list(search, cert, item):
     made = make_elements(search, cert["elements"], item + 1)
     if len(made) != cert["limit"] + 1:
         broken(item, 18)
-    seen = set()
+    seen = Distinct()
     for number, x in enumerate(made):
-        spend(10 + search.second.states)
-        if x in seen:
+        spend(10 + 2 * search.second.states)
+        if not seen.add(search.sets(x)):
             broken(item + 1 + number, 18)
-        seen.add(x)
 
 
 def states_after(automaton, word):

@@ -52,6 +52,17 @@ def at_random(states, each, labels, seed=1):
     return sorted(found | set(moves))
 
 
+def numbered(states, moves):
+    """A text whose states and labels are numbered as here, all of them accepting, and the number of its labels; the move
+    0 by 0 to 1 is in it."""
+    first, labels = [], 1 + max(label for _, label, _ in moves)
+    for label in range(1, labels):
+        first.append(next(move for move in moves if move[1] == label))
+    lines = [name(0), f"{name(0)},{name(0)}->{name(1)}", *map(name, range(1, states)), name(0)]
+    rest = [move for move in dict.fromkeys([*first, *moves]) if move != (0, 0, 1)]
+    return "\n".join([*lines, *(f"{name(label)},{name(p)}->{name(q)}" for p, label, q in rest)]) + "\n", labels
+
+
 LOOP = automaton([(0, 0, 0)])
 EMPTY = automaton([(0, 0, 1)], [2])  # it accepts nothing
 
@@ -238,6 +249,38 @@ def searches():
         steps = [f"step {e} " + " ".join(["9"] * labels) for e in range(count)]
         rest = [*every, f"elements {count}", *made, "cover 9", *steps, "end"]
         yield f"finite {labels}", (first, second, certificate((1, n), labels, rest=rest, mode="finite"))
+
+
+def collisions():
+    """As `families`, of sets that are different and equal modulo 2**61 - 1, which is Python's hash of a number: states 61
+    apart."""
+    moves = []
+    for number, length in enumerate((31, 29, 27, 25), 1):
+        ring = [number + 61 * k for k in range(length)]
+        moves += [(0, 0, ring[0]), *((p, 0, q) for p, q in zip(ring, ring[1:] + ring[:1]))]
+    zeros = " ".join("0" * 32700)
+    no = f"rabit-cert 1 finite no\nsizes 2047 3 1\nword {zeros}\nend\n"
+    yield "a word around four rings", (numbered(2047, moves)[0], EMPTY, no)
+    # each label of a path is kept in one of the states that answer: what is read at `places`, and two keep the last
+    labels, depth, places, classes = 8, 6, (0, 1, 2, 3, 4, 5, 5), {}
+
+    def state(number, at, label=None):
+        return 1 + classes.setdefault((number, at, label is None), len(classes)) + 61 * (label or 0)
+
+    moves, top = [], 61 * labels + 1
+    for at in range(depth):
+        for label in range(labels):
+            for number, place in enumerate(places):
+                before = [state(number, at, kept) for kept in range(labels)] if place < at else [state(number, at)]
+                after = [state(number, at + 1, kept) for kept in range(labels)] if place < at else None
+                after = after or [state(number, at + 1, label if place == at else None)] * len(before)
+                moves += [(p if at else 0, label, q) for p, q in zip(before, after)]
+            moves.append((top + at, label, top + at + 1))
+    ends = [state(5 + (label >= labels // 2), depth, label) for label in range(labels)]
+    block = by_rows([(top, 0), *((top + depth, end) for end in ends)])
+    text, labels = numbered(top + depth + 1, [(0, 0, 1), *moves])
+    cert = certificate((top + depth + 1, 1), labels, first=[["cut 1 6", "gone 0 1", *block]])
+    yield "paths that are kept in the answers", (text, LOOP, cert)
 
 
 def words():

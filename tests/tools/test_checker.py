@@ -3,6 +3,9 @@ import contextlib
 import importlib.util
 import math
 import random
+import resource
+import subprocess
+import sys
 import unittest
 
 import hostile
@@ -122,6 +125,26 @@ class Work(Case):
                     self.assertEqual(printed, "not checked: more than 60000 steps of work; --patient goes on\n")
             given_up, count = given_up + (left < 0), count + 1
         self.assertTrue(count >= 30 and given_up >= 20, (count, given_up))
+
+    def test_sets_with_one_hash(self):
+        for name, texts in hostile.collisions():
+            with self.subTest(name):
+                self.assertLessEqual(max(map(len, texts)), 1 << 16)
+                names = [str(self.write(name, text)) for name, text in zip("ABC", texts)]
+                done = subprocess.run(
+                    [sys.executable, str(TOP / "tools" / "check_cert.py"), *names], stdout=subprocess.PIPE, check=False,
+                    preexec_fn=lambda: resource.setrlimit(resource.RLIMIT_CPU, (10, 10)),
+                )  # fmt: skip
+                self.assertIn(done.returncode, (1, 5, check_cert.NOT_CHECKED))
+
+    def test_tuples_with_one_hash(self):
+        rings = [[number + 61 * k for k in range(length)] for number, length in enumerate((9, 8, 7, 5))]
+        graphs = [tuple(1 << ring[turn % len(ring)] for ring in rings) for turn in range(2520)]
+        self.assertEqual((len(set(graphs)), len(set(map(hash, graphs)))), (2520, 1))
+        distinct = check_cert.Distinct()
+        self.assertTrue(all(distinct.add(graph) for graph in graphs))
+        self.assertFalse(any(distinct.add(graph) for graph in graphs))
+        self.assertEqual((distinct.tuples, max(map(len, distinct.by_hash.values()))), (graphs, 1))
 
     def test_the_same_files_have_the_same_answer(self):
         texts = dict(hostile.families())["finite 200"]

@@ -1,6 +1,8 @@
 """`draw` and `explain`: certificates of the program in pictures and in words."""
+import html
 import json
 import random
+import re
 import unittest
 
 from helping import TOP, Case, ask, ba_accepts, call, needs, needs_program, program, random_ba
@@ -235,6 +237,18 @@ class Draw(Case):
             ask("include", *names, self.folder / "c")
             self.assertEqual(call("draw", names[0], self.folder / "c", "-o", made)[0], 0)
             self.assertLess(int.from_bytes(made.read_bytes()[16:20], "big"), 3000)
+
+    @needs_program
+    @needs("dot", "graphviz")
+    def test_names_are_drawn_as_they_are(self):
+        one = self.write("a.ba", "q\na\\N&amp;,q->q\n\\E\t&x,q->\\N\\G&lt;\\\nb,\\N\\G&lt;\\->q\nq\n")
+        other = self.write("b.ba", "q\nb,q->q\nq\n")
+        in_cells = {"a\\N&amp;", "\\E &x", "\\N\\G&lt;\\"}
+        for second, shown in ((one, in_cells), (other, {" a\\N&amp;"})):
+            ask("include", one, second, self.folder / "c")
+            drawn = call("draw", one, self.folder / "c")[1]
+            texts = {html.unescape(text).replace("\xa0", " ") for text in re.findall("<text[^>]*>([^<]*)<", drawn)}
+            self.assertLessEqual({"a\\N&amp;", "\\E\t&x", "\\N\\G&lt;\\"} | shown, texts)
 
     def test_a_state_has_one_arrow_to_itself(self):
         made = self.read(self.write("a.ba", "0\nx,0->0\n<y>,0->0\nz,0->0\n"))

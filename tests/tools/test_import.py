@@ -50,6 +50,12 @@ class Features(Case):
         twice = self.write("twice", "\ufeff\ufeffHOA: v1 Acceptance: 0 t --BODY-- --END--")
         self.assertEqual(call("import", twice)[0], 4)
 
+    def test_comments_in_comments_before_hoa(self):
+        path = DATA / "hoa" / "aliases.hoa"
+        for comment in ("/* one */", "/* one /* in */ another */", "/* never { */\n /* // */"):
+            commented = self.write("commented", comment + "\n" + path.read_text(encoding="utf-8"))
+            self.assertEqual(call("import", commented), call("import", path))
+
     def test_letters_and_names(self):
         path = DATA / "hoa" / "names-that-ba-cannot-have.hoa"
         self.assertEqual(call("import", path)[1].split("\n")[0], "[0]")

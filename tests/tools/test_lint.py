@@ -98,6 +98,17 @@ class Warnings(Case):
         self.assertIn("`rabit-tool import` makes .ba of it", self.warned("HOA: v1\n")[1])
         self.assertNotIn("rabit-tool import", self.warned("rabit-cert 1 buchi no\n")[1])
 
+    def test_of_many_lines_fifty_are_told(self):
+        move = "a,[0]->[0]\n"
+        status, output, _ = call("lint", self.write("a.ba", "[0]\n" + move * 60000 + "[0]\n"))
+        lines = output.splitlines()
+        self.assertEqual((status, len([line for line in lines if "stands there twice" in line])), (0, 50))
+        self.assertTrue(lines[-1].endswith("a.ba: note: and 59949 more like these"), lines[-1])
+        status, output, _ = call("lint", self.write("b.ba", "[0]\n" + "x,y\n" * 52))
+        self.assertEqual((status, len(output.splitlines())), (1, 50 + 2))
+        self.assertIn("b.ba: no transition", output)
+        self.assertTrue(output.endswith("b.ba: and 2 more like these\n"), output)
+
     def test_nothing_to_say(self):
         text = b"[0]\na,[0]->[1]\nb,[1]->[0]\n[0]\n"
         self.assertEqual((linting.warnings(text), linting.notes(text)), ([], []))

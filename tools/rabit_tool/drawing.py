@@ -22,14 +22,20 @@ GRAPH = [
 
 def quoted(text):
     """The text as a string of graphviz, in which nothing of it is a sign. What is not UTF-8 is shown as a mark."""
-    shown = text.encode("utf-8", "replace").decode("utf-8").replace("\x00", "?")
+    shown = text.encode("utf-8", "replace").decode("utf-8").replace("\x00", "?").replace("&", "&amp;")
     return '"' + shown.replace("\\", "\\\\").replace('"', '\\"') + '"'
 
 
 def markup(text):
-    """The text inside a label of graphviz that has marks, or a page."""
+    """The text inside a page."""
     shown = text.encode("utf-8", "replace").decode("utf-8")
     return shown.replace("&", "&amp;").replace("<", "&lt;").replace(">", "&gt;").replace('"', "&quot;")
+
+
+def marked(text):
+    """The text inside a label of graphviz that has marks: it puts names in the place of `\\N` and the like there too,
+    and drops tabs."""
+    return markup(text.replace("\\", "\\\\").replace("\t", " "))
 
 
 def shortened(text, most=40):
@@ -85,7 +91,7 @@ def dot(automaton, run=None, caption=None, table=None, most=STATES, prefix=None)
     lines += [loop_line(state, texts) for state, texts in loops.items()]
     notes = list(caption or [])
     if len(states) < len(automaton.names):
-        notes.append(markup(f"drawn: {len(states)} of {counted(len(automaton.names), 'state')}"))
+        notes.append(marked(f"drawn: {len(states)} of {counted(len(automaton.names), 'state')}"))
     if notes:
         lines.append('  labelloc=b; labeljust=l; label=<' + '<br align="left"/>'.join([*notes, ""]) + ">;")
     if table:
@@ -114,7 +120,7 @@ def loop_line(state, texts):
         return f"  s{state} -> s{state} [label={line_text(*texts.values())}{style_text(*texts)}];"
     parts = sorted(texts.items(), key=lambda part: part[0] is None)
     shown = [
-        f'<font color="{colour.split(":")[0]}">{markup(line)}</font>' if colour else markup(line)
+        f'<font color="{colour.split(":")[0]}">{marked(line)}</font>' if colour else marked(line)
         for colour, text in parts
         for line in text.split("\n")
     ]
@@ -138,7 +144,7 @@ def coloured(run, prefix=None):
 
 def table_text(rows):
     """The table of graphviz with these rows, lists of texts; the first row is the head."""
-    cells = ["".join(f'<td align="left">{markup(shortened(cell))}</td>' for cell in row) for row in rows]
+    cells = ["".join(f'<td align="left">{marked(shortened(cell))}</td>' for cell in row) for row in rows]
     head = cells[0].replace('<td align="left">', '<td align="left" bgcolor="#e5e7eb">')
     body = "".join(f"<tr>{row}</tr>" for row in [head, *cells[1:]])
     return f'<table border="0" cellborder="1" cellspacing="0" cellpadding="4" color="#9ca3af">{body}</table>'
@@ -163,7 +169,7 @@ def drawn_with(automaton, found, name, most=STATES):
     if found["form"] == "no":
         return with_run(automaton, found, name, most)
     return dot(
-        automaton, caption=[markup(text) for text in summary(found)], table=element_table(automaton, found, name)
+        automaton, caption=[marked(text) for text in summary(found)], table=element_table(automaton, found, name)
     )
 
 
@@ -178,7 +184,7 @@ def with_run(automaton, found, name, most):
         raise Refusal(f"{name}: the automaton has no accepting run on what the certificate names", CERTIFICATE)
     parts = (("prefix", PREFIX), ("loop", LOOP)) if "loop" in found else (("word", PREFIX),)
     caption = [
-        f'<font color="{colour}"><b>{part}:</b>&#160;{markup(word_text(automaton, found[part]))}</font>'
+        f'<font color="{colour}"><b>{part}:</b>&#160;{marked(word_text(automaton, found[part]))}</font>'
         for part, colour in parts
     ]
     prefix = len(words[0]) if "loop" in found else None

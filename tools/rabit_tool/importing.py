@@ -6,6 +6,7 @@ from . import gff, hoa, lbt, never
 from .automata import read_ba, write_ba
 from .files import TEXT, Refusal, decoded, read_file, read_input, write_file
 from .general import over_labels, over_more, to_ba
+from .hoa_tokens import Tokens
 from .letters import refused
 
 COMMENTS = re.compile(r"(?:\s+|/\*.*?\*/|//[^\n]*|^[ \t]*#[^\n]*)*", re.DOTALL | re.MULTILINE)
@@ -17,11 +18,19 @@ def without_mark(text):
     return text[text.startswith("\ufeff") :]
 
 
+def begins_hoa(text):
+    """Whether the first token is HOA's, behind comments that may stand in one another."""
+    try:
+        return Tokens(text).text == "HOA:"
+    except Refusal:
+        return False
+
+
 def format_of(text):
     """The format that the text seems to have: HOA, never, LBT, GFF or None."""
     text = without_mark(text)
     rest = text[COMMENTS.match(text).end() :]
-    if rest.startswith("HOA:"):
+    if rest.startswith("HOA:") or begins_hoa(text):
         return "HOA"
     if re.match(r"never\b[^,]*\{", rest):
         return "never"

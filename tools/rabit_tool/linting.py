@@ -9,7 +9,7 @@ from .importing import format_of
 from .names import near
 from .program import ask, find_built, find_program
 
-SECONDS, SHOWN, ONCE, SECOND, FIRST, LABELS, TRANSITIONS = 10, 5, 50, 512, 2048, 256, 65536
+SECONDS, SHOWN, LINES, ONCE, SECOND, FIRST, LABELS, TRANSITIONS = 10, 5, 50, 50, 512, 2048, 256, 65536
 FAULTS = {
     "BadByte": "a control character",
     "EmptyToken": "a name or a label is missing",
@@ -204,6 +204,18 @@ def labels_apart(names, texts):
     return found
 
 
+def printed(name, found, kind=""):
+    """The lines that are printed of a file's warnings or notes: all about the file, and of those about a line fifty."""
+    placed = [at for at, (line, _) in enumerate(found) if line]
+    left_out = set(placed[LINES:])
+    lines = [
+        f"{name}:{line}: {kind}{text}" if line else f"{name}: {kind}{text}"
+        for at, (line, text) in enumerate(found)
+        if at not in left_out
+    ]
+    return lines + ([f"{name}: {kind}and {len(left_out)} more like these"] if left_out else [])
+
+
 def lint(names, program=None):
     """The lines that are printed, and whether any is a warning. A note begins with `note:` behind the file."""
     lines, texts, status = [], [], 0
@@ -219,9 +231,8 @@ def lint(names, program=None):
         if len(names) == len(texts) == 2 and SECOND < len(texts[1].uses()) <= FIRST:
             warned.append((0, second_limit(texts[1])))
         status = 1 if warned else status
-        lines += [f"{name}:{line}: {text}" if line else f"{name}: {text}" for line, text in warned]
         noted = [note for note in notes(data, None if warned else program) if note not in warned]
-        lines += [f"{name}:{line}: note: {text}" if line else f"{name}: note: {text}" for line, text in noted]
+        lines += printed(name, warned) + printed(name, noted, "note: ")
     if len(names) == len(texts) == 2:
         lines += [f"{name}: note: {text}" for name, text in labels_apart(names, texts)]
     return lines, status
