@@ -69,8 +69,8 @@ pub(crate) fn put_of<'a>(alloc: Global, name: &'a str, cert: &Cert) -> Result<Pu
     Ok(Put { name, bytes })
 }
 
-/// The reply to the joined automata and the answer for them.
-fn reply_to_answer<'a>(
+/// The reply to the joined automata and the answer for them, which is to be written under the name.
+pub(crate) fn reply_to_answer<'a>(
     alloc: Global,
     name: &'a str,
     mode: Mode,

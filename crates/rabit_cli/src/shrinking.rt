@@ -13,12 +13,13 @@ ghost use Rattle.rabit_replies.specs.Replies.{nothing_to_shrink_reply, IsNo};
 ghost use Rattle.rabit_cli.specs.Check.{check_inputs};
 ghost use Rattle.rabit_cli.specs.Shrink.{IsShrunkBody, IsShrinkReply, MeansShrink};
 
-use auto_core::{List, Memory};
+use crate::including::reply_to_answer;
+use auto_core::Memory;
 use ba_format::{Joined, Named};
 use cert_check::CheckFault;
-use cert_text::{Body, Cert, write_cert};
+use cert_text::{Body, Cert};
 use lasso_shrink::{shrink, shrink_word};
-use rabit_frame::{Put, Reply, Status, Value, line};
+use rabit_frame::{Reply, Status, Value, line};
 use rabit_replies::{certificate, first_automaton, second_automaton};
 use std::alloc::Global;
 
@@ -65,10 +66,7 @@ fn shrunk<'a>(alloc: Global, name: &'a str, pair: &Joined, cert: &Cert) -> Resul
         labels: cert.labels,
         body,
     };
-    let bytes = write_cert(alloc, &left)?;
-    let mut puts = List::new(alloc);
-    puts.push(Put { name, bytes })?;
-    rabit_replies::verdict(alloc, left.mode, pair, &left.body, puts)
+    reply_to_answer(alloc, name, left.mode, pair, &left)
 }
 
 /// The reply to the joined automata and the certificate.

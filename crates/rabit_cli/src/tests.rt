@@ -1,5 +1,8 @@
 //! The top call on files in memory: statuses, printed texts, and calls of the outside that fail.
 
+mod worked;
+mod worked_texts;
+
 use crate::top::run;
 use auto_core::Memory;
 use shelf_io::{MemShelf, MemSink};

@@ -4,8 +4,8 @@ use Rattle.rabit_cli.specs.Shrink.{IsShrunkBody}
 use Rattle.rabit_cli.proofs.ShrinkLemmas.{letters_of_left, letters_of_left_word}
 use Rattle.rabit_cli.proofs.shrinking.shrunk.Goals as goal
 
-pub verdict-requires : goal.verdict-requires
-verdict-requires c =
+pub reply_to_answer-requires : goal.reply_to_answer-requires
+reply_to_answer-requires c =
     let pair = c.args.pair.now in
     let cert = c.args.cert.now in
     let left = subst (λ left. MatchOption left (¬ IsNo cert.body) (IsShrunkBody pair cert.body)) c.in-Some.is c.in_ok-body.ensures in
