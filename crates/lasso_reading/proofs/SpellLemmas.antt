@@ -54,10 +54,10 @@ module _ (cu cv : List ℕ) where
       ∙ ap (λ k. take k (spelled i n ++ spelled (after i n) (m - n))) (sym (length-spelled i n))
       ∙ take-append_seam (spelled i n) (spelled (after i n) (m - n))
 
-  next_last : (i : ℕ) → i + 1 ≡ length (cu ++ cv) → next_position cu cv i ≡ length cu
+  pub next_last : (i : ℕ) → i + 1 ≡ length (cu ++ cv) → next_position cu cv i ≡ length cu
   next_last i e = ap (λ b. cond b (length cu) (i + 1)) (eq-eqb (i + 1) (length (cu ++ cv)) e)
 
-  next_inner : (i : ℕ) → (i + 1 ≡ length (cu ++ cv) → ⊥) → next_position cu cv i ≡ i + 1
+  pub next_inner : (i : ℕ) → (i + 1 ≡ length (cu ++ cv) → ⊥) → next_position cu cv i ≡ i + 1
   next_inner i apart = ap (λ b. cond b (length cu) (i + 1)) (ne_eqb (i + 1) (length (cu ++ cv)) apart)
 
   module _ (some : 1 ≤ length cv) where

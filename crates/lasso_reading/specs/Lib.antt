@@ -1,2 +1,5 @@
 pub mod Words
 pub mod Reading
+pub mod Made
+pub mod Finding
+pub mod Classes

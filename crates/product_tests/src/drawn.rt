@@ -5,12 +5,12 @@ use std::alloc::Global;
 use std::test::Fail;
 
 /// The next of a run of numbers.
-fn next(seed: u64) -> u64 {
+pub(crate) fn next(seed: u64) -> u64 {
     (seed % 0x7fff_ffff) * 48271 % 0x7fff_ffff
 }
 
 /// The automaton with these moves, of which there are not too many.
-fn built(
+pub(crate) fn built(
     alloc: Global,
     states: u32,
     labels: u32,
